@@ -1,0 +1,4 @@
+pub mod ShippedLimits
+pub mod SpelledLines
+pub mod Turns
+mod Buckets

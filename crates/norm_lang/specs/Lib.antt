@@ -1,0 +1,13 @@
+pub mod Roomy
+pub mod Registers
+pub mod Local
+pub mod Shipped
+pub mod Spelling
+pub mod Words
+pub mod Faults
+pub mod LineWords
+pub mod Declarations
+pub mod Instructions
+pub mod Grammar
+pub mod Limits
+pub mod Laws

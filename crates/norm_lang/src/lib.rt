@@ -1,0 +1,17 @@
+//! Texts: operations in normal form over a row of nodes and a list of roots, after Timnat and Petrank (PPoPP 2014).
+#![tactic(auto)]
+
+pub mod duplicate;
+pub mod list;
+pub mod local;
+pub mod registers;
+mod shipped;
+mod spelling;
+pub mod text;
+mod word;
+
+pub use shipped::{shipped_queue, shipped_set};
+pub use spelling::show;
+
+#[cfg(test)]
+mod tests;

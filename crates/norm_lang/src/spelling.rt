@@ -1,0 +1,515 @@
+//! The canonical spelling of texts.
+
+ghost use Rattle.std.specs.Prelude.{◌≡◌, [], ◌∷◌, ◌++◌, OnOk, IfOk, map, codes, decimal};
+ghost use Rattle.std.specs.List.{flat_map};
+ghost use Rattle.norm_lang.specs.Spelling.{spaced, line_bytes, kind_word, retire_words, field_name, root_name, spelled_field, spelled_nodes, spelled_node, spelled_root, spelled_cas, spelled_entry, entries_of, spelled_instr, instr_lines, code_lines, spelled_op, op_lines, declaration_lines, spelling_of, start_word};
+ghost use Rattle.norm_lang.specs.Words.{word_bytes};
+
+use crate::list::Listed;
+use crate::text::{
+    ByteText, CasEntry, FieldDecl, FieldKind, Instr, NodeDecl, Op, Place, Reg, RootDecl, Start,
+    Text,
+};
+use crate::word::Word;
+use std::alloc::{AllocError, Global};
+
+fn put_number(alloc: Global, out: &mut Vec<u8>, n: u64) -> Result<(), AllocError>
+    ensures { OnOk result (out.new.items ≡ out.old.items ++ decimal n) }
+{
+    let digits = n.to_string(alloc)?;
+    out.extend_from_slice(digits.as_bytes())
+}
+
+fn put_word(alloc: Global, out: &mut Vec<u8>, word: &Word) -> Result<(), AllocError>
+    ensures { OnOk result (out.new.items ≡ out.old.items ++ word_bytes word.now) }
+{
+    match word {
+        Word::Bytes(bytes) => out.extend_from_slice(bytes),
+        Word::Number(n) => put_number(alloc, out, *n),
+        Word::Register(Reg::Num(r)) => {
+            out.push(b'n')?;
+            put_number(alloc, out, *r as u64)
+        }
+        Word::Register(Reg::Ref(r)) => {
+            out.push(b'r')?;
+            put_number(alloc, out, *r as u64)
+        }
+        Word::Node(0) => out.extend_from_slice(b"null"),
+        Word::Node(j) => {
+            out.push(b'@')?;
+            put_number(alloc, out, *j as u64)
+        }
+    }
+}
+
+// Each word behind a space.
+fn put_words(alloc: Global, out: &mut Vec<u8>, words: &[Word]) -> Result<(), AllocError>
+    ensures { OnOk result (out.new.items ≡ out.old.items ++ spaced (map word_bytes words.now)) }
+{
+    for word in words {
+        out.push(b' ')?;
+        put_word(alloc, out, word)?;
+    }
+    Ok(())
+}
+
+// A line of a first word and others.
+fn put_line(
+    alloc: Global,
+    out: &mut Vec<u8>,
+    first: &[u8],
+    words: &[Word],
+) -> Result<(), AllocError>
+    ensures { OnOk result (out.new.items ≡ out.old.items ++ line_bytes (first.now ∷ map word_bytes words.now)) }
+{
+    out.extend_from_slice(first)?;
+    put_words(alloc, out, words)?;
+    out.push(b'\n')?;
+    Ok(())
+}
+
+fn put_retire(alloc: Global, out: &mut Vec<u8>, retire: Option<Reg>) -> Result<(), AllocError>
+    ensures { OnOk result (out.new.items ≡ out.old.items ++ spaced (retire_words retire)) }
+{
+    match retire {
+        None => Ok(()),
+        Some(register) => put_words(
+            alloc,
+            out,
+            &[Word::Bytes(b"retire"), Word::Register(register)],
+        ),
+    }
+}
+
+// The line of an exchange: it ends with what is retired, if anything is.
+#[tactic(auto, using(crate::proofs::SpelledLines::put_in_steps))]
+fn put_exchange(
+    alloc: Global,
+    out: &mut Vec<u8>,
+    first: &[u8],
+    words: &[Word],
+    retire: Option<Reg>,
+) -> Result<(), AllocError>
+    ensures { OnOk result (out.new.items ≡ out.old.items ++ line_bytes (first.now ∷ (map word_bytes words.now ++ retire_words retire))) }
+{
+    out.extend_from_slice(first)?;
+    put_words(alloc, out, words)?;
+    put_retire(alloc, out, retire)?;
+    out.push(b'\n')?;
+    Ok(())
+}
+
+fn name_of_kind(kind: FieldKind) -> &'static [u8]
+    ensures { result.now ≡ kind_word kind }
+{
+    match kind {
+        FieldKind::Number => b"num",
+        FieldKind::Reference => b"ref",
+    }
+}
+
+fn name_of_field(fields: &[FieldDecl], f: u8) -> &[u8]
+    ensures { result.now ≡ field_name fields.now f }
+{
+    match fields.get(f as usize) {
+        None => &[],
+        Some(field) => field.name.items(),
+    }
+}
+
+fn name_of_root(roots: &[RootDecl], x: u16) -> &[u8]
+    ensures { result.now ≡ root_name roots.now x }
+{
+    match roots.get(x as usize) {
+        None => &[],
+        Some(root) => root.name.items(),
+    }
+}
+
+fn word_of_start(start: Start) -> Word<'static>
+    ensures { word_bytes result ≡ start_word start }
+{
+    match start {
+        Start::Value(n) => Word::Number(n),
+        Start::Node(j) => Word::Node(j),
+    }
+}
+
+fn put_field(alloc: Global, out: &mut Vec<u8>, field: &FieldDecl) -> Result<(), AllocError>
+    ensures { OnOk result (out.new.items ≡ out.old.items ++ line_bytes (spelled_field field.now)) }
+{
+    let kind = name_of_kind(field.kind);
+    put_line(
+        alloc,
+        out,
+        b"field",
+        &[Word::Bytes(field.name.items()), Word::Bytes(kind)],
+    )
+}
+
+fn put_fields(alloc: Global, out: &mut Vec<u8>, fields: &[FieldDecl]) -> Result<(), AllocError>
+    ensures { OnOk result (out.new.items ≡ out.old.items ++ flat_map line_bytes (map spelled_field fields.now)) }
+{
+    for field in fields {
+        put_field(alloc, out, field)?;
+    }
+    Ok(())
+}
+
+fn put_starts(alloc: Global, out: &mut Vec<u8>, starts: &[Start]) -> Result<(), AllocError>
+    ensures { OnOk result (out.new.items ≡ out.old.items ++ spaced (map start_word starts.now)) }
+{
+    for start in starts {
+        out.push(b' ')?;
+        put_word(alloc, out, &word_of_start(*start))?;
+    }
+    Ok(())
+}
+
+fn put_node(alloc: Global, out: &mut Vec<u8>, node: &NodeDecl) -> Result<(), AllocError>
+    ensures { OnOk result (out.new.items ≡ out.old.items ++ line_bytes (spelled_node node.now)) }
+{
+    out.extend_from_slice(b"node")?;
+    put_starts(alloc, out, node.values.items())?;
+    out.push(b'\n')?;
+    Ok(())
+}
+
+fn put_nodes(alloc: Global, out: &mut Vec<u8>, nodes: &[NodeDecl]) -> Result<(), AllocError>
+    ensures { OnOk result (out.new.items ≡ out.old.items ++ flat_map line_bytes (map spelled_node nodes.now)) }
+{
+    for node in nodes {
+        put_node(alloc, out, node)?;
+    }
+    Ok(())
+}
+
+fn put_root(alloc: Global, out: &mut Vec<u8>, root: &RootDecl) -> Result<(), AllocError>
+    ensures { OnOk result (out.new.items ≡ out.old.items ++ line_bytes (spelled_root root.now)) }
+{
+    let kind = name_of_kind(root.kind);
+    put_line(
+        alloc,
+        out,
+        b"root",
+        &[
+            Word::Bytes(root.name.items()),
+            Word::Bytes(kind),
+            word_of_start(root.start),
+        ],
+    )
+}
+
+fn put_roots(alloc: Global, out: &mut Vec<u8>, roots: &[RootDecl]) -> Result<(), AllocError>
+    ensures { OnOk result (out.new.items ≡ out.old.items ++ flat_map line_bytes (map spelled_root roots.now)) }
+{
+    for root in roots {
+        put_root(alloc, out, root)?;
+    }
+    Ok(())
+}
+
+fn put_cas(
+    alloc: Global,
+    out: &mut Vec<u8>,
+    fields: &[FieldDecl],
+    roots: &[RootDecl],
+    entry: &CasEntry,
+    l: u16,
+) -> Result<(), AllocError>
+    ensures { OnOk result (out.new.items ≡ out.old.items ++ line_bytes (spelled_cas fields.now roots.now entry.now l)) }
+{
+    let (expected, replacement) = (entry.expected, entry.replacement);
+    match entry.place {
+        Place::Root(x) => put_exchange(
+            alloc,
+            out,
+            b"casroot",
+            &[
+                Word::Bytes(name_of_root(roots, x)),
+                Word::Register(expected),
+                Word::Register(replacement),
+                Word::Number(l as u64),
+            ],
+            entry.retire,
+        ),
+        Place::Field(a, f) => put_exchange(
+            alloc,
+            out,
+            b"cas",
+            &[
+                Word::Register(a),
+                Word::Bytes(name_of_field(fields, f)),
+                Word::Register(expected),
+                Word::Register(replacement),
+                Word::Number(l as u64),
+            ],
+            entry.retire,
+        ),
+    }
+}
+
+fn put_entry(
+    alloc: Global,
+    out: &mut Vec<u8>,
+    fields: &[FieldDecl],
+    roots: &[RootDecl],
+    entry: &CasEntry,
+) -> Result<(), AllocError>
+    ensures { OnOk result (out.new.items ≡ out.old.items ++ line_bytes (spelled_entry fields.now roots.now entry.now)) }
+{
+    match entry.place {
+        Place::Root(x) => put_exchange(
+            alloc,
+            out,
+            b"withroot",
+            &[
+                Word::Bytes(name_of_root(roots, x)),
+                Word::Register(entry.expected),
+                Word::Register(entry.replacement),
+            ],
+            entry.retire,
+        ),
+        Place::Field(a, f) => put_exchange(
+            alloc,
+            out,
+            b"with",
+            &[
+                Word::Register(a),
+                Word::Bytes(name_of_field(fields, f)),
+                Word::Register(entry.expected),
+                Word::Register(entry.replacement),
+            ],
+            entry.retire,
+        ),
+    }
+}
+
+// An instruction, but for a commit's entries.
+fn put_instr(
+    alloc: Global,
+    out: &mut Vec<u8>,
+    fields: &[FieldDecl],
+    roots: &[RootDecl],
+    instr: &Instr,
+) -> Result<(), AllocError>
+    ensures { OnOk result (out.new.items ≡ out.old.items ++ line_bytes (spelled_instr fields.now roots.now instr.now)) }
+{
+    match instr {
+        Instr::Set(d, n) => put_line(alloc, out, b"set", &[Word::Register(*d), Word::Number(*n)]),
+        Instr::Mov(d, a) => put_line(
+            alloc,
+            out,
+            b"mov",
+            &[Word::Register(*d), Word::Register(*a)],
+        ),
+        Instr::Add(d, a, b) => put_line(
+            alloc,
+            out,
+            b"add",
+            &[Word::Register(*d), Word::Register(*a), Word::Register(*b)],
+        ),
+        Instr::Sub(d, a, b) => put_line(
+            alloc,
+            out,
+            b"sub",
+            &[Word::Register(*d), Word::Register(*a), Word::Register(*b)],
+        ),
+        Instr::Rem(d, a, n) => put_line(
+            alloc,
+            out,
+            b"rem",
+            &[Word::Register(*d), Word::Register(*a), Word::Number(*n)],
+        ),
+        Instr::Mark(d, a) => put_line(
+            alloc,
+            out,
+            b"mark",
+            &[Word::Register(*d), Word::Register(*a)],
+        ),
+        Instr::Unmark(d, a) => put_line(
+            alloc,
+            out,
+            b"unmark",
+            &[Word::Register(*d), Word::Register(*a)],
+        ),
+        Instr::Null(d) => put_line(alloc, out, b"null", &[Word::Register(*d)]),
+        Instr::LoadRoot(d, x) => put_line(
+            alloc,
+            out,
+            b"root",
+            &[Word::Register(*d), Word::Bytes(name_of_root(roots, *x))],
+        ),
+        Instr::LoadPick(d, x, n, a) => put_line(
+            alloc,
+            out,
+            b"pick",
+            &[
+                Word::Register(*d),
+                Word::Bytes(name_of_root(roots, *x)),
+                Word::Number(*n as u64),
+                Word::Register(*a),
+            ],
+        ),
+        Instr::LoadField(d, a, f) => put_line(
+            alloc,
+            out,
+            b"load",
+            &[
+                Word::Register(*d),
+                Word::Register(*a),
+                Word::Bytes(name_of_field(fields, *f)),
+            ],
+        ),
+        Instr::New(d) => put_line(alloc, out, b"new", &[Word::Register(*d)]),
+        Instr::Put(a, f, b) => put_line(
+            alloc,
+            out,
+            b"put",
+            &[
+                Word::Register(*a),
+                Word::Bytes(name_of_field(fields, *f)),
+                Word::Register(*b),
+            ],
+        ),
+        Instr::Cas(entry, l) => put_cas(alloc, out, fields, roots, entry, *l),
+        Instr::Jump(l) => put_line(alloc, out, b"jump", &[Word::Number(*l as u64)]),
+        Instr::IfEq(a, b, l) => put_line(
+            alloc,
+            out,
+            b"ifeq",
+            &[
+                Word::Register(*a),
+                Word::Register(*b),
+                Word::Number(*l as u64),
+            ],
+        ),
+        Instr::IfLess(a, b, l) => put_line(
+            alloc,
+            out,
+            b"ifless",
+            &[
+                Word::Register(*a),
+                Word::Register(*b),
+                Word::Number(*l as u64),
+            ],
+        ),
+        Instr::IfMarked(a, l) => put_line(
+            alloc,
+            out,
+            b"ifmarked",
+            &[Word::Register(*a), Word::Number(*l as u64)],
+        ),
+        Instr::Commit(entries) => put_line(
+            alloc,
+            out,
+            b"commit",
+            &[Word::Number(entries.items().len() as u64)],
+        ),
+        Instr::Return(a) => put_line(alloc, out, b"return", &[Word::Register(*a)]),
+        Instr::ReturnNone => put_line(alloc, out, b"returnnone", &[]),
+        Instr::Again => put_line(alloc, out, b"again", &[]),
+    }
+}
+
+fn put_entries(
+    alloc: Global,
+    out: &mut Vec<u8>,
+    fields: &[FieldDecl],
+    roots: &[RootDecl],
+    entries: &[CasEntry],
+) -> Result<(), AllocError>
+    ensures { OnOk result (out.new.items ≡ out.old.items ++ flat_map line_bytes (map (spelled_entry fields.now roots.now) entries.now)) }
+{
+    for entry in entries {
+        put_entry(alloc, out, fields, roots, entry)?;
+    }
+    Ok(())
+}
+
+fn entries_in(instr: &Instr) -> &[CasEntry]
+    ensures { result.now ≡ entries_of instr.now }
+{
+    match instr {
+        Instr::Commit(entries) => entries.items(),
+        _ => &[],
+    }
+}
+
+fn put_code(
+    alloc: Global,
+    out: &mut Vec<u8>,
+    fields: &[FieldDecl],
+    roots: &[RootDecl],
+    code: &[Instr],
+) -> Result<(), AllocError>
+    ensures { OnOk result (out.new.items ≡ out.old.items ++ flat_map line_bytes (code_lines fields.now roots.now code.now)) }
+{
+    for instr in code {
+        put_instr(alloc, out, fields, roots, instr)?;
+        put_entries(alloc, out, fields, roots, entries_in(instr))?;
+    }
+    Ok(())
+}
+
+fn put_op(
+    alloc: Global,
+    out: &mut Vec<u8>,
+    fields: &[FieldDecl],
+    roots: &[RootDecl],
+    op: &Op,
+) -> Result<(), AllocError>
+    ensures { OnOk result (out.new.items ≡ out.old.items ++ flat_map line_bytes (op_lines fields.now roots.now op.now)) }
+{
+    let words = [Word::Bytes(op.name.items()), Word::Number(op.args as u64)];
+    put_line(alloc, out, b"op", &words)?;
+    put_line(alloc, out, b"gen", &[])?;
+    put_code(alloc, out, fields, roots, op.generator.items())?;
+    put_line(alloc, out, b"wrap", &[])?;
+    put_code(alloc, out, fields, roots, op.wrapup.items())
+}
+
+fn put_ops(
+    alloc: Global,
+    out: &mut Vec<u8>,
+    fields: &[FieldDecl],
+    roots: &[RootDecl],
+    ops: &[Op],
+) -> Result<(), AllocError>
+    ensures { OnOk result (out.new.items ≡ out.old.items ++ flat_map line_bytes (flat_map (op_lines fields.now roots.now) ops.now)) }
+{
+    for op in ops {
+        put_op(alloc, out, fields, roots, op)?;
+    }
+    Ok(())
+}
+
+// The lines of the fields, nodes and roots.
+fn put_declarations(alloc: Global, out: &mut Vec<u8>, text: &Text) -> Result<(), AllocError>
+    ensures { OnOk result (out.new.items ≡ out.old.items ++ flat_map line_bytes (declaration_lines text.now)) }
+{
+    let nodes = text.nodes.items();
+    put_fields(alloc, out, text.fields.items())?;
+    put_line(alloc, out, b"nodes", &[Word::Number(nodes.len() as u64)])?;
+    put_nodes(alloc, out, nodes)?;
+    put_roots(alloc, out, text.roots.items())
+}
+
+/// The canonical spelling of a text: the line `oa 1`, then the text's lines with one space between words, numbers in
+/// decimal and a newline behind each line.
+#[tactic(auto, using(crate::proofs::SpelledLines::lines_in_steps))]
+pub fn show(alloc: Global, text: &Text) -> Result<ByteText, AllocError>
+    ensures { IfOk result (λ bytes. bytes ≡ spelling_of text.now) }
+{
+    let mut out = Vec::new(alloc);
+    put_line(alloc, &mut out, b"oa", &[Word::Bytes(b"1")])?;
+    put_declarations(alloc, &mut out, text)?;
+    put_ops(
+        alloc,
+        &mut out,
+        text.fields.items(),
+        text.roots.items(),
+        text.ops.items(),
+    )?;
+    Ok(Listed::from_vec(out))
+}

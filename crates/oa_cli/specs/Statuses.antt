@@ -1,0 +1,12 @@
+-- The numbers of the statuses.
+use Rattle.std.specs.Prelude.{ℕ}
+use Rattle.oa_cli.specs.declared.status.Status.{Status}
+use Rattle.oa_cli.specs.declared.status.Status.TheVariants.{Done, Partial, ReadFault, WriteFault, Memory, Unbuilt}
+
+abbrev pub number_of : Status → ℕ
+number_of Done = 0
+number_of Partial = 1
+number_of ReadFault = 3
+number_of WriteFault = 8
+number_of Memory = 9
+number_of Unbuilt = 10

@@ -1,0 +1,11 @@
+//! The top call: from the words of the command line and the bytes of a source to a status and what is written.
+#![tactic(auto)]
+
+mod command;
+mod input;
+mod status;
+mod top;
+mod verdict;
+
+pub use status::{Status, status_number};
+pub use top::oa_main;

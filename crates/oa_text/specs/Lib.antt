@@ -1,0 +1,10 @@
+pub mod Lines
+pub mod Shown
+pub mod Tokens
+pub mod Numbers
+pub mod Slices
+pub mod Causes
+pub mod Written
+pub mod Pieces
+pub mod Memory
+pub mod Standard

@@ -1,0 +1,16 @@
+pub mod Answering
+pub mod CallLemmas
+pub mod Counts
+pub mod SourceRuns
+pub mod Steps
+pub mod Worked
+mod Begun
+mod Counted
+mod Events
+mod FirstCalls
+mod FirstTexts
+mod Forward
+mod Shadow
+mod SourceSteps
+mod WorkedForms
+mod WorkedImages

@@ -1,0 +1,12 @@
+pub mod FirstText
+pub mod Answered
+pub mod Words
+pub mod FirstLines
+pub mod FirstCalls
+pub mod FirstForm
+pub mod Caller
+pub mod Placed
+pub mod Run
+pub mod Answers
+pub mod Image
+pub mod SourceRun

@@ -1,0 +1,2 @@
+pub mod LocalCode
+mod Worked

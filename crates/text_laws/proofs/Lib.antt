@@ -1,0 +1,19 @@
+pub mod CodeRead
+pub mod DeclarationLimits
+pub mod Declared
+pub mod DraftLimits
+pub mod InstrLimits
+pub mod InstrsRead
+pub mod LineLimits
+pub mod LinesSpelled
+pub mod OneText
+pub mod OpsRead
+pub mod Readings
+pub mod SpelledFolds
+pub mod SpelledWords
+pub mod SpellingStands
+pub mod TextRead
+pub mod WithinLimits
+pub mod WordsRead
+mod WorkedTexts
+mod WrittenOut
