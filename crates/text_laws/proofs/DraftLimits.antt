@@ -1,9 +1,9 @@
 -- What the lines so far declare is within the limits, whichever line comes next.
-use Rattle.std.specs.Prelude.{◌≡◌, ℕ, zero, suc, ◌+◌, Bool, true, false, not, ◌&&◌, List, [], ◌∷◌, ◌++◌, length, Result, Ok, Err, IfOk, nat_lt, nat_le, codes, ⊤, ◌==◌, if◌then◌else◌}
+use Rattle.std.specs.Prelude.{◌≡◌, ℕ, zero, suc, ◌+◌, ◌≤◌, Bool, true, false, not, ◌&&◌, List, [], ◌∷◌, ◌++◌, length, Result, Ok, Err, IfOk, nat_lt, nat_le, codes, ⊤, ◌==◌, if◌then◌else◌}
 use Rattle.std.specs.List.{list_all}
 use Rattle.std.specs.Str.{bytes_eq}
 use Rattle.std.proofs.Common.{refl, arith, length-append}
-use Rattle.std.proofs.lemmas.Bool.{and_from, and_parts, not-true}
+use Rattle.std.proofs.lemmas.Bool.{and_from, and_parts, not-true, leb-true}
 use Rattle.std.proofs.lemmas.Bool.Decides.{nat_tests}
 use Rattle.std.proofs.lemmas.Result.{IfOk-at_ok}
 use Rattle.oa_text.specs.Lines.{TextLine, lines_of, numbered}
@@ -28,31 +28,31 @@ use Rattle.text_laws.proofs.Declared.{SoFar, IsNext, pushed, all_pushed, whole_l
 use Rattle.text_laws.proofs.DeclarationLimits.{NextField, field_fits, nodes_fit, node_fits, NextRoot, root_fits, NextOp, op_fits, use_fits}
 use Rattle.text_laws.proofs.InstrLimits.{StepFits, step_fits, entry_fits}
 
-abbrev FieldsSoFar : List FieldDecl → Type 0
+abbrev pub FieldsSoFar : List FieldDecl → Type 0
 FieldsSoFar fields = SoFar 4 (λ field. field.name) (λ field. is_name field.name) fields
 
-abbrev RootsSoFar : ℕ → List RootDecl → Type 0
+abbrev pub RootsSoFar : ℕ → List RootDecl → Type 0
 RootsSoFar nodes roots = SoFar 256 (λ root. root.name) (is_root nodes) roots
 
-abbrev OpsSoFar : ℕ → ℕ → List Op → Type 0
+abbrev pub OpsSoFar : ℕ → ℕ → List Op → Type 0
 OpsSoFar fields roots ops = SoFar 16 (λ op. op.name) (is_op fields roots) ops
 
 -- nothing is declared
-record IsEmpty (text : Text) : Type 0 where
+pub record IsEmpty (text : Text) : Type 0 where
   fields : text.fields ≡ []
   nodes : text.nodes ≡ []
   roots : text.roots ≡ []
   ops : text.ops ≡ []
 
 -- fields alone are declared
-record HasFields (text : Text) : Type 0 where
+pub record HasFields (text : Text) : Type 0 where
   fields : FieldsSoFar text.fields
   nodes : text.nodes ≡ []
   roots : text.roots ≡ []
   ops : text.ops ≡ []
 
 -- fields and nodes are declared, up to the count
-record HasNodes (count : ℕ) (text : Text) : Type 0 where
+pub record HasNodes (count : ℕ) (text : Text) : Type 0 where
   fields : are_fields text.fields ≡ true
   few : nat_le count 256 ≡ true
   each : list_all (λ node. are_starts count text.fields node.values) text.nodes ≡ true
@@ -61,7 +61,7 @@ record HasNodes (count : ℕ) (text : Text) : Type 0 where
   ops : text.ops ≡ []
 
 -- fields, all nodes and roots are declared
-record HasRoots (count : ℕ) (text : Text) : Type 0 where
+pub record HasRoots (count : ℕ) (text : Text) : Type 0 where
   fields : are_fields text.fields ≡ true
   nodes : are_nodes text.fields text.nodes ≡ true
   all : length text.nodes ≡ count
@@ -69,19 +69,19 @@ record HasRoots (count : ℕ) (text : Text) : Type 0 where
   ops : text.ops ≡ []
 
 -- the declarations are whole, and operations stand behind them
-record HasOps (text : Text) : Type 0 where
+pub record HasOps (text : Text) : Type 0 where
   fields : are_fields text.fields ≡ true
   nodes : are_nodes text.fields text.nodes ≡ true
   roots : are_roots (length text.nodes) text.roots ≡ true
   ops : OpsSoFar (length text.fields) (length text.roots) text.ops
 
 -- a method's instructions so far
-record CodeSoFar (fields roots : ℕ) (code : List Instr) : Type 0 where
+pub record CodeSoFar (fields roots : ℕ) (code : List Instr) : Type 0 where
   few : nat_le (length code) 256 ≡ true
   each : list_all (is_instr fields roots) code ≡ true
 
 -- the operation whose lines stand here
-record OpSoFar (fields roots : ℕ) (ops : List Op) (op : Op) : Type 0 where
+pub record OpSoFar (fields roots : ℕ) (ops : List Op) (op : Op) : Type 0 where
   next : IsNext 16 (λ op. op.name) ops op
   named : is_name op.name && not (is_reserved op.name) ≡ true
   args : nat_le op.args 4 ≡ true
@@ -90,23 +90,23 @@ record OpSoFar (fields roots : ℕ) (ops : List Op) (op : Op) : Type 0 where
   news : nat_le (news_of op) 4 ≡ true
 
 -- a commit's entries so far, and room for it
-record CommitSoFar (fields roots left : ℕ) (code : List Instr) (entries : List CasEntry) : Type 0 where
+pub record CommitSoFar (fields roots left : ℕ) (code : List Instr) (entries : List CasEntry) : Type 0 where
   room : nat_lt (length code) 256 ≡ true
   few : nat_le (length entries + left) 4 ≡ true
   each : list_all (is_entry fields roots) entries ≡ true
 
-abbrev Pending : ℕ → ℕ → ℕ → List Instr → List CasEntry → Type 0
+abbrev pub Pending : ℕ → ℕ → ℕ → List Instr → List CasEntry → Type 0
 Pending fields roots zero code entries = ⊤
 Pending fields roots (suc left) code entries = CommitSoFar fields roots (suc left) code entries
 
 -- an operation's lines stand here
-record InOp (section : Section) (draft : Draft) : Type 0 where
+pub record InOp (section : Section) (draft : Draft) : Type 0 where
   text : HasOps draft.text
   op : OpSoFar (length draft.text.fields) (length draft.text.roots) draft.text.ops draft.op
   pending : Pending (length draft.text.fields) (length draft.text.roots) draft.left (code_so_far section draft.op) draft.entries
 
 -- what holds of a draft at a section
-abbrev Keeps : Section → Draft → Type 0
+abbrev pub Keeps : Section → Draft → Type 0
 Keeps Start draft = IsEmpty draft.text
 Keeps Opening draft = IsEmpty draft.text
 Keeps Fields draft = HasFields draft.text
@@ -118,7 +118,7 @@ Keeps WrapUp draft = InOp WrapUp draft × (nat_lt 0 (length draft.op.generator) 
 Keeps Shipped draft = is_within_limits draft.text ≡ true
 
 -- what holds of each draft
-abbrev Kept : Draft → Type 0
+abbrev pub Kept : Draft → Type 0
 Kept draft = Keeps draft.section draft
 
 -- a draft at a section, where no entry line must follow
@@ -141,7 +141,7 @@ least : (n : ℕ) → nat_le 0 n ≡ true
 least n = grind (arith, nat_tests)
 
 -- fields may follow where nothing is declared
-may_have_fields : (text : Text) → IsEmpty text → HasFields text
+pub may_have_fields : (text : Text) → IsEmpty text → HasFields text
 may_have_fields text h = record { fields = rw h.fields no_fields; nodes = h.nodes; roots = h.roots; ops = h.ops }
 
 -- once all nodes are declared, roots follow
@@ -447,17 +447,44 @@ words_kept : (draft : Draft) (words : List (List ℕ)) → Kept draft → IfOk (
 words_kept draft [] h = h
 words_kept draft (word ∷ rest) h = either (is_comment word) _ _ _ (λ _. h) (λ _. place_kept draft.left draft word rest h)
 
-line_kept : (draft : Draft) (line : TextLine) → Kept draft → IfOk (after_line draft line) Kept
+pub line_kept : (draft : Draft) (line : TextLine) → Kept draft → IfOk (after_line draft line) Kept
 line_kept draft line h = anyhow (plain (line_fault line)) _ _ λ done. words_kept draft (words_of line.bytes) h
 
 at_line_has : {A : Type 0} (line : ℕ) (r : Result A ℕ) (P : A → Type 0) → IfOk r P → IfOk (at_line line r) P
 at_line_has line (Ok x) P h = h
 at_line_has line (Err e) P h = tt
 
-lines_kept : (draft : Draft) (lines : List TextLine) → Kept draft → IfOk (after_lines draft lines) Kept
+pub lines_kept : (draft : Draft) (lines : List TextLine) → Kept draft → IfOk (after_lines draft lines) Kept
 lines_kept draft [] h = h
 lines_kept draft (line ∷ lines) h =
     then_has (at_line line.number (after_line draft line)) _ Kept Kept (at_line_has line.number _ Kept (line_kept draft line h)) λ next kept. lines_kept next lines kept
+
+few_fields : (fields : List FieldDecl) → are_fields fields ≡ true → length fields ≤ 4
+few_fields fields h = leb-true (length fields) 4 (and_parts _ _ (and_parts _ _ h).0).1
+
+few_roots : (nodes : ℕ) (roots : List RootDecl) → are_roots nodes roots ≡ true → length roots ≤ 256
+few_roots nodes roots h = leb-true (length roots) 256 (and_parts _ _ (and_parts _ _ h).0).1
+
+few_of : (text : Text) → HasOps text → (length text.fields ≤ 4) × (length text.roots ≤ 256)
+few_of text h = (few_fields text.fields h.fields, few_roots (length text.nodes) text.roots h.roots)
+
+-- at most 4 fields and 256 roots are declared
+few_in : (section : Section) (draft : Draft) → Keeps section draft → (length draft.text.fields ≤ 4) × (length draft.text.roots ≤ 256)
+few_in Start draft h = rw (h.fields, h.roots) (omega arith, omega arith)
+few_in Opening draft h = rw (h.fields, h.roots) (omega arith, omega arith)
+few_in Fields draft h = rw h.roots (leb-true _ 4 h.fields.few, omega arith)
+few_in Nodes draft h = rw h.0.roots (few_fields draft.text.fields h.0.fields, omega arith)
+few_in Roots draft h = (few_fields draft.text.fields h.fields, leb-true _ 256 h.roots.few)
+few_in Begun draft h = few_of draft.text h.text
+few_in Generator draft h = few_of draft.text h.text
+few_in WrapUp draft h = few_of draft.text h.0.text
+few_in Shipped draft h =
+    let parts = and_parts _ _ h in
+    (few_fields draft.text.fields parts.0, few_roots (length draft.text.nodes) draft.text.roots (and_parts _ _ (and_parts _ _ parts.1).1).0)
+
+-- at most 4 fields and 256 roots are declared
+pub few_declared : (draft : Draft) → Kept draft → (length draft.text.fields ≤ 4) × (length draft.text.roots ≤ 256)
+few_declared draft h = few_in draft.section draft h
 
 -- a text that ends is within the limits
 finished_in_is : (section : Section) (draft : Draft) → Keeps section draft → IfOk (finished_in section draft) (λ text. is_within_limits text ≡ true)
@@ -473,10 +500,10 @@ finished_in_is WrapUp draft h =
     and_from _ _ last.text.fields (and_from _ _ last.text.nodes (and_from _ _ last.text.roots (whole_list 16 _ _ next.text.ops last.text.ops last.some)))
 finished_in_is Shipped draft h = h
 
-finished_is : (draft : Draft) → Kept draft → IfOk (finished draft) (λ text. is_within_limits text ≡ true)
+pub finished_is : (draft : Draft) → Kept draft → IfOk (finished draft) (λ text. is_within_limits text ≡ true)
 finished_is draft h = demanded form_fault (draft.left == 0) _ _ λ _. finished_in_is draft.section draft h
 
-nothing_declared : IsEmpty (draft_at Start).text
+pub nothing_declared : IsEmpty (draft_at Start).text
 nothing_declared = record { fields = refl; nodes = refl; roots = refl; ops = refl }
 
 -- a text that lines spell is within the limits

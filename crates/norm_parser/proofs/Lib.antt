@@ -1,0 +1,10 @@
+mod FirstWords
+mod LinesLeft
+mod NodeLines
+mod NumberLemmas
+mod News
+mod FrontWords
+mod LineReads
+mod Fronts
+mod Reading
+mod WorkedFronts

@@ -1,0 +1,80 @@
+-- What holds of a draft while a text is read.
+use Rattle.std.specs.Prelude.{◌≡◌, ℕ, ◌+◌, ◌<◌, ◌≤◌, ◌^◌, List, [], ◌∷◌, length, true, Result, Ok, Err, IfOk}
+use Rattle.std.proofs.Common.{refl, ap, arith}
+use Rattle.std.proofs.lemmas.Result.{IfOk-at_ok}
+use Rattle.oa_text.specs.Lines.{TextLine, lines_of, numbered}
+use Rattle.oa_text.proofs.Counts.{length-lines_of-le}
+use Rattle.norm_lang.specs.declared.text.FieldDecl.{FieldDecl}
+use Rattle.norm_lang.specs.declared.text.RootDecl.{RootDecl}
+use Rattle.norm_lang.specs.Faults.{LineFault, at_line, ◌>>=◌}
+use Rattle.norm_lang.specs.declared.text.Text.{Text}
+use Rattle.norm_lang.specs.Grammar.{Draft, Start, Opening, Fields, draft_at, after_line, after_lines, finished}
+use Rattle.norm_lang.specs.Limits.{IsWithinLimits, is_within_limits}
+use Rattle.text_laws.proofs.DraftLimits.{Kept, nothing_declared, may_have_fields, line_kept, lines_kept, finished_is, few_declared}
+use Rattle.norm_parser.specs.FrontRead.{text_lines, behind_text, end_at, front_end}
+
+pub few_fields : (draft : Draft) (fields : List FieldDecl) → Kept draft → fields ≡ draft.text.fields → length fields ≤ 4
+few_fields draft fields kept same = rw same (few_declared draft kept).0
+
+pub few_roots : (draft : Draft) (roots : List RootDecl) → Kept draft → roots ≡ draft.text.roots → length roots ≤ 256
+few_roots draft roots kept same = rw same (few_declared draft kept).1
+
+-- a line keeps what holds
+pub kept_on : (draft next : Draft) (line : TextLine) → Kept draft → at_line line.number (after_line draft line) ≡ Ok next → Kept next
+kept_on draft next line kept read = go (after_line draft line) (line_kept draft line kept) read
+  where
+    go : (r : Result Draft ℕ) → IfOk r Kept → at_line line.number r ≡ Ok next → Kept next
+    go (Ok x) h same = let e : x ≡ next = cc in rw (← e) h
+    go (Err fault) h same = absurd (let f : ⊥ = cc in f)
+
+-- before the first line nothing is declared
+pub kept_first : (draft : Draft) → draft ≡ draft_at Start → Kept draft
+kept_first draft first = rw first nothing_declared
+
+pub kept_opening : (draft : Draft) → draft ≡ draft_at Opening → Kept draft
+kept_opening draft first = rw first nothing_declared
+
+pub kept_fields : (draft : Draft) → draft ≡ draft_at Fields → Kept draft
+kept_fields draft first = rw first (may_have_fields (draft_at Start).text nothing_declared)
+
+-- the draft of what is read
+abbrev drafted : Draft → Result (Draft × LineFault) LineFault → Draft
+drafted other (Ok front) = front.0
+drafted other (Err fault) = other
+
+-- a draft, and where its lines end
+abbrev with_end : LineFault → Draft → Result (Draft × LineFault) LineFault
+with_end end draft = Ok (draft, end)
+
+-- a text that ends is within the limits
+finished_within : (draft : Draft) (text : Text) → Kept draft → finished draft ≡ Ok text → IsWithinLimits text
+finished_within draft text kept end = IfOk-at_ok (λ text. is_within_limits text ≡ true) end (finished_is draft kept)
+
+lines_within : (first draft : Draft) (lines : List TextLine) → Kept first → after_lines first lines ≡ Ok draft → Kept draft
+lines_within first draft lines kept read = IfOk-at_ok Kept read (lines_kept first lines kept)
+
+pub text_is_within : (lines : List TextLine) (draft : Draft) (text : Text) → after_lines (draft_at Start) lines ≡ Ok draft → finished draft ≡ Ok text → IsWithinLimits text
+text_is_within lines draft text read end = finished_within draft text (lines_within (draft_at Start) draft lines nothing_declared read) end
+
+pub front_is_within : (lines : List TextLine) (past : ℕ) (draft : Draft) (end : LineFault) (text : Text) → front_end lines past ≡ Ok (draft, end) → finished draft ≡ Ok text
+    → IsWithinLimits text
+front_is_within lines past draft end text read ended = go (after_lines (draft_at Opening) (text_lines lines)) refl read
+  where
+    go : (r : Result Draft LineFault) → after_lines (draft_at Opening) (text_lines lines) ≡ r
+        → (r >>= with_end (end_at (behind_text lines) past)) ≡ with_end end draft → IsWithinLimits text
+    go (Ok next) same read =
+        let e : next ≡ draft = ap (drafted next) read in
+        finished_within draft text (rw e at (lines_within (draft_at Opening) next (text_lines lines) nothing_declared same)) ended
+    go (Err fault) same read = absurd (let f : ⊥ = cc in f)
+
+pub length_numbered : (n : ℕ) (lines : List (List ℕ)) → length (numbered n lines) ≡ length lines
+length_numbered n [] = refl
+length_numbered n (line ∷ lines) = let k = length_numbered (n + 1) lines in rw k refl
+
+-- the lines and their count
+pub past_first : (lines : List (List ℕ)) (all : List TextLine) → all ≡ numbered 1 lines → 1 + length all ≡ length lines + 1
+past_first lines all same = let k = length_numbered 1 lines in rw same (omega (arith, k))
+
+-- a million bytes have few lines
+pub few_lines : (bytes : List ℕ) → length bytes < 1000000 → length (lines_of bytes) + 1 < 2 ^ 32
+few_lines bytes few = omega (arith, length-lines_of-le bytes)

@@ -1,0 +1,133 @@
+-- The text that begins at a line of a document, and the declarations in front of a target's operations.
+--
+-- Both begin behind a version line, which isn't theirs: a text of its own, a document and a target each have such a line,
+-- they don't have the same one, and whoever reads them has read it before it reads on from the line behind it.
+use Rattle.std.specs.Prelude.{ℕ, ◌+◌, Bool, ◌||◌, List, [], ◌∷◌, length, Option, Some, None, Result, Ok, Err, codes, nat_lt, if◌then◌else◌}
+use Rattle.std.specs.Str.{bytes_eq}
+use Rattle.oa_text.specs.declared.fault.TextFault.{TextFault}
+use Rattle.oa_text.specs.Lines.{TextLine, lines_of, numbered}
+use Rattle.oa_text.specs.Tokens.{words_of, line_fault}
+use Rattle.norm_lang.specs.declared.text.Text.{Text}
+use Rattle.norm_lang.specs.Faults.{LineFault, form_fault, ◌>>=◌, demand}
+use Rattle.norm_lang.specs.Grammar.{Section, Opening, Fields, Roots, Draft, draft_at, fault_number, after_lines, finished}
+use Rattle.norm_parser.specs.declared.head.Head.{Head}
+
+-- the lines from this number on
+abbrev pub from_line : ℕ → List TextLine → List TextLine
+from_line start [] = []
+from_line start (line ∷ lines) = if nat_lt line.number start then from_line start lines else line ∷ from_line start lines
+
+-- the first of words, or no bytes where there is none
+abbrev pub front_of : List (List ℕ) → List ℕ
+front_of [] = []
+front_of (word ∷ rest) = word
+
+-- the word that a line begins with, skipped or not
+abbrev pub line_word : TextLine → List ℕ
+line_word line = front_of (words_of line.bytes)
+
+-- a document goes on with a line that begins so
+abbrev pub ends_text : List ℕ → Bool
+ends_text word =
+    bytes_eq word (codes "slots")
+    || (bytes_eq word (codes "phases")
+    || (bytes_eq word (codes "fuel")
+    || (bytes_eq word (codes "script")
+    || bytes_eq word (codes "schedule"))))
+
+-- a shipped text is whole behind a line that begins so
+abbrev pub names_text : List ℕ → Bool
+names_text word = bytes_eq word (codes "use")
+
+-- a target's operations begin so
+abbrev pub ends_head : List ℕ → Bool
+ends_head word = bytes_eq word (codes "op")
+
+-- the lines of a text: up to a line that names a shipped one, and else before the line that a document goes on with
+abbrev pub text_lines : List TextLine → List TextLine
+text_lines [] = []
+text_lines (line ∷ lines) =
+    if ends_text (line_word line) then []
+    else (if names_text (line_word line) then line ∷ []
+    else line ∷ text_lines lines)
+
+-- the lines behind them
+abbrev pub behind_text : List TextLine → List TextLine
+behind_text [] = []
+behind_text (line ∷ lines) =
+    if ends_text (line_word line) then line ∷ lines
+    else (if names_text (line_word line) then lines
+    else behind_text lines)
+
+-- the lines before the first operation
+abbrev pub head_lines : List TextLine → List TextLine
+head_lines [] = []
+head_lines (line ∷ lines) = if ends_head (line_word line) then [] else line ∷ head_lines lines
+
+-- the lines from the first operation on
+abbrev pub behind_head : List TextLine → List TextLine
+behind_head [] = []
+behind_head (line ∷ lines) = if ends_head (line_word line) then line ∷ lines else behind_head lines
+
+-- the number of a line's fault where another line must stand in its place: what is wrong with its bytes comes first
+abbrev pub misplaced : Option TextFault → ℕ
+misplaced None = form_fault
+misplaced (Some fault) = fault_number fault
+
+-- a line before which lines end, with its fault if a further line must come first
+abbrev pub end_before : TextLine → LineFault
+end_before line = record { line = line.number; number = misplaced (line_fault line) }
+
+-- where lines end: before the first of those behind them, or else with the input
+abbrev pub end_at : List TextLine → ℕ → LineFault
+end_at [] past = record { line = past; number = form_fault }
+end_at (line ∷ lines) past = end_before line
+
+-- what is read, with the number of the line behind it, unless a further line must come first
+abbrev pub ended : {A : Type 0} → Result A ℕ → LineFault → Result (A × ℕ) LineFault
+ended (Ok x) end = Ok (x, end.line)
+ended (Err fault) end = Err end
+
+-- what the lines of a text declare, and where they end, where `past` is one more than the last line's number
+abbrev pub front_end : List TextLine → ℕ → Result (Draft × LineFault) LineFault
+front_end lines past = do
+  draft ← after_lines (draft_at Opening) (text_lines lines)
+  Ok (draft, end_at (behind_text lines) past)
+
+-- the text that lines begin with, and the number of the line behind it
+abbrev pub front_in : List TextLine → ℕ → Result (Text × ℕ) LineFault
+front_in lines past = do
+  front ← front_end lines past
+  ended (finished front.0) front.1
+
+-- the text that begins at a line, and the number of the line behind it; otherwise the first fault of the text's lines,
+-- or else the fault where they end
+abbrev pub front_read : List ℕ → ℕ → Result (Text × ℕ) LineFault
+front_read bytes start = front_in (from_line start (numbered 1 (lines_of bytes))) (length (lines_of bytes) + 1)
+
+-- declarations are whole with at least one root behind all nodes
+abbrev pub whole_in : Section → Draft → Result Head ℕ
+whole_in Roots draft = do
+  some ← demand form_fault (nat_lt 0 (length draft.text.roots))
+  Ok (record { fields = draft.text.fields; roots = draft.text.roots; nodes = draft.text.nodes })
+whole_in _ draft = Err form_fault
+
+-- the declarations of a draft, unless a further line must follow
+abbrev pub whole_head : Draft → Result Head ℕ
+whole_head draft = whole_in draft.section draft
+
+-- declarations end before an operation alone, and not with the input
+abbrev pub head_ended : Draft → List TextLine → ℕ → Result (Head × ℕ) LineFault
+head_ended draft [] past = Err (end_at [] past)
+head_ended draft (line ∷ lines) past = ended (whole_head draft) (end_at (line ∷ lines) past)
+
+-- the declarations that lines begin with, and the number of the first operation's line. Here no line names a shipped text
+abbrev pub head_in : List TextLine → ℕ → Result (Head × ℕ) LineFault
+head_in lines past = do
+  draft ← after_lines (draft_at Fields) (head_lines lines)
+  head_ended draft (behind_head lines) past
+
+-- the declarations that begin at a line, and the number of the first operation's line; otherwise the first fault of
+-- their lines, or else the fault where they end
+abbrev pub head_read : List ℕ → ℕ → Result (Head × ℕ) LineFault
+head_read bytes start = head_in (from_line start (numbered 1 (lines_of bytes))) (length (lines_of bytes) + 1)

@@ -1,0 +1,136 @@
+//! One instruction, with the entry lines of a commit.
+
+ghost use Rattle.std.specs.Prelude.{◌≡◌, ◌+◌, ◌<◌, ◌≤◌, ◌^◌, length, map, IsTrue, false, []};
+ghost use Rattle.oa_text.specs.Shown.{line_shown};
+ghost use Rattle.oa_text.specs.Tokens.{words_of};
+ghost use Rattle.norm_lang.specs.Limits.{are_different};
+ghost use Rattle.norm_parser.specs.Answered.{Reads, Answers};
+ghost use Rattle.norm_parser.specs.Steps.{step_shown};
+ghost use Rattle.norm_parser.specs.Instruction.{are_skipped, AreFrom, AreLeftOf, step_of, entry_of, next_entry, entries_from, instr_read};
+
+use crate::fault::{Fault, ParseError, Stop};
+use crate::steps::{Step, read_entry, read_step};
+use crate::words::Words;
+use norm_lang::list::Listed;
+use norm_lang::text::{CasEntry, Entries, FieldDecl, Fields, Instr, RootDecl, Roots};
+use oa_text::{Line, Lines};
+use std::alloc::Global;
+
+/// What an instruction's own line says.
+fn step_of(fields: &[FieldDecl], roots: &[RootDecl], line: Line) -> Result<Step, Fault>
+    requires few_fields { length fields.now ≤ 4 }
+    requires few_roots { length roots.now ≤ 256 }
+    ensures { Reads step_shown result (step_of fields.now roots.now (line_shown line.entry)) }
+{
+    let mut words = Words::new(line)?;
+    let word = words.word()?;
+    read_step(fields, roots, word, &mut words)
+}
+
+/// The entry that a line says: `None` where it is skipped.
+fn entry_of(fields: &[FieldDecl], roots: &[RootDecl], line: Line) -> Result<Option<CasEntry>, Fault>
+    requires few_fields { length fields.now ≤ 4 }
+    requires few_roots { length roots.now ≤ 256 }
+    ensures { Reads (λ entry. entry) result (entry_of fields.now roots.now (line_shown line.entry)) }
+{
+    let mut words = Words::new(line)?;
+    match words.first() {
+        None => Ok(None),
+        Some(word) => Ok(Some(read_entry(fields, roots, word, &mut words)?)),
+    }
+}
+
+/// The next entry among the lines that are left, which are numbered from `next` on.
+#[tactic(auto, using(crate::proofs::LinesLeft::number_is, crate::proofs::LinesLeft::from_next, crate::proofs::LinesLeft::left_all, crate::proofs::LinesLeft::left_next))]
+fn next_entry(
+    fields: &[FieldDecl],
+    roots: &[RootDecl],
+    next: &mut u32,
+    rest: &mut Lines,
+) -> Result<CasEntry, ParseError>
+    requires few_fields { length fields.now ≤ 4 }
+    requires few_roots { length roots.now ≤ 256 }
+    requires ordered { AreFrom next.old rest.old }
+    requires room { next.old + length rest.old < 2 ^ 32 }
+    ensures entry { Answers (λ entry. (entry, rest.new)) result (next_entry fields.now roots.now (next.old + length rest.old) rest.old) }
+    ensures ordered { AreFrom next.new rest.new }
+    ensures past { next.new + length rest.new ≡ next.old + length rest.old }
+    ensures left { AreLeftOf rest.old rest.new }
+{
+    'lines: while let Some(line) = rest.next() {
+        *next += 1;
+        match entry_of(fields, roots, line) {
+            Ok(None) => {}
+            Ok(Some(entry)) => return Ok(entry),
+            Err(fault) => return Err(Stop::Fault(fault).at(line.number())),
+        }
+    }
+    Err(Stop::Fault(Fault::Form).at(*next))
+}
+
+/// The entries of a commit.
+#[tactic(auto, using(crate::proofs::LinesLeft::entries_more, crate::proofs::LinesLeft::entries_stopped, crate::proofs::LinesLeft::entries_done, crate::proofs::LinesLeft::left_all, crate::proofs::LinesLeft::left_more))]
+fn entries(
+    alloc: Global,
+    fields: &[FieldDecl],
+    roots: &[RootDecl],
+    count: u8,
+    next: &mut u32,
+    rest: &mut Lines,
+) -> Result<Entries, ParseError>
+    requires few_fields { length fields.now ≤ 4 }
+    requires few_roots { length roots.now ≤ 256 }
+    requires ordered { AreFrom next.old rest.old }
+    requires room { next.old + length rest.old < 2 ^ 32 }
+    ensures entries { Answers (λ entries. (entries, rest.new)) result (entries_from fields.now roots.now (next.old + length rest.old) count [] rest.old) }
+    ensures left { AreLeftOf rest.old rest.new }
+{
+    let mut entries = Listed::empty(alloc);
+    for _ in 0..count {
+        entries.push(next_entry(fields, roots, next, rest)?)?;
+    }
+    Ok(entries)
+}
+
+/// The instruction that begins with the line `first`. For a commit its entry lines are taken from `rest`, which holds the
+/// lines behind `first`, up to the end of the input.
+///
+/// `first` isn't skipped, the input has fewer than 2^32 - 1 lines, there are at most 4 fields and 256 roots, and no two of
+/// a kind have one name.
+///
+/// # Errors
+///
+/// `Memory` where memory ran out. `Fault` where the lines are no instruction: the first of them that has a fault, with
+/// its first fault; where the input ends before the last entry line, fault 4 at one more than the number of lines. Then
+/// `rest` holds the lines behind those that were read.
+#[tactic(auto, using(crate::proofs::LinesLeft::left_all))]
+pub fn parse_instr<'a>(
+    alloc: Global,
+    first: Line<'a>,
+    rest: &mut Lines<'a>,
+    fields: &Fields,
+    roots: &Roots,
+) -> Result<Instr, ParseError>
+    requires stands { are_skipped (words_of (line_shown first).bytes) ≡ false }
+    requires behind { AreFrom ((line_shown first).number + 1) rest.old }
+    requires room { (line_shown first).number + 1 + length rest.old < 2 ^ 32 }
+    requires few_fields { length fields.now ≤ 4 }
+    requires few_roots { length roots.now ≤ 256 }
+    requires fields_differ { IsTrue (are_different (map (λ field. field.name) fields.now)) }
+    requires roots_differ { IsTrue (are_different (map (λ root. root.name) roots.now)) }
+    ensures instr { Answers (λ i. (i, rest.new)) result (instr_read fields.now roots.now (line_shown first.entry) rest.old) }
+    ensures left { AreLeftOf rest.old rest.new }
+{
+    let fields = fields.items();
+    let roots = roots.items();
+    let number = first.number();
+    match step_of(fields, roots, first) {
+        Err(fault) => Err(Stop::Fault(fault).at(number)),
+        Ok(Step::Whole(instr)) => Ok(instr),
+        Ok(Step::Commits(count)) => {
+            let mut next = number + 1;
+            let entries = entries(alloc, fields, roots, count, &mut next, rest)?;
+            Ok(Instr::Commit(entries))
+        }
+    }
+}

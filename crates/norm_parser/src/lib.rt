@@ -1,0 +1,27 @@
+//! The reader of texts: lines, instructions, and the first fault.
+#![tactic(auto)]
+
+mod declarations;
+mod draft;
+mod fault;
+mod front;
+mod head;
+mod instruction;
+mod instructions;
+mod lines;
+mod number;
+mod operands;
+mod reader;
+mod sections;
+mod steps;
+mod words;
+
+pub use fault::{ParseError, ParseFault};
+pub use head::Head;
+pub use instruction::parse_instr;
+pub use reader::{parse, parse_front, parse_head};
+
+#[cfg(test)]
+mod tests;
+#[cfg(test)]
+mod text_tests;

@@ -1,0 +1,127 @@
+//! A line of a method, and an entry line of a commit, by its first word.
+
+ghost use Rattle.std.specs.Prelude.{◌≡◌, ◌≤◌, length};
+ghost use Rattle.norm_lang.specs.Instructions.{step_line, entry_line};
+ghost use Rattle.norm_parser.specs.Answered.{Reads};
+ghost use Rattle.norm_parser.specs.Steps.{step_shown, access_line, flow_line};
+
+use crate::fault::Fault;
+use crate::instructions;
+use crate::words::Words;
+use norm_lang::text::{CasEntry, FieldDecl, Instr, RootDecl};
+
+/// What a line of a method says.
+#[derive(Debug, Drop)]
+pub(crate) enum Step {
+    /// A whole instruction.
+    Whole(Instr),
+    /// A commit whose entry lines follow: their count, at most 4.
+    Commits(u8),
+}
+
+/// A jump, a branch, or the end of a method.
+fn flow(word: &[u8], words: &mut Words) -> Result<Step, Fault>
+    ensures { Reads step_shown result (flow_line word.now words.old) }
+{
+    if word == b"jump".as_slice() {
+        Ok(Step::Whole(instructions::jump(words)?))
+    } else if word == b"ifeq".as_slice() {
+        Ok(Step::Whole(instructions::if_equal(words)?))
+    } else if word == b"ifless".as_slice() {
+        Ok(Step::Whole(instructions::if_less(words)?))
+    } else if word == b"ifmarked".as_slice() {
+        Ok(Step::Whole(instructions::if_marked(words)?))
+    } else if word == b"commit".as_slice() {
+        Ok(Step::Commits(instructions::commit(words)?))
+    } else if word == b"return".as_slice() {
+        Ok(Step::Whole(instructions::return_number(words)?))
+    } else if word == b"returnnone".as_slice() {
+        Ok(Step::Whole(instructions::return_none(words)?))
+    } else if word == b"again".as_slice() {
+        Ok(Step::Whole(instructions::again(words)?))
+    } else {
+        Err(Fault::Form)
+    }
+}
+
+/// A load, a fresh node, a put or an exchange, or else a line of `flow`.
+fn access(
+    fields: &[FieldDecl],
+    roots: &[RootDecl],
+    word: &[u8],
+    words: &mut Words,
+) -> Result<Step, Fault>
+    requires few_fields { length fields.now ≤ 4 }
+    requires few_roots { length roots.now ≤ 256 }
+    ensures { Reads step_shown result (access_line fields.now roots.now word.now words.old) }
+{
+    if word == b"root".as_slice() {
+        Ok(Step::Whole(instructions::load_root(roots, words)?))
+    } else if word == b"pick".as_slice() {
+        Ok(Step::Whole(instructions::pick(roots, words)?))
+    } else if word == b"load".as_slice() {
+        Ok(Step::Whole(instructions::load_field(fields, words)?))
+    } else if word == b"new".as_slice() {
+        Ok(Step::Whole(instructions::fresh(words)?))
+    } else if word == b"put".as_slice() {
+        Ok(Step::Whole(instructions::put(fields, words)?))
+    } else if word == b"cas".as_slice() {
+        Ok(Step::Whole(instructions::cas(fields, words)?))
+    } else if word == b"casroot".as_slice() {
+        Ok(Step::Whole(instructions::cas_root(roots, words)?))
+    } else {
+        flow(word, words)
+    }
+}
+
+/// A line of a method: one that sets a register from others, or else a line of `access`.
+pub(crate) fn read_step(
+    fields: &[FieldDecl],
+    roots: &[RootDecl],
+    word: &[u8],
+    words: &mut Words,
+) -> Result<Step, Fault>
+    requires few_fields { length fields.now ≤ 4 }
+    requires few_roots { length roots.now ≤ 256 }
+    ensures { Reads step_shown result (step_line fields.now roots.now word.now words.old) }
+{
+    if word == b"set".as_slice() {
+        Ok(Step::Whole(instructions::set(words)?))
+    } else if word == b"mov".as_slice() {
+        Ok(Step::Whole(instructions::mov(words)?))
+    } else if word == b"add".as_slice() {
+        Ok(Step::Whole(instructions::add(words)?))
+    } else if word == b"sub".as_slice() {
+        Ok(Step::Whole(instructions::sub(words)?))
+    } else if word == b"rem".as_slice() {
+        Ok(Step::Whole(instructions::rem(words)?))
+    } else if word == b"null".as_slice() {
+        Ok(Step::Whole(instructions::null(words)?))
+    } else if word == b"mark".as_slice() {
+        Ok(Step::Whole(instructions::mark(words)?))
+    } else if word == b"unmark".as_slice() {
+        Ok(Step::Whole(instructions::unmark(words)?))
+    } else {
+        access(fields, roots, word, words)
+    }
+}
+
+/// An entry line of a commit.
+pub(crate) fn read_entry(
+    fields: &[FieldDecl],
+    roots: &[RootDecl],
+    word: &[u8],
+    words: &mut Words,
+) -> Result<CasEntry, Fault>
+    requires few_fields { length fields.now ≤ 4 }
+    requires few_roots { length roots.now ≤ 256 }
+    ensures { Reads (λ entry. entry) result (entry_line fields.now roots.now word.now words.old) }
+{
+    if word == b"with".as_slice() {
+        instructions::field_entry(fields, words)
+    } else if word == b"withroot".as_slice() {
+        instructions::root_entry(roots, words)
+    } else {
+        Err(Fault::Form)
+    }
+}

@@ -1,0 +1,315 @@
+//! The words of a line, taken one by one.
+
+ghost use Rattle.std.specs.Prelude.{◌≡◌, ◌≤◌, [], ◌∷◌, Ok, Err, IfOk, MatchOption};
+ghost use Rattle.std.specs.List.{list_all};
+ghost use Rattle.oa_text.specs.Shown.{line_shown};
+ghost use Rattle.norm_lang.specs.LineWords.{is_lower, is_name_byte, is_name, word_at, end_at, keyword_at, name_at, number_at, is_positive, positive_at, value_of, up_to, register_of, register_in, register_at, kind_in, kind_at, node_in, start_in, start_at, is_great, node_of, start_of};
+ghost use Rattle.norm_lang.specs.Grammar.{is_comment, fault_number};
+ghost use Rattle.norm_parser.specs.Answered.{Reads};
+ghost use Rattle.norm_parser.specs.Faults.{number_of_fault};
+ghost use Rattle.norm_parser.specs.Shown.{start_shown};
+ghost use Rattle.norm_parser.specs.Lines.{words_in, first_word};
+
+use crate::fault::Fault;
+use crate::number::number_in;
+use norm_lang::text::{FieldKind, Reg, Start};
+use oa_text::{Line, TextFault, Tokens, tokens};
+use std::marker::Model;
+
+/// The words of a line that are left.
+#[derive(Debug, Drop)]
+pub(crate) struct Words<'a> {
+    tokens: Tokens<'a>,
+}
+
+impl<'a> Model for Words<'a> {
+    ghost use Rattle.std.specs.Prelude.{ℕ, List, map};
+
+    ghost Value = { List (List ℕ) };
+
+    ghost view = { λ s. map (λ token. token.bytes) s.tokens };
+}
+
+/// A first value as it is spelled: a number, `null`, or `@J`. A number that exceeds 2^64 - 1 is none.
+#[derive(Clone, Copy, Debug, PartialEq, Eq)]
+pub(crate) enum StartWord {
+    Value(Option<u64>),
+    Null,
+    At(Option<u64>),
+}
+
+/// What is wrong with bytes.
+fn fault_of_bytes(fault: TextFault) -> Fault
+    ensures { number_of_fault result ≡ fault_number fault }
+{
+    match fault {
+        TextFault::Byte { .. } => Fault::Byte,
+        TextFault::Number { .. } => Fault::Number,
+        TextFault::LineLong { .. } => Fault::LineLong,
+    }
+}
+
+impl<'a> Words<'a> {
+    /// The words of a line, unless its bytes have a fault.
+    pub(crate) fn new(line: Line<'a>) -> Result<Words<'a>, Fault>
+        ensures { Reads (λ words. words) result (words_in (line_shown line.entry)) }
+    {
+        match tokens(line) {
+            Ok(tokens) => Ok(Words { tokens }),
+            Err(fault) => Err(fault_of_bytes(fault)),
+        }
+    }
+
+    /// The first word, unless the line is skipped.
+    pub(crate) fn first(&mut self) -> Option<&'a [u8]>
+        ensures { MatchOption result (first_word self.old ≡ None) (λ word. first_word self.old ≡ Some (word.now, self.new)) }
+    {
+        let word = self.tokens.next()?.bytes();
+        if comment(word) { None } else { Some(word) }
+    }
+
+    /// The next word.
+    pub(crate) fn word(&mut self) -> Result<&'a [u8], Fault>
+        ensures { Reads (λ word. (word.now, self.new)) result (word_at self.old) }
+    {
+        match self.tokens.next() {
+            Some(token) => Ok(token.bytes()),
+            None => Err(Fault::Form),
+        }
+    }
+
+    /// The end of the line.
+    pub(crate) fn end(&mut self) -> Result<(), Fault>
+        ensures { Reads (λ _. tt) result (end_at self.old) }
+    {
+        match self.tokens.next() {
+            Some(_) => Err(Fault::Form),
+            None => Ok(()),
+        }
+    }
+
+    /// This very word.
+    pub(crate) fn keyword(&mut self, wanted: &[u8]) -> Result<(), Fault>
+        ensures { Reads (λ _. self.new) result (keyword_at wanted.now self.old) }
+    {
+        if self.word()? == wanted {
+            Ok(())
+        } else {
+            Err(Fault::Form)
+        }
+    }
+
+    pub(crate) fn name(&mut self) -> Result<&'a [u8], Fault>
+        ensures { Reads (λ name. (name.now, self.new)) result (name_at self.old) }
+    {
+        let word = self.word()?;
+        if name(word) {
+            Ok(word)
+        } else {
+            Err(Fault::Form)
+        }
+    }
+
+    /// A number as it is spelled: `None` where it exceeds 2^64 - 1.
+    pub(crate) fn number(&mut self) -> Result<Option<u64>, Fault>
+        ensures { Reads (λ n. (n, self.new)) result (number_at self.old) }
+    {
+        number_in(self.word()?)
+    }
+
+    /// A number that is to be at least 1.
+    pub(crate) fn positive(&mut self) -> Result<Option<u64>, Fault>
+        ensures { Reads (λ n. (n, self.new)) result (positive_at self.old) }
+    {
+        let n = self.number()?;
+        if positive(n) { Ok(n) } else { Err(Fault::Form) }
+    }
+
+    pub(crate) fn register(&mut self) -> Result<Reg, Fault>
+        ensures { Reads (λ r. (r, self.new)) result (register_at self.old) }
+    {
+        register_in(self.word()?)
+    }
+
+    /// `num` or `ref`.
+    pub(crate) fn kind(&mut self) -> Result<FieldKind, Fault>
+        ensures { Reads (λ kind. (kind, self.new)) result (kind_at self.old) }
+    {
+        kind_in(self.word()?)
+    }
+
+    /// A first value of a kind as it is spelled.
+    pub(crate) fn start(&mut self, kind: FieldKind) -> Result<StartWord, Fault>
+        ensures { Reads (λ start. (start_shown start, self.new)) result (start_at kind self.old) }
+    {
+        start_in(kind, self.word()?)
+    }
+}
+
+/// Whether a word begins with `#`.
+fn comment(word: &[u8]) -> bool
+    ensures { result ≡ is_comment word.now }
+{
+    match word.split_first() {
+        None => false,
+        Some((first, _)) => *first == b'#',
+    }
+}
+
+fn lower(b: u8) -> bool
+    ensures { result ≡ is_lower b }
+{
+    b'a' <= b && b <= b'z'
+}
+
+fn name_byte(b: u8) -> bool
+    ensures { result ≡ is_name_byte b }
+{
+    lower(b) || b'0' <= b && b <= b'9' || b == b'_'
+}
+
+fn name_bytes(bytes: &[u8]) -> bool
+    ensures { result ≡ list_all is_name_byte bytes.now }
+{
+    bytes.iter().all(|b| name_byte(*b))
+}
+
+/// Whether a word is spelled as a name.
+fn name(word: &[u8]) -> bool
+    ensures { result ≡ is_name word.now }
+{
+    match word.split_first() {
+        None => false,
+        Some((first, rest)) => lower(*first) && (name_bytes(rest) && rest.len() <= 15),
+    }
+}
+
+/// Whether a number as it is spelled is at least 1.
+fn positive(n: Option<u64>) -> bool
+    ensures { result ≡ is_positive n }
+{
+    match n {
+        None => true,
+        Some(n) => 0 < n,
+    }
+}
+
+/// The register of a kind, by the letter: `n` is for numbers and `r` for references.
+fn register_of(letter: u8, number: u8) -> Result<Reg, Fault>
+    ensures { Reads (λ r. r) result (register_of letter number) }
+{
+    if letter == b'n' {
+        Ok(Reg::Num(number))
+    } else if letter == b'r' {
+        Ok(Reg::Ref(number))
+    } else {
+        Err(Fault::Form)
+    }
+}
+
+fn register_in(word: &[u8]) -> Result<Reg, Fault>
+    ensures { Reads (λ r. r) result (register_in word.now) }
+{
+    let (letter, rest) = word.split_first().ok_or(Fault::Form)?;
+    let (digit, rest) = rest.split_first().ok_or(Fault::Form)?;
+    if rest.is_empty() && (b'0' <= *digit && *digit <= b'7') {
+        register_of(*letter, *digit - b'0')
+    } else {
+        Err(Fault::Form)
+    }
+}
+
+fn kind_in(word: &[u8]) -> Result<FieldKind, Fault>
+    ensures { Reads (λ kind. kind) result (kind_in word.now) }
+{
+    if word == b"num".as_slice() {
+        Ok(FieldKind::Number)
+    } else if word == b"ref".as_slice() {
+        Ok(FieldKind::Reference)
+    } else {
+        Err(Fault::Form)
+    }
+}
+
+/// `@J`
+fn node_in(word: &[u8]) -> Result<StartWord, Fault>
+    ensures { Reads start_shown result (node_in word.now) }
+{
+    let (sign, rest) = word.split_first().ok_or(Fault::Form)?;
+    if *sign == b'@' {
+        Ok(StartWord::At(number_in(rest)?))
+    } else {
+        Err(Fault::Form)
+    }
+}
+
+fn start_in(kind: FieldKind, word: &[u8]) -> Result<StartWord, Fault>
+    ensures { Reads start_shown result (start_in kind word.now) }
+{
+    match kind {
+        FieldKind::Number => Ok(StartWord::Value(number_in(word)?)),
+        FieldKind::Reference => {
+            if word == b"null".as_slice() {
+                Ok(StartWord::Null)
+            } else {
+                node_in(word)
+            }
+        }
+    }
+}
+
+/// The number, unless it exceeds 2^64 - 1.
+pub(crate) fn value_of(n: Option<u64>) -> Result<u64, Fault>
+    ensures { Reads (λ n. n) result (value_of n) }
+{
+    n.ok_or(Fault::Number)
+}
+
+/// A number up to a limit.
+pub(crate) fn up_to(limit: u64, n: u64) -> Result<u64, Fault>
+    ensures number { Reads (λ n. n) result (up_to limit n) }
+    ensures most { IfOk result (λ n. n ≤ limit) }
+{
+    if n <= limit {
+        Ok(n)
+    } else {
+        Err(Fault::TooMany)
+    }
+}
+
+/// Whether a first value is a number that exceeds 2^64 - 1.
+pub(crate) fn great(start: StartWord) -> bool
+    ensures { result ≡ is_great (start_shown start) }
+{
+    match start {
+        StartWord::Value(None) => true,
+        _ => false,
+    }
+}
+
+/// The initial node `@J` of so many.
+fn node_of(count: u32, j: Option<u64>) -> Result<Start, Fault>
+    ensures { Reads (λ start. start) result (node_of count j) }
+{
+    match j {
+        None => Err(Fault::UnknownName),
+        Some(j) => {
+            if 0 < j && j <= count as u64 {
+                Ok(Start::Node(j as u32))
+            } else {
+                Err(Fault::UnknownName)
+            }
+        }
+    }
+}
+
+/// The first value that a word says, with so many initial nodes.
+pub(crate) fn start_of(count: u32, start: StartWord) -> Result<Start, Fault>
+    ensures { Reads (λ start. start) result (start_of count (start_shown start)) }
+{
+    match start {
+        StartWord::Value(n) => Ok(Start::Value(value_of(n)?)),
+        StartWord::Null => Ok(Start::Node(0)),
+        StartWord::At(j) => node_of(count, j),
+    }
+}
