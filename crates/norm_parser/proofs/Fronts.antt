@@ -5,8 +5,7 @@ use Rattle.std.proofs.lemmas.Bool.{lt-ltb, le-ltb}
 use Rattle.oa_text.specs.Lines.{TextLine}
 use Rattle.norm_lang.specs.Faults.{LineFault, at_line, ◌>>=◌}
 use Rattle.norm_lang.specs.Grammar.{Opening, Fields, Draft, draft_at, after_line, after_lines}
-use Rattle.norm_parser.specs.FrontRead.{from_line, line_word, ends_text, names_text, text_lines, behind_text, end_before, end_at, head_lines, behind_head, ends_head, head_ended, front_end, head_in}
-use Rattle.norm_parser.specs.declared.head.Head.{Head}
+use Rattle.norm_parser.specs.FrontRead.{from_line, line_word, ends_text, names_text, text_lines, behind_text, end_before, end_at, head_lines, behind_head, ends_head, before_op, front_end, head_end}
 
 -- what the lines from here on declare up to the end of a text, where the line before these named a shipped one or not
 abbrev pub front_from : Draft → Bool → List TextLine → ℕ → Result (Draft × LineFault) LineFault
@@ -48,17 +47,17 @@ front_is draft (line ∷ lines) past = go (ends_text (line_word line)) (names_te
     go false false rest = read_then (at_line line.number (after_line draft line)) lines (text_lines lines) (behind_text lines) past false rest
 
 -- what the lines from here on declare up to the first operation
-abbrev pub head_from : Draft → List TextLine → ℕ → Result (Head × ℕ) LineFault
-head_from draft [] past = head_ended draft [] past
+abbrev pub head_from : Draft → List TextLine → ℕ → Result (Draft × LineFault) LineFault
+head_from draft [] past = Err (end_at [] past)
 head_from draft (line ∷ lines) past =
-    if ends_head (line_word line) then head_ended draft (line ∷ lines) past
+    if ends_head (line_word line) then Ok (draft, end_before line)
     else (at_line line.number (after_line draft line) >>= λ next. head_from next lines past)
 
-abbrev head_ends : Draft → List TextLine → ℕ → Result (Head × ℕ) LineFault
-head_ends draft lines past = after_lines draft (head_lines lines) >>= λ next. head_ended next (behind_head lines) past
+abbrev head_ends : Draft → List TextLine → ℕ → Result (Draft × LineFault) LineFault
+head_ends draft lines past = after_lines draft (head_lines lines) >>= λ next. before_op next (behind_head lines) past
 
 head_then : (read : Result Draft LineFault) (lines : List TextLine) (past : ℕ) → ((next : Draft) → head_from next lines past ≡ head_ends next lines past)
-    → (read >>= λ next. head_from next lines past) ≡ ((read >>= λ next. after_lines next (head_lines lines)) >>= λ last. head_ended last (behind_head lines) past)
+    → (read >>= λ next. head_from next lines past) ≡ ((read >>= λ next. after_lines next (head_lines lines)) >>= λ last. before_op last (behind_head lines) past)
 head_then (Ok next) lines past rest = rest next
 head_then (Err fault) lines past rest = refl
 
@@ -67,8 +66,8 @@ head_is draft [] past = refl
 head_is draft (line ∷ lines) past = go (ends_head (line_word line)) (λ next. head_is next lines past)
   where
     go : (ended : Bool) → ((next : Draft) → head_from next lines past ≡ head_ends next lines past)
-        → (if ended then head_ended draft (line ∷ lines) past else (at_line line.number (after_line draft line) >>= λ next. head_from next lines past))
-        ≡ (after_lines draft (if ended then [] else line ∷ head_lines lines) >>= λ next. head_ended next (if ended then line ∷ lines else behind_head lines) past)
+        → (if ended then with_end (end_before line) draft else (at_line line.number (after_line draft line) >>= λ next. head_from next lines past))
+        ≡ (after_lines draft (if ended then [] else line ∷ head_lines lines) >>= λ next. before_op next (if ended then line ∷ lines else behind_head lines) past)
     go true rest = refl
     go false rest = head_then (at_line line.number (after_line draft line)) lines past rest
 
@@ -120,16 +119,16 @@ front_stops draft named start past number line lines rest word fault whole cut s
     sym (rw (cut, later start line rest late, on_here, read) at so_far)
 
 pub head_starts : (draft : Draft) (start past : ℕ) (lines all : List TextLine) → draft ≡ draft_at Fields → lines ≡ all
-    → head_from draft (from_line start lines) past ≡ head_in (from_line start all) past
+    → head_from draft (from_line start lines) past ≡ head_end (from_line start all) past
 head_starts draft start past lines all first same = rw (first, same) (head_is (draft_at Fields) (from_line start all) past)
 
-pub head_passes : (draft : Draft) (start past number : ℕ) (line : TextLine) (lines rest : List TextLine) (whole : Result (Head × ℕ) LineFault)
+pub head_passes : (draft : Draft) (start past number : ℕ) (line : TextLine) (lines rest : List TextLine) (whole : Result (Draft × LineFault) LineFault)
     → lines ≡ line ∷ rest → number ≡ line.number → number < start
     → head_from draft (from_line start lines) past ≡ whole → head_from draft (from_line start rest) past ≡ whole
 head_passes draft start past number line lines rest whole cut same lt so_far =
     rw (cut, earlier start line rest (rw (← same) lt)) at so_far
 
-pub head_goes_on : (draft next : Draft) (start past number : ℕ) (line : TextLine) (lines rest : List TextLine) (word : List ℕ) (whole : Result (Head × ℕ) LineFault)
+pub head_goes_on : (draft next : Draft) (start past number : ℕ) (line : TextLine) (lines rest : List TextLine) (word : List ℕ) (whole : Result (Draft × LineFault) LineFault)
     → lines ≡ line ∷ rest → number ≡ line.number → start ≤ number → word ≡ line_word line → false ≡ ends_head word
     → at_line line.number (after_line draft line) ≡ Ok next
     → head_from draft (from_line start lines) past ≡ whole → head_from next (from_line start rest) past ≡ whole

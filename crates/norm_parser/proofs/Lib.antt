@@ -7,4 +7,5 @@ mod FrontWords
 mod LineReads
 mod Fronts
 mod Reading
+mod FrontTexts
 mod WorkedFronts

@@ -1,17 +1,19 @@
 -- What holds of a draft while a text is read.
-use Rattle.std.specs.Prelude.{◌≡◌, ℕ, ◌+◌, ◌<◌, ◌≤◌, ◌^◌, List, [], ◌∷◌, length, true, Result, Ok, Err, IfOk}
+use Rattle.std.specs.Prelude.{◌≡◌, ℕ, ◌+◌, ◌<◌, ◌≤◌, ◌^◌, List, [], ◌∷◌, length, true, Result, Ok, Err, IfOk, nat_lt}
 use Rattle.std.proofs.Common.{refl, ap, arith}
 use Rattle.std.proofs.lemmas.Result.{IfOk-at_ok}
 use Rattle.oa_text.specs.Lines.{TextLine, lines_of, numbered}
 use Rattle.oa_text.proofs.Counts.{length-lines_of-le}
 use Rattle.norm_lang.specs.declared.text.FieldDecl.{FieldDecl}
 use Rattle.norm_lang.specs.declared.text.RootDecl.{RootDecl}
-use Rattle.norm_lang.specs.Faults.{LineFault, at_line, ◌>>=◌}
+use Rattle.norm_lang.specs.Faults.{LineFault, form_fault, at_line, ◌>>=◌}
 use Rattle.norm_lang.specs.declared.text.Text.{Text}
-use Rattle.norm_lang.specs.Grammar.{Draft, Start, Opening, Fields, draft_at, after_line, after_lines, finished}
+use Rattle.norm_lang.specs.Grammar.{Section, Draft, Start, Opening, Fields, Nodes, Roots, Begun, Generator, WrapUp, Shipped, draft_at, after_line, after_lines, finished}
 use Rattle.norm_lang.specs.Limits.{IsWithinLimits, is_within_limits}
-use Rattle.text_laws.proofs.DraftLimits.{Kept, nothing_declared, may_have_fields, line_kept, lines_kept, finished_is, few_declared}
-use Rattle.norm_parser.specs.FrontRead.{text_lines, behind_text, end_at, front_end}
+use Rattle.text_laws.proofs.DraftLimits.{Kept, Keeps, roots_within, nothing_declared, may_have_fields, line_kept, lines_kept, finished_is, few_declared}
+use Rattle.norm_parser.specs.FrontRead.{text_lines, behind_text, end_at, front_end, head_lines, behind_head, before_op, head_end, whole_in, whole_head, IsHeadWithinLimits}
+use Rattle.norm_parser.specs.declared.head.Head.{Head}
+use Rattle.text_laws.proofs.Readings.{demanded}
 
 pub few_fields : (draft : Draft) (fields : List FieldDecl) → Kept draft → fields ≡ draft.text.fields → length fields ≤ 4
 few_fields draft fields kept same = rw same (few_declared draft kept).0
@@ -78,3 +80,31 @@ past_first lines all same = let k = length_numbered 1 lines in rw same (omega (a
 -- a million bytes have few lines
 pub few_lines : (bytes : List ℕ) → length bytes < 1000000 → length (lines_of bytes) + 1 < 2 ^ 32
 few_lines bytes few = omega (arith, length-lines_of-le bytes)
+
+-- declarations that end are those of a text within the limits
+whole_within : (section : Section) (draft : Draft) → Keeps section draft → IfOk (whole_in section draft) IsHeadWithinLimits
+whole_within Start draft h = tt
+whole_within Opening draft h = tt
+whole_within Fields draft h = tt
+whole_within Nodes draft h = tt
+whole_within Roots draft h = demanded form_fault (nat_lt 0 (length draft.text.roots)) _ _ λ some. roots_within draft h some
+whole_within Begun draft h = tt
+whole_within Generator draft h = tt
+whole_within WrapUp draft h = tt
+whole_within Shipped draft h = tt
+
+pub head_is_within : (lines : List TextLine) (past : ℕ) (draft : Draft) (end : LineFault) (head : Head) → head_end lines past ≡ Ok (draft, end) → whole_head draft ≡ Ok head
+    → IsHeadWithinLimits head
+head_is_within lines past draft end head read ended = go (after_lines (draft_at Fields) (head_lines lines)) refl (behind_head lines) read
+  where
+    first : Kept (draft_at Fields)
+    first = kept_fields (draft_at Fields) refl
+
+    go : (r : Result Draft LineFault) → after_lines (draft_at Fields) (head_lines lines) ≡ r → (behind : List TextLine)
+        → (r >>= λ next. before_op next behind past) ≡ with_end end draft → IsHeadWithinLimits head
+    go (Ok next) same [] read = absurd (let f : ⊥ = cc in f)
+    go (Ok next) same (line ∷ behind) read =
+        let e : next ≡ draft = ap (drafted next) read in
+        let kept : Kept draft = rw e at (lines_within (draft_at Fields) next (head_lines lines) first same) in
+        IfOk-at_ok IsHeadWithinLimits ended (whole_within draft.section draft kept)
+    go (Err fault) same behind read = absurd (let f : ⊥ = cc in f)

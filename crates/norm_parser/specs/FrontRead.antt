@@ -2,7 +2,7 @@
 --
 -- Both begin behind a version line, which isn't theirs: a text of its own, a document and a target each have such a line,
 -- they don't have the same one, and whoever reads them has read it before it reads on from the line behind it.
-use Rattle.std.specs.Prelude.{ℕ, ◌+◌, Bool, ◌||◌, List, [], ◌∷◌, length, Option, Some, None, Result, Ok, Err, codes, nat_lt, if◌then◌else◌}
+use Rattle.std.specs.Prelude.{ℕ, ◌+◌, Bool, ◌||◌, ◌&&◌, List, [], ◌∷◌, length, Option, Some, None, Result, Ok, Err, codes, nat_lt, if◌then◌else◌, IsTrue}
 use Rattle.std.specs.Str.{bytes_eq}
 use Rattle.oa_text.specs.declared.fault.TextFault.{TextFault}
 use Rattle.oa_text.specs.Lines.{TextLine, lines_of, numbered}
@@ -10,6 +10,7 @@ use Rattle.oa_text.specs.Tokens.{words_of, line_fault}
 use Rattle.norm_lang.specs.declared.text.Text.{Text}
 use Rattle.norm_lang.specs.Faults.{LineFault, form_fault, ◌>>=◌, demand}
 use Rattle.norm_lang.specs.Grammar.{Section, Opening, Fields, Roots, Draft, draft_at, fault_number, after_lines, finished}
+use Rattle.norm_lang.specs.Limits.{are_fields, are_nodes, are_roots}
 use Rattle.norm_parser.specs.declared.head.Head.{Head}
 
 -- the lines from this number on
@@ -117,17 +118,28 @@ abbrev pub whole_head : Draft → Result Head ℕ
 whole_head draft = whole_in draft.section draft
 
 -- declarations end before an operation alone, and not with the input
-abbrev pub head_ended : Draft → List TextLine → ℕ → Result (Head × ℕ) LineFault
-head_ended draft [] past = Err (end_at [] past)
-head_ended draft (line ∷ lines) past = ended (whole_head draft) (end_at (line ∷ lines) past)
+abbrev pub before_op : Draft → List TextLine → ℕ → Result (Draft × LineFault) LineFault
+before_op draft [] past = Err (end_at [] past)
+before_op draft (line ∷ lines) past = Ok (draft, end_before line)
 
--- the declarations that lines begin with, and the number of the first operation's line. Here no line names a shipped text
+-- what the lines of declarations declare, and where they end. Here no line names a shipped text
+abbrev pub head_end : List TextLine → ℕ → Result (Draft × LineFault) LineFault
+head_end lines past = do
+  draft ← after_lines (draft_at Fields) (head_lines lines)
+  before_op draft (behind_head lines) past
+
+-- the declarations that lines begin with, and the number of the first operation's line
 abbrev pub head_in : List TextLine → ℕ → Result (Head × ℕ) LineFault
 head_in lines past = do
-  draft ← after_lines (draft_at Fields) (head_lines lines)
-  head_ended draft (behind_head lines) past
+  head ← head_end lines past
+  ended (whole_head head.0) head.1
 
 -- the declarations that begin at a line, and the number of the first operation's line; otherwise the first fault of
 -- their lines, or else the fault where they end
 abbrev pub head_read : List ℕ → ℕ → Result (Head × ℕ) LineFault
 head_read bytes start = head_in (from_line start (numbered 1 (lines_of bytes))) (length (lines_of bytes) + 1)
+
+-- declarations are those of a text within the limits
+abbrev pub IsHeadWithinLimits : Head → Type 0
+IsHeadWithinLimits head =
+    IsTrue (are_fields head.fields && (are_nodes head.fields head.nodes && are_roots (length head.nodes) head.roots))

@@ -6,3 +6,4 @@ pub mod Steps
 pub mod Instruction
 pub mod FrontRead
 pub mod DraftShown
+pub mod FrontLaws

@@ -8,6 +8,7 @@ mod front;
 mod head;
 mod instruction;
 mod instructions;
+pub mod laws;
 mod lines;
 mod number;
 mod operands;

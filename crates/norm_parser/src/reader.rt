@@ -7,7 +7,7 @@ ghost use Rattle.norm_lang.specs.Grammar.{draft_at, after_lines, Start, finished
 ghost use Rattle.norm_lang.specs.Limits.{IsWithinLimits};
 ghost use Rattle.norm_parser.specs.Answered.{Answers};
 ghost use Rattle.norm_parser.specs.DraftShown.{draft_shown, fault_shown};
-ghost use Rattle.norm_parser.specs.FrontRead.{from_line, end_before, end_at, ended, front_end, front_read, whole_head, head_read};
+ghost use Rattle.norm_parser.specs.FrontRead.{from_line, end_before, end_at, front_end, front_read, head_end, head_read, IsHeadWithinLimits};
 
 use crate::draft::{Draft, Section};
 use crate::fault::{Fault, ParseError, ParseFault, Stop};
@@ -44,7 +44,6 @@ fn read_lines(alloc: Global, input: &[u8]) -> Result<(Draft, u32), ParseError>
 /// `Fault` exactly where the bytes spell no text by the grammar, with the grammar's fault: the first line that has one,
 /// and its first fault. Where the input ends and a further line must follow, the fault is 4 at one more than the number of
 /// lines. `Memory` where memory runs out.
-#[tactic(auto, using(crate::proofs::Reading::text_is_within))]
 pub fn parse(alloc: Global, input: &[u8]) -> Result<Text, ParseError>
     requires { length (lines_of input.now) + 1 < 2 ^ 32 }
     ensures exact { Answers (λ text. text) result (text_read input.now) }
@@ -112,7 +111,6 @@ fn read_front(alloc: Global, input: &[u8], line: u32) -> Result<(Draft, ParseFau
 /// `Fault` with the first fault of the text's lines. Where they have none and a further line of the text must follow, it
 /// stands where the text ends: at the line there with its number 3 or 1 if its bytes have that fault, in this order, and
 /// else 4; at the end of the input it is 4 at one more than the number of lines. `Memory` where memory runs out.
-#[tactic(auto, using(crate::proofs::Reading::front_is_within))]
 pub fn parse_front(alloc: Global, input: &[u8], line: u32) -> Result<(Text, u32), ParseError>
     requires few { length (lines_of input.now) + 1 < 2 ^ 32 }
     requires counted { 1 ≤ line }
@@ -127,15 +125,25 @@ pub fn parse_front(alloc: Global, input: &[u8], line: u32) -> Result<(Text, u32)
     }
 }
 
-/// The declarations, unless a further one must come before the line.
-fn end_head(draft: Draft, line: Line) -> Result<(Head, u32), ParseError>
-    ensures { Answers (λ head. head) result (ended (whole_head (draft_shown draft)) (end_before (line_shown line.entry))) }
+/// What the lines from this one on declare up to the first operation, and where that is.
+#[tactic(auto, using(crate::proofs::Reading::few_fields, crate::proofs::Reading::few_roots, crate::proofs::Reading::kept_on, crate::proofs::Reading::past_first, crate::proofs::Reading::kept_fields, crate::proofs::Fronts::head_starts, crate::proofs::Fronts::head_passes))]
+fn read_head(alloc: Global, input: &[u8], line: u32) -> Result<(Draft, ParseFault), ParseError>
+    requires { length (lines_of input.now) + 1 < 2 ^ 32 }
+    ensures { Answers (λ head. (draft_shown head.0, fault_shown head.1)) result (head_end (from_line line (numbered 1 (lines_of input.now))) (length (lines_of input.now) + 1)) }
 {
-    let end = end_before(line);
-    match draft.into_head() {
-        Ok(head) => Ok((head, end.line)),
-        Err(_) => Err(ParseError::Fault(end)),
+    let mut draft = Draft::at(alloc, Section::Fields);
+    let mut past = 1;
+    for next in lines(input) {
+        past += 1;
+        if next.number() < line {
+            continue;
+        }
+        if ends_head(front_word(next.bytes())) {
+            return Ok((draft, end_before(next)));
+        }
+        read_line(&mut draft, alloc, next)?;
     }
+    Err(ParseError::Fault(end_past(past)))
 }
 
 /// The declarations that begin at a line, behind the version line, and the number of the first line whose first word is
@@ -149,23 +157,15 @@ fn end_head(draft: Draft, line: Line) -> Result<(Head, u32), ParseError>
 /// `Fault` with the first fault of the lines before the `op` line. Where they have none and a further one must follow, the
 /// fault is at the `op` line: 3 or 1 if its bytes have that fault, in this order, and else 4. Where the input ends without
 /// an `op` line it is 4 at one more than the number of lines. `Memory` where memory runs out.
-#[tactic(auto, using(crate::proofs::Reading::few_fields, crate::proofs::Reading::few_roots, crate::proofs::Reading::kept_on, crate::proofs::Reading::past_first, crate::proofs::Reading::kept_fields, crate::proofs::Fronts::head_starts, crate::proofs::Fronts::head_passes))]
 pub fn parse_head(alloc: Global, input: &[u8], line: u32) -> Result<(Head, u32), ParseError>
     requires few { length (lines_of input.now) + 1 < 2 ^ 32 }
     requires counted { 1 ≤ line }
-    ensures { Answers (λ head. head) result (head_read input.now line) }
+    ensures exact { Answers (λ head. head) result (head_read input.now line) }
+    ensures within { IfOk result (λ head. IsHeadWithinLimits head.0) }
 {
-    let mut draft = Draft::at(alloc, Section::Fields);
-    let mut past = 1;
-    for next in lines(input) {
-        past += 1;
-        if next.number() < line {
-            continue;
-        }
-        if ends_head(front_word(next.bytes())) {
-            return end_head(draft, next);
-        }
-        read_line(&mut draft, alloc, next)?;
+    let (draft, end) = read_head(alloc, input, line)?;
+    match draft.into_head() {
+        Ok(head) => Ok((head, end.line)),
+        Err(_) => Err(ParseError::Fault(end)),
     }
-    Err(ParseError::Fault(end_past(past)))
 }

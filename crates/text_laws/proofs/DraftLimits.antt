@@ -486,6 +486,11 @@ few_in Shipped draft h =
 pub few_declared : (draft : Draft) → Kept draft → (length draft.text.fields ≤ 4) × (length draft.text.roots ≤ 256)
 few_declared draft h = few_in draft.section draft h
 
+-- declarations with at least one root are those of a text within the limits
+pub roots_within : (draft : Draft) → Keeps Roots draft → nat_lt 0 (length draft.text.roots) ≡ true
+    → are_fields draft.text.fields && (are_nodes draft.text.fields draft.text.nodes && are_roots (length draft.text.nodes) draft.text.roots) ≡ true
+roots_within draft h some = and_from _ _ h.fields (and_from _ _ h.nodes (rw h.all (whole_list 256 _ _ draft.text.roots h.roots some)))
+
 -- a text that ends is within the limits
 finished_in_is : (section : Section) (draft : Draft) → Keeps section draft → IfOk (finished_in section draft) (λ text. is_within_limits text ≡ true)
 finished_in_is Start draft h = tt
