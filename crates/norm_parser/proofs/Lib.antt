@@ -1,7 +1,6 @@
 mod FirstWords
 mod LinesLeft
 mod NodeLines
-mod NumberLemmas
 mod News
 mod FrontWords
 mod LineReads

@@ -5,7 +5,7 @@ use Rattle.oa_text.specs.Lines.{TextLine}
 use Rattle.oa_text.specs.Tokens.{words_of, line_fault}
 use Rattle.norm_lang.specs.Faults.{◌>>=◌}
 use Rattle.norm_lang.specs.Grammar.{Draft, is_comment, plain, after_words, after_line, in_place}
-use Rattle.norm_parser.specs.Lines.{words_in, first_word}
+use Rattle.line_words.specs.Lines.{words_in, first_word}
 
 -- what a line that isn't skipped has
 abbrev unless : {A : Type 0} → Bool → A → Option A

@@ -8,8 +8,8 @@ use Rattle.norm_lang.specs.declared.text.Start.{Start}
 use Rattle.norm_lang.specs.Faults.{◌>>=◌}
 use Rattle.norm_lang.specs.LineWords.{StartWord, start_at, is_great, start_of, end_at}
 use Rattle.norm_lang.specs.Declarations.{values_at, starts_of}
-use Rattle.norm_parser.specs.declared.words.StartWord.{StartWord as ReadStart}
-use Rattle.norm_parser.specs.Shown.{start_shown}
+use Rattle.line_words.specs.declared.words.StartWord.{StartWord as ReadStart}
+use Rattle.line_words.specs.Shown.{start_shown}
 
 -- what stands in front, and then what is read behind it
 abbrev pub behind : {A : Type 0} → List A → Result (List A) ℕ → Result (List A) ℕ

@@ -1,7 +1,7 @@
 -- What contracts see of a reader's draft and of its answers.
 use Rattle.norm_lang.specs.Grammar.{Section, Start, Opening, Fields, Nodes, Roots, Begun, Generator, WrapUp, Shipped, Draft}
 use Rattle.norm_lang.specs.Faults.{LineFault}
-use Rattle.norm_parser.specs.declared.fault.ParseFault.{ParseFault}
+use Rattle.line_words.specs.declared.fault.ParseFault.{ParseFault}
 use Rattle.norm_parser.specs.declared.draft.Section.{Section as ReadSection}
 use Rattle.norm_parser.specs.declared.draft.Section.TheVariants as read
 use Rattle.norm_parser.specs.declared.draft.Draft.{Draft as ReadDraft}

@@ -11,7 +11,7 @@ use Rattle.norm_lang.specs.Faults.{LineFault, form_fault, ◌>>=◌, at_line}
 use Rattle.norm_lang.specs.LineWords.{word_at}
 use Rattle.norm_lang.specs.Grammar.{is_comment}
 use Rattle.norm_lang.specs.Instructions.{Step, Whole, Commits, step_line, entry_line}
-use Rattle.norm_parser.specs.Lines.{words_in, first_word}
+use Rattle.line_words.specs.Lines.{words_in, first_word}
 
 -- words of a line that is skipped: there is none, or the first begins with `#`
 abbrev pub are_skipped : List (List ℕ) → Bool

@@ -6,11 +6,11 @@ ghost use Rattle.std.specs.List.{list_any};
 ghost use Rattle.norm_lang.specs.LineWords.{is_great};
 ghost use Rattle.norm_lang.specs.Declarations.{has_field, has_root, has_op, version_line, field_line, nodes_line, values_at, starts_of, node_line, root_line, is_reserved, op_line, shipped_line, set_line, use_line};
 ghost use Rattle.norm_lang.specs.Shipped.{set_text, queue_text};
-ghost use Rattle.norm_parser.specs.Answered.{Reads, Gives};
-ghost use Rattle.norm_parser.specs.Shown.{start_shown};
+ghost use Rattle.line_words.specs.Answered.{Reads, Gives};
+ghost use Rattle.line_words.specs.Shown.{start_shown};
 
-use crate::fault::{Fault, Stop};
-use crate::words::{StartWord, Words, great, start_of, up_to, value_of};
+use line_words::fault::{Fault, Stop};
+use line_words::words::{StartWord, Words, great, start_of, up_to, value_of};
 use norm_lang::list::Listed;
 use norm_lang::text::{FieldDecl, NodeDecl, Op, RootDecl, Starts, Text};
 use norm_lang::{shipped_queue, shipped_set};

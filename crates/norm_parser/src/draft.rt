@@ -2,11 +2,11 @@
 
 ghost use Rattle.std.specs.Prelude.{◌≡◌, ◌≤◌, length, [], ◌∷◌, ◌++◌, Ok, IfOk};
 ghost use Rattle.norm_lang.specs.Grammar.{no_op, draft_at, is_new, news_in, news_of, code_so_far, with_instr, with_field, with_nodes, with_node, with_root, with_op, with_whole_op, with_entries, finished, among_nodes};
-ghost use Rattle.norm_parser.specs.Answered.{Reads, Gives};
+ghost use Rattle.line_words.specs.Answered.{Reads, Gives};
 ghost use Rattle.norm_parser.specs.DraftShown.{section_shown, draft_shown};
 ghost use Rattle.norm_parser.specs.FrontRead.{whole_head};
 
-use crate::fault::{Fault, Stop};
+use line_words::fault::{Fault, Stop};
 use crate::head::Head;
 use norm_lang::list::Listed;
 use norm_lang::text::{CasEntry, Entries, FieldDecl, Instr, NodeDecl, Op, RootDecl, Text};

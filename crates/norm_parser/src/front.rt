@@ -4,11 +4,11 @@ ghost use Rattle.std.specs.Prelude.{◌≡◌, ◌||◌};
 ghost use Rattle.std.specs.List.{prefix_len};
 ghost use Rattle.oa_text.specs.Shown.{line_shown};
 ghost use Rattle.oa_text.specs.Tokens.{is_blank, is_ink, words_of, line_fault};
-ghost use Rattle.norm_parser.specs.Faults.{number_of_fault};
+ghost use Rattle.line_words.specs.Faults.{number_of_fault};
 ghost use Rattle.norm_parser.specs.FrontRead.{front_of, ends_text, names_text, ends_head, misplaced};
 
-use crate::fault::Fault;
-use crate::words::Words;
+use line_words::fault::Fault;
+use line_words::words::Words;
 use oa_text::Line;
 
 fn blank(b: u8) -> bool

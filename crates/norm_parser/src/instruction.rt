@@ -4,13 +4,13 @@ ghost use Rattle.std.specs.Prelude.{◌≡◌, ◌+◌, ◌<◌, ◌≤◌, ◌^
 ghost use Rattle.oa_text.specs.Shown.{line_shown};
 ghost use Rattle.oa_text.specs.Tokens.{words_of};
 ghost use Rattle.norm_lang.specs.Limits.{are_different};
-ghost use Rattle.norm_parser.specs.Answered.{Reads, Answers};
+ghost use Rattle.line_words.specs.Answered.{Reads, Answers};
 ghost use Rattle.norm_parser.specs.Steps.{step_shown};
 ghost use Rattle.norm_parser.specs.Instruction.{are_skipped, AreFrom, AreLeftOf, step_of, entry_of, next_entry, entries_from, instr_read};
 
-use crate::fault::{Fault, ParseError, Stop};
+use line_words::fault::{Fault, ParseError, Stop};
 use crate::steps::{Step, read_entry, read_step};
-use crate::words::Words;
+use line_words::words::Words;
 use norm_lang::list::Listed;
 use norm_lang::text::{CasEntry, Entries, FieldDecl, Fields, Instr, RootDecl, Roots};
 use oa_text::{Line, Lines};

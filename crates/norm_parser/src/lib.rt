@@ -3,21 +3,18 @@
 
 mod declarations;
 mod draft;
-mod fault;
 mod front;
 mod head;
 mod instruction;
 mod instructions;
 pub mod laws;
 mod lines;
-mod number;
 mod operands;
 mod reader;
 mod sections;
 mod steps;
-mod words;
 
-pub use fault::{ParseError, ParseFault};
+pub use line_words::fault::{ParseError, ParseFault};
 pub use head::Head;
 pub use instruction::parse_instr;
 pub use reader::{parse, parse_front, parse_head};

@@ -4,13 +4,13 @@ ghost use Rattle.std.specs.Prelude.{◌≤◌, length};
 ghost use Rattle.norm_lang.specs.Faults.{at_line};
 ghost use Rattle.norm_lang.specs.Grammar.{after_words, after_line};
 ghost use Rattle.oa_text.specs.Shown.{line_shown};
-ghost use Rattle.norm_parser.specs.Answered.{Gives, Answers};
+ghost use Rattle.line_words.specs.Answered.{Gives, Answers};
 ghost use Rattle.norm_parser.specs.DraftShown.{draft_shown};
 
 use crate::draft::Draft;
-use crate::fault::{ParseError, Stop};
+use line_words::fault::{ParseError, Stop};
 use crate::sections::in_place;
-use crate::words::Words;
+use line_words::words::Words;
 use oa_text::Line;
 use std::alloc::Global;
 

@@ -5,10 +5,10 @@ ghost use Rattle.std.specs.List.{position};
 ghost use Rattle.std.specs.Str.{bytes_eq};
 ghost use Rattle.norm_lang.specs.LineWords.{up_to};
 ghost use Rattle.norm_lang.specs.Instructions.{field_named, root_named, one_register, two_registers, three_registers, retire_at, target_at};
-ghost use Rattle.norm_parser.specs.Answered.{Reads};
+ghost use Rattle.line_words.specs.Answered.{Reads};
 
-use crate::fault::Fault;
-use crate::words::{Words, up_to, value_of};
+use line_words::fault::Fault;
+use line_words::words::{Words, up_to, value_of};
 use norm_lang::text::{FieldDecl, Reg, RootDecl};
 
 const LAST_TARGET: u64 = 65535;

@@ -5,12 +5,12 @@ ghost use Rattle.oa_text.specs.Lines.{lines_of, numbered};
 ghost use Rattle.oa_text.specs.Shown.{line_shown};
 ghost use Rattle.norm_lang.specs.Grammar.{draft_at, after_lines, Start, finished, text_read};
 ghost use Rattle.norm_lang.specs.Limits.{IsWithinLimits};
-ghost use Rattle.norm_parser.specs.Answered.{Answers};
+ghost use Rattle.line_words.specs.Answered.{Answers};
 ghost use Rattle.norm_parser.specs.DraftShown.{draft_shown, fault_shown};
 ghost use Rattle.norm_parser.specs.FrontRead.{from_line, end_before, end_at, front_end, front_read, head_end, head_read, IsHeadWithinLimits};
 
 use crate::draft::{Draft, Section};
-use crate::fault::{Fault, ParseError, ParseFault, Stop};
+use line_words::fault::{Fault, ParseError, ParseFault, Stop};
 use crate::front::{ends_front, ends_head, front_word, misplaced, names_text};
 use crate::head::Head;
 use crate::lines::read_line;

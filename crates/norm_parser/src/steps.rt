@@ -2,12 +2,12 @@
 
 ghost use Rattle.std.specs.Prelude.{◌≡◌, ◌≤◌, length};
 ghost use Rattle.norm_lang.specs.Instructions.{step_line, entry_line};
-ghost use Rattle.norm_parser.specs.Answered.{Reads};
+ghost use Rattle.line_words.specs.Answered.{Reads};
 ghost use Rattle.norm_parser.specs.Steps.{step_shown, access_line, flow_line};
 
-use crate::fault::Fault;
+use line_words::fault::Fault;
 use crate::instructions;
-use crate::words::Words;
+use line_words::words::Words;
 use norm_lang::text::{CasEntry, FieldDecl, Instr, RootDecl};
 
 /// What a line of a method says.

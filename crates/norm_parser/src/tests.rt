@@ -7,9 +7,9 @@ ghost use Rattle.oa_text.specs.Tokens.{words_of};
 ghost use Rattle.norm_parser.specs.Instruction.{are_skipped, AreFrom};
 
 use crate::declarations;
-use crate::fault::{Fault, ParseError, ParseFault, Stop};
+use line_words::fault::{Fault, ParseError, ParseFault, Stop};
 use crate::instruction::parse_instr;
-use crate::words::Words;
+use line_words::words::Words;
 use norm_lang::shipped_queue;
 use oa_text::{Line, Lines, lines};
 use std::process::Abort;

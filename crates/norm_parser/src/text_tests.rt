@@ -1,6 +1,6 @@
 //! The first faults of texts, of texts within documents and of heads, worked out by hand.
 
-use crate::fault::ParseError;
+use line_words::fault::ParseError;
 use crate::reader::{parse, parse_front, parse_head};
 use norm_lang::{shipped_queue, show};
 use oa_text::lines;

@@ -1,6 +1,6 @@
 use Rattle.std.proofs.Common.{◌≡◌, map, drop}
 use Rattle.norm_lang.specs.Declarations.{starts_of}
-use Rattle.norm_parser.specs.Shown.{start_shown}
+use Rattle.line_words.specs.Shown.{start_shown}
 use Rattle.norm_parser.proofs.NodeLines.{behind}
 use Rattle.norm_parser.proofs.declarations.starts.Given as goal
 

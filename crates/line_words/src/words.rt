@@ -5,10 +5,10 @@ ghost use Rattle.std.specs.List.{list_all};
 ghost use Rattle.oa_text.specs.Shown.{line_shown};
 ghost use Rattle.norm_lang.specs.LineWords.{is_lower, is_name_byte, is_name, word_at, end_at, keyword_at, name_at, number_at, is_positive, positive_at, value_of, up_to, register_of, register_in, register_at, kind_in, kind_at, node_in, start_in, start_at, is_great, node_of, start_of};
 ghost use Rattle.norm_lang.specs.Grammar.{is_comment, fault_number};
-ghost use Rattle.norm_parser.specs.Answered.{Reads};
-ghost use Rattle.norm_parser.specs.Faults.{number_of_fault};
-ghost use Rattle.norm_parser.specs.Shown.{start_shown};
-ghost use Rattle.norm_parser.specs.Lines.{words_in, first_word};
+ghost use Rattle.line_words.specs.Answered.{Reads};
+ghost use Rattle.line_words.specs.Faults.{number_of_fault};
+ghost use Rattle.line_words.specs.Shown.{start_shown};
+ghost use Rattle.line_words.specs.Lines.{words_in, first_word};
 
 use crate::fault::Fault;
 use crate::number::number_in;
@@ -18,7 +18,7 @@ use std::marker::Model;
 
 /// The words of a line that are left.
 #[derive(Debug, Drop)]
-pub(crate) struct Words<'a> {
+pub struct Words<'a> {
     tokens: Tokens<'a>,
 }
 
@@ -32,7 +32,7 @@ impl<'a> Model for Words<'a> {
 
 /// A first value as it is spelled: a number, `null`, or `@J`. A number that exceeds 2^64 - 1 is none.
 #[derive(Clone, Copy, Debug, PartialEq, Eq)]
-pub(crate) enum StartWord {
+pub enum StartWord {
     Value(Option<u64>),
     Null,
     At(Option<u64>),
@@ -51,7 +51,7 @@ fn fault_of_bytes(fault: TextFault) -> Fault
 
 impl<'a> Words<'a> {
     /// The words of a line, unless its bytes have a fault.
-    pub(crate) fn new(line: Line<'a>) -> Result<Words<'a>, Fault>
+    pub fn new(line: Line<'a>) -> Result<Words<'a>, Fault>
         ensures { Reads (λ words. words) result (words_in (line_shown line.entry)) }
     {
         match tokens(line) {
@@ -61,7 +61,7 @@ impl<'a> Words<'a> {
     }
 
     /// The first word, unless the line is skipped.
-    pub(crate) fn first(&mut self) -> Option<&'a [u8]>
+    pub fn first(&mut self) -> Option<&'a [u8]>
         ensures { MatchOption result (first_word self.old ≡ None) (λ word. first_word self.old ≡ Some (word.now, self.new)) }
     {
         let word = self.tokens.next()?.bytes();
@@ -69,7 +69,7 @@ impl<'a> Words<'a> {
     }
 
     /// The next word.
-    pub(crate) fn word(&mut self) -> Result<&'a [u8], Fault>
+    pub fn word(&mut self) -> Result<&'a [u8], Fault>
         ensures { Reads (λ word. (word.now, self.new)) result (word_at self.old) }
     {
         match self.tokens.next() {
@@ -79,7 +79,7 @@ impl<'a> Words<'a> {
     }
 
     /// The end of the line.
-    pub(crate) fn end(&mut self) -> Result<(), Fault>
+    pub fn end(&mut self) -> Result<(), Fault>
         ensures { Reads (λ _. tt) result (end_at self.old) }
     {
         match self.tokens.next() {
@@ -89,7 +89,7 @@ impl<'a> Words<'a> {
     }
 
     /// This very word.
-    pub(crate) fn keyword(&mut self, wanted: &[u8]) -> Result<(), Fault>
+    pub fn keyword(&mut self, wanted: &[u8]) -> Result<(), Fault>
         ensures { Reads (λ _. self.new) result (keyword_at wanted.now self.old) }
     {
         if self.word()? == wanted {
@@ -99,7 +99,7 @@ impl<'a> Words<'a> {
         }
     }
 
-    pub(crate) fn name(&mut self) -> Result<&'a [u8], Fault>
+    pub fn name(&mut self) -> Result<&'a [u8], Fault>
         ensures { Reads (λ name. (name.now, self.new)) result (name_at self.old) }
     {
         let word = self.word()?;
@@ -111,35 +111,35 @@ impl<'a> Words<'a> {
     }
 
     /// A number as it is spelled: `None` where it exceeds 2^64 - 1.
-    pub(crate) fn number(&mut self) -> Result<Option<u64>, Fault>
+    pub fn number(&mut self) -> Result<Option<u64>, Fault>
         ensures { Reads (λ n. (n, self.new)) result (number_at self.old) }
     {
         number_in(self.word()?)
     }
 
     /// A number that is to be at least 1.
-    pub(crate) fn positive(&mut self) -> Result<Option<u64>, Fault>
+    pub fn positive(&mut self) -> Result<Option<u64>, Fault>
         ensures { Reads (λ n. (n, self.new)) result (positive_at self.old) }
     {
         let n = self.number()?;
         if positive(n) { Ok(n) } else { Err(Fault::Form) }
     }
 
-    pub(crate) fn register(&mut self) -> Result<Reg, Fault>
+    pub fn register(&mut self) -> Result<Reg, Fault>
         ensures { Reads (λ r. (r, self.new)) result (register_at self.old) }
     {
         register_in(self.word()?)
     }
 
     /// `num` or `ref`.
-    pub(crate) fn kind(&mut self) -> Result<FieldKind, Fault>
+    pub fn kind(&mut self) -> Result<FieldKind, Fault>
         ensures { Reads (λ kind. (kind, self.new)) result (kind_at self.old) }
     {
         kind_in(self.word()?)
     }
 
     /// A first value of a kind as it is spelled.
-    pub(crate) fn start(&mut self, kind: FieldKind) -> Result<StartWord, Fault>
+    pub fn start(&mut self, kind: FieldKind) -> Result<StartWord, Fault>
         ensures { Reads (λ start. (start_shown start, self.new)) result (start_at kind self.old) }
     {
         start_in(kind, self.word()?)
@@ -259,14 +259,14 @@ fn start_in(kind: FieldKind, word: &[u8]) -> Result<StartWord, Fault>
 }
 
 /// The number, unless it exceeds 2^64 - 1.
-pub(crate) fn value_of(n: Option<u64>) -> Result<u64, Fault>
+pub fn value_of(n: Option<u64>) -> Result<u64, Fault>
     ensures { Reads (λ n. n) result (value_of n) }
 {
     n.ok_or(Fault::Number)
 }
 
 /// A number up to a limit.
-pub(crate) fn up_to(limit: u64, n: u64) -> Result<u64, Fault>
+pub fn up_to(limit: u64, n: u64) -> Result<u64, Fault>
     ensures number { Reads (λ n. n) result (up_to limit n) }
     ensures most { IfOk result (λ n. n ≤ limit) }
 {
@@ -278,7 +278,7 @@ pub(crate) fn up_to(limit: u64, n: u64) -> Result<u64, Fault>
 }
 
 /// Whether a first value is a number that exceeds 2^64 - 1.
-pub(crate) fn great(start: StartWord) -> bool
+pub fn great(start: StartWord) -> bool
     ensures { result ≡ is_great (start_shown start) }
 {
     match start {
@@ -304,7 +304,7 @@ fn node_of(count: u32, j: Option<u64>) -> Result<Start, Fault>
 }
 
 /// The first value that a word says, with so many initial nodes.
-pub(crate) fn start_of(count: u32, start: StartWord) -> Result<Start, Fault>
+pub fn start_of(count: u32, start: StartWord) -> Result<Start, Fault>
     ensures { Reads (λ start. start) result (start_of count (start_shown start)) }
 {
     match start {

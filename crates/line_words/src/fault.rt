@@ -1,15 +1,15 @@
 //! Why a text could not be read.
 
 ghost use Rattle.std.specs.Prelude.{◌≡◌};
-ghost use Rattle.norm_parser.specs.declared.fault.Stop.TheVariants as stops;
-ghost use Rattle.norm_parser.specs.declared.fault.ParseError.TheVariants as errors;
-ghost use Rattle.norm_parser.specs.Faults.{number_of_fault, stopped_at};
+ghost use Rattle.line_words.specs.declared.fault.Stop.TheVariants as stops;
+ghost use Rattle.line_words.specs.declared.fault.ParseError.TheVariants as errors;
+ghost use Rattle.line_words.specs.Faults.{number_of_fault, stopped_at};
 
 use std::alloc::AllocError;
 
 /// What is wrong with a line.
 #[derive(Clone, Copy, Debug, PartialEq, Eq)]
-pub(crate) enum Fault {
+pub enum Fault {
     /// It has a byte other than a tab and those from space to `~`.
     Byte,
     /// It has a number that exceeds 2^64 - 1.
@@ -28,7 +28,7 @@ pub(crate) enum Fault {
 
 impl Fault {
     /// The number by which the fault is told.
-    pub(crate) fn number(self) -> u8
+    pub fn number(self) -> u8
         ensures { result ≡ number_of_fault self }
     {
         match self {
@@ -71,7 +71,7 @@ impl From<AllocError> for ParseError {
 
 /// Why the reader of one line stops.
 #[derive(Clone, Copy, Debug, PartialEq, Eq)]
-pub(crate) enum Stop {
+pub enum Stop {
     /// Memory ran out.
     Memory,
     /// The line has a fault.
@@ -96,7 +96,7 @@ impl From<Fault> for Stop {
 
 impl Stop {
     /// The same of a text, at the line's number.
-    pub(crate) fn at(self, line: u32) -> ParseError
+    pub fn at(self, line: u32) -> ParseError
         ensures { result ≡ stopped_at line self }
     {
         match self {

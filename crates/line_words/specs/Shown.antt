@@ -1,7 +1,7 @@
 -- What contracts see of the values that readers pass on.
 use Rattle.norm_lang.specs.LineWords.{StartWord, Value, Null, At}
-use Rattle.norm_parser.specs.declared.words.StartWord.{StartWord as ReadStart}
-use Rattle.norm_parser.specs.declared.words.StartWord.TheVariants as read
+use Rattle.line_words.specs.declared.words.StartWord.{StartWord as ReadStart}
+use Rattle.line_words.specs.declared.words.StartWord.TheVariants as read
 
 -- a first value as it is spelled
 abbrev pub start_shown : ReadStart → StartWord

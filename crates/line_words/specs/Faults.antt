@@ -1,12 +1,12 @@
 -- The faults of a line by their numbers, and those of a text.
 use Rattle.std.specs.Prelude.{ℕ}
 use Rattle.norm_lang.specs.Faults.{byte_fault, number_fault, line_long, form_fault, unknown_name, repeated, too_many}
-use Rattle.norm_parser.specs.declared.fault.Fault.{Fault}
-use Rattle.norm_parser.specs.declared.fault.Fault.TheVariants as faults
-use Rattle.norm_parser.specs.declared.fault.Stop.{Stop}
-use Rattle.norm_parser.specs.declared.fault.Stop.TheVariants as stops
-use Rattle.norm_parser.specs.declared.fault.ParseError.{ParseError}
-use Rattle.norm_parser.specs.declared.fault.ParseError.TheVariants as errors
+use Rattle.line_words.specs.declared.fault.Fault.{Fault}
+use Rattle.line_words.specs.declared.fault.Fault.TheVariants as faults
+use Rattle.line_words.specs.declared.fault.Stop.{Stop}
+use Rattle.line_words.specs.declared.fault.Stop.TheVariants as stops
+use Rattle.line_words.specs.declared.fault.ParseError.{ParseError}
+use Rattle.line_words.specs.declared.fault.ParseError.TheVariants as errors
 
 -- the grammar's number of a fault
 abbrev pub number_of_fault : Fault → ℕ

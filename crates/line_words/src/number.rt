@@ -4,7 +4,7 @@ ghost use Rattle.std.specs.Prelude.{◌≡◌, ℕ};
 ghost use Rattle.std.specs.List.{list_all};
 ghost use Rattle.oa_text.specs.Numbers.{is_digit, is_numeral, with_digit, number_of, fitting};
 ghost use Rattle.norm_lang.specs.LineWords.{number_in};
-ghost use Rattle.norm_parser.specs.Answered.{Reads};
+ghost use Rattle.line_words.specs.Answered.{Reads};
 
 use crate::fault::Fault;
 
@@ -57,7 +57,7 @@ fn value(digits: &[u8]) -> Option<u64>
 
 /// The number that bytes spell: `None` where it exceeds 2^64 - 1. Of `@J` the J is no word of its own, so this takes
 /// bytes and no token.
-pub(crate) fn number_in(bytes: &[u8]) -> Result<Option<u64>, Fault>
+pub fn number_in(bytes: &[u8]) -> Result<Option<u64>, Fault>
     ensures { Reads (λ n. n) result (number_in bytes.now) }
 {
     if numeral(bytes) {

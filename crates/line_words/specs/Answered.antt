@@ -1,12 +1,12 @@
 -- What a reader answers, against what its definition says.
 use Rattle.std.specs.Prelude.{◌≡◌, ℕ, Result, Ok, Err}
 use Rattle.norm_lang.specs.Faults.{LineFault}
-use Rattle.norm_parser.specs.declared.fault.Fault.{Fault}
-use Rattle.norm_parser.specs.declared.fault.Stop.{Stop}
-use Rattle.norm_parser.specs.declared.fault.Stop.TheVariants as stops
-use Rattle.norm_parser.specs.declared.fault.ParseError.{ParseError}
-use Rattle.norm_parser.specs.declared.fault.ParseError.TheVariants as errors
-use Rattle.norm_parser.specs.Faults.{number_of_fault}
+use Rattle.line_words.specs.declared.fault.Fault.{Fault}
+use Rattle.line_words.specs.declared.fault.Stop.{Stop}
+use Rattle.line_words.specs.declared.fault.Stop.TheVariants as stops
+use Rattle.line_words.specs.declared.fault.ParseError.{ParseError}
+use Rattle.line_words.specs.declared.fault.ParseError.TheVariants as errors
+use Rattle.line_words.specs.Faults.{number_of_fault}
 
 -- the answer, seen by view, is this one, and the fault is this one by its number
 abbrev pub Reads : {X Y : Type 0} → (X → Y) → Result X Fault → Result Y ℕ → Type 0

@@ -1,0 +1,161 @@
+-- The document that bytes spell: a version line, a text, and behind it the settings, each at most once and in this
+-- order, the scripts in the order of their numbers, and at most one schedule; or the first fault.
+use Rattle.std.specs.Prelude.{◌≡◌, ℕ, ◌+◌, Bool, true, false, ◌&&◌, List, [], ◌∷◌, ◌++◌, length, Option, Some, None, Result, Ok, Err, codes, nat_lt, if◌then◌else◌}
+use Rattle.std.specs.Str.{bytes_eq}
+use Rattle.oa_text.specs.Lines.{TextLine, lines_of, numbered}
+use Rattle.oa_text.specs.Tokens.{words_of, line_fault}
+use Rattle.norm_lang.specs.declared.text.Text.{Text}
+use Rattle.norm_lang.specs.Faults.{LineFault, form_fault, too_many, ◌>>=◌, demand, at_line}
+use Rattle.norm_lang.specs.LineWords.{end_at}
+use Rattle.norm_lang.specs.Declarations.{version_line, is_reserved}
+use Rattle.norm_lang.specs.Grammar.{is_comment, plain}
+use Rattle.line_words.specs.Lines.{words_in, first_word}
+use Rattle.norm_parser.specs.FrontRead.{from_line, front_read}
+use Rattle.documents.specs.declared.document.ScriptCall.{ScriptCall}
+use Rattle.documents.specs.declared.document.Document.{Document}
+use Rattle.documents.specs.declared.tail.Stage.{Stage}
+use Rattle.documents.specs.declared.tail.Stage.TheVariants as stages
+use Rattle.documents.specs.declared.tail.Tail.{Tail}
+use Rattle.documents.specs.TailLines.{setting_line, phases_line, script_line, call_line, turn_line}
+
+-- whether the words of a line are the version line: they are, or the line is skipped
+abbrev pub is_version : Option (List ℕ × List (List ℕ)) → Result Bool ℕ
+is_version None = Ok false
+is_version (Some word) = do
+  named ← demand form_fault (bytes_eq word.0 (codes "oa"))
+  version ← version_line word.1
+  Ok true
+
+-- whether a line is the version line. Its bytes are judged first, also where it is skipped
+abbrev pub version_in : TextLine → Result Bool ℕ
+version_in line = words_in line >>= λ words. is_version (first_word words)
+
+-- the number of the line behind the version line, where `past` is one more than the last line's number
+abbrev pub version_end : List TextLine → ℕ → Result ℕ LineFault
+version_end [] past = Err (record { line = past; number = form_fault })
+version_end (line ∷ lines) past = do
+  here ← at_line line.number (version_in line)
+  if here then Ok (line.number + 1) else version_end lines past
+
+-- no line behind the text has been read: the settings are the defaults
+abbrev pub empty_tail : Tail
+empty_tail = record {
+  stage = stages.Slots;
+  slots = 64;
+  first = 1;
+  last = 1000000000;
+  fuel = 1000000;
+  scripts = [];
+  script = [];
+  schedule = [];
+}
+
+-- the slots may be set right behind the text
+abbrev pub may_set_slots : Stage → Bool
+may_set_slots stages.Slots = true
+may_set_slots _ = false
+
+-- the phases may be set behind them
+abbrev pub may_set_phases : Stage → Bool
+may_set_phases stages.Slots = true
+may_set_phases stages.Phases = true
+may_set_phases _ = false
+
+-- the fuel may be set behind both
+abbrev pub may_set_fuel : Stage → Bool
+may_set_fuel stages.Slots = true
+may_set_fuel stages.Phases = true
+may_set_fuel stages.Fuel = true
+may_set_fuel _ = false
+
+abbrev pub whole_scripts_in : Stage → List (List ScriptCall) → List ScriptCall → List (List ScriptCall)
+whole_scripts_in stages.Calls scripts script = scripts ++ script ∷ []
+whole_scripts_in _ scripts script = scripts
+
+-- the scripts, that in which lines stand among them
+abbrev pub whole_scripts : Tail → List (List ScriptCall)
+whole_scripts tail = whole_scripts_in tail.stage tail.scripts tail.script
+
+-- the next script begins
+abbrev pub with_script : Tail → Tail
+with_script tail = record tail { stage = stages.Calls; scripts = whole_scripts tail; script = [] }
+
+-- the schedule begins
+abbrev pub with_schedule : Tail → Tail
+with_schedule tail = record tail { stage = stages.Turns; scripts = whole_scripts tail; script = [] }
+
+-- the next script, or the schedule
+abbrev pub begins : Tail → List ℕ → List (List ℕ) → Result Tail ℕ
+begins tail word rest =
+    if bytes_eq word (codes "script") then (script_line (length (whole_scripts tail)) rest >>= λ done. Ok (with_script tail))
+    else (if bytes_eq word (codes "schedule") then (end_at rest >>= λ done. Ok (with_schedule tail))
+    else Err form_fault)
+
+-- a setting that may stand here, or what follows the settings
+abbrev pub in_settings : Tail → List ℕ → List (List ℕ) → Result Tail ℕ
+in_settings tail word rest =
+    if bytes_eq word (codes "slots") && may_set_slots tail.stage then (setting_line rest >>= λ slots. Ok (record tail { stage = stages.Phases; slots = slots }))
+    else (if bytes_eq word (codes "phases") && may_set_phases tail.stage then (phases_line rest >>= λ phases. Ok (record tail { stage = stages.Fuel; first = phases.first; last = phases.last }))
+    else (if bytes_eq word (codes "fuel") && may_set_fuel tail.stage then (setting_line rest >>= λ fuel. Ok (record tail { stage = stages.Scripts; fuel = fuel }))
+    else begins tail word rest))
+
+-- one more call: in a script each line is one that doesn't begin the next script or the schedule
+abbrev pub in_calls : Tail → ℕ → List ℕ → List (List ℕ) → Result Tail ℕ
+in_calls tail line word rest =
+    if is_reserved word then begins tail word rest
+    else (call_line line (length tail.script) word rest >>= λ call. Ok (record tail { script = tail.script ++ call ∷ [] }))
+
+-- one more turn: at most 100,000
+abbrev pub in_schedule : Tail → List ℕ → List (List ℕ) → Result Tail ℕ
+in_schedule tail word rest = do
+  turn ← turn_line word rest
+  room ← demand too_many (nat_lt (length tail.schedule) 100000)
+  Ok (record tail { schedule = tail.schedule ++ turn ∷ [] })
+
+-- the line that stands here, with its number, by its first word
+abbrev pub in_stage : Stage → Tail → ℕ → List ℕ → List (List ℕ) → Result Tail ℕ
+in_stage stages.Calls tail line word rest = in_calls tail line word rest
+in_stage stages.Turns tail line word rest = in_schedule tail word rest
+in_stage _ tail line word rest = in_settings tail word rest
+
+-- what is said after the words of a line: a line without a word, or whose first begins with `#`, is skipped
+abbrev pub after_words : Tail → ℕ → List (List ℕ) → Result Tail ℕ
+after_words tail line [] = Ok tail
+after_words tail line (word ∷ rest) = if is_comment word then Ok tail else in_stage tail.stage tail line word rest
+
+-- what is said after a line, or the line's first fault. Its bytes are judged first, also where it is skipped
+abbrev pub after_line : Tail → TextLine → Result Tail ℕ
+after_line tail line = do
+  done ← plain (line_fault line)
+  after_words tail line.number (words_of line.bytes)
+
+-- what is said after lines, or the first line that has a fault, with its first fault
+abbrev pub after_lines : Tail → List TextLine → Result Tail LineFault
+after_lines tail [] = Ok tail
+after_lines tail (line ∷ lines) = do
+  next ← at_line line.number (after_line tail line)
+  after_lines next lines
+
+-- a text and what is said behind it
+abbrev pub document_of : Text → Tail → Document
+document_of text tail = record {
+  text = text;
+  slots = tail.slots;
+  first = tail.first;
+  last = tail.last;
+  fuel = tail.fuel;
+  scripts = whole_scripts tail;
+  schedule = tail.schedule;
+}
+
+-- the document that bytes spell, or the first line that has a fault, with its first fault
+abbrev pub document_read : List ℕ → Result Document LineFault
+document_read bytes = do
+  start ← version_end (numbered 1 (lines_of bytes)) (length (lines_of bytes) + 1)
+  front ← front_read bytes start
+  tail ← after_lines empty_tail (from_line front.1 (numbered 1 (lines_of bytes)))
+  Ok (document_of front.0 tail)
+
+-- bytes are in the grammar of documents, and stand for this one
+abbrev pub IsDocument : List ℕ → Document → Type 0
+IsDocument bytes document = document_read bytes ≡ Ok document

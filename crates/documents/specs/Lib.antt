@@ -1,0 +1,2 @@
+pub mod TailLines
+pub mod DocumentRead

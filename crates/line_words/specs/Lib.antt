@@ -1,0 +1,4 @@
+pub mod Faults
+pub mod Answered
+pub mod Shown
+pub mod Lines

@@ -1,0 +1,6 @@
+//! The words of a line, what each says, and what may be wrong with a line.
+#![tactic(auto)]
+
+pub mod fault;
+mod number;
+pub mod words;

@@ -1,0 +1,6 @@
+//! The callers' core. So far the turns of a schedule, which documents hold.
+#![tactic(auto)]
+
+mod turn;
+
+pub use turn::{StepKind, Turn};
