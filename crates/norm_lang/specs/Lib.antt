@@ -11,3 +11,5 @@ pub mod Instructions
 pub mod Grammar
 pub mod Limits
 pub mod Laws
+pub mod Reach
+pub mod Search
