@@ -11,3 +11,10 @@ pub mod Instructions
 pub mod Grammar
 pub mod Limits
 pub mod Laws
+pub mod Flow
+pub mod RegisterUse
+pub mod Freshness
+pub mod Kept
+pub mod InstructionRules
+pub mod PathRules
+pub mod NormalForm
