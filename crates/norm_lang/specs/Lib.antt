@@ -13,3 +13,10 @@ pub mod Limits
 pub mod Laws
 pub mod Reach
 pub mod Search
+pub mod Flow
+pub mod RegisterUse
+pub mod Freshness
+pub mod Kept
+pub mod InstructionRules
+pub mod PathRules
+pub mod NormalForm

@@ -1,0 +1,98 @@
+-- The rules of the normal form that look at the paths of a method: N3 to N7, N9 to N11 and N14. Each definition says that
+-- an instruction `i` at a place of an operation's generator, or of its wrap-up (`true`), breaks its rule.
+use Rattle.std.specs.Prelude.{ℕ, Bool, true, false, ◌&&◌, not, ◌⊎◌, List, Option, Some, None, ◌==◌, slice_get, count_by, IsTrue}
+use Rattle.std.specs.List.{list_any, list_all}
+use Rattle.norm_lang.specs.declared.text.Reg.{Reg}
+use Rattle.norm_lang.specs.declared.text.CasEntry.{CasEntry}
+use Rattle.norm_lang.specs.declared.text.Instr.{Instr}
+use Rattle.norm_lang.specs.declared.text.Instr.TheVariants as instr
+use Rattle.norm_lang.specs.declared.text.Op.{Op}
+use Rattle.norm_lang.specs.Flow.{IsCycle, IsOnCycle}
+use Rattle.norm_lang.specs.RegisterUse.{same_register, operands_of, sources, reads, sets}
+use Rattle.norm_lang.specs.Freshness.{MayBeFresh, IsSurelyFresh}
+use Rattle.norm_lang.specs.Kept.{code_of, IsKept, MayBeUnset}
+
+-- N3: a `new` may be made more than once: it is in a wrap-up, which may be run again, or it lies on a cycle
+abbrev pub MakesNodesAgain : Op → Bool → ℕ → Instr → Type 0
+MakesNodesAgain op wrapup at (instr.New d) = IsTrue wrapup ⊎ IsOnCycle (code_of op wrapup) at
+MakesNodesAgain op wrapup at _ = ⊥
+
+-- N4: a put writes elsewhere than into a node that is surely fresh, or ties a node that may be fresh to it; and a wrap-up
+-- has no put
+abbrev pub HasWrongPut : Op → Bool → ℕ → Instr → Type 0
+HasWrongPut op wrapup at (instr.Put a f b) =
+    IsTrue wrapup ⊎ ((¬ IsSurelyFresh (code_of op wrapup) a at) ⊎ MayBeFresh (code_of op wrapup) b at)
+HasWrongPut op wrapup at _ = ⊥
+
+-- N5: an auxiliary exchange shows a node that may be fresh to others: only a commit may
+abbrev pub ShowsFresh : Op → Bool → ℕ → Instr → Type 0
+ShowsFresh op wrapup at (instr.Cas entry l) = MayBeFresh (code_of op wrapup) entry.replacement at
+ShowsFresh op wrapup at _ = ⊥
+
+-- exchanges read a register once in all, as the new operand of one of them
+abbrev pub is_given_once : Reg → List CasEntry → Bool
+is_given_once r entries =
+    (count_by (same_register r) (sources (instr.Commit entries)) == 1) && list_any (λ entry. same_register r entry.replacement) entries
+
+-- an instruction reads a register other than as a put's object or as the new operand of one exchange of a commit
+abbrev pub reads_openly : Reg → Instr → Bool
+reads_openly r (instr.Put a f b) = same_register r b
+reads_openly r (instr.Commit entries) = reads r (instr.Commit entries) && not (is_given_once r entries)
+reads_openly r i = reads r i
+
+abbrev pub is_commit : Instr → Bool
+is_commit (instr.Commit entries) = true
+is_commit _ = false
+
+-- N6: a node that may be fresh goes elsewhere than into shared memory by one exchange of a commit: its register is read
+-- otherwise, or is kept where it may be fresh at a commit
+abbrev pub LeaksFresh : Op → Bool → ℕ → Instr → Type 0
+LeaksFresh op wrapup at i =
+    ((r : Reg) × IsTrue (reads_openly r i) × MayBeFresh (code_of op wrapup) r at)
+    ⊎ (IsTrue (is_commit i) × ((r : Reg) × IsKept op r × MayBeFresh (code_of op wrapup) r at))
+
+-- a load or an auxiliary exchange: one that finds what others have done
+abbrev pub looks : Instr → Bool
+looks (instr.LoadRoot d x) = true
+looks (instr.LoadPick d x n a) = true
+looks (instr.LoadField d a f) = true
+looks (instr.Cas entry l) = true
+looks _ = false
+
+abbrev pub looks_at : Option Instr → Bool
+looks_at None = false
+looks_at (Some i) = looks i
+
+-- N7: it lies on a cycle without a load and without an auxiliary exchange, itself among them
+abbrev pub LoopsBlindly : Op → Bool → ℕ → Instr → Type 0
+LoopsBlindly op wrapup at i =
+    (path : List ℕ) × IsCycle (code_of op wrapup) path at × IsTrue (list_all (λ passed. not (looks_at (slice_get (code_of op wrapup) passed))) path)
+
+-- N9: a wrap-up sets a kept register
+abbrev pub SetsKept : Op → Bool → ℕ → Instr → Type 0
+SetsKept op wrapup at i = IsTrue wrapup × ((r : Reg) × IsTrue (sets r i) × IsKept op r)
+
+-- a register is the base of a load, or the source of `mov`, `mark` or `unmark`
+abbrev pub follows : Reg → Instr → Bool
+follows r (instr.LoadField d a f) = same_register r a
+follows r (instr.Mov d a) = same_register r a
+follows r (instr.Mark d a) = same_register r a
+follows r (instr.Unmark d a) = same_register r a
+follows r _ = false
+
+-- N10: a wrap-up goes on from a kept register to another reference: it loads through it, or copies it
+abbrev pub FollowsKept : Op → Bool → ℕ → Instr → Type 0
+FollowsKept op wrapup at i = IsTrue wrapup × ((r : Reg) × IsTrue (follows r i) × IsKept op r)
+
+-- a register is the object, the expected or the new operand of an auxiliary exchange
+abbrev pub exchanges : Reg → Instr → Bool
+exchanges r (instr.Cas entry l) = list_any (same_register r) (operands_of entry)
+exchanges r _ = false
+
+-- N11: a wrap-up makes an auxiliary exchange on, from or to a kept register
+abbrev pub ExchangesKept : Op → Bool → ℕ → Instr → Type 0
+ExchangesKept op wrapup at i = IsTrue wrapup × ((r : Reg) × IsTrue (exchanges r i) × IsKept op r)
+
+-- N14: it reads a register that on some path to it wasn't set
+abbrev pub ReadsUnset : Op → Bool → ℕ → Instr → Type 0
+ReadsUnset op wrapup at i = (r : Reg) × IsTrue (reads r i) × MayBeUnset op wrapup r at
