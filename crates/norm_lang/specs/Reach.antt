@@ -1,5 +1,5 @@
 -- The nodes that a path leads to, where one fork for each node says what its successors are.
-use Rattle.std.specs.Prelude.{◌≡◌, ℕ, ◌<◌, ◌⊎◌, ◌↔◌, Bool, true, List, [], ◌∷◌, length, Option, Some, slice_get}
+use Rattle.std.specs.Prelude.{◌≡◌, ℕ, ◌<◌, ◌⊎◌, ◌↔◌, Bool, true, List, [], ◌∷◌, length, Some, slice_get}
 use Rattle.std.specs.Option.{ForSome}
 use Rattle.norm_lang.specs.declared.forks.Fork.{Fork}
 
