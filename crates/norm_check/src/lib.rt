@@ -3,5 +3,6 @@
 
 pub mod ends;
 pub mod kinds;
+pub mod laws;
 pub mod ranges;
 pub mod retired;

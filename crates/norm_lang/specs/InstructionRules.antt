@@ -120,6 +120,7 @@ abbrev pub is_stranger : CasEntry → Option Reg → Bool
 is_stranger entry None = false
 is_stranger entry (Some r) = holds_number r || not (same_register r entry.expected || is_object r entry.place)
 
+-- an exchange retires such a register
 abbrev pub retires_stranger : CasEntry → Bool
 retires_stranger entry = is_stranger entry entry.retire
 

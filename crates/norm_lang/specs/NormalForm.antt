@@ -24,6 +24,7 @@ pub data Rule : Type 0 where
   N13 : Rule
   N14 : Rule
 
+-- the number that a refusal names it by
 abbrev pub rule_number : Rule → ℕ
 rule_number N1 = 1
 rule_number N2 = 2

@@ -27,6 +27,7 @@ abbrev pub objects_of : Place → List Reg
 objects_of (places.Root x) = []
 objects_of (places.Field a f) = a ∷ []
 
+-- the register that may be named, as a list
 abbrev pub registers_named : Option Reg → List Reg
 registers_named None = []
 registers_named (Some r) = r ∷ []
