@@ -2,8 +2,8 @@
 --
 -- A path is the list of the places that were passed on the way to a place, the latest first. The place itself isn't among
 -- them: a path to an instruction is taken before the instruction acts. So the empty path leads from a place to itself.
-use Rattle.std.specs.Prelude.{◌≡◌, ℕ, ◌+◌, ◌<◌, Bool, true, false, not, List, [], ◌∷◌, length, Option, Some, None, ◌==◌, slice_get, IsTrue}
-use Rattle.std.specs.List.{list_any, list_all}
+use Rattle.std.specs.Prelude.{◌≡◌, ℕ, ◌+◌, ◌<◌, Bool, false, List, [], ◌∷◌, length, Option, Some, None, ◌==◌, slice_get, IsTrue}
+use Rattle.std.specs.List.{list_any}
 use Rattle.norm_lang.specs.declared.text.Instr.{Instr}
 use Rattle.norm_lang.specs.declared.text.Instr.TheVariants as instr
 
