@@ -6,3 +6,5 @@ pub mod kinds;
 pub mod laws;
 pub mod ranges;
 pub mod retired;
+#[cfg(test)]
+mod tests;
