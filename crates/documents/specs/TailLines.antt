@@ -21,7 +21,7 @@ setting_line words = do
   done ← end_at number.1
   value_of number.0
 
--- `phases F L`
+-- `phases F L`: the first and the last phase
 abbrev pub phases_line : List (List ℕ) → Result Phases ℕ
 phases_line words = do
   first ← number_at words

@@ -31,7 +31,7 @@ pub(crate) fn script(next: usize, words: &mut Words) -> Result<(), Fault>
 }
 
 /// The arguments of a call, up to the end of the line: the form of all comes before the size of one.
-#[tactic(auto, using(crate::proofs::Arguments::argument_more, crate::proofs::Arguments::argument_great, crate::proofs::Arguments::argument_odd, crate::proofs::Arguments::arguments_fit, crate::proofs::Arguments::arguments_exceed))]
+#[tactic(auto, using(crate::proofs::Arguments::arguments_start, crate::proofs::Arguments::argument_more, crate::proofs::Arguments::argument_great, crate::proofs::Arguments::argument_odd, crate::proofs::Arguments::arguments_fit, crate::proofs::Arguments::arguments_exceed))]
 fn arguments(alloc: Global, words: &mut Words) -> Result<Numbers, Stop>
     ensures { Gives (λ args. args) result (arguments_at words.old) }
 {

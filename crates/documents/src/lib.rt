@@ -12,3 +12,6 @@ mod tail;
 
 pub use document::{Document, Numbers, Script, ScriptCall, Scripts, Turns};
 pub use reader::read_document;
+
+#[cfg(test)]
+mod tests;
