@@ -40,6 +40,11 @@ abbrev said : Option ℕ → Result (Option ℕ) ℕ → Option ℕ
 said other (Ok n) = n
 said other (Err fault) = other
 
+-- the fault of a word that is no number
+abbrev faulty : Result (Option ℕ) ℕ → ℕ
+faulty (Ok n) = form_fault
+faulty (Err fault) = fault
+
 -- a word that is read as a number is spelled as one
 numeral : (word : List ℕ) (n : Option ℕ) → number_in word ≡ Ok n → (is_numeral word ≡ true) × (fitting (number_of word) ≡ n)
 numeral word n read = go (is_numeral word) refl read
@@ -73,7 +78,7 @@ argument_odd args great word words rest fault whole cut read so_far = go (is_num
   where
     go : (b : Bool) → is_numeral word ≡ b → (if b then Ok (fitting (number_of word)) else Err form_fault) ≡ Err fault → whole ≡ Err fault
     go true same read = absurd (let f : ⊥ = cc in f)
-    go false same read = sym so_far ∙ (rw (cut, same) read)
+    go false same read = let e : form_fault ≡ fault = ap faulty read in sym so_far ∙ rw (cut, same, e) refl
 
 pub arguments_fit : (args : List ℕ) (words : List (List ℕ)) (whole : Result (List ℕ) ℕ) → words ≡ []
     → arguments_from args false words ≡ whole → whole ≡ Ok args

@@ -55,7 +55,7 @@ fn counts_of(caller: Option<u64>, count: Option<u64>) -> Result<Counts, Fault>
 }
 
 /// `C N`, where N is at least 1.
-fn counts(words: &mut Words) -> Result<Counts, Fault>
+fn counts_at(words: &mut Words) -> Result<Counts, Fault>
     ensures { Reads (λ counts. counts) result (counts_at words.old) }
 {
     let caller = words.number()?;
@@ -85,10 +85,10 @@ pub(crate) fn turn(word: &[u8], words: &mut Words) -> Result<Turn, Fault>
     ensures { Reads (λ turn. turn) result (turn_line word.now words.old) }
 {
     if word == b"step".as_slice() {
-        let Counts { caller, count } = counts(words)?;
+        let Counts { caller, count } = counts_at(words)?;
         Ok(Turn::Step { caller, count })
     } else if word == b"op".as_slice() {
-        let Counts { caller, count } = counts(words)?;
+        let Counts { caller, count } = counts_at(words)?;
         Ok(Turn::Ops { caller, count })
     } else if word == b"upto".as_slice() {
         upto(words)

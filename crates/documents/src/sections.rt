@@ -7,7 +7,7 @@ ghost use Rattle.documents.specs.DocumentRead.{begins, in_settings, in_calls, in
 
 use crate::calls::{call, script};
 use crate::schedule::turn;
-use crate::settings::{phases, setting};
+use crate::settings::{both_phases, setting};
 use crate::tail::{Stage, Tail};
 use line_words::fault::{Fault, Stop};
 use line_words::words::Words;
@@ -41,7 +41,7 @@ fn in_settings(tail: &mut Tail, alloc: Global, word: &[u8], words: &mut Words) -
         tail.stage = Stage::Phases;
         Ok(())
     } else if word == b"phases".as_slice() && tail.stage.may_set_phases() {
-        let phases = phases(words)?;
+        let phases = both_phases(words)?;
         tail.first = phases.first;
         tail.last = phases.last;
         tail.stage = Stage::Fuel;

@@ -23,7 +23,7 @@ pub(crate) fn setting(words: &mut Words) -> Result<u64, Fault>
 }
 
 /// `phases F L`
-pub(crate) fn phases(words: &mut Words) -> Result<Phases, Fault>
+pub(crate) fn both_phases(words: &mut Words) -> Result<Phases, Fault>
     ensures { Reads (λ phases. phases) result (phases_line words.old) }
 {
     let first = words.number()?;

@@ -84,7 +84,11 @@ impl Tail {
         ensures { result ≡ length (whole_scripts self.now) }
     {
         let whole = self.scripts.items().len();
-        if self.stage == Stage::Calls { whole + 1 } else { whole }
+        if self.stage == Stage::Calls {
+            whole + 1
+        } else {
+            whole
+        }
     }
 
     /// The script that lines stood in is whole.

@@ -272,7 +272,26 @@ fn halves(row: &[u8]) -> (&[u8], &[u8]) {
 /// What a row of a limit says: its document, and the line and the number that are wanted.
 fn limit(rt: &(impl Abort + AllocGlobal), row: &[u8]) -> (Vec<u8>, (u32, u8)) {
     match row {
-        [letter, _, a, b, c, d, e, f, _, g, h, i, j, k, l, number, _, rest @ ..] => {
+        [
+            letter,
+            _,
+            a,
+            b,
+            c,
+            d,
+            e,
+            f,
+            _,
+            g,
+            h,
+            i,
+            j,
+            k,
+            l,
+            number,
+            _,
+            rest @ ..,
+        ] => {
             let front = lines_in_front(*letter);
             let mut text = Vec::from_slice(rt.alloc(), front).expect(rt, "memory ran out");
             let (lines, last) = halves(rest);
@@ -311,7 +330,12 @@ fn documents_have_these_faults(rt: HostRuntime) {
     assert!(rt; rows.len() < 4_000_000);
     for line in lines(rows) {
         let (text, wanted) = row(&rt, line.bytes());
-        assert_eq!(rt; document_place(&rt, &text), wanted, "in row {}", line.number());
+        assert_eq!(rt;
+            document_place(&rt, &text),
+            wanted,
+            "in row {}",
+            line.number()
+        );
     }
 }
 
@@ -322,7 +346,12 @@ fn limits_stand_where_they_are_passed(rt: HostRuntime) {
     assert!(rt; rows.len() < 4_000_000);
     for line in lines(rows) {
         let (text, wanted) = limit(&rt, line.bytes());
-        assert_eq!(rt; document_place(&rt, &text), wanted, "in row {}", line.number());
+        assert_eq!(rt;
+            document_place(&rt, &text),
+            wanted,
+            "in row {}",
+            line.number()
+        );
     }
 }
 
@@ -337,16 +366,18 @@ fn document(rt: &(impl Abort + AllocGlobal), text: &[u8]) -> Document {
 
 /// The slots, the first and the last phase, and the steps of an operation.
 fn settings(document: &Document) -> (u64, u64, u64, u64) {
-    (
-        document.slots,
-        document.first,
-        document.last,
-        document.fuel,
-    )
+    (document.slots, document.first, document.last, document.fuel)
 }
 
 /// Whether a script has this call at this place.
-fn calls(document: &Document, script: usize, at: usize, line: u32, name: &[u8], args: &[u64]) -> bool {
+fn calls(
+    document: &Document,
+    script: usize,
+    at: usize,
+    line: u32,
+    name: &[u8],
+    args: &[u64],
+) -> bool {
     let Some(script) = document.scripts.items().get(script) else {
         return false;
     };
@@ -420,18 +451,39 @@ fn a_document_says_all_of_this(rt: HostRuntime) {
     assert!(rt; calls(&whole, 0, 1, 11, b"fuel", &[1, 2, 3]));
     assert!(rt; calls(&whole, 1, 0, 14, b"contains", &[]));
     let turns = [
-        Turn::Step { caller: 0, count: 3 },
-        Turn::Upto { caller: 1, kind: StepKind::Load, count: 2 },
-        Turn::Ops { caller: 4_294_967_295, count: 1 },
-        Turn::Upto { caller: 0, kind: StepKind::Check, count: 1_000_000 },
-        Turn::Upto { caller: 2, kind: StepKind::Exchange, count: 9 },
+        Turn::Step {
+            caller: 0,
+            count: 3,
+        },
+        Turn::Upto {
+            caller: 1,
+            kind: StepKind::Load,
+            count: 2,
+        },
+        Turn::Ops {
+            caller: 4_294_967_295,
+            count: 1,
+        },
+        Turn::Upto {
+            caller: 0,
+            kind: StepKind::Check,
+            count: 1_000_000,
+        },
+        Turn::Upto {
+            caller: 2,
+            kind: StepKind::Exchange,
+            count: 9,
+        },
     ];
     assert!(rt; whole.schedule.items() == turns.as_slice());
 }
 
 #[test]
 fn the_last_script_is_whole_without_a_schedule(rt: HostRuntime) {
-    let read = document(&rt, b"oa 1\nuse list\nscript 0\nscript 1\ncontains 18446744073709551615");
+    let read = document(
+        &rt,
+        b"oa 1\nuse list\nscript 0\nscript 1\ncontains 18446744073709551615",
+    );
     assert!(rt; lengths(&read) == Some((0, 1)));
     assert!(rt; calls(&read, 1, 0, 5, b"contains", &[18_446_744_073_709_551_615]));
     assert!(rt; read.schedule.items().is_empty());
