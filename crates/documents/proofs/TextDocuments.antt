@@ -1,5 +1,5 @@
 -- A text is a document with the default settings, no script and no schedule.
-use Rattle.std.specs.Prelude.{◌≡◌, ℕ, ◌+◌, ◌<◌, ◌≤◌, Bool, true, false, List, [], ◌∷◌, length, Option, Some, None, Result, Ok, Err, codes, nat_lt, if◌then◌else◌}
+use Rattle.std.specs.Prelude.{◌≡◌, ℕ, ◌+◌, ◌<◌, ◌≤◌, Bool, true, false, List, [], ◌∷◌, length, Some, None, Result, Ok, Err, codes, if◌then◌else◌}
 use Rattle.std.specs.Str.{bytes_eq}
 use Rattle.std.proofs.Common.{refl, ap, sym, ◌∙◌, ⊎_elim, ◌⊎◌, inl, inr, arith}
 use Rattle.std.proofs.lemmas.Bool.{cases_lt, le-ltb}
@@ -8,11 +8,11 @@ use Rattle.oa_text.specs.Tokens.{words_of, line_fault}
 use Rattle.norm_lang.specs.declared.text.Text.{Text}
 use Rattle.norm_lang.specs.Faults.{LineFault, form_fault, ◌>>=◌, demand, at_line}
 use Rattle.norm_lang.specs.Declarations.{version_line}
-use Rattle.norm_lang.specs.Grammar.{Start, Opening, Draft, draft_at, is_comment, plain, finished, text_in, in_start, after_words as words_drafted, after_line as line_drafted, after_lines as lines_drafted}
+use Rattle.norm_lang.specs.Grammar.{Start, Opening, Draft, draft_at, is_comment, plain, finished, in_start, after_words as words_drafted, after_line as line_drafted, after_lines as lines_drafted}
 use Rattle.line_words.specs.Lines.{first_word}
-use Rattle.norm_parser.specs.FrontRead.{from_line, line_word, ends_text, names_text, text_lines, behind_text, end_at}
+use Rattle.norm_parser.specs.FrontRead.{from_line, line_word, ends_text, names_text, behind_text, end_at}
 use Rattle.norm_parser.proofs.Fronts.{earlier}
-use Rattle.documents.specs.DocumentRead.{is_version, version_in, version_end, empty_tail, after_lines, document_of, document_read}
+use Rattle.documents.specs.DocumentRead.{is_version, version_in, version_end, empty_tail, document_of, document_read}
 use Rattle.documents.specs.DocumentLaws.{TextsAreDocuments}
 use Rattle.documents.proofs.TextLinesOnly.{given, own_lines}
 
@@ -67,14 +67,14 @@ ends_from start n past (line ∷ lines) count = go (ends_from start (n + 1) past
     go : Ends (n + 1) past (numbered (n + 1) lines) (behind_text (from_line start (numbered (n + 1) lines))) → Ends n past (numbered n (line ∷ lines)) (behind_text left)
     go rest =
         ⊎_elim
-            (λ before.
-                ends_same n past (numbered n (line ∷ lines)) (behind_text left) (behind_text (from_line start (numbered (n + 1) lines)))
-                    (ap behind_text (earlier start (record { number = n; bytes = line }) (numbered (n + 1) lines) before))
-                    (one_before n past line (numbered (n + 1) lines) (behind_text (from_line start (numbered (n + 1) lines))) rest))
-            (λ from.
-                ends_same n past (numbered n (line ∷ lines)) (behind_text left) (behind_text (numbered n (line ∷ lines))) (ap behind_text (all_later n start (line ∷ lines) from))
-                    (ends_behind n past (line ∷ lines) count))
-            (cases_lt n start)
+        (λ before.
+        ends_same n past (numbered n (line ∷ lines)) (behind_text left) (behind_text (from_line start (numbered (n + 1) lines)))
+        (ap behind_text (earlier start (record { number = n; bytes = line }) (numbered (n + 1) lines) before))
+        (one_before n past line (numbered (n + 1) lines) (behind_text (from_line start (numbered (n + 1) lines))) rest))
+        (λ from.
+        ends_same n past (numbered n (line ∷ lines)) (behind_text left) (behind_text (numbered n (line ∷ lines))) (ap behind_text (all_later n start (line ∷ lines) from))
+        (ends_behind n past (line ∷ lines) count))
+        (cases_lt n start)
 
 -- before the version line a line is skipped, or is the version line
 abbrev Opens : Draft → Result Bool ℕ → Type 0
@@ -126,22 +126,22 @@ finds n past (line ∷ lines) last text read ended =
     go (Err fault) same read others = absurd (let f : ⊥ = cc in f)
     go (Ok next) same read others =
         ⊎_elim
-            (λ skipped.
-                let rest = others (rw skipped.0 at read) in
-                record {
-                  next = rest.next;
-                  later = omega (arith, rest.later);
-                  found = rw skipped.1 rest.found;
-                  rest = rw (earlier rest.next here (numbered (n + 1) lines) (omega (arith, rest.later))) rest.rest;
-                })
-            (λ version.
-                record {
-                  next = n + 1;
-                  later = omega arith;
-                  found = rw version.1 refl;
-                  rest = rw (earlier (n + 1) here (numbered (n + 1) lines) (omega arith), all_later (n + 1) (n + 1) lines (omega arith)) (rw version.0 at read);
-                })
-            (opens next here same)
+        (λ skipped.
+        let rest = others (rw skipped.0 at read) in
+        record {
+          next = rest.next;
+          later = omega (arith, rest.later);
+          found = rw skipped.1 rest.found;
+          rest = rw (earlier rest.next here (numbered (n + 1) lines) (omega (arith, rest.later))) rest.rest;
+        })
+        (λ version.
+        record {
+          next = n + 1;
+          later = omega arith;
+          found = rw version.1 refl;
+          rest = rw (earlier (n + 1) here (numbered (n + 1) lines) (omega arith), all_later (n + 1) (n + 1) lines (omega arith)) (rw version.0 at read);
+        })
+        (opens next here same)
 
 document_whole : (bytes : List ℕ) (last : Draft) (text : Text) → lines_drafted (draft_at Start) (numbered 1 (lines_of bytes)) ≡ Ok last → finished last ≡ Ok text
     → document_read bytes ≡ Ok (document_of text empty_tail)

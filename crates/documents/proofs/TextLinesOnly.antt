@@ -1,5 +1,5 @@
 -- A text's lines in a document of nothing else: none of them ends the text early, and behind a shipped one all are skipped.
-use Rattle.std.specs.Prelude.{◌≡◌, ℕ, zero, suc, Bool, true, false, ◌||◌, List, [], ◌∷◌, Option, Some, None, Result, Ok, Err, codes, if◌then◌else◌}
+use Rattle.std.specs.Prelude.{◌≡◌, ℕ, zero, suc, Bool, true, false, ◌||◌, List, [], ◌∷◌, Some, None, Result, Ok, Err, codes, if◌then◌else◌}
 use Rattle.std.specs.Str.{bytes_eq}
 use Rattle.std.proofs.Common.{refl, ap, sym, ◌∙◌, ⊎_elim}
 use Rattle.std.proofs.lemmas.Bool.{or_cases}
@@ -7,9 +7,8 @@ use Rattle.std.proofs.lemmas.Slice.Eq.{bytes_eq-Decides}
 use Rattle.oa_text.specs.Lines.{TextLine}
 use Rattle.oa_text.specs.Tokens.{words_of, line_fault}
 use Rattle.norm_lang.specs.declared.text.Text.{Text}
-use Rattle.norm_lang.specs.Faults.{LineFault, form_fault, ◌>>=◌, at_line}
+use Rattle.norm_lang.specs.Faults.{form_fault, ◌>>=◌, at_line}
 use Rattle.norm_lang.specs.Declarations.{use_line}
-use Rattle.norm_lang.specs.Instructions.{entry_line}
 use Rattle.norm_lang.specs.Grammar.{Section, Start, Opening, Fields, Nodes, Roots, Begun, Generator, WrapUp, Shipped, Draft, in_section, in_place, is_comment, plain, after_words as words_drafted, after_line as line_drafted, after_lines as lines_drafted}
 use Rattle.line_words.specs.Lines.{first_word}
 use Rattle.norm_parser.specs.FrontRead.{front_of, line_word, ends_text, names_text, text_lines, behind_text}
@@ -149,7 +148,7 @@ own_lines draft last (line ∷ lines) read =
     go : (ended named : Bool) (r : Result Draft ℕ) → ends_text (line_word line) ≡ ended → names_text (line_word line) ≡ named → line_drafted draft line ≡ r
         → (at_line line.number r >>= λ next. lines_drafted next lines) ≡ Ok last
         → ((next : Draft) → lines_drafted next lines ≡ Ok last
-            → (lines_drafted next (text_lines lines) ≡ Ok last) × (after_lines empty_tail (behind_text lines) ≡ Ok empty_tail))
+        → (lines_drafted next (text_lines lines) ≡ Ok last) × (after_lines empty_tail (behind_text lines) ≡ Ok empty_tail))
         → (lines_drafted draft (if ended then [] else (if named then line ∷ [] else line ∷ text_lines lines)) ≡ Ok last)
         × (after_lines empty_tail (if ended then line ∷ lines else (if named then lines else behind_text lines)) ≡ Ok empty_tail)
     go ended named (Err fault) e n same read others = absurd (let f : ⊥ = cc in f)

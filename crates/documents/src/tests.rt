@@ -353,7 +353,12 @@ fn have_these_faults(rt: &(impl Abort + AllocGlobal), rows: &[u8]) {
     assert!(rt; rows.len() < 4_000_000);
     for line in lines(rows) {
         let (text, wanted) = limit(rt, line.bytes());
-        assert_eq!(rt; document_place(rt, &text), wanted, "in row {}", line.number());
+        assert_eq!(rt;
+            document_place(rt, &text),
+            wanted,
+            "in row {}",
+            line.number()
+        );
     }
 }
 
