@@ -363,6 +363,13 @@ fn have_these_faults(rt: &(impl Abort + AllocGlobal), rows: &[u8]) {
 }
 
 #[test]
+fn a_line_of_a_mebibyte_is_too_long(rt: HostRuntime) {
+    let mut text = Vec::new(rt.alloc());
+    text.resize(1_048_576, b'#').expect(&rt, "memory ran out");
+    assert!(rt; document_place(&rt, &text) == (1, 3));
+}
+
+#[test]
 fn scripts_are_at_most_256(rt: HostRuntime) {
     have_these_faults(&rt, SCRIPTS);
 }
