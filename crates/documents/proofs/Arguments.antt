@@ -5,7 +5,7 @@ use Rattle.std.specs.List.{list_all}
 use Rattle.std.proofs.lemmas.List.{append-nil}
 use Rattle.oa_text.specs.Numbers.{is_numeral, number_of, fitting}
 use Rattle.norm_lang.specs.Faults.{form_fault, number_fault, ◌>>=◌, demand}
-use Rattle.norm_lang.specs.LineWords.{number_in, value_of}
+use Rattle.norm_lang.specs.LineWords.{number_in}
 use Rattle.documents.specs.TailLines.{values_in, arguments_at}
 
 -- the arguments so far, and then those that are read, unless one of those so far exceeds 2^64 - 1

@@ -3,14 +3,13 @@ use Rattle.std.proofs.Common.{◌≡◌, ℕ, ◌+◌, ◌<◌, ◌≤◌, ◌^�
 use Rattle.std.specs.Prelude.{true, false}
 use Rattle.oa_text.specs.Lines.{TextLine, lines_of, numbered}
 use Rattle.oa_text.proofs.Counts.{length-lines_of-le}
-use Rattle.norm_lang.specs.Faults.{LineFault, form_fault, at_line, ◌>>=◌}
+use Rattle.norm_lang.specs.Faults.{LineFault, at_line, ◌>>=◌}
 use Rattle.norm_parser.specs.Instruction.{AreFrom}
 use Rattle.norm_parser.specs.FrontRead.{from_line}
 use Rattle.norm_parser.proofs.LinesLeft.{number_is}
 use Rattle.norm_parser.proofs.Fronts.{earlier, later}
-use Rattle.documents.specs.declared.document.Document.{Document}
 use Rattle.documents.specs.declared.tail.Tail.{Tail}
-use Rattle.documents.specs.DocumentRead.{version_in, version_end, empty_tail, after_line, after_lines}
+use Rattle.documents.specs.DocumentRead.{version_in, version_end, after_line, after_lines}
 
 -- lines that are numbered are so from the first number on
 pub numbered_from : (n : ℕ) (lines : List (List ℕ)) → AreFrom n (numbered n lines)

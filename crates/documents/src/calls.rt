@@ -1,6 +1,5 @@
 //! The lines of scripts, each behind its first word.
 
-ghost use Rattle.std.specs.Prelude.{length};
 ghost use Rattle.line_words.specs.Answered.{Reads, Gives};
 ghost use Rattle.documents.specs.TailLines.{script_line, arguments_at, call_line};
 

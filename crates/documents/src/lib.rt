@@ -3,6 +3,7 @@
 
 mod calls;
 mod document;
+pub mod laws;
 mod lines;
 mod reader;
 mod schedule;

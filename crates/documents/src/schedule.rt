@@ -1,7 +1,6 @@
 //! The turns of a schedule, each behind its first word.
 
 ghost use Rattle.line_words.specs.Answered.{Reads};
-ghost use Rattle.oa_core.specs.declared.turn.Turn.TheVariants as turns;
 ghost use Rattle.documents.specs.TailLines.{step_kind_in, step_kind_at, counts_of, counts_at, upto_line, turn_line};
 
 use line_words::fault::Fault;

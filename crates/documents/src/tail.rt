@@ -1,6 +1,6 @@
 //! What the lines of a document behind its text say so far.
 
-ghost use Rattle.std.specs.Prelude.{◌≡◌, [], ◌∷◌, ◌++◌, length, IfOk};
+ghost use Rattle.std.specs.Prelude.{◌≡◌, [], length, IfOk};
 ghost use Rattle.documents.specs.DocumentRead.{empty_tail, may_set_slots, may_set_phases, may_set_fuel, whole_scripts, with_script, with_schedule, document_of};
 
 use crate::document::{Document, Script, Scripts, Turns};

@@ -182,21 +182,29 @@ T 000 # c||step 1 2
 T 061 step 0 1|#\x07
 ";
 
-/// Rows of documents at a limit: the letter of the lines in front; how many times the lines behind them stand; the line
-/// and the number of the first fault, or 0; these lines, with the copy's number for `%`; and behind a `/` the last lines.
-const LIMITS: &[u8] = b"L 000256 0000000 script %|/
+/// Rows of documents with many scripts, one a line: the letter of the lines in front; how many times the lines behind them
+/// stand; the line and the number of the first fault, or 0; these lines, with the copy's number for `%`; and behind a `/`
+/// the last lines.
+const SCRIPTS: &[u8] = b"L 000256 0000000 script %|/
 L 000256 0000000 script %|/f|schedule
 L 000257 0002597 script %|/
 L 000256 0002594 script %|/script 255
 L 000256 0002594 script %|/script 257
 L 000256 0002594 script %|/script 18446744073709551616
-S 100000 0000000 f %|/script 1|f
-S 100001 1000047 f %|/
+";
+
+/// Rows of documents with many calls, in the same way.
+const CALLS: &[u8] = b"S 100000 0000000 f %|/script 1|f
+S 100001 1000047 f|/
 S 100000 1000044 f|/F
 S 100000 1000042 f|/f 18446744073709551616
-T 100000 0000000 op % 1|/
-T 100001 1000057 op % 1|/
-T 100000 1000054 op % 1|/op 0 0
+";
+
+/// Rows of documents with many turns, in the same way.
+const TURNS: &[u8] = b"T 100000 0000000 op % 1|/
+T 100001 1000057 op 0 1|/
+T 100000 1000054 op 0 1|/op 0 0
+T 100000 1000052 op 0 1|/op 0 18446744073709551616
 ";
 
 /// The lines in front, by their letter.
@@ -339,20 +347,41 @@ fn documents_have_these_faults(rt: HostRuntime) {
     }
 }
 
+/// Each row's document has its fault.
 #[tactic(auto, using(crate::proofs::Reading::few_lines))]
-#[test]
-fn limits_stand_where_they_are_passed(rt: HostRuntime) {
-    let rows = LIMITS;
+fn have_these_faults(rt: &(impl Abort + AllocGlobal), rows: &[u8]) {
     assert!(rt; rows.len() < 4_000_000);
     for line in lines(rows) {
-        let (text, wanted) = limit(&rt, line.bytes());
+        let (text, wanted) = limit(rt, line.bytes());
         assert_eq!(rt;
-            document_place(&rt, &text),
+            document_place(rt, &text),
             wanted,
             "in row {}",
             line.number()
         );
     }
+}
+
+#[test]
+fn a_line_of_a_mebibyte_is_too_long(rt: HostRuntime) {
+    let mut text = Vec::new(rt.alloc());
+    text.resize(1_048_576, b'#').expect(&rt, "memory ran out");
+    assert!(rt; document_place(&rt, &text) == (1, 3));
+}
+
+#[test]
+fn scripts_are_at_most_256(rt: HostRuntime) {
+    have_these_faults(&rt, SCRIPTS);
+}
+
+#[test]
+fn calls_of_a_script_are_at_most_100000(rt: HostRuntime) {
+    have_these_faults(&rt, CALLS);
+}
+
+#[test]
+fn turns_are_at_most_100000(rt: HostRuntime) {
+    have_these_faults(&rt, TURNS);
 }
 
 #[tactic(auto, using(crate::proofs::Reading::few_lines))]
