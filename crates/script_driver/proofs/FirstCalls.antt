@@ -13,8 +13,8 @@ use Rattle.norm_lang.specs.declared.text.Instr.{Instr}
 use Rattle.norm_lang.specs.declared.text.Instr.TheVariants as instr
 use Rattle.norm_lang.specs.declared.text.Op.{Op}
 use Rattle.norm_lang.specs.declared.text.Text.{Text}
-use Rattle.script_driver.specs.declared.document.Call.{Call}
-use Rattle.script_driver.specs.declared.document.Document.{Document}
+use Rattle.script_driver.specs.declared.plan.Call.{Call}
+use Rattle.script_driver.specs.declared.plan.Plan.{Plan}
 use Rattle.script_driver.specs.declared.draft.Section.{Section}
 use Rattle.script_driver.specs.declared.draft.Section.TheVariants as sections
 use Rattle.script_driver.specs.declared.draft.Draft.{Draft}
@@ -169,15 +169,15 @@ lines_kept : (draft : Draft) (lines : List TextLine) → Fine draft → Gives Fi
 lines_kept draft [] fine = given _ _ fine
 lines_kept draft (line ∷ lines) fine = behind _ (after_line draft line) _ (λ next same. lines_kept next lines (had Fine _ next (line_kept draft line fine) same))
 
-abbrev HasFineCalls : Document → Type 0
-HasFineCalls document = All (IsCallOf document.text) document.script
+abbrev HasFineCalls : Plan → Type 0
+HasFineCalls plan = All (IsCallOf plan.text) plan.calls
 
 finished_kept : (draft : Draft) → Fine draft → Gives HasFineCalls (finished draft)
 finished_kept draft fine = chosen _ _ _ _ (given _ _ fine) (stopped _)
 
-pub calls_named : (bytes : List ℕ) (document : Document) → first_form bytes ≡ Some document → All (IsCallOf document.text) document.script
-calls_named bytes document same =
+pub calls_named : (bytes : List ℕ) (plan : Plan) → first_form bytes ≡ Some plan → All (IsCallOf plan.text) plan.calls
+calls_named bytes plan same =
     let lines = numbered 1 (lines_of bytes) in
     let empty : Fine empty_draft = All-nil (IsCallOf empty_draft.text) in
     let all : Gives HasFineCalls (first_form bytes) = behind HasFineCalls (after_lines empty_draft lines) finished (λ draft last. finished_kept draft (had Fine _ draft (lines_kept empty_draft lines empty) last)) in
-    had HasFineCalls (first_form bytes) document all same
+    had HasFineCalls (first_form bytes) plan all same

@@ -7,7 +7,7 @@ use Rattle.norm_lang.specs.declared.text.Start.TheVariants as starts
 use Rattle.norm_lang.specs.declared.text.Place.TheVariants as places
 use Rattle.norm_lang.specs.declared.text.Instr.TheVariants as instr
 use Rattle.norm_lang.specs.declared.text.Op.{Op}
-use Rattle.script_driver.specs.declared.document.Document.{Document}
+use Rattle.script_driver.specs.declared.plan.Plan.{Plan}
 use Rattle.script_driver.specs.FirstForm.{first_form}
 
 -- lines, each with its newline
@@ -57,7 +57,7 @@ add_op = record {
 abbrev nop_op : Op
 nop_op = record { name = codes "nop"; args = 0; generator = instr.Commit [] ∷ []; wrapup = instr.ReturnNone ∷ [] }
 
-abbrev counter : Document
+abbrev counter : Plan
 counter = record {
   text = record {
     fields = record { name = codes "pad"; kind = kinds.Number } ∷ [];
@@ -66,7 +66,7 @@ counter = record {
     ops = add_op ∷ nop_op ∷ [];
   };
   fuel = 1000000;
-  script = record { op = 0; args = 5 ∷ 0 ∷ 0 ∷ 0 ∷ [] } ∷ record { op = 0; args = 7 ∷ 0 ∷ 0 ∷ 0 ∷ [] } ∷ record { op = 1; args = 0 ∷ 0 ∷ 0 ∷ 0 ∷ [] } ∷ [];
+  calls = record { op = 0; args = 5 ∷ 0 ∷ 0 ∷ 0 ∷ [] } ∷ record { op = 0; args = 7 ∷ 0 ∷ 0 ∷ 0 ∷ [] } ∷ record { op = 1; args = 0 ∷ 0 ∷ 0 ∷ 0 ∷ [] } ∷ [];
 }
 
 counter_row : first_form (text counter_lines) ≡ Some counter
@@ -162,6 +162,6 @@ schedule_row = refl
 -- an operation may be named like the first word of another line
 word_row : first_form (text (take 15 counter_lines ++ codes "op op 0" ∷ take 4 (drop 16 counter_lines) ++ codes "script 0" ∷ codes "op" ∷ [])) ≡ Some (record counter {
   text = record counter.text { ops = add_op ∷ record nop_op { name = codes "op" } ∷ [] };
-  script = record { op = 1; args = 0 ∷ 0 ∷ 0 ∷ 0 ∷ [] } ∷ [];
+  calls = record { op = 1; args = 0 ∷ 0 ∷ 0 ∷ 0 ∷ [] } ∷ [];
 })
 word_row = refl

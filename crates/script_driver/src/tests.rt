@@ -1,6 +1,6 @@
 //! What is read of a worked document with ample memory.
 
-use crate::document::{Call, Document};
+use crate::plan::{Call, Plan};
 use crate::reader::read_first_form;
 use std::process::Abort;
 
@@ -33,20 +33,20 @@ nop
 ";
 
 #[tactic(auto, using(crate::proofs::Counted::few_lines))]
-fn read(rt: &(impl Abort + AllocGlobal), text: &[u8]) -> Option<Document> {
+fn read(rt: &(impl Abort + AllocGlobal), text: &[u8]) -> Option<Plan> {
     assert!(rt; text.len() < 4096);
     read_first_form(rt.alloc(), text).expect(rt, "memory ran out")
 }
 
 #[test]
 fn the_counter_has_two_operations_and_three_calls(rt: HostRuntime) {
-    let document = read(&rt, COUNTER).expect(&rt, "the document is of another form");
-    let ops = document.text.ops.items();
+    let plan = read(&rt, COUNTER).expect(&rt, "the plan is of another form");
+    let ops = plan.text.ops.items();
     assert_eq!(rt; ops.len(), 2);
     assert!(rt; ops[0].name.items() == b"add".as_slice());
     assert!(rt; ops[1].name.items() == b"nop".as_slice());
-    assert_eq!(rt; document.fuel, 1_000_000);
-    let calls = document.script.items();
+    assert_eq!(rt; plan.fuel, 1_000_000);
+    let calls = plan.calls.items();
     assert_eq!(rt; calls.len(), 3);
     assert!(rt;
         calls[0]
