@@ -21,9 +21,10 @@ use oa_text::{Line, lines};
 use std::alloc::{AllocError, Global};
 
 /// The first of words, or no bytes.
-fn front<'a>(mut words: Words<'a>) -> &'a [u8]
+fn front<'a>(words: Words<'a>) -> &'a [u8]
     ensures { result.now ≡ front_of words }
 {
+    let mut words = words;
     words.word().unwrap_or(&[])
 }
 
