@@ -2,5 +2,5 @@
 #![tactic(auto)]
 
 pub mod fault;
-pub mod number;
+mod number;
 pub mod words;

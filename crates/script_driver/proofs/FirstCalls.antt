@@ -1,5 +1,6 @@
 -- The calls of a plan name its operations.
 use Rattle.std.proofs.Common.{◌≡◌, ℕ, zero, suc, ◌≤◌, Bool, true, false, cond, List, [], ◌∷◌, length, Option, Some, None, Result, Ok, Err, get_or, refl, arith}
+use Rattle.std.proofs.lemmas.Bool.{eqb-true}
 use Rattle.std.proofs.lemmas.List.Elements.{All-nil, All-cons}
 use Rattle.std.specs.Prelude.{slice_index, ◌==◌, ◌&&◌}
 use Rattle.std.specs.List.{All, slice_get}
@@ -61,7 +62,7 @@ call_named ops call =
     behind _ (op_named ops call.name) _ (λ number named.
     behind _ (slice_get ops number) _ (λ op here.
     tested _ (length call.args == op.args) _ (λ counted.
-    rw here (λ k le. padded_zero call.args k (omega (arith, eq_nat (length call.args) op.args counted, le))))))
+    rw here (λ k le. padded_zero call.args k (omega (arith, eqb-true (length call.args) op.args counted, le))))))
 
 calls_named_in : (ops : List Op) (script : List ScriptCall) → Finds (All (IsCallIn ops)) (calls_in ops script)
 calls_named_in ops [] = found _ _ (All-nil (IsCallIn ops))

@@ -1,7 +1,7 @@
 -- The plan that bytes of the first form spell: a document that sets nothing and schedules nothing, with one script, a text
 -- of the first form, and calls of the text's operations.
 use Rattle.std.specs.Prelude.{ℕ, Bool, true, false, ◌||◌, ◌&&◌, not, List, [], ◌∷◌, length, Option, Some, None, Result, Ok, Err, codes, nat_lt, ◌==◌, if◌then◌else◌, slice_get, slice_index}
-use Rattle.std.specs.List.{list_any, position}
+use Rattle.std.specs.List.{position}
 use Rattle.std.specs.Str.{bytes_eq}
 use Rattle.oa_text.specs.Lines.{TextLine, lines_of, numbered}
 use Rattle.norm_lang.specs.declared.text.Op.{Op}
@@ -54,7 +54,8 @@ sets_nothing (line ∷ lines) =
 
 -- no line is a schedule's, be it an empty one
 abbrev pub schedules_nothing : List TextLine → Bool
-schedules_nothing lines = not (list_any (λ line. is_schedule (line_word line)) lines)
+schedules_nothing [] = true
+schedules_nothing (line ∷ lines) = not (is_schedule (line_word line)) && schedules_nothing lines
 
 -- the one script of a document that has no other
 abbrev pub only_script : List (List ScriptCall) → Option (List ScriptCall)

@@ -1,7 +1,7 @@
 //! Which documents are of the first form, and what they ask for.
 
 ghost use Rattle.std.specs.Prelude.{◌≡◌, ◌+◌, ◌<◌, ◌^◌, length, slice_get, slice_index, option_copied, Ok, IfOk, IfSome, true};
-ghost use Rattle.std.specs.List.{All, position, list_any};
+ghost use Rattle.std.specs.List.{All, position};
 ghost use Rattle.std.specs.Str.{bytes_eq};
 ghost use Rattle.oa_text.specs.Lines.{lines_of, numbered};
 ghost use Rattle.oa_text.specs.Shown.{line_shown};
@@ -21,8 +21,9 @@ use oa_text::{Line, lines};
 use std::alloc::{AllocError, Global};
 
 /// The first of words, or no bytes.
+#[tactic(auto, using(crate::proofs::PlanLoops::front_is, crate::proofs::PlanLoops::front_none))]
 fn front<'a>(words: Words<'a>) -> &'a [u8]
-    ensures { result.now ≡ front_of words }
+    ensures { result.now ≡ front_of words.entry }
 {
     let mut words = words;
     words.word().unwrap_or(&[])
@@ -78,7 +79,12 @@ fn schedules_nothing(input: &[u8]) -> bool
     requires { length (lines_of input.now) + 1 < 2 ^ 32 }
     ensures { result ≡ schedules_nothing (numbered 1 (lines_of input.now)) }
 {
-    !lines(input).any(|line| schedule_word(line_word(line)))
+    for line in lines(input) {
+        if schedule_word(line_word(line)) {
+            return false;
+        }
+    }
+    true
 }
 
 fn place_of_op(ops: &[Op], name: &[u8]) -> Option<usize>
@@ -141,6 +147,7 @@ fn call_in(ops: &[Op], call: &ScriptCall) -> Option<Call>
 }
 
 /// The calls of a script, if each is one of the operations'.
+#[tactic(auto, using(crate::proofs::PlanLoops::calls_start, crate::proofs::PlanLoops::calls_more, crate::proofs::PlanLoops::calls_fail, crate::proofs::PlanLoops::calls_end))]
 fn calls_in(alloc: Global, ops: &[Op], script: &[ScriptCall]) -> Result<Option<Calls>, AllocError>
     ensures { IfOk result (λ found. found ≡ calls_in ops.now script.now) }
 {
@@ -193,6 +200,7 @@ fn plan_in(alloc: Global, input: &[u8], document: Document) -> Result<Option<Pla
     }
 }
 
+#[tactic(auto, using(crate::proofs::PlanLoops::form_of, crate::proofs::PlanLoops::form_fits, crate::proofs::PlanLoops::form_calls))]
 /// The plan of the document that was read of the bytes: `None` exactly where they are not of the first form.
 ///
 /// The input has fewer than 2^32 - 1 lines; its length bounds their count.
