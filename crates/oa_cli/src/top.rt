@@ -13,7 +13,7 @@ use crate::input::{InputError, read_input};
 use crate::status::Status;
 use crate::verdict::Verdict;
 use line_words::fault::{ParseError, ParseFault};
-use norm_lang::spelling::show;
+use norm_lang::show;
 use oa_text::{Failed, Gate, Piece, Sink, Source, write_all, write_pieces};
 use script_driver::answers::{partial, write_answers};
 use script_driver::run::run_script;
