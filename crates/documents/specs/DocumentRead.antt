@@ -3,12 +3,10 @@
 use Rattle.std.specs.Prelude.{◌≡◌, ℕ, ◌+◌, Bool, true, false, ◌&&◌, List, [], ◌∷◌, ◌++◌, length, Option, Some, None, Result, Ok, Err, codes, nat_lt, if◌then◌else◌}
 use Rattle.std.specs.Str.{bytes_eq}
 use Rattle.oa_text.specs.Lines.{TextLine, lines_of, numbered}
-use Rattle.oa_text.specs.Tokens.{words_of, line_fault}
 use Rattle.norm_lang.specs.declared.text.Text.{Text}
 use Rattle.norm_lang.specs.Faults.{LineFault, form_fault, too_many, ◌>>=◌, demand, at_line}
 use Rattle.norm_lang.specs.LineWords.{end_at}
 use Rattle.norm_lang.specs.Declarations.{version_line, is_reserved}
-use Rattle.norm_lang.specs.Grammar.{is_comment, plain}
 use Rattle.line_words.specs.Lines.{words_in, first_word}
 use Rattle.norm_parser.specs.FrontRead.{from_line, front_read}
 use Rattle.documents.specs.declared.document.ScriptCall.{ScriptCall}
@@ -68,6 +66,7 @@ may_set_fuel stages.Phases = true
 may_set_fuel stages.Fuel = true
 may_set_fuel _ = false
 
+-- in a script the one that lines stand in is the last
 abbrev pub whole_scripts_in : Stage → List (List ScriptCall) → List ScriptCall → List (List ScriptCall)
 whole_scripts_in stages.Calls scripts script = scripts ++ script ∷ []
 whole_scripts_in _ scripts script = scripts
@@ -118,16 +117,14 @@ in_stage stages.Calls tail line word rest = in_calls tail line word rest
 in_stage stages.Turns tail line word rest = in_schedule tail word rest
 in_stage _ tail line word rest = in_settings tail word rest
 
--- what is said after the words of a line: a line without a word, or whose first begins with `#`, is skipped
-abbrev pub after_words : Tail → ℕ → List (List ℕ) → Result Tail ℕ
-after_words tail line [] = Ok tail
-after_words tail line (word ∷ rest) = if is_comment word then Ok tail else in_stage tail.stage tail line word rest
+-- what is said after the words of a line, of which there are none where it is skipped
+abbrev pub after_words : Tail → ℕ → Option (List ℕ × List (List ℕ)) → Result Tail ℕ
+after_words tail line None = Ok tail
+after_words tail line (Some word) = in_stage tail.stage tail line word.0 word.1
 
 -- what is said after a line, or the line's first fault. Its bytes are judged first, also where it is skipped
 abbrev pub after_line : Tail → TextLine → Result Tail ℕ
-after_line tail line = do
-  done ← plain (line_fault line)
-  after_words tail line.number (words_of line.bytes)
+after_line tail line = words_in line >>= λ words. after_words tail line.number (first_word words)
 
 -- what is said after lines, or the first line that has a fault, with its first fault
 abbrev pub after_lines : Tail → List TextLine → Result Tail LineFault

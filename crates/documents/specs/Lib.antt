@@ -1,2 +1,3 @@
 pub mod TailLines
 pub mod DocumentRead
+pub mod DocumentLaws

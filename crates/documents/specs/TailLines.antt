@@ -1,6 +1,6 @@
 -- The lines of a document behind its text, each behind its first word: what it says, or its first fault. Each reads its
 -- whole form before it judges a number or a limit.
-use Rattle.std.specs.Prelude.{ℕ, Bool, true, false, ◌&&◌, List, [], ◌∷◌, length, Option, Some, None, Result, Ok, Err, codes, nat_lt, ◌==◌, if◌then◌else◌}
+use Rattle.std.specs.Prelude.{ℕ, Bool, false, List, [], ◌∷◌, Option, Some, None, Result, Ok, Err, codes, nat_lt, ◌==◌, if◌then◌else◌}
 use Rattle.std.specs.List.{list_all}
 use Rattle.std.specs.Str.{bytes_eq}
 use Rattle.oa_text.specs.Numbers.{is_numeral, number_of, fitting}
@@ -11,6 +11,8 @@ use Rattle.oa_core.specs.declared.turn.StepKind.TheVariants as kinds
 use Rattle.oa_core.specs.declared.turn.Turn.{Turn}
 use Rattle.oa_core.specs.declared.turn.Turn.TheVariants as turns
 use Rattle.documents.specs.declared.document.ScriptCall.{ScriptCall}
+use Rattle.documents.specs.declared.settings.Phases.{Phases}
+use Rattle.documents.specs.declared.schedule.Counts.{Counts}
 
 -- `slots S` and `fuel N`: one number
 abbrev pub setting_line : List (List ℕ) → Result ℕ ℕ
@@ -19,12 +21,7 @@ setting_line words = do
   done ← end_at number.1
   value_of number.0
 
--- the first and the last phase
-pub record Phases : Type 0 where
-  pub first : ℕ
-  pub last : ℕ
-
--- `phases F L`
+-- `phases F L`: the first and the last phase
 abbrev pub phases_line : List (List ℕ) → Result Phases ℕ
 phases_line words = do
   first ← number_at words
@@ -47,7 +44,7 @@ script_line next words = do
   same ← demand form_fault (is_number next number.0)
   demand too_many (nat_lt next 256)
 
--- the numbers that words spell
+-- the numbers that words spell, each as a number
 abbrev pub values_in : List (List ℕ) → Result (List ℕ) ℕ
 values_in [] = Ok []
 values_in (word ∷ words) = do
@@ -55,11 +52,17 @@ values_in (word ∷ words) = do
   values ← values_in words
   Ok (value ∷ values)
 
+-- the arguments of a call, up to the end of the line: all are spelled as numbers, and then each fits
+abbrev pub arguments_at : List (List ℕ) → Result (List ℕ) ℕ
+arguments_at words = do
+  spelled ← demand form_fault (list_all is_numeral words)
+  values_in words
+
 -- `NAME V V ..` at a line, behind so many calls of its script: at most 100,000 calls
 abbrev pub call_line : ℕ → ℕ → List ℕ → List (List ℕ) → Result ScriptCall ℕ
 call_line line calls word rest = do
-  spelled ← demand form_fault (is_name word && list_all is_numeral rest)
-  args ← values_in rest
+  named ← demand form_fault (is_name word)
+  args ← arguments_at rest
   room ← demand too_many (nat_lt calls 100000)
   Ok (record { line = line; name = word; args = args })
 
@@ -78,22 +81,22 @@ step_kind_at words = do
   kind ← step_kind_in word.0
   Ok (kind, word.1)
 
--- a turn of a caller up to 2^32 - 1, with a count up to 1,000,000
-abbrev pub turn_of : (ℕ → ℕ → Turn) → Option ℕ → Option ℕ → Result Turn ℕ
-turn_of make caller count = do
+-- a caller up to 2^32 - 1, and a count up to 1,000,000
+abbrev pub counts_of : Option ℕ → Option ℕ → Result Counts ℕ
+counts_of caller count = do
   who ← value_of caller
   many ← value_of count
   known ← up_to 4294967295 who
   few ← up_to 1000000 many
-  Ok (make who many)
+  Ok (record { caller = known; count = few })
 
--- `step C N` and `op C N`, where N is at least 1
-abbrev pub counted_line : (ℕ → ℕ → Turn) → List (List ℕ) → Result Turn ℕ
-counted_line make words = do
+-- `C N`, where N is at least 1
+abbrev pub counts_at : List (List ℕ) → Result Counts ℕ
+counts_at words = do
   caller ← number_at words
   count ← positive_at caller.1
   done ← end_at count.1
-  turn_of make caller.0 count.0
+  counts_of caller.0 count.0
 
 -- `upto C load N`, `upto C check N` and `upto C exchange N`, where N is at least 1
 abbrev pub upto_line : List (List ℕ) → Result Turn ℕ
@@ -102,12 +105,13 @@ upto_line words = do
   kind ← step_kind_at caller.1
   count ← positive_at kind.1
   done ← end_at count.1
-  turn_of (λ who many. turns.Upto who kind.0 many) caller.0 count.0
+  counts ← counts_of caller.0 count.0
+  Ok (turns.Upto counts.caller kind.0 counts.count)
 
--- a turn, by the line's first word
+-- a turn, by the line's first word: `step C N`, `op C N`, or `upto C` with a kind of step and N
 abbrev pub turn_line : List ℕ → List (List ℕ) → Result Turn ℕ
 turn_line word rest =
-    if bytes_eq word (codes "step") then counted_line (λ who many. turns.Step who many) rest
-    else (if bytes_eq word (codes "op") then counted_line (λ who many. turns.Ops who many) rest
+    if bytes_eq word (codes "step") then (counts_at rest >>= λ counts. Ok (turns.Step counts.caller counts.count))
+    else (if bytes_eq word (codes "op") then (counts_at rest >>= λ counts. Ok (turns.Ops counts.caller counts.count))
     else (if bytes_eq word (codes "upto") then upto_line rest
     else Err form_fault))

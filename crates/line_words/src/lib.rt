@@ -2,5 +2,5 @@
 #![tactic(auto)]
 
 pub mod fault;
-mod number;
+pub mod number;
 pub mod words;

@@ -68,7 +68,14 @@ impl<'a> Words<'a> {
         if comment(word) { None } else { Some(word) }
     }
 
-    /// The next word.
+    /// The next word, if there is one.
+    pub fn next_word(&mut self) -> Option<&'a [u8]>
+        ensures { MatchOption result (self.old ≡ []) (λ word. self.old ≡ word.now ∷ self.new) }
+    {
+        Some(self.tokens.next()?.bytes())
+    }
+
+    /// The next word, which must be there.
     pub fn word(&mut self) -> Result<&'a [u8], Fault>
         ensures { Reads (λ word. (word.now, self.new)) result (word_at self.old) }
     {
@@ -99,6 +106,7 @@ impl<'a> Words<'a> {
         }
     }
 
+    /// A name.
     pub fn name(&mut self) -> Result<&'a [u8], Fault>
         ensures { Reads (λ name. (name.now, self.new)) result (name_at self.old) }
     {
@@ -125,6 +133,7 @@ impl<'a> Words<'a> {
         if positive(n) { Ok(n) } else { Err(Fault::Form) }
     }
 
+    /// `n0` to `n7` or `r0` to `r7`.
     pub fn register(&mut self) -> Result<Reg, Fault>
         ensures { Reads (λ r. (r, self.new)) result (register_at self.old) }
     {
@@ -175,7 +184,7 @@ fn name_bytes(bytes: &[u8]) -> bool
 }
 
 /// Whether a word is spelled as a name.
-fn name(word: &[u8]) -> bool
+pub fn name(word: &[u8]) -> bool
     ensures { result ≡ is_name word.now }
 {
     match word.split_first() {

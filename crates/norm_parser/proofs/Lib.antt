@@ -1,10 +1,10 @@
 mod FirstWords
-mod LinesLeft
+pub mod LinesLeft
 mod NodeLines
 mod News
 mod FrontWords
 mod LineReads
-mod Fronts
+pub mod Fronts
 mod Reading
 mod FrontTexts
 mod WorkedFronts

@@ -6,8 +6,8 @@ ghost use Rattle.line_words.specs.Answered.{Reads, Gives};
 ghost use Rattle.norm_parser.specs.DraftShown.{section_shown, draft_shown};
 ghost use Rattle.norm_parser.specs.FrontRead.{whole_head};
 
-use line_words::fault::{Fault, Stop};
 use crate::head::Head;
+use line_words::fault::{Fault, Stop};
 use norm_lang::list::Listed;
 use norm_lang::text::{CasEntry, Entries, FieldDecl, Instr, NodeDecl, Op, RootDecl, Text};
 use std::alloc::{AllocError, Global};

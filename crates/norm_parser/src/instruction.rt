@@ -8,8 +8,8 @@ ghost use Rattle.line_words.specs.Answered.{Reads, Answers};
 ghost use Rattle.norm_parser.specs.Steps.{step_shown};
 ghost use Rattle.norm_parser.specs.Instruction.{are_skipped, AreFrom, AreLeftOf, step_of, entry_of, next_entry, entries_from, instr_read};
 
-use line_words::fault::{Fault, ParseError, Stop};
 use crate::steps::{Step, read_entry, read_step};
+use line_words::fault::{Fault, ParseError, Stop};
 use line_words::words::Words;
 use norm_lang::list::Listed;
 use norm_lang::text::{CasEntry, Entries, FieldDecl, Fields, Instr, RootDecl, Roots};

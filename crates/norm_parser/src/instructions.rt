@@ -5,11 +5,11 @@ ghost use Rattle.std.specs.Prelude.{◌≡◌, ◌≤◌, length, IfOk};
 ghost use Rattle.norm_lang.specs.Instructions.{set_line, mov_line, add_line, sub_line, rem_line, null_line, mark_line, unmark_line, load_root_line, pick_line, load_field_line, new_line, put_line, cas_line, casroot_line, jump_line, ifeq_line, ifless_line, ifmarked_line, commit_line, Commits, return_line, returnnone_line, again_line, with_line, withroot_line};
 ghost use Rattle.line_words.specs.Answered.{Reads};
 
-use line_words::fault::Fault;
 use crate::operands::{
     field_number, last_target, one_register, retired, root_number, target, three_registers,
     two_registers,
 };
+use line_words::fault::Fault;
 use line_words::words::{Words, up_to, value_of};
 use norm_lang::text::{CasEntry, FieldDecl, Instr, Place, RootDecl};
 

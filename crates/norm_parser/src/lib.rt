@@ -14,9 +14,9 @@ mod reader;
 mod sections;
 mod steps;
 
-pub use line_words::fault::{ParseError, ParseFault};
 pub use head::Head;
 pub use instruction::parse_instr;
+pub use line_words::fault::{ParseError, ParseFault};
 pub use reader::{parse, parse_front, parse_head};
 
 #[cfg(test)]

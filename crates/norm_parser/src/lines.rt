@@ -8,8 +8,8 @@ ghost use Rattle.line_words.specs.Answered.{Gives, Answers};
 ghost use Rattle.norm_parser.specs.DraftShown.{draft_shown};
 
 use crate::draft::Draft;
-use line_words::fault::{ParseError, Stop};
 use crate::sections::in_place;
+use line_words::fault::{ParseError, Stop};
 use line_words::words::Words;
 use oa_text::Line;
 use std::alloc::Global;

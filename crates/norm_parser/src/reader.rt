@@ -10,10 +10,10 @@ ghost use Rattle.norm_parser.specs.DraftShown.{draft_shown, fault_shown};
 ghost use Rattle.norm_parser.specs.FrontRead.{from_line, end_before, end_at, front_end, front_read, head_end, head_read, IsHeadWithinLimits};
 
 use crate::draft::{Draft, Section};
-use line_words::fault::{Fault, ParseError, ParseFault, Stop};
 use crate::front::{ends_front, ends_head, front_word, misplaced, names_text};
 use crate::head::Head;
 use crate::lines::read_line;
+use line_words::fault::{Fault, ParseError, ParseFault, Stop};
 use norm_lang::text::Text;
 use oa_text::{Line, lines};
 use std::alloc::Global;

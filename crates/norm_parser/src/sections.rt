@@ -8,8 +8,8 @@ ghost use Rattle.norm_parser.specs.DraftShown.{draft_shown};
 
 use crate::declarations;
 use crate::draft::{Draft, Section};
-use line_words::fault::{Fault, Stop};
 use crate::steps::{Step, read_entry, read_step};
+use line_words::fault::{Fault, Stop};
 use line_words::words::Words;
 use norm_lang::text::Instr;
 use std::alloc::Global;

@@ -5,8 +5,8 @@ ghost use Rattle.norm_lang.specs.Instructions.{step_line, entry_line};
 ghost use Rattle.line_words.specs.Answered.{Reads};
 ghost use Rattle.norm_parser.specs.Steps.{step_shown, access_line, flow_line};
 
-use line_words::fault::Fault;
 use crate::instructions;
+use line_words::fault::Fault;
 use line_words::words::Words;
 use norm_lang::text::{CasEntry, FieldDecl, Instr, RootDecl};
 

@@ -7,8 +7,8 @@ ghost use Rattle.oa_text.specs.Tokens.{words_of};
 ghost use Rattle.norm_parser.specs.Instruction.{are_skipped, AreFrom};
 
 use crate::declarations;
-use line_words::fault::{Fault, ParseError, ParseFault, Stop};
 use crate::instruction::parse_instr;
+use line_words::fault::{Fault, ParseError, ParseFault, Stop};
 use line_words::words::Words;
 use norm_lang::shipped_queue;
 use oa_text::{Line, Lines, lines};

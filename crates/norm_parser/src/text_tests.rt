@@ -1,7 +1,7 @@
 //! The first faults of texts, of texts within documents and of heads, worked out by hand.
 
-use line_words::fault::ParseError;
 use crate::reader::{parse, parse_front, parse_head};
+use line_words::fault::ParseError;
 use norm_lang::{shipped_queue, show};
 use oa_text::lines;
 use std::process::Abort;

@@ -15,9 +15,19 @@ pub enum StepKind {
 #[derive(Clone, Copy, Debug, PartialEq, Eq)]
 pub enum Turn {
     /// So many steps.
-    Step { caller: u32, count: u32 },
+    Step {
+        caller: u32,
+        count: u32,
+    },
     /// Steps up to the access that is, from the start of the turn, this one by its kind; it isn't made.
-    Upto { caller: u32, kind: StepKind, count: u32 },
+    Upto {
+        caller: u32,
+        kind: StepKind,
+        count: u32,
+    },
     /// Steps until so many more operations have ended.
-    Ops { caller: u32, count: u32 },
+    Ops {
+        caller: u32,
+        count: u32,
+    },
 }

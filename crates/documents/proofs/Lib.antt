@@ -1,0 +1,4 @@
+mod Arguments
+mod Reading
+mod TextLinesOnly
+mod TextDocuments
