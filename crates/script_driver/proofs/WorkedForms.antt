@@ -150,6 +150,24 @@ same_op_row = refl
 setting_row : first_form (also_line 20 (codes "slots 64")) ≡ None
 setting_row = refl
 
+phases_row : first_form (also_line 20 (codes "phases 1 1000000000")) ≡ None
+phases_row = refl
+
+fuel_row : first_form (also_line 20 (codes "fuel 1000000")) ≡ None
+fuel_row = refl
+
+second_row : first_form (text (counter_lines ++ codes "script 1" ∷ [])) ≡ None
+second_row = refl
+
+unscripted_row : first_form (text (take 20 counter_lines)) ≡ None
+unscripted_row = refl
+
+list_row : first_form (text (codes "oa 1" ∷ codes "use list" ∷ codes "script 0" ∷ codes "insert 5" ∷ [])) ≡ None
+list_row = refl
+
+called_row : first_form (with_line 23 (codes "fly")) ≡ None
+called_row = refl
+
 fewer_row : first_form (with_line 22 (codes "add")) ≡ None
 fewer_row = refl
 
@@ -165,3 +183,10 @@ word_row : first_form (text (take 15 counter_lines ++ codes "op op 0" ∷ take 4
   calls = record { op = 1; args = 0 ∷ 0 ∷ 0 ∷ 0 ∷ [] } ∷ [];
 })
 word_row = refl
+
+-- so it may be named like a setting: behind the script's line nothing is set
+setting_word_row : first_form (text (take 15 counter_lines ++ codes "op fuel 0" ∷ take 4 (drop 16 counter_lines) ++ codes "script 0" ∷ codes "fuel" ∷ [])) ≡ Some (record counter {
+  text = record counter.text { ops = add_op ∷ record nop_op { name = codes "fuel" } ∷ [] };
+  calls = record { op = 1; args = 0 ∷ 0 ∷ 0 ∷ 0 ∷ [] } ∷ [];
+})
+setting_word_row = refl
