@@ -189,14 +189,7 @@ fn documents_of_other_forms_are_unbuilt(rt: HostRuntime) -> Result<(), Fail> {
         &[COUNTER],
     ];
     for parts in documents {
-        says(
-            &rt,
-            rt.alloc(),
-            "run",
-            parts,
-            Status::Unbuilt,
-            b"unbuilt\n",
-        )?;
+        says(&rt, rt.alloc(), "run", parts, Status::Unbuilt, b"unbuilt\n")?;
     }
     Ok(())
 }
@@ -279,15 +272,7 @@ fn text_is_shown_through_any_pieces(rt: HostRuntime) -> Result<(), Fail> {
     let list: &[&[u8]] = &[b"oa 1\nuse list\n"];
     for most in [1usize, 7] {
         let world = World { most, ..KIND };
-        check(
-            &rt,
-            rt.alloc(),
-            &["show"],
-            list,
-            world,
-            Status::Done,
-            LIST,
-        )?;
+        check(&rt, rt.alloc(), &["show"], list, world, Status::Done, LIST)?;
     }
     let world = World {
         most: 1,
@@ -309,14 +294,7 @@ fn text_is_shown_through_any_pieces(rt: HostRuntime) -> Result<(), Fail> {
 fn endless_call_is_spent(rt: HostRuntime) -> Result<(), Fail> {
     let answers =
         b"0 0 nop: none\n0 1 round: spent\n0 2 nop: unreached\n0 3 round: unreached\nreplies 1 short 3 phase 1 claims 0 restarts 0\n";
-    says(
-        &rt,
-        rt.alloc(),
-        "run",
-        &[ROUND],
-        Status::Partial,
-        answers,
-    )
+    says(&rt, rt.alloc(), "run", &[ROUND], Status::Partial, answers)
 }
 
 #[test]

@@ -75,11 +75,7 @@ pub fn partial(plan: &Plan, state: &CoreState) -> bool
 
 /// Writes a line for each call of the plan, with its answer, and a line that sums up. No memory is taken; at
 /// `Failed` a front of the text was written.
-pub fn write_answers<K: Sink>(
-    out: &mut K,
-    plan: &Plan,
-    state: &CoreState,
-) -> Result<(), Failed>
+pub fn write_answers<K: Sink>(out: &mut K, plan: &Plan, state: &CoreState) -> Result<(), Failed>
     ensures bytes { Writes (K.written out.old) (K.written out.new) (answers plan.now state.now) result }
     ensures cause { HasCause (K.faults out.old) (K.faults out.new) result }
 {
@@ -88,11 +84,7 @@ pub fn write_answers<K: Sink>(
     write_summary(out, replied, short, state.caller.restarts)
 }
 
-fn write_call_lines<K: Sink>(
-    out: &mut K,
-    plan: &Plan,
-    state: &CoreState,
-) -> Result<(), Failed>
+fn write_call_lines<K: Sink>(out: &mut K, plan: &Plan, state: &CoreState) -> Result<(), Failed>
     ensures bytes { Writes (K.written out.old) (K.written out.new) (call_lines plan.now.text 0 plan.now.calls (answers_of plan.now state.now)) result }
     ensures cause { HasCause (K.faults out.old) (K.faults out.new) result }
 {

@@ -166,7 +166,11 @@ fn only_script(scripts: &[Script]) -> Option<&Script>
     ensures { option_copied result ≡ only_script scripts.now }
 {
     let (script, others) = scripts.split_first()?;
-    if others.is_empty() { Some(script) } else { None }
+    if others.is_empty() {
+        Some(script)
+    } else {
+        None
+    }
 }
 
 /// What a document asks of its one caller, if it has one whose calls can be run.
@@ -208,7 +212,11 @@ fn plan_in(alloc: Global, input: &[u8], document: Document) -> Result<Option<Pla
 /// # Errors
 ///
 /// Only where memory runs out.
-pub fn first_plan(alloc: Global, input: &[u8], document: Document) -> Result<Option<Plan>, AllocError>
+pub fn first_plan(
+    alloc: Global,
+    input: &[u8],
+    document: Document,
+) -> Result<Option<Plan>, AllocError>
     requires few { length (lines_of input.now) + 1 < 2 ^ 32 }
     requires read { document_read input.now ≡ Ok document }
     ensures exact { IfOk result (λ found. found ≡ first_form input.now) }

@@ -1,7 +1,7 @@
 //! The worked run, made by the interpreter.
 
 use crate::caller::{Reply, Routine};
-use crate::plan::{Call, Plan, Calls};
+use crate::plan::{Call, Calls, Plan};
 use crate::run::run_script;
 use norm_lang::list::Listed;
 use norm_lang::text::{

@@ -57,7 +57,11 @@ fn read(
 
 #[test]
 fn the_counter_has_two_operations_and_three_calls(rt: HostRuntime) -> Result<(), Fail> {
-    let found = read(&rt, COUNTER, b"script 0\nadd 5\nslots\nadd 18446744073709551615")?;
+    let found = read(
+        &rt,
+        COUNTER,
+        b"script 0\nadd 5\nslots\nadd 18446744073709551615",
+    )?;
     let plan = found.expect(&rt, "the document is of another form");
     let ops = plan.text.ops.items();
     assert_eq!(rt; ops.len(), 2);
