@@ -1,13 +1,22 @@
 -- What is read and judged, what is said of it, and the status.
-use Rattle.std.specs.Prelude.{◌≡◌, ℕ, ◌<◌, true, false, List, ◌⊎◌, length, codes, Option, Some, None, if◌then◌else◌}
+use Rattle.std.specs.Prelude.{◌≡◌, ℕ, ◌<◌, List, [], ◌∷◌, ◌++◌, ◌⊎◌, length, codes, decimal, Option, Some, None, Result, Err, IsSome, if◌then◌else◌}
 use Rattle.std.specs.Io.KnownBytes.{Consumes, IsAtEnd, Appends}
 use Rattle.oa_text.specs.Causes.{Rose}
 use Rattle.oa_text.specs.Written.{AppendsFront}
+use Rattle.norm_lang.specs.Spelling.{spelling_of}
+use Rattle.norm_parser.specs.DraftShown.{fault_shown}
+use Rattle.line_words.specs.declared.fault.ParseFault.{ParseFault}
+use Rattle.documents.specs.declared.document.Document.{Document}
+use Rattle.documents.specs.DocumentRead.{document_read, IsDocument}
+use Rattle.script_driver.specs.declared.plan.Plan.{Plan}
+use Rattle.script_driver.specs.declared.caller.CoreState.{CoreState}
 use Rattle.script_driver.specs.FirstForm.{first_form}
 use Rattle.script_driver.specs.Run.{final_state}
 use Rattle.script_driver.specs.SourceRun.{RunsOnSource}
 use Rattle.script_driver.specs.Answers.{answers, is_partial}
-use Rattle.oa_cli.specs.Commands.{is_run}
+use Rattle.oa_cli.specs.Commands.{command_of}
+use Rattle.oa_cli.specs.declared.command.Command.{Command}
+use Rattle.oa_cli.specs.declared.command.Command.TheVariants as commands
 use Rattle.oa_cli.specs.declared.verdict.Verdict.{Verdict}
 use Rattle.oa_cli.specs.declared.verdict.Verdict.TheVariants as verdicts
 use Rattle.oa_cli.specs.declared.status.Status.{Status}
@@ -28,41 +37,67 @@ pub record Untouched (old new : Option (List ℕ)) (before now : ℕ) : Type 0 w
   pub left : new ≡ old
   pub faults : now ≡ before
 
--- the verdict on the bytes of a document's length: what is answered is the final state of the document's run, and that
--- is one run of its text on the source machine
-abbrev pub IsOfBytes : List ℕ → Verdict → Type 0
-IsOfBytes bytes (verdicts.Answered document state) = (first_form bytes ≡ Some document) × (state ≡ final_state document) × RunsOnSource document state
-IsOfBytes bytes verdicts.OtherForm = first_form bytes ≡ None
-IsOfBytes bytes verdicts.Memory = Unit {0}
-IsOfBytes bytes _ = ⊥
+-- the plan of bytes of the first form was run to this state, and the run is one of its text on the source machine
+abbrev pub IsAnswered : List ℕ → Plan → CoreState → Type 0
+IsAnswered bytes plan state = (first_form bytes ≡ Some plan) × (state ≡ final_state plan) × RunsOnSource plan state
 
--- the verdict on the words and on the bytes that the source had
+-- the bytes are a document, and this is the spelling of its text
+abbrev pub IsShown : List ℕ → List ℕ → Type 0
+IsShown bytes spelling = (document : Document) × IsDocument bytes document × (spelling ≡ spelling_of document.text)
+
+-- the bytes are a document that isn't of the first form
+abbrev pub IsOtherForm : List ℕ → Type 0
+IsOtherForm bytes = (document : Document) × IsDocument bytes document × (first_form bytes ≡ None)
+
+-- the verdict of a command on the bytes of a document's length
+abbrev pub IsOfBytes : Command → List ℕ → Verdict → Type 0
+IsOfBytes command bytes (verdicts.Answered plan state) = (command ≡ commands.Run) × IsAnswered bytes plan state
+IsOfBytes command bytes (verdicts.Shown spelling) = (command ≡ commands.Show) × IsShown bytes spelling
+IsOfBytes command bytes (verdicts.BadDocument fault) = document_read bytes ≡ Err (fault_shown fault)
+IsOfBytes command bytes verdicts.OtherForm = (command ≡ commands.Run) × IsOtherForm bytes
+IsOfBytes command bytes verdicts.Memory = Unit {0}
+IsOfBytes command bytes _ = ⊥
+
+-- the verdict of a command on all bytes that the source had
+abbrev pub IsOfInput : List (List ℕ) → Option (List ℕ) → Option (List ℕ) → Verdict → Type 0
+IsOfInput words old new verdict =
+    (command : Command) × (command_of words ≡ Some command) × (bytes : List ℕ) × ReadsAll old new bytes × IsOfBytes command bytes verdict
+
+-- the verdict on the words, on the source's faults, and on its bytes
 abbrev pub IsJudged : List (List ℕ) → Option (List ℕ) → Option (List ℕ) → ℕ → ℕ → Verdict → Type 0
-IsJudged words old new before now (verdicts.Answered document state) =
-    (is_run words ≡ true) × (bytes : List ℕ) × ReadsAll old new bytes × IsOfBytes bytes (verdicts.Answered document state)
-IsJudged words old new before now verdicts.OtherForm =
-    (is_run words ≡ true) × (bytes : List ℕ) × ReadsAll old new bytes × IsOfBytes bytes verdicts.OtherForm
+IsJudged words old new before now (verdicts.Answered plan state) = IsOfInput words old new (verdicts.Answered plan state)
+IsJudged words old new before now (verdicts.Shown spelling) = IsOfInput words old new (verdicts.Shown spelling)
+IsJudged words old new before now verdicts.Usage = (command_of words ≡ None) × Untouched old new before now
+IsJudged words old new before now verdicts.ReadFault = IsSome (command_of words) × Rose before now
 IsJudged words old new before now verdicts.LongInput =
-    (is_run words ≡ true) × (bytes : List ℕ) × Consumes old new bytes × (length bytes ≡ LIMIT)
-IsJudged words old new before now verdicts.OtherWords = (is_run words ≡ false) × Untouched old new before now
-IsJudged words old new before now verdicts.ReadFault = (is_run words ≡ true) × Rose before now
-IsJudged words old new before now verdicts.Memory = is_run words ≡ true
+    IsSome (command_of words) × (bytes : List ℕ) × Consumes old new bytes × (length bytes ≡ LIMIT)
+IsJudged words old new before now (verdicts.BadDocument fault) = IsOfInput words old new (verdicts.BadDocument fault)
+IsJudged words old new before now verdicts.OtherForm = IsOfInput words old new verdicts.OtherForm
+IsJudged words old new before now verdicts.Memory = IsSome (command_of words)
+
+-- the line that tells a fault
+abbrev pub fault_line : ParseFault → List ℕ
+fault_line fault = codes "line " ++ decimal fault.line ++ codes " fault " ++ decimal fault.number ++ 10 ∷ []
 
 -- the text of a verdict, each line with its newline
 abbrev pub text_for : Verdict → List ℕ
-text_for (verdicts.Answered document state) = answers document state
-text_for verdicts.OtherWords = codes "unbuilt\n"
-text_for verdicts.LongInput = codes "unbuilt\n"
-text_for verdicts.OtherForm = codes "unbuilt\n"
+text_for (verdicts.Answered plan state) = answers plan state
+text_for (verdicts.Shown spelling) = spelling
+text_for verdicts.Usage = codes "usage\n"
 text_for verdicts.ReadFault = codes "read fault\n"
+text_for verdicts.LongInput = codes "long input\n"
+text_for (verdicts.BadDocument fault) = fault_line fault
+text_for verdicts.OtherForm = codes "unbuilt\n"
 text_for verdicts.Memory = codes "memory\n"
 
 abbrev pub status_for : Verdict → Status
-status_for (verdicts.Answered document state) = if is_partial document state then statuses.Partial else statuses.Done
-status_for verdicts.OtherWords = statuses.Unbuilt
-status_for verdicts.LongInput = statuses.Unbuilt
-status_for verdicts.OtherForm = statuses.Unbuilt
+status_for (verdicts.Answered plan state) = if is_partial plan state then statuses.Partial else statuses.Done
+status_for (verdicts.Shown spelling) = statuses.Done
+status_for verdicts.Usage = statuses.Usage
 status_for verdicts.ReadFault = statuses.ReadFault
+status_for verdicts.LongInput = statuses.LongInput
+status_for (verdicts.BadDocument fault) = statuses.BadDocument fault.line fault.number
+status_for verdicts.OtherForm = statuses.Unbuilt
 status_for verdicts.Memory = statuses.Memory
 
 -- the whole text was written, or the sink failed behind a front of it

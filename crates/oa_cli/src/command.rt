@@ -2,14 +2,37 @@
 
 ghost use Rattle.std.specs.Prelude.{◌≡◌, map};
 ghost use Rattle.std.specs.String.{string_bytes};
-ghost use Rattle.oa_cli.specs.Commands.{is_run};
+ghost use Rattle.oa_cli.specs.Commands.{command_named, command_of};
 
-/// Whether the words are the one word `run`.
-pub fn asks_run(words: &[String]) -> bool
-    ensures { result ≡ is_run (map string_bytes words.now) }
+/// What the words ask for.
+#[derive(Clone, Copy, Debug, PartialEq, Eq)]
+pub enum Command {
+    /// The document's calls are run, and their answers written.
+    Run,
+    /// The document's text is written in its canonical spelling.
+    Show,
+}
+
+fn command_named(word: &str) -> Option<Command>
+    ensures { result ≡ command_named word.now }
 {
-    match words.split_first() {
-        None => false,
-        Some((word, others)) => others.is_empty() && word.as_str() == "run",
+    if word == "run" {
+        Some(Command::Run)
+    } else if word == "show" {
+        Some(Command::Show)
+    } else {
+        None
+    }
+}
+
+/// The command that the words are, if they are one.
+pub fn command_of(words: &[String]) -> Option<Command>
+    ensures { result ≡ command_of (map string_bytes words.now) }
+{
+    let (word, others) = words.split_first()?;
+    if others.is_empty() {
+        command_named(word.as_str())
+    } else {
+        None
     }
 }

@@ -6,17 +6,23 @@ ghost use Rattle.oa_cli.specs.Statuses.{number_of};
 /// What became of a command.
 #[derive(Clone, Copy, Debug, PartialEq, Eq)]
 pub enum Status {
-    /// Every call has a reply.
+    /// Every call has a reply, or the text was shown.
     Done,
     /// A printed answer is `spent` or `unreached`.
     Partial,
+    /// The words are no command.
+    Usage,
     /// The source failed.
     ReadFault,
+    /// The input is longer than a document may be.
+    LongInput,
+    /// The bytes are no document: the first line that has a fault, from 1, and the fault's number.
+    BadDocument { line: u32, fault: u8 },
     /// The sink failed.
     WriteFault,
     /// Want of memory, before the first step of a call.
     Memory,
-    /// No such command yet, or a document that cannot be run yet.
+    /// A document that can't be run yet.
     Unbuilt,
 }
 
@@ -27,7 +33,10 @@ pub fn status_number(status: Status) -> u8
     match status {
         Status::Done => 0,
         Status::Partial => 1,
+        Status::Usage => 2,
         Status::ReadFault => 3,
+        Status::LongInput => 4,
+        Status::BadDocument { .. } => 5,
         Status::WriteFault => 8,
         Status::Memory => 9,
         Status::Unbuilt => 10,

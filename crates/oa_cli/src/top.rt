@@ -4,45 +4,76 @@ ghost use Rattle.std.specs.Prelude.{◌≡◌, ◌<◌, ◌≤◌, length, map};
 ghost use Rattle.std.specs.String.{string_bytes};
 ghost use Rattle.oa_text.specs.Written.{Writes};
 ghost use Rattle.oa_text.specs.Causes.{HasCause};
+ghost use Rattle.documents.specs.DocumentRead.{IsDocument};
 ghost use Rattle.oa_cli.specs.declared.verdict.Verdict.{Verdict};
-ghost use Rattle.oa_cli.specs.Verdicts.{IsOfBytes, IsJudged, IsSaid, text_for, status_for};
+ghost use Rattle.oa_cli.specs.Verdicts.{IsOfBytes, IsJudged, IsSaid, fault_line, text_for, status_for};
 
-use crate::command::asks_run;
+use crate::command::{Command, command_of};
 use crate::input::{InputError, read_input};
 use crate::status::Status;
 use crate::verdict::Verdict;
-use oa_text::{Failed, Gate, Piece, Sink, Source, write_pieces};
+use line_words::fault::{ParseError, ParseFault};
+use norm_lang::show;
+use oa_text::{Failed, Gate, Piece, Sink, Source, write_all, write_pieces};
 use script_driver::answers::{partial, write_answers};
-use script_driver::read_first_form;
 use script_driver::run::run_script;
+use script_driver::{Document, first_plan, read_document};
 use std::alloc::Global;
 use std::thread::Threads;
 
 /// One more byte than a document may have.
 const LIMIT: usize = 1_048_577;
 
-/// Reads the bytes as a document, and runs it.
-fn judge_bytes(alloc: Global, bytes: &[u8]) -> Verdict
-    requires { length bytes.now < LIMIT }
-    ensures { IsOfBytes bytes.now result }
+/// Does what a command asks for with a document that was read of the bytes.
+fn judge_document(alloc: Global, command: Command, bytes: &[u8], document: Document) -> Verdict
+    requires short { length bytes.now < LIMIT }
+    requires read { IsDocument bytes.now document }
+    ensures { IsOfBytes command bytes.now result }
 {
-    match read_first_form(alloc, bytes) {
-        Err(_) => Verdict::Memory,
-        Ok(None) => Verdict::OtherForm,
-        Ok(Some(document)) => match run_script(alloc, &document) {
+    match command {
+        Command::Run => run_document(alloc, bytes, document),
+        Command::Show => match show(alloc, &document.text) {
+            Ok(spelling) => Verdict::Shown(spelling),
             Err(_) => Verdict::Memory,
-            Ok(state) => Verdict::Answered(document, state),
         },
     }
 }
 
-/// Reads the source, and judges its bytes. Words that ask for nothing that is built leave it unread.
+/// Runs the calls of a document that was read of the bytes, if it is of the first form.
+fn run_document(alloc: Global, bytes: &[u8], document: Document) -> Verdict
+    requires short { length bytes.now < LIMIT }
+    requires read { IsDocument bytes.now document }
+    ensures { IsOfBytes Command.Run bytes.now result }
+{
+    match first_plan(alloc, bytes, document) {
+        Err(_) => Verdict::Memory,
+        Ok(None) => Verdict::OtherForm,
+        Ok(Some(plan)) => match run_script(alloc, &plan) {
+            Err(_) => Verdict::Memory,
+            Ok(state) => Verdict::Answered(plan, state),
+        },
+    }
+}
+
+/// Reads the bytes as a document, and does what the command asks for.
+fn judge_bytes(alloc: Global, command: Command, bytes: &[u8]) -> Verdict
+    requires { length bytes.now < LIMIT }
+    ensures { IsOfBytes command bytes.now result }
+{
+    match read_document(alloc, bytes) {
+        Ok(document) => judge_document(alloc, command, bytes, document),
+        Err(ParseError::Fault(fault)) => Verdict::BadDocument(fault),
+        Err(ParseError::Memory) => Verdict::Memory,
+    }
+}
+
+/// Reads the source, and judges its bytes. Words that are no command leave it unread.
 fn judge<S: Source>(alloc: Global, words: &[String], input: &mut S) -> Verdict
     ensures { IsJudged (map string_bytes words.now) (S.left input.old) (S.left input.new) (S.faults input.old) (S.faults input.new) result }
 {
-    if !asks_run(words) {
-        return Verdict::OtherWords;
-    }
+    let Some(command) = command_of(words) else {
+        return Verdict::Usage;
+    };
     match read_input(alloc, input, LIMIT) {
         Err(InputError::Memory) => Verdict::Memory,
         Err(InputError::Fault) => Verdict::ReadFault,
@@ -50,9 +81,26 @@ fn judge<S: Source>(alloc: Global, words: &[String], input: &mut S) -> Verdict
             if bytes.len() == LIMIT {
                 return Verdict::LongInput;
             }
-            judge_bytes(alloc, &bytes)
+            judge_bytes(alloc, command, &bytes)
         }
     }
+}
+
+/// Writes the line that tells a fault.
+fn write_fault<K: Sink>(out: &mut K, fault: ParseFault) -> Result<(), Failed>
+    ensures bytes { Writes (K.written out.old) (K.written out.new) (fault_line fault) result }
+    ensures cause { HasCause (K.faults out.old) (K.faults out.new) result }
+{
+    write_pieces(
+        out,
+        &[
+            Piece::Bytes(b"line "),
+            Piece::Number(fault.line as u64),
+            Piece::Bytes(b" fault "),
+            Piece::Number(fault.number as u64),
+            Piece::Bytes(b"\n"),
+        ],
+    )
 }
 
 /// Writes the text of a verdict.
@@ -61,11 +109,13 @@ fn write_verdict<K: Sink>(out: &mut K, verdict: &Verdict) -> Result<(), Failed>
     ensures cause { HasCause (K.faults out.old) (K.faults out.new) result }
 {
     match verdict {
-        Verdict::Answered(document, state) => write_answers(out, document, state),
-        Verdict::OtherWords | Verdict::LongInput | Verdict::OtherForm => {
-            write_pieces(out, &[Piece::Bytes(b"unbuilt\n")])
-        }
+        Verdict::Answered(plan, state) => write_answers(out, plan, state),
+        Verdict::Shown(spelling) => write_all(out, spelling.items()),
+        Verdict::Usage => write_pieces(out, &[Piece::Bytes(b"usage\n")]),
         Verdict::ReadFault => write_pieces(out, &[Piece::Bytes(b"read fault\n")]),
+        Verdict::LongInput => write_pieces(out, &[Piece::Bytes(b"long input\n")]),
+        Verdict::BadDocument(fault) => write_fault(out, *fault),
+        Verdict::OtherForm => write_pieces(out, &[Piece::Bytes(b"unbuilt\n")]),
         Verdict::Memory => write_pieces(out, &[Piece::Bytes(b"memory\n")]),
     }
 }
@@ -74,15 +124,22 @@ fn status_of(verdict: &Verdict) -> Status
     ensures { result ≡ status_for verdict.now }
 {
     match verdict {
-        Verdict::Answered(document, state) => {
-            if partial(document, state) {
+        Verdict::Answered(plan, state) => {
+            if partial(plan, state) {
                 Status::Partial
             } else {
                 Status::Done
             }
         }
-        Verdict::OtherWords | Verdict::LongInput | Verdict::OtherForm => Status::Unbuilt,
+        Verdict::Shown(_) => Status::Done,
+        Verdict::Usage => Status::Usage,
         Verdict::ReadFault => Status::ReadFault,
+        Verdict::LongInput => Status::LongInput,
+        Verdict::BadDocument(fault) => Status::BadDocument {
+            line: fault.line,
+            fault: fault.number,
+        },
+        Verdict::OtherForm => Status::Unbuilt,
         Verdict::Memory => Status::Memory,
     }
 }
@@ -97,9 +154,9 @@ fn say<K: Sink>(out: &mut K, verdict: &Verdict) -> Status
     status_of(verdict)
 }
 
-/// Does all that the program does: reads the words and the source, runs the document's calls, and writes
-/// their answers or why there are none. The clause has three parts: what was read and judged, what was said,
-/// and the status. The gate is for callers on threads, which come later.
+/// Does all that the program does: reads the words and the source, and writes the answers to the document's calls, or its
+/// text, or why there are none. The clause has three parts: what was read and judged, what was said, and the status. The
+/// gate is for callers on threads, which come later.
 pub fn oa_main<R: Threads + Sync, S: Source, K: Sink, G: Gate + Sync>(
     rt: &R,
     alloc: Global,

@@ -1,19 +1,25 @@
 //! What becomes of a command and its input.
 
+use line_words::fault::ParseFault;
+use norm_lang::text::ByteText;
 use script_driver::caller::CoreState;
-use script_driver::document::Document;
+use script_driver::plan::Plan;
 
 /// What was read and judged.
 #[derive(Debug, Drop)]
 pub enum Verdict {
-    /// The document was run to this state.
-    Answered(Document, CoreState),
-    /// The words are no command that is built.
-    OtherWords,
+    /// The plan of the document was run to this state.
+    Answered(Plan, CoreState),
+    /// The canonical spelling of the document's text.
+    Shown(ByteText),
+    /// The words are no command.
+    Usage,
+    ReadFault,
     /// The input is longer than a document may be.
     LongInput,
-    /// The bytes are no document that can be run yet.
+    /// The bytes are no document.
+    BadDocument(ParseFault),
+    /// The document can't be run yet.
     OtherForm,
-    ReadFault,
     Memory,
 }

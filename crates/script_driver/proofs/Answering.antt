@@ -5,7 +5,7 @@ use Rattle.std.specs.Io.KnownBytes.{Appends}
 use Rattle.oa_text.specs.Written.{Writes}
 use Rattle.oa_text.proofs.Writing.{writes_more, writes_stopped}
 use Rattle.norm_lang.specs.declared.text.Text.{Text}
-use Rattle.script_driver.specs.declared.document.Call.{Call}
+use Rattle.script_driver.specs.declared.plan.Call.{Call}
 use Rattle.script_driver.specs.declared.caller.Replied.{Replied}
 use Rattle.script_driver.specs.declared.answers.Answer.{Answer}
 use Rattle.script_driver.specs.Answers.{answer_at, answers_from, call_line, call_lines}

@@ -10,7 +10,7 @@ use Rattle.norm_lang.specs.declared.registers.Registers.{Registers}
 use Rattle.norm_lang.specs.Registers.{first_registers, with_count, number_in}
 use Rattle.norm_lang.specs.Local.{Spot, local_run}
 use Rattle.source_machine.specs.declared.event.SourceEvent.{SourceEvent}
-use Rattle.script_driver.specs.declared.document.Call.{Call}
+use Rattle.script_driver.specs.declared.plan.Call.{Call}
 use Rattle.script_driver.specs.declared.caller.Access.{Access as WordAccess}
 use Rattle.script_driver.specs.declared.caller.Reply.{Reply}
 use Rattle.script_driver.specs.declared.caller.Reply.TheVariants as replies

@@ -1,4 +1,4 @@
--- Calls of a document, by facts and by the test of the source machine.
+-- Calls of a plan, by facts and by the test of the source machine.
 use Rattle.std.proofs.Common.{◌≡◌, ℕ, zero, suc, ◌≤◌, true, List, [], ◌∷◌, drop, Option, Some, None, refl, arith}
 use Rattle.std.specs.Prelude.{slice_index, slice_get, ◌==◌}
 use Rattle.std.specs.List.{All, list_all}
@@ -6,8 +6,8 @@ use Rattle.std.proofs.lemmas.List.Elements.{All-head, All-tail}
 use Rattle.norm_lang.specs.declared.text.Op.{Op}
 use Rattle.norm_lang.specs.declared.text.Text.{Text}
 use Rattle.source_machine.specs.Run.{is_call_of}
-use Rattle.script_driver.specs.declared.document.Call.{Call}
-use Rattle.script_driver.specs.declared.document.Document.{Document}
+use Rattle.script_driver.specs.declared.plan.Call.{Call}
+use Rattle.script_driver.specs.declared.plan.Plan.{Plan}
 use Rattle.script_driver.specs.declared.caller.CoreState.{CoreState}
 use Rattle.script_driver.specs.FirstText.{is_first_text}
 use Rattle.script_driver.specs.FirstCalls.{IsCallBy, IsCallOf}
@@ -32,7 +32,7 @@ are_tested text [] are = refl
 are_tested text (call ∷ calls) are =
     rw (tested (slice_get text.ops call.op) call (All-head (IsCallOf text) call calls are)) (are_tested text calls (All-tail (IsCallOf text) call calls are))
 
--- what runs a document whose calls are those of its operations
-pub document_on_source : (document : Document) (state : CoreState) → is_first_text document.text ≡ true → All (IsCallOf document.text) document.script
-    → state ≡ final_state document → RunsOnSource document state
-document_on_source document state first calls same = runs_on_source document state first (are_tested document.text document.script calls) same
+-- what runs a plan whose calls are those of its operations
+pub plan_on_source : (plan : Plan) (state : CoreState) → is_first_text plan.text ≡ true → All (IsCallOf plan.text) plan.calls
+    → state ≡ final_state plan → RunsOnSource plan state
+plan_on_source plan state first calls same = runs_on_source plan state first (are_tested plan.text plan.calls calls) same

@@ -10,6 +10,7 @@ mod Events
 mod FirstCalls
 mod FirstTexts
 mod Forward
+mod PlanLoops
 mod Shadow
 mod SourceSteps
 mod WorkedForms

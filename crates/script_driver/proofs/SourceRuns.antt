@@ -1,4 +1,4 @@
--- The run of a document is a run of its text on the source machine.
+-- The run of a plan is a run of its text on the source machine.
 use Rattle.std.proofs.Common.{◌≡◌, ℕ, zero, suc, ◌+◌, Bool, true, false, cond, inl, inr, List, [], ◌∷◌, ◌++◌, length, take, Option, Some, None, refl, sym, ◌∙◌, ap, subst, arith, lit≤}
 use Rattle.std.specs.Prelude.{slice_get, filter, map, IsTrue}
 use Rattle.std.specs.List.{list_all}
@@ -19,8 +19,8 @@ use Rattle.source_machine.specs.declared.event.SourceReply.TheVariants as answer
 use Rattle.source_machine.specs.State.{Number, InWrapUp, SourceMachine, first_value, root_value, source_start}
 use Rattle.source_machine.specs.Step.{wrap_up_end}
 use Rattle.source_machine.specs.Run.{is_enabled, is_call, is_call_of, source_run}
-use Rattle.script_driver.specs.declared.document.Call.{Call}
-use Rattle.script_driver.specs.declared.document.Document.{Document}
+use Rattle.script_driver.specs.declared.plan.Call.{Call}
+use Rattle.script_driver.specs.declared.plan.Plan.{Plan}
 use Rattle.script_driver.specs.declared.caller.Routine.{Routine}
 use Rattle.script_driver.specs.declared.caller.Routine.TheVariants as routines
 use Rattle.script_driver.specs.declared.caller.Entry.{Entry}
@@ -266,22 +266,22 @@ roots_start (root ∷ roots) all =
     let each = both (is_number_root root) (list_all is_number_root roots) all in
     rw (root_starts root each.0, roots_start roots each.1) refl
 
-starts_idle : (document : Document) → IsTrue (is_first_text document.text) → source_start document.text 1 ≡ idle_source document.text (start_state document)
-starts_idle document first =
-    let text = document.text in
+starts_idle : (plan : Plan) → IsTrue (is_first_text plan.text) → source_start plan.text 1 ≡ idle_source plan.text (start_state plan)
+starts_idle plan first =
+    let text = plan.text in
     let rest = both (list_all is_number_field text.fields) _ first in
     let roots = both (list_all is_number_root text.roots) _ rest.1 in
     rw (roots_start text.roots roots.0) refl
 
 pub image_runs : ImageRuns
-image_runs document first fit =
-    let text = document.text in
-    let rest = script_rest text document.fuel document.script (start_state document) refl fit in
-    let start = starts_idle document first in
-    let events : image document ≡ script_image text document.fuel document.script (start_state document) (idle_source text (start_state document)) =
-    ap (script_image text document.fuel document.script (start_state document)) start in
-    let counted : calls_begun (final_state document) ≡ 0 + rest.count = rest.counted in
-    let count : calls_begun (final_state document) ≡ rest.count = omega arith in (
+image_runs plan first fit =
+    let text = plan.text in
+    let rest = script_rest text plan.fuel plan.calls (start_state plan) refl fit in
+    let start = starts_idle plan first in
+    let events : image plan ≡ script_image text plan.fuel plan.calls (start_state plan) (idle_source text (start_state plan)) =
+    ap (script_image text plan.fuel plan.calls (start_state plan)) start in
+    let counted : calls_begun (final_state plan) ≡ 0 + rest.count = rest.counted in
+    let count : calls_begun (final_state plan) ≡ rest.count = omega arith in (
       rest.source,
       record {
         runs = record { some = lit≤ tt; few = lit≤ tt; runs = rw start rest.run };
@@ -291,9 +291,9 @@ image_runs document first fit =
     )
 
 pub runs_are_source_runs : RunsAreSourceRuns
-runs_are_source_runs document first fit = let run = image_runs document first fit in (image document, run.0, run.1)
+runs_are_source_runs plan first fit = let run = image_runs plan first fit in (image plan, run.0, run.1)
 
--- the same of a state that is known to be the final one, for the contract of what runs a document
-pub runs_on_source : (document : Document) (state : CoreState) → IsTrue (is_first_text document.text) → IsTrue (are_calls document.text document.script)
-    → state ≡ final_state document → RunsOnSource document state
-runs_on_source document state first fit same = rw same (runs_are_source_runs document first fit)
+-- the same of a state that is known to be the final one, for the contract of what runs a plan
+pub runs_on_source : (plan : Plan) (state : CoreState) → IsTrue (is_first_text plan.text) → IsTrue (are_calls plan.text plan.calls)
+    → state ≡ final_state plan → RunsOnSource plan state
+runs_on_source plan state first fit same = rw same (runs_are_source_runs plan first fit)

@@ -1,9 +1,9 @@
--- The loops over a call's steps, and over a script's calls.
+-- The loops over a call's steps, and over a plan's calls.
 use Rattle.std.proofs.Common.{◌≡◌, ℕ, zero, suc, ◌+◌, ◌-◌, ◌<◌, ◌≤◌, Bool, true, false, List, length, drop, Option, Some, None, refl, sym, ap, ◌∙◌, arith, cond, get_or, drop-cons, add-one}
 use Rattle.std.specs.Prelude.{is_some}
 use Rattle.std.proofs.lemmas.List.{drop_all}
 use Rattle.norm_lang.specs.declared.text.Text.{Text}
-use Rattle.script_driver.specs.declared.document.Call.{Call}
+use Rattle.script_driver.specs.declared.plan.Call.{Call}
 use Rattle.script_driver.specs.declared.caller.Access.{Access}
 use Rattle.script_driver.specs.declared.caller.CoreState.{CoreState}
 use Rattle.script_driver.specs.Caller.{wants}

@@ -10,8 +10,8 @@ use Rattle.norm_lang.specs.declared.text.CasEntry.{CasEntry}
 use Rattle.norm_lang.specs.declared.text.Instr.{Instr}
 use Rattle.norm_lang.specs.declared.text.Instr.TheVariants as instr
 use Rattle.norm_lang.specs.declared.text.Text.{Text}
-use Rattle.script_driver.specs.declared.document.Call.{Call}
-use Rattle.script_driver.specs.declared.document.Document.{Document}
+use Rattle.script_driver.specs.declared.plan.Call.{Call}
+use Rattle.script_driver.specs.declared.plan.Plan.{Plan}
 use Rattle.script_driver.specs.declared.caller.Reply.TheVariants as replies
 use Rattle.script_driver.specs.Run.{final_state}
 use Rattle.script_driver.specs.Answers.{answers, is_partial}
@@ -39,8 +39,8 @@ counter = record {
 abbrev pub call : ℕ → ℕ → Call
 call op argument = record { op = op; args = argument ∷ 0 ∷ 0 ∷ 0 ∷ [] }
 
-abbrev pub counts : ℕ → Document
-counts fuel = record { text = counter; fuel = fuel; script = call 0 5 ∷ call 0 7 ∷ call 1 0 ∷ [] }
+abbrev pub counts : ℕ → Plan
+counts fuel = record { text = counter; fuel = fuel; calls = call 0 5 ∷ call 0 7 ∷ call 1 0 ∷ [] }
 
 -- each addition takes five steps: the warning, the load, its check, the exchange, and the wrap-up's warning
 pub all_replied : (final_state (counts 10)).caller.replies.items

@@ -7,7 +7,7 @@ use Rattle.norm_lang.specs.declared.text.Start.TheVariants as starts
 use Rattle.norm_lang.specs.declared.text.Place.TheVariants as places
 use Rattle.norm_lang.specs.declared.text.Instr.TheVariants as instr
 use Rattle.norm_lang.specs.declared.text.Op.{Op}
-use Rattle.script_driver.specs.declared.document.Document.{Document}
+use Rattle.script_driver.specs.declared.plan.Plan.{Plan}
 use Rattle.script_driver.specs.FirstForm.{first_form}
 
 -- lines, each with its newline
@@ -57,7 +57,7 @@ add_op = record {
 abbrev nop_op : Op
 nop_op = record { name = codes "nop"; args = 0; generator = instr.Commit [] ∷ []; wrapup = instr.ReturnNone ∷ [] }
 
-abbrev counter : Document
+abbrev counter : Plan
 counter = record {
   text = record {
     fields = record { name = codes "pad"; kind = kinds.Number } ∷ [];
@@ -66,7 +66,7 @@ counter = record {
     ops = add_op ∷ nop_op ∷ [];
   };
   fuel = 1000000;
-  script = record { op = 0; args = 5 ∷ 0 ∷ 0 ∷ 0 ∷ [] } ∷ record { op = 0; args = 7 ∷ 0 ∷ 0 ∷ 0 ∷ [] } ∷ record { op = 1; args = 0 ∷ 0 ∷ 0 ∷ 0 ∷ [] } ∷ [];
+  calls = record { op = 0; args = 5 ∷ 0 ∷ 0 ∷ 0 ∷ [] } ∷ record { op = 0; args = 7 ∷ 0 ∷ 0 ∷ 0 ∷ [] } ∷ record { op = 1; args = 0 ∷ 0 ∷ 0 ∷ 0 ∷ [] } ∷ [];
 }
 
 counter_row : first_form (text counter_lines) ≡ Some counter
@@ -150,6 +150,24 @@ same_op_row = refl
 setting_row : first_form (also_line 20 (codes "slots 64")) ≡ None
 setting_row = refl
 
+phases_row : first_form (also_line 20 (codes "phases 1 1000000000")) ≡ None
+phases_row = refl
+
+fuel_row : first_form (also_line 20 (codes "fuel 1000000")) ≡ None
+fuel_row = refl
+
+second_row : first_form (text (counter_lines ++ codes "script 1" ∷ [])) ≡ None
+second_row = refl
+
+unscripted_row : first_form (text (take 20 counter_lines)) ≡ None
+unscripted_row = refl
+
+list_row : first_form (text (codes "oa 1" ∷ codes "use list" ∷ codes "script 0" ∷ codes "insert 5" ∷ [])) ≡ None
+list_row = refl
+
+called_row : first_form (with_line 23 (codes "fly")) ≡ None
+called_row = refl
+
 fewer_row : first_form (with_line 22 (codes "add")) ≡ None
 fewer_row = refl
 
@@ -162,6 +180,13 @@ schedule_row = refl
 -- an operation may be named like the first word of another line
 word_row : first_form (text (take 15 counter_lines ++ codes "op op 0" ∷ take 4 (drop 16 counter_lines) ++ codes "script 0" ∷ codes "op" ∷ [])) ≡ Some (record counter {
   text = record counter.text { ops = add_op ∷ record nop_op { name = codes "op" } ∷ [] };
-  script = record { op = 1; args = 0 ∷ 0 ∷ 0 ∷ 0 ∷ [] } ∷ [];
+  calls = record { op = 1; args = 0 ∷ 0 ∷ 0 ∷ 0 ∷ [] } ∷ [];
 })
 word_row = refl
+
+-- so it may be named like a setting: behind the script's line nothing is set
+setting_word_row : first_form (text (take 15 counter_lines ++ codes "op fuel 0" ∷ take 4 (drop 16 counter_lines) ++ codes "script 0" ∷ codes "fuel" ∷ [])) ≡ Some (record counter {
+  text = record counter.text { ops = add_op ∷ record nop_op { name = codes "fuel" } ∷ [] };
+  calls = record { op = 1; args = 0 ∷ 0 ∷ 0 ∷ 0 ∷ [] } ∷ [];
+})
+setting_word_row = refl

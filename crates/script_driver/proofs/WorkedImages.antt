@@ -14,8 +14,8 @@ use Rattle.source_machine.specs.declared.event.SourceReply.{SourceReply}
 use Rattle.source_machine.specs.declared.event.SourceReply.TheVariants as answers
 use Rattle.source_machine.specs.State.{SourceMachine, source_start}
 use Rattle.source_machine.specs.Run.{source_run, source_replies}
-use Rattle.script_driver.specs.declared.document.Call.{Call}
-use Rattle.script_driver.specs.declared.document.Document.{Document}
+use Rattle.script_driver.specs.declared.plan.Call.{Call}
+use Rattle.script_driver.specs.declared.plan.Plan.{Plan}
 use Rattle.script_driver.specs.Run.{final_state}
 use Rattle.script_driver.specs.Image.{image}
 use Rattle.script_driver.specs.SourceRun.{replies_in, calls_begun}
@@ -50,9 +50,9 @@ text = record {
 call : ℕ → ℕ → Call
 call op argument = record { op = op; args = argument ∷ 0 ∷ 0 ∷ 0 ∷ [] }
 
-document : ℕ → List Call → Document
+plan : ℕ → List Call → Plan
 unfolding text
-document fuel script = record { text = text; fuel = fuel; script = script }
+plan fuel script = record { text = text; fuel = fuel; calls = script }
 
 three_calls : List Call
 unfolding call
@@ -65,49 +65,49 @@ access : SourceEvent
 access = Access 0 0
 
 -- the replies that the source machine has behind an image
-source_has : Document → Option (List SourceReply)
+source_has : Plan → Option (List SourceReply)
 source_has d = option_map (λ (state : SourceMachine). source_replies state 0) (source_run d.text (image d) (source_start d.text 1))
 
 -- a check that passes and the load of `seen` behind the reply give no event
-calls_image : image (document 100 three_calls) ≡ begins 0 5 ∷ access ∷ access ∷ begins 1 0 ∷ access ∷ begins 0 7 ∷ access ∷ access ∷ []
-unfolding document text adding three_calls call begins access
+calls_image : image (plan 100 three_calls) ≡ begins 0 5 ∷ access ∷ access ∷ begins 1 0 ∷ access ∷ begins 0 7 ∷ access ∷ access ∷ []
+unfolding plan text adding three_calls call begins access
 calls_image = refl
 
-calls_replies : replies_in (final_state (document 100 three_calls)) ≡ answers.Number 5 ∷ answers.Nothing ∷ answers.Number 12 ∷ []
-unfolding document text adding three_calls call
+calls_replies : replies_in (final_state (plan 100 three_calls)) ≡ answers.Number 5 ∷ answers.Nothing ∷ answers.Number 12 ∷ []
+unfolding plan text adding three_calls call
 calls_replies = refl
 
-calls_source : source_has (document 100 three_calls) ≡ Some (answers.Number 5 ∷ answers.Nothing ∷ answers.Number 12 ∷ [])
-unfolding document text adding three_calls call source_has
+calls_source : source_has (plan 100 three_calls) ≡ Some (answers.Number 5 ∷ answers.Nothing ∷ answers.Number 12 ∷ [])
+unfolding plan text adding three_calls call source_has
 calls_source = refl
 
 -- four steps: the source machine has the reply, and the caller is at its wrap-up's start still
-spent_replies : replies_in (final_state (document 4 three_calls)) ≡ []
-unfolding document text adding three_calls call
+spent_replies : replies_in (final_state (plan 4 three_calls)) ≡ []
+unfolding plan text adding three_calls call
 spent_replies = refl
 
-spent_source : source_has (document 4 three_calls) ≡ Some (answers.Number 5 ∷ [])
-unfolding document text adding three_calls call source_has
+spent_source : source_has (plan 4 three_calls) ≡ Some (answers.Number 5 ∷ [])
+unfolding plan text adding three_calls call source_has
 spent_source = refl
 
-spent_begun : calls_begun (final_state (document 4 three_calls)) ≡ 1
-unfolding document text adding three_calls call
+spent_begun : calls_begun (final_state (plan 4 three_calls)) ≡ 1
+unfolding plan text adding three_calls call
 spent_begun = refl
 
 -- no step at all: no call has begun
-unbegun : calls_begun (final_state (document 0 three_calls)) ≡ 0
-unfolding document text adding three_calls call
+unbegun : calls_begun (final_state (plan 0 three_calls)) ≡ 0
+unfolding plan text adding three_calls call
 unbegun = refl
 
-unbegun_image : image (document 0 three_calls) ≡ []
-unfolding document text adding three_calls call
+unbegun_image : image (plan 0 three_calls) ≡ []
+unfolding plan text adding three_calls call
 unbegun_image = refl
 
 -- behind `again` both loads of `seen` find a generator that has begun already, and begin it once more
-round_image : image (document 100 (call 2 5 ∷ [])) ≡ begins 2 5 ∷ access ∷ access ∷ Restart 0 ∷ Restart 0 ∷ access ∷ access ∷ []
-unfolding document text adding call begins access
+round_image : image (plan 100 (call 2 5 ∷ [])) ≡ begins 2 5 ∷ access ∷ access ∷ Restart 0 ∷ Restart 0 ∷ access ∷ access ∷ []
+unfolding plan text adding call begins access
 round_image = refl
 
-round_source : source_has (document 100 (call 2 5 ∷ [])) ≡ Some (answers.Number 10 ∷ [])
-unfolding document text adding call source_has
+round_source : source_has (plan 100 (call 2 5 ∷ [])) ≡ Some (answers.Number 10 ∷ [])
+unfolding plan text adding call source_has
 round_source = refl

@@ -1,10 +1,10 @@
--- The answers of a document's run, and their text.
+-- The answers of a plan's run, and their text.
 use Rattle.std.specs.Prelude.{ℕ, ◌+◌, Bool, true, false, ◌&&◌, not, List, [], ◌∷◌, ◌++◌, length, take, Option, Some, None, codes, decimal, ◌==◌, slice_get}
 use Rattle.std.specs.List.{flat_map, list_any, count_by}
 use Rattle.norm_lang.specs.declared.text.Op.{Op}
 use Rattle.norm_lang.specs.declared.text.Text.{Text}
-use Rattle.script_driver.specs.declared.document.Call.{Call}
-use Rattle.script_driver.specs.declared.document.Document.{Document}
+use Rattle.script_driver.specs.declared.plan.Call.{Call}
+use Rattle.script_driver.specs.declared.plan.Plan.{Plan}
 use Rattle.script_driver.specs.declared.caller.Reply.{Reply}
 use Rattle.script_driver.specs.declared.caller.Reply.TheVariants as replies
 use Rattle.script_driver.specs.declared.caller.Replied.{Replied}
@@ -31,9 +31,9 @@ abbrev pub answers_from : Bool → List Replied → ℕ → List Call → List A
 answers_from running replies index [] = []
 answers_from running replies index (call ∷ calls) = answer_at running replies index ∷ answers_from running replies (index + 1) calls
 
--- the answer to each call of a document's script, in order
-abbrev pub answers_of : Document → CoreState → List Answer
-answers_of document state = answers_from (not (is_idle state.caller.routine)) state.caller.replies.items 0 document.script
+-- the answer to each call of a plan, in order
+abbrev pub answers_of : Plan → CoreState → List Answer
+answers_of plan state = answers_from (not (is_idle state.caller.routine)) state.caller.replies.items 0 plan.calls
 
 abbrev pub is_reply : Answer → Bool
 is_reply (shown.Answered reply) = true
@@ -43,8 +43,8 @@ abbrev pub is_short : Answer → Bool
 is_short answer = not (is_reply answer)
 
 -- a printed line says `spent` or `unreached`
-abbrev pub is_partial : Document → CoreState → Bool
-is_partial document state = list_any is_short (answers_of document state)
+abbrev pub is_partial : Plan → CoreState → Bool
+is_partial plan state = list_any is_short (answers_of plan state)
 
 abbrev pub reply_text : Reply → List ℕ
 reply_text (replies.Number n) = decimal n
@@ -83,11 +83,11 @@ abbrev pub summary_line : ℕ → ℕ → ℕ → List ℕ
 summary_line answered short restarts =
     codes "replies " ++ decimal answered ++ codes " short " ++ decimal short ++ codes " phase 1 claims 0 restarts " ++ decimal restarts ++ 10 ∷ []
 
--- the text of the answers to a document's calls
-abbrev pub answers_text : Document → List Answer → ℕ → List ℕ
-answers_text document given restarts =
-    call_lines document.text 0 document.script given ++ summary_line (count_by is_reply given) (count_by is_short given) restarts
+-- the text of the answers to a plan's calls
+abbrev pub answers_text : Plan → List Answer → ℕ → List ℕ
+answers_text plan given restarts =
+    call_lines plan.text 0 plan.calls given ++ summary_line (count_by is_reply given) (count_by is_short given) restarts
 
--- the text of a document's answers in a state
-abbrev pub answers : Document → CoreState → List ℕ
-answers document state = answers_text document (answers_of document state) state.caller.restarts
+-- the text of a plan's answers in a state
+abbrev pub answers : Plan → CoreState → List ℕ
+answers plan state = answers_text plan (answers_of plan state) state.caller.restarts

@@ -12,7 +12,7 @@ use Rattle.norm_lang.specs.declared.text.Text.{Text}
 use Rattle.norm_lang.specs.declared.registers.Registers.{Registers}
 use Rattle.norm_lang.specs.Registers.{first_registers, with_count, number_in, with_number}
 use Rattle.norm_lang.specs.Local.{Spot, local_run}
-use Rattle.script_driver.specs.declared.document.Call.{Call}
+use Rattle.script_driver.specs.declared.plan.Call.{Call}
 use Rattle.script_driver.specs.declared.caller.Word.TheVariants as words
 use Rattle.script_driver.specs.declared.caller.Access.{Access}
 use Rattle.script_driver.specs.declared.caller.Access.TheVariants as accesses

@@ -2,7 +2,7 @@
 use Rattle.std.specs.Prelude.{◌≡◌, ℕ, ◌≤◌, Option, Some, None, slice_get, slice_index}
 use Rattle.norm_lang.specs.declared.text.Op.{Op}
 use Rattle.norm_lang.specs.declared.text.Text.{Text}
-use Rattle.script_driver.specs.declared.document.Call.{Call}
+use Rattle.script_driver.specs.declared.plan.Call.{Call}
 
 abbrev pub IsCallBy : Option Op → Call → Type 0
 IsCallBy None call = ⊥

@@ -1,197 +1,104 @@
--- The document that bytes of the first form spell.
-use Rattle.std.specs.Prelude.{ℕ, Bool, true, false, ◌&&◌, not, List, [], ◌∷◌, ◌++◌, length, Option, Some, None, codes, nat_lt, if◌then◌else◌, slice_get}
-use Rattle.std.specs.List.{list_any, position}
+-- The plan that bytes of the first form spell: a document that sets nothing and schedules nothing, with one script, a text
+-- of the first form, and calls of the text's operations.
+use Rattle.std.specs.Prelude.{ℕ, Bool, true, false, ◌||◌, ◌&&◌, not, List, [], ◌∷◌, length, Option, Some, None, Result, Ok, Err, codes, nat_lt, ◌==◌, if◌then◌else◌, slice_get, slice_index}
+use Rattle.std.specs.List.{position}
 use Rattle.std.specs.Str.{bytes_eq}
-use Rattle.oa_text.specs.declared.fault.TextFault.{TextFault}
 use Rattle.oa_text.specs.Lines.{TextLine, lines_of, numbered}
-use Rattle.oa_text.specs.Tokens.{words_of, line_fault}
-use Rattle.norm_lang.specs.declared.text.FieldDecl.{FieldDecl}
-use Rattle.norm_lang.specs.declared.text.RootDecl.{RootDecl}
-use Rattle.norm_lang.specs.declared.text.CasEntry.{CasEntry}
-use Rattle.norm_lang.specs.declared.text.Instr.{Instr}
-use Rattle.norm_lang.specs.declared.text.Instr.TheVariants as instr
 use Rattle.norm_lang.specs.declared.text.Op.{Op}
-use Rattle.norm_lang.specs.Grammar.{no_op, is_comment}
-use Rattle.script_driver.specs.declared.document.Call.{Call}
-use Rattle.script_driver.specs.declared.document.Document.{Document}
-use Rattle.script_driver.specs.declared.draft.Section.{Section}
-use Rattle.script_driver.specs.declared.draft.Section.TheVariants as sections
-use Rattle.script_driver.specs.declared.draft.Draft.{Draft}
+use Rattle.norm_lang.specs.Faults.{LineFault}
+use Rattle.line_words.specs.Lines.{words_in}
+use Rattle.norm_parser.specs.FrontRead.{front_of}
+use Rattle.documents.specs.declared.document.ScriptCall.{ScriptCall}
+use Rattle.documents.specs.declared.document.Document.{Document}
+use Rattle.documents.specs.DocumentRead.{document_read}
+use Rattle.script_driver.specs.declared.plan.Call.{Call}
+use Rattle.script_driver.specs.declared.plan.Plan.{Plan}
 use Rattle.script_driver.specs.FirstText.{is_first_text}
-use Rattle.script_driver.specs.Words.{◌>>=◌, below, end_at}
-use Rattle.script_driver.specs.FirstLines.{version_rest, field_rest, zero_rest, root_rest, op_rest, generator_line, wrap_up_line, commit_rest, exchange_rest, arguments_rest}
 
-abbrev pub has_field : List FieldDecl → List ℕ → Bool
-has_field fields name = list_any (λ field. bytes_eq field.name name) fields
+-- what is found, and then what is found by it
+infixl 10 ◌>>=◌
+abbrev pub ◌>>=◌ : {A B : Type 0} → Option A → (A → Option B) → Option B
+None >>= f = None
+(Some x) >>= f = f x
 
-abbrev pub has_root : List RootDecl → List ℕ → Bool
-has_root roots name = list_any (λ root. bytes_eq root.name name) roots
+-- this one, if the test passes
+abbrev pub only_if : {A : Type 0} → Bool → A → Option A
+only_if test x = if test then Some x else None
 
-abbrev pub has_op : List Op → List ℕ → Bool
-has_op ops name = list_any (λ op. bytes_eq op.name name) ops
+abbrev pub begun_with : Result (List (List ℕ)) ℕ → List ℕ
+begun_with (Ok words) = front_of words
+begun_with (Err fault) = []
 
--- at most 4 fields, each with a name of its own
-abbrev pub with_field : Draft → FieldDecl → Option Draft
-with_field draft field =
-    if nat_lt (length draft.text.fields) 4 && not (has_field draft.text.fields field.name)
-    then Some (record draft { text = record draft.text { fields = draft.text.fields ++ field ∷ [] } })
-    else None
+-- the word that a line begins with, or no bytes where it has none. A line whose bytes have a fault has none either: in a
+-- document there is no such line
+abbrev pub line_word : TextLine → List ℕ
+line_word line = begun_with (words_in line)
 
--- the nodes' line stands behind at least one field
-abbrev pub with_nodes : Draft → Option Draft
-with_nodes draft = if nat_lt 0 (length draft.text.fields) then Some (record draft { section = sections.Roots }) else None
+-- a line that begins so is a script's
+abbrev pub is_script : List ℕ → Bool
+is_script word = bytes_eq word (codes "script")
 
--- at most 256 roots, each with a name of its own
-abbrev pub with_root : Draft → RootDecl → Option Draft
-with_root draft root =
-    if nat_lt (length draft.text.roots) 256 && not (has_root draft.text.roots root.name)
-    then Some (record draft { text = record draft.text { roots = draft.text.roots ++ root ∷ [] } })
-    else None
+-- a line that begins so sets something, if it stands before the first script
+abbrev pub is_setting : List ℕ → Bool
+is_setting word = bytes_eq word (codes "slots") || (bytes_eq word (codes "phases") || bytes_eq word (codes "fuel"))
 
--- at most 16 operations, each with a name of its own, behind at least one root
-abbrev pub with_op : Draft → Op → Option Draft
-with_op draft op =
-    if nat_lt 0 (length draft.text.roots) && (nat_lt (length draft.text.ops) 16 && not (has_op draft.text.ops op.name))
-    then Some (record draft { section = sections.Begun; op = op })
-    else None
+-- a line that begins so is the schedule's
+abbrev pub is_schedule : List ℕ → Bool
+is_schedule word = bytes_eq word (codes "schedule")
 
--- at most 256 instructions of a generator
-abbrev pub with_step : Draft → Instr → Option Draft
-with_step draft step =
-    if nat_lt (length draft.op.generator) 256
-    then Some (record draft { op = record draft.op { generator = draft.op.generator ++ step ∷ [] } })
-    else None
+-- no line before the first script sets anything, be it to what it is by default
+abbrev pub sets_nothing : List TextLine → Bool
+sets_nothing [] = true
+sets_nothing (line ∷ lines) =
+    if is_script (line_word line) then true else not (is_setting (line_word line)) && sets_nothing lines
 
--- the commit is the last of them
-abbrev pub with_commit : Draft → List CasEntry → Option Draft
-with_commit draft entries = with_step draft (instr.Commit entries) >>= λ next. Some (record next { section = sections.Committed })
+-- no line is a schedule's, be it an empty one
+abbrev pub schedules_nothing : List TextLine → Bool
+schedules_nothing [] = true
+schedules_nothing (line ∷ lines) = not (is_schedule (line_word line)) && schedules_nothing lines
 
--- at most 256 instructions of a wrap-up
-abbrev pub with_wrap_up_step : Draft → Instr → Option Draft
-with_wrap_up_step draft step =
-    if nat_lt (length draft.op.wrapup) 256
-    then Some (record draft { op = record draft.op { wrapup = draft.op.wrapup ++ step ∷ [] } })
-    else None
-
--- the operation is whole: its wrap-up has at least one instruction
-abbrev pub with_whole_op : Draft → Option Draft
-with_whole_op draft =
-    if nat_lt 0 (length draft.op.wrapup)
-    then Some (record draft { text = record draft.text { ops = draft.text.ops ++ draft.op ∷ [] }; op = no_op })
-    else None
-
--- at most 100,000 calls
-abbrev pub with_call : Draft → Call → Option Draft
-with_call draft call =
-    if nat_lt (length draft.script) 100000 then Some (record draft { script = draft.script ++ call ∷ [] }) else None
-
-abbrev pub in_start : Draft → List ℕ → List (List ℕ) → Option Draft
-in_start draft word rest =
-    if bytes_eq word (codes "oa") then (version_rest rest >>= λ done. Some (record draft { section = sections.Fields })) else None
-
-abbrev pub in_fields : Draft → List ℕ → List (List ℕ) → Option Draft
-in_fields draft word rest =
-    if bytes_eq word (codes "field") then field_rest rest >>= with_field draft
-    else (if bytes_eq word (codes "nodes") then (zero_rest rest >>= λ done. with_nodes draft)
-    else None)
-
-abbrev pub in_roots : Draft → List ℕ → List (List ℕ) → Option Draft
-in_roots draft word rest =
-    if bytes_eq word (codes "root") then root_rest rest >>= with_root draft
-    else (if bytes_eq word (codes "op") then op_rest rest >>= with_op draft
-    else None)
-
-abbrev pub in_begun : Draft → List ℕ → List (List ℕ) → Option Draft
-in_begun draft word rest =
-    if bytes_eq word (codes "gen") then (end_at rest >>= λ done. Some (record draft { section = sections.Generator })) else None
-
--- behind `commit 1` the line of its exchange follows
-abbrev pub with_count : Draft → Bool → Option Draft
-with_count draft false = with_commit draft []
-with_count draft true = Some (record draft { section = sections.Exchange })
-
-abbrev pub in_generator : Draft → List ℕ → List (List ℕ) → Option Draft
-in_generator draft word rest =
-    if bytes_eq word (codes "commit") then commit_rest rest >>= with_count draft
-    else generator_line draft.text.roots word rest >>= with_step draft
-
-abbrev pub in_exchange : Draft → List ℕ → List (List ℕ) → Option Draft
-in_exchange draft word rest =
-    if bytes_eq word (codes "withroot") then (exchange_rest draft.text.roots rest >>= λ entry. with_commit draft (entry ∷ [])) else None
-
-abbrev pub in_committed : Draft → List ℕ → List (List ℕ) → Option Draft
-in_committed draft word rest =
-    if bytes_eq word (codes "wrap") then (end_at rest >>= λ done. Some (record draft { section = sections.WrapUp })) else None
-
--- the operation ends where another begins, or the script
-abbrev pub in_wrap_up : Draft → List ℕ → List (List ℕ) → Option Draft
-in_wrap_up draft word rest =
-    if bytes_eq word (codes "op") then (op_rest rest >>= λ op. with_whole_op draft >>= λ next. with_op next op)
-    else (if bytes_eq word (codes "script") then (zero_rest rest >>= λ done. with_whole_op draft >>= λ next. Some (record next { section = sections.Calls }))
-    else wrap_up_line word rest >>= with_wrap_up_step draft)
+-- the one script of a document that has no other
+abbrev pub only_script : List (List ScriptCall) → Option (List ScriptCall)
+only_script [] = None
+only_script (script ∷ []) = Some script
+only_script (script ∷ next ∷ scripts) = None
 
 -- the number of the operation so named: at most 16 are declared
 abbrev pub op_named : List Op → List ℕ → Option ℕ
-op_named ops name = position (λ op. bytes_eq op.name name) ops >>= below 16
+op_named ops name = position (λ op. bytes_eq op.name name) ops >>= λ number. only_if (nat_lt number 16) number
 
--- `NAME V V ..`, with as many arguments as the operation has
-abbrev pub call_line : List Op → List ℕ → List (List ℕ) → Option Call
-call_line ops word rest = do
-  number ← op_named ops word
+-- four words, those past the arguments 0
+abbrev pub padded : List ℕ → List ℕ
+padded args = slice_index args 0 ∷ slice_index args 1 ∷ slice_index args 2 ∷ slice_index args 3 ∷ []
+
+-- a call of one of the operations, with as many arguments as it has
+abbrev pub call_in : List Op → ScriptCall → Option Call
+call_in ops call = do
+  number ← op_named ops call.name
   op ← slice_get ops number
-  args ← arguments_rest op.args rest
-  Some (record { op = number; args = args })
+  only_if (length call.args == op.args) (record { op = number; args = padded call.args })
 
-abbrev pub in_calls : Draft → List ℕ → List (List ℕ) → Option Draft
-in_calls draft word rest = call_line draft.text.ops word rest >>= with_call draft
+-- the calls of a script, if each is one of the operations'
+abbrev pub calls_in : List Op → List ScriptCall → Option (List Call)
+calls_in ops [] = Some []
+calls_in ops (call ∷ script) = do
+  first ← call_in ops call
+  rest ← calls_in ops script
+  Some (first ∷ rest)
 
-abbrev pub in_section : Section → Draft → List ℕ → List (List ℕ) → Option Draft
-in_section sections.Start draft word rest = in_start draft word rest
-in_section sections.Fields draft word rest = in_fields draft word rest
-in_section sections.Roots draft word rest = in_roots draft word rest
-in_section sections.Begun draft word rest = in_begun draft word rest
-in_section sections.Generator draft word rest = in_generator draft word rest
-in_section sections.Exchange draft word rest = in_exchange draft word rest
-in_section sections.Committed draft word rest = in_committed draft word rest
-in_section sections.WrapUp draft word rest = in_wrap_up draft word rest
-in_section sections.Calls draft word rest = in_calls draft word rest
+-- what a document asks of its one caller, if it has one whose calls can be run: the steps of a call are the document's
+abbrev pub plan_of : Document → Option Plan
+plan_of document = do
+  script ← only_script document.scripts
+  calls ← calls_in document.text.ops script
+  only_if (is_first_text document.text) (record { text = document.text; fuel = document.fuel; calls = calls })
 
--- the draft after a line's words: a line without a word, or whose first begins with `#`, is skipped
-abbrev pub after_words : Draft → List (List ℕ) → Option Draft
-after_words draft [] = Some draft
-after_words draft (word ∷ rest) = if is_comment word then Some draft else in_section draft.section draft word rest
+-- the plan of a document with these lines
+abbrev pub plan_in : List TextLine → Result Document LineFault → Option Plan
+plan_in lines (Err fault) = None
+plan_in lines (Ok document) =
+    only_if (sets_nothing lines && schedules_nothing lines) document >>= plan_of
 
-abbrev pub unless_faulty : Option TextFault → Option Draft → Option Draft
-unless_faulty None next = next
-unless_faulty (Some fault) next = None
-
--- the draft after a line, which is to be without fault, also where it is skipped
-abbrev pub after_line : Draft → TextLine → Option Draft
-after_line draft line = unless_faulty (line_fault line) (after_words draft (words_of line.bytes))
-
-abbrev pub after_lines : Draft → List TextLine → Option Draft
-after_lines draft [] = Some draft
-after_lines draft (line ∷ lines) = after_line draft line >>= λ next. after_lines next lines
-
-abbrev pub empty_draft : Draft
-empty_draft = record {
-  section = sections.Start;
-  text = record { fields = []; roots = []; nodes = []; ops = [] };
-  op = no_op;
-  script = [];
-}
-
-abbrev pub is_in_calls : Section → Bool
-is_in_calls sections.Calls = true
-is_in_calls _ = false
-
--- the lines end among the calls; the settings are the defaults
-abbrev pub finished : Draft → Option Document
-finished draft =
-    if is_in_calls draft.section && is_first_text draft.text
-    then Some (record { text = draft.text; fuel = 1000000; script = draft.script })
-    else None
-
--- the document that the bytes spell, if they are of the first form
-abbrev pub first_form : List ℕ → Option Document
-first_form bytes = after_lines empty_draft (numbered 1 (lines_of bytes)) >>= finished
+-- the plan that the bytes spell, if they are of the first form
+abbrev pub first_form : List ℕ → Option Plan
+first_form bytes = plan_in (numbered 1 (lines_of bytes)) (document_read bytes)

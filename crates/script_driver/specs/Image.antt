@@ -6,8 +6,8 @@ use Rattle.source_machine.specs.declared.event.SourceEvent.{SourceEvent}
 use Rattle.source_machine.specs.declared.event.SourceEvent.TheVariants.{Begin, Access, Restart}
 use Rattle.source_machine.specs.State.{SourceMachine, source_start}
 use Rattle.source_machine.specs.Run.{is_enabled, source_step}
-use Rattle.script_driver.specs.declared.document.Call.{Call}
-use Rattle.script_driver.specs.declared.document.Document.{Document}
+use Rattle.script_driver.specs.declared.plan.Call.{Call}
+use Rattle.script_driver.specs.declared.plan.Plan.{Plan}
 use Rattle.script_driver.specs.declared.caller.Access.{Access as WordAccess}
 use Rattle.script_driver.specs.declared.caller.Routine.{Routine}
 use Rattle.script_driver.specs.declared.caller.Routine.TheVariants as routines
@@ -76,6 +76,6 @@ script_image text fuel (call ∷ calls) state source =
     let next = core_steps text fuel (takes call state) in
     if is_idle next.caller.routine then events ++ script_image text fuel calls next (source_after text events source) else events
 
--- the image of the run of a document
-abbrev pub image : Document → List SourceEvent
-image document = script_image document.text document.fuel document.script (start_state document) (source_start document.text 1)
+-- the image of the run of a plan
+abbrev pub image : Plan → List SourceEvent
+image plan = script_image plan.text plan.fuel plan.calls (start_state plan) (source_start plan.text 1)

@@ -1,7 +1,5 @@
+pub use Rattle.documents.specs.DocumentRead
 pub mod FirstText
-pub mod Answered
-pub mod Words
-pub mod FirstLines
 pub mod FirstCalls
 pub mod FirstForm
 pub mod Caller

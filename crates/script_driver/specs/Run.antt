@@ -1,11 +1,11 @@
--- The run of a document's script by its one caller.
+-- The run of a plan by its one caller.
 use Rattle.std.specs.Prelude.{ℕ, zero, suc, Bool, true, false, List, [], ◌∷◌, length, map, Option, Some, None, ◌==◌, if◌then◌else◌, slice_index, slice_set}
 use Rattle.norm_lang.specs.declared.text.Start.{Start}
 use Rattle.norm_lang.specs.declared.text.Start.TheVariants as starts
 use Rattle.norm_lang.specs.declared.text.Text.{Text}
 use Rattle.norm_lang.specs.Registers.{first_registers}
-use Rattle.script_driver.specs.declared.document.Call.{Call}
-use Rattle.script_driver.specs.declared.document.Document.{Document}
+use Rattle.script_driver.specs.declared.plan.Call.{Call}
+use Rattle.script_driver.specs.declared.plan.Plan.{Plan}
 use Rattle.script_driver.specs.declared.caller.Word.{Word}
 use Rattle.script_driver.specs.declared.caller.Word.TheVariants as word
 use Rattle.script_driver.specs.declared.caller.Access.{Access}
@@ -93,9 +93,9 @@ idle_entry room = record {
   replies = record { items = []; room = room };
 }
 
-abbrev pub start_state : Document → CoreState
-start_state document = record { words = first_words document.text; caller = idle_entry (length document.script) }
+abbrev pub start_state : Plan → CoreState
+start_state plan = record { words = first_words plan.text; caller = idle_entry (length plan.calls) }
 
--- the final state of the run of a document
-abbrev pub final_state : Document → CoreState
-final_state document = script_run document.text document.fuel document.script (start_state document)
+-- the final state of the run of a plan
+abbrev pub final_state : Plan → CoreState
+final_state plan = script_run plan.text plan.fuel plan.calls (start_state plan)

@@ -1,4 +1,4 @@
--- What a document's run means: it is a run of the document's text on the source machine.
+-- What a plan's run means: it is a run of the plan's text on the source machine.
 use Rattle.std.specs.Prelude.{◌≡◌, ℕ, ◌+◌, Bool, true, false, ◌⊎◌, List, [], ◌∷◌, ◌++◌, length, map, filter, take, IsTrue, Some, slice_get}
 use Rattle.std.specs.List.{list_all}
 use Rattle.norm_lang.specs.declared.text.Op.{Op}
@@ -10,8 +10,8 @@ use Rattle.source_machine.specs.declared.event.SourceReply.{SourceReply}
 use Rattle.source_machine.specs.declared.event.SourceReply.TheVariants as answers
 use Rattle.source_machine.specs.State.{SourceMachine}
 use Rattle.source_machine.specs.Run.{is_call, source_replies, IsSourceRun}
-use Rattle.script_driver.specs.declared.document.Call.{Call}
-use Rattle.script_driver.specs.declared.document.Document.{Document}
+use Rattle.script_driver.specs.declared.plan.Call.{Call}
+use Rattle.script_driver.specs.declared.plan.Plan.{Plan}
 use Rattle.script_driver.specs.declared.caller.Reply.{Reply}
 use Rattle.script_driver.specs.declared.caller.Reply.TheVariants as replies
 use Rattle.script_driver.specs.declared.caller.Routine.{Routine}
@@ -63,28 +63,28 @@ abbrev pub is_begin : SourceEvent → Bool
 is_begin (events.Begin c op args) = true
 is_begin _ = false
 
--- the events are a run of the document's text on the source machine, whose operations are the calls of the script in
+-- the events are a run of the plan's text on the source machine, whose operations are the calls of the plan in
 -- order, as far as they have begun, and which agrees with a state
-pub record IsSourceRunOf (document : Document) (state : CoreState) (events : List SourceEvent) (source : SourceMachine) : Type 0 where
-  pub runs : IsSourceRun document.text 1 events source
-  pub begins : filter is_begin events ≡ map begin_of (take (calls_begun state) document.script)
+pub record IsSourceRunOf (plan : Plan) (state : CoreState) (events : List SourceEvent) (source : SourceMachine) : Type 0 where
+  pub runs : IsSourceRun plan.text 1 events source
+  pub begins : filter is_begin events ≡ map begin_of (take (calls_begun state) plan.calls)
   pub agrees : Agrees state source
 
 -- there is such a run of the source machine
-abbrev pub RunsOnSource : Document → CoreState → Type 0
-RunsOnSource document state = (events : List SourceEvent) × (source : SourceMachine) × IsSourceRunOf document state events source
+abbrev pub RunsOnSource : Plan → CoreState → Type 0
+RunsOnSource plan state = (events : List SourceEvent) × (source : SourceMachine) × IsSourceRunOf plan state events source
 
--- the image of a document's run is one
+-- the image of a plan's run is one
 abbrev pub ImageRuns : Type 0
 ImageRuns =
-    (document : Document) → IsTrue (is_first_text document.text) → IsTrue (are_calls document.text document.script)
-    → (source : SourceMachine) × IsSourceRunOf document (final_state document) (image document) source
+    (plan : Plan) → IsTrue (is_first_text plan.text) → IsTrue (are_calls plan.text plan.calls)
+    → (source : SourceMachine) × IsSourceRunOf plan (final_state plan) (image plan) source
 
--- so the run of a document is one of its text on the source machine
+-- so the run of a plan is one of its text on the source machine
 abbrev pub RunsAreSourceRuns : Type 0
 RunsAreSourceRuns =
-    (document : Document) → IsTrue (is_first_text document.text) → IsTrue (are_calls document.text document.script)
-    → RunsOnSource document (final_state document)
+    (plan : Plan) → IsTrue (is_first_text plan.text) → IsTrue (are_calls plan.text plan.calls)
+    → RunsOnSource plan (final_state plan)
 
 -- in texts of the first form each local jump leads forward, so that local code ends before its bound
 abbrev pub FirstTextsLeadForward : Type 0

@@ -5,7 +5,7 @@ ghost use Rattle.script_driver.specs.Caller.{root_load, wanted_in, wants, genera
 ghost use Rattle.script_driver.specs.Placed.{IsPlacedIn, IsPlaced, running, calls_taken};
 
 use crate::caller::{Entry, Replied, Reply, Routine};
-use crate::document::Call;
+use crate::plan::Call;
 use crate::wanted::{exchange_at, exchanges, operation};
 use norm_lang::local::{instruction_at, run_local};
 use norm_lang::registers::{Registers, number_at, put_count, put_number, starting_registers};

@@ -1,4 +1,4 @@
-//! The answers of a document's run, and their text.
+//! The answers of a plan's run, and their text.
 
 ghost use Rattle.std.specs.Prelude.{◌≡◌, ◌≤◌, ◌∷◌, [], ◌++◌, take, length, option_copied, not, slice_get, codes, decimal};
 ghost use Rattle.std.specs.List.{count_by, flat_map};
@@ -9,7 +9,7 @@ ghost use Rattle.script_driver.specs.Run.{is_idle};
 ghost use Rattle.script_driver.specs.Answers.{unanswered, answer_at, answers_from, answers_of, is_reply, is_short, is_partial, reply_text, answer_text, argument_text, op_name, op_args, call_line, call_lines, summary_line, answers};
 
 use crate::caller::{CoreState, Replied, Reply, Routine};
-use crate::document::{Call, Document};
+use crate::plan::{Call, Plan};
 use norm_lang::text::{Op, Text};
 use oa_text::{Failed, Part, Piece, Sink, write_parts, write_pieces};
 
@@ -49,57 +49,49 @@ fn is_running(state: &CoreState) -> bool
     !matches!(state.caller.routine, Routine::Idle)
 }
 
-/// How many calls of the script have a reply.
-fn count_replied(document: &Document, state: &CoreState) -> usize
-    ensures count { result ≡ count_by is_reply (answers_of document.now state.now) }
-    ensures within { result ≤ length document.now.script }
+/// How many calls of the plan have a reply.
+fn count_replied(plan: &Plan, state: &CoreState) -> usize
+    ensures count { result ≡ count_by is_reply (answers_of plan.now state.now) }
+    ensures within { result ≤ length plan.now.calls }
 {
-    let calls = document.script.items().len();
+    let calls = plan.calls.items().len();
     let replies = state.caller.replies.items().len();
     if replies < calls { replies } else { calls }
 }
 
-/// How many calls of the script have none.
-fn count_short(document: &Document, state: &CoreState) -> usize
-    ensures { result ≡ count_by is_short (answers_of document.now state.now) }
+/// How many calls of the plan have none.
+fn count_short(plan: &Plan, state: &CoreState) -> usize
+    ensures { result ≡ count_by is_short (answers_of plan.now state.now) }
 {
-    document.script.items().len() - count_replied(document, state)
+    plan.calls.items().len() - count_replied(plan, state)
 }
 
-/// Whether a call of the script has no reply, so that its printed line says `spent` or `unreached`.
-pub fn partial(document: &Document, state: &CoreState) -> bool
-    ensures { result ≡ is_partial document.now state.now }
+/// Whether a call of the plan has no reply, so that its printed line says `spent` or `unreached`.
+pub fn partial(plan: &Plan, state: &CoreState) -> bool
+    ensures { result ≡ is_partial plan.now state.now }
 {
-    0 < count_short(document, state)
+    0 < count_short(plan, state)
 }
 
-/// Writes a line for each call of the script, with its answer, and a line that sums up. No memory is taken; at
+/// Writes a line for each call of the plan, with its answer, and a line that sums up. No memory is taken; at
 /// `Failed` a front of the text was written.
-pub fn write_answers<K: Sink>(
-    out: &mut K,
-    document: &Document,
-    state: &CoreState,
-) -> Result<(), Failed>
-    ensures bytes { Writes (K.written out.old) (K.written out.new) (answers document.now state.now) result }
+pub fn write_answers<K: Sink>(out: &mut K, plan: &Plan, state: &CoreState) -> Result<(), Failed>
+    ensures bytes { Writes (K.written out.old) (K.written out.new) (answers plan.now state.now) result }
     ensures cause { HasCause (K.faults out.old) (K.faults out.new) result }
 {
-    let (replied, short) = (count_replied(document, state), count_short(document, state));
-    write_call_lines(out, document, state)?;
+    let (replied, short) = (count_replied(plan, state), count_short(plan, state));
+    write_call_lines(out, plan, state)?;
     write_summary(out, replied, short, state.caller.restarts)
 }
 
-fn write_call_lines<K: Sink>(
-    out: &mut K,
-    document: &Document,
-    state: &CoreState,
-) -> Result<(), Failed>
-    ensures bytes { Writes (K.written out.old) (K.written out.new) (call_lines document.now.text 0 document.now.script (answers_of document.now state.now)) result }
+fn write_call_lines<K: Sink>(out: &mut K, plan: &Plan, state: &CoreState) -> Result<(), Failed>
+    ensures bytes { Writes (K.written out.old) (K.written out.new) (call_lines plan.now.text 0 plan.now.calls (answers_of plan.now state.now)) result }
     ensures cause { HasCause (K.faults out.old) (K.faults out.new) result }
 {
     write_lines(
         out,
-        &document.text,
-        document.script.items(),
+        &plan.text,
+        plan.calls.items(),
         is_running(state),
         state.caller.replies.items(),
     )

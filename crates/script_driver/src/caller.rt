@@ -1,6 +1,6 @@
 //! A caller, and the words of memory that it makes its accesses to.
 
-use crate::document::Call;
+use crate::plan::Call;
 use norm_lang::list::{Listed, Reserved};
 use norm_lang::registers::Registers;
 

@@ -1,24 +1,20 @@
-//! Documents of the first form: their reader, the run of their script, and its answers.
+//! Documents, and the first form of them: its plan, the run of its calls, and their answers.
 #![tactic(auto)]
 
 mod accepted;
 pub mod answers;
 pub mod caller;
-pub mod document;
-mod draft;
+mod first_form;
 mod first_text;
-mod forms;
 pub mod laws;
 mod memory;
-mod reader;
+pub mod plan;
 pub mod run;
-mod sections;
-mod stop;
 mod wanted;
-mod words;
 
+pub use documents::{Document, Numbers, Script, ScriptCall, Scripts, Turns, read_document};
+pub use first_form::first_plan;
 pub use first_text::fits;
-pub use reader::read_first_form;
 
 #[cfg(test)]
 mod run_tests;

@@ -1,4 +1,4 @@
-//! The run of a document's script by its one caller.
+//! The run of a plan by its one caller.
 
 ghost use Rattle.std.specs.Prelude.{◌≡◌, ◌<◌, ◌≤◌, ◌+◌, length, is_some, true, IfOk};
 ghost use Rattle.std.specs.List.{All};
@@ -10,38 +10,38 @@ ghost use Rattle.script_driver.specs.Caller.{wants, after, taken};
 ghost use Rattle.script_driver.specs.Run.{step_by, core_step, core_steps, takes, is_idle, when_idle, script_run, first_word, first_words, no_call, idle_entry, start_state, final_state};
 
 use crate::caller::{CoreState, Entry, Routine, Words};
-use crate::document::{Call, Document};
+use crate::plan::{Call, Plan};
 use norm_lang::list::{Listed, Reserved};
 use norm_lang::registers::starting_registers;
 use norm_lang::text::{Start, Text};
 use std::alloc::{AllocError, Global};
 
-#[tactic(auto, using(crate::proofs::CallLemmas::document_on_source))]
-/// Runs the calls of a document's script in order, each with at most as many steps as the document says, and
+#[tactic(auto, using(crate::proofs::CallLemmas::plan_on_source))]
+/// Runs the calls of a plan in order, each with at most as many steps as the plan says, and
 /// none behind a call that hasn't ended. All memory is taken before the first step: a cell for each root, and
 /// room for a reply to each call.
-pub fn run_script(alloc: Global, document: &Document) -> Result<CoreState, AllocError>
-    ensures state { IfOk result (λ state. state ≡ final_state document.now) }
+pub fn run_script(alloc: Global, plan: &Plan) -> Result<CoreState, AllocError>
+    ensures state { IfOk result (λ state. state ≡ final_state plan.now) }
 
     // The replies are those of one run of the text on the source machine.
-    ensures source { is_first_text document.now.text ≡ true → All (IsCallOf document.now.text) document.now.script → IfOk result (RunsOnSource document.now) }
+    ensures source { is_first_text plan.now.text ≡ true → All (IsCallOf plan.now.text) plan.now.calls → IfOk result (RunsOnSource plan.now) }
 {
     let mut state = CoreState {
-        words: first_words(alloc, &document.text)?,
-        caller: idle_entry(alloc, document.script.items().len())?,
+        words: first_words(alloc, &plan.text)?,
+        caller: idle_entry(alloc, plan.calls.items().len())?,
     };
-    run_calls(document, &mut state);
+    run_calls(plan, &mut state);
     Ok(state)
 }
 
 /// Runs the calls of a script, and takes no memory.
 #[tactic(auto, using(crate::proofs::Steps::call_more, crate::proofs::Steps::calls_stop, crate::proofs::Steps::calls_end))]
-fn run_calls(document: &Document, state: &mut CoreState)
-    requires { length state.old.caller.replies.items + length document.now.script ≤ state.old.caller.replies.room }
-    ensures { state.new ≡ script_run document.now.text document.now.fuel document.now.script state.old }
+fn run_calls(plan: &Plan, state: &mut CoreState)
+    requires { length state.old.caller.replies.items + length plan.now.calls ≤ state.old.caller.replies.room }
+    ensures { state.new ≡ script_run plan.now.text plan.now.fuel plan.now.calls state.old }
 {
-    for call in document.script.items() {
-        run_call(&document.text, document.fuel, *call, state);
+    for call in plan.calls.items() {
+        run_call(&plan.text, plan.fuel, *call, state);
         if !idle(state.caller.routine) {
             return;
         }

@@ -1,7 +1,7 @@
 //! The worked run, made by the interpreter.
 
 use crate::caller::{Reply, Routine};
-use crate::document::{Call, Document, Script};
+use crate::plan::{Call, Calls, Plan};
 use crate::run::run_script;
 use norm_lang::list::Listed;
 use norm_lang::text::{
@@ -51,7 +51,7 @@ fn nop(alloc: Global) -> Result<Op, AllocError> {
     })
 }
 
-fn counter(alloc: Global, fuel: u64) -> Result<Document, AllocError> {
+fn counter(alloc: Global, fuel: u64) -> Result<Plan, AllocError> {
     let mut fields: Fields = Listed::empty(alloc);
     fields.push(FieldDecl {
         name: Name::from_slice(alloc, b"pad")?,
@@ -67,8 +67,8 @@ fn counter(alloc: Global, fuel: u64) -> Result<Document, AllocError> {
     let mut ops: Ops = Listed::empty(alloc);
     ops.push(add(alloc)?)?;
     ops.push(nop(alloc)?)?;
-    let script = Script::from_slice(alloc, &[call(0, 5), call(0, 7), call(1, 0)])?;
-    Ok(Document {
+    let calls = Calls::from_slice(alloc, &[call(0, 5), call(0, 7), call(1, 0)])?;
+    Ok(Plan {
         text: Text {
             fields,
             roots,
@@ -76,7 +76,7 @@ fn counter(alloc: Global, fuel: u64) -> Result<Document, AllocError> {
             ops,
         },
         fuel,
-        script,
+        calls,
     })
 }
 
@@ -89,8 +89,8 @@ fn call(op: u8, argument: u64) -> Call {
 
 #[test]
 fn counts(rt: HostRuntime) -> Result<(), Fail> {
-    let document = counter(rt.alloc(), 1_000_000)?;
-    let state = run_script(rt.alloc(), &document)?;
+    let plan = counter(rt.alloc(), 1_000_000)?;
+    let state = run_script(rt.alloc(), &plan)?;
     let mut replies = Vec::new(rt.alloc());
     for replied in state.caller.replies.items() {
         replies.push((replied.reply, replied.steps))?;
@@ -106,8 +106,8 @@ fn counts(rt: HostRuntime) -> Result<(), Fail> {
 
 #[test]
 fn is_spent(rt: HostRuntime) -> Result<(), Fail> {
-    let document = counter(rt.alloc(), 3)?;
-    let state = run_script(rt.alloc(), &document)?;
+    let plan = counter(rt.alloc(), 3)?;
+    let state = run_script(rt.alloc(), &plan)?;
     assert!(rt; state.caller.replies.items().is_empty());
     assert!(rt; state.caller.routine == Routine::Exchanges(2, 0));
     Ok(())

@@ -2,5 +2,5 @@ use Rattle.std.proofs.Common.{arith}
 use Rattle.oa_text.proofs.Counts.{length-lines_of-le}
 use Rattle.oa_cli.proofs.top.judge_bytes.Goals as goal
 
-pub read_first_form-requires : goal.read_first_form-requires
-read_first_form-requires c = omega (arith, length-lines_of-le c.args.bytes.now, c.requires)
+pub read_document-requires : goal.read_document-requires
+read_document-requires c = omega (arith, length-lines_of-le c.args.bytes.now, c.requires)

@@ -1,4 +1,7 @@
 use Rattle.oa_cli.proofs.top.write_verdict.Goals as goal
 
 pub returns-in-ReadFault-clause-bytes : goal.returns-in-ReadFault-clause-bytes
-returns-in-ReadFault-clause-bytes g c = rw c.in-ReadFault.is c.write_pieces.ensures.bytes
+returns-in-ReadFault-clause-bytes g c = rw c.in-ReadFault.is c.write_pieces-in-ReadFault.ensures.bytes
+
+pub returns-in-LongInput-clause-bytes : goal.returns-in-LongInput-clause-bytes
+returns-in-LongInput-clause-bytes g c = rw c.in-LongInput.is c.write_pieces-in-LongInput.ensures.bytes

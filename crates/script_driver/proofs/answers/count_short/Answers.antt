@@ -11,6 +11,6 @@ returns c =
       arith,
       ap length c.items.ensures,
       c.count_replied.ensures.count,
-      count_all (answers_of c.args.document.now c.args.state.now),
-      length-answers_from (not (is_idle c.args.state.now.caller.routine)) c.args.state.now.caller.replies.items 0 c.args.document.now.script,
+      count_all (answers_of c.args.plan.now c.args.state.now),
+      length-answers_from (not (is_idle c.args.state.now.caller.routine)) c.args.state.now.caller.replies.items 0 c.args.plan.now.calls,
     )

@@ -6,4 +6,4 @@ use Rattle.script_driver.proofs.answers.partial.Goals as goal
 
 pub returns : goal.returns
 returns c =
-    ap (λ (n : ℕ). nat_lt 0 n) c.count_short.ensures ∙ sym (any_is_counted is_short (answers_of c.args.document.now c.args.state.now))
+    ap (λ (n : ℕ). nat_lt 0 n) c.count_short.ensures ∙ sym (any_is_counted is_short (answers_of c.args.plan.now c.args.state.now))

@@ -1,4 +1,4 @@
-//! What a document asks for.
+//! What the first path runs.
 
 use norm_lang::list::Listed;
 use norm_lang::text::Text;
@@ -11,12 +11,13 @@ pub struct Call {
 }
 
 /// The calls of a caller, in order.
-pub type Script = Listed<Call>;
+pub type Calls = Listed<Call>;
 
-/// A text, the greatest count of steps of a call, and the calls of the one caller.
+/// What a document of the first form asks of its one caller: a text, the greatest count of steps of a call, and the
+/// calls.
 #[derive(Debug, Drop)]
-pub struct Document {
+pub struct Plan {
     pub text: Text,
     pub fuel: u64,
-    pub script: Script,
+    pub calls: Calls,
 }
