@@ -66,10 +66,13 @@ abbrev pub looks_at : Option Instr → Bool
 looks_at None = false
 looks_at (Some i) = looks i
 
+-- no instruction of a path is one
+abbrev pub is_blind : List Instr → List ℕ → Bool
+is_blind code path = list_all (λ at. not (looks_at (slice_get code at))) path
+
 -- N7: an instruction lies on a cycle on which none, itself among them, is a load or an auxiliary exchange
 abbrev pub LoopsBlindly : Op → Bool → ℕ → Instr → Type 0
-LoopsBlindly op wrapup at i =
-    (path : List ℕ) × IsCycle (code_of op wrapup) path at × IsTrue (list_all (λ passed. not (looks_at (slice_get (code_of op wrapup) passed))) path)
+LoopsBlindly op wrapup at i = (path : List ℕ) × IsCycle (code_of op wrapup) path at × IsTrue (is_blind (code_of op wrapup) path)
 
 -- N9: an instruction of a wrap-up sets a kept register
 abbrev pub SetsKept : Op → Bool → ℕ → Instr → Type 0
