@@ -20,15 +20,15 @@ const H: u16 = 0;
 
 const T: u16 = 1;
 
-const N0: Reg = Reg::Num(0);
+const NUM_0: Reg = Reg::Num(0);
 
-const N1: Reg = Reg::Num(1);
+const NUM_1: Reg = Reg::Num(1);
 
-const R0: Reg = Reg::Ref(0);
+const REF_0: Reg = Reg::Ref(0);
 
-const R1: Reg = Reg::Ref(1);
+const REF_1: Reg = Reg::Ref(1);
 
-const R2: Reg = Reg::Ref(2);
+const REF_2: Reg = Reg::Ref(2);
 
 fn fields(alloc: Global) -> Result<Fields, AllocError> {
     let mut fields = Listed::empty(alloc);
@@ -106,27 +106,27 @@ fn registers_of_the_wrong_kind(rt: HostRuntime) -> Result<(), AllocError> {
         &rt,
         alloc,
         &[
-            Instr::Set(R0, 5),
-            Instr::Mov(R0, N0),
-            Instr::Mov(N0, R0),
-            Instr::Add(R0, N0, N1),
-            Instr::Mark(R0, N0),
-            Instr::Unmark(N0, R0),
-            Instr::Null(N0),
-            Instr::New(N0),
-            Instr::LoadRoot(N0, H),
-            Instr::LoadRoot(R0, T),
-            Instr::LoadPick(R0, T, 1, N0),
-            Instr::LoadField(N0, R0, NEXT),
-            Instr::LoadField(N0, N1, KEY),
-            Instr::Put(R0, KEY, R1),
-            Instr::Put(N0, KEY, N1),
-            Instr::Cas(on_h(R0, N0, None), 0),
-            Instr::Cas(on_next(N0, R0, R1, None), 0),
-            Instr::IfEq(N0, R0, 0),
-            Instr::IfMarked(N0, 0),
-            Instr::Return(R0),
-            commit(alloc, &[on_h(R0, R1, None), on_h(N0, R1, None)])?,
+            Instr::Set(REF_0, 5),
+            Instr::Mov(REF_0, NUM_0),
+            Instr::Mov(NUM_0, REF_0),
+            Instr::Add(REF_0, NUM_0, NUM_1),
+            Instr::Mark(REF_0, NUM_0),
+            Instr::Unmark(NUM_0, REF_0),
+            Instr::Null(NUM_0),
+            Instr::New(NUM_0),
+            Instr::LoadRoot(NUM_0, H),
+            Instr::LoadRoot(REF_0, T),
+            Instr::LoadPick(REF_0, T, 1, NUM_0),
+            Instr::LoadField(NUM_0, REF_0, NEXT),
+            Instr::LoadField(NUM_0, NUM_1, KEY),
+            Instr::Put(REF_0, KEY, REF_1),
+            Instr::Put(NUM_0, KEY, NUM_1),
+            Instr::Cas(on_h(REF_0, NUM_0, None), 0),
+            Instr::Cas(on_next(NUM_0, REF_0, REF_1, None), 0),
+            Instr::IfEq(NUM_0, REF_0, 0),
+            Instr::IfMarked(NUM_0, 0),
+            Instr::Return(REF_0),
+            commit(alloc, &[on_h(REF_0, REF_1, None), on_h(NUM_0, REF_1, None)])?,
         ],
         true,
     )
@@ -140,17 +140,17 @@ fn registers_of_the_right_kind(rt: HostRuntime) -> Result<(), AllocError> {
         &rt,
         alloc,
         &[
-            Instr::Set(N0, 5),
-            Instr::Mov(R0, R1),
-            Instr::Mov(N0, N1),
-            Instr::Add(N0, R0, R1),
-            Instr::IfLess(R0, R0, 0),
-            Instr::LoadPick(R0, H, 2, R1),
-            Instr::LoadRoot(N0, T),
-            Instr::LoadField(N0, R0, KEY),
-            Instr::Put(R0, NEXT, R0),
-            Instr::Cas(on_h(R0, R1, Some(N0)), 0),
-            Instr::IfEq(R0, R1, 0),
+            Instr::Set(NUM_0, 5),
+            Instr::Mov(REF_0, REF_1),
+            Instr::Mov(NUM_0, NUM_1),
+            Instr::Add(NUM_0, REF_0, REF_1),
+            Instr::IfLess(REF_0, REF_0, 0),
+            Instr::LoadPick(REF_0, H, 2, REF_1),
+            Instr::LoadRoot(NUM_0, T),
+            Instr::LoadField(NUM_0, REF_0, KEY),
+            Instr::Put(REF_0, NEXT, REF_0),
+            Instr::Cas(on_h(REF_0, REF_1, Some(NUM_0)), 0),
+            Instr::IfEq(REF_0, REF_1, 0),
             commit(alloc, &[])?,
         ],
         false,
@@ -160,22 +160,22 @@ fn registers_of_the_right_kind(rt: HostRuntime) -> Result<(), AllocError> {
 #[test]
 fn references_computed_with(rt: HostRuntime) -> Result<(), AllocError> {
     for instr in &[
-        Instr::IfLess(R0, R0, 0),
-        Instr::IfLess(N0, R0, 0),
-        Instr::Add(N0, R0, N1),
-        Instr::Sub(N0, N1, R0),
-        Instr::Rem(N0, R0, 8),
-        Instr::LoadPick(R0, H, 1, R1),
+        Instr::IfLess(REF_0, REF_0, 0),
+        Instr::IfLess(NUM_0, REF_0, 0),
+        Instr::Add(NUM_0, REF_0, NUM_1),
+        Instr::Sub(NUM_0, NUM_1, REF_0),
+        Instr::Rem(NUM_0, REF_0, 8),
+        Instr::LoadPick(REF_0, H, 1, REF_1),
     ] {
         assert!(rt; computes_on_reference(instr));
     }
     for instr in &[
-        Instr::IfLess(N0, N0, 0),
-        Instr::IfEq(R0, R0, 0),
-        Instr::Add(R0, N0, N1),
-        Instr::Sub(N0, N0, N0),
-        Instr::Rem(R0, N0, 8),
-        Instr::LoadPick(R0, H, 1, N1),
+        Instr::IfLess(NUM_0, NUM_0, 0),
+        Instr::IfEq(REF_0, REF_0, 0),
+        Instr::Add(REF_0, NUM_0, NUM_1),
+        Instr::Sub(NUM_0, NUM_0, NUM_0),
+        Instr::Rem(REF_0, NUM_0, 8),
+        Instr::LoadPick(REF_0, H, 1, NUM_1),
     ] {
         assert!(rt; !computes_on_reference(instr));
     }
@@ -187,14 +187,14 @@ fn wrong_ends(rt: HostRuntime) -> Result<(), AllocError> {
     let alloc = rt.alloc();
     let committed = commit(alloc, &[])?;
     assert!(rt; has_wrong_end(false, &Instr::ReturnNone, 0, 1));
-    assert!(rt; has_wrong_end(false, &Instr::Return(N0), 0, 2));
+    assert!(rt; has_wrong_end(false, &Instr::Return(NUM_0), 0, 2));
     assert!(rt; has_wrong_end(false, &Instr::Again, 0, 2));
     assert!(rt; has_wrong_end(true, &committed, 0, 2));
     // Running off the end: the last instruction goes on, an exchange or a test does where it doesn't jump, and a jump
     // leads there.
-    assert!(rt; has_wrong_end(false, &Instr::Set(N0, 0), 1, 2));
-    assert!(rt; has_wrong_end(true, &Instr::IfEq(N0, N0, 0), 1, 2));
-    assert!(rt; has_wrong_end(true, &Instr::Cas(on_h(R0, R1, None), 0), 1, 2));
+    assert!(rt; has_wrong_end(false, &Instr::Set(NUM_0, 0), 1, 2));
+    assert!(rt; has_wrong_end(true, &Instr::IfEq(NUM_0, NUM_0, 0), 1, 2));
+    assert!(rt; has_wrong_end(true, &Instr::Cas(on_h(REF_0, REF_1, None), 0), 1, 2));
     assert!(rt; has_wrong_end(false, &Instr::Jump(1), 0, 1));
     Ok(())
 }
@@ -206,7 +206,7 @@ fn right_ends(rt: HostRuntime) -> Result<(), AllocError> {
     assert!(rt; !has_wrong_end(false, &committed, 0, 1));
     assert!(rt; !has_wrong_end(true, &Instr::ReturnNone, 0, 1));
     assert!(rt; !has_wrong_end(true, &Instr::Again, 0, 1));
-    assert!(rt; !has_wrong_end(false, &Instr::Set(N0, 0), 0, 2));
+    assert!(rt; !has_wrong_end(false, &Instr::Set(NUM_0, 0), 0, 2));
     assert!(rt; !has_wrong_end(false, &Instr::Jump(0), 1, 2));
     // A jump to the length from further above doesn't run off the end: its target is refused.
     assert!(rt; !has_wrong_end(false, &Instr::Jump(2), 0, 2));
@@ -217,15 +217,15 @@ fn right_ends(rt: HostRuntime) -> Result<(), AllocError> {
 fn wrong_retires(rt: HostRuntime) -> Result<(), AllocError> {
     let alloc = rt.alloc();
     // Neither what is expected nor the object, though it is a reference; the new operand; a number, though expected.
-    assert!(rt; has_wrong_retire(&Instr::Cas(on_h(R0, R2, Some(R1)), 4)));
-    assert!(rt; has_wrong_retire(&Instr::Cas(on_next(R0, R1, R2, Some(R2)), 0)));
-    assert!(rt; has_wrong_retire(&Instr::Cas(on_h(N0, N1, Some(N0)), 0)));
-    let second = commit(alloc, &[on_h(R0, R1, Some(R0)), on_h(R0, R1, Some(R1))])?;
+    assert!(rt; has_wrong_retire(&Instr::Cas(on_h(REF_0, REF_2, Some(REF_1)), 4)));
+    assert!(rt; has_wrong_retire(&Instr::Cas(on_next(REF_0, REF_1, REF_2, Some(REF_2)), 0)));
+    assert!(rt; has_wrong_retire(&Instr::Cas(on_h(NUM_0, NUM_1, Some(NUM_0)), 0)));
+    let second = commit(alloc, &[on_h(REF_0, REF_1, Some(REF_0)), on_h(REF_0, REF_1, Some(REF_1))])?;
     assert!(rt; has_wrong_retire(&second));
-    assert!(rt; !has_wrong_retire(&Instr::Cas(on_h(R0, R2, Some(R0)), 4)));
-    assert!(rt; !has_wrong_retire(&Instr::Cas(on_next(R0, R1, R2, Some(R0)), 0)));
-    assert!(rt; !has_wrong_retire(&Instr::Cas(on_next(R0, R1, R2, Some(R1)), 0)));
-    let none = commit(alloc, &[on_h(R0, R1, None)])?;
+    assert!(rt; !has_wrong_retire(&Instr::Cas(on_h(REF_0, REF_2, Some(REF_0)), 4)));
+    assert!(rt; !has_wrong_retire(&Instr::Cas(on_next(REF_0, REF_1, REF_2, Some(REF_0)), 0)));
+    assert!(rt; !has_wrong_retire(&Instr::Cas(on_next(REF_0, REF_1, REF_2, Some(REF_1)), 0)));
+    let none = commit(alloc, &[on_h(REF_0, REF_1, None)])?;
     assert!(rt; !has_wrong_retire(&none));
     Ok(())
 }
@@ -237,21 +237,21 @@ fn wrong_ranges(rt: HostRuntime) -> Result<(), AllocError> {
     for instr in &[
         Instr::Jump(9),
         Instr::Jump(2),
-        Instr::IfEq(N0, N0, 2),
-        Instr::IfLess(N0, N0, 2),
-        Instr::IfMarked(R0, 2),
-        Instr::Cas(on_h(R0, R1, None), 2),
-        Instr::LoadPick(R0, H, 2, N0),
-        Instr::LoadPick(N0, T, 2, N0),
+        Instr::IfEq(NUM_0, NUM_0, 2),
+        Instr::IfLess(NUM_0, NUM_0, 2),
+        Instr::IfMarked(REF_0, 2),
+        Instr::Cas(on_h(REF_0, REF_1, None), 2),
+        Instr::LoadPick(REF_0, H, 2, NUM_0),
+        Instr::LoadPick(NUM_0, T, 2, NUM_0),
     ] {
         assert!(rt; has_wrong_range(roots.items(), instr, 2));
     }
     for instr in &[
         Instr::Jump(1),
-        Instr::IfEq(N0, N0, 1),
-        Instr::Cas(on_h(R0, R1, None), 1),
-        Instr::LoadPick(R0, H, 1, N0),
-        Instr::LoadPick(N0, T, 1, N0),
+        Instr::IfEq(NUM_0, NUM_0, 1),
+        Instr::Cas(on_h(REF_0, REF_1, None), 1),
+        Instr::LoadPick(REF_0, H, 1, NUM_0),
+        Instr::LoadPick(NUM_0, T, 1, NUM_0),
     ] {
         assert!(rt; !has_wrong_range(roots.items(), instr, 2));
     }
