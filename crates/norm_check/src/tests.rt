@@ -220,7 +220,13 @@ fn wrong_retires(rt: HostRuntime) -> Result<(), AllocError> {
     assert!(rt; has_wrong_retire(&Instr::Cas(on_h(REF_0, REF_2, Some(REF_1)), 4)));
     assert!(rt; has_wrong_retire(&Instr::Cas(on_next(REF_0, REF_1, REF_2, Some(REF_2)), 0)));
     assert!(rt; has_wrong_retire(&Instr::Cas(on_h(NUM_0, NUM_1, Some(NUM_0)), 0)));
-    let second = commit(alloc, &[on_h(REF_0, REF_1, Some(REF_0)), on_h(REF_0, REF_1, Some(REF_1))])?;
+    let second = commit(
+        alloc,
+        &[
+            on_h(REF_0, REF_1, Some(REF_0)),
+            on_h(REF_0, REF_1, Some(REF_1)),
+        ],
+    )?;
     assert!(rt; has_wrong_retire(&second));
     assert!(rt; !has_wrong_retire(&Instr::Cas(on_h(REF_0, REF_2, Some(REF_0)), 4)));
     assert!(rt; !has_wrong_retire(&Instr::Cas(on_next(REF_0, REF_1, REF_2, Some(REF_0)), 0)));
