@@ -18,3 +18,5 @@ pub mod Kept
 pub mod InstructionRules
 pub mod PathRules
 pub mod NormalForm
+pub mod Reach
+pub mod Search

@@ -2,6 +2,7 @@
 #![tactic(auto)]
 
 pub mod duplicate;
+mod forks;
 pub mod list;
 pub mod local;
 pub mod registers;
@@ -10,8 +11,11 @@ mod spelling;
 pub mod text;
 mod word;
 
+pub use forks::{Fork, reach};
 pub use shipped::{shipped_queue, shipped_set};
 pub use spelling::show;
 
+#[cfg(test)]
+mod fork_tests;
 #[cfg(test)]
 mod tests;

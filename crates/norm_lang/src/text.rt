@@ -22,6 +22,9 @@ pub type Nodes = Listed<NodeDecl>;
 
 pub type Ops = Listed<Op>;
 
+/// One mark for each node of a graph.
+pub type Marks = Listed<bool>;
+
 /// The bytes of a spelled text.
 pub type ByteText = Listed<u8>;
 
