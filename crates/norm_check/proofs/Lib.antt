@@ -1,0 +1,2 @@
+mod FirstBroken
+mod Worked

@@ -3,5 +3,8 @@
 
 pub mod ends;
 pub mod kinds;
+pub mod laws;
 pub mod ranges;
 pub mod retired;
+#[cfg(test)]
+mod tests;

@@ -2,8 +2,8 @@
 --
 -- A path is the list of the places that were passed on the way to a place, the latest first. The place itself isn't among
 -- them: a path to an instruction is taken before the instruction acts. So the empty path leads from a place to itself.
-use Rattle.std.specs.Prelude.{◌≡◌, ℕ, ◌+◌, ◌<◌, Bool, true, false, not, List, [], ◌∷◌, length, Option, Some, None, ◌==◌, slice_get, IsTrue}
-use Rattle.std.specs.List.{list_any, list_all}
+use Rattle.std.specs.Prelude.{◌≡◌, ℕ, ◌+◌, ◌<◌, Bool, false, List, [], ◌∷◌, length, Option, Some, None, ◌==◌, slice_get, IsTrue}
+use Rattle.std.specs.List.{list_any}
 use Rattle.norm_lang.specs.declared.text.Instr.{Instr}
 use Rattle.norm_lang.specs.declared.text.Instr.TheVariants as instr
 
@@ -12,15 +12,15 @@ abbrev pub Leads : (ℕ → ℕ → Type 0) → ℕ → List ℕ → ℕ → Typ
 Leads Next start [] to = to ≡ start
 Leads Next start (last ∷ path) to = Next last to × Leads Next start path last
 
--- a state after the instruction at a place
-abbrev pub state_after : {I S : Type 0} → (I → S → S) → Option I → S → S
-state_after after None state = state
-state_after after (Some i) state = after i state
+-- a state once the instruction at a place is passed
+abbrev pub passed : {I S : Type 0} → (I → S → S) → Option I → S → S
+passed after None state = state
+passed after (Some i) state = after i state
 
 -- a state after the instructions of a path, by what it is at the path's start and what each instruction makes of it
 abbrev pub state_along : {I S : Type 0} → (I → S → S) → S → List I → List ℕ → S
 state_along after start code [] = start
-state_along after start code (last ∷ path) = state_after after (slice_get code last) (state_along after start code path)
+state_along after start code (last ∷ path) = passed after (slice_get code last) (state_along after start code path)
 
 -- where the instruction at a place goes on, by its form
 abbrev pub formed_successors : Instr → ℕ → List ℕ
@@ -35,10 +35,11 @@ formed_successors instr.ReturnNone at = []
 formed_successors instr.Again at = []
 formed_successors _ at = (at + 1) ∷ []
 
--- the instruction at a place goes on to another by its form
+-- an instruction at a place goes on to another place by its form
 abbrev pub goes_to : Instr → ℕ → ℕ → Bool
 goes_to i at to = list_any (λ next. next == to) (formed_successors i at)
 
+-- and so does the one that may stand there
 abbrev pub goes_from : Option Instr → ℕ → ℕ → Bool
 goes_from None at to = false
 goes_from (Some i) at to = goes_to i at to

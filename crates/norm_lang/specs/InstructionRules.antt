@@ -1,6 +1,6 @@
 -- The rules of the normal form that look at one instruction, its place and the declarations: N1, N2, N8, N12 and N13.
 -- Each test says that the instruction breaks its rule.
-use Rattle.std.specs.Prelude.{ℕ, ◌+◌, Bool, true, false, ◌&&◌, ◌||◌, not, List, map, length, take, drop, Option, Some, None, option_map, slice_get, nat_lt, nat_le, ◌==◌}
+use Rattle.std.specs.Prelude.{ℕ, ◌+◌, Bool, true, false, ◌&&◌, ◌||◌, not, List, length, take, drop, Option, Some, None, option_map, slice_get, nat_le, ◌==◌}
 use Rattle.std.specs.List.{list_any, list_all}
 use Rattle.norm_lang.specs.declared.text.Reg.{Reg}
 use Rattle.norm_lang.specs.declared.text.Reg.TheVariants.{Num, Ref}
@@ -14,7 +14,7 @@ use Rattle.norm_lang.specs.declared.text.CasEntry.{CasEntry}
 use Rattle.norm_lang.specs.declared.text.Instr.{Instr}
 use Rattle.norm_lang.specs.declared.text.Instr.TheVariants as instr
 use Rattle.norm_lang.specs.Flow.{goes_to}
-use Rattle.norm_lang.specs.RegisterUse.{same_register, is_register_named}
+use Rattle.norm_lang.specs.RegisterUse.{same_register}
 use Rattle.norm_lang.specs.Kept.{holds_reference}
 
 -- a register of numbers
@@ -120,6 +120,7 @@ abbrev pub is_stranger : CasEntry → Option Reg → Bool
 is_stranger entry None = false
 is_stranger entry (Some r) = holds_number r || not (same_register r entry.expected || is_object r entry.place)
 
+-- an exchange retires such a register
 abbrev pub retires_stranger : CasEntry → Bool
 retires_stranger entry = is_stranger entry entry.retire
 

@@ -1,5 +1,5 @@
 -- The normal form: no instruction breaks one of the rules N1 to N14.
-use Rattle.std.specs.Prelude.{◌≡◌, ℕ, Bool, true, false, ◌&&◌, ◌||◌, List, length, IsSomeAnd, IsTrue, ◌==◌, nat_lt, slice_get}
+use Rattle.std.specs.Prelude.{ℕ, Bool, true, false, ◌&&◌, ◌||◌, length, IsSomeAnd, IsTrue, ◌==◌, nat_lt, slice_get}
 use Rattle.norm_lang.specs.declared.text.Instr.{Instr}
 use Rattle.norm_lang.specs.declared.text.Op.{Op}
 use Rattle.norm_lang.specs.declared.text.Text.{Text}
@@ -24,6 +24,7 @@ pub data Rule : Type 0 where
   N13 : Rule
   N14 : Rule
 
+-- the number that a refusal names it by
 abbrev pub rule_number : Rule → ℕ
 rule_number N1 = 1
 rule_number N2 = 2

@@ -40,6 +40,7 @@ reads_openly r (instr.Put a f b) = same_register r b
 reads_openly r (instr.Commit entries) = reads r (instr.Commit entries) && not (is_given_once r entries)
 reads_openly r i = reads r i
 
+-- the end of a generator
 abbrev pub is_commit : Instr → Bool
 is_commit (instr.Commit entries) = true
 is_commit _ = false
@@ -59,6 +60,7 @@ looks (instr.LoadField d a f) = true
 looks (instr.Cas entry l) = true
 looks _ = false
 
+-- the instruction at a place is one
 abbrev pub looks_at : Option Instr → Bool
 looks_at None = false
 looks_at (Some i) = looks i

@@ -1,5 +1,5 @@
 -- What an instruction does with registers: which it reads, and which it sets.
-use Rattle.std.specs.Prelude.{ℕ, ◌+◌, Bool, true, false, ◌||◌, List, [], ◌∷◌, ◌++◌, Option, Some, None, ◌==◌}
+use Rattle.std.specs.Prelude.{ℕ, Bool, false, ◌||◌, List, [], ◌∷◌, ◌++◌, Option, Some, None, ◌==◌}
 use Rattle.std.specs.List.{list_any, flat_map}
 use Rattle.norm_lang.specs.declared.text.Reg.{Reg}
 use Rattle.norm_lang.specs.declared.text.Reg.TheVariants.{Num, Ref}
@@ -27,6 +27,7 @@ abbrev pub objects_of : Place → List Reg
 objects_of (places.Root x) = []
 objects_of (places.Field a f) = a ∷ []
 
+-- the register that may be named, as a list
 abbrev pub registers_named : Option Reg → List Reg
 registers_named None = []
 registers_named (Some r) = r ∷ []
