@@ -7,7 +7,7 @@ use Rattle.std.proofs.lemmas.Option.{same_Some, slice_get_within}
 use Rattle.std.proofs.lemmas.List.{length-append}
 use Rattle.std.proofs.lemmas.List.Elements.{All-append}
 use Rattle.norm_lang.specs.declared.forks.Fork.{Fork}
-use Rattle.norm_lang.specs.Flow.{Leads, state_after, state_along}
+use Rattle.norm_lang.specs.Flow.{Leads, state_along}
 use Rattle.norm_lang.specs.Reach.{LeadsTo, StaysBelow, IsSuccessor, Reaches, AreMarks}
 use Rattle.norm_lang.proofs.Reaching.{reaches_itself, reaches_on, reached_within}
 use Rattle.path_facts.specs.declared.moves.Move.{Move}

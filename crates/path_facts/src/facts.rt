@@ -1,6 +1,6 @@
 //! The states that paths lead to.
 
-ghost use Rattle.std.specs.Prelude.{◌≡◌, ◌<◌, ◌^◌, length, All, IfOk};
+ghost use Rattle.std.specs.Prelude.{◌≡◌, ◌<◌, ◌^◌, false, length, slice_get, unwrap_or, All, IfOk};
 ghost use Rattle.path_facts.specs.Facts.{IsMove, AreFacts, comes_in_by};
 
 use crate::moves::Move;
@@ -41,15 +41,18 @@ impl Facts {
     }
 
     /// Whether some path from instruction 0 leads to the instruction at `at` with the machine in `state`
-    /// there. It answers in constant time.
+    /// there; past the last instruction none does. It answers in constant time.
+    #[tactic(auto, using(crate::proofs::Fitting::none_past))]
     pub fn comes_in(&self, at: usize, state: u8) -> bool
-        requires near { at < 2 ^ 32 }
         ensures { result ≡ comes_in_by self.now at state }
     {
-        self.marks
-            .items()
-            .get(4 * at + state as usize)
-            .copied()
-            .unwrap_or(false)
+        let marks = self.marks.items();
+        at <= marks.len() / 4 && is_marked(marks, 4 * at + state as usize)
     }
+}
+
+fn is_marked(marks: &[bool], node: usize) -> bool
+    ensures { result ≡ unwrap_or (slice_get marks.now node) false }
+{
+    marks.get(node).copied().unwrap_or(false)
 }
