@@ -1,17 +1,16 @@
 -- Nodes that are reached are states that a machine may arrive in.
-use Rattle.std.proofs.Common.{◌≡◌, ◌↔◌, ℕ, zero, suc, ◌+◌, ◌*◌, ◌^◌, ◌<◌, ◌⊎◌, inl, inr, Bool, true, false, List, [], ◌∷◌, ◌++◌, length, Option, Some, None, refl, sym, ap, subst, ◌∙◌, arith}
-use Rattle.std.specs.Prelude.{slice_get, slice_index, get_or, unwrap_or, option_map, IsTrue}
+use Rattle.std.proofs.Common.{◌≡◌, ◌↔◌, ℕ, zero, suc, ◌*◌, ◌^◌, ◌<◌, inl, inr, Bool, true, false, List, [], ◌∷◌, length, Option, Some, None, refl, sym, ap, subst, ◌∙◌, arith}
+use Rattle.std.specs.Prelude.{slice_get, slice_index, unwrap_or, option_map, IsTrue}
 use Rattle.std.specs.List.{All, flat_map}
 use Rattle.std.specs.Option.{ForSome}
-use Rattle.std.proofs.lemmas.Option.{same_Some, slice_get_within}
-use Rattle.std.proofs.lemmas.List.{length-append}
+use Rattle.std.proofs.lemmas.Option.{same_Some}
 use Rattle.std.proofs.lemmas.List.Elements.{All-append}
 use Rattle.norm_lang.specs.declared.forks.Fork.{Fork}
-use Rattle.norm_lang.specs.Flow.{Leads, state_along}
+use Rattle.norm_lang.specs.Flow.{state_along}
 use Rattle.norm_lang.specs.Reach.{LeadsTo, StaysBelow, IsSuccessor, Reaches, AreMarks}
 use Rattle.norm_lang.proofs.Reaching.{reaches_itself, reaches_on, reached_within}
 use Rattle.path_facts.specs.declared.moves.Move.{Move}
-use Rattle.path_facts.specs.Facts.{state_behind, IsMove, GoesOn, IsWay, ComesIn, AreFacts, comes_in_by}
+use Rattle.path_facts.specs.Facts.{state_behind, IsMove, IsWay, ComesIn, AreFacts}
 use Rattle.path_facts.specs.Nodes.{node, fork_with, fork_behind, nodes_of}
 
 -- the fork of a node is that of its instruction with the state behind it

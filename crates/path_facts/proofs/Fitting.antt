@@ -1,9 +1,8 @@
 -- Instructions among so many are among more.
-use Rattle.std.proofs.Common.{◌≡◌, ℕ, ◌+◌, ◌*◌, ◌/◌, ◌<◌, ◌≤◌, Bool, false, List, length, ap, arith}
+use Rattle.std.proofs.Common.{◌≡◌, ℕ, ◌+◌, ◌*◌, ◌/◌, ◌<◌, Bool, false, List, length, ap, arith}
 use Rattle.std.specs.Prelude.{slice_index_or, unwrap_or}
 use Rattle.std.proofs.lemmas.Option.{slice_get_past}
 use Rattle.std.specs.List.{All}
-use Rattle.norm_lang.specs.Reach.{StaysBelow}
 use Rattle.path_facts.specs.declared.moves.Move.{Move}
 use Rattle.path_facts.specs.Facts.{IsMove, comes_in_by}
 

@@ -1,0 +1,15 @@
+use Rattle.std.proofs.Common.{◌∙◌, arith}
+use Rattle.norm_check.proofs.HeldFacts.{are_held, moves_closed, moves_counted}
+use Rattle.norm_check.proofs.held.facts_of.Goals as goal
+
+pub of_moves-requires-clause-some : goal.of_moves-requires-clause-some
+of_moves-requires-clause-some c = omega (arith, moves_counted c.args.register c.args.code.now c.deref.result.now (c.deref.ensures.value ∙ c.in_ok-moves.ensures), c.requires.some)
+
+pub of_moves-requires-clause-few : goal.of_moves-requires-clause-few
+of_moves-requires-clause-few c = omega (arith, moves_counted c.args.register c.args.code.now c.deref.result.now (c.deref.ensures.value ∙ c.in_ok-moves.ensures), c.requires.few)
+
+pub of_moves-requires-clause-closed : goal.of_moves-requires-clause-closed
+of_moves-requires-clause-closed c = moves_closed c.args.register c.args.code.now c.deref.result.now (c.deref.ensures.value ∙ c.in_ok-moves.ensures)
+
+pub returns : goal.returns
+returns c = are_held c.args.register c.args.code.now c.deref.result.now c.in_ok-facts.facts (c.deref.ensures.value ∙ c.in_ok-moves.ensures) c.in_ok-facts.ensures
