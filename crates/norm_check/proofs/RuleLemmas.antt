@@ -165,16 +165,16 @@ kept_rule op wrapup kept test any up is are registers =
     ((λ so. (up, some.0 (sym is ∙ so))), λ both. is ∙ some.1 both.1)
 
 -- no rule on kept registers is broken in a generator
-none_kept : (wrapup : Bool) (P : Type 0) → wrapup ≡ false → IsTrue false ↔ (IsTrue wrapup × P)
-none_kept wrapup P down = ((λ is. let e : false ≡ true = is in cc), λ both. let e : true ≡ false = sym both.0 ∙ down in cc)
+none_kept : (wrapup : Bool) (P : Type 0) → wrapup ≡ false → IsTrue wrapup ↔ (IsTrue wrapup × P)
+none_kept wrapup P down = ((λ up. let e : true ≡ false = sym up ∙ down in cc), λ both. both.0)
 
-pub sets_none : (op : Op) (wrapup : Bool) (at : ℕ) (i : Instr) → wrapup ≡ false → IsTrue false ↔ SetsKept op wrapup at i
+pub sets_none : (op : Op) (wrapup : Bool) (at : ℕ) (i : Instr) → wrapup ≡ false → IsTrue wrapup ↔ SetsKept op wrapup at i
 sets_none op wrapup at i down = none_kept wrapup ((r : Reg) × IsTrue (sets r i) × IsKept op r) down
 
-pub follows_none : (op : Op) (wrapup : Bool) (at : ℕ) (i : Instr) → wrapup ≡ false → IsTrue false ↔ FollowsKept op wrapup at i
+pub follows_none : (op : Op) (wrapup : Bool) (at : ℕ) (i : Instr) → wrapup ≡ false → IsTrue wrapup ↔ FollowsKept op wrapup at i
 follows_none op wrapup at i down = none_kept wrapup ((r : Reg) × IsTrue (follows r i) × IsKept op r) down
 
-pub exchanges_none : (op : Op) (wrapup : Bool) (at : ℕ) (i : Instr) → wrapup ≡ false → IsTrue false ↔ ExchangesKept op wrapup at i
+pub exchanges_none : (op : Op) (wrapup : Bool) (at : ℕ) (i : Instr) → wrapup ≡ false → IsTrue wrapup ↔ ExchangesKept op wrapup at i
 exchanges_none op wrapup at i down = none_kept wrapup ((r : Reg) × IsTrue (exchanges r i) × IsKept op r) down
 
 pub sets_kept : (op : Op) (wrapup : Bool) (at : ℕ) (i : Instr) (kept : List Bool) (any : Bool) → wrapup ≡ true → any ≡ list_any (λ r. sets r i && is_kept_by kept r) all_registers

@@ -75,7 +75,7 @@ reference_compared = refl
 
 -- N3
 abbrev new_again_code : List Instr
-new_again_code = New (Ref 0) ∷ LoadRoot (Num 1) 1 ∷ IfEq (Num 0) (Num 0) 0 ∷ Commit [] ∷ []
+new_again_code = New (Ref 0) ∷ LoadRoot (Num 1) 1 ∷ IfEq (Num 0) (Num 1) 0 ∷ Commit [] ∷ []
 
 new_again : GeneratorBreaks new_again_code N3 0
 new_again = inr (2 ∷ 1 ∷ 0 ∷ [], (step new_again_code 2 0 refl refl, (step new_again_code 1 2 refl refl, (step new_again_code 0 1 refl refl, refl))))

@@ -16,4 +16,6 @@ pub mod retired;
 pub mod started;
 pub mod uses;
 #[cfg(test)]
+mod path_tests;
+#[cfg(test)]
 mod tests;

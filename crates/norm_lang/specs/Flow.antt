@@ -44,7 +44,7 @@ abbrev pub goes_from : Option Instr → ℕ → ℕ → Bool
 goes_from None at to = false
 goes_from (Some i) at to = goes_to i at to
 
--- the successors of the instruction at a place: those of its form, but for what is at or past the method's length
+-- a place is a successor of the instruction at another: one by its form, and below the method's length
 abbrev pub IsSuccessor : List Instr → ℕ → ℕ → Type 0
 IsSuccessor code at to = IsTrue (goes_from (slice_get code at) at to) × (to < length code)
 

@@ -57,9 +57,10 @@ has_wrong_operand fields roots entry =
     || (is_unlike (place_kind fields roots entry.place) entry.expected
     || is_unlike (place_kind fields roots entry.place) entry.replacement)
 
--- N1: a register is of another kind than its place needs. A number is set, computed and returned; marks are of
--- references; `mov` and `ifeq` take two of one kind; loads, puts and exchanges follow the field or the root, and a pick the
--- first of its roots. The sources of arithmetic, the operands of `ifless` and the index of a pick are judged by N2
+-- N1: a register is of another kind than its place needs. `set` and arithmetic give a number, and `return` takes one;
+-- `null`, `new` and marks are of references, and so are the objects of loads, puts and exchanges; `mov` and `ifeq` take two
+-- of one kind; what is loaded, put or exchanged follows the field or the root, of a pick the first of its roots. The
+-- sources of arithmetic, the operands of `ifless` and the index of a pick are judged by N2
 abbrev pub has_wrong_kind : List FieldDecl → List RootDecl → Instr → Bool
 has_wrong_kind fields roots (instr.Set d n) = holds_reference d
 has_wrong_kind fields roots (instr.Mov d a) = are_of_two_kinds d a
@@ -115,12 +116,12 @@ abbrev pub is_object : Reg → Place → Bool
 is_object r (places.Root x) = false
 is_object r (places.Field a f) = same_register r a
 
--- what is retired isn't a reference, or is neither what the exchange expects nor its object
+-- the register to retire isn't a reference, or is neither what the exchange expects nor its object
 abbrev pub is_stranger : CasEntry → Option Reg → Bool
 is_stranger entry None = false
 is_stranger entry (Some r) = holds_number r || not (same_register r entry.expected || is_object r entry.place)
 
--- an exchange retires such a register
+-- an exchange retires what isn't a reference, or is neither what it expects nor its object
 abbrev pub retires_stranger : CasEntry → Bool
 retires_stranger entry = is_stranger entry entry.retire
 

@@ -72,7 +72,7 @@ Breaks text breach =
     IsSomeAnd (slice_get (code_of op breach.wrapup) breach.at) (λ i.
     BreaksRule breach.rule text op breach.wrapup breach.at i))
 
--- the normal form
+-- a text in normal form
 abbrev pub IsNormal : Text → Type 0
 IsNormal text = (breach : Breach) → ¬ Breaks text breach
 
