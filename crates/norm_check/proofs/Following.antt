@@ -1,15 +1,14 @@
 -- Paths of a method, by the forks of its instructions.
-use Rattle.std.proofs.Common.{◌≡◌, ◌↔◌, ℕ, zero, suc, ◌+◌, ◌<◌, ◌≤◌, ◌⊎◌, inl, inr, Bool, true, false, ◌||◌, List, [], ◌∷◌, length, Option, Some, None, refl, sym, ap, subst, ◌∙◌, arith}
+use Rattle.std.proofs.Common.{◌≡◌, ℕ, zero, suc, ◌+◌, ◌<◌, ◌≤◌, ◌⊎◌, inl, inr, Bool, true, false, ◌||◌, List, [], ◌∷◌, length, Some, None, refl, ap, ◌∙◌, arith}
 use Rattle.std.specs.Prelude.{slice_get, option_map, nat_lt, ◌==◌, IsTrue, if◌then◌else◌}
 use Rattle.std.specs.List.{list_any, All}
 use Rattle.std.specs.Option.{ForSome}
 use Rattle.std.proofs.lemmas.Option.{same_Some}
 use Rattle.std.proofs.lemmas.Bool.Decides.{nat_tests}
-use Rattle.norm_lang.specs.declared.forks.Fork.{Fork}
 use Rattle.norm_lang.specs.declared.text.Instr.{Instr}
 use Rattle.norm_lang.specs.declared.text.Instr.TheVariants as instr
 use Rattle.norm_lang.specs.Reach.{LeadsTo, StaysBelow}
-use Rattle.norm_lang.specs.Flow.{Leads, formed_successors, goes_to, goes_from, IsSuccessor}
+use Rattle.norm_lang.specs.Flow.{Leads, formed_successors, goes_to}
 use Rattle.norm_check.specs.Moves.{place_in, fork_to, fork_of, map_from}
 
 -- a path leads where each of its steps may be taken

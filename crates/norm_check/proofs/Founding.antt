@@ -1,13 +1,11 @@
 -- What was found out about an operation is true of it.
-use Rattle.std.proofs.Common.{◌≡◌, ℕ, ◌<◌, ◌≤◌, ◌^◌, Bool, true, false, List, length, refl, sym, ap, subst, ◌∙◌, arith}
-use Rattle.std.specs.Prelude.{IsTrue}
+use Rattle.std.proofs.Common.{◌≡◌, Bool, true, false, List, refl, sym, ap, subst, ◌∙◌, arith}
 use Rattle.norm_lang.specs.declared.text.Instr.{Instr}
 use Rattle.norm_lang.specs.declared.text.Op.{Op}
 use Rattle.norm_lang.specs.Kept.{code_of}
-use Rattle.norm_check.specs.Found.{Found, IsFound, IsOpWithin, IsSized, AreAllHeld, AreKept, found_for}
+use Rattle.norm_check.specs.Found.{Found, IsFound, IsOpWithin, IsSized, AreAllHeld, found_for}
 use Rattle.norm_check.specs.Started.{AreStarted, carried_below}
 use Rattle.norm_check.specs.OpFound.{AreOpFacts}
-use Rattle.norm_check.specs.declared.method.OpFacts.{OpFacts}
 use Rattle.norm_check.proofs.Within.{length_within}
 use Rattle.norm_check.proofs.Starting.{started_right, kept_right}
 

@@ -1,5 +1,5 @@
 -- The facts of a register are those of the paths.
-use Rattle.std.proofs.Common.{◌≡◌, ◌↔◌, ℕ, zero, suc, ◌+◌, ◌<◌, Bool, true, false, not, ◌&&◌, ◌||◌, List, [], ◌∷◌, length, Option, Some, None, refl, sym, ap, subst, ◌∙◌, arith}
+use Rattle.std.proofs.Common.{◌≡◌, ℕ, zero, suc, ◌<◌, Bool, true, false, not, ◌&&◌, ◌||◌, List, [], ◌∷◌, length, Option, Some, None, refl, sym, ap, subst, ◌∙◌, arith}
 use Rattle.std.specs.Prelude.{slice_get, option_map, ◌==◌, IsTrue, if◌then◌else◌}
 use Rattle.std.specs.List.{All}
 use Rattle.std.proofs.lemmas.Option.{same_Some}
@@ -8,12 +8,12 @@ use Rattle.norm_lang.specs.declared.text.Reg.{Reg}
 use Rattle.norm_lang.specs.declared.text.Instr.{Instr}
 use Rattle.norm_lang.specs.Grammar.{is_new}
 use Rattle.norm_lang.specs.Reach.{LeadsTo}
-use Rattle.norm_lang.specs.Flow.{Leads, formed_successors, passed, state_along, goes_to, goes_from, IsSuccessor, IsPath, OnSomePath, OnEveryPath}
-use Rattle.norm_lang.specs.RegisterUse.{sets, set_after, ComesUnset}
-use Rattle.norm_lang.specs.Freshness.{fresh_after, MayBeFresh, IsSurelyFresh}
+use Rattle.norm_lang.specs.Flow.{formed_successors, passed, state_along, goes_from, IsSuccessor, OnSomePath}
+use Rattle.norm_lang.specs.RegisterUse.{sets, set_after}
+use Rattle.norm_lang.specs.Freshness.{fresh_after, IsSurelyFresh}
 use Rattle.path_facts.specs.declared.moves.Move.{Move}
-use Rattle.path_facts.specs.Facts.{state_behind, IsMove, GoesOn, IsWay, ComesIn, AreFacts, comes_in_by}
-use Rattle.norm_check.specs.Moves.{fork_of, held_after, move_of, map_from}
+use Rattle.path_facts.specs.Facts.{state_behind, IsMove, GoesOn, ComesIn, AreFacts, comes_in_by}
+use Rattle.norm_check.specs.Moves.{held_after, move_of, map_from}
 use Rattle.norm_check.specs.Found.{AreHeld}
 use Rattle.norm_check.proofs.Following.{leads_same, map_from_at, length_map_from, all_map_from, fork_stays, fork_goes, goes_fork}
 

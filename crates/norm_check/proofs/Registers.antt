@@ -1,14 +1,12 @@
 -- The registers, and lists with something for each of them.
-use Rattle.std.proofs.Common.{◌≡◌, ◌↔◌, ℕ, zero, suc, ◌+◌, ◌<◌, ◌≤◌, Bool, true, false, ◌||◌, ◌&&◌, List, [], ◌∷◌, ◌++◌, length, refl, sym, ap, subst, ◌∙◌, arith}
+use Rattle.std.proofs.Common.{◌≡◌, ℕ, zero, suc, ◌+◌, ◌<◌, Bool, true, false, List, [], ◌∷◌, ◌++◌, length, refl, sym, ap, subst, ◌∙◌, arith}
 use Rattle.std.specs.Prelude.{slice_index_or, nat_lt, IsTrue}
-use Rattle.std.specs.List.{list_any}
 use Rattle.std.proofs.lemmas.Bool.Decides.{nat_tests}
 use Rattle.std.proofs.lemmas.List.{length-append, get_or_append_left, get_or_push, get_or_default}
 use Rattle.norm_lang.specs.declared.text.Reg.{Reg}
 use Rattle.norm_lang.specs.declared.text.Reg.TheVariants.{Num, Ref}
-use Rattle.norm_lang.specs.declared.text.Instr.{Instr}
 use Rattle.norm_lang.specs.Limits.{is_register}
-use Rattle.norm_check.specs.Found.{all_registers, register_place, facts_for, AreHeld, AreAllHeld}
+use Rattle.norm_check.specs.Found.{all_registers, register_place}
 
 -- each register stands at its place
 pub register_at : (r : Reg) (d : Reg) → IsTrue (is_register r) → slice_index_or all_registers (register_place r) d ≡ r

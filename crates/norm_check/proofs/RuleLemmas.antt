@@ -1,5 +1,5 @@
 -- The rules over paths, by what was found out.
-use Rattle.std.proofs.Common.{◌≡◌, ◌↔◌, ℕ, zero, suc, ◌+◌, ◌<◌, ◌⊎◌, inl, inr, Bool, true, false, not, ◌||◌, ◌&&◌, List, [], ◌∷◌, ◌++◌, length, Option, Some, None, refl, sym, ap, subst, ◌∙◌, arith}
+use Rattle.std.proofs.Common.{◌≡◌, ◌↔◌, ℕ, ◌<◌, ◌⊎◌, inl, inr, Bool, true, false, not, ◌||◌, ◌&&◌, List, [], ◌∷◌, ◌++◌, length, Option, Some, None, refl, sym, ap, subst, ◌∙◌, arith}
 use Rattle.std.specs.Prelude.{slice_get, option_map, IsTrue, if◌then◌else◌}
 use Rattle.std.specs.List.{list_any, list_all}
 use Rattle.std.proofs.lemmas.Option.{same_Some}
@@ -18,13 +18,13 @@ use Rattle.norm_lang.specs.Flow.{Leads, goes_to, goes_from, IsCycle, IsOnCycle}
 use Rattle.norm_lang.specs.Flow as flow
 use Rattle.norm_lang.specs.Reach.{LeadsTo}
 use Rattle.norm_lang.specs.Reach as forked
-use Rattle.norm_lang.specs.RegisterUse.{same_register, objects_of, operands_of, registers_named, entry_sources, reads, sets}
+use Rattle.norm_lang.specs.RegisterUse.{same_register, objects_of, operands_of, registers_named, reads, sets}
 use Rattle.norm_lang.specs.Freshness.{MayBeFresh, IsSurelyFresh}
-use Rattle.norm_lang.specs.Kept.{code_of, IsKept, StartsSet, MayBeUnset}
+use Rattle.norm_lang.specs.Kept.{code_of, IsKept, MayBeUnset}
 use Rattle.norm_lang.specs.PathRules.{MakesNodesAgain, HasWrongPut, ShowsFresh, is_given_once, reads_openly, is_commit, LeaksFresh, looks, looks_at, LoopsBlindly, SetsKept, follows, FollowsKept, exchanges, ExchangesKept, ReadsUnset}
 use Rattle.norm_check.specs.Moves.{fork_to, fork_of, blind_fork_of, map_from}
 use Rattle.norm_check.specs.Cycles.{GoesRound}
-use Rattle.norm_check.specs.Found.{Found, IsFound, IsOpWithin, AreKept, AreHeld, all_registers, register_place, facts_for, is_so_for, is_fresh_by, is_surely_fresh_by, is_kept_by}
+use Rattle.norm_check.specs.Found.{Found, IsFound, IsOpWithin, AreKept, all_registers, register_place, is_so_for, is_fresh_by, is_surely_fresh_by, is_kept_by}
 use Rattle.norm_check.specs.OpFound.{may_be_unset_by, IsSite}
 use Rattle.norm_check.specs.Judged.{has_wrong_put_by, shows_fresh_by}
 use Rattle.norm_check.proofs.Following.{leads_same, map_from_at, fork_goes, goes_fork}

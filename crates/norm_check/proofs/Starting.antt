@@ -1,6 +1,6 @@
 -- Which registers are set where a method starts, and which references are kept, by the facts.
-use Rattle.std.proofs.Common.{◌≡◌, ◌↔◌, ℕ, zero, suc, ◌+◌, ◌<◌, ◌≤◌, ◌⊎◌, inl, inr, Bool, true, false, not, ◌||◌, ◌&&◌, List, [], ◌∷◌, ◌++◌, length, Option, Some, None, refl, sym, ap, subst, ◌∙◌, arith}
-use Rattle.std.specs.Prelude.{slice_get, slice_index_or, unwrap_or, nat_lt, IsTrue}
+use Rattle.std.proofs.Common.{◌≡◌, ◌↔◌, ℕ, zero, suc, ◌+◌, ◌<◌, ◌≤◌, ◌⊎◌, inl, inr, Bool, true, false, not, ◌||◌, List, [], ◌∷◌, Option, Some, None, refl, sym, ap, subst, ◌∙◌, arith}
+use Rattle.std.specs.Prelude.{slice_get, unwrap_or, nat_lt, IsTrue}
 use Rattle.std.proofs.lemmas.Option.{same_Some, slice_get_past}
 use Rattle.std.proofs.lemmas.Bool.Decides.{nat_tests}
 use Rattle.norm_lang.specs.declared.text.Reg.{Reg}
@@ -9,12 +9,12 @@ use Rattle.norm_lang.specs.declared.text.CasEntry.{CasEntry}
 use Rattle.norm_lang.specs.declared.text.Instr.{Instr}
 use Rattle.norm_lang.specs.declared.text.Instr.TheVariants as instr
 use Rattle.norm_lang.specs.declared.text.Op.{Op}
-use Rattle.norm_lang.specs.Limits.{is_register, is_op}
-use Rattle.norm_lang.specs.Flow.{passed, state_along, IsPath, OnEveryPath}
+use Rattle.norm_lang.specs.Limits.{is_register}
+use Rattle.norm_lang.specs.Flow.{passed, state_along}
 use Rattle.norm_lang.specs.RegisterUse.{same_register, reads, reads_at, sets, set_after, ComesUnset}
 use Rattle.norm_lang.specs.PathRules.{is_commit}
-use Rattle.norm_lang.specs.Kept.{code_of, holds_reference, IsCarried, IsKept, is_argument, IsSetAtCommits, StartsSet}
-use Rattle.norm_check.specs.Found.{IsOpWithin, facts_for, is_unset_by, is_so_for, is_kept_by, AreHeld, AreAllHeld, AreKept}
+use Rattle.norm_lang.specs.Kept.{IsCarried, IsKept, is_argument, IsSetAtCommits, StartsSet}
+use Rattle.norm_check.specs.Found.{IsOpWithin, facts_for, is_unset_by, is_so_for, AreHeld, AreAllHeld, AreKept}
 use Rattle.norm_check.specs.Started.{any_from, commits_unset, reads_carried, starts_set_by, is_carried_by, carried_below, AreStarted}
 use Rattle.norm_check.proofs.Within.{and_left, and_right, and_both, reads_within, instr_within}
 

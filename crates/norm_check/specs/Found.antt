@@ -1,5 +1,5 @@
 -- What was found out about a method and an operation before its rules are judged.
-use Rattle.std.specs.Prelude.{◌≡◌, ◌↔◌, ◌<◌, ◌≤◌, ◌^◌, ℕ, ◌+◌, Bool, true, false, not, ◌&&◌, List, [], ◌∷◌, length, Some, slice_get, slice_index_or, unwrap_or, IsTrue}
+use Rattle.std.specs.Prelude.{◌≡◌, ◌↔◌, ◌<◌, ◌^◌, ℕ, ◌+◌, Bool, false, not, ◌&&◌, List, [], ◌∷◌, length, slice_get, slice_index_or, unwrap_or, IsTrue}
 use Rattle.norm_lang.specs.declared.forks.Fork.{Fork}
 use Rattle.norm_lang.specs.declared.text.Reg.{Reg}
 use Rattle.norm_lang.specs.declared.text.Reg.TheVariants.{Num, Ref}

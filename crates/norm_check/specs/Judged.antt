@@ -1,5 +1,5 @@
 -- The rules on puts and on exchanges of fresh registers, by what was found out.
-use Rattle.std.specs.Prelude.{ℕ, Bool, true, false, not, ◌||◌}
+use Rattle.std.specs.Prelude.{ℕ, Bool, false, not, ◌||◌}
 use Rattle.norm_lang.specs.declared.text.Instr.{Instr}
 use Rattle.norm_lang.specs.declared.text.Instr.TheVariants as instr
 use Rattle.norm_check.specs.Found.{Found, is_fresh_by, is_surely_fresh_by}

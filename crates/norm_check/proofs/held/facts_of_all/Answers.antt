@@ -1,4 +1,4 @@
-use Rattle.std.proofs.Common.{◌≡◌, ℕ, [], List, Bool, length, sym, ap, subst, arith}
+use Rattle.std.proofs.Common.{ℕ, [], List, Bool, sym, ap, subst, arith}
 use Rattle.std.proofs.lemmas.Grind.{common_steps}
 use Rattle.std.specs.Prelude.{slice_index_or}
 use Rattle.norm_check.specs.Found.{all_registers, AreHeld}

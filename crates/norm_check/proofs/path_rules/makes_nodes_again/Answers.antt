@@ -1,4 +1,4 @@
-use Rattle.std.proofs.Common.{◌≡◌, ◌↔◌, List, sym, subst, ◌∙◌}
+use Rattle.std.proofs.Common.{◌↔◌, List, sym, subst}
 use Rattle.std.specs.Prelude.{IsTrue}
 use Rattle.norm_lang.specs.declared.forks.Fork.{Fork}
 use Rattle.norm_check.specs.Cycles.{GoesRound}
