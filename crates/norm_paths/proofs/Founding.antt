@@ -1,12 +1,16 @@
 -- What was found out about an operation is true of it.
-use Rattle.std.proofs.Common.{◌≡◌, Bool, true, false, List, refl, sym, ap, subst, ◌∙◌, arith}
+use Rattle.std.proofs.Common.{◌≡◌, ℕ, Bool, true, false, ◌&&◌, List, map, length, Some, refl, sym, ap, subst, ◌∙◌, arith}
+use Rattle.std.specs.Prelude.{slice_get, IsTrue}
+use Rattle.std.specs.List.{list_all}
 use Rattle.norm_lang.specs.declared.text.Instr.{Instr}
 use Rattle.norm_lang.specs.declared.text.Op.{Op}
+use Rattle.norm_lang.specs.declared.text.Text.{Text}
+use Rattle.norm_lang.specs.Limits.{has_between, is_op, are_different, are_fields, are_nodes, are_roots, are_ops, IsWithinLimits}
 use Rattle.norm_lang.specs.Kept.{code_of}
 use Rattle.norm_paths.specs.Found.{Found, IsFound, IsOpWithin, IsSized, AreAllHeld, found_for}
 use Rattle.norm_paths.specs.Started.{AreStarted, carried_below}
 use Rattle.norm_paths.specs.OpFound.{AreOpFacts}
-use Rattle.norm_paths.proofs.Within.{length_within}
+use Rattle.norm_paths.proofs.Within.{and_left, and_right, all_get, length_within}
 use Rattle.norm_paths.proofs.Starting.{started_right, kept_right}
 
 -- a method of an operation within the limits has an instruction, and not many
@@ -37,3 +41,17 @@ op_facts op generator_code wrapup_code generator_facts wrapup_facts generator_st
       wrapup = found_is op true generator_facts wrapup_facts wrapup_started wrapup (other ∙ ap (λ code. found_for code wrapup_facts wrapup_started) two) held wrapup_held later;
       kept = kept_right op wrapup_facts kept within wrapup_held (keeps ∙ ap (λ code. carried_below code wrapup_facts 8) two);
     }
+
+-- each operation of a text within the limits is within them
+pub op_within : (text : Text) (k : ℕ) (op : Op) → IsWithinLimits text → slice_get text.ops k ≡ Some op → IsOpWithin op
+op_within text k op within is =
+    let fields = length text.fields in
+    let roots = length text.roots in
+    let ops = are_ops fields roots text.ops in
+    let rest = list_all (is_op fields roots) text.ops && are_different (map (λ o. o.name) text.ops) in
+    let all : IsTrue ops =
+    and_right (are_roots (length text.nodes) text.roots) ops
+    (and_right (are_nodes text.fields text.nodes) (are_roots (length text.nodes) text.roots && ops)
+    (and_right (are_fields text.fields) (are_nodes text.fields text.nodes && (are_roots (length text.nodes) text.roots && ops)) within)) in
+    let each : IsTrue rest = and_right (has_between 1 16 text.ops) rest all in
+    (fields, roots, all_get (is_op fields roots) text.ops k op (and_left (list_all (is_op fields roots) text.ops) (are_different (map (λ o. o.name) text.ops)) each) is)

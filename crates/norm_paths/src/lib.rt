@@ -16,4 +16,4 @@ pub use kept::Kept;
 pub use method::{MethodFacts, OpFacts};
 
 #[cfg(test)]
-mod path_tests;
+mod tests;
