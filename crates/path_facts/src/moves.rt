@@ -1,0 +1,11 @@
+//! Instructions as a small machine sees them.
+
+use norm_lang::Fork;
+
+/// An instruction: its successors, by their numbers, and the state behind it for each of the four states
+/// before it.
+#[derive(Clone, Copy, Debug)]
+pub struct Move {
+    pub fork: Fork,
+    pub after: [u8; 4],
+}
