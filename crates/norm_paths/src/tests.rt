@@ -72,6 +72,13 @@ fn commit(alloc: Global, entries: &[CasEntry]) -> Result<Instr, AllocError> {
     Ok(Instr::Commit(Listed::from_slice(alloc, entries)?))
 }
 
+/// A generator with `commit 0` behind the instructions.
+fn generator<const N: usize>(alloc: Global, instrs: [Instr; N]) -> Result<Code, AllocError> {
+    let mut code = code(alloc, instrs)?;
+    code.push(Instr::Commit(Listed::empty(alloc)))?;
+    Ok(code)
+}
+
 /// An exchange on root `h`.
 fn on_h(expected: Reg, replacement: Reg) -> CasEntry {
     CasEntry {
@@ -136,7 +143,7 @@ fn in_generator<const N: usize>(
 ) -> Result<Verdict, AllocError> {
     let op = op(
         alloc,
-        code(alloc, instrs)?,
+        generator(alloc, instrs)?,
         code(alloc, [Instr::ReturnNone])?,
     )?;
     broken(rt, alloc, &op, false, at)
@@ -149,7 +156,7 @@ fn in_wrapup<const N: usize>(
     instrs: [Instr; N],
     at: usize,
 ) -> Result<Verdict, AllocError> {
-    let generator = code(alloc, [Instr::LoadRoot(R0, H), commit(alloc, &[])?])?;
+    let generator = generator(alloc, [Instr::LoadRoot(R0, H)])?;
     let op = op(alloc, generator, code(alloc, instrs)?)?;
     broken(rt, alloc, &op, true, at)
 }
@@ -161,7 +168,6 @@ fn a_new_on_a_cycle(rt: HostRuntime) -> Result<(), AllocError> {
         Instr::New(R0),
         Instr::LoadRoot(N1, T),
         Instr::IfEq(N0, N1, 0),
-        commit(alloc, &[])?,
     ];
     assert!(rt; in_generator(&rt, alloc, instrs, 0)? == Verdict { n3: true, ..NONE });
     Ok(())
@@ -170,12 +176,7 @@ fn a_new_on_a_cycle(rt: HostRuntime) -> Result<(), AllocError> {
 #[test]
 fn a_new_on_a_cycle_that_no_path_reaches(rt: HostRuntime) -> Result<(), AllocError> {
     let alloc = rt.alloc();
-    let instrs = [
-        Instr::Jump(3),
-        Instr::New(R0),
-        Instr::Jump(1),
-        commit(alloc, &[])?,
-    ];
+    let instrs = [Instr::Jump(3), Instr::New(R0), Instr::Jump(1)];
     assert!(rt;
         in_generator(&rt, alloc, instrs, 1)?
             == Verdict {
@@ -198,11 +199,7 @@ fn a_new_in_a_wrap_up(rt: HostRuntime) -> Result<(), AllocError> {
 #[test]
 fn a_put_into_a_node_that_was_loaded(rt: HostRuntime) -> Result<(), AllocError> {
     let alloc = rt.alloc();
-    let instrs = [
-        Instr::LoadRoot(R0, H),
-        Instr::Put(R0, KEY, N0),
-        commit(alloc, &[])?,
-    ];
+    let instrs = [Instr::LoadRoot(R0, H), Instr::Put(R0, KEY, N0)];
     assert!(rt; in_generator(&rt, alloc, instrs, 1)? == Verdict { n4: true, ..NONE });
     Ok(())
 }
@@ -215,7 +212,6 @@ fn a_put_into_a_node_that_is_fresh_on_one_path(rt: HostRuntime) -> Result<(), Al
         Instr::IfEq(N0, N0, 3),
         Instr::New(R0),
         Instr::Put(R0, KEY, N0),
-        commit(alloc, &[])?,
     ];
     assert!(rt; in_generator(&rt, alloc, instrs, 3)? == Verdict { n4: true, ..NONE });
     Ok(())
@@ -224,12 +220,7 @@ fn a_put_into_a_node_that_is_fresh_on_one_path(rt: HostRuntime) -> Result<(), Al
 #[test]
 fn a_put_of_a_fresh_node(rt: HostRuntime) -> Result<(), AllocError> {
     let alloc = rt.alloc();
-    let instrs = [
-        Instr::New(R0),
-        Instr::New(R1),
-        Instr::Put(R0, NEXT, R1),
-        commit(alloc, &[])?,
-    ];
+    let instrs = [Instr::New(R0), Instr::New(R1), Instr::Put(R0, NEXT, R1)];
     assert!(rt;
         in_generator(&rt, alloc, instrs, 2)?
             == Verdict {
@@ -252,12 +243,7 @@ fn a_put_in_a_wrap_up(rt: HostRuntime) -> Result<(), AllocError> {
 #[test]
 fn an_exchange_to_a_fresh_node(rt: HostRuntime) -> Result<(), AllocError> {
     let alloc = rt.alloc();
-    let instrs = [
-        Instr::Null(R1),
-        Instr::New(R0),
-        Instr::Cas(on_h(R1, R0), 3),
-        commit(alloc, &[])?,
-    ];
+    let instrs = [Instr::Null(R1), Instr::New(R0), Instr::Cas(on_h(R1, R0), 3)];
     assert!(rt;
         in_generator(&rt, alloc, instrs, 2)?
             == Verdict {
@@ -278,7 +264,6 @@ fn an_exchange_to_a_node_that_is_fresh_on_one_path(rt: HostRuntime) -> Result<()
         Instr::IfEq(N0, N0, 4),
         Instr::New(R0),
         Instr::Cas(on_h(R1, R0), 5),
-        commit(alloc, &[])?,
     ];
     assert!(rt;
         in_generator(&rt, alloc, instrs, 4)?
@@ -300,7 +285,6 @@ fn an_exchange_to_a_node_that_is_fresh_the_second_time(rt: HostRuntime) -> Resul
         Instr::Cas(on_h(R1, R0), 5),
         Instr::New(R0),
         Instr::Jump(2),
-        commit(alloc, &[])?,
     ];
     assert!(rt;
         in_generator(&rt, alloc, instrs, 2)?
@@ -316,7 +300,7 @@ fn an_exchange_to_a_node_that_is_fresh_the_second_time(rt: HostRuntime) -> Resul
 #[test]
 fn a_copy_of_a_fresh_node(rt: HostRuntime) -> Result<(), AllocError> {
     let alloc = rt.alloc();
-    let instrs = [Instr::New(R0), Instr::Mov(R1, R0), commit(alloc, &[])?];
+    let instrs = [Instr::New(R0), Instr::Mov(R1, R0)];
     assert!(rt; in_generator(&rt, alloc, instrs, 1)? == Verdict { n6: true, ..NONE });
     Ok(())
 }
@@ -324,12 +308,7 @@ fn a_copy_of_a_fresh_node(rt: HostRuntime) -> Result<(), AllocError> {
 #[test]
 fn a_copy_is_not_fresh(rt: HostRuntime) -> Result<(), AllocError> {
     let alloc = rt.alloc();
-    let instrs = [
-        Instr::New(R0),
-        Instr::Mov(R1, R0),
-        Instr::IfMarked(R1, 3),
-        commit(alloc, &[])?,
-    ];
+    let instrs = [Instr::New(R0), Instr::Mov(R1, R0), Instr::IfMarked(R1, 3)];
     assert!(rt; in_generator(&rt, alloc, instrs, 2)? == NONE);
     Ok(())
 }
@@ -373,7 +352,7 @@ fn a_commit_that_expects_a_fresh_node(rt: HostRuntime) -> Result<(), AllocError>
 #[test]
 fn a_commit_that_keeps_a_fresh_node(rt: HostRuntime) -> Result<(), AllocError> {
     let alloc = rt.alloc();
-    let generator = code(alloc, [Instr::New(R0), commit(alloc, &[])?])?;
+    let generator = generator(alloc, [Instr::New(R0)])?;
     let wrapup = code(alloc, [Instr::IfMarked(R0, 1), Instr::ReturnNone])?;
     let op = op(alloc, generator, wrapup)?;
     assert!(rt; broken(&rt, alloc, &op, false, 0)? == NONE);
@@ -385,7 +364,7 @@ fn a_commit_that_keeps_a_fresh_node(rt: HostRuntime) -> Result<(), AllocError> {
 #[test]
 fn a_cycle_of_jumps(rt: HostRuntime) -> Result<(), AllocError> {
     let alloc = rt.alloc();
-    let instrs = [Instr::Jump(1), Instr::IfEq(N0, N0, 0), commit(alloc, &[])?];
+    let instrs = [Instr::Jump(1), Instr::IfEq(N0, N0, 0)];
     assert!(rt; in_generator(&rt, alloc, instrs, 0)? == Verdict { n7: true, ..NONE });
     Ok(())
 }
@@ -394,13 +373,12 @@ fn a_cycle_of_jumps(rt: HostRuntime) -> Result<(), AllocError> {
 fn a_cycle_behind_a_load(rt: HostRuntime) -> Result<(), AllocError> {
     // 0 and 1 are a cycle with a load; 1 and 2 are one without.
     let alloc = rt.alloc();
-    let generator = code(
+    let generator = generator(
         alloc,
         [
             Instr::LoadRoot(N1, T),
             Instr::IfEq(N0, N1, 0),
             Instr::IfEq(N0, N1, 1),
-            commit(alloc, &[])?,
         ],
     )?;
     let op = op(alloc, generator, code(alloc, [Instr::ReturnNone])?)?;
@@ -413,14 +391,9 @@ fn a_cycle_behind_a_load(rt: HostRuntime) -> Result<(), AllocError> {
 #[test]
 fn a_cycle_of_puts(rt: HostRuntime) -> Result<(), AllocError> {
     let alloc = rt.alloc();
-    let generator = code(
+    let generator = generator(
         alloc,
-        [
-            Instr::New(R0),
-            Instr::Put(R0, KEY, N0),
-            Instr::Jump(1),
-            commit(alloc, &[])?,
-        ],
+        [Instr::New(R0), Instr::Put(R0, KEY, N0), Instr::Jump(1)],
     )?;
     let op = op(alloc, generator, code(alloc, [Instr::ReturnNone])?)?;
     assert!(rt; broken(&rt, alloc, &op, false, 0)? == NONE);
@@ -431,11 +404,7 @@ fn a_cycle_of_puts(rt: HostRuntime) -> Result<(), AllocError> {
 #[test]
 fn a_cycle_whose_only_access_is_an_exchange(rt: HostRuntime) -> Result<(), AllocError> {
     let alloc = rt.alloc();
-    let instrs = [
-        Instr::Null(R0),
-        Instr::Cas(on_h(R0, R0), 1),
-        commit(alloc, &[])?,
-    ];
+    let instrs = [Instr::Null(R0), Instr::Cas(on_h(R0, R0), 1)];
     assert!(rt; in_generator(&rt, alloc, instrs, 1)? == NONE);
     Ok(())
 }
@@ -487,7 +456,7 @@ fn a_register_that_is_set_first_is_not_kept(rt: HostRuntime) -> Result<(), Alloc
             Instr::ReturnNone,
         ],
     )?;
-    let generator = code(alloc, [Instr::LoadRoot(R0, H), commit(alloc, &[])?])?;
+    let generator = generator(alloc, [Instr::LoadRoot(R0, H)])?;
     let op = op(alloc, generator, wrapup)?;
     assert!(rt; broken(&rt, alloc, &op, true, 0)? == NONE);
     assert!(rt; broken(&rt, alloc, &op, true, 1)? == NONE);
@@ -578,7 +547,7 @@ fn an_exchange_to_a_node_that_is_kept_on_one_path(rt: HostRuntime) -> Result<(),
 #[test]
 fn a_register_that_nothing_sets(rt: HostRuntime) -> Result<(), AllocError> {
     let alloc = rt.alloc();
-    let instrs = [Instr::Mov(N1, N2), commit(alloc, &[])?];
+    let instrs = [Instr::Mov(N1, N2)];
     assert!(rt; in_generator(&rt, alloc, instrs, 0)? == Verdict { n14: true, ..NONE });
     Ok(())
 }
@@ -586,7 +555,7 @@ fn a_register_that_nothing_sets(rt: HostRuntime) -> Result<(), AllocError> {
 #[test]
 fn a_register_that_only_the_reader_sets(rt: HostRuntime) -> Result<(), AllocError> {
     let alloc = rt.alloc();
-    let instrs = [Instr::Mov(N1, N1), commit(alloc, &[])?];
+    let instrs = [Instr::Mov(N1, N1)];
     assert!(rt; in_generator(&rt, alloc, instrs, 0)? == Verdict { n14: true, ..NONE });
     Ok(())
 }
@@ -598,7 +567,6 @@ fn a_register_that_one_path_sets(rt: HostRuntime) -> Result<(), AllocError> {
         Instr::IfEq(N0, N0, 2),
         Instr::Set(N1, 5),
         Instr::Mov(N2, N1),
-        commit(alloc, &[])?,
     ];
     assert!(rt; in_generator(&rt, alloc, instrs, 2)? == Verdict { n14: true, ..NONE });
     Ok(())
@@ -607,12 +575,11 @@ fn a_register_that_one_path_sets(rt: HostRuntime) -> Result<(), AllocError> {
 #[test]
 fn a_register_that_is_set_at_one_commit(rt: HostRuntime) -> Result<(), AllocError> {
     let alloc = rt.alloc();
-    let generator = code(
+    let generator = generator(
         alloc,
         [
             Instr::IfEq(N0, N0, 3),
             Instr::Set(N1, 5),
-            commit(alloc, &[])?,
             commit(alloc, &[])?,
         ],
     )?;
@@ -636,9 +603,8 @@ fn a_register_that_is_fresh_on_one_path_and_not_read(rt: HostRuntime) -> Result<
         Instr::IfEq(N0, N0, 3),
         Instr::New(R0),
         Instr::Put(R0, KEY, N0),
-        commit(alloc, &[])?,
     ];
-    let generator = code(alloc, instrs)?;
+    let generator = generator(alloc, instrs)?;
     let op = op(alloc, generator, code(alloc, [Instr::ReturnNone])?)?;
     assert!(rt; broken(&rt, alloc, &op, false, 2)? == NONE);
     assert!(rt; broken(&rt, alloc, &op, false, 3)? == NONE);
