@@ -22,17 +22,17 @@ const H: u16 = 0;
 
 const T: u16 = 1;
 
-const N0: Reg = Reg::Num(0);
+const NUM_0: Reg = Reg::Num(0);
 
-const N1: Reg = Reg::Num(1);
+const NUM_1: Reg = Reg::Num(1);
 
-const N2: Reg = Reg::Num(2);
+const NUM_2: Reg = Reg::Num(2);
 
-const N7: Reg = Reg::Num(7);
+const NUM_7: Reg = Reg::Num(7);
 
-const R0: Reg = Reg::Ref(0);
+const REF_0: Reg = Reg::Ref(0);
 
-const R1: Reg = Reg::Ref(1);
+const REF_1: Reg = Reg::Ref(1);
 
 /// Which rules an instruction breaks.
 #[derive(Clone, Copy, Debug, PartialEq, Eq)]
@@ -156,7 +156,7 @@ fn in_wrapup<const N: usize>(
     instrs: [Instr; N],
     at: usize,
 ) -> Result<Verdict, AllocError> {
-    let generator = generator(alloc, [Instr::LoadRoot(R0, H)])?;
+    let generator = generator(alloc, [Instr::LoadRoot(REF_0, H)])?;
     let op = op(alloc, generator, code(alloc, instrs)?)?;
     broken(rt, alloc, &op, true, at)
 }
@@ -165,9 +165,9 @@ fn in_wrapup<const N: usize>(
 fn a_new_on_a_cycle(rt: HostRuntime) -> Result<(), AllocError> {
     let alloc = rt.alloc();
     let instrs = [
-        Instr::New(R0),
-        Instr::LoadRoot(N1, T),
-        Instr::IfEq(N0, N1, 0),
+        Instr::New(REF_0),
+        Instr::LoadRoot(NUM_1, T),
+        Instr::IfEq(NUM_0, NUM_1, 0),
     ];
     assert!(rt; in_generator(&rt, alloc, instrs, 0)? == Verdict { n3: true, ..NONE });
     Ok(())
@@ -176,7 +176,7 @@ fn a_new_on_a_cycle(rt: HostRuntime) -> Result<(), AllocError> {
 #[test]
 fn a_new_on_a_cycle_that_no_path_reaches(rt: HostRuntime) -> Result<(), AllocError> {
     let alloc = rt.alloc();
-    let instrs = [Instr::Jump(3), Instr::New(R0), Instr::Jump(1)];
+    let instrs = [Instr::Jump(3), Instr::New(REF_0), Instr::Jump(1)];
     assert!(rt;
         in_generator(&rt, alloc, instrs, 1)?
             == Verdict {
@@ -191,7 +191,11 @@ fn a_new_on_a_cycle_that_no_path_reaches(rt: HostRuntime) -> Result<(), AllocErr
 #[test]
 fn a_new_in_a_wrap_up(rt: HostRuntime) -> Result<(), AllocError> {
     let alloc = rt.alloc();
-    let instrs = [Instr::LoadRoot(N1, T), Instr::New(R1), Instr::ReturnNone];
+    let instrs = [
+        Instr::LoadRoot(NUM_1, T),
+        Instr::New(REF_1),
+        Instr::ReturnNone,
+    ];
     assert!(rt; in_wrapup(&rt, alloc, instrs, 1)? == Verdict { n3: true, ..NONE });
     Ok(())
 }
@@ -199,7 +203,7 @@ fn a_new_in_a_wrap_up(rt: HostRuntime) -> Result<(), AllocError> {
 #[test]
 fn a_put_into_a_node_that_was_loaded(rt: HostRuntime) -> Result<(), AllocError> {
     let alloc = rt.alloc();
-    let instrs = [Instr::LoadRoot(R0, H), Instr::Put(R0, KEY, N0)];
+    let instrs = [Instr::LoadRoot(REF_0, H), Instr::Put(REF_0, KEY, NUM_0)];
     assert!(rt; in_generator(&rt, alloc, instrs, 1)? == Verdict { n4: true, ..NONE });
     Ok(())
 }
@@ -208,10 +212,10 @@ fn a_put_into_a_node_that_was_loaded(rt: HostRuntime) -> Result<(), AllocError> 
 fn a_put_into_a_node_that_is_fresh_on_one_path(rt: HostRuntime) -> Result<(), AllocError> {
     let alloc = rt.alloc();
     let instrs = [
-        Instr::LoadRoot(R0, H),
-        Instr::IfEq(N0, N0, 3),
-        Instr::New(R0),
-        Instr::Put(R0, KEY, N0),
+        Instr::LoadRoot(REF_0, H),
+        Instr::IfEq(NUM_0, NUM_0, 3),
+        Instr::New(REF_0),
+        Instr::Put(REF_0, KEY, NUM_0),
     ];
     assert!(rt; in_generator(&rt, alloc, instrs, 3)? == Verdict { n4: true, ..NONE });
     Ok(())
@@ -220,7 +224,11 @@ fn a_put_into_a_node_that_is_fresh_on_one_path(rt: HostRuntime) -> Result<(), Al
 #[test]
 fn a_put_of_a_fresh_node(rt: HostRuntime) -> Result<(), AllocError> {
     let alloc = rt.alloc();
-    let instrs = [Instr::New(R0), Instr::New(R1), Instr::Put(R0, NEXT, R1)];
+    let instrs = [
+        Instr::New(REF_0),
+        Instr::New(REF_1),
+        Instr::Put(REF_0, NEXT, REF_1),
+    ];
     assert!(rt;
         in_generator(&rt, alloc, instrs, 2)?
             == Verdict {
@@ -235,7 +243,11 @@ fn a_put_of_a_fresh_node(rt: HostRuntime) -> Result<(), AllocError> {
 #[test]
 fn a_put_in_a_wrap_up(rt: HostRuntime) -> Result<(), AllocError> {
     let alloc = rt.alloc();
-    let instrs = [Instr::New(R1), Instr::Put(R1, KEY, N7), Instr::ReturnNone];
+    let instrs = [
+        Instr::New(REF_1),
+        Instr::Put(REF_1, KEY, NUM_7),
+        Instr::ReturnNone,
+    ];
     assert!(rt; in_wrapup(&rt, alloc, instrs, 1)? == Verdict { n4: true, ..NONE });
     Ok(())
 }
@@ -243,7 +255,11 @@ fn a_put_in_a_wrap_up(rt: HostRuntime) -> Result<(), AllocError> {
 #[test]
 fn an_exchange_to_a_fresh_node(rt: HostRuntime) -> Result<(), AllocError> {
     let alloc = rt.alloc();
-    let instrs = [Instr::Null(R1), Instr::New(R0), Instr::Cas(on_h(R1, R0), 3)];
+    let instrs = [
+        Instr::Null(REF_1),
+        Instr::New(REF_0),
+        Instr::Cas(on_h(REF_1, REF_0), 3),
+    ];
     assert!(rt;
         in_generator(&rt, alloc, instrs, 2)?
             == Verdict {
@@ -259,11 +275,11 @@ fn an_exchange_to_a_fresh_node(rt: HostRuntime) -> Result<(), AllocError> {
 fn an_exchange_to_a_node_that_is_fresh_on_one_path(rt: HostRuntime) -> Result<(), AllocError> {
     let alloc = rt.alloc();
     let instrs = [
-        Instr::Null(R0),
-        Instr::Null(R1),
-        Instr::IfEq(N0, N0, 4),
-        Instr::New(R0),
-        Instr::Cas(on_h(R1, R0), 5),
+        Instr::Null(REF_0),
+        Instr::Null(REF_1),
+        Instr::IfEq(NUM_0, NUM_0, 4),
+        Instr::New(REF_0),
+        Instr::Cas(on_h(REF_1, REF_0), 5),
     ];
     assert!(rt;
         in_generator(&rt, alloc, instrs, 4)?
@@ -280,10 +296,10 @@ fn an_exchange_to_a_node_that_is_fresh_on_one_path(rt: HostRuntime) -> Result<()
 fn an_exchange_to_a_node_that_is_fresh_the_second_time(rt: HostRuntime) -> Result<(), AllocError> {
     let alloc = rt.alloc();
     let instrs = [
-        Instr::Null(R0),
-        Instr::Null(R1),
-        Instr::Cas(on_h(R1, R0), 5),
-        Instr::New(R0),
+        Instr::Null(REF_0),
+        Instr::Null(REF_1),
+        Instr::Cas(on_h(REF_1, REF_0), 5),
+        Instr::New(REF_0),
         Instr::Jump(2),
     ];
     assert!(rt;
@@ -300,7 +316,7 @@ fn an_exchange_to_a_node_that_is_fresh_the_second_time(rt: HostRuntime) -> Resul
 #[test]
 fn a_copy_of_a_fresh_node(rt: HostRuntime) -> Result<(), AllocError> {
     let alloc = rt.alloc();
-    let instrs = [Instr::New(R0), Instr::Mov(R1, R0)];
+    let instrs = [Instr::New(REF_0), Instr::Mov(REF_1, REF_0)];
     assert!(rt; in_generator(&rt, alloc, instrs, 1)? == Verdict { n6: true, ..NONE });
     Ok(())
 }
@@ -308,7 +324,11 @@ fn a_copy_of_a_fresh_node(rt: HostRuntime) -> Result<(), AllocError> {
 #[test]
 fn a_copy_is_not_fresh(rt: HostRuntime) -> Result<(), AllocError> {
     let alloc = rt.alloc();
-    let instrs = [Instr::New(R0), Instr::Mov(R1, R0), Instr::IfMarked(R1, 3)];
+    let instrs = [
+        Instr::New(REF_0),
+        Instr::Mov(REF_1, REF_0),
+        Instr::IfMarked(REF_1, 3),
+    ];
     assert!(rt; in_generator(&rt, alloc, instrs, 2)? == NONE);
     Ok(())
 }
@@ -317,9 +337,9 @@ fn a_copy_is_not_fresh(rt: HostRuntime) -> Result<(), AllocError> {
 fn a_commit_of_a_fresh_node_twice(rt: HostRuntime) -> Result<(), AllocError> {
     let alloc = rt.alloc();
     let instrs = [
-        Instr::New(R0),
-        Instr::Null(R1),
-        commit(alloc, &[on_h(R1, R0), on_h(R1, R0)])?,
+        Instr::New(REF_0),
+        Instr::Null(REF_1),
+        commit(alloc, &[on_h(REF_1, REF_0), on_h(REF_1, REF_0)])?,
     ];
     assert!(rt; in_generator(&rt, alloc, instrs, 2)? == Verdict { n6: true, ..NONE });
     Ok(())
@@ -329,9 +349,9 @@ fn a_commit_of_a_fresh_node_twice(rt: HostRuntime) -> Result<(), AllocError> {
 fn a_commit_of_a_fresh_node_once(rt: HostRuntime) -> Result<(), AllocError> {
     let alloc = rt.alloc();
     let instrs = [
-        Instr::New(R0),
-        Instr::Null(R1),
-        commit(alloc, &[on_h(R1, R0), on_h(R1, R1)])?,
+        Instr::New(REF_0),
+        Instr::Null(REF_1),
+        commit(alloc, &[on_h(REF_1, REF_0), on_h(REF_1, REF_1)])?,
     ];
     assert!(rt; in_generator(&rt, alloc, instrs, 2)? == NONE);
     Ok(())
@@ -341,9 +361,9 @@ fn a_commit_of_a_fresh_node_once(rt: HostRuntime) -> Result<(), AllocError> {
 fn a_commit_that_expects_a_fresh_node(rt: HostRuntime) -> Result<(), AllocError> {
     let alloc = rt.alloc();
     let instrs = [
-        Instr::New(R0),
-        Instr::Null(R1),
-        commit(alloc, &[on_h(R0, R1)])?,
+        Instr::New(REF_0),
+        Instr::Null(REF_1),
+        commit(alloc, &[on_h(REF_0, REF_1)])?,
     ];
     assert!(rt; in_generator(&rt, alloc, instrs, 2)? == Verdict { n6: true, ..NONE });
     Ok(())
@@ -352,8 +372,8 @@ fn a_commit_that_expects_a_fresh_node(rt: HostRuntime) -> Result<(), AllocError>
 #[test]
 fn a_commit_that_keeps_a_fresh_node(rt: HostRuntime) -> Result<(), AllocError> {
     let alloc = rt.alloc();
-    let generator = generator(alloc, [Instr::New(R0)])?;
-    let wrapup = code(alloc, [Instr::IfMarked(R0, 1), Instr::ReturnNone])?;
+    let generator = generator(alloc, [Instr::New(REF_0)])?;
+    let wrapup = code(alloc, [Instr::IfMarked(REF_0, 1), Instr::ReturnNone])?;
     let op = op(alloc, generator, wrapup)?;
     assert!(rt; broken(&rt, alloc, &op, false, 0)? == NONE);
     assert!(rt; broken(&rt, alloc, &op, false, 1)? == Verdict { n6: true, ..NONE });
@@ -364,7 +384,7 @@ fn a_commit_that_keeps_a_fresh_node(rt: HostRuntime) -> Result<(), AllocError> {
 #[test]
 fn a_cycle_of_jumps(rt: HostRuntime) -> Result<(), AllocError> {
     let alloc = rt.alloc();
-    let instrs = [Instr::Jump(1), Instr::IfEq(N0, N0, 0)];
+    let instrs = [Instr::Jump(1), Instr::IfEq(NUM_0, NUM_0, 0)];
     assert!(rt; in_generator(&rt, alloc, instrs, 0)? == Verdict { n7: true, ..NONE });
     Ok(())
 }
@@ -376,9 +396,9 @@ fn a_cycle_behind_a_load(rt: HostRuntime) -> Result<(), AllocError> {
     let generator = generator(
         alloc,
         [
-            Instr::LoadRoot(N1, T),
-            Instr::IfEq(N0, N1, 0),
-            Instr::IfEq(N0, N1, 1),
+            Instr::LoadRoot(NUM_1, T),
+            Instr::IfEq(NUM_0, NUM_1, 0),
+            Instr::IfEq(NUM_0, NUM_1, 1),
         ],
     )?;
     let op = op(alloc, generator, code(alloc, [Instr::ReturnNone])?)?;
@@ -393,7 +413,11 @@ fn a_cycle_of_puts(rt: HostRuntime) -> Result<(), AllocError> {
     let alloc = rt.alloc();
     let generator = generator(
         alloc,
-        [Instr::New(R0), Instr::Put(R0, KEY, N0), Instr::Jump(1)],
+        [
+            Instr::New(REF_0),
+            Instr::Put(REF_0, KEY, NUM_0),
+            Instr::Jump(1),
+        ],
     )?;
     let op = op(alloc, generator, code(alloc, [Instr::ReturnNone])?)?;
     assert!(rt; broken(&rt, alloc, &op, false, 0)? == NONE);
@@ -404,7 +428,7 @@ fn a_cycle_of_puts(rt: HostRuntime) -> Result<(), AllocError> {
 #[test]
 fn a_cycle_whose_only_access_is_an_exchange(rt: HostRuntime) -> Result<(), AllocError> {
     let alloc = rt.alloc();
-    let instrs = [Instr::Null(R0), Instr::Cas(on_h(R0, R0), 1)];
+    let instrs = [Instr::Null(REF_0), Instr::Cas(on_h(REF_0, REF_0), 1)];
     assert!(rt; in_generator(&rt, alloc, instrs, 1)? == NONE);
     Ok(())
 }
@@ -412,7 +436,11 @@ fn a_cycle_whose_only_access_is_an_exchange(rt: HostRuntime) -> Result<(), Alloc
 #[test]
 fn a_kept_register_is_set(rt: HostRuntime) -> Result<(), AllocError> {
     let alloc = rt.alloc();
-    let instrs = [Instr::IfMarked(R0, 1), Instr::Null(R0), Instr::ReturnNone];
+    let instrs = [
+        Instr::IfMarked(REF_0, 1),
+        Instr::Null(REF_0),
+        Instr::ReturnNone,
+    ];
     assert!(rt; in_wrapup(&rt, alloc, instrs, 1)? == Verdict { n9: true, ..NONE });
     Ok(())
 }
@@ -421,9 +449,9 @@ fn a_kept_register_is_set(rt: HostRuntime) -> Result<(), AllocError> {
 fn a_kept_register_is_set_on_the_other_path(rt: HostRuntime) -> Result<(), AllocError> {
     let alloc = rt.alloc();
     let instrs = [
-        Instr::IfEq(N7, N7, 2),
-        Instr::Null(R0),
-        Instr::IfMarked(R0, 3),
+        Instr::IfEq(NUM_7, NUM_7, 2),
+        Instr::Null(REF_0),
+        Instr::IfMarked(REF_0, 3),
         Instr::ReturnNone,
     ];
     assert!(rt; in_wrapup(&rt, alloc, instrs, 1)? == Verdict { n9: true, ..NONE });
@@ -433,7 +461,7 @@ fn a_kept_register_is_set_on_the_other_path(rt: HostRuntime) -> Result<(), Alloc
 #[test]
 fn a_kept_register_is_marked_in_its_place(rt: HostRuntime) -> Result<(), AllocError> {
     let alloc = rt.alloc();
-    let instrs = [Instr::Mark(R0, R0), Instr::ReturnNone];
+    let instrs = [Instr::Mark(REF_0, REF_0), Instr::ReturnNone];
     assert!(rt;
         in_wrapup(&rt, alloc, instrs, 0)?
             == Verdict {
@@ -451,12 +479,12 @@ fn a_register_that_is_set_first_is_not_kept(rt: HostRuntime) -> Result<(), Alloc
     let wrapup = code(
         alloc,
         [
-            Instr::LoadRoot(R0, H),
-            Instr::LoadField(R1, R0, NEXT),
+            Instr::LoadRoot(REF_0, H),
+            Instr::LoadField(REF_1, REF_0, NEXT),
             Instr::ReturnNone,
         ],
     )?;
-    let generator = generator(alloc, [Instr::LoadRoot(R0, H)])?;
+    let generator = generator(alloc, [Instr::LoadRoot(REF_0, H)])?;
     let op = op(alloc, generator, wrapup)?;
     assert!(rt; broken(&rt, alloc, &op, true, 0)? == NONE);
     assert!(rt; broken(&rt, alloc, &op, true, 1)? == NONE);
@@ -466,7 +494,7 @@ fn a_register_that_is_set_first_is_not_kept(rt: HostRuntime) -> Result<(), Alloc
 #[test]
 fn a_load_through_a_kept_register(rt: HostRuntime) -> Result<(), AllocError> {
     let alloc = rt.alloc();
-    let instrs = [Instr::LoadField(R1, R0, NEXT), Instr::ReturnNone];
+    let instrs = [Instr::LoadField(REF_1, REF_0, NEXT), Instr::ReturnNone];
     assert!(rt; in_wrapup(&rt, alloc, instrs, 0)? == Verdict { n10: true, ..NONE });
     Ok(())
 }
@@ -474,7 +502,7 @@ fn a_load_through_a_kept_register(rt: HostRuntime) -> Result<(), AllocError> {
 #[test]
 fn a_copy_of_a_kept_register(rt: HostRuntime) -> Result<(), AllocError> {
     let alloc = rt.alloc();
-    let instrs = [Instr::Mov(R1, R0), Instr::ReturnNone];
+    let instrs = [Instr::Mov(REF_1, REF_0), Instr::ReturnNone];
     assert!(rt; in_wrapup(&rt, alloc, instrs, 0)? == Verdict { n10: true, ..NONE });
     Ok(())
 }
@@ -483,9 +511,9 @@ fn a_copy_of_a_kept_register(rt: HostRuntime) -> Result<(), AllocError> {
 fn an_unmark_of_a_register_that_is_kept_on_one_path(rt: HostRuntime) -> Result<(), AllocError> {
     let alloc = rt.alloc();
     let instrs = [
-        Instr::IfEq(N7, N7, 2),
-        Instr::LoadRoot(R0, H),
-        Instr::Unmark(R1, R0),
+        Instr::IfEq(NUM_7, NUM_7, 2),
+        Instr::LoadRoot(REF_0, H),
+        Instr::Unmark(REF_1, REF_0),
         Instr::ReturnNone,
     ];
     assert!(rt; in_wrapup(&rt, alloc, instrs, 2)? == Verdict { n10: true, ..NONE });
@@ -495,7 +523,7 @@ fn an_unmark_of_a_register_that_is_kept_on_one_path(rt: HostRuntime) -> Result<(
 #[test]
 fn a_kept_register_compared_with_itself(rt: HostRuntime) -> Result<(), AllocError> {
     let alloc = rt.alloc();
-    let instrs = [Instr::IfEq(R0, R0, 1), Instr::ReturnNone];
+    let instrs = [Instr::IfEq(REF_0, REF_0, 1), Instr::ReturnNone];
     assert!(rt; in_wrapup(&rt, alloc, instrs, 0)? == NONE);
     Ok(())
 }
@@ -504,13 +532,13 @@ fn a_kept_register_compared_with_itself(rt: HostRuntime) -> Result<(), AllocErro
 fn an_exchange_on_a_kept_node(rt: HostRuntime) -> Result<(), AllocError> {
     let alloc = rt.alloc();
     let entry = CasEntry {
-        place: Place::Field(R0, NEXT),
-        expected: R1,
-        replacement: R1,
+        place: Place::Field(REF_0, NEXT),
+        expected: REF_1,
+        replacement: REF_1,
         retire: None,
     };
     let instrs = [
-        Instr::LoadRoot(R1, H),
+        Instr::LoadRoot(REF_1, H),
         Instr::Cas(entry, 2),
         Instr::ReturnNone,
     ];
@@ -522,8 +550,8 @@ fn an_exchange_on_a_kept_node(rt: HostRuntime) -> Result<(), AllocError> {
 fn an_exchange_that_expects_a_kept_node(rt: HostRuntime) -> Result<(), AllocError> {
     let alloc = rt.alloc();
     let instrs = [
-        Instr::LoadRoot(R1, H),
-        Instr::Cas(on_h(R0, R1), 2),
+        Instr::LoadRoot(REF_1, H),
+        Instr::Cas(on_h(REF_0, REF_1), 2),
         Instr::ReturnNone,
     ];
     assert!(rt; in_wrapup(&rt, alloc, instrs, 1)? == Verdict { n11: true, ..NONE });
@@ -534,10 +562,10 @@ fn an_exchange_that_expects_a_kept_node(rt: HostRuntime) -> Result<(), AllocErro
 fn an_exchange_to_a_node_that_is_kept_on_one_path(rt: HostRuntime) -> Result<(), AllocError> {
     let alloc = rt.alloc();
     let instrs = [
-        Instr::IfEq(N7, N7, 2),
-        Instr::Null(R0),
-        Instr::LoadRoot(R1, H),
-        Instr::Cas(on_h(R1, R0), 4),
+        Instr::IfEq(NUM_7, NUM_7, 2),
+        Instr::Null(REF_0),
+        Instr::LoadRoot(REF_1, H),
+        Instr::Cas(on_h(REF_1, REF_0), 4),
         Instr::ReturnNone,
     ];
     assert!(rt; in_wrapup(&rt, alloc, instrs, 3)? == Verdict { n11: true, ..NONE });
@@ -547,7 +575,7 @@ fn an_exchange_to_a_node_that_is_kept_on_one_path(rt: HostRuntime) -> Result<(),
 #[test]
 fn a_register_that_nothing_sets(rt: HostRuntime) -> Result<(), AllocError> {
     let alloc = rt.alloc();
-    let instrs = [Instr::Mov(N1, N2)];
+    let instrs = [Instr::Mov(NUM_1, NUM_2)];
     assert!(rt; in_generator(&rt, alloc, instrs, 0)? == Verdict { n14: true, ..NONE });
     Ok(())
 }
@@ -555,7 +583,7 @@ fn a_register_that_nothing_sets(rt: HostRuntime) -> Result<(), AllocError> {
 #[test]
 fn a_register_that_only_the_reader_sets(rt: HostRuntime) -> Result<(), AllocError> {
     let alloc = rt.alloc();
-    let instrs = [Instr::Mov(N1, N1)];
+    let instrs = [Instr::Mov(NUM_1, NUM_1)];
     assert!(rt; in_generator(&rt, alloc, instrs, 0)? == Verdict { n14: true, ..NONE });
     Ok(())
 }
@@ -564,9 +592,9 @@ fn a_register_that_only_the_reader_sets(rt: HostRuntime) -> Result<(), AllocErro
 fn a_register_that_one_path_sets(rt: HostRuntime) -> Result<(), AllocError> {
     let alloc = rt.alloc();
     let instrs = [
-        Instr::IfEq(N0, N0, 2),
-        Instr::Set(N1, 5),
-        Instr::Mov(N2, N1),
+        Instr::IfEq(NUM_0, NUM_0, 2),
+        Instr::Set(NUM_1, 5),
+        Instr::Mov(NUM_2, NUM_1),
     ];
     assert!(rt; in_generator(&rt, alloc, instrs, 2)? == Verdict { n14: true, ..NONE });
     Ok(())
@@ -578,12 +606,12 @@ fn a_register_that_is_set_at_one_commit(rt: HostRuntime) -> Result<(), AllocErro
     let generator = generator(
         alloc,
         [
-            Instr::IfEq(N0, N0, 3),
-            Instr::Set(N1, 5),
+            Instr::IfEq(NUM_0, NUM_0, 3),
+            Instr::Set(NUM_1, 5),
             commit(alloc, &[])?,
         ],
     )?;
-    let op = op(alloc, generator, code(alloc, [Instr::Return(N1)])?)?;
+    let op = op(alloc, generator, code(alloc, [Instr::Return(NUM_1)])?)?;
     assert!(rt; broken(&rt, alloc, &op, true, 0)? == Verdict { n14: true, ..NONE });
     Ok(())
 }
@@ -591,7 +619,7 @@ fn a_register_that_is_set_at_one_commit(rt: HostRuntime) -> Result<(), AllocErro
 #[test]
 fn arguments_and_the_count_are_set_in_a_wrap_up(rt: HostRuntime) -> Result<(), AllocError> {
     let alloc = rt.alloc();
-    let wrapup = [Instr::Add(N1, N0, N7), Instr::Return(N1)];
+    let wrapup = [Instr::Add(NUM_1, NUM_0, NUM_7), Instr::Return(NUM_1)];
     assert!(rt; in_wrapup(&rt, alloc, wrapup, 0)? == NONE);
     Ok(())
 }
@@ -600,9 +628,9 @@ fn arguments_and_the_count_are_set_in_a_wrap_up(rt: HostRuntime) -> Result<(), A
 fn a_register_that_is_fresh_on_one_path_and_not_read(rt: HostRuntime) -> Result<(), AllocError> {
     let alloc = rt.alloc();
     let instrs = [
-        Instr::IfEq(N0, N0, 3),
-        Instr::New(R0),
-        Instr::Put(R0, KEY, N0),
+        Instr::IfEq(NUM_0, NUM_0, 3),
+        Instr::New(REF_0),
+        Instr::Put(REF_0, KEY, NUM_0),
     ];
     let generator = generator(alloc, instrs)?;
     let op = op(alloc, generator, code(alloc, [Instr::ReturnNone])?)?;
