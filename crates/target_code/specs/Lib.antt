@@ -1,0 +1,4 @@
+pub mod Paths
+pub mod Erasing
+pub mod Flaws
+pub mod Barred
