@@ -2,3 +2,4 @@ pub mod Paths
 pub mod Erasing
 pub mod Flaws
 pub mod Barred
+pub mod TargetSpelling

@@ -2,4 +2,7 @@
 //! Petrank (SPAA 2015).
 #![tactic(auto)]
 
+mod spelling;
 pub mod target;
+
+pub use spelling::show_target;
