@@ -3,3 +3,4 @@ pub mod Erasing
 pub mod Flaws
 pub mod Barred
 pub mod TargetSpelling
+pub mod TargetLimits

@@ -1,0 +1,2 @@
+pub mod TargetGrammar
+pub mod OpsShown

@@ -1,0 +1,6 @@
+//! The reader of targets.
+#![tactic(auto)]
+
+mod draft;
+mod own;
+mod version;
