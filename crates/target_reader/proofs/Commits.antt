@@ -1,5 +1,5 @@
 -- A commit and its entry lines: what the draft does line by line is what the reading of the instruction does at once.
-use Rattle.std.specs.Prelude.{◌≡◌, ℕ, zero, suc, ◌+◌, ◌==◌, false, List, [], ◌∷◌, ◌++◌, Option, Some, None, Result, Ok, Err}
+use Rattle.std.specs.Prelude.{◌≡◌, ℕ, zero, suc, ◌==◌, false, List, [], ◌∷◌, ◌++◌, Option, Some, None, Result, Ok, Err}
 use Rattle.std.proofs.Common.{refl, ap, arith}
 use Rattle.std.proofs.lemmas.Bool.Decides.{nat_tests}
 use Rattle.oa_text.specs.Lines.{TextLine}
@@ -11,7 +11,7 @@ use Rattle.norm_lang.specs.Faults.{LineFault, ◌>>=◌, at_line}
 use Rattle.norm_lang.specs.Instructions.{entry_line}
 use Rattle.line_words.specs.Lines.{words_in, first_word}
 use Rattle.norm_parser.specs.Instruction.{entry_in, entry_of, entry_or, next_entry, entries_from}
-use Rattle.target_reader.specs.TargetGrammar.{OpsDraft, with_target_entries, after_target_words, after_target_line, after_target_lines, ops_read}
+use Rattle.target_reader.specs.TargetGrammar.{OpsDraft, with_target_entries, after_target_words, after_target_line, ops_read}
 
 -- with the entries a draft waits in the same way, whatever it waited for before
 waits : (left a : ℕ) (draft : OpsDraft) (b entries : List CasEntry) → with_target_entries left (record draft { left = a; entries = b }) entries ≡ with_target_entries left draft entries

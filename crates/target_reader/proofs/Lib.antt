@@ -3,5 +3,7 @@ mod Opened
 mod Ordered
 mod Commits
 mod Plains
+mod Reading
+mod Targets
 mod OwnLines
 mod Versions

@@ -1,9 +1,11 @@
 -- Lines with their numbers in order, up to the last.
-use Rattle.std.proofs.Common.{◌≡◌, ℕ, zero, suc, ◌+◌, ◌<◌, ◌≤◌, List, [], ◌∷◌, ◌++◌, map, length, refl, sym, ap, ◌∙◌, arith, true, false, Bool}
-use Rattle.std.specs.Prelude.{nat_lt, if◌then◌else◌}
+use Rattle.std.proofs.Common.{◌≡◌, ℕ, suc, ◌+◌, ◌<◌, ◌≤◌, List, [], ◌∷◌, ◌++◌, map, length, refl, sym, ap, ◌∙◌, arith, true, false, Bool}
+use Rattle.std.specs.Prelude.{nat_lt, Option, Some, None, MatchOption}
 use Rattle.std.proofs.lemmas.Bool.{lt-ltb, le-ltb}
 use Rattle.std.proofs.lemmas.Bool.Decides.{nat_tests}
-use Rattle.oa_text.specs.Lines.{TextLine, lines_of, numbered}
+use Rattle.oa_text.specs.declared.line.Line.{Line}
+use Rattle.oa_text.specs.Lines.{TextLine, numbered}
+use Rattle.oa_text.specs.Shown.{line_shown}
 use Rattle.norm_parser.specs.Instruction.{AreFrom, AreLeftOf}
 use Rattle.norm_parser.specs.FrontRead.{from_line}
 use Rattle.norm_parser.proofs.LinesLeft.{number_is, from_next}
@@ -101,3 +103,11 @@ behind_line past line lines whole is up =
     let k : line.number ≡ up.first = number_is up.first line lines whole is up.ordered in
     let long : length whole ≡ suc (length lines) = ap length is in
     (from_next up.first (line.number + 1) line lines whole (ap (λ n. n + 1) k) is up.ordered, omega (arith, k, up.count, long))
+
+-- one line is taken before the number is reached, if there is one
+pub one_taken : (n start : ℕ) (taken : Option Line) (before after whole : List TextLine)
+    → MatchOption taken ((before ≡ []) × (after ≡ [])) (λ line. before ≡ line_shown line ∷ after) → n < start → AreFrom n before → from_line start before ≡ whole
+    → (from_line start after ≡ whole) × AreFrom (n + 1) after
+one_taken n start None before after whole is lt from same = (rw (← same, is.0, is.1) refl, nothing_left (n + 1) after is.1)
+one_taken n start (Some line) before after whole is lt from same =
+    (passed_over n start (line_shown line) after before whole lt is from same, from_next n (n + 1) (line_shown line) after before refl is from)

@@ -2,7 +2,7 @@
 use Rattle.std.specs.Prelude.{◌≡◌, ℕ, ◌+◌, true, false, List, ◌∷◌, Result, Ok, Err}
 use Rattle.std.proofs.Common.{refl, sym, ap, ◌∙◌}
 use Rattle.oa_text.specs.Lines.{TextLine}
-use Rattle.norm_lang.specs.Faults.{LineFault, at_line}
+use Rattle.norm_lang.specs.Faults.{LineFault}
 use Rattle.norm_parser.specs.Instruction.{AreFrom}
 use Rattle.norm_parser.proofs.LinesLeft.{number_is}
 use Rattle.target_reader.specs.TargetGrammar.{version_of, version_end}

@@ -3,8 +3,9 @@ use Rattle.std.specs.Prelude.{◌≡◌, ℕ, Bool, true, false, List, [], Optio
 use Rattle.oa_text.specs.Lines.{TextLine}
 use Rattle.norm_lang.specs.declared.text.FieldDecl.{FieldDecl}
 use Rattle.norm_lang.specs.declared.text.RootDecl.{RootDecl}
+use Rattle.norm_lang.specs.declared.text.Instr.{Instr}
 use Rattle.norm_lang.specs.Faults.{LineFault, too_many, ◌>>=◌, at_line}
-use Rattle.norm_parser.specs.Instruction.{step_of}
+use Rattle.norm_parser.specs.Instruction.{step_of, instr_read}
 use Rattle.line_words.specs.Lines.{words_in, first_word}
 use Rattle.line_words.specs.declared.fault.ParseError.{ParseError}
 use Rattle.line_words.specs.Answered.{Fails}
@@ -37,6 +38,14 @@ words_own draft (Some word) = own_line draft.part draft word.0 word.1
 -- the same of a line
 abbrev pub line_own : OpsDraft → TextLine → Result (Option OpsDraft) ℕ
 line_own draft line = words_in line >>= λ words. words_own draft (first_word words)
+
+-- whatever is read
+abbrev pub settled : Instr × List TextLine → Result (Unit {0}) LineFault
+settled read = Ok tt
+
+-- an instruction's line as it is read with no line behind it
+abbrev pub alone : List FieldDecl → List RootDecl → TextLine → Result (Unit {0}) LineFault
+alone fields roots line = instr_read fields roots line [] >>= settled
 
 -- a line that must be an instruction of the language, where its method is full: its own fault comes before the limit's
 abbrev pub too_many_at : List FieldDecl → List RootDecl → TextLine → Result (Unit {0}) LineFault

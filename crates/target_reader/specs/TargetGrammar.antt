@@ -10,7 +10,6 @@ use Rattle.norm_lang.specs.declared.text.Reg.{Reg}
 use Rattle.norm_lang.specs.declared.text.FieldDecl.{FieldDecl}
 use Rattle.norm_lang.specs.declared.text.RootDecl.{RootDecl}
 use Rattle.norm_lang.specs.declared.text.CasEntry.{CasEntry}
-use Rattle.norm_lang.specs.declared.text.Instr.{Instr}
 use Rattle.norm_lang.specs.declared.text.Instr.TheVariants as instr
 use Rattle.norm_lang.specs.declared.text.Op.{Op}
 use Rattle.norm_lang.specs.Faults.{LineFault, form_fault, too_many, ◌>>=◌, demand, at_line}

@@ -3,4 +3,8 @@
 
 mod draft;
 mod own;
+mod plain;
+mod reader;
 mod version;
+
+pub use reader::read_target;

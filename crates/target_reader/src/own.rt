@@ -69,7 +69,12 @@ fn op(alloc: Global, ops: &[TargetOp], words: &mut Words) -> Result<TargetOp, St
 }
 
 /// The first operation.
-fn in_outside(draft: &mut OpsDraft, alloc: Global, word: &[u8], words: &mut Words) -> Result<bool, Stop>
+fn in_outside(
+    draft: &mut OpsDraft,
+    alloc: Global,
+    word: &[u8],
+    words: &mut Words,
+) -> Result<bool, Stop>
     ensures { Gives (λ read. read_or_plain read (draft_shown draft.new)) result (in_outside (draft_shown draft.old) word.now words.old) }
 {
     if word != b"op".as_slice() {
@@ -156,7 +161,12 @@ fn next_op(draft: &mut OpsDraft, alloc: Global, words: &mut Words) -> Result<boo
 }
 
 /// A check or a guard, or another operation behind a whole one.
-fn in_wrap_up(draft: &mut OpsDraft, alloc: Global, word: &[u8], words: &mut Words) -> Result<bool, Stop>
+fn in_wrap_up(
+    draft: &mut OpsDraft,
+    alloc: Global,
+    word: &[u8],
+    words: &mut Words,
+) -> Result<bool, Stop>
     ensures line { Gives (λ read. read_or_plain read (draft_shown draft.new)) result (in_target_wrap_up (draft_shown draft.old) word.now words.old) }
     ensures same { IfOk result (λ read. read ≡ false → draft.new ≡ draft.old) }
 {
@@ -167,7 +177,12 @@ fn in_wrap_up(draft: &mut OpsDraft, alloc: Global, word: &[u8], words: &mut Word
     }
 }
 
-fn in_part(draft: &mut OpsDraft, alloc: Global, word: &[u8], words: &mut Words) -> Result<bool, Stop>
+fn in_part(
+    draft: &mut OpsDraft,
+    alloc: Global,
+    word: &[u8],
+    words: &mut Words,
+) -> Result<bool, Stop>
     ensures line { Gives (λ read. read_or_plain read (draft_shown draft.new)) result (own_line (draft_shown draft.old).part (draft_shown draft.old) word.now words.old) }
     ensures same { IfOk result (λ read. read ≡ false → draft.new ≡ draft.old) }
 {

@@ -1,4 +1,4 @@
-use Rattle.std.proofs.Common.{◌≡◌, ◌+◌, ◌≤◌, length}
+use Rattle.std.proofs.Common.{◌≡◌, ◌+◌, length}
 use Rattle.oa_text.specs.Lines.{lines_of, numbered}
 use Rattle.norm_parser.specs.Instruction.{AreFrom}
 use Rattle.target_reader.specs.TargetGrammar.{version_end}
