@@ -5,5 +5,6 @@ mod Commits
 mod Plains
 mod Reading
 mod Targets
+mod OpsLimits
 mod OwnLines
 mod Versions

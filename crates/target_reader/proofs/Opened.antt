@@ -6,7 +6,7 @@ use Rattle.norm_lang.specs.Declarations.{has_op}
 use Rattle.target_code.specs.declared.target.TargetOp.{TargetOp}
 use Rattle.target_reader.specs.TargetGrammar.{opened}
 
-opened_same : (ops : List TargetOp) (name : List ℕ) → list_any (λ op. bytes_eq op.name name) ops ≡ has_op (map opened ops) name
+pub opened_same : (ops : List TargetOp) (name : List ℕ) → list_any (λ op. bytes_eq op.name name) ops ≡ has_op (map opened ops) name
 opened_same [] name = refl
 opened_same (op ∷ ops) name = ap (λ b. bytes_eq op.name name || b) (opened_same ops name)
 

@@ -1,11 +1,12 @@
 -- Lines with their numbers in order, up to the last.
 use Rattle.std.proofs.Common.{◌≡◌, ℕ, suc, ◌+◌, ◌<◌, ◌≤◌, List, [], ◌∷◌, ◌++◌, map, length, refl, sym, ap, ◌∙◌, arith, true, false, Bool}
-use Rattle.std.specs.Prelude.{nat_lt, Option, Some, None, MatchOption}
+use Rattle.std.specs.Prelude.{nat_lt, Option, Some, None, MatchOption, ◌^◌}
 use Rattle.std.proofs.lemmas.Bool.{lt-ltb, le-ltb}
 use Rattle.std.proofs.lemmas.Bool.Decides.{nat_tests}
 use Rattle.oa_text.specs.declared.line.Line.{Line}
-use Rattle.oa_text.specs.Lines.{TextLine, numbered}
+use Rattle.oa_text.specs.Lines.{TextLine, lines_of, numbered}
 use Rattle.oa_text.specs.Shown.{line_shown}
+use Rattle.oa_text.proofs.Counts.{length-lines_of-le}
 use Rattle.norm_parser.specs.Instruction.{AreFrom, AreLeftOf}
 use Rattle.norm_parser.specs.FrontRead.{from_line}
 use Rattle.norm_parser.proofs.LinesLeft.{number_is, from_next}
@@ -111,3 +112,7 @@ pub one_taken : (n start : ℕ) (taken : Option Line) (before after whole : List
 one_taken n start None before after whole is lt from same = (rw (← same, is.0, is.1) refl, nothing_left (n + 1) after is.1)
 one_taken n start (Some line) before after whole is lt from same =
     (passed_over n start (line_shown line) after before whole lt is from same, from_next n (n + 1) (line_shown line) after before refl is from)
+
+-- a million bytes have few lines
+pub few_lines : (bytes : List ℕ) → length bytes < 1000000 → length (lines_of bytes) + 1 < 2 ^ 32
+few_lines bytes few = omega (arith, length-lines_of-le bytes)

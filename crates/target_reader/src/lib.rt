@@ -8,3 +8,6 @@ mod reader;
 mod version;
 
 pub use reader::read_target;
+
+#[cfg(test)]
+mod tests;

@@ -116,7 +116,8 @@ fn read_ops(
 #[tactic(auto, using(crate::proofs::Targets::few_fields, crate::proofs::Targets::few_roots, crate::proofs::Targets::fields_differ, crate::proofs::Targets::roots_differ))]
 pub fn read_target(alloc: Global, input: &[u8]) -> Result<Target, ParseError>
     requires { length (lines_of input.now) + 1 < 2 ^ 32 }
-    ensures { Answers (λ target. target) result (target_read input.now) }
+    ensures exact { Answers (λ target. target) result (target_read input.now) }
+    ensures within { IfOk result (λ target. IsTargetWithinLimits target) }
 {
     let behind = behind_version(input)?;
     let (head, first) = parse_head(alloc, input, behind)?;
