@@ -123,9 +123,11 @@ bare = Plain (Null (Ref 0)) ∷ Plain (Null (Ref 1)) ∷ Guard (Ref 0) ∷ Check
 
 -- the expected operand is guarded, and the new one isn't
 new_operand_bare : IsSpoilt bare replies Unguarded false 4
-new_operand_bare =
-    (Ref 1, inl (refl, refl),
-     (3 ∷ 2 ∷ 1 ∷ 0 ∷ [], (step bare 3 4 refl refl, (step bare 2 3 refl refl, (step bare 1 2 refl refl, (step bare 0 1 refl refl, refl)))), refl))
+new_operand_bare = (
+  Ref 1,
+  inl (refl, refl),
+  (3 ∷ 2 ∷ 1 ∷ 0 ∷ [], (step bare 3 4 refl refl, (step bare 2 3 refl refl, (step bare 1 2 refl refl, (step bare 0 1 refl refl, refl)))), refl),
+)
 
 -- the guards come behind the check
 abbrev late : List TargetInstr
@@ -140,9 +142,11 @@ cleared = Guard (Ref 0) ∷ Check ∷ Plain (New (Ref 1)) ∷ Check ∷ Plain (C
 
 cleared_by_new : IsSpoilt cleared replies GuardDropped false 4
 cleared_by_new =
-    inl
-    (Ref 0, inl (refl, refl),
-     (3 ∷ 2 ∷ 1 ∷ 0 ∷ [], (step cleared 3 4 refl refl, (step cleared 2 3 refl refl, (step cleared 1 2 refl refl, (step cleared 0 1 refl refl, refl)))), refl))
+    inl (
+      Ref 0,
+      inl (refl, refl),
+      (3 ∷ 2 ∷ 1 ∷ 0 ∷ [], (step cleared 3 4 refl refl, (step cleared 2 3 refl refl, (step cleared 1 2 refl refl, (step cleared 0 1 refl refl, refl)))), refl),
+    )
 
 -- a wrap-up that reads r0 keeps it, and must not guard it anew
 abbrev guards_again : List TargetInstr

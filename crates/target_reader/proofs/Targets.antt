@@ -1,6 +1,8 @@
 -- What declarations within the limits have.
-use Rattle.std.specs.Prelude.{◌≡◌, ℕ, ◌+◌, ◌≤◌, true, ◌&&◌, map, length}
-use Rattle.std.proofs.lemmas.Bool.{and_parts}
+use Rattle.std.specs.Prelude.{◌≡◌, ℕ, ◌≤◌, true, ◌&&◌, List, map, length, Ok}
+use Rattle.std.proofs.lemmas.Bool.{and_from, and_parts}
+use Rattle.std.proofs.lemmas.Result.{IfOk-at_ok}
+use Rattle.oa_text.specs.Lines.{TextLine}
 use Rattle.norm_lang.specs.LineWords.{is_name}
 use Rattle.norm_lang.specs.Limits.{are_different, is_root, are_fields, are_nodes, are_roots}
 use Rattle.norm_parser.specs.declared.head.Head.{Head}

@@ -254,7 +254,12 @@ fn targets_have_these_faults(rt: HostRuntime) {
     assert!(rt; rows.len() < 1_000_000);
     for line in lines(rows) {
         let (text, wanted) = row(&rt, line.bytes());
-        assert_eq!(rt; target_place(&rt, &text), wanted, "in row {}", line.number());
+        assert_eq!(rt;
+            target_place(&rt, &text),
+            wanted,
+            "in row {}",
+            line.number()
+        );
     }
 }
 
@@ -265,7 +270,12 @@ fn instruction_4097_is_one_too_many(rt: HostRuntime) {
     assert!(rt; rows.len() < 1_000_000);
     for line in lines(rows) {
         let (text, wanted) = limit(&rt, line.bytes());
-        assert_eq!(rt; target_place(&rt, &text), wanted, "in row {}", line.number());
+        assert_eq!(rt;
+            target_place(&rt, &text),
+            wanted,
+            "in row {}",
+            line.number()
+        );
     }
 }
 
@@ -277,10 +287,25 @@ fn instruction(target: &Target, at: usize) -> Option<&TargetInstr> {
 #[test]
 fn enqueue_is_read_back(rt: HostRuntime) {
     let target = read(&rt, ENQUEUE).expect(&rt, "it is a target");
-    assert!(rt; matches!(instruction(&target, 5), Some(TargetInstr::Plain(Instr::IfEq(Reg::Ref(1), Reg::Ref(2), 11)))));
-    assert!(rt; matches!(instruction(&target, 6), Some(TargetInstr::Guard(Reg::Ref(0)))));
+    assert!(rt;
+        matches!(
+            instruction(&target, 5),
+            Some(TargetInstr::Plain(Instr::IfEq(Reg::Ref(1), Reg::Ref(2), 11)))
+        )
+    );
+    assert!(rt;
+        matches!(
+            instruction(&target, 6),
+            Some(TargetInstr::Guard(Reg::Ref(0)))
+        )
+    );
     assert!(rt; matches!(instruction(&target, 12), Some(TargetInstr::Check)));
-    assert!(rt; matches!(instruction(&target, 18), Some(TargetInstr::Plain(Instr::Commit(_)))));
+    assert!(rt;
+        matches!(
+            instruction(&target, 18),
+            Some(TargetInstr::Plain(Instr::Commit(_)))
+        )
+    );
     assert!(rt; instruction(&target, 19).is_none());
     let spelled = show_target(rt.alloc(), &target).expect(&rt, "memory ran out");
     assert!(rt; spelled.items() == ENQUEUE);
