@@ -7,9 +7,9 @@ pub mod list;
 pub mod local;
 pub mod registers;
 mod shipped;
-mod spelling;
+pub mod spelling;
 pub mod text;
-mod word;
+pub mod word;
 
 pub use forks::{Fork, reach};
 pub use shipped::{shipped_queue, shipped_set};

@@ -51,7 +51,7 @@ impl<T> Listed<T> {
     }
 
     /// The items of a vector.
-    pub(crate) fn from_vec(items: Vec<T>) -> Listed<T>
+    pub fn from_vec(items: Vec<T>) -> Listed<T>
         ensures { result ≡ items.items }
     {
         Listed { items }

@@ -53,8 +53,8 @@ fn put_words(alloc: Global, out: &mut Vec<u8>, words: &[Word]) -> Result<(), All
     Ok(())
 }
 
-// A line of a first word and others.
-fn put_line(
+/// A line of a first word and others.
+pub fn put_line(
     alloc: Global,
     out: &mut Vec<u8>,
     first: &[u8],
@@ -436,6 +436,20 @@ fn entries_in(instr: &Instr) -> &[CasEntry]
     }
 }
 
+/// An instruction, and a line for each entry of a commit.
+pub fn put_instr_lines(
+    alloc: Global,
+    out: &mut Vec<u8>,
+    fields: &[FieldDecl],
+    roots: &[RootDecl],
+    instr: &Instr,
+) -> Result<(), AllocError>
+    ensures { OnOk result (out.new.items ≡ out.old.items ++ flat_map line_bytes (instr_lines fields.now roots.now instr.now)) }
+{
+    put_instr(alloc, out, fields, roots, instr)?;
+    put_entries(alloc, out, fields, roots, entries_in(instr))
+}
+
 fn put_code(
     alloc: Global,
     out: &mut Vec<u8>,
@@ -446,8 +460,7 @@ fn put_code(
     ensures { OnOk result (out.new.items ≡ out.old.items ++ flat_map line_bytes (code_lines fields.now roots.now code.now)) }
 {
     for instr in code {
-        put_instr(alloc, out, fields, roots, instr)?;
-        put_entries(alloc, out, fields, roots, entries_in(instr))?;
+        put_instr_lines(alloc, out, fields, roots, instr)?;
     }
     Ok(())
 }
@@ -484,15 +497,20 @@ fn put_ops(
     Ok(())
 }
 
-// The lines of the fields, nodes and roots.
-fn put_declarations(alloc: Global, out: &mut Vec<u8>, text: &Text) -> Result<(), AllocError>
-    ensures { OnOk result (out.new.items ≡ out.old.items ++ flat_map line_bytes (declaration_lines text.now)) }
+/// The lines of the fields, nodes and roots.
+pub fn put_declarations(
+    alloc: Global,
+    out: &mut Vec<u8>,
+    fields: &[FieldDecl],
+    nodes: &[NodeDecl],
+    roots: &[RootDecl],
+) -> Result<(), AllocError>
+    ensures { OnOk result (out.new.items ≡ out.old.items ++ flat_map line_bytes (declaration_lines (record { fields = fields.now; roots = roots.now; nodes = nodes.now; ops = [] }))) }
 {
-    let nodes = text.nodes.items();
-    put_fields(alloc, out, text.fields.items())?;
+    put_fields(alloc, out, fields)?;
     put_line(alloc, out, b"nodes", &[Word::Number(nodes.len() as u64)])?;
     put_nodes(alloc, out, nodes)?;
-    put_roots(alloc, out, text.roots.items())
+    put_roots(alloc, out, roots)
 }
 
 /// The canonical spelling of a text: the line `oa 1`, then the text's lines with one space between words, numbers in
@@ -503,13 +521,8 @@ pub fn show(alloc: Global, text: &Text) -> Result<ByteText, AllocError>
 {
     let mut out = Vec::new(alloc);
     put_line(alloc, &mut out, b"oa", &[Word::Bytes(b"1")])?;
-    put_declarations(alloc, &mut out, text)?;
-    put_ops(
-        alloc,
-        &mut out,
-        text.fields.items(),
-        text.roots.items(),
-        text.ops.items(),
-    )?;
+    let (fields, roots) = (text.fields.items(), text.roots.items());
+    put_declarations(alloc, &mut out, fields, text.nodes.items(), roots)?;
+    put_ops(alloc, &mut out, fields, roots, text.ops.items())?;
     Ok(Listed::from_vec(out))
 }

@@ -1,0 +1,10 @@
+mod TargetNews
+mod Opened
+mod Ordered
+mod Commits
+mod Plains
+mod Reading
+mod Targets
+mod OpsLimits
+mod OwnLines
+mod Versions

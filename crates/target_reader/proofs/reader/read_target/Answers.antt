@@ -1,0 +1,10 @@
+use Rattle.std.proofs.Common.{◌+◌, length}
+use Rattle.oa_text.specs.Lines.{lines_of, numbered}
+use Rattle.norm_parser.specs.FrontRead.{from_line}
+use Rattle.target_reader.proofs.Targets.{target_within}
+use Rattle.target_reader.proofs.reader.read_target.Goals as goal
+
+pub returns-clause-within : goal.returns-clause-within
+returns-clause-within c =
+    target_within c.in_ok-head.head (length (lines_of c.args.input.now) + 1) (from_line c.in_ok-head.first (numbered 1 (lines_of c.args.input.now))) c.in_ok-ops.ops
+    c.in_ok-head.ensures.within c.in_ok-ops.ensures

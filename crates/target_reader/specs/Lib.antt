@@ -1,0 +1,3 @@
+pub mod TargetGrammar
+pub mod OpsShown
+pub mod Laws

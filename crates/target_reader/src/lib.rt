@@ -1,0 +1,13 @@
+//! The reader of targets.
+#![tactic(auto)]
+
+mod draft;
+mod own;
+mod plain;
+mod reader;
+mod version;
+
+pub use reader::read_target;
+
+#[cfg(test)]
+mod tests;
