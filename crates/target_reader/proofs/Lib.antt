@@ -6,5 +6,8 @@ mod Plains
 mod Reading
 mod Targets
 mod OpsLimits
+mod CodeSpelled
+mod OpsSpelled
+mod Spelled
 mod OwnLines
 mod Versions

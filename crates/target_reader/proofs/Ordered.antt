@@ -23,6 +23,9 @@ numbered_bytes n (line ∷ lines) = ap (λ ls. line ∷ ls) (numbered_bytes (n +
 pub first_past : (lines : List (List ℕ)) (all : List TextLine) → all ≡ numbered 1 lines → 1 + length all ≡ length lines + 1
 first_past lines all same = let k = numbered_count 1 lines in rw same (omega (arith, k))
 
+pub numbered_from : (n : ℕ) (lines : List (List ℕ)) → AreFrom n (numbered n lines)
+numbered_from n lines = ap (numbered n) (sym (numbered_bytes n lines))
+
 -- they are numbered from 1
 pub first_from : (lines : List (List ℕ)) (all : List TextLine) → all ≡ numbered 1 lines → AreFrom 1 all
 first_from lines all same = rw same (ap (numbered 1) (sym (numbered_bytes 1 lines)))
@@ -55,7 +58,7 @@ pub all_up_to : (past : ℕ) (lines : List (List ℕ)) (all : List TextLine) →
 all_up_to past lines all is same = record { first = 1; ordered = first_from lines all same; count = first_past lines all same ∙ sym is }
 
 -- lines of which none stands before a number are all from it on
-all_left : (n start : ℕ) (lines : List TextLine) → start ≤ n → AreFrom n lines → from_line start lines ≡ lines
+pub all_left : (n start : ℕ) (lines : List TextLine) → start ≤ n → AreFrom n lines → from_line start lines ≡ lines
 all_left n start [] le from = refl
 all_left n start (line ∷ lines) le from =
     let k : line.number ≡ n = number_is n line lines (line ∷ lines) refl from in

@@ -2,6 +2,7 @@
 #![tactic(auto)]
 
 mod draft;
+pub mod laws;
 mod own;
 mod plain;
 mod reader;
