@@ -1,2 +1,6 @@
+mod Answering
 mod FirstBroken
+mod Parts
+mod Placing
+mod Tables
 mod Worked

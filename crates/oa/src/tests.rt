@@ -2,13 +2,14 @@
 
 ghost use Rattle.std.specs.Prelude.{◌<◌};
 
-use oa_cli::{Status, oa_main};
+use oa_cli::{Refusal, Status, oa_main};
 use oa_text::{MemorySink, MemorySource, OpenGate};
 use std::alloc::Global;
 use std::process::Abort;
 use std::test::Fail;
 use std::thread::Threads;
 
+mod refusals;
 mod texts;
 
 use texts::{LIST, QUEUE};
@@ -151,9 +152,10 @@ fn other_words_are_usage_and_read_nothing(rt: HostRuntime) -> Result<(), Fail> {
         read_fails: &[1],
         write_fails: &[],
     };
-    let lists: [&[&str]; 8] = [
+    let lists: [&[&str]; 9] = [
         &[],
         &["run", "run"],
+        &["check", "check"],
         &["show", "run"],
         &["fly"],
         &["--help"],
@@ -177,19 +179,49 @@ fn other_words_are_usage_and_read_nothing(rt: HostRuntime) -> Result<(), Fail> {
 
 #[test]
 fn documents_of_other_forms_are_unbuilt(rt: HostRuntime) -> Result<(), Fail> {
-    let documents: [&[&[u8]]; 9] = [
+    let documents: [&[&[u8]]; 7] = [
         &[b"oa 1\nuse list\nscript 0\ninsert 5\ncontains 5\nremove 5\ncontains 5\n"],
         &[COUNTER, b"slots 64\n", CALLS],
         &[COUNTER, b"phases 1 1000000000\n", CALLS],
         &[COUNTER, CALLS, b"schedule\n"],
         &[COUNTER, CALLS, b"script 1\n"],
-        &[BEFORE_WRAP, b"set r0 5\nreturnnone\n", CALLS],
-        &[BEFORE_WRAP, b"ifeq n0 n0 0\nreturnnone\n", CALLS],
         &[COUNTER, CALLS, b"add\n"],
         &[COUNTER],
     ];
     for parts in documents {
         says(&rt, rt.alloc(), "run", parts, Status::Unbuilt, b"unbuilt\n")?;
+    }
+    Ok(())
+}
+
+// The rules come first, though neither is of the first form.
+#[test]
+fn documents_of_other_forms_are_refused_where_rules_are_broken(
+    rt: HostRuntime,
+) -> Result<(), Fail> {
+    for (line, rule, written) in [
+        (
+            b"set r0 5\n" as &[u8],
+            1u8,
+            b"refused N1 op add wrap 0\n" as &[u8],
+        ),
+        (b"ifeq n0 n0 0\n", 7, b"refused N7 op add wrap 0\n"),
+    ] {
+        let refusal = Refusal {
+            rule,
+            op: 0,
+            wrapup: true,
+            at: 0,
+        };
+        let parts: &[&[u8]] = &[BEFORE_WRAP, line, b"returnnone\n", CALLS];
+        says(
+            &rt,
+            rt.alloc(),
+            "run",
+            parts,
+            Status::Refused { refusal },
+            written,
+        )?;
     }
     Ok(())
 }
@@ -203,7 +235,7 @@ fn is_bad<R: Abort + Threads + Sync>(
     fault: u8,
     written: &[u8],
 ) -> Result<(), Fail> {
-    for word in ["run", "show"] {
+    for word in ["run", "check", "show"] {
         let status = Status::BadDocument { line, fault };
         says(rt, alloc, word, parts, status, written)?;
     }

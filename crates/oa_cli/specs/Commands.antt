@@ -2,14 +2,15 @@
 use Rattle.std.specs.Prelude.{ℕ, List, [], ◌∷◌, Option, Some, None, codes, if◌then◌else◌}
 use Rattle.std.specs.Str.{bytes_eq}
 use Rattle.oa_cli.specs.declared.command.Command.{Command}
-use Rattle.oa_cli.specs.declared.command.Command.TheVariants.{Run, Show}
+use Rattle.oa_cli.specs.declared.command.Command.TheVariants.{Run, Check, Show}
 
--- `run` or `show`
+-- `run`, `check` or `show`
 abbrev pub command_named : List ℕ → Option Command
 command_named word =
     if bytes_eq word (codes "run") then Some Run
+    else (if bytes_eq word (codes "check") then Some Check
     else (if bytes_eq word (codes "show") then Some Show
-    else None)
+    else None))
 
 -- the command that words are: each is one word, and no list of words but these is one
 abbrev pub command_of : List (List ℕ) → Option Command

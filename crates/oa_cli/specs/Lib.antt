@@ -1,3 +1,4 @@
 pub mod Commands
 pub mod Statuses
+pub mod Refusals
 pub mod Verdicts

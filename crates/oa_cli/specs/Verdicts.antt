@@ -1,9 +1,13 @@
 -- What is read and judged, what is said of it, and the status.
-use Rattle.std.specs.Prelude.{◌≡◌, ℕ, ◌<◌, List, [], ◌∷◌, ◌++◌, ◌⊎◌, length, codes, decimal, Option, Some, None, Err, IsSome, if◌then◌else◌}
+use Rattle.std.specs.Prelude.{◌≡◌, ℕ, ◌<◌, List, [], ◌∷◌, ◌++◌, ◌⊎◌, length, codes, decimal, Option, Some, None, Err, IsSome, IsTrue, Bool, true, false, if◌then◌else◌}
 use Rattle.std.specs.Io.KnownBytes.{Consumes, IsAtEnd, Appends}
 use Rattle.oa_text.specs.Causes.{Rose}
 use Rattle.oa_text.specs.Written.{AppendsFront}
+use Rattle.norm_lang.specs.declared.text.Text.{Text}
+use Rattle.norm_lang.specs.NormalForm.{IsNormal}
 use Rattle.norm_lang.specs.Spelling.{spelling_of}
+use Rattle.norm_check.specs.declared.refusal.Refusal.{Refusal}
+use Rattle.norm_check.specs.Refusals.{IsRefused}
 use Rattle.norm_parser.specs.DraftShown.{fault_shown}
 use Rattle.line_words.specs.declared.fault.ParseFault.{ParseFault}
 use Rattle.documents.specs.declared.document.Document.{Document}
@@ -15,6 +19,7 @@ use Rattle.script_driver.specs.Run.{final_state}
 use Rattle.script_driver.specs.SourceRun.{RunsOnSource}
 use Rattle.script_driver.specs.Answers.{answers, is_partial}
 use Rattle.oa_cli.specs.Commands.{command_of}
+use Rattle.oa_cli.specs.Refusals.{refusal_line}
 use Rattle.oa_cli.specs.declared.command.Command.{Command}
 use Rattle.oa_cli.specs.declared.command.Command.TheVariants as commands
 use Rattle.oa_cli.specs.declared.verdict.Verdict.{Verdict}
@@ -37,23 +42,39 @@ pub record Untouched (old new : Option (List ℕ)) (before now : ℕ) : Type 0 w
   pub left : new ≡ old
   pub faults : now ≡ before
 
+-- the bytes are a document whose text is in normal form
+abbrev pub IsAccepted : List ℕ → Type 0
+IsAccepted bytes = (document : Document) × IsDocument bytes document × IsNormal document.text
+
+-- the bytes are a document with this text, and the refusal names the first rule that it breaks
+abbrev pub IsRefusedFor : List ℕ → Text → Refusal → Type 0
+IsRefusedFor bytes text refusal = (document : Document) × IsDocument bytes document × (text ≡ document.text) × IsRefused text refusal
+
 -- the plan of bytes of the first form was run to this state, and the run is one of its text on the source machine
 abbrev pub IsAnswered : List ℕ → Plan → CoreState → Type 0
-IsAnswered bytes plan state = (first_form bytes ≡ Some plan) × (state ≡ final_state plan) × RunsOnSource plan state
+IsAnswered bytes plan state = IsAccepted bytes × (first_form bytes ≡ Some plan) × (state ≡ final_state plan) × RunsOnSource plan state
 
 -- the bytes are a document, and this is the spelling of its text
 abbrev pub IsShown : List ℕ → List ℕ → Type 0
 IsShown bytes spelling = (document : Document) × IsDocument bytes document × (spelling ≡ spelling_of document.text)
 
--- the bytes are a document that isn't of the first form
+-- the bytes are a document whose text is in normal form, and that isn't of the first form
 abbrev pub IsOtherForm : List ℕ → Type 0
-IsOtherForm bytes = (document : Document) × IsDocument bytes document × (first_form bytes ≡ None)
+IsOtherForm bytes = IsAccepted bytes × (first_form bytes ≡ None)
+
+-- a command that judges a document's text by the rules
+abbrev pub takes_rules : Command → Bool
+takes_rules commands.Run = true
+takes_rules commands.Check = true
+takes_rules commands.Show = false
 
 -- the verdict of a command on the bytes of a document's length
 abbrev pub IsOfBytes : Command → List ℕ → Verdict → Type 0
 IsOfBytes command bytes (verdicts.Answered plan state) = (command ≡ commands.Run) × IsAnswered bytes plan state
+IsOfBytes command bytes verdicts.Accepted = (command ≡ commands.Check) × IsAccepted bytes
 IsOfBytes command bytes (verdicts.Shown spelling) = (command ≡ commands.Show) × IsShown bytes spelling
 IsOfBytes command bytes (verdicts.BadDocument fault) = document_read bytes ≡ Err (fault_shown fault)
+IsOfBytes command bytes (verdicts.Refused text refusal) = IsTrue (takes_rules command) × IsRefusedFor bytes text refusal
 IsOfBytes command bytes verdicts.OtherForm = (command ≡ commands.Run) × IsOtherForm bytes
 IsOfBytes command bytes verdicts.Memory = Unit {0}
 IsOfBytes command bytes _ = ⊥
@@ -66,12 +87,14 @@ IsOfInput words old new verdict =
 -- the verdict on the words, on the source's faults, and on its bytes
 abbrev pub IsJudged : List (List ℕ) → Option (List ℕ) → Option (List ℕ) → ℕ → ℕ → Verdict → Type 0
 IsJudged words old new before now (verdicts.Answered plan state) = IsOfInput words old new (verdicts.Answered plan state)
+IsJudged words old new before now verdicts.Accepted = IsOfInput words old new verdicts.Accepted
 IsJudged words old new before now (verdicts.Shown spelling) = IsOfInput words old new (verdicts.Shown spelling)
 IsJudged words old new before now verdicts.Usage = (command_of words ≡ None) × Untouched old new before now
 IsJudged words old new before now verdicts.ReadFault = IsSome (command_of words) × Rose before now
 IsJudged words old new before now verdicts.LongInput =
     IsSome (command_of words) × (bytes : List ℕ) × Consumes old new bytes × (length bytes ≡ LIMIT)
 IsJudged words old new before now (verdicts.BadDocument fault) = IsOfInput words old new (verdicts.BadDocument fault)
+IsJudged words old new before now (verdicts.Refused text refusal) = IsOfInput words old new (verdicts.Refused text refusal)
 IsJudged words old new before now verdicts.OtherForm = IsOfInput words old new verdicts.OtherForm
 IsJudged words old new before now verdicts.Memory = IsSome (command_of words)
 
@@ -82,21 +105,25 @@ fault_line fault = codes "line " ++ decimal fault.line ++ codes " fault " ++ dec
 -- the text of a verdict, each line with its newline
 abbrev pub text_for : Verdict → List ℕ
 text_for (verdicts.Answered plan state) = answers plan state
+text_for verdicts.Accepted = codes "accepted\n"
 text_for (verdicts.Shown spelling) = spelling
 text_for verdicts.Usage = codes "usage\n"
 text_for verdicts.ReadFault = codes "read fault\n"
 text_for verdicts.LongInput = codes "long input\n"
 text_for (verdicts.BadDocument fault) = fault_line fault
+text_for (verdicts.Refused text refusal) = refusal_line text refusal
 text_for verdicts.OtherForm = codes "unbuilt\n"
 text_for verdicts.Memory = codes "memory\n"
 
 abbrev pub status_for : Verdict → Status
 status_for (verdicts.Answered plan state) = if is_partial plan state then statuses.Partial else statuses.Done
+status_for verdicts.Accepted = statuses.Done
 status_for (verdicts.Shown spelling) = statuses.Done
 status_for verdicts.Usage = statuses.Usage
 status_for verdicts.ReadFault = statuses.ReadFault
 status_for verdicts.LongInput = statuses.LongInput
 status_for (verdicts.BadDocument fault) = statuses.BadDocument fault.line fault.number
+status_for (verdicts.Refused text refusal) = statuses.Refused refusal
 status_for verdicts.OtherForm = statuses.Unbuilt
 status_for verdicts.Memory = statuses.Memory
 

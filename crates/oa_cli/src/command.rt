@@ -9,6 +9,8 @@ ghost use Rattle.oa_cli.specs.Commands.{command_named, command_of};
 pub enum Command {
     /// The document's calls are run, and their answers written.
     Run,
+    /// The document's text is judged by the rules of the normal form.
+    Check,
     /// The document's text is written in its canonical spelling.
     Show,
 }
@@ -18,6 +20,8 @@ fn command_named(word: &str) -> Option<Command>
 {
     if word == "run" {
         Some(Command::Run)
+    } else if word == "check" {
+        Some(Command::Check)
     } else if word == "show" {
         Some(Command::Show)
     } else {

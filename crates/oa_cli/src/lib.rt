@@ -3,9 +3,13 @@
 
 mod command;
 mod input;
+mod rules;
 mod status;
 mod top;
+#[cfg(test)]
+mod tests;
 mod verdict;
 
+pub use norm_check::Refusal;
 pub use status::{Status, status_number};
 pub use top::oa_main;

@@ -3,10 +3,12 @@
 ghost use Rattle.std.specs.Prelude.{◌≡◌};
 ghost use Rattle.oa_cli.specs.Statuses.{number_of};
 
+use norm_check::Refusal;
+
 /// What became of a command.
 #[derive(Clone, Copy, Debug, PartialEq, Eq)]
 pub enum Status {
-    /// Every call has a reply, or the text was shown.
+    /// Every call has a reply, or the text was accepted or shown.
     Done,
     /// A printed answer is `spent` or `unreached`.
     Partial,
@@ -18,6 +20,8 @@ pub enum Status {
     LongInput,
     /// The bytes are no document: the first line that has a fault, from 1, and the fault's number.
     BadDocument { line: u32, fault: u8 },
+    /// The text isn't in normal form: the first rule that it breaks, and where.
+    Refused { refusal: Refusal },
     /// The sink failed.
     WriteFault,
     /// Want of memory, before the first step of a call.
@@ -37,6 +41,7 @@ pub fn status_number(status: Status) -> u8
         Status::ReadFault => 3,
         Status::LongInput => 4,
         Status::BadDocument { .. } => 5,
+        Status::Refused { .. } => 6,
         Status::WriteFault => 8,
         Status::Memory => 9,
         Status::Unbuilt => 10,

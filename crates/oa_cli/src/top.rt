@@ -4,16 +4,21 @@ ghost use Rattle.std.specs.Prelude.{◌≡◌, ◌<◌, ◌≤◌, length, map};
 ghost use Rattle.std.specs.String.{string_bytes};
 ghost use Rattle.oa_text.specs.Written.{Writes};
 ghost use Rattle.oa_text.specs.Causes.{HasCause};
+ghost use Rattle.norm_lang.specs.Limits.{IsWithinLimits};
+ghost use Rattle.norm_lang.specs.NormalForm.{IsNormal};
 ghost use Rattle.documents.specs.DocumentRead.{IsDocument};
 ghost use Rattle.oa_cli.specs.declared.verdict.Verdict.{Verdict};
-ghost use Rattle.oa_cli.specs.Verdicts.{IsOfBytes, IsJudged, IsSaid, fault_line, text_for, status_for};
+ghost use Rattle.oa_cli.specs.Verdicts.{IsOfBytes, IsJudged, IsSaid, fault_line, refusal_line, text_for, status_for};
 
 use crate::command::{Command, command_of};
 use crate::input::{InputError, read_input};
+use crate::rules::{judge_text, method_word, op_name};
 use crate::status::Status;
 use crate::verdict::Verdict;
 use line_words::fault::{ParseError, ParseFault};
+use norm_check::{CheckError, Refusal};
 use norm_lang::show;
+use norm_lang::text::Text;
 use oa_text::{Failed, Gate, Piece, Sink, Source, write_all, write_pieces};
 use script_driver::answers::{partial, write_answers};
 use script_driver::run::run_script;
@@ -28,10 +33,12 @@ const LIMIT: usize = 1_048_577;
 fn judge_document(alloc: Global, command: Command, bytes: &[u8], document: Document) -> Verdict
     requires short { length bytes.now < LIMIT }
     requires read { IsDocument bytes.now document }
+    requires within { IsWithinLimits document.text }
     ensures { IsOfBytes command bytes.now result }
 {
     match command {
         Command::Run => run_document(alloc, bytes, document),
+        Command::Check => check_document(alloc, bytes, document),
         Command::Show => match show(alloc, &document.text) {
             Ok(spelling) => Verdict::Shown(spelling),
             Err(_) => Verdict::Memory,
@@ -39,10 +46,38 @@ fn judge_document(alloc: Global, command: Command, bytes: &[u8], document: Docum
     }
 }
 
-/// Runs the calls of a document that was read of the bytes, if it is of the first form.
+/// Judges the text of a document that was read of the bytes by the rules.
+fn check_document(alloc: Global, bytes: &[u8], document: Document) -> Verdict
+    requires read { IsDocument bytes.now document }
+    requires within { IsWithinLimits document.text }
+    ensures { IsOfBytes Command.Check bytes.now result }
+{
+    match judge_text(alloc, &document.text) {
+        Ok(()) => Verdict::Accepted,
+        Err(CheckError::Refused(refusal)) => Verdict::Refused(document.text, refusal),
+        Err(CheckError::Memory) => Verdict::Memory,
+    }
+}
+
+/// Runs the calls of a document that was read of the bytes, if the rules accept its text.
 fn run_document(alloc: Global, bytes: &[u8], document: Document) -> Verdict
     requires short { length bytes.now < LIMIT }
     requires read { IsDocument bytes.now document }
+    requires within { IsWithinLimits document.text }
+    ensures { IsOfBytes Command.Run bytes.now result }
+{
+    match judge_text(alloc, &document.text) {
+        Ok(()) => run_accepted(alloc, bytes, document),
+        Err(CheckError::Refused(refusal)) => Verdict::Refused(document.text, refusal),
+        Err(CheckError::Memory) => Verdict::Memory,
+    }
+}
+
+/// Runs the calls of a document whose text is in normal form, if it is of the first form.
+fn run_accepted(alloc: Global, bytes: &[u8], document: Document) -> Verdict
+    requires short { length bytes.now < LIMIT }
+    requires read { IsDocument bytes.now document }
+    requires normal { IsNormal document.text }
     ensures { IsOfBytes Command.Run bytes.now result }
 {
     match first_plan(alloc, bytes, document) {
@@ -103,6 +138,25 @@ fn write_fault<K: Sink>(out: &mut K, fault: ParseFault) -> Result<(), Failed>
     )
 }
 
+/// Writes the line that tells why a text is refused.
+fn write_refusal<K: Sink>(out: &mut K, text: &Text, refusal: Refusal) -> Result<(), Failed>
+    ensures bytes { Writes (K.written out.old) (K.written out.new) (refusal_line text.now refusal) result }
+    ensures cause { HasCause (K.faults out.old) (K.faults out.new) result }
+{
+    write_pieces(
+        out,
+        &[
+            Piece::Bytes(b"refused N"),
+            Piece::Number(refusal.rule as u64),
+            Piece::Bytes(b" op "),
+            Piece::Bytes(op_name(text, refusal.op)),
+            Piece::Bytes(method_word(refusal.wrapup)),
+            Piece::Number(refusal.at as u64),
+            Piece::Bytes(b"\n"),
+        ],
+    )
+}
+
 /// Writes the text of a verdict.
 fn write_verdict<K: Sink>(out: &mut K, verdict: &Verdict) -> Result<(), Failed>
     ensures bytes { Writes (K.written out.old) (K.written out.new) (text_for verdict.now) result }
@@ -110,11 +164,13 @@ fn write_verdict<K: Sink>(out: &mut K, verdict: &Verdict) -> Result<(), Failed>
 {
     match verdict {
         Verdict::Answered(plan, state) => write_answers(out, plan, state),
+        Verdict::Accepted => write_pieces(out, &[Piece::Bytes(b"accepted\n")]),
         Verdict::Shown(spelling) => write_all(out, spelling.items()),
         Verdict::Usage => write_pieces(out, &[Piece::Bytes(b"usage\n")]),
         Verdict::ReadFault => write_pieces(out, &[Piece::Bytes(b"read fault\n")]),
         Verdict::LongInput => write_pieces(out, &[Piece::Bytes(b"long input\n")]),
         Verdict::BadDocument(fault) => write_fault(out, *fault),
+        Verdict::Refused(text, refusal) => write_refusal(out, text, *refusal),
         Verdict::OtherForm => write_pieces(out, &[Piece::Bytes(b"unbuilt\n")]),
         Verdict::Memory => write_pieces(out, &[Piece::Bytes(b"memory\n")]),
     }
@@ -131,7 +187,7 @@ fn status_of(verdict: &Verdict) -> Status
                 Status::Done
             }
         }
-        Verdict::Shown(_) => Status::Done,
+        Verdict::Accepted | Verdict::Shown(_) => Status::Done,
         Verdict::Usage => Status::Usage,
         Verdict::ReadFault => Status::ReadFault,
         Verdict::LongInput => Status::LongInput,
@@ -139,6 +195,7 @@ fn status_of(verdict: &Verdict) -> Status
             line: fault.line,
             fault: fault.number,
         },
+        Verdict::Refused(_, refusal) => Status::Refused { refusal: *refusal },
         Verdict::OtherForm => Status::Unbuilt,
         Verdict::Memory => Status::Memory,
     }
@@ -154,8 +211,8 @@ fn say<K: Sink>(out: &mut K, verdict: &Verdict) -> Status
     status_of(verdict)
 }
 
-/// Does all that the program does: reads the words and the source, and writes the answers to the document's calls, or its
-/// text, or why there are none. The clause has three parts: what was read and judged, what was said, and the status. The
+/// Does all that the program does: reads the words and the source, and writes the answers to the document's calls, or
+/// that its text is accepted, or its text, or why there are none. The clause has three parts: what was read and judged, what was said, and the status. The
 /// gate is for callers on threads, which come later.
 pub fn oa_main<R: Threads + Sync, S: Source, K: Sink, G: Gate + Sync>(
     rt: &R,

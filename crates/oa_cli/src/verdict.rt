@@ -1,7 +1,8 @@
 //! What becomes of a command and its input.
 
 use line_words::fault::ParseFault;
-use norm_lang::text::ByteText;
+use norm_check::Refusal;
+use norm_lang::text::{ByteText, Text};
 use script_driver::caller::CoreState;
 use script_driver::plan::Plan;
 
@@ -10,6 +11,8 @@ use script_driver::plan::Plan;
 pub enum Verdict {
     /// The plan of the document was run to this state.
     Answered(Plan, CoreState),
+    /// The document's text is in normal form.
+    Accepted,
     /// The canonical spelling of the document's text.
     Shown(ByteText),
     /// The words are no command.
@@ -19,6 +22,8 @@ pub enum Verdict {
     LongInput,
     /// The bytes are no document.
     BadDocument(ParseFault),
+    /// The document's text isn't in normal form, and this is why.
+    Refused(Text, Refusal),
     /// The document can't be run yet.
     OtherForm,
     Memory,

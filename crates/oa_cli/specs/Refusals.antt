@@ -1,0 +1,34 @@
+-- What is told of a text that the rules refuse.
+use Rattle.std.specs.Prelude.{ℕ, Bool, true, false, List, [], ◌∷◌, ◌++◌, codes, decimal, Option, Some, None, slice_get, Result, Ok, Err}
+use Rattle.norm_lang.specs.declared.text.Op.{Op}
+use Rattle.norm_lang.specs.declared.text.Text.{Text}
+use Rattle.norm_lang.specs.NormalForm.{IsNormal}
+use Rattle.norm_check.specs.declared.refusal.Refusal.{Refusal}
+use Rattle.norm_check.specs.declared.refusal.CheckError.{CheckError}
+use Rattle.norm_check.specs.declared.refusal.CheckError.TheVariants.{Memory, Refused}
+use Rattle.norm_check.specs.Refusals.{IsRefused}
+
+-- the text is normal, or the refusal names the first rule that it breaks; memory may run out before
+abbrev pub IsJudgedText : Text → Result (Unit {0}) CheckError → Type 0
+IsJudgedText text (Ok u) = IsNormal text
+IsJudgedText text (Err Memory) = Unit {0}
+IsJudgedText text (Err (Refused refusal)) = IsRefused text refusal
+
+-- the name of an operation, no bytes where there is none
+abbrev pub name_of : Option Op → List ℕ
+name_of None = []
+name_of (Some op) = op.name
+
+-- the name of a text's operation, by its number
+abbrev pub op_name : Text → ℕ → List ℕ
+op_name text number = name_of (slice_get text.ops number)
+
+-- a generator is told as `gen`, a wrap-up as `wrap`
+abbrev pub method_word : Bool → List ℕ
+method_word false = codes " gen "
+method_word true = codes " wrap "
+
+-- the line that tells why a text is refused: the rule, the operation, the method and the instruction's number in it
+abbrev pub refusal_line : Text → Refusal → List ℕ
+refusal_line text refusal =
+    codes "refused N" ++ decimal refusal.rule ++ codes " op " ++ op_name text refusal.op ++ method_word refusal.wrapup ++ decimal refusal.at ++ 10 ∷ []
