@@ -8,19 +8,18 @@ ghost use Rattle.norm_check.specs.Judging.{IsSubject, AreAnswers, IsFirstYes};
 ghost use Rattle.norm_check.specs.Scopes.{Judges, AtPlace, InMethod, InOp, Anywhere};
 ghost use Rattle.norm_check.specs.KeptTable.{AreKeptOf};
 
+use crate::ends::has_wrong_end;
+use crate::kinds::{computes_on_reference, has_wrong_kind};
+use crate::ranges::has_wrong_range;
 use crate::refusal::{CheckError, Refusal};
+use crate::retired::has_wrong_retire;
 use norm_lang::list::Listed;
 use norm_lang::text::{Instr, Op, Text};
-use crate::ends::has_wrong_end;
-use norm_paths::Kept;
-use crate::kinds::{computes_on_reference, has_wrong_kind};
-use norm_paths::OpFacts;
 use norm_paths::path_rules::{
     exchanges_kept, follows_kept, has_wrong_put, leaks_fresh, loops_blindly, makes_nodes_again,
     reads_unset, sets_kept, shows_fresh,
 };
-use crate::ranges::has_wrong_range;
-use crate::retired::has_wrong_retire;
+use norm_paths::{Kept, OpFacts};
 use std::alloc::{AllocError, Global};
 
 /// An operation of a text by its number, and what was found out about it.

@@ -5,9 +5,9 @@ mod command;
 mod input;
 mod rules;
 mod status;
-mod top;
 #[cfg(test)]
 mod tests;
+mod top;
 mod verdict;
 
 pub use norm_check::Refusal;
