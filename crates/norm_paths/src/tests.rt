@@ -62,7 +62,7 @@ const NONE: Verdict = Verdict {
 
 fn code<const N: usize>(alloc: Global, instrs: [Instr; N]) -> Result<Code, AllocError> {
     let mut code = Listed::empty(alloc);
-    for instr in instrs {
+    for instr in Vec::from_array(alloc, instrs)? {
         code.push(instr)?;
     }
     Ok(code)

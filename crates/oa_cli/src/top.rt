@@ -8,7 +8,8 @@ ghost use Rattle.norm_lang.specs.Limits.{IsWithinLimits};
 ghost use Rattle.norm_lang.specs.NormalForm.{IsNormal};
 ghost use Rattle.documents.specs.DocumentRead.{IsDocument};
 ghost use Rattle.oa_cli.specs.declared.verdict.Verdict.{Verdict};
-ghost use Rattle.oa_cli.specs.Verdicts.{IsOfBytes, IsJudged, IsSaid, fault_line, refusal_line, text_for, status_for};
+ghost use Rattle.oa_cli.specs.Refusals.{refusal_line};
+ghost use Rattle.oa_cli.specs.Verdicts.{IsOfBytes, IsJudged, IsSaid, fault_line, text_for, status_for};
 
 use crate::command::{Command, command_of};
 use crate::input::{InputError, read_input};
