@@ -6,6 +6,7 @@ set -eu
 cd "$(dirname "$0")/.."
 work=$(mktemp -d)
 trap 'rm -rf "$work"' EXIT
+. bench/least.sh
 
 # A text with so many operations, and so many instructions in each method: an even number.
 text() {
@@ -35,18 +36,6 @@ text() {
     }'
 }
 
-least() {
-  best=
-  for _ in 1 2 3 4 5; do
-    start=$(date +%s%N)
-    ./oa check <"$1" >"$work/out" || true
-    end=$(date +%s%N)
-    spent=$(((end - start) / 1000))
-    if [ -z "$best" ] || [ "$spent" -lt "$best" ]; then best=$spent; fi
-  done
-  echo "$best"
-}
-
 # The text is to be accepted: otherwise what is timed is a refusal.
 accepted() {
   ./oa check <"$1" >"$work/out" || { echo "refused: $(head -c 100 "$work/out")"; exit 1; }
@@ -54,9 +43,9 @@ accepted() {
 
 text 1 2 >"$work/least"
 accepted "$work/least"
-empty=$(least "$work/least")
+empty=$(least check "$work/least")
 for count in 64 128 256; do
   text 16 "$count" >"$work/in"
   accepted "$work/in"
-  echo "$count instructions a method ($(wc -c <"$work/in") bytes): $(($(least "$work/in") - empty)) microseconds"
+  echo "$count instructions a method ($(wc -c <"$work/in") bytes): $(($(least check "$work/in") - empty)) microseconds"
 done

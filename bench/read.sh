@@ -6,6 +6,7 @@ set -eu
 cd "$(dirname "$0")/.."
 work=$(mktemp -d)
 trap 'rm -rf "$work"' EXIT
+. bench/least.sh
 
 # A text with so many operations of 256 instructions in each method, 4 fields, 256 nodes and 256 roots. Each instruction is
 # a commit of 4 exchanges on the last root.
@@ -48,26 +49,14 @@ calls() {
   awk -v calls="$1" 'BEGIN { print "oa 1"; print "use list"; print "script 0"; for (n = 0; n < calls; n++) print "insert " n % 10 }'
 }
 
-least() {
-  best=
-  for _ in 1 2 3 4 5; do
-    start=$(date +%s%N)
-    ./oa show <"$1" >"$work/out" || true
-    end=$(date +%s%N)
-    spent=$(((end - start) / 1000))
-    if [ -z "$best" ] || [ "$spent" -lt "$best" ]; then best=$spent; fi
-  done
-  echo "$best"
-}
-
 # The input is to be a document: otherwise what is timed is a refusal.
 measure() {
   "$1" "$2" >"$work/in"
   ./oa show <"$work/in" >"$work/out" || { echo "$1 $2: refused: $(head -c 100 "$work/out")"; exit 1; }
-  echo "$1 $2 ($(wc -c <"$work/in") bytes): $(($(least "$work/in") - empty)) microseconds"
+  echo "$1 $2 ($(wc -c <"$work/in") bytes): $(($(least show "$work/in") - empty)) microseconds"
 }
 
-empty=$(least /dev/null)
+empty=$(least show /dev/null)
 for ops in 4 8 12 16; do measure text "$ops"; done
 for size in 256 512 768 1024; do measure long_comments "$size"; done
 for size in 256 512 768 1024; do measure short_comments "$size"; done
