@@ -1,9 +1,10 @@
-# For the scripts beside it: the least time of five runs of a command of `oa` on an input, in microseconds.
+# For the scripts beside it: the least time of five runs of a command of `oa`, or of another program, on an input, in
+# microseconds.
 least() { # COMMAND INPUT
   local best= start end spent
   for _ in 1 2 3 4 5; do
     start=$(date +%s%N)
-    ./oa "$1" <"$2" >"$work/out" || true
+    "${program:-./oa}" "$1" <"$2" >"$work/out" || true
     end=$(date +%s%N)
     spent=$(((end - start) / 1000))
     if [ -z "$best" ] || [ "$spent" -lt "$best" ]; then best=$spent; fi

@@ -74,8 +74,8 @@ pub few_instrs : (op : Op) (wrapup : Bool) → IsOpWithin op → length (code_of
 few_instrs op wrapup within = (length_within within.0 within.1 op wrapup within.2).1
 
 -- an item of the operations is the operation with its number
-pub item_stands : (ops items : List Op) (n : ℕ) (op d : Op) → items ≡ ops → n < length items → op ≡ slice_index_or items n d → slice_get ops n ≡ Some op
-item_stands ops items n op d same less is = subst (λ (xs : List Op). slice_get xs n ≡ Some op) same (slice_get-get_or items n d less ∙ ap Some (sym is))
+pub item_stands : {X : Type 0} (ops items : List X) (n : ℕ) (op d : X) → items ≡ ops → n < length items → op ≡ slice_index_or items n d → slice_get ops n ≡ Some op
+item_stands {X} ops items n op d same less is = subst (λ (xs : List X). slice_get xs n ≡ Some op) same (slice_get-get_or items n d less ∙ ap Some (sym is))
 
 operation_at : (ops : List Op) (n : ℕ) → n < length ops → (op : Op) × (slice_get ops n ≡ Some op)
 operation_at [] n less = absurd (omega (arith, less))

@@ -55,7 +55,7 @@ or_right true b is = refl
 or_right false b is = is
 
 -- a fork to places leads to those of them that are there
-fork_leads : (count : ℕ) (places : List ℕ) (to : ℕ) → length places ≤ 2 → LeadsTo (fork_to count places) to → IsTrue (list_any (λ next. next == to) places) × (to < count)
+pub fork_leads : (count : ℕ) (places : List ℕ) (to : ℕ) → length places ≤ 2 → LeadsTo (fork_to count places) to → IsTrue (list_any (λ next. next == to) places) × (to < count)
 fork_leads count [] to few leads = elim leads [ inl is ↦ cc | inr is ↦ cc ]
 fork_leads count (a ∷ []) to few leads = elim leads [
   | inl is ↦ (let found = place_to count a to is in (or_left (a == to) false found.0, found.1))
@@ -67,7 +67,7 @@ fork_leads count (a ∷ b ∷ []) to few leads = elim leads [
 ]
 fork_leads count (a ∷ b ∷ c ∷ more) to few leads = let no : ⊥ = omega (arith, few) in absurd no
 
-leads_fork : (count : ℕ) (places : List ℕ) (to : ℕ) → length places ≤ 2 → IsTrue (list_any (λ next. next == to) places) → to < count → LeadsTo (fork_to count places) to
+pub leads_fork : (count : ℕ) (places : List ℕ) (to : ℕ) → length places ≤ 2 → IsTrue (list_any (λ next. next == to) places) → to < count → LeadsTo (fork_to count places) to
 leads_fork count [] to few is lt = cc
 leads_fork count (a ∷ []) to few is lt = elim (or_cases (a == to) false is) [ inl one ↦ inl (to_place count a to one lt) | inr never ↦ cc ]
 leads_fork count (a ∷ b ∷ []) to few is lt = elim (or_cases (a == to) ((b == to) || false) is) [
@@ -77,7 +77,7 @@ leads_fork count (a ∷ b ∷ []) to few is lt = elim (or_cases (a == to) ((b ==
 leads_fork count (a ∷ b ∷ c ∷ more) to few is lt = let no : ⊥ = omega (arith, few) in absurd no
 
 -- an instruction has at most two successors
-few_successors : (i : Instr) (at : ℕ) → length (formed_successors i at) ≤ 2
+pub few_successors : (i : Instr) (at : ℕ) → length (formed_successors i at) ≤ 2
 few_successors (instr.Set d n) at = omega arith
 few_successors (instr.Mov d a) at = omega arith
 few_successors (instr.Add d a b) at = omega arith

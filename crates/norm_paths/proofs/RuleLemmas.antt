@@ -32,11 +32,11 @@ use Rattle.norm_paths.proofs.Registers.{register_at, place_lt}
 use Rattle.norm_paths.proofs.Within.{AllRegisters, and_left, and_right, and_both, reads_within, sets_within, instr_within}
 use Rattle.norm_paths.proofs.Starting.{or_right, not_true, true_not, carried_within}
 
-or_left : (a b : Bool) → IsTrue a → IsTrue (a || b)
+pub or_left : (a b : Bool) → IsTrue a → IsTrue (a || b)
 or_left true b is = refl
 or_left false b is = cc
 
-or_cases : (a b : Bool) → IsTrue (a || b) → IsTrue a ⊎ IsTrue b
+pub or_cases : (a b : Bool) → IsTrue (a || b) → IsTrue a ⊎ IsTrue b
 or_cases true b is = inl refl
 or_cases false b is = inr is
 
@@ -52,7 +52,7 @@ any_at : (test : Reg → Bool) (r : Reg) → IsTrue (is_register r) → IsTrue (
 any_at test r is passes = list_any_at test all_registers (register_place r) r (place_lt r is) (ap test (register_at r r is) ∙ passes)
 
 -- some register passes a test and has a property that another test decides
-both_tests : (test decides : Reg → Bool) (A : Reg → Type 0) → ((r : Reg) → IsTrue (test r) → IsTrue (is_register r)) → ((r : Reg) → IsTrue (is_register r) → IsTrue (decides r) ↔ A r)
+pub both_tests : (test decides : Reg → Bool) (A : Reg → Type 0) → ((r : Reg) → IsTrue (test r) → IsTrue (is_register r)) → ((r : Reg) → IsTrue (is_register r) → IsTrue (decides r) ↔ A r)
     → IsTrue (list_any (λ r. test r && decides r) all_registers) ↔ ((r : Reg) × IsTrue (test r) × A r)
 both_tests test decides A registers decided = (
   (λ any. let found = any_of (λ r. test r && decides r) all_registers refl any in

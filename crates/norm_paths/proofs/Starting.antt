@@ -171,6 +171,13 @@ is_carried op facts r held carried =
     passes_any (reads_carried facts r) 0 op.wrapup
     (at, i, reading.1, subst (λ (n : ℕ). IsTrue (reads_carried facts r i n)) (sym (zero_plus at)) (and_both (reads r i) (is_unset_by facts r at) reading.2 ((held.unset at).1 carried.2)))
 
+-- carried over, by a scan of the wrap-up
+pub carried_right : (op : Op) (facts : List (List Bool)) (r : Reg) (code : List Instr) (result : Bool)
+    → AreHeld op.wrapup r (facts_for facts r) → code ≡ op.wrapup → result ≡ is_carried_by code facts r → IsTrue result ↔ IsCarried op r
+carried_right op facts r code result held reads_it is =
+    let same : result ≡ is_carried_by op.wrapup facts r = is ∙ ap (λ (c : List Instr). is_carried_by c facts r) reads_it in
+    ((λ answer. carried_is op facts r held (sym same ∙ answer)), λ carried. same ∙ is_carried op facts r held carried)
+
 -- what is carried over is a register
 pub carried_within : (op : Op) (r : Reg) → IsOpWithin op → IsCarried op r → IsTrue (is_register r)
 carried_within op r within carried =

@@ -54,7 +54,7 @@ impl Kept {
 }
 
 /// Whether some instruction reads the register, and some path to it doesn't set it.
-fn is_carried(code: &[Instr], facts: &[Facts], register: Reg) -> bool
+pub(crate) fn is_carried(code: &[Instr], facts: &[Facts], register: Reg) -> bool
     ensures { result ≡ is_carried_by code.now facts.now register }
 {
     for (at, instr) in code.iter().enumerate() {

@@ -6,12 +6,13 @@ mod cycles;
 mod held;
 mod kept;
 mod method;
-mod moves;
+pub mod moves;
 mod open_reads;
 pub mod path_rules;
 mod started;
-mod uses;
+pub mod uses;
 
+pub use held::REGISTERS;
 pub use kept::Kept;
 pub use method::{MethodFacts, OpFacts};
 

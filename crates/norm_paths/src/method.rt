@@ -1,12 +1,15 @@
 //! What is found out about an operation, once, before its rules are judged.
 
-ghost use Rattle.std.specs.Prelude.{◌≡◌, ◌<◌, ◌^◌, length, IfOk};
+ghost use Rattle.std.specs.Prelude.{◌≡◌, ◌↔◌, ◌<◌, ◌^◌, length, IfOk, IsTrue};
+ghost use Rattle.norm_lang.specs.Limits.{is_register};
+ghost use Rattle.norm_lang.specs.Kept.{IsCarried};
 ghost use Rattle.norm_paths.specs.Found.{IsOpWithin, IsSized, found_for, is_unset_by, is_fresh_by, is_surely_fresh_by, is_so_for};
+ghost use Rattle.norm_paths.specs.Started.{is_carried_by};
 ghost use Rattle.norm_paths.specs.OpFound.{AreOpFacts, found_of, may_be_unset_by};
 
 use crate::cycles::Graph;
 use crate::held::{facts_of_all, is_fresh, is_surely_fresh, is_unset, register_place};
-use crate::kept::Kept;
+use crate::kept::{Kept, is_carried};
 use crate::started::started;
 use norm_lang::text::{Instr, Op, Reg};
 use path_facts::Facts;
@@ -81,6 +84,13 @@ impl MethodFacts {
         is_surely_fresh(&self.facts, register, at)
     }
 
+    /// Whether some instruction of the method's code reads the register, and some path to it doesn't set it.
+    fn carries(&self, code: &[Instr], register: Reg) -> bool
+        ensures { result ≡ is_carried_by code.now self.now.facts register }
+    {
+        is_carried(code, &self.facts, register)
+    }
+
     /// Where control goes on.
     pub(crate) fn graph(&self) -> &Graph
         ensures { result.now ≡ self.now.forks }
@@ -126,6 +136,17 @@ impl OpFacts {
             wrapup,
             kept,
         })
+    }
+
+    /// Whether what a register holds at the commit is used in the wrap-up of the operation that these facts are
+    /// of.
+    pub fn carries(&self, op: &Op, register: Reg) -> bool
+        requires within { IsOpWithin op.now }
+        requires true_of { AreOpFacts op.now self.now }
+        requires register { IsTrue (is_register register) }
+        ensures { IsTrue result ↔ IsCarried op.now register }
+    {
+        self.wrapup.carries(op.wrapup.items(), register)
     }
 
     /// The facts of the generator, or of the wrap-up.

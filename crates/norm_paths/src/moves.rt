@@ -31,7 +31,8 @@ fn place_in(count: usize, to: usize) -> Option<u32>
     if to < count { Some(to as u32) } else { None }
 }
 
-fn fork_to_one(count: usize, to: usize) -> Fork
+/// The fork to one place of a method with `count` instructions; at or past its end there is none.
+pub fn fork_to_one(count: usize, to: usize) -> Fork
     requires { count < 2 ^ 32 }
     ensures { result ≡ fork_to count (to ∷ []) }
 {
@@ -52,7 +53,7 @@ fn fork_to_two(count: usize, to: usize, other: usize) -> Fork
 }
 
 /// Where control goes on from an instruction at a place of a method with so many.
-fn fork_of(count: usize, instr: &Instr, at: usize) -> Fork
+pub fn fork_of(count: usize, instr: &Instr, at: usize) -> Fork
     requires few { count < 2 ^ 32 }
     requires there { at < count }
     ensures { result ≡ fork_of count instr.now at }

@@ -9,7 +9,7 @@ ghost use Rattle.norm_lang.specs.PathRules.{looks, is_commit, follows, exchanges
 use norm_lang::text::{CasEntry, Instr, Place, Reg};
 
 /// Whether two registers are the same.
-pub(crate) fn same_register(a: Reg, b: Reg) -> bool
+pub fn same_register(a: Reg, b: Reg) -> bool
     ensures { result ≡ same_register a b }
 {
     a == b
@@ -45,26 +45,28 @@ fn is_register_named(register: Reg, named: Option<Reg>) -> bool
 }
 
 /// Whether the instruction sets a register.
-pub(crate) fn sets(register: Reg, instr: &Instr) -> bool
+pub fn sets(register: Reg, instr: &Instr) -> bool
     ensures { result ≡ sets register instr.now }
 {
     is_register_named(register, destination(instr))
 }
 
-pub(crate) fn is_new(instr: &Instr) -> bool
+/// Whether the instruction is a `new`.
+pub fn is_new(instr: &Instr) -> bool
     ensures { result ≡ is_new instr.now }
 {
     matches!(instr, Instr::New(_))
 }
 
-pub(crate) fn is_commit(instr: &Instr) -> bool
+/// Whether the instruction is a commit.
+pub fn is_commit(instr: &Instr) -> bool
     ensures { result ≡ is_commit instr.now }
 {
     matches!(instr, Instr::Commit(_))
 }
 
 /// Whether the instruction finds what others have done: a load or an auxiliary exchange.
-pub(crate) fn looks(instr: &Instr) -> bool
+pub fn looks(instr: &Instr) -> bool
     ensures { result ≡ looks instr.now }
 {
     matches!(
@@ -88,7 +90,7 @@ fn names_object(register: Reg, place: Place) -> bool
 
 /// Whether a register is the object, the expected or the new operand of an exchange.
 #[tactic(auto, using(crate::proofs::Reading::is_operand))]
-fn is_operand(register: Reg, entry: &CasEntry) -> bool
+pub fn is_operand(register: Reg, entry: &CasEntry) -> bool
     ensures { result ≡ list_any (same_register register) (operands_of entry.now) }
 {
     names_object(register, entry.place)
@@ -113,7 +115,7 @@ fn entries_read(register: Reg, entries: &[CasEntry]) -> bool
 
 /// Whether the instruction reads a register.
 #[tactic(auto, using(crate::proofs::Reading::one, crate::proofs::Reading::two, crate::proofs::Reading::entries_read))]
-pub(crate) fn reads(register: Reg, instr: &Instr) -> bool
+pub fn reads(register: Reg, instr: &Instr) -> bool
     ensures { result ≡ reads register instr.now }
 {
     match instr {
@@ -143,7 +145,7 @@ pub(crate) fn reads(register: Reg, instr: &Instr) -> bool
 }
 
 /// Whether a register is the base of a load, or the source of `mov`, `mark` or `unmark`.
-pub(crate) fn follows(register: Reg, instr: &Instr) -> bool
+pub fn follows(register: Reg, instr: &Instr) -> bool
     ensures { result ≡ follows register instr.now }
 {
     match instr {
@@ -155,7 +157,7 @@ pub(crate) fn follows(register: Reg, instr: &Instr) -> bool
 }
 
 /// Whether a register is an operand of an auxiliary exchange.
-pub(crate) fn exchanges(register: Reg, instr: &Instr) -> bool
+pub fn exchanges(register: Reg, instr: &Instr) -> bool
     ensures { result ≡ exchanges register instr.now }
 {
     match instr {

@@ -9,8 +9,13 @@ use std::process::Abort;
 use std::test::Fail;
 use std::thread::Threads;
 
+mod compiled;
+mod examples;
+mod flaws;
 mod refusals;
 mod texts;
+mod verified;
+mod wrapup_flaws;
 
 use texts::{LIST, QUEUE};
 
@@ -152,10 +157,11 @@ fn other_words_are_usage_and_read_nothing(rt: HostRuntime) -> Result<(), Fail> {
         read_fails: &[1],
         write_fails: &[],
     };
-    let lists: [&[&str]; 9] = [
+    let lists: [&[&str]; 10] = [
         &[],
         &["run", "run"],
         &["check", "check"],
+        &["compile", "compile"],
         &["show", "run"],
         &["fly"],
         &["--help"],
@@ -235,7 +241,7 @@ fn is_bad<R: Abort + Threads + Sync>(
     fault: u8,
     written: &[u8],
 ) -> Result<(), Fail> {
-    for word in ["run", "check", "show"] {
+    for word in ["run", "check", "show", "compile"] {
         let status = Status::BadDocument { line, fault };
         says(rt, alloc, word, parts, status, written)?;
     }

@@ -1,18 +1,8 @@
 -- What is told of a text that the rules refuse.
-use Rattle.std.specs.Prelude.{ℕ, Bool, true, false, List, [], ◌∷◌, ◌++◌, codes, decimal, Option, Some, None, slice_get, Result, Ok, Err}
+use Rattle.std.specs.Prelude.{ℕ, Bool, true, false, List, [], ◌∷◌, ◌++◌, codes, decimal, Option, Some, None, slice_get}
 use Rattle.norm_lang.specs.declared.text.Op.{Op}
 use Rattle.norm_lang.specs.declared.text.Text.{Text}
-use Rattle.norm_lang.specs.NormalForm.{IsNormal}
 use Rattle.norm_check.specs.declared.refusal.Refusal.{Refusal}
-use Rattle.norm_check.specs.declared.refusal.CheckError.{CheckError}
-use Rattle.norm_check.specs.declared.refusal.CheckError.TheVariants.{Memory, Refused}
-use Rattle.norm_check.specs.Refusals.{IsRefused}
-
--- the text is normal, or the refusal names the first rule that it breaks; memory may run out before
-abbrev pub IsJudgedText : Text → Result (Unit {0}) CheckError → Type 0
-IsJudgedText text (Ok u) = IsNormal text
-IsJudgedText text (Err Memory) = Unit {0}
-IsJudgedText text (Err (Refused refusal)) = IsRefused text refusal
 
 -- the name of an operation, no bytes where there is none
 abbrev pub name_of : Option Op → List ℕ

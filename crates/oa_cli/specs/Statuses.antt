@@ -3,6 +3,7 @@ use Rattle.std.specs.Prelude.{ℕ}
 use Rattle.oa_cli.specs.declared.status.Status.{Status}
 use Rattle.oa_cli.specs.declared.status.Status.TheVariants.{Done, Partial, Usage, ReadFault, LongInput, BadDocument, Refused, WriteFault, Memory, Unbuilt}
 
+-- the number of a status
 abbrev pub number_of : Status → ℕ
 number_of Done = 0
 number_of Partial = 1

@@ -8,6 +8,9 @@ use Rattle.norm_lang.specs.NormalForm.{IsNormal}
 use Rattle.norm_lang.specs.Spelling.{spelling_of}
 use Rattle.norm_check.specs.declared.refusal.Refusal.{Refusal}
 use Rattle.norm_check.specs.Refusals.{IsRefused}
+use Rattle.target_code.specs.TargetSpelling.{target_spelling}
+use Rattle.target_code.specs.Barred.{IsBarred}
+use Rattle.target_code.specs.FirstScheme.{first_scheme}
 use Rattle.norm_parser.specs.DraftShown.{fault_shown}
 use Rattle.line_words.specs.declared.fault.ParseFault.{ParseFault}
 use Rattle.documents.specs.declared.document.Document.{Document}
@@ -58,6 +61,13 @@ IsAnswered bytes plan state = IsAccepted bytes × (first_form bytes ≡ Some pla
 abbrev pub IsShown : List ℕ → List ℕ → Type 0
 IsShown bytes spelling = (document : Document) × IsDocument bytes document × (spelling ≡ spelling_of document.text)
 
+-- the bytes are a document whose text is in normal form, and this is the spelling of what the first scheme makes of it, which
+-- is barred for that text
+abbrev pub IsCompiled : List ℕ → List ℕ → Type 0
+IsCompiled bytes spelling =
+    (document : Document) × IsDocument bytes document × IsNormal document.text × IsBarred (first_scheme document.text) document.text
+    × (spelling ≡ target_spelling (first_scheme document.text))
+
 -- the bytes are a document whose text is in normal form, and that isn't of the first form
 abbrev pub IsOtherForm : List ℕ → Type 0
 IsOtherForm bytes = IsAccepted bytes × (first_form bytes ≡ None)
@@ -66,6 +76,7 @@ IsOtherForm bytes = IsAccepted bytes × (first_form bytes ≡ None)
 abbrev pub takes_rules : Command → Bool
 takes_rules commands.Run = true
 takes_rules commands.Check = true
+takes_rules commands.Compile = true
 takes_rules commands.Show = false
 
 -- the verdict of a command on the bytes of a document's length
@@ -73,6 +84,7 @@ abbrev pub IsOfBytes : Command → List ℕ → Verdict → Type 0
 IsOfBytes command bytes (verdicts.Answered plan state) = (command ≡ commands.Run) × IsAnswered bytes plan state
 IsOfBytes command bytes verdicts.Accepted = (command ≡ commands.Check) × IsAccepted bytes
 IsOfBytes command bytes (verdicts.Shown spelling) = (command ≡ commands.Show) × IsShown bytes spelling
+IsOfBytes command bytes (verdicts.Compiled spelling) = (command ≡ commands.Compile) × IsCompiled bytes spelling
 IsOfBytes command bytes (verdicts.BadDocument fault) = document_read bytes ≡ Err (fault_shown fault)
 IsOfBytes command bytes (verdicts.Refused text refusal) = IsTrue (takes_rules command) × IsRefusedFor bytes text refusal
 IsOfBytes command bytes verdicts.OtherForm = (command ≡ commands.Run) × IsOtherForm bytes
@@ -89,6 +101,7 @@ abbrev pub IsJudged : List (List ℕ) → Option (List ℕ) → Option (List ℕ
 IsJudged words old new before now (verdicts.Answered plan state) = IsOfInput words old new (verdicts.Answered plan state)
 IsJudged words old new before now verdicts.Accepted = IsOfInput words old new verdicts.Accepted
 IsJudged words old new before now (verdicts.Shown spelling) = IsOfInput words old new (verdicts.Shown spelling)
+IsJudged words old new before now (verdicts.Compiled spelling) = IsOfInput words old new (verdicts.Compiled spelling)
 IsJudged words old new before now verdicts.Usage = (command_of words ≡ None) × Untouched old new before now
 IsJudged words old new before now verdicts.ReadFault = IsSome (command_of words) × Rose before now
 IsJudged words old new before now verdicts.LongInput =
@@ -107,6 +120,7 @@ abbrev pub text_for : Verdict → List ℕ
 text_for (verdicts.Answered plan state) = answers plan state
 text_for verdicts.Accepted = codes "accepted\n"
 text_for (verdicts.Shown spelling) = spelling
+text_for (verdicts.Compiled spelling) = spelling
 text_for verdicts.Usage = codes "usage\n"
 text_for verdicts.ReadFault = codes "read fault\n"
 text_for verdicts.LongInput = codes "long input\n"
@@ -115,10 +129,12 @@ text_for (verdicts.Refused text refusal) = refusal_line text refusal
 text_for verdicts.OtherForm = codes "unbuilt\n"
 text_for verdicts.Memory = codes "memory\n"
 
+-- the status of a verdict
 abbrev pub status_for : Verdict → Status
 status_for (verdicts.Answered plan state) = if is_partial plan state then statuses.Partial else statuses.Done
 status_for verdicts.Accepted = statuses.Done
 status_for (verdicts.Shown spelling) = statuses.Done
+status_for (verdicts.Compiled spelling) = statuses.Done
 status_for verdicts.Usage = statuses.Usage
 status_for verdicts.ReadFault = statuses.ReadFault
 status_for verdicts.LongInput = statuses.LongInput

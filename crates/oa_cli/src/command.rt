@@ -13,6 +13,8 @@ pub enum Command {
     Check,
     /// The document's text is written in its canonical spelling.
     Show,
+    /// The document's text is compiled, and the target written in its canonical spelling.
+    Compile,
 }
 
 fn command_named(word: &str) -> Option<Command>
@@ -24,6 +26,8 @@ fn command_named(word: &str) -> Option<Command>
         Some(Command::Check)
     } else if word == "show" {
         Some(Command::Show)
+    } else if word == "compile" {
+        Some(Command::Compile)
     } else {
         None
     }

@@ -2,7 +2,7 @@
 #![tactic(auto)]
 
 mod command;
-mod input;
+pub mod input;
 mod rules;
 mod status;
 #[cfg(test)]

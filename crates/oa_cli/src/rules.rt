@@ -2,21 +2,20 @@
 
 ghost use Rattle.std.specs.Prelude.{◌≡◌};
 ghost use Rattle.norm_lang.specs.Limits.{IsWithinLimits};
-ghost use Rattle.oa_cli.specs.Refusals.{IsJudgedText, op_name, method_word};
+ghost use Rattle.norm_check.specs.Checked.{IsChecked};
+ghost use Rattle.oa_cli.specs.Refusals.{op_name, method_word};
 
-use norm_check::{CheckError, check};
+use norm_check::{CheckError, Normal, check};
 use norm_lang::text::Text;
 use std::alloc::Global;
 
-/// Judges a text by the rules.
-#[tactic(auto, using(crate::proofs::Judged::judged_error))]
-pub(crate) fn judge_text(alloc: Global, text: &Text) -> Result<(), CheckError>
+/// Judges a copy of a text by the rules.
+pub(crate) fn judge_text(alloc: Global, text: &Text) -> Result<Normal, CheckError>
     requires { IsWithinLimits text.now }
-    ensures { IsJudgedText text.now result }
+    ensures { IsChecked text.now result }
 {
     let copy = text.copy(alloc)?;
-    check(alloc, copy)?;
-    Ok(())
+    check(alloc, copy)
 }
 
 /// The name of an operation, by its number.

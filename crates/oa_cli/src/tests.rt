@@ -28,7 +28,7 @@ ifeq r3 r4 1
 returnnone
 ";
 
-#[tactic(auto, using(crate::proofs::Judged::few_lines))]
+#[tactic(auto, using(crate::proofs::ShortInputs::few_lines))]
 fn normal_of(rt: &(impl Abort + AllocGlobal), bytes: &[u8]) -> Normal {
     assert!(rt; bytes.len() < 1_000_000);
     let Ok(text) = parse(rt.alloc(), bytes) else {

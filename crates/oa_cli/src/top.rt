@@ -1,11 +1,14 @@
 //! The top call.
 
-ghost use Rattle.std.specs.Prelude.{◌≡◌, ◌<◌, ◌≤◌, length, map};
+ghost use Rattle.std.specs.Prelude.{◌≡◌, ◌<◌, ◌≤◌, length, map, IfOk};
 ghost use Rattle.std.specs.String.{string_bytes};
 ghost use Rattle.oa_text.specs.Written.{Writes};
 ghost use Rattle.oa_text.specs.Causes.{HasCause};
 ghost use Rattle.norm_lang.specs.Limits.{IsWithinLimits};
 ghost use Rattle.norm_lang.specs.NormalForm.{IsNormal};
+ghost use Rattle.target_code.specs.TargetSpelling.{target_spelling};
+ghost use Rattle.target_code.specs.Barred.{IsBarred};
+ghost use Rattle.target_code.specs.FirstScheme.{first_scheme};
 ghost use Rattle.documents.specs.DocumentRead.{IsDocument};
 ghost use Rattle.oa_cli.specs.declared.verdict.Verdict.{Verdict};
 ghost use Rattle.oa_cli.specs.Refusals.{refusal_line};
@@ -16,16 +19,18 @@ use crate::input::{InputError, read_input};
 use crate::rules::{judge_text, method_word, op_name};
 use crate::status::Status;
 use crate::verdict::Verdict;
+use barrier_compiler::compile;
 use line_words::fault::{ParseError, ParseFault};
-use norm_check::{CheckError, Refusal};
+use norm_check::{CheckError, Normal, Refusal};
 use norm_lang::show;
-use norm_lang::text::Text;
+use norm_lang::text::{ByteText, Text};
 use oa_text::{Failed, Gate, Piece, Sink, Source, write_all, write_pieces};
 use script_driver::answers::{partial, write_answers};
 use script_driver::run::run_script;
 use script_driver::{Document, first_plan, read_document};
-use std::alloc::Global;
+use std::alloc::{AllocError, Global};
 use std::thread::Threads;
+use target_code::show_target;
 
 /// One more byte than a document may have.
 const LIMIT: usize = 1_048_577;
@@ -44,6 +49,7 @@ fn judge_document(alloc: Global, command: Command, bytes: &[u8], document: Docum
             Ok(spelling) => Verdict::Shown(spelling),
             Err(_) => Verdict::Memory,
         },
+        Command::Compile => compile_document(alloc, bytes, document),
     }
 }
 
@@ -54,10 +60,35 @@ fn check_document(alloc: Global, bytes: &[u8], document: Document) -> Verdict
     ensures { IsOfBytes Command.Check bytes.now result }
 {
     match judge_text(alloc, &document.text) {
-        Ok(()) => Verdict::Accepted,
+        Ok(_) => Verdict::Accepted,
         Err(CheckError::Refused(refusal)) => Verdict::Refused(document.text, refusal),
         Err(CheckError::Memory) => Verdict::Memory,
     }
+}
+
+/// Compiles the text of a document that was read of the bytes, if the rules accept it.
+fn compile_document(alloc: Global, bytes: &[u8], document: Document) -> Verdict
+    requires read { IsDocument bytes.now document }
+    requires within { IsWithinLimits document.text }
+    ensures { IsOfBytes Command.Compile bytes.now result }
+{
+    match judge_text(alloc, &document.text) {
+        Ok(normal) => match compiled(alloc, &normal) {
+            Ok(spelling) => Verdict::Compiled(spelling),
+            Err(_) => Verdict::Memory,
+        },
+        Err(CheckError::Refused(refusal)) => Verdict::Refused(document.text, refusal),
+        Err(CheckError::Memory) => Verdict::Memory,
+    }
+}
+
+/// The canonical spelling of what a text compiles to.
+fn compiled(alloc: Global, normal: &Normal) -> Result<ByteText, AllocError>
+    ensures same { IfOk result (λ spelling. spelling ≡ target_spelling (first_scheme normal.now)) }
+    ensures barred { IfOk result (λ _. IsBarred (first_scheme normal.now) normal.now) }
+{
+    let target = compile(alloc, normal)?;
+    show_target(alloc, &target)
 }
 
 /// Runs the calls of a document that was read of the bytes, if the rules accept its text.
@@ -68,7 +99,7 @@ fn run_document(alloc: Global, bytes: &[u8], document: Document) -> Verdict
     ensures { IsOfBytes Command.Run bytes.now result }
 {
     match judge_text(alloc, &document.text) {
-        Ok(()) => run_accepted(alloc, bytes, document),
+        Ok(_) => run_accepted(alloc, bytes, document),
         Err(CheckError::Refused(refusal)) => Verdict::Refused(document.text, refusal),
         Err(CheckError::Memory) => Verdict::Memory,
     }
@@ -166,7 +197,7 @@ fn write_verdict<K: Sink>(out: &mut K, verdict: &Verdict) -> Result<(), Failed>
     match verdict {
         Verdict::Answered(plan, state) => write_answers(out, plan, state),
         Verdict::Accepted => write_pieces(out, &[Piece::Bytes(b"accepted\n")]),
-        Verdict::Shown(spelling) => write_all(out, spelling.items()),
+        Verdict::Shown(spelling) | Verdict::Compiled(spelling) => write_all(out, spelling.items()),
         Verdict::Usage => write_pieces(out, &[Piece::Bytes(b"usage\n")]),
         Verdict::ReadFault => write_pieces(out, &[Piece::Bytes(b"read fault\n")]),
         Verdict::LongInput => write_pieces(out, &[Piece::Bytes(b"long input\n")]),
@@ -188,7 +219,7 @@ fn status_of(verdict: &Verdict) -> Status
                 Status::Done
             }
         }
-        Verdict::Accepted | Verdict::Shown(_) => Status::Done,
+        Verdict::Accepted | Verdict::Shown(_) | Verdict::Compiled(_) => Status::Done,
         Verdict::Usage => Status::Usage,
         Verdict::ReadFault => Status::ReadFault,
         Verdict::LongInput => Status::LongInput,
@@ -213,8 +244,8 @@ fn say<K: Sink>(out: &mut K, verdict: &Verdict) -> Status
 }
 
 /// Does all that the program does: reads the words and the source, and writes the answers to the document's calls, or
-/// that its text is accepted, or its text, or why there are none. The clause has three parts: what was read and judged, what was said, and the status. The
-/// gate is for callers on threads, which come later.
+/// that its text is accepted, or its text, or what that compiles to, or why there are none. The clause has three parts: what was
+/// read and judged, what was said, and the status. The gate is for callers on threads, which come later.
 pub fn oa_main<R: Threads + Sync, S: Source, K: Sink, G: Gate + Sync>(
     rt: &R,
     alloc: Global,

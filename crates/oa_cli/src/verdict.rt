@@ -15,6 +15,8 @@ pub enum Verdict {
     Accepted,
     /// The canonical spelling of the document's text.
     Shown(ByteText),
+    /// The canonical spelling of what the document's text compiles to.
+    Compiled(ByteText),
     /// The words are no command.
     Usage,
     ReadFault,

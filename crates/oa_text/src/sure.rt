@@ -1,6 +1,6 @@
 //! A source and a sink that never fail.
 
-ghost use Rattle.std.specs.Prelude.{◌≡◌, ◌<◌, None, Some, length, min, IsOk, IfOk};
+ghost use Rattle.std.specs.Prelude.{◌≡◌, ◌<◌, ℕ, List, [], ◌++◌, Some, length, min, IsOk, IfOk};
 ghost use Rattle.std.specs.Io.{ReadsAtMost, WritesAtMost};
 ghost use Rattle.std.specs.Io.KnownBytes.{ReadConsumes, WriteAppends};
 ghost use Rattle.oa_text.specs.Causes.{HasCause};
@@ -53,13 +53,44 @@ impl<'a> Source for SureSource<'a> {
     }
 }
 
-/// A sink that takes every piece whole, and no call of which fails. It keeps nothing, and so can't tell what was
-/// written: a sink that tells it needs memory, which may be refused. `MemorySink` is that one.
-#[derive(Clone, Copy, Debug, PartialEq, Eq)]
-pub struct SureSink;
+/// A sink that takes every piece whole and tells the bytes written, and no call of which fails.
+///
+/// It takes no memory: the bytes are known to proofs alone, and no program can read them back. A clause about them says
+/// what code that is generic over `Sink` gave to `write`, piece after piece, and not that they are kept anywhere.
+/// `MemorySink` keeps its bytes.
+#[derive(Debug, Drop)]
+pub struct SureSink {
+    ghost bytes: { List ℕ },
+}
+
+impl Model for SureSink {
+    ghost use Rattle.std.specs.Prelude.{ℕ, List};
+    ghost use Rattle.std.specs.Borrow.{ftrue};
+
+    ghost Value = { List ℕ };
+
+    ghost view = { λ s. s.bytes };
+
+    // Nothing in memory stands for the bytes.
+    ghost also_owns = { λ _. ftrue };
+}
+
+impl SureSink {
+    /// A sink with nothing written.
+    pub fn new() -> SureSink
+        ensures { result ≡ [] }
+    {
+        SureSink {}
+    }
+
+    // Adds the piece to what is told. There is nothing to do at run time.
+    fn tell(&mut self, _piece: &[u8])
+        ensures { self.new ≡ self.old ++ _piece.now }
+    {}
+}
 
 impl Sink for SureSink {
-    ghost written = { λ _. None };
+    ghost written = { λ s. Some s };
 
     ghost faults = { λ _. 0 };
 
@@ -67,11 +98,12 @@ impl Sink for SureSink {
     fn write(&mut self, piece: &[u8]) -> Result<usize, Failed>
         ensures bound { WritesAtMost result piece.now }
         ensures some { 0 < length piece.now → IfOk result (λ n. 0 < n) }
-        ensures bytes { WriteAppends None None result piece.now }
+        ensures bytes { WriteAppends (Some self.old) (Some self.new) result piece.now }
         ensures cause { HasCause 0 0 result }
         ensures never { IsOk result }
         ensures count { IfOk result (λ n. n ≡ length piece.now) }
     {
+        self.tell(piece);
         Ok(piece.len())
     }
 }

@@ -240,6 +240,7 @@ fn check_rows<R: Abort + Threads + Sync>(rt: &R, alloc: Global, rows: &[Row]) ->
     for (generator, wrapup, spot, line) in rows {
         let text: &[&[u8]] = &[HEAD, generator, b"wrap\n", wrapup];
         says(rt, alloc, "check", text, refused(*spot, 0), line)?;
+        says(rt, alloc, "compile", text, refused(*spot, 0), line)?;
     }
     Ok(())
 }

@@ -1,0 +1,10 @@
+mod Answering
+mod Codes
+mod Counts
+mod Differing
+mod FirstFlaw
+mod Parts
+mod Placing
+mod Tables
+mod Verifying
+mod Whole

@@ -1,0 +1,9 @@
+pub mod SourcePlaces
+pub mod SourceCode
+pub mod FlawsTold
+pub mod Scopes
+pub mod Comparing
+pub mod Judging
+pub mod Paired
+pub mod Verified
+pub mod Laws

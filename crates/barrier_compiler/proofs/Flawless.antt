@@ -1,0 +1,237 @@
+-- What the first scheme makes of a text in normal form has no flaw.
+use Rattle.std.proofs.Common.{◌≡◌, ℕ, zero, suc, ◌⊎◌, inl, inr, Bool, true, false, List, [], ◌∷◌, ◌++◌, map, length, take, Option, Some, None, refl, sym, ap, subst, ◌∙◌}
+use Rattle.std.specs.Prelude.{slice_get, option_map, IsSomeAnd, IsTrue, if◌then◌else◌}
+use Rattle.std.specs.List.{list_any, filter}
+use Rattle.std.proofs.lemmas.Option.{same_Some, slice_get-map, slice_get_within}
+use Rattle.norm_lang.specs.declared.text.Reg.{Reg}
+use Rattle.norm_lang.specs.declared.text.Instr.{Instr}
+use Rattle.norm_lang.specs.declared.text.Instr.TheVariants as instr
+use Rattle.norm_lang.specs.declared.text.Op.{Op}
+use Rattle.norm_lang.specs.declared.text.Text.{Text}
+use Rattle.norm_lang.specs.Limits.{IsWithinLimits}
+use Rattle.norm_lang.specs.RegisterUse.{same_register}
+use Rattle.norm_lang.specs.Kept.{code_of, holds_reference, IsKept}
+use Rattle.norm_lang.specs.InstructionRules.{has_wrong_end}
+use Rattle.norm_lang.specs.PathRules.{is_commit, exchanges}
+use Rattle.norm_lang.specs.NormalForm.{Rule, N8, N11, BreaksRule, IsNormal}
+use Rattle.norm_paths.specs.Found.{IsOpWithin}
+use Rattle.norm_paths.proofs.Founding.{op_within}
+use Rattle.target_code.specs.declared.target.TargetInstr.{TargetInstr}
+use Rattle.target_code.specs.declared.target.TargetInstr.TheVariants.{Plain, Check, Guard}
+use Rattle.target_code.specs.declared.target.TargetOp.{TargetOp}
+use Rattle.target_code.specs.Paths.{target_code_of}
+use Rattle.target_code.specs.Erasing.{redirected}
+use Rattle.target_code.specs.Flaws.{fetches, clean_after, guards, GuardState, Free, Published, Validated, Dropped, guard_after, exchanged, Uses, NeedsGuard, NeedsMore, UsesUnchecked, GuardsKept}
+use Rattle.target_code.specs.Barred.{FlawKind, ErasesDifferently, UncheckedUse, Unguarded, GuardAfterCheck, GuardDropped, IsFlawed, IsFlawless}
+use Rattle.target_code.specs.Keeping.{keeps}
+use Rattle.target_code.specs.FirstScheme.{all_references, kept_at, to_guard, barrier, check_behind, block, block_place, scheme_code, scheme_op, first_scheme}
+use Rattle.barrier_compiler.proofs.BlocksInLists.{in_either, piece_of, run}
+use Rattle.barrier_compiler.proofs.BlockPaths.{is_barrier, in_block, block_in, stands_there, leads_into}
+use Rattle.barrier_compiler.proofs.Guarding.{IsAmong, or_left, or_right, among_either, filtered_among, once_among, barrier_clean, block_clean, barrier_validates, needed}
+
+-- `keeps` finds each kept register
+abbrev pub FindsKept : Type 0
+FindsKept = (op : Op) (r : Reg) → IsKept op r → IsTrue (keeps op r)
+
+-- a check or a guard uses nothing, and needs nothing guarded
+bar_uses_none : (op : Op) (r : Reg) (j : TargetInstr) → IsTrue (is_barrier j) → ¬ Uses op r j
+bar_uses_none op r (Plain i) bars uses = cc
+bar_uses_none op r Check bars uses = elim uses [ inl reading ↦ cc | inr commits ↦ (let no : IsTrue false = commits.0 in cc) ]
+bar_uses_none op r (Guard a) bars uses = elim uses [ inl reading ↦ cc | inr commits ↦ (let no : IsTrue false = commits.0 in cc) ]
+
+bar_needs_none : (op : Op) (r : Reg) (j : TargetInstr) → IsTrue (is_barrier j) → ¬ NeedsGuard op r j
+bar_needs_none op r (Plain i) bars needs = cc
+bar_needs_none op r Check bars needs = elim needs [ inl exchange ↦ (let no : IsTrue false = exchange.1 in cc) | inr commits ↦ (let no : IsTrue false = commits.0 in cc) ]
+bar_needs_none op r (Guard a) bars needs = elim needs [ inl exchange ↦ (let no : IsTrue false = exchange.1 in cc) | inr commits ↦ (let no : IsTrue false = commits.0 in cc) ]
+
+-- what an instruction uses was checked
+pub uses_checked : (op : Op) (code : List Instr) (at : ℕ) (j : TargetInstr) → slice_get (scheme_code op code) at ≡ Some j → ¬ UsesUnchecked op (scheme_code op code) at j
+uses_checked op code at j stands uses =
+    let r = uses.0 in
+    let path = uses.2.0 in
+    let inside = slice_get_within (scheme_code op code) at j stands in
+    let is = leads_into (clean_after r) (λ state. state ≡ true) op code (λ i state clean. block_clean r (block_place op code) op i state clean) true refl path at uses.2.1 inside in
+    let placed : slice_get (block_in op code is.source) is.offset ≡ Some j = sym (stands_there (clean_after r) (λ state. state ≡ true) op code at _ is) ∙ stands in
+    elim (in_block (block_place op code) op is.source is.offset j placed) [
+      | inl bars ↦ bar_uses_none op r j bars uses.1
+      | inr plain ↦ (
+          let clean : run (clean_after r) (take is.offset (block_in op code is.source)) is.before ≡ true =
+          ap (λ z. run (clean_after r) z is.before) plain.1 ∙ ap (run (clean_after r) (barrier (to_guard op is.source))) is.holds ∙ barrier_clean r (to_guard op is.source) in
+          let no : false ≡ true = sym uses.2.2 ∙ is.comes ∙ clean in cc)
+    ]
+
+-- what has to be guarded stands guarded and checked
+pub needs_no_more : FindsKept → (op : Op) → IsOpWithin op → (code : List Instr) (at : ℕ) (j : TargetInstr) (state : GuardState) → (Validated ≡ state → ⊥) → slice_get (scheme_code op code) at ≡ Some j
+    → ¬ NeedsMore state op (scheme_code op code) at j
+needs_no_more finds op within code at j state other stands needs =
+    let r = needs.0 in
+    let path = needs.2.0 in
+    let inside = slice_get_within (scheme_code op code) at j stands in
+    let is = leads_into (guard_after r) (λ _. Unit {0}) op code (λ i state any. tt) Free tt path at needs.2.1 inside in
+    let placed : slice_get (block_in op code is.source) is.offset ≡ Some j = sym (stands_there (guard_after r) (λ _. Unit {0}) op code at _ is) ∙ stands in
+    elim (in_block (block_place op code) op is.source is.offset j placed) [
+      | inl bars ↦ bar_needs_none op r j bars needs.1
+      | inr plain ↦ (
+          let among = needed (block_place op code) op is.source r within (finds op) (subst (NeedsGuard op r) plain.0 needs.1) in
+          let validated : run (guard_after r) (take is.offset (block_in op code is.source)) is.before ≡ Validated =
+          ap (λ z. run (guard_after r) z is.before) plain.1 ∙ barrier_validates r (to_guard op is.source) is.before among in
+          other (sym validated ∙ sym is.comes ∙ needs.2.2))
+    ]
+
+validated_not_free : Validated ≡ Free → ⊥
+validated_not_free is = cc
+
+validated_not_published : Validated ≡ Published → ⊥
+validated_not_published is = cc
+
+validated_not_dropped : Validated ≡ Dropped → ⊥
+validated_not_dropped is = cc
+
+-- an instruction that exchanges something is an auxiliary exchange of it or a commit
+exchanged_how : (r : Reg) (i : Instr) → IsAmong r (exchanged i) → IsTrue (exchanges r i) ⊎ IsTrue (is_commit i)
+exchanged_how r (instr.Set d n) is = cc
+exchanged_how r (instr.Mov d a) is = cc
+exchanged_how r (instr.Add d a b) is = cc
+exchanged_how r (instr.Sub d a b) is = cc
+exchanged_how r (instr.Rem d a n) is = cc
+exchanged_how r (instr.Mark d a) is = cc
+exchanged_how r (instr.Unmark d a) is = cc
+exchanged_how r (instr.Null d) is = cc
+exchanged_how r (instr.LoadRoot d x) is = cc
+exchanged_how r (instr.LoadPick d x n a) is = cc
+exchanged_how r (instr.LoadField d a f) is = cc
+exchanged_how r (instr.New d) is = cc
+exchanged_how r (instr.Put a f b) is = cc
+exchanged_how r (instr.Cas entry l) is = inl is
+exchanged_how r (instr.Jump l) is = cc
+exchanged_how r (instr.IfEq a b l) is = cc
+exchanged_how r (instr.IfLess a b l) is = cc
+exchanged_how r (instr.IfMarked a l) is = cc
+exchanged_how r (instr.Commit entries) is = inr refl
+exchanged_how r (instr.Return a) is = cc
+exchanged_how r instr.ReturnNone is = cc
+exchanged_how r instr.Again is = cc
+
+guarded_how : (op : Op) (r : Reg) (i : Instr) → IsAmong r (to_guard op i) → IsTrue (exchanges r i) ⊎ IsTrue (is_commit i)
+guarded_how op r i is =
+    elim (among_either r (filter holds_reference (exchanged i)) (kept_at op i) (once_among r (filter holds_reference (exchanged i) ++ kept_at op i) is)) [
+      | inl exchange ↦ exchanged_how r i (filtered_among holds_reference r (exchanged i) exchange)
+      | inr kept ↦ inr (by_bool (is_commit i) kept)
+    ]
+  where
+    by_bool : (b : Bool) → IsAmong r (if b then filter (keeps op) all_references else []) → IsTrue b
+    by_bool true found = refl
+    by_bool false found = cc
+
+-- a guard in a block is of a register that the block has to guard
+in_guards : (r : Reg) (rs : List Reg) (k : ℕ) (j : TargetInstr) → slice_get (map Guard rs ++ (Check ∷ [])) k ≡ Some j → IsTrue (guards r j) → IsAmong r rs
+in_guards r [] zero j is guarding = let no : IsTrue false = subst (λ z. IsTrue (guards r z)) (sym (same_Some Check j is)) guarding in cc
+in_guards r [] (suc k) j is guarding = cc
+in_guards r (a ∷ rs) zero j is guarding = or_left (same_register r a) (list_any (same_register r) rs) (subst (λ z. IsTrue (guards r z)) (sym (same_Some (Guard a) j is)) guarding)
+in_guards r (a ∷ rs) (suc k) j is guarding = or_right (same_register r a) (list_any (same_register r) rs) (in_guards r rs k j is guarding)
+
+in_barrier : (r : Reg) (rs : List Reg) (k : ℕ) (j : TargetInstr) → slice_get (barrier rs) k ≡ Some j → IsTrue (guards r j) → IsAmong r rs
+in_barrier r [] k j is guarding = cc
+in_barrier r (a ∷ rs) k j is guarding = in_guards r (a ∷ rs) k j is guarding
+
+guards_among : (place : ℕ → ℕ) (op : Op) (i : Instr) (r : Reg) (k : ℕ) (j : TargetInstr) → slice_get (block place op i) k ≡ Some j → IsTrue (guards r j) → IsAmong r (to_guard op i)
+guards_among place op i r k j is guarding = elim (in_either (barrier (to_guard op i)) (Plain (redirected place i) ∷ check_behind i) k j is) [
+  | inl before ↦ in_barrier r (to_guard op i) k j before guarding
+  | inr behind ↦ absurd (plain_guards behind.0 behind.1)
+]
+  where
+    check_guards : (fetched : Bool) (n : ℕ) → slice_get (if fetched then Check ∷ [] else []) n ≡ Some j → ⊥
+    check_guards true zero stands = let no : IsTrue false = subst (λ z. IsTrue (guards r z)) (sym (same_Some Check j stands)) guarding in cc
+    check_guards true (suc n) stands = cc
+    check_guards false n stands = cc
+
+    plain_guards : (n : ℕ) → slice_get (Plain (redirected place i) ∷ check_behind i) n ≡ Some j → ⊥
+    plain_guards zero stands = let no : IsTrue false = subst (λ z. IsTrue (guards r z)) (sym (same_Some (Plain (redirected place i)) j stands)) guarding in cc
+    plain_guards (suc n) stands = check_guards (fetches i) n stands
+
+some_and : {X : Type 0} (o : Option X) (P : X → Type 0) → IsSomeAnd o P → (x : X) × (o ≡ Some x) × P x
+some_and None P holds = absurd holds
+some_and (Some x) P holds = (x, refl, holds)
+
+and_some : {X : Type 0} (o : Option X) (x : X) (P : X → Type 0) → o ≡ Some x → P x → IsSomeAnd o P
+and_some o x P is holds = subst (λ z. IsSomeAnd z P) (sym is) holds
+
+-- no instruction of a text in normal form breaks a rule
+none_broken : (text : Text) → IsNormal text → (number : ℕ) (op : Op) (wrapup : Bool) (at : ℕ) (i : Instr) (rule : Rule) → slice_get text.ops number ≡ Some op → slice_get (code_of op wrapup) at ≡ Some i
+    → ¬ BreaksRule rule text op wrapup at i
+none_broken text normal number op wrapup at i rule one two breaks =
+    normal (record { rule = rule; op = number; wrapup = wrapup; at = at })
+    (and_some (slice_get text.ops number) op (λ o. IsSomeAnd (slice_get (code_of o wrapup) at) (λ j. BreaksRule rule text o wrapup at j)) one
+    (and_some (slice_get (code_of op wrapup) at) i (λ j. BreaksRule rule text op wrapup at j) two breaks))
+
+commit_ends : (i : Instr) (at count : ℕ) → IsTrue (is_commit i) → IsTrue (has_wrong_end true i at count)
+commit_ends (instr.Set d n) at count is = cc
+commit_ends (instr.Mov d a) at count is = cc
+commit_ends (instr.Add d a b) at count is = cc
+commit_ends (instr.Sub d a b) at count is = cc
+commit_ends (instr.Rem d a n) at count is = cc
+commit_ends (instr.Mark d a) at count is = cc
+commit_ends (instr.Unmark d a) at count is = cc
+commit_ends (instr.Null d) at count is = cc
+commit_ends (instr.LoadRoot d x) at count is = cc
+commit_ends (instr.LoadPick d x n a) at count is = cc
+commit_ends (instr.LoadField d a f) at count is = cc
+commit_ends (instr.New d) at count is = cc
+commit_ends (instr.Put a f b) at count is = cc
+commit_ends (instr.Cas entry l) at count is = cc
+commit_ends (instr.Jump l) at count is = cc
+commit_ends (instr.IfEq a b l) at count is = cc
+commit_ends (instr.IfLess a b l) at count is = cc
+commit_ends (instr.IfMarked a l) at count is = cc
+commit_ends (instr.Commit entries) at count is = refl
+commit_ends (instr.Return a) at count is = cc
+commit_ends instr.ReturnNone at count is = cc
+commit_ends instr.Again at count is = cc
+
+-- a wrap-up guards no kept register
+pub guards_no_kept : (text : Text) → IsNormal text → (number : ℕ) (op : Op) (wrapup : Bool) (at : ℕ) (j : TargetInstr) → slice_get text.ops number ≡ Some op
+    → slice_get (scheme_code op (code_of op wrapup)) at ≡ Some j → ¬ GuardsKept op wrapup j
+guards_no_kept text normal number op false at j one stands guarding = let no : false ≡ true = guarding.0 in cc
+guards_no_kept text normal number op true at j one stands guarding =
+    let r = guarding.1.0 in
+    let found = piece_of (block_in op op.wrapup) op.wrapup at j stands in
+    let i = found.1 in
+    let among = guards_among (block_place op op.wrapup) op i r found.2 j found.4 guarding.1.1 in
+    elim (guarded_how op r i among) [
+      | inl exchange ↦ none_broken text normal number op true found.0 i N11 one found.3 (refl, (r, exchange, guarding.1.2))
+      | inr commits ↦ none_broken text normal number op true found.0 i N8 one found.3 (commit_ends i found.0 (length op.wrapup) commits)
+    ]
+
+-- no instruction of a compiled method has a flaw
+pub method_is_flawless : FindsKept → (text : Text) → IsWithinLimits text → IsNormal text → (number : ℕ) (op : Op) (wrapup : Bool) (at : ℕ) (j : TargetInstr) (kind : FlawKind)
+    → slice_get text.ops number ≡ Some op → slice_get (scheme_code op (code_of op wrapup)) at ≡ Some j
+    → ¬ IsFlawed kind op wrapup (scheme_code op (code_of op wrapup)) at j
+method_is_flawless finds text within normal number op wrapup at j ErasesDifferently one stands flawed = flawed
+method_is_flawless finds text within normal number op wrapup at j UncheckedUse one stands flawed = uses_checked op (code_of op wrapup) at j stands flawed
+method_is_flawless finds text within normal number op wrapup at j Unguarded one stands flawed =
+    needs_no_more finds op (op_within text number op within one) (code_of op wrapup) at j Free validated_not_free stands flawed
+method_is_flawless finds text within normal number op wrapup at j GuardAfterCheck one stands flawed =
+    needs_no_more finds op (op_within text number op within one) (code_of op wrapup) at j Published validated_not_published stands flawed
+method_is_flawless finds text within normal number op wrapup at j GuardDropped one stands flawed = elim flawed [
+  | inl more ↦ needs_no_more finds op (op_within text number op within one) (code_of op wrapup) at j Dropped validated_not_dropped stands more
+  | inr kept ↦ guards_no_kept text normal number op wrapup at j one stands kept
+]
+
+compiled_code : (op : Op) (wrapup : Bool) → target_code_of (scheme_op op) wrapup ≡ scheme_code op (code_of op wrapup)
+compiled_code op false = refl
+compiled_code op true = refl
+
+-- no instruction of a compiled text has one
+pub scheme_is_flawless : ((op : Op) (r : Reg) → IsKept op r → IsTrue (keeps op r)) → (text : Text) → IsWithinLimits text → IsNormal text → IsFlawless (first_scheme text) text
+scheme_is_flawless finds text within normal flaw has =
+    let source = some_and (slice_get text.ops flaw.op)
+    (λ source. IsSomeAnd (slice_get (map scheme_op text.ops) flaw.op) (λ op. IsSomeAnd (slice_get (target_code_of op flaw.wrapup) flaw.at) (λ j. IsFlawed flaw.kind source flaw.wrapup (target_code_of op flaw.wrapup) flaw.at j)))
+    has in
+    let op = source.0 in
+    let compiled : slice_get (map scheme_op text.ops) flaw.op ≡ Some (scheme_op op) = slice_get-map scheme_op text.ops flaw.op ∙ ap (option_map scheme_op) source.1 in
+    let there : IsSomeAnd (slice_get (target_code_of (scheme_op op) flaw.wrapup) flaw.at) (λ j. IsFlawed flaw.kind op flaw.wrapup (target_code_of (scheme_op op) flaw.wrapup) flaw.at j) =
+    subst (λ o. IsSomeAnd o (λ (t : TargetOp). IsSomeAnd (slice_get (target_code_of t flaw.wrapup) flaw.at) (λ j. IsFlawed flaw.kind op flaw.wrapup (target_code_of t flaw.wrapup) flaw.at j))) compiled source.2 in
+    let here : IsSomeAnd (slice_get (scheme_code op (code_of op flaw.wrapup)) flaw.at) (λ j. IsFlawed flaw.kind op flaw.wrapup (scheme_code op (code_of op flaw.wrapup)) flaw.at j) =
+    subst (λ code. IsSomeAnd (slice_get code flaw.at) (λ j. IsFlawed flaw.kind op flaw.wrapup code flaw.at j)) (compiled_code op flaw.wrapup) there in
+    let found = some_and (slice_get (scheme_code op (code_of op flaw.wrapup)) flaw.at) (λ j. IsFlawed flaw.kind op flaw.wrapup (scheme_code op (code_of op flaw.wrapup)) flaw.at j) here in
+    method_is_flawless finds text within normal flaw.op op flaw.wrapup flaw.at found.0 flaw.kind source.1 found.1 found.2

@@ -1,0 +1,13 @@
+mod BlocksInLists
+mod BlockPaths
+mod Guarding
+mod Flawless
+mod ListLemmas
+mod EachOnce
+mod Keeping
+mod Erases
+mod SchemeLimits
+mod Barring
+mod Gathering
+mod Linking
+mod Short

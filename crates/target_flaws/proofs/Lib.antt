@@ -1,0 +1,4 @@
+mod Ways
+mod Checked
+mod Asking
+mod Judging

@@ -1,0 +1,7 @@
+use Rattle.target_flaws.proofs.Judging.{are_answers}
+use Rattle.target_flaws.proofs.flawed.flaws.Goals as goal
+
+pub returns : goal.returns
+returns c = λ source code site. are_answers source c.args.wrapup code c.args.at c.args.instr.now c.args.needs.now c.args.facts.now
+    c.uses_unchecked.result c.needs_more.result c.needs_more-2.result c.has_guard_dropped.result
+    c.uses_unchecked.ensures c.needs_more.ensures c.needs_more-2.ensures c.has_guard_dropped.ensures site

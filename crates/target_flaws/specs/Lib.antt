@@ -1,0 +1,4 @@
+pub mod Machines
+pub mod Needs
+pub mod Found
+pub mod FlawAnswers
