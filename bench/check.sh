@@ -3,7 +3,7 @@
 # less the time of the least text. In the one kind of text every second instruction branches, to and fro, so that each leads to
 # each. In the other the generators have commits that need eight registers guarded and the wrap-ups exchanges that need three,
 # so that their targets are up to ten times as long. What the verifier takes is the time of the program `verify_bench` less
-# that of the same program where it doesn't verify. Five runs each; the least is taken. Build the program first, by one `./oa`.
+# that of the same program where it doesn't verify. Five runs each; the least is taken. It needs the proved program (`./prove`).
 set -eu
 cd "$(dirname "$0")/.."
 work=$(mktemp -d)

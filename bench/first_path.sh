@@ -1,6 +1,6 @@
 #!/usr/bin/env bash
 # Times `oa run` on documents of the first form with 25,000 and with 100,000 calls of `add 5`, less the time
-# of a document with no call. Five runs each; the least is taken. Build the program first, by one `./oa`.
+# of a document with no call. Five runs each; the least is taken. It needs the proved program (`./prove`).
 set -eu
 cd "$(dirname "$0")/.."
 work=$(mktemp -d)

@@ -1,7 +1,7 @@
 #!/usr/bin/env bash
 # Times `oa show` on texts up to the greatest, on comments up to a document's greatest length, and on up to 100,000 calls,
-# each at four sizes, less the time of an empty input. Five runs each; the least is taken. Build the program first, by one
-# `./oa`.
+# each at four sizes, less the time of an empty input. Five runs each; the least is taken. It needs the proved program
+# (`./prove`).
 set -eu
 cd "$(dirname "$0")/.."
 work=$(mktemp -d)

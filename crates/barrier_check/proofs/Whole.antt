@@ -62,7 +62,7 @@ there_flawed target text number op source wrapup at i flaw subject stands there 
 nothing_there : {X : Type 0} (o : Option X) (P : X → Type 0) → o ≡ None → ¬ IsSomeAnd o P
 nothing_there o P is holds = subst (λ z. IsSomeAnd z P) is holds
 
--- behind the last instruction there is no flaw
+-- after the last instruction there is no flaw
 pub whole_method : (target : Target) (text : Text) (number : ℕ) (op : TargetOp) (source : Op) (wrapup : Bool) (at : ℕ) → IsSubject target text number op source → length (target_code_of op wrapup) ≤ at
     → IsClear (HasFlaw target text) (Above number wrapup at) → IsClear (HasFlaw target text) (InMethod number wrapup)
 whole_method target text number op source wrapup at subject past above flaw there has =
@@ -73,7 +73,7 @@ whole_method target text number op source wrapup at subject past above flaw ther
           (flaw_of_instr target text flaw.kind number op source wrapup flaw.at subject (moved target text flaw number wrapup flaw.at (there.0, there.1, refl) has))
     ]
 
--- nor behind the last operation
+-- nor after the last operation
 pub all_operations : (target : Target) (text : Text) (count : ℕ) → length text.ops ≤ count → IsClear (HasFlaw target text) (Earlier count) → IsClear (HasFlaw target text) Anywhere
 all_operations target text count past earlier flaw there has =
     elim (less_or_more flaw.op count) [

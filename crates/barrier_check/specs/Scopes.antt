@@ -31,7 +31,7 @@ pub record IsFirstThere (Has There : Flaw → Type 0) (flaw : Flaw) : Type 0 whe
   pub has : Has flaw
   pub first : (other : Flaw) → There other → IsTrue (flaw_before other flaw) → ¬ Has other
 
--- what a refusal of a part says; want of memory says nothing
+-- what a refusal of a part says; that memory ran out says nothing
 abbrev pub IsFlawedThere : (Flaw → Type 0) → (Flaw → Type 0) → VerifyError → Type 0
 IsFlawedThere Has There Memory = Unit {0}
 IsFlawedThere Has There (Flawed flaw) = IsFirstThere Has There (flaw_of flaw)

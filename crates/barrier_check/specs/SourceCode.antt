@@ -4,7 +4,7 @@ use Rattle.norm_lang.specs.declared.text.Instr.{Instr}
 use Rattle.target_code.specs.declared.target.TargetInstr.{TargetInstr}
 use Rattle.target_code.specs.Erasing.{plain_code}
 
--- what is left of a text's code behind an instruction of a target: whatever comes behind that gives the whole where it
+-- what is left of a text's code after an instruction of a target: whatever comes after that gives the whole where it
 -- gives this rest. With no rest nothing gives the whole
 abbrev pub Leaves : (ℕ → ℕ) → TargetInstr → List Instr → Option (List Instr) → Type 0
 Leaves place i source None = (code : List TargetInstr) → ¬ (plain_code place (i ∷ code) ≡ source)

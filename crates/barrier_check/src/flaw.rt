@@ -14,9 +14,9 @@ pub enum FlawKind {
     UncheckedUse = 2,
     /// The instruction needs a register guarded, and on some path it isn't.
     Unguarded = 3,
-    /// The instruction needs a register guarded, and on some path no check stands behind the guard.
+    /// The instruction needs a register guarded, and on some path no check stands after the guard.
     GuardAfterCheck = 4,
-    /// The instruction needs a register guarded, and on some path the guard was undone; or it guards a register anew
+    /// The instruction needs a register guarded, and on some path the guard was undone; or it guards a register again
     /// that the wrap-up keeps.
     GuardDropped = 5,
 }

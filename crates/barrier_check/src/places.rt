@@ -9,7 +9,7 @@ use target_code::target::TargetInstr;
 
 /// For each place of a target's method the count of instructions other than checks and guards before it, and the count
 /// of all of them.
-#[derive(Debug, Drop)]
+#[derive(Drop)]
 pub struct Places {
     before: Vec<usize>,
     count: usize,

@@ -12,7 +12,7 @@ use Rattle.target_code.specs.declared.target.TargetOp.{TargetOp}
 use Rattle.target_code.specs.declared.target.Target.{Target}
 use Rattle.target_code.specs.Barred.{IsBarred}
 use Rattle.target_code.specs.FirstScheme.{scheme_op, first_scheme}
-use Rattle.barrier_compiler.proofs.Keeping.{keeps_is_kept}
+use Rattle.target_code.proofs.Keeping.{keeps_is_kept}
 use Rattle.barrier_compiler.proofs.Erases.{scheme_erases}
 use Rattle.barrier_compiler.proofs.Flawless.{scheme_is_flawless}
 

@@ -27,7 +27,7 @@ is_barrier (Plain i) = false
 is_barrier Check = true
 is_barrier (Guard r) = true
 
--- a barrier is of checks and guards, and so is what stands behind an instruction
+-- a barrier is of checks and guards, and so is what stands after an instruction
 guards_bar : (rs : List Reg) → IsTrue (list_all is_barrier (map Guard rs ++ (Check ∷ [])))
 guards_bar [] = refl
 guards_bar (r ∷ rs) = guards_bar rs
@@ -61,12 +61,12 @@ at_seam (y ∷ before) behind x (suc k) j one two is =
     all_rest Check ys all = all
     all_rest (Guard r) ys all = all
 
--- what stands in a block is a check or a guard, or it is the block's other instruction, behind the barrier
+-- what stands in a block is a check or a guard, or it is the block's other instruction, after the barrier
 pub in_block : (place : ℕ → ℕ) (op : Op) (i : Instr) (k : ℕ) (j : TargetInstr) → slice_get (block place op i) k ≡ Some j
     → IsTrue (is_barrier j) ⊎ ((j ≡ Plain (redirected place i)) × (take k (block place op i) ≡ barrier (to_guard op i)) × (k ≡ length (barrier (to_guard op i))))
 in_block place op i k j is = at_seam (barrier (to_guard op i)) (check_behind i) (Plain (redirected place i)) k j (barrier_bars (to_guard op i)) (behind_bars i) is
 
--- where a block ends without a check behind
+-- where a block ends without a check after it
 ends_plain : (place : ℕ → ℕ) (op : Op) (i : Instr) → fetches i ≡ false → suc (length (barrier (to_guard op i))) ≡ length (block place op i)
 ends_plain place op i not_fetched =
     let none : length (check_behind i) ≡ 0 = ap (λ b. length (if b then Check ∷ [] else [])) not_fetched in

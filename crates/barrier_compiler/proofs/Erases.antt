@@ -80,7 +80,7 @@ block_length place other op i =
     length-append (barrier (to_guard op i)) (Plain (redirected place i) ∷ check_behind i)
     ∙ sym (length-append (barrier (to_guard op i)) (Plain (redirected other i) ∷ check_behind i))
 
--- so a block begins behind those before it in the method
+-- so a block begins after those before it in the method
 pub block_place_is : (op : Op) (code : List Instr) (at : ℕ) → block_place op code at ≡ length (flat_map (block (block_place op code) op) (take at code))
 block_place_is op code at = length_flat_map_same (block (λ l. l) op) (block (block_place op code) op) (block_length (λ l. l) (block_place op code) op) (take at code)
 

@@ -177,12 +177,12 @@ guards_clean : (r : Reg) (rs : List Reg) → run (clean_after r) (map Guard rs +
 guards_clean r [] = refl
 guards_clean r (a ∷ rs) = guards_clean r rs
 
--- a register is clean behind a barrier if it was before
+-- a register is clean after a barrier if it was before
 pub barrier_clean : (r : Reg) (rs : List Reg) → run (clean_after r) (barrier rs) true ≡ true
 barrier_clean r [] = refl
 barrier_clean r (a ∷ rs) = guards_clean r rs
 
--- and so it is behind a block
+-- and so it is after a block
 pub block_clean : (r : Reg) (place : ℕ → ℕ) (op : Op) (i : Instr) (state : Bool) → state ≡ true → run (clean_after r) (block place op i) state ≡ true
 block_clean r place op i state clean =
     ap (run (clean_after r) (block place op i)) clean

@@ -4,7 +4,6 @@ mod Guarding
 mod Flawless
 mod ListLemmas
 mod EachOnce
-mod Keeping
 mod Erases
 mod SchemeLimits
 mod Barring

@@ -80,7 +80,7 @@ starts_are op code at =
     ∙ from_nothing (length (blocks (take at code)))
     ∙ same_length (λ l. l) op (take at code)
 
--- a part at the front isn't longer
+-- a prefix isn't longer
 front_is_short : (f : Instr → List TargetInstr) (code : List Instr) (at : ℕ) → length (flat_map f (take at code)) ≤ length (flat_map f code)
 front_is_short f [] zero = omega arith
 front_is_short f [] (suc at) = omega arith

@@ -16,7 +16,7 @@ use Rattle.target_code.specs.Keeping.{keeps}
 use Rattle.target_code.specs.TargetLimits.{is_target_instr}
 use Rattle.target_code.specs.FirstScheme.{scheme_code}
 use Rattle.barrier_compiler.specs.Sized.{IsShort}
-use Rattle.barrier_compiler.proofs.Keeping.{keeps_is_kept}
+use Rattle.target_code.proofs.Keeping.{keeps_is_kept}
 use Rattle.barrier_compiler.proofs.SchemeLimits.{method_within}
 
 method_short : (fields roots : ℕ) (op : Op) (code : List Instr) → IsTrue (is_method fields roots code) → IsShort op code

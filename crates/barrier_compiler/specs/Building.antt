@@ -5,6 +5,7 @@ use Rattle.std.specs.List.{list_any, filter}
 use Rattle.norm_lang.specs.declared.text.Reg.{Reg}
 use Rattle.norm_lang.specs.declared.text.Instr.{Instr}
 use Rattle.norm_lang.specs.declared.text.Op.{Op}
+use Rattle.norm_lang.specs.Bounds.{last_target}
 use Rattle.norm_lang.specs.RegisterUse.{same_register}
 use Rattle.norm_lang.specs.Kept.{holds_reference}
 use Rattle.norm_lang.specs.PathRules.{is_commit}
@@ -15,11 +16,11 @@ use Rattle.target_code.specs.Flaws.{exchanged}
 use Rattle.target_code.specs.Keeping.{keeps}
 use Rattle.target_code.specs.FirstScheme.{all_references, barrier, check_behind}
 
--- a register behind others, if it is of a reference and isn't among them
+-- a register after others, if it is of a reference and isn't among them
 abbrev pub with_register : List Reg → Reg → List Reg
 with_register rs r = if holds_reference r && not (list_any (same_register r) rs) then rs ++ r ∷ [] else rs
 
--- registers behind others, one after another
+-- registers after others, one after another
 abbrev pub with_registers : List Reg → List Reg → List Reg
 with_registers rs [] = rs
 with_registers rs (r ∷ more) = with_registers (with_register rs r) more
@@ -51,7 +52,7 @@ start_of starts end at = unwrap_or (slice_get starts at) end
 
 -- no block begins past what a jump can name
 abbrev pub AreNear : List ℕ → ℕ → Type 0
-AreNear starts end = (at : ℕ) → start_of starts end at ≤ 65535
+AreNear starts end = (at : ℕ) → start_of starts end at ≤ last_target
 
 -- an instruction whose jump is taken elsewhere
 abbrev pub relocated : (ℕ → ℕ) → TargetInstr → TargetInstr

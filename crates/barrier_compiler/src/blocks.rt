@@ -1,10 +1,9 @@
-//! The blocks of instructions: guards and a check before what exchanges, and a check behind what loads.
+//! The blocks of instructions: guards and a check before what exchanges, and a check after what loads.
 
 ghost use Rattle.std.specs.Prelude.{◌≡◌, ◌≤◌, ◌++◌, ◌∷◌, [], length, map, IfOk, OnOk};
 ghost use Rattle.std.specs.List.{flat_map};
 ghost use Rattle.target_code.specs.declared.target.TargetInstr.TheVariants.{Guard};
 ghost use Rattle.target_code.specs.Erasing.{redirected};
-ghost use Rattle.target_code.specs.Flaws.{fetches};
 ghost use Rattle.target_code.specs.FirstScheme.{barrier, check_behind};
 ghost use Rattle.barrier_compiler.specs.Building.{block_by, starts_from, start_of, AreNear, relocated};
 
@@ -13,25 +12,13 @@ use norm_lang::duplicate::Duplicate;
 use norm_lang::text::{Instr, Reg};
 use std::alloc::{AllocError, Global};
 use target_code::target::{TargetCode, TargetInstr};
+use target_code::uses::fetches;
 
 /// The blocks of a method, whose jumps still lead to instructions of the source, and where each block begins.
 #[derive(Drop)]
 pub(crate) struct Blocks {
     pub code: TargetCode,
     pub starts: Vec<usize>,
-}
-
-/// Whether an instruction puts into a register what is another's to recycle: a load or a `new`.
-fn fetches(instr: &Instr) -> bool
-    ensures { result ≡ fetches instr.now }
-{
-    matches!(
-        instr,
-        Instr::LoadRoot(_, _)
-            | Instr::LoadPick(_, _, _, _)
-            | Instr::LoadField(_, _, _)
-            | Instr::New(_)
-    )
 }
 
 fn put_guards(code: &mut TargetCode, registers: &[Reg]) -> Result<(), AllocError>
@@ -43,7 +30,7 @@ fn put_guards(code: &mut TargetCode, registers: &[Reg]) -> Result<(), AllocError
     Ok(())
 }
 
-/// Adds guards, and a check behind them where there are any.
+/// Adds guards, and a check after them where there are any.
 fn put_barrier(code: &mut TargetCode, registers: &[Reg]) -> Result<(), AllocError>
     ensures { IfOk result (λ _. code.new ≡ code.old ++ barrier registers.now) }
 {

@@ -66,7 +66,7 @@ fn compile_ops(alloc: Global, normal: &Normal) -> Result<TargetOps, AllocError>
 /// the limits. The cost grows with the count of instructions.
 ///
 /// # Errors
-/// `AllocError` for want of memory; nothing else is refused.
+/// `AllocError` where memory runs out; nothing else is refused.
 #[tactic(auto, using(crate::proofs::Barring::first_scheme_is_barred, crate::proofs::SchemeLimits::first_scheme_is_within))]
 pub fn compile(alloc: Global, normal: &Normal) -> Result<Target, AllocError>
     ensures same { IfOk result (λ target. target ≡ first_scheme normal.now) }

@@ -13,7 +13,7 @@ abbrev settled : List ℕ → Bool → Result (List ℕ) ℕ → Result (List �
 settled args true read = Err number_fault
 settled args false read = read >>= λ rest. Ok (args ++ rest)
 
--- what the words from here on say, behind the arguments so far
+-- what the words from here on say, after the arguments so far
 abbrev pub arguments_from : List ℕ → Bool → List (List ℕ) → Result (List ℕ) ℕ
 arguments_from args great words = demand form_fault (list_all is_numeral words) >>= λ spelled. settled args great (values_in words)
 
@@ -24,7 +24,7 @@ arguments_start words = ap (λ read. demand form_fault (list_all is_numeral word
     all (Ok args) = refl
     all (Err fault) = refl
 
--- one more argument in front of what is read is one more behind those so far
+-- one more argument before what is read is one more after those so far
 settled_more : (args : List ℕ) (value : ℕ) (great : Bool) (read : Result (List ℕ) ℕ)
     → settled args great (read >>= λ rest. Ok (value ∷ rest)) ≡ settled (args ++ value ∷ []) great read
 settled_more args value true read = refl

@@ -6,13 +6,14 @@ use Rattle.std.proofs.lemmas.Bool.{cases_lt, le-ltb}
 use Rattle.oa_text.specs.Lines.{TextLine, lines_of, numbered}
 use Rattle.oa_text.specs.Tokens.{words_of, line_fault}
 use Rattle.norm_lang.specs.declared.text.Text.{Text}
-use Rattle.norm_lang.specs.Faults.{LineFault, form_fault, ◌>>=◌, demand, at_line}
+use Rattle.norm_lang.specs.Faults.{LineFault, form_fault, ◌>>=◌, at_line}
 use Rattle.norm_lang.specs.Declarations.{version_line}
 use Rattle.norm_lang.specs.Grammar.{Start, Opening, Draft, draft_at, is_comment, plain, finished, in_start, after_words as words_drafted, after_line as line_drafted, after_lines as lines_drafted}
 use Rattle.line_words.specs.Lines.{first_word}
 use Rattle.norm_parser.specs.FrontRead.{from_line, line_word, ends_text, names_text, behind_text, end_at}
+use Rattle.norm_parser.specs.Version.{is_version, version_in, after_version}
 use Rattle.norm_parser.proofs.Fronts.{earlier}
-use Rattle.documents.specs.DocumentRead.{is_version, version_in, version_end, empty_tail, document_of, document_read}
+use Rattle.documents.specs.DocumentRead.{empty_tail, document_of, document_read}
 use Rattle.documents.specs.DocumentLaws.{TextsAreDocuments}
 use Rattle.documents.proofs.TextLinesOnly.{given, own_lines}
 
@@ -30,11 +31,11 @@ first_number : (n past : ℕ) (lines : List (List ℕ)) → n + length lines ≡
 first_number n past [] count = omega (arith, count)
 first_number n past (line ∷ lines) count = refl
 
--- the lines from that number on are those behind the others, of which the first has this number at least
+-- the lines from that number on are those after the others, of which the first has this number at least
 abbrev Ends : ℕ → ℕ → List TextLine → List TextLine → Type 0
 Ends n past lines behind = (n ≤ end_line behind past) × (from_line (end_line behind past) lines ≡ behind)
 
--- one line more in front
+-- one line more at the start
 one_before : (n past : ℕ) (line : List ℕ) (lines behind : List TextLine) → Ends (n + 1) past lines behind → Ends n past (record { number = n; bytes = line } ∷ lines) behind
 one_before n past line lines behind ends = (omega (arith, ends.0), earlier (end_line behind past) (record { number = n; bytes = line }) lines (omega (arith, ends.0)) ∙ ends.1)
 
@@ -82,30 +83,30 @@ Opens next version = ((next ≡ draft_at Start) × (version ≡ Ok false)) ⊎ (
 
 opens_named : (next : Draft) (named : Bool) (version : Result (Unit {0}) ℕ)
     → (if named then (version >>= λ done. Ok (record (draft_at Start) { section = Opening })) else Err form_fault) ≡ Ok next
-    → (next ≡ draft_at Opening) × ((demand form_fault named >>= λ done. version >>= λ one. Ok true) ≡ Ok true)
+    → (next ≡ draft_at Opening) × ((if named then (version >>= λ one. Ok true) else Err form_fault) ≡ Ok true)
 opens_named next true (Ok done) read = (sym (ap (given next) read), refl)
 opens_named next true (Err fault) read = absurd (let f : ⊥ = cc in f)
 opens_named next false version read = absurd (let f : ⊥ = cc in f)
 
 opens_words : (next : Draft) (word : List ℕ) (rest : List (List ℕ)) (skipped : Bool) → (if skipped then Ok (draft_at Start) else in_start (draft_at Start) word rest) ≡ Ok next
-    → Opens next (is_version (if skipped then None else Some (word, rest)))
+    → Opens next (is_version (codes "oa") (if skipped then None else Some (word, rest)))
 opens_words next word rest true read = inl (sym (ap (given next) read), refl)
 opens_words next word rest false read = inr (opens_named next (bytes_eq word (codes "oa")) (version_line rest) read)
 
-opens : (next : Draft) (line : TextLine) → line_drafted (draft_at Start) line ≡ Ok next → Opens next (version_in line)
+opens : (next : Draft) (line : TextLine) → line_drafted (draft_at Start) line ≡ Ok next → Opens next (version_in (codes "oa") line)
 opens next line read = go (plain (line_fault line)) (words_of line.bytes) read
   where
     go : (r : Result (Unit {0}) ℕ) (words : List (List ℕ)) → (r >>= λ done. words_drafted (draft_at Start) words) ≡ Ok next
-        → Opens next ((r >>= λ done. Ok words) >>= λ found. is_version (first_word found))
+        → Opens next ((r >>= λ done. Ok words) >>= λ found. is_version (codes "oa") (first_word found))
     go (Err fault) words read = absurd (let f : ⊥ = cc in f)
     go (Ok done) [] read = inl (sym (ap (given next) read), refl)
     go (Ok done) (word ∷ rest) read = opens_words next word rest (is_comment word) read
 
--- the version line is found, and a text is read from the line behind it
+-- the version line is found, and a text is read from the line after it
 record IsFound (n past : ℕ) (lines : List (List ℕ)) (last : Draft) : Type 0 where
   next : ℕ
   later : n < next
-  found : version_end (numbered n lines) past ≡ Ok next
+  found : after_version (codes "oa") past (numbered n lines) ≡ Ok next
   rest : lines_drafted (draft_at Opening) (from_line next (numbered n lines)) ≡ Ok last
 
 finds : (n past : ℕ) (lines : List (List ℕ)) (last : Draft) (text : Text) → lines_drafted (draft_at Start) (numbered n lines) ≡ Ok last → finished last ≡ Ok text

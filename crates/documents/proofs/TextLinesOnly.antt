@@ -1,4 +1,4 @@
--- A text's lines in a document of nothing else: none of them ends the text early, and behind a shipped one all are skipped.
+-- A text's lines in a document of nothing else: none of them ends the text early, and after a shipped one all are skipped.
 use Rattle.std.specs.Prelude.{◌≡◌, ℕ, zero, suc, Bool, true, false, ◌||◌, List, [], ◌∷◌, Some, None, Result, Ok, Err, codes, if◌then◌else◌}
 use Rattle.std.specs.Str.{bytes_eq}
 use Rattle.std.proofs.Common.{refl, ap, sym, ◌∙◌, ⊎_elim}
@@ -12,8 +12,7 @@ use Rattle.norm_lang.specs.Declarations.{use_line}
 use Rattle.norm_lang.specs.Grammar.{Section, Start, Opening, Fields, Nodes, Roots, Begun, Generator, WrapUp, Shipped, Draft, in_section, in_place, is_comment, plain, after_words as words_drafted, after_line as line_drafted, after_lines as lines_drafted}
 use Rattle.line_words.specs.Lines.{first_word}
 use Rattle.norm_parser.specs.FrontRead.{front_of, line_word, ends_text, names_text, text_lines, behind_text}
-use Rattle.documents.specs.declared.tail.Tail.{Tail}
-use Rattle.documents.specs.DocumentRead.{empty_tail, after_words, after_line, after_lines}
+use Rattle.documents.specs.DocumentRead.{Tail, empty_tail, after_words, after_line, after_lines}
 
 -- what is read, or this
 abbrev pub given : {A E : Type 0} → A → Result A E → A
@@ -97,7 +96,7 @@ used_at : (left : ℕ) (draft next : Draft) (rest : List (List ℕ)) → draft.l
 used_at zero draft next rest same read = used draft.section draft next rest same read
 used_at (suc left) draft next rest same read = impossible next read
 
--- behind a line that names a shipped text it is whole
+-- after a line that names a shipped text it is whole
 named_whole : (draft next : Draft) (line : TextLine) → names_text (line_word line) ≡ true → line_drafted draft line ≡ Ok next → IsWhole next
 named_whole draft next line named read = go (plain (line_fault line)) (words_of line.bytes) named read
   where
@@ -114,7 +113,7 @@ skips_words : (draft next : Draft) (number : ℕ) (tail : Tail) (word : List ℕ
 skips_words draft next number tail word rest true whole read = (sym (ap (given draft) read), refl)
 skips_words draft next number tail word rest false whole read = impossible next (rw (whole.1, whole.0) at read)
 
--- behind a whole text a line is skipped
+-- after a whole text a line is skipped
 skips : (draft next : Draft) (line : TextLine) (tail : Tail) → IsWhole draft → line_drafted draft line ≡ Ok next → (next ≡ draft) × (after_line tail line ≡ Ok tail)
 skips draft next line tail whole read = go (plain (line_fault line)) (words_of line.bytes) read
   where

@@ -1,4 +1,4 @@
--- The document that bytes spell: a version line, a text, and behind it the settings, each at most once and in this
+-- The document that bytes spell: a version line, a text, and after it the settings, each at most once and in this
 -- order, the scripts in the order of their numbers, and at most one schedule; or the first fault.
 use Rattle.std.specs.Prelude.{◌≡◌, ℕ, ◌+◌, Bool, true, false, ◌&&◌, List, [], ◌∷◌, ◌++◌, length, Option, Some, None, Result, Ok, Err, codes, nat_lt, if◌then◌else◌}
 use Rattle.std.specs.Str.{bytes_eq}
@@ -6,39 +6,41 @@ use Rattle.oa_text.specs.Lines.{TextLine, lines_of, numbered}
 use Rattle.norm_lang.specs.declared.text.Text.{Text}
 use Rattle.norm_lang.specs.Faults.{LineFault, form_fault, too_many, ◌>>=◌, demand, at_line}
 use Rattle.norm_lang.specs.LineWords.{end_at}
-use Rattle.norm_lang.specs.Declarations.{version_line, is_reserved}
+use Rattle.norm_lang.specs.Declarations.{is_reserved}
 use Rattle.line_words.specs.Lines.{words_in, first_word}
 use Rattle.norm_parser.specs.FrontRead.{from_line, front_read}
+use Rattle.norm_parser.specs.Version.{after_version}
+use Rattle.schedule_turns.specs.declared.turn.Turn.{Turn}
 use Rattle.documents.specs.declared.document.ScriptCall.{ScriptCall}
 use Rattle.documents.specs.declared.document.Document.{Document}
-use Rattle.documents.specs.declared.tail.Stage.{Stage}
-use Rattle.documents.specs.declared.tail.Stage.TheVariants as stages
-use Rattle.documents.specs.declared.tail.Tail.{Tail}
 use Rattle.documents.specs.TailLines.{setting_line, phases_line, script_line, call_line, turn_line}
 
--- whether the words of a line are the version line: they are, or the line is skipped
-abbrev pub is_version : Option (List ℕ × List (List ℕ)) → Result Bool ℕ
-is_version None = Ok false
-is_version (Some word) = do
-  named ← demand form_fault (bytes_eq word.0 (codes "oa"))
-  version ← version_line word.1
-  Ok true
+-- where a line after a document's text stands: right after the text, after one of the settings, in a script, or in the
+-- schedule
+pub data Stage : Type 0 where
+  AfterText : Stage
+  AfterSlots : Stage
+  AfterPhases : Stage
+  AfterFuel : Stage
+  InScript : Stage
+  InSchedule : Stage
 
--- whether a line is the version line. Its bytes are judged first, also where it is skipped
-abbrev pub version_in : TextLine → Result Bool ℕ
-version_in line = words_in line >>= λ words. is_version (first_word words)
+-- what the lines after a text say so far
+pub record Tail : Type 0 where
+  pub stage : Stage
+  pub slots : ℕ
+  pub first : ℕ
+  pub last : ℕ
+  pub fuel : ℕ
+  -- the scripts that are whole, and the one whose lines stand here
+  pub scripts : List (List ScriptCall)
+  pub script : List ScriptCall
+  pub schedule : List Turn
 
--- the number of the line behind the version line, where `past` is one more than the last line's number
-abbrev pub version_end : List TextLine → ℕ → Result ℕ LineFault
-version_end [] past = Err (record { line = past; number = form_fault })
-version_end (line ∷ lines) past = do
-  here ← at_line line.number (version_in line)
-  if here then Ok (line.number + 1) else version_end lines past
-
--- no line behind the text has been read: the settings are the defaults
+-- no line after the text has been read: the settings are the defaults
 abbrev pub empty_tail : Tail
 empty_tail = record {
-  stage = stages.Slots;
+  stage = AfterText;
   slots = 64;
   first = 1;
   last = 1000000000;
@@ -48,27 +50,27 @@ empty_tail = record {
   schedule = [];
 }
 
--- the slots may be set right behind the text
+-- the slots may be set right after the text
 abbrev pub may_set_slots : Stage → Bool
-may_set_slots stages.Slots = true
+may_set_slots AfterText = true
 may_set_slots _ = false
 
--- the phases may be set behind them
+-- the phases may be set after them
 abbrev pub may_set_phases : Stage → Bool
-may_set_phases stages.Slots = true
-may_set_phases stages.Phases = true
+may_set_phases AfterText = true
+may_set_phases AfterSlots = true
 may_set_phases _ = false
 
--- the fuel may be set behind both
+-- the fuel may be set after both
 abbrev pub may_set_fuel : Stage → Bool
-may_set_fuel stages.Slots = true
-may_set_fuel stages.Phases = true
-may_set_fuel stages.Fuel = true
+may_set_fuel AfterText = true
+may_set_fuel AfterSlots = true
+may_set_fuel AfterPhases = true
 may_set_fuel _ = false
 
 -- in a script the one that lines stand in is the last
 abbrev pub whole_scripts_in : Stage → List (List ScriptCall) → List ScriptCall → List (List ScriptCall)
-whole_scripts_in stages.Calls scripts script = scripts ++ script ∷ []
+whole_scripts_in InScript scripts script = scripts ++ script ∷ []
 whole_scripts_in _ scripts script = scripts
 
 -- the scripts, that in which lines stand among them
@@ -77,11 +79,11 @@ whole_scripts tail = whole_scripts_in tail.stage tail.scripts tail.script
 
 -- the next script begins
 abbrev pub with_script : Tail → Tail
-with_script tail = record tail { stage = stages.Calls; scripts = whole_scripts tail; script = [] }
+with_script tail = record tail { stage = InScript; scripts = whole_scripts tail; script = [] }
 
 -- the schedule begins
 abbrev pub with_schedule : Tail → Tail
-with_schedule tail = record tail { stage = stages.Turns; scripts = whole_scripts tail; script = [] }
+with_schedule tail = record tail { stage = InSchedule; scripts = whole_scripts tail; script = [] }
 
 -- the next script, or the schedule
 abbrev pub begins : Tail → List ℕ → List (List ℕ) → Result Tail ℕ
@@ -93,9 +95,9 @@ begins tail word rest =
 -- a setting that may stand here, or what follows the settings
 abbrev pub in_settings : Tail → List ℕ → List (List ℕ) → Result Tail ℕ
 in_settings tail word rest =
-    if bytes_eq word (codes "slots") && may_set_slots tail.stage then (setting_line rest >>= λ slots. Ok (record tail { stage = stages.Phases; slots = slots }))
-    else (if bytes_eq word (codes "phases") && may_set_phases tail.stage then (phases_line rest >>= λ phases. Ok (record tail { stage = stages.Fuel; first = phases.first; last = phases.last }))
-    else (if bytes_eq word (codes "fuel") && may_set_fuel tail.stage then (setting_line rest >>= λ fuel. Ok (record tail { stage = stages.Scripts; fuel = fuel }))
+    if bytes_eq word (codes "slots") && may_set_slots tail.stage then (setting_line rest >>= λ slots. Ok (record tail { stage = AfterSlots; slots = slots }))
+    else (if bytes_eq word (codes "phases") && may_set_phases tail.stage then (phases_line rest >>= λ phases. Ok (record tail { stage = AfterPhases; first = phases.first; last = phases.last }))
+    else (if bytes_eq word (codes "fuel") && may_set_fuel tail.stage then (setting_line rest >>= λ fuel. Ok (record tail { stage = AfterFuel; fuel = fuel }))
     else begins tail word rest))
 
 -- one more call: in a script each line is one that doesn't begin the next script or the schedule
@@ -113,8 +115,8 @@ in_schedule tail word rest = do
 
 -- the line that stands here, with its number, by its first word
 abbrev pub in_stage : Stage → Tail → ℕ → List ℕ → List (List ℕ) → Result Tail ℕ
-in_stage stages.Calls tail line word rest = in_calls tail line word rest
-in_stage stages.Turns tail line word rest = in_schedule tail word rest
+in_stage InScript tail line word rest = in_calls tail line word rest
+in_stage InSchedule tail line word rest = in_schedule tail word rest
 in_stage _ tail line word rest = in_settings tail word rest
 
 -- what is said after the words of a line, of which there are none where it is skipped
@@ -133,7 +135,7 @@ after_lines tail (line ∷ lines) = do
   next ← at_line line.number (after_line tail line)
   after_lines next lines
 
--- a text and what is said behind it
+-- a text and what is said after it
 abbrev pub document_of : Text → Tail → Document
 document_of text tail = record {
   text = text;
@@ -148,7 +150,7 @@ document_of text tail = record {
 -- the document that bytes spell, or the first line that has a fault, with its first fault
 abbrev pub document_read : List ℕ → Result Document LineFault
 document_read bytes = do
-  start ← version_end (numbered 1 (lines_of bytes)) (length (lines_of bytes) + 1)
+  start ← after_version (codes "oa") (length (lines_of bytes) + 1) (numbered 1 (lines_of bytes))
   front ← front_read bytes start
   tail ← after_lines empty_tail (from_line front.1 (numbered 1 (lines_of bytes)))
   Ok (document_of front.0 tail)

@@ -1,3 +1,4 @@
 pub mod TailLines
 pub mod DocumentRead
+pub mod TailShown
 pub mod DocumentLaws

@@ -1,4 +1,4 @@
--- The lines of a document behind its text, each behind its first word: what it says, or its first fault. Each reads its
+-- The lines of a document after its text, each after its first word: what it says, or its first fault. Each reads its
 -- whole form before it judges a number or a limit.
 use Rattle.std.specs.Prelude.{ℕ, Bool, false, List, [], ◌∷◌, Option, Some, None, Result, Ok, Err, codes, nat_lt, ◌==◌, if◌then◌else◌}
 use Rattle.std.specs.List.{list_all}
@@ -6,13 +6,11 @@ use Rattle.std.specs.Str.{bytes_eq}
 use Rattle.oa_text.specs.Numbers.{is_numeral, number_of, fitting}
 use Rattle.norm_lang.specs.Faults.{form_fault, too_many, ◌>>=◌, demand}
 use Rattle.norm_lang.specs.LineWords.{is_name, word_at, end_at, number_at, positive_at, value_of, up_to}
-use Rattle.oa_core.specs.declared.turn.StepKind.{StepKind}
-use Rattle.oa_core.specs.declared.turn.StepKind.TheVariants as kinds
-use Rattle.oa_core.specs.declared.turn.Turn.{Turn}
-use Rattle.oa_core.specs.declared.turn.Turn.TheVariants as turns
+use Rattle.schedule_turns.specs.declared.turn.StepKind.{StepKind}
+use Rattle.schedule_turns.specs.declared.turn.StepKind.TheVariants as kinds
+use Rattle.schedule_turns.specs.declared.turn.Turn.{Turn}
+use Rattle.schedule_turns.specs.declared.turn.Turn.TheVariants as turns
 use Rattle.documents.specs.declared.document.ScriptCall.{ScriptCall}
-use Rattle.documents.specs.declared.settings.Phases.{Phases}
-use Rattle.documents.specs.declared.schedule.Counts.{Counts}
 
 -- `slots S` and `fuel N`: one number
 abbrev pub setting_line : List (List ℕ) → Result ℕ ℕ
@@ -21,7 +19,12 @@ setting_line words = do
   done ← end_at number.1
   value_of number.0
 
--- `phases F L`: the first and the last phase
+-- the first and the last phase
+pub record Phases : Type 0 where
+  pub first : ℕ
+  pub last : ℕ
+
+-- `phases F L`
 abbrev pub phases_line : List (List ℕ) → Result Phases ℕ
 phases_line words = do
   first ← number_at words
@@ -58,7 +61,7 @@ arguments_at words = do
   spelled ← demand form_fault (list_all is_numeral words)
   values_in words
 
--- `NAME V V ..` at a line, behind so many calls of its script: at most 100,000 calls
+-- `NAME V V ..` at a line, after so many calls of its script: at most 100,000 calls
 abbrev pub call_line : ℕ → ℕ → List ℕ → List (List ℕ) → Result ScriptCall ℕ
 call_line line calls word rest = do
   named ← demand form_fault (is_name word)
@@ -74,12 +77,17 @@ step_kind_in word =
     else (if bytes_eq word (codes "exchange") then Ok kinds.Exchange
     else Err form_fault))
 
--- a kind of step, and the words behind it
+-- a kind of step, and the words after it
 abbrev pub step_kind_at : List (List ℕ) → Result (StepKind × List (List ℕ)) ℕ
 step_kind_at words = do
   word ← word_at words
   kind ← step_kind_in word.0
   Ok (kind, word.1)
+
+-- the caller of a turn, and its count
+pub record Counts : Type 0 where
+  pub caller : ℕ
+  pub count : ℕ
 
 -- a caller up to 2^32 - 1, and a count up to 1,000,000
 abbrev pub counts_of : Option ℕ → Option ℕ → Result Counts ℕ

@@ -1,4 +1,4 @@
-//! The lines of scripts, each behind its first word.
+//! The lines of scripts, each after its first word.
 
 ghost use Rattle.line_words.specs.Answered.{Reads, Gives};
 ghost use Rattle.documents.specs.TailLines.{script_line, arguments_at, call_line};
@@ -48,7 +48,7 @@ fn arguments(alloc: Global, words: &mut Words) -> Result<Numbers, Stop>
     Ok(args)
 }
 
-/// `NAME V V ..` at a line, behind so many calls of its script: at most 100,000 calls.
+/// `NAME V V ..` at a line, after so many calls of its script: at most 100,000 calls.
 pub(crate) fn call(
     alloc: Global,
     line: u32,

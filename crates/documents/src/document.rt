@@ -2,7 +2,7 @@
 
 use norm_lang::list::Listed;
 use norm_lang::text::{Name, Text};
-use oa_core::Turn;
+use schedule_turns::Turn;
 
 /// Numbers, in order.
 pub type Numbers = Listed<u64>;

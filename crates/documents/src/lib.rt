@@ -13,6 +13,3 @@ mod tail;
 
 pub use document::{Document, Numbers, Script, ScriptCall, Scripts, Turns};
 pub use reader::read_document;
-
-#[cfg(test)]
-mod tests;

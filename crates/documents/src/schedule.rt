@@ -1,18 +1,19 @@
-//! The turns of a schedule, each behind its first word.
+//! The turns of a schedule, each after its first word.
 
 ghost use Rattle.line_words.specs.Answered.{Reads};
 ghost use Rattle.documents.specs.TailLines.{step_kind_in, step_kind_at, counts_of, counts_at, upto_line, turn_line};
+ghost use Rattle.documents.specs.TailShown.{counts_shown};
 
 use line_words::fault::Fault;
 use line_words::words::{Words, up_to, value_of};
-use oa_core::{StepKind, Turn};
+use schedule_turns::{StepKind, Turn};
 
 const MOST_CALLER: u64 = 4_294_967_295;
 
 const MOST_COUNT: u64 = 1_000_000;
 
 /// The caller of a turn and its count, within the limits.
-#[derive(Clone, Copy, Debug, PartialEq, Eq)]
+#[derive(Clone, Copy)]
 pub(crate) struct Counts {
     pub(crate) caller: u32,
     pub(crate) count: u32,
@@ -41,7 +42,7 @@ fn step_kind(words: &mut Words) -> Result<StepKind, Fault>
 
 /// A caller up to 2^32 - 1, and a count up to 1,000,000.
 fn counts_of(caller: Option<u64>, count: Option<u64>) -> Result<Counts, Fault>
-    ensures { Reads (λ counts. counts) result (counts_of caller count) }
+    ensures { Reads counts_shown result (counts_of caller count) }
 {
     let caller = value_of(caller)?;
     let count = value_of(count)?;
@@ -55,7 +56,7 @@ fn counts_of(caller: Option<u64>, count: Option<u64>) -> Result<Counts, Fault>
 
 /// `C N`, where N is at least 1.
 fn counts_at(words: &mut Words) -> Result<Counts, Fault>
-    ensures { Reads (λ counts. counts) result (counts_at words.old) }
+    ensures { Reads counts_shown result (counts_at words.old) }
 {
     let caller = words.number()?;
     let count = words.positive()?;

@@ -1,9 +1,10 @@
-//! What a line behind a document's text says, by where it stands.
+//! What a line after a document's text says, by where it stands.
 
 ghost use Rattle.std.specs.Prelude.{◌≡◌};
 ghost use Rattle.norm_lang.specs.Declarations.{is_reserved};
 ghost use Rattle.line_words.specs.Answered.{Gives};
 ghost use Rattle.documents.specs.DocumentRead.{begins, in_settings, in_calls, in_schedule, in_stage};
+ghost use Rattle.documents.specs.TailShown.{tail_shown};
 
 use crate::calls::{call, script};
 use crate::schedule::turn;
@@ -17,7 +18,7 @@ const MOST_TURNS: usize = 100_000;
 
 /// The next script, or the schedule.
 fn begins(tail: &mut Tail, alloc: Global, word: &[u8], words: &mut Words) -> Result<(), Stop>
-    ensures { Gives (λ _. tail.new) result (begins tail.old word.now words.old) }
+    ensures { Gives (λ _. tail_shown tail.new) result (begins (tail_shown tail.old) word.now words.old) }
 {
     if word == b"script".as_slice() {
         script(tail.script_count(), words)?;
@@ -34,7 +35,7 @@ fn begins(tail: &mut Tail, alloc: Global, word: &[u8], words: &mut Words) -> Res
 
 /// A setting that may stand here, or what follows the settings.
 fn in_settings(tail: &mut Tail, alloc: Global, word: &[u8], words: &mut Words) -> Result<(), Stop>
-    ensures { Gives (λ _. tail.new) result (in_settings tail.old word.now words.old) }
+    ensures { Gives (λ _. tail_shown tail.new) result (in_settings (tail_shown tail.old) word.now words.old) }
 {
     if word == b"slots".as_slice() && tail.stage.may_set_slots() {
         tail.slots = setting(words)?;
@@ -70,7 +71,7 @@ fn in_calls(
     word: &[u8],
     words: &mut Words,
 ) -> Result<(), Stop>
-    ensures { Gives (λ _. tail.new) result (in_calls tail.old line word.now words.old) }
+    ensures { Gives (λ _. tail_shown tail.new) result (in_calls (tail_shown tail.old) line word.now words.old) }
 {
     if reserved(word) {
         return begins(tail, alloc, word, words);
@@ -82,7 +83,7 @@ fn in_calls(
 
 /// A turn: at most 100,000.
 fn in_schedule(tail: &mut Tail, word: &[u8], words: &mut Words) -> Result<(), Stop>
-    ensures { Gives (λ _. tail.new) result (in_schedule tail.old word.now words.old) }
+    ensures { Gives (λ _. tail_shown tail.new) result (in_schedule (tail_shown tail.old) word.now words.old) }
 {
     let turn = turn(word, words)?;
     if tail.schedule.items().len() >= MOST_TURNS {
@@ -92,7 +93,7 @@ fn in_schedule(tail: &mut Tail, word: &[u8], words: &mut Words) -> Result<(), St
     Ok(())
 }
 
-/// Adds what a line says, by its number, its first word and the words behind it.
+/// Adds what a line says, by its number, its first word and the words after it.
 pub(crate) fn in_stage(
     tail: &mut Tail,
     alloc: Global,
@@ -100,7 +101,7 @@ pub(crate) fn in_stage(
     word: &[u8],
     words: &mut Words,
 ) -> Result<(), Stop>
-    ensures { Gives (λ _. tail.new) result (in_stage tail.old.stage tail.old line word.now words.old) }
+    ensures { Gives (λ _. tail_shown tail.new) result (in_stage (tail_shown tail.old).stage (tail_shown tail.old) line word.now words.old) }
 {
     match tail.stage {
         Stage::Calls => in_calls(tail, alloc, line, word, words),

@@ -1,13 +1,14 @@
-//! The settings of a run, each behind its first word.
+//! The settings of a run, each after its first word.
 
 ghost use Rattle.line_words.specs.Answered.{Reads};
 ghost use Rattle.documents.specs.TailLines.{setting_line, phases_line};
+ghost use Rattle.documents.specs.TailShown.{phases_shown};
 
 use line_words::fault::Fault;
 use line_words::words::{Words, value_of};
 
 /// The first and the last phase.
-#[derive(Clone, Copy, Debug, PartialEq, Eq)]
+#[derive(Clone, Copy)]
 pub(crate) struct Phases {
     pub(crate) first: u64,
     pub(crate) last: u64,
@@ -24,7 +25,7 @@ pub(crate) fn setting(words: &mut Words) -> Result<u64, Fault>
 
 /// `phases F L`
 pub(crate) fn both_phases(words: &mut Words) -> Result<Phases, Fault>
-    ensures { Reads (λ phases. phases) result (phases_line words.old) }
+    ensures { Reads phases_shown result (phases_line words.old) }
 {
     let first = words.number()?;
     let last = words.number()?;

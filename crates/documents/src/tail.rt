@@ -1,7 +1,8 @@
-//! What the lines of a document behind its text say so far.
+//! What the lines of a document after its text say so far.
 
 ghost use Rattle.std.specs.Prelude.{◌≡◌, [], length, IfOk};
 ghost use Rattle.documents.specs.DocumentRead.{empty_tail, may_set_slots, may_set_phases, may_set_fuel, whole_scripts, with_script, with_schedule, document_of};
+ghost use Rattle.documents.specs.TailShown.{stage_shown, tail_shown};
 
 use crate::document::{Document, Script, Scripts, Turns};
 use norm_lang::list::Listed;
@@ -9,48 +10,48 @@ use norm_lang::text::Text;
 use std::alloc::{AllocError, Global};
 use std::mem;
 
-/// Where behind a document's text the next line stands.
-#[derive(Clone, Copy, Debug, PartialEq, Eq)]
+/// Where after a document's text the next line stands.
+#[derive(Clone, Copy, PartialEq, Eq)]
 pub(crate) enum Stage {
-    /// Right behind the text: each setting may follow.
+    /// Right after the text: each setting may follow.
     Slots,
-    /// Behind `slots`.
+    /// After `slots`.
     Phases,
-    /// Behind `phases`.
+    /// After `phases`.
     Fuel,
-    /// Behind `fuel`.
+    /// After `fuel`.
     Scripts,
     /// In a script.
     Calls,
-    /// Behind `schedule`.
+    /// After `schedule`.
     Turns,
 }
 
 impl Stage {
     /// Whether the slots may be set here.
     pub(crate) fn may_set_slots(self) -> bool
-        ensures { result ≡ may_set_slots self }
+        ensures { result ≡ may_set_slots (stage_shown self) }
     {
         matches!(self, Stage::Slots)
     }
 
     /// Whether the phases may be set here.
     pub(crate) fn may_set_phases(self) -> bool
-        ensures { result ≡ may_set_phases self }
+        ensures { result ≡ may_set_phases (stage_shown self) }
     {
         matches!(self, Stage::Slots | Stage::Phases)
     }
 
     /// Whether the fuel may be set here.
     pub(crate) fn may_set_fuel(self) -> bool
-        ensures { result ≡ may_set_fuel self }
+        ensures { result ≡ may_set_fuel (stage_shown self) }
     {
         matches!(self, Stage::Slots | Stage::Phases | Stage::Fuel)
     }
 }
 
 /// The settings, the scripts that are whole, the script that lines stand in, and the turns.
-#[derive(Debug, Drop)]
+#[derive(Drop)]
 pub(crate) struct Tail {
     pub(crate) stage: Stage,
     pub(crate) slots: u64,
@@ -63,9 +64,9 @@ pub(crate) struct Tail {
 }
 
 impl Tail {
-    /// No line behind the text has been read: the settings are the defaults.
+    /// No line after the text has been read: the settings are the defaults.
     pub(crate) fn empty(alloc: Global) -> Tail
-        ensures { result ≡ empty_tail }
+        ensures { tail_shown result ≡ empty_tail }
     {
         Tail {
             stage: Stage::Slots,
@@ -81,7 +82,7 @@ impl Tail {
 
     /// How many scripts there are, with the one that lines stand in.
     pub(crate) fn script_count(&self) -> usize
-        ensures { result ≡ length (whole_scripts self.now) }
+        ensures { result ≡ length (whole_scripts (tail_shown self.now)) }
     {
         let whole = self.scripts.items().len();
         if self.stage == Stage::Calls {
@@ -93,7 +94,7 @@ impl Tail {
 
     /// The script that lines stood in is whole.
     fn end_script(&mut self, alloc: Global) -> Result<(), AllocError>
-        ensures { IfOk result (λ _. self.new ≡ record self.old { scripts = whole_scripts self.old; script = [] }) }
+        ensures { IfOk result (λ _. tail_shown self.new ≡ record (tail_shown self.old) { scripts = whole_scripts (tail_shown self.old); script = [] }) }
     {
         let script = mem::replace(&mut self.script, Listed::empty(alloc));
         if self.stage == Stage::Calls {
@@ -104,7 +105,7 @@ impl Tail {
 
     /// The next script begins.
     pub(crate) fn begin_script(&mut self, alloc: Global) -> Result<(), AllocError>
-        ensures { IfOk result (λ _. self.new ≡ with_script self.old) }
+        ensures { IfOk result (λ _. tail_shown self.new ≡ with_script (tail_shown self.old)) }
     {
         self.end_script(alloc)?;
         self.stage = Stage::Calls;
@@ -113,16 +114,16 @@ impl Tail {
 
     /// The schedule begins.
     pub(crate) fn begin_schedule(&mut self, alloc: Global) -> Result<(), AllocError>
-        ensures { IfOk result (λ _. self.new ≡ with_schedule self.old) }
+        ensures { IfOk result (λ _. tail_shown self.new ≡ with_schedule (tail_shown self.old)) }
     {
         self.end_script(alloc)?;
         self.stage = Stage::Turns;
         Ok(())
     }
 
-    /// The document of a text and of what is said behind it.
+    /// The document of a text and of what is said after it.
     pub(crate) fn into_document(self, alloc: Global, text: Text) -> Result<Document, AllocError>
-        ensures { IfOk result (λ document. document ≡ document_of text self) }
+        ensures { IfOk result (λ document. document ≡ document_of text (tail_shown self)) }
     {
         let mut tail = self;
         tail.end_script(alloc)?;

@@ -9,7 +9,7 @@ use Rattle.norm_lang.specs.Grammar.{is_comment, plain}
 abbrev pub words_in : TextLine → Result (List (List ℕ)) ℕ
 words_in line = plain (line_fault line) >>= λ done. Ok (words_of line.bytes)
 
--- the first word, and those behind it: none of a line that is skipped, that is without a word, or whose first word begins with `#`
+-- the first word, and those after it: none of a line that is skipped, that is without a word, or whose first word begins with `#`
 abbrev pub first_word : List (List ℕ) → Option (List ℕ × List (List ℕ))
 first_word [] = None
 first_word (word ∷ rest) = if is_comment word then None else Some (word, rest)

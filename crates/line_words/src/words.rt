@@ -1,6 +1,6 @@
 //! The words of a line, taken one by one.
 
-ghost use Rattle.std.specs.Prelude.{◌≡◌, ◌≤◌, [], ◌∷◌, Ok, Err, IfOk, MatchOption};
+ghost use Rattle.std.specs.Prelude.{◌≡◌, ◌≤◌, [], ◌∷◌, Ok, Err, IfOk, MatchOption, drop};
 ghost use Rattle.std.specs.List.{list_all};
 ghost use Rattle.oa_text.specs.Shown.{line_shown};
 ghost use Rattle.norm_lang.specs.LineWords.{is_lower, is_name_byte, is_name, word_at, end_at, keyword_at, name_at, number_at, is_positive, positive_at, value_of, up_to, register_of, register_in, register_at, kind_in, kind_at, node_in, start_in, start_at, is_great, node_of, start_of};
@@ -16,7 +16,8 @@ use norm_lang::text::{FieldKind, Reg, Start};
 use oa_text::{Line, TextFault, Tokens, tokens};
 use std::marker::Model;
 
-/// The words of a line that are left.
+/// The words of a line that are left. Each method but `new` takes one word, also where it answers an error or `None`;
+/// where no word is left, none is left after it.
 #[derive(Debug, Drop)]
 pub struct Words<'a> {
     tokens: Tokens<'a>,
@@ -62,7 +63,8 @@ impl<'a> Words<'a> {
 
     /// The first word, unless the line is skipped.
     pub fn first(&mut self) -> Option<&'a [u8]>
-        ensures { MatchOption result (first_word self.old ≡ None) (λ word. first_word self.old ≡ Some (word.now, self.new)) }
+        ensures says { MatchOption result (first_word self.old ≡ None) (λ word. first_word self.old ≡ Some (word.now, self.new)) }
+        ensures taken { self.new ≡ drop 1 self.old }
     {
         let word = self.tokens.next()?.bytes();
         if comment(word) { None } else { Some(word) }
@@ -70,14 +72,16 @@ impl<'a> Words<'a> {
 
     /// The next word, if there is one.
     pub fn next_word(&mut self) -> Option<&'a [u8]>
-        ensures { MatchOption result (self.old ≡ []) (λ word. self.old ≡ word.now ∷ self.new) }
+        ensures says { MatchOption result (self.old ≡ []) (λ word. self.old ≡ word.now ∷ self.new) }
+        ensures taken { self.new ≡ drop 1 self.old }
     {
         Some(self.tokens.next()?.bytes())
     }
 
     /// The next word, which must be there.
     pub fn word(&mut self) -> Result<&'a [u8], Fault>
-        ensures { Reads (λ word. (word.now, self.new)) result (word_at self.old) }
+        ensures says { Reads (λ word. (word.now, self.new)) result (word_at self.old) }
+        ensures taken { self.new ≡ drop 1 self.old }
     {
         match self.tokens.next() {
             Some(token) => Ok(token.bytes()),
@@ -87,7 +91,8 @@ impl<'a> Words<'a> {
 
     /// The end of the line.
     pub fn end(&mut self) -> Result<(), Fault>
-        ensures { Reads (λ _. tt) result (end_at self.old) }
+        ensures says { Reads (λ _. tt) result (end_at self.old) }
+        ensures taken { self.new ≡ drop 1 self.old }
     {
         match self.tokens.next() {
             Some(_) => Err(Fault::Form),
@@ -97,7 +102,8 @@ impl<'a> Words<'a> {
 
     /// This very word.
     pub fn keyword(&mut self, wanted: &[u8]) -> Result<(), Fault>
-        ensures { Reads (λ _. self.new) result (keyword_at wanted.now self.old) }
+        ensures says { Reads (λ _. self.new) result (keyword_at wanted.now self.old) }
+        ensures taken { self.new ≡ drop 1 self.old }
     {
         if self.word()? == wanted {
             Ok(())
@@ -108,7 +114,8 @@ impl<'a> Words<'a> {
 
     /// A name.
     pub fn name(&mut self) -> Result<&'a [u8], Fault>
-        ensures { Reads (λ name. (name.now, self.new)) result (name_at self.old) }
+        ensures says { Reads (λ name. (name.now, self.new)) result (name_at self.old) }
+        ensures taken { self.new ≡ drop 1 self.old }
     {
         let word = self.word()?;
         if name(word) {
@@ -120,14 +127,16 @@ impl<'a> Words<'a> {
 
     /// A number as it is spelled: `None` where it exceeds 2^64 - 1.
     pub fn number(&mut self) -> Result<Option<u64>, Fault>
-        ensures { Reads (λ n. (n, self.new)) result (number_at self.old) }
+        ensures says { Reads (λ n. (n, self.new)) result (number_at self.old) }
+        ensures taken { self.new ≡ drop 1 self.old }
     {
         number_in(self.word()?)
     }
 
     /// A number that is to be at least 1.
     pub fn positive(&mut self) -> Result<Option<u64>, Fault>
-        ensures { Reads (λ n. (n, self.new)) result (positive_at self.old) }
+        ensures says { Reads (λ n. (n, self.new)) result (positive_at self.old) }
+        ensures taken { self.new ≡ drop 1 self.old }
     {
         let n = self.number()?;
         if positive(n) { Ok(n) } else { Err(Fault::Form) }
@@ -135,21 +144,24 @@ impl<'a> Words<'a> {
 
     /// `n0` to `n7` or `r0` to `r7`.
     pub fn register(&mut self) -> Result<Reg, Fault>
-        ensures { Reads (λ r. (r, self.new)) result (register_at self.old) }
+        ensures says { Reads (λ r. (r, self.new)) result (register_at self.old) }
+        ensures taken { self.new ≡ drop 1 self.old }
     {
         register_in(self.word()?)
     }
 
     /// `num` or `ref`.
     pub fn kind(&mut self) -> Result<FieldKind, Fault>
-        ensures { Reads (λ kind. (kind, self.new)) result (kind_at self.old) }
+        ensures says { Reads (λ kind. (kind, self.new)) result (kind_at self.old) }
+        ensures taken { self.new ≡ drop 1 self.old }
     {
         kind_in(self.word()?)
     }
 
     /// A first value of a kind as it is spelled.
     pub fn start(&mut self, kind: FieldKind) -> Result<StartWord, Fault>
-        ensures { Reads (λ start. (start_shown start, self.new)) result (start_at kind self.old) }
+        ensures says { Reads (λ start. (start_shown start, self.new)) result (start_at kind self.old) }
+        ensures taken { self.new ≡ drop 1 self.old }
     {
         start_in(kind, self.word()?)
     }

@@ -50,7 +50,7 @@ GeneratorBreaks generator rule at = Breaks (row generator replies) (record { rul
 abbrev loads : List Instr
 loads = LoadRoot (Ref 0) 0 ∷ Commit [] ∷ []
 
--- the wrap-up breaks a rule at a place, behind a generator that loads r0
+-- the wrap-up breaks a rule at a place, after a generator that loads r0
 abbrev WrapUpBreaks : List Instr → Rule → ℕ → Type 0
 WrapUpBreaks wrapup rule at = Breaks (row loads wrapup) (record { rule = rule; op = 0; wrapup = true; at = at })
 
@@ -242,7 +242,7 @@ given_and_expected = refl
 only_expected : reads_openly (Ref 1) (Commit (gives (Ref 0) ∷ [])) ≡ true
 only_expected = refl
 
--- running off the end: by a jump to the instruction behind it, where both N8 and N13 are broken; a jump back isn't
+-- running off the end: by a jump to the instruction after it, where both N8 and N13 are broken; a jump back isn't
 jump_off : (GeneratorBreaks (Jump 1 ∷ []) N8 0) × (GeneratorBreaks (Jump 1 ∷ []) N13 0)
 jump_off = (refl, refl)
 

@@ -2,17 +2,10 @@
 
 ghost use Rattle.std.specs.Prelude.{◌≡◌};
 ghost use Rattle.std.specs.List.{list_any};
-ghost use Rattle.norm_lang.specs.Kept.{holds_reference};
 ghost use Rattle.norm_lang.specs.InstructionRules.{holds_number, are_of_two_kinds, field_kind, root_kind, place_kind, is_unlike, has_wrong_object, has_wrong_operand, has_wrong_kind, computes_on_reference};
 
 use norm_lang::text::{CasEntry, FieldDecl, FieldKind, Instr, Place, Reg, RootDecl};
-
-/// Whether a register is one of references.
-pub(crate) fn holds_reference(register: Reg) -> bool
-    ensures { result ≡ holds_reference register }
-{
-    matches!(register, Reg::Ref(_))
-}
+use norm_paths::uses::holds_reference;
 
 /// Whether a register is one of numbers.
 pub(crate) fn holds_number(register: Reg) -> bool

@@ -15,8 +15,3 @@ pub mod retired;
 pub use norm_paths::path_rules;
 pub use normal::{Normal, check};
 pub use refusal::{CheckError, Refusal};
-
-#[cfg(test)]
-mod instruction_tests;
-#[cfg(test)]
-mod tests;

@@ -1,4 +1,4 @@
--- The lines before an operation's instructions, each behind its first word: what it declares, or its first fault. Each
+-- The lines before an operation's instructions, each after its first word: what it declares, or its first fault. Each
 -- reads the line's form first, and then judges its numbers, the names it uses, the name it declares, and the limits.
 use Rattle.std.specs.Prelude.{ℕ, Bool, ◌||◌, not, List, [], ◌∷◌, length, Result, Ok, Err, codes, nat_lt, if◌then◌else◌}
 use Rattle.std.specs.List.{list_any}
@@ -9,6 +9,7 @@ use Rattle.norm_lang.specs.declared.text.RootDecl.{RootDecl}
 use Rattle.norm_lang.specs.declared.text.NodeDecl.{NodeDecl}
 use Rattle.norm_lang.specs.declared.text.Op.{Op}
 use Rattle.norm_lang.specs.declared.text.Text.{Text}
+use Rattle.norm_lang.specs.Bounds.{most_fields, most_nodes, most_roots, most_ops, most_args, most_buckets}
 use Rattle.norm_lang.specs.Faults.{number_fault, form_fault, repeated, too_many, ◌>>=◌, demand}
 use Rattle.norm_lang.specs.LineWords.{StartWord, word_at, end_at, keyword_at, name_at, number_at, value_of, up_to, kind_at, start_at, is_great, start_of}
 use Rattle.norm_lang.specs.Shipped.{set_text, queue_text}
@@ -36,7 +37,7 @@ field_line fields words = do
   kind ← kind_at name.1
   done ← end_at kind.1
   new ← demand repeated (not (has_field fields name.0))
-  room ← demand too_many (nat_lt (length fields) 4)
+  room ← demand too_many (nat_lt (length fields) most_fields)
   Ok (record { name = name.0; kind = kind.0 })
 
 -- `nodes K`: at most 256
@@ -45,7 +46,7 @@ nodes_line words = do
   count ← number_at words
   done ← end_at count.1
   value ← value_of count.0
-  up_to 256 value
+  up_to most_nodes value
 
 -- one value for each field, and then the end
 abbrev pub values_at : List FieldDecl → List (List ℕ) → Result (List StartWord) ℕ
@@ -81,7 +82,7 @@ root_line count roots words = do
   done ← end_at value.1
   start ← start_of count value.0
   new ← demand repeated (not (has_root roots name.0))
-  room ← demand too_many (nat_lt (length roots) 256)
+  room ← demand too_many (nat_lt (length roots) most_roots)
   Ok (record { name = name.0; kind = kind.0; start = start })
 
 -- a name that no operation may have, since the line would begin a part of a document
@@ -97,22 +98,22 @@ op_line ops words = do
   free ← demand form_fault (not (is_reserved name.0))
   value ← value_of count.0
   new ← demand repeated (not (has_op ops name.0))
-  room ← demand too_many (nat_lt (length ops) 16)
-  args ← up_to 4 value
+  room ← demand too_many (nat_lt (length ops) most_ops)
+  args ← up_to most_args value
   Ok (record { name = name.0; args = args; generator = []; wrapup = [] })
 
--- `use list` and `use queue`, behind the second word
+-- `use list` and `use queue`, after the second word
 abbrev pub shipped_line : Text → List (List ℕ) → Result Text ℕ
 shipped_line text words = end_at words >>= λ done. Ok text
 
--- `use set B`, behind the second word: 1 to 64
+-- `use set B`, after the second word: 1 to 64
 abbrev pub set_line : List (List ℕ) → Result Text ℕ
 set_line words = do
   count ← number_at words
   done ← end_at count.1
   value ← value_of count.0
   some ← demand too_many (nat_lt 0 value)
-  buckets ← up_to 64 value
+  buckets ← up_to most_buckets value
   Ok (set_text buckets)
 
 -- `use list`, `use set B` or `use queue`, by the second word

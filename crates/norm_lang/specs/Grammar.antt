@@ -17,13 +17,14 @@ use Rattle.norm_lang.specs.declared.text.Instr.{Instr}
 use Rattle.norm_lang.specs.declared.text.Instr.TheVariants as instr
 use Rattle.norm_lang.specs.declared.text.Op.{Op}
 use Rattle.norm_lang.specs.declared.text.Text.{Text}
+use Rattle.norm_lang.specs.Bounds.{most_instrs}
 use Rattle.norm_lang.specs.Faults.{LineFault, byte_fault, number_fault, line_long, form_fault, too_many, ◌>>=◌, demand, at_line}
 use Rattle.norm_lang.specs.LineWords.{end_at}
 use Rattle.norm_lang.specs.Declarations.{version_line, field_line, nodes_line, node_line, root_line, op_line, use_line}
 use Rattle.norm_lang.specs.Instructions.{Step, Whole, Commits, step_line, entry_line}
 
--- where in a text a line stands: before the version line; right behind it; among the fields; among the nodes; among
--- the roots; behind an `op` line; in a generator; in a wrap-up; behind a `use` line
+-- where in a text a line stands: before the version line; right after it; among the fields; among the nodes; among
+-- the roots; after an `op` line; in a generator; in a wrap-up; after a `use` line
 pub data Section : Type 0 where
   Start : Section
   Opening : Section
@@ -134,7 +135,7 @@ is_fifth_new op (Commits count) = false
 
 -- at most 256 instructions of a method, and at most 4 `new` of an operation
 abbrev pub has_room : Draft → Step → Bool
-has_room draft step = nat_lt (length (code_so_far draft.section draft.op)) 256 && not (is_fifth_new draft.op step)
+has_room draft step = nat_lt (length (code_so_far draft.section draft.op)) most_instrs && not (is_fifth_new draft.op step)
 
 -- `oa 1`
 abbrev pub in_start : Draft → List ℕ → List (List ℕ) → Result Draft ℕ
@@ -142,7 +143,7 @@ in_start draft word rest =
     if bytes_eq word (codes "oa") then (version_line rest >>= λ done. Ok (record draft { section = Opening }))
     else Err form_fault
 
--- one more field, or behind at least one the count of nodes
+-- one more field, or after at least one the count of nodes
 abbrev pub in_fields : Draft → List ℕ → List (List ℕ) → Result Draft ℕ
 in_fields draft word rest =
     if bytes_eq word (codes "field") then (field_line draft.text.fields rest >>= λ field. Ok (with_field draft field))
@@ -161,7 +162,7 @@ in_nodes draft word rest =
     if bytes_eq word (codes "node") then (node_line draft.text.fields draft.nodes rest >>= λ node. Ok (with_node draft node))
     else Err form_fault
 
--- one more root, or behind at least one the first operation
+-- one more root, or after at least one the first operation
 abbrev pub in_roots : Draft → List ℕ → List (List ℕ) → Result Draft ℕ
 in_roots draft word rest =
     if bytes_eq word (codes "root") then (root_line draft.nodes draft.text.roots rest >>= λ root. Ok (with_root draft root))
@@ -181,20 +182,20 @@ in_method draft word rest = do
   room ← demand too_many (has_room draft step)
   Ok (with_step draft step)
 
--- one more instruction, or behind at least one `wrap`
+-- one more instruction, or after at least one `wrap`
 abbrev pub in_generator : Draft → List ℕ → List (List ℕ) → Result Draft ℕ
 in_generator draft word rest =
     if bytes_eq word (codes "wrap") && nat_lt 0 (length draft.op.generator) then (end_at rest >>= λ done. Ok (record draft { section = WrapUp }))
     else in_method draft word rest
 
--- `op NAME A` behind a whole operation
+-- `op NAME A` after a whole operation
 abbrev pub next_op : Draft → List (List ℕ) → Result Draft ℕ
 next_op draft words = do
   next ← with_whole_op draft
   op ← op_line next.text.ops words
   Ok (with_op next op)
 
--- one more instruction, or another operation behind a whole one
+-- one more instruction, or another operation after a whole one
 abbrev pub in_wrap_up : Draft → List ℕ → List (List ℕ) → Result Draft ℕ
 in_wrap_up draft word rest =
     if bytes_eq word (codes "op") then next_op draft rest
@@ -253,7 +254,7 @@ after_lines draft (line ∷ lines) = do
   next ← at_line line.number (after_line draft line)
   after_lines next lines
 
--- a text ends behind its `use` line, or behind an instruction of a wrap-up
+-- a text ends after its `use` line, or after an instruction of a wrap-up
 abbrev pub finished_in : Section → Draft → Result Text ℕ
 finished_in WrapUp draft = with_whole_op draft >>= λ next. Ok next.text
 finished_in Shipped draft = Ok draft.text
@@ -283,7 +284,3 @@ Grammar bytes text = text_read bytes ≡ Ok text
 abbrev pub fault_in : {A : Type 0} → Result A LineFault → Option LineFault
 fault_in (Ok x) = None
 fault_in (Err fault) = Some fault
-
--- the first line that has a fault, with its first fault, if the bytes stand for no text
-abbrev pub fault_of : List ℕ → Option LineFault
-fault_of bytes = fault_in (text_read bytes)

@@ -102,11 +102,11 @@ is_end_of_other false instr.Again = true
 is_end_of_other true (instr.Commit entries) = true
 is_end_of_other _ _ = false
 
--- the instruction right behind the one at a place is its successor by form, and a method of so many has none there
+-- the instruction right after the one at a place is its successor by form, and a method of so many has none there
 abbrev pub runs_off : Instr → ℕ → ℕ → Bool
 runs_off i at count = goes_to i at (at + 1) && (at + 1 == count)
 
--- N8: a method ends as it mustn't. A generator replies or begins anew, or a wrap-up (`true`) commits; or control runs off the
+-- N8: a method ends as it mustn't. A generator replies or begins again, or a wrap-up (`true`) commits; or control runs off the
 -- end of the method
 abbrev pub has_wrong_end : Bool → Instr → ℕ → ℕ → Bool
 has_wrong_end wrapup i at count = is_end_of_other wrapup i || runs_off i at count

@@ -1,4 +1,4 @@
--- The lines of a method, each behind its first word: the instruction, or the line's first fault. Each reads the line's
+-- The lines of a method, each after its first word: the instruction, or the line's first fault. Each reads the line's
 -- form first, and then judges its numbers, the fields and roots it names, and the limits.
 use Rattle.std.specs.Prelude.{ℕ, List, [], ◌∷◌, Option, Some, None, Result, Ok, Err, codes, if◌then◌else◌}
 use Rattle.std.specs.List.{position}
@@ -10,6 +10,7 @@ use Rattle.norm_lang.specs.declared.text.Place.TheVariants as places
 use Rattle.norm_lang.specs.declared.text.CasEntry.{CasEntry}
 use Rattle.norm_lang.specs.declared.text.Instr.{Instr}
 use Rattle.norm_lang.specs.declared.text.Instr.TheVariants as instr
+use Rattle.norm_lang.specs.Bounds.{most_picked, last_target, most_entries}
 use Rattle.norm_lang.specs.Faults.{form_fault, unknown_name, ◌>>=◌, demand, or_fault}
 use Rattle.norm_lang.specs.LineWords.{end_at, name_at, number_at, positive_at, value_of, up_to, register_at}
 
@@ -111,7 +112,7 @@ pick_line roots words = do
   a ← one_register n.1
   value ← value_of n.0
   root ← root_named roots x.0
-  count ← up_to 256 value
+  count ← up_to most_picked value
   Ok (instr.LoadPick d.0 root count a)
 
 -- `load D A F`
@@ -148,7 +149,7 @@ cas_line fields words = do
   retire ← retire_at l.1
   value ← value_of l.0
   field ← field_named fields f.0
-  target ← up_to 65535 value
+  target ← up_to last_target value
   Ok (instr.Cas (record { place = places.Field a.0 field; expected = b.0; replacement = d.0; retire = retire }) target)
 
 -- `casroot X B D L`, and maybe `retire R`
@@ -161,7 +162,7 @@ casroot_line roots words = do
   retire ← retire_at l.1
   value ← value_of l.0
   root ← root_named roots x.0
-  target ← up_to 65535 value
+  target ← up_to last_target value
   Ok (instr.Cas (record { place = places.Root root; expected = b.0; replacement = d.0; retire = retire }) target)
 
 -- `L`, and then the end: the number of an instruction, up to 65535
@@ -170,7 +171,7 @@ target_at words = do
   l ← number_at words
   done ← end_at l.1
   value ← value_of l.0
-  up_to 65535 value
+  up_to last_target value
 
 -- `jump L`
 abbrev pub jump_line : List (List ℕ) → Result Instr ℕ
@@ -226,7 +227,7 @@ commit_line words = do
   k ← number_at words
   done ← end_at k.1
   value ← value_of k.0
-  count ← up_to 4 value
+  count ← up_to most_entries value
   Ok (Commits count)
 
 -- a line of a method, by its first word

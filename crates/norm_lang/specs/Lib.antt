@@ -1,4 +1,5 @@
 pub mod Roomy
+pub mod Bounds
 pub mod Registers
 pub mod Local
 pub mod Shipped

@@ -18,6 +18,7 @@ use Rattle.norm_lang.specs.declared.text.Instr.{Instr}
 use Rattle.norm_lang.specs.declared.text.Instr.TheVariants as instr
 use Rattle.norm_lang.specs.declared.text.Op.{Op}
 use Rattle.norm_lang.specs.declared.text.Text.{Text}
+use Rattle.norm_lang.specs.Bounds.{most_fields, most_nodes, most_roots, most_picked, most_ops, most_args, most_instrs, most_news, most_entries, last_target}
 use Rattle.norm_lang.specs.LineWords.{is_name}
 use Rattle.norm_lang.specs.Declarations.{is_reserved}
 use Rattle.norm_lang.specs.Grammar.{news_of}
@@ -42,7 +43,7 @@ is_register (Ref r) = nat_lt r 8
 
 -- the number of an instruction, to which a jump may lead
 abbrev pub is_target : ℕ → Bool
-is_target l = nat_le l 65535
+is_target l = nat_le l last_target
 
 -- a place with so many fields and roots
 abbrev pub is_place : ℕ → ℕ → Place → Bool
@@ -69,7 +70,7 @@ is_instr fields roots (instr.Mark d a) = is_register d && is_register a
 is_instr fields roots (instr.Unmark d a) = is_register d && is_register a
 is_instr fields roots (instr.Null d) = is_register d
 is_instr fields roots (instr.LoadRoot d x) = is_register d && nat_lt x roots
-is_instr fields roots (instr.LoadPick d x n a) = is_register d && (nat_lt x roots && ((nat_le 1 n && nat_le n 256) && is_register a))
+is_instr fields roots (instr.LoadPick d x n a) = is_register d && (nat_lt x roots && ((nat_le 1 n && nat_le n most_picked) && is_register a))
 is_instr fields roots (instr.LoadField d a f) = is_register d && (is_register a && nat_lt f fields)
 is_instr fields roots (instr.New d) = is_register d
 is_instr fields roots (instr.Put a f b) = is_register a && (nat_lt f fields && is_register b)
@@ -78,23 +79,23 @@ is_instr fields roots (instr.Jump l) = is_target l
 is_instr fields roots (instr.IfEq a b l) = is_register a && (is_register b && is_target l)
 is_instr fields roots (instr.IfLess a b l) = is_register a && (is_register b && is_target l)
 is_instr fields roots (instr.IfMarked a l) = is_register a && is_target l
-is_instr fields roots (instr.Commit entries) = nat_le (length entries) 4 && list_all (is_entry fields roots) entries
+is_instr fields roots (instr.Commit entries) = nat_le (length entries) most_entries && list_all (is_entry fields roots) entries
 is_instr fields roots (instr.Return a) = is_register a
 is_instr fields roots instr.ReturnNone = true
 is_instr fields roots instr.Again = true
 
 -- 1 to 256 instructions
 abbrev pub is_method : ℕ → ℕ → List Instr → Bool
-is_method fields roots code = has_between 1 256 code && list_all (is_instr fields roots) code
+is_method fields roots code = has_between 1 most_instrs code && list_all (is_instr fields roots) code
 
 -- a name that begins no part of a document, at most 4 arguments, two methods, and at most 4 `new` in both
 abbrev pub is_op : ℕ → ℕ → Op → Bool
 is_op fields roots op =
     (is_name op.name && not (is_reserved op.name))
-    && (nat_le op.args 4
+    && (nat_le op.args most_args
     && (is_method fields roots op.generator
     && (is_method fields roots op.wrapup
-    && nat_le (news_of op) 4)))
+    && nat_le (news_of op) most_news)))
 
 -- a first value of a kind, with so many nodes: a number, or null or one of the nodes
 abbrev pub is_start : ℕ → FieldKind → Start → Bool
@@ -110,11 +111,11 @@ are_starts nodes _ _ = false
 
 -- 1 to 4 fields, with different names
 abbrev pub are_fields : List FieldDecl → Bool
-are_fields fields = has_between 1 4 fields && (list_all (λ field. is_name field.name) fields && are_different (map (λ field. field.name) fields))
+are_fields fields = has_between 1 most_fields fields && (list_all (λ field. is_name field.name) fields && are_different (map (λ field. field.name) fields))
 
 -- at most 256 nodes, each with a first value for each field
 abbrev pub are_nodes : List FieldDecl → List NodeDecl → Bool
-are_nodes fields nodes = has_between 0 256 nodes && list_all (λ node. are_starts (length nodes) fields node.values) nodes
+are_nodes fields nodes = has_between 0 most_nodes nodes && list_all (λ node. are_starts (length nodes) fields node.values) nodes
 
 -- a root's name and its first value, with so many nodes
 abbrev pub is_root : ℕ → RootDecl → Bool
@@ -122,11 +123,11 @@ is_root nodes root = is_name root.name && is_start nodes root.kind root.start
 
 -- 1 to 256 roots, with different names
 abbrev pub are_roots : ℕ → List RootDecl → Bool
-are_roots nodes roots = has_between 1 256 roots && (list_all (is_root nodes) roots && are_different (map (λ root. root.name) roots))
+are_roots nodes roots = has_between 1 most_roots roots && (list_all (is_root nodes) roots && are_different (map (λ root. root.name) roots))
 
 -- 1 to 16 operations, with different names, for so many fields and roots
 abbrev pub are_ops : ℕ → ℕ → List Op → Bool
-are_ops fields roots ops = has_between 1 16 ops && (list_all (is_op fields roots) ops && are_different (map (λ op. op.name) ops))
+are_ops fields roots ops = has_between 1 most_ops ops && (list_all (is_op fields roots) ops && are_different (map (λ op. op.name) ops))
 
 -- a text whose every part is within the limits
 abbrev pub is_within_limits : Text → Bool

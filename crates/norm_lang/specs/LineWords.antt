@@ -11,7 +11,7 @@ use Rattle.norm_lang.specs.declared.text.Start.{Start}
 use Rattle.norm_lang.specs.declared.text.Start.TheVariants as starts
 use Rattle.norm_lang.specs.Faults.{number_fault, form_fault, unknown_name, too_many, ◌>>=◌, demand}
 
--- the next word, and those behind it
+-- the next word, and those after it
 abbrev pub word_at : List (List ℕ) → Result (List ℕ × List (List ℕ)) ℕ
 word_at [] = Err form_fault
 word_at (word ∷ rest) = Ok (word, rest)
@@ -21,7 +21,7 @@ abbrev pub end_at : List (List ℕ) → Result (Unit {0}) ℕ
 end_at [] = Ok tt
 end_at (word ∷ rest) = Err form_fault
 
--- this very word: those behind it
+-- this very word: those after it
 abbrev pub keyword_at : List ℕ → List (List ℕ) → Result (List (List ℕ)) ℕ
 keyword_at wanted words = do
   word ← word_at words
@@ -41,7 +41,7 @@ abbrev pub is_name : List ℕ → Bool
 is_name [] = false
 is_name (b ∷ bytes) = is_lower b && (list_all is_name_byte bytes && nat_le (length bytes) 15)
 
--- a name, and the words behind it
+-- a name, and the words after it
 abbrev pub name_at : List (List ℕ) → Result (List ℕ × List (List ℕ)) ℕ
 name_at words = do
   word ← word_at words
@@ -52,7 +52,7 @@ name_at words = do
 abbrev pub number_in : List ℕ → Result (Option ℕ) ℕ
 number_in word = if is_numeral word then Ok (fitting (number_of word)) else Err form_fault
 
--- a number as it is spelled, and the words behind it
+-- a number as it is spelled, and the words after it
 abbrev pub number_at : List (List ℕ) → Result (Option ℕ × List (List ℕ)) ℕ
 number_at words = do
   word ← word_at words
@@ -92,7 +92,7 @@ abbrev pub register_in : List ℕ → Result Reg ℕ
 register_in (letter ∷ digit ∷ []) = if nat_le 48 digit && nat_le digit 55 then register_of letter (digit - 48) else Err form_fault
 register_in _ = Err form_fault
 
--- a register, and the words behind it
+-- a register, and the words after it
 abbrev pub register_at : List (List ℕ) → Result (Reg × List (List ℕ)) ℕ
 register_at words = do
   word ← word_at words
@@ -106,7 +106,7 @@ kind_in word =
     else (if bytes_eq word (codes "ref") then Ok kinds.Reference
     else Err form_fault)
 
--- a kind, and the words behind it
+-- a kind, and the words after it
 abbrev pub kind_at : List (List ℕ) → Result (FieldKind × List (List ℕ)) ℕ
 kind_at words = do
   word ← word_at words
@@ -132,7 +132,7 @@ abbrev pub start_in : FieldKind → List ℕ → Result StartWord ℕ
 start_in kinds.Number word = number_in word >>= λ n. Ok (Value n)
 start_in kinds.Reference word = if bytes_eq word (codes "null") then Ok Null else node_in word
 
--- a first value of a kind as it is spelled, and the words behind it
+-- a first value of a kind as it is spelled, and the words after it
 abbrev pub start_at : FieldKind → List (List ℕ) → Result (StartWord × List (List ℕ)) ℕ
 start_at kind words = do
   word ← word_at words

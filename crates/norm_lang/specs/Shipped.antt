@@ -150,7 +150,7 @@ head_root = 0
 abbrev pub tail_root : ℕ
 tail_root = 1
 
--- the tail is helped on to the last node, and a new node goes behind it
+-- the tail is helped on to the last node, and a new node goes after it
 abbrev pub enqueue_generator : List Instr
 enqueue_generator =
     instr.LoadRoot (Ref 0) tail_root

@@ -1,4 +1,4 @@
--- The canonical spelling of a text: lines of words, with one space between words and a newline behind each line.
+-- The canonical spelling of a text: lines of words, with one space between words and a newline after each line.
 use Rattle.std.specs.Prelude.{ℕ, zero, suc, List, [], ◌∷◌, ◌++◌, map, length, Option, Some, None, slice_get, codes, decimal}
 use Rattle.std.specs.List.{flat_map}
 use Rattle.norm_lang.specs.declared.text.Reg.{Reg}
@@ -18,7 +18,7 @@ use Rattle.norm_lang.specs.declared.text.Instr.TheVariants as instr
 use Rattle.norm_lang.specs.declared.text.Op.{Op}
 use Rattle.norm_lang.specs.declared.text.Text.{Text}
 
--- each word behind a space
+-- each word after a space
 abbrev pub spaced : List (List ℕ) → List ℕ
 spaced [] = []
 spaced (word ∷ words) = 32 ∷ (word ++ spaced words)

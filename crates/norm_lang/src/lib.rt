@@ -9,13 +9,13 @@ pub mod registers;
 mod shipped;
 pub mod spelling;
 pub mod text;
+pub mod uses;
 pub mod word;
 
 pub use forks::{Fork, reach};
 pub use shipped::{shipped_queue, shipped_set};
 pub use spelling::show;
-
-#[cfg(test)]
-mod fork_tests;
-#[cfg(test)]
-mod tests;
+pub use text::{
+    ByteText, CasEntry, Code, Entries, FieldDecl, FieldKind, Fields, Instr, Marks, Name, NodeDecl,
+    Nodes, Op, Ops, Place, Reg, RootDecl, Roots, Start, Starts, Text,
+};

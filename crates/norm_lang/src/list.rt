@@ -28,7 +28,7 @@ impl<T> Listed<T> {
         }
     }
 
-    /// Adds an item at the end. On want of memory the item is dropped.
+    /// Adds an item at the end. Where memory runs out the item is dropped.
     pub fn push(&mut self, item: T) -> Result<(), AllocError>
     where
         T: Drop,

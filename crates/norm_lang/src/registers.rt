@@ -6,10 +6,10 @@ ghost use Rattle.norm_lang.specs.Registers.{no_reference, first_registers, with_
 use crate::text::Reg;
 
 /// A reference to a node, with its mark. Node 0 is null. A node is a slot of the row, and in the source
-/// machine a name.
+/// machine a name, of which there is no end.
 #[derive(Clone, Copy, Debug, PartialEq, Eq)]
 pub struct Reference {
-    pub node: u32,
+    pub node: u64,
     pub marked: bool,
 }
 

@@ -1,6 +1,6 @@
 //! The canonical spelling of texts.
 
-ghost use Rattle.std.specs.Prelude.{◌≡◌, [], ◌∷◌, ◌++◌, OnOk, IfOk, map, codes, decimal};
+ghost use Rattle.std.specs.Prelude.{◌≡◌, [], ◌∷◌, ◌++◌, OnOk, OnErr, IfOk, map, codes, decimal};
 ghost use Rattle.std.specs.List.{flat_map};
 ghost use Rattle.norm_lang.specs.Spelling.{spaced, line_bytes, kind_word, retire_words, field_name, root_name, spelled_field, spelled_nodes, spelled_node, spelled_root, spelled_cas, spelled_entry, entries_of, spelled_instr, instr_lines, code_lines, spelled_op, op_lines, declaration_lines, spelling_of, start_word};
 ghost use Rattle.norm_lang.specs.Words.{word_bytes};
@@ -42,7 +42,7 @@ fn put_word(alloc: Global, out: &mut Vec<u8>, word: &Word) -> Result<(), AllocEr
     }
 }
 
-// Each word behind a space.
+// Each word after a space.
 fn put_words(alloc: Global, out: &mut Vec<u8>, words: &[Word]) -> Result<(), AllocError>
     ensures { OnOk result (out.new.items ≡ out.old.items ++ spaced (map word_bytes words.now)) }
 {
@@ -53,19 +53,32 @@ fn put_words(alloc: Global, out: &mut Vec<u8>, words: &[Word]) -> Result<(), All
     Ok(())
 }
 
-/// A line of a first word and others.
+/// The bytes of a line of a first word and others.
+fn line_of(alloc: Global, first: &[u8], words: &[Word]) -> Result<Vec<u8>, AllocError>
+    ensures { IfOk result (λ line. line.items ≡ line_bytes (first.now ∷ map word_bytes words.now)) }
+{
+    let mut line = Vec::from_slice(alloc, first)?;
+    put_words(alloc, &mut line, words)?;
+    line.push(b'\n')?;
+    Ok(line)
+}
+
+/// Adds a line of a first word and others.
+///
+/// # Errors
+///
+/// `AllocError` where memory runs out. Nothing is added then.
 pub fn put_line(
     alloc: Global,
     out: &mut Vec<u8>,
     first: &[u8],
     words: &[Word],
 ) -> Result<(), AllocError>
-    ensures { OnOk result (out.new.items ≡ out.old.items ++ line_bytes (first.now ∷ map word_bytes words.now)) }
+    ensures ok { OnOk result (out.new.items ≡ out.old.items ++ line_bytes (first.now ∷ map word_bytes words.now)) }
+    ensures err { OnErr result (out.new.items ≡ out.old.items) }
 {
-    out.extend_from_slice(first)?;
-    put_words(alloc, out, words)?;
-    out.push(b'\n')?;
-    Ok(())
+    let line = line_of(alloc, first, words)?;
+    out.extend_from_slice(&line)
 }
 
 fn put_retire(alloc: Global, out: &mut Vec<u8>, retire: Option<Reg>) -> Result<(), AllocError>
@@ -436,7 +449,26 @@ fn entries_in(instr: &Instr) -> &[CasEntry]
     }
 }
 
-/// An instruction, and a line for each entry of a commit.
+/// The bytes of an instruction's line, and of a line for each entry of a commit.
+fn instr_lines_of(
+    alloc: Global,
+    fields: &[FieldDecl],
+    roots: &[RootDecl],
+    instr: &Instr,
+) -> Result<Vec<u8>, AllocError>
+    ensures { IfOk result (λ lines. lines.items ≡ flat_map line_bytes (instr_lines fields.now roots.now instr.now)) }
+{
+    let mut lines = Vec::new(alloc);
+    put_instr(alloc, &mut lines, fields, roots, instr)?;
+    put_entries(alloc, &mut lines, fields, roots, entries_in(instr))?;
+    Ok(lines)
+}
+
+/// Adds an instruction, and a line for each entry of a commit.
+///
+/// # Errors
+///
+/// `AllocError` where memory runs out. Nothing is added then.
 pub fn put_instr_lines(
     alloc: Global,
     out: &mut Vec<u8>,
@@ -444,10 +476,11 @@ pub fn put_instr_lines(
     roots: &[RootDecl],
     instr: &Instr,
 ) -> Result<(), AllocError>
-    ensures { OnOk result (out.new.items ≡ out.old.items ++ flat_map line_bytes (instr_lines fields.now roots.now instr.now)) }
+    ensures ok { OnOk result (out.new.items ≡ out.old.items ++ flat_map line_bytes (instr_lines fields.now roots.now instr.now)) }
+    ensures err { OnErr result (out.new.items ≡ out.old.items) }
 {
-    put_instr(alloc, out, fields, roots, instr)?;
-    put_entries(alloc, out, fields, roots, entries_in(instr))
+    let lines = instr_lines_of(alloc, fields, roots, instr)?;
+    out.extend_from_slice(&lines)
 }
 
 fn put_code(
@@ -497,7 +530,29 @@ fn put_ops(
     Ok(())
 }
 
-/// The lines of the fields, nodes and roots.
+/// The bytes of the lines of the fields, nodes and roots.
+fn declarations_of(
+    alloc: Global,
+    fields: &[FieldDecl],
+    nodes: &[NodeDecl],
+    roots: &[RootDecl],
+) -> Result<Vec<u8>, AllocError>
+    ensures { IfOk result (λ lines. lines.items ≡ flat_map line_bytes (declaration_lines (record { fields = fields.now; roots = roots.now; nodes = nodes.now; ops = [] }))) }
+{
+    let mut lines = Vec::new(alloc);
+    put_fields(alloc, &mut lines, fields)?;
+    let count = [Word::Number(nodes.len() as u64)];
+    put_line(alloc, &mut lines, b"nodes", &count)?;
+    put_nodes(alloc, &mut lines, nodes)?;
+    put_roots(alloc, &mut lines, roots)?;
+    Ok(lines)
+}
+
+/// Adds the lines of the fields, nodes and roots.
+///
+/// # Errors
+///
+/// `AllocError` where memory runs out. Nothing is added then.
 pub fn put_declarations(
     alloc: Global,
     out: &mut Vec<u8>,
@@ -505,16 +560,15 @@ pub fn put_declarations(
     nodes: &[NodeDecl],
     roots: &[RootDecl],
 ) -> Result<(), AllocError>
-    ensures { OnOk result (out.new.items ≡ out.old.items ++ flat_map line_bytes (declaration_lines (record { fields = fields.now; roots = roots.now; nodes = nodes.now; ops = [] }))) }
+    ensures ok { OnOk result (out.new.items ≡ out.old.items ++ flat_map line_bytes (declaration_lines (record { fields = fields.now; roots = roots.now; nodes = nodes.now; ops = [] }))) }
+    ensures err { OnErr result (out.new.items ≡ out.old.items) }
 {
-    put_fields(alloc, out, fields)?;
-    put_line(alloc, out, b"nodes", &[Word::Number(nodes.len() as u64)])?;
-    put_nodes(alloc, out, nodes)?;
-    put_roots(alloc, out, roots)
+    let lines = declarations_of(alloc, fields, nodes, roots)?;
+    out.extend_from_slice(&lines)
 }
 
 /// The canonical spelling of a text: the line `oa 1`, then the text's lines with one space between words, numbers in
-/// decimal and a newline behind each line.
+/// decimal and a newline after each line.
 #[tactic(auto, using(crate::proofs::SpelledLines::lines_in_steps))]
 pub fn show(alloc: Global, text: &Text) -> Result<ByteText, AllocError>
     ensures { IfOk result (λ bytes. bytes ≡ spelling_of text.now) }

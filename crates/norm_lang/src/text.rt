@@ -131,7 +131,7 @@ pub enum Instr {
     Return(Reg),
     /// The end of an operation, without a number.
     ReturnNone,
-    /// Begins the operation anew.
+    /// Begins the operation again.
     Again,
 }
 

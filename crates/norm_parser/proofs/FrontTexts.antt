@@ -1,4 +1,4 @@
--- A text that goes from the line behind the version line to the end of the input is that of the whole input.
+-- A text that goes from the line after the version line to the end of the input is that of the whole input.
 use Rattle.std.specs.Prelude.{◌≡◌, ℕ, ◌+◌, ◌<◌, ◌≤◌, Bool, true, false, List, [], ◌∷◌, length, Result, Ok, Err, if◌then◌else◌}
 use Rattle.std.proofs.Common.{refl, ap, sym, arith}
 use Rattle.std.proofs.lemmas.Bool.{le-ltb}
@@ -35,7 +35,7 @@ behind_below n past (line ∷ lines) count =
     go false true rest = numbered_below (n + 1) past lines (omega (arith, count))
     go false false rest = rest
 
--- a text with no line behind it has all lines
+-- a text with no line after it has all lines
 whole : (lines : List TextLine) → behind_text lines ≡ [] → text_lines lines ≡ lines
 whole [] none = refl
 whole (line ∷ lines) none = go (ends_text (line_word line)) (names_text (line_word line)) none (whole lines)
@@ -46,7 +46,7 @@ whole (line ∷ lines) none = go (ends_text (line_word line)) (names_text (line_
     go false true none rest = ap (λ (others : List TextLine). line ∷ others) (sym none)
     go false false none rest = ap (λ (others : List TextLine). line ∷ others) (rest none)
 
--- what a reader answers: a text, and the number of the line behind it
+-- what a reader answers: a text, and the number of the line after it
 abbrev answer : Text → ℕ → Result (Text × ℕ) LineFault
 answer text next = Ok (text, next)
 
@@ -58,7 +58,7 @@ abbrev next_of : Result (Text × ℕ) LineFault → ℕ
 next_of (Ok front) = front.1
 next_of (Err fault) = 0
 
--- a text that ends with the input has no line behind it
+-- a text that ends with the input has no line after it
 ends_past : (read : Result Text ℕ) (behind : List TextLine) (past : ℕ) (text : Text) → Below past behind → ended read (end_at behind past) ≡ answer text past
     → (read ≡ Ok text) × (behind ≡ [])
 ends_past (Err fault) behind past text below e = absurd (let f : ⊥ = cc in f)

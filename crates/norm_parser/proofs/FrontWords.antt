@@ -6,13 +6,13 @@ use Rattle.oa_text.proofs.TokenLemmas.{no_token, first_token}
 use Rattle.std.proofs.lemmas.List.Sums.{prefix_len-le-length}
 use Rattle.norm_parser.specs.FrontRead.{front_of}
 
--- blanks and words in front are no longer than the bytes
+-- blanks and words at the start are no longer than the bytes
 pub ruleset fronts = (prefix_len-le-length)
 
 abbrev front_in : List TextToken → List ℕ
 front_in tokens = front_of (map (λ (token : TextToken). token.bytes) tokens)
 
--- behind the blanks in front, up to the next blank
+-- after the blanks at the start, up to the next blank
 pub front_word : (bytes inked word : List ℕ) (n m : ℕ) → n ≡ prefix_len is_blank bytes → inked ≡ drop n bytes → m ≡ prefix_len is_ink inked
     → word ≡ take m inked → word ≡ front_of (words_of bytes)
 front_word bytes [] word n m skipped behind count front =

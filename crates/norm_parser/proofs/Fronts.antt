@@ -14,7 +14,7 @@ front_from draft named (line ∷ lines) past =
     if named || ends_text (line_word line) then Ok (draft, end_before line)
     else (at_line line.number (after_line draft line) >>= λ next. front_from next (names_text (line_word line)) lines past)
 
--- behind a line that names a shipped text it is whole
+-- after a line that names a shipped text it is whole
 front_named : (draft : Draft) (lines : List TextLine) (past : ℕ) → front_from draft true lines past ≡ Ok (draft, end_at lines past)
 front_named draft [] past = refl
 front_named draft (line ∷ lines) past = refl

@@ -1,5 +1,6 @@
-mod FirstWords
 pub mod LinesLeft
+mod LinesAfter
+mod Versions
 mod NodeLines
 mod News
 mod FrontWords

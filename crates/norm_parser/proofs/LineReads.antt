@@ -23,7 +23,7 @@ words_skipped draft (word ∷ rest) none = go (is_comment word) none
     go true none = refl
     go false none = let e : shown word rest ≡ None = none in absurd (let f : ⊥ = cc in f)
 
--- a line by its first word and those behind it
+-- a line by its first word and those after it
 abbrev placed : Draft → Option (List ℕ × List (List ℕ)) → Result Draft ℕ
 placed draft None = Ok draft
 placed draft (Some first) = in_place draft.left draft first.0 first.1

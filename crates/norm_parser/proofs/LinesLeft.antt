@@ -12,7 +12,7 @@ abbrev first_or : TextLine → List TextLine → TextLine
 first_or line [] = line
 first_or line (first ∷ lines) = first
 
--- the lines behind the first
+-- the lines after the first
 abbrev behind_first : List TextLine → List TextLine
 behind_first [] = []
 behind_first (first ∷ lines) = lines
@@ -21,6 +21,17 @@ pub number_is : (n : ℕ) (line : TextLine) (lines whole : List TextLine) → wh
 number_is n line lines whole is from =
     let same : line ∷ lines ≡ numbered n (map (λ l. l.bytes) (line ∷ lines)) = sym is ∙ from ∙ ap (λ ls. numbered n (map (λ l. l.bytes) ls)) is in
     ap (λ ls. (first_or line ls).number) same
+
+numbered_bytes : (n : ℕ) (lines : List (List ℕ)) → map (λ (line : TextLine). line.bytes) (numbered n lines) ≡ lines
+numbered_bytes n [] = refl
+numbered_bytes n (line ∷ lines) = ap (λ ls. line ∷ ls) (numbered_bytes (n + 1) lines)
+
+pub numbered_from : (n : ℕ) (lines : List (List ℕ)) → AreFrom n (numbered n lines)
+numbered_from n lines = ap (numbered n) (sym (numbered_bytes n lines))
+
+-- the lines of an input are numbered from 1
+pub first_from : (lines : List (List ℕ)) (all : List TextLine) → all ≡ numbered 1 lines → AreFrom 1 all
+first_from lines all same = rw same (numbered_from 1 lines)
 
 pub from_next : (n m : ℕ) (line : TextLine) (lines whole : List TextLine) → m ≡ n + 1 → whole ≡ line ∷ lines → AreFrom n whole → AreFrom m lines
 from_next n m line lines whole next is from =

@@ -1,4 +1,4 @@
--- The values of a node line, one by one: what stands in front and what is left give what the whole gives.
+-- The values of a node line, one by one: what comes first and what is left give what the whole gives.
 use Rattle.std.proofs.Common.{◌≡◌, ℕ, ◌+◌, ◌<◌, ◌≤◌, List, [], ◌∷◌, ◌++◌, length, map, get_or, drop, Result, Ok, Err, refl, sym, ap, ◌∙◌, append_assoc}
 use Rattle.std.proofs.lemmas.List.{append-nil, drop_more, drop_all}
 use Rattle.std.specs.Prelude.{◌||◌}
@@ -11,11 +11,11 @@ use Rattle.norm_lang.specs.Declarations.{values_at, starts_of}
 use Rattle.line_words.specs.declared.words.StartWord.{StartWord as ReadStart}
 use Rattle.line_words.specs.Shown.{start_shown}
 
--- what stands in front, and then what is read behind it
+-- what comes first, and then what is read after it
 abbrev pub behind : {A : Type 0} → List A → Result (List A) ℕ → Result (List A) ℕ
 behind front read = read >>= λ rest. Ok (front ++ rest)
 
--- one more item in front of what is read is one more behind the front
+-- one more item before what is read is one more after the prefix
 behind_one : {A : Type 0} (front : List A) (x : A) (read : Result (List A) ℕ)
     → behind front (read >>= λ rest. Ok (x ∷ rest)) ≡ behind (front ++ x ∷ []) read
 behind_one front x (Ok rest) = rw (append_assoc front (x ∷ []) rest) refl

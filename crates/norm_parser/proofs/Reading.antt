@@ -3,7 +3,6 @@ use Rattle.std.specs.Prelude.{◌≡◌, ℕ, ◌+◌, ◌<◌, ◌≤◌, ◌^�
 use Rattle.std.proofs.Common.{refl, ap, arith}
 use Rattle.std.proofs.lemmas.Result.{IfOk-at_ok}
 use Rattle.oa_text.specs.Lines.{TextLine, lines_of, numbered}
-use Rattle.oa_text.proofs.Counts.{length-lines_of-le}
 use Rattle.norm_lang.specs.declared.text.FieldDecl.{FieldDecl}
 use Rattle.norm_lang.specs.declared.text.RootDecl.{RootDecl}
 use Rattle.norm_lang.specs.Faults.{LineFault, form_fault, at_line, ◌>>=◌}
@@ -76,10 +75,6 @@ length_numbered n (line ∷ lines) = let k = length_numbered (n + 1) lines in rw
 -- the lines and their count
 pub past_first : (lines : List (List ℕ)) (all : List TextLine) → all ≡ numbered 1 lines → 1 + length all ≡ length lines + 1
 past_first lines all same = let k = length_numbered 1 lines in rw same (omega (arith, k))
-
--- a million bytes have few lines
-pub few_lines : (bytes : List ℕ) → length bytes < 1000000 → length (lines_of bytes) + 1 < 2 ^ 32
-few_lines bytes few = omega (arith, length-lines_of-le bytes)
 
 -- declarations that end are those of a text within the limits
 whole_within : (section : Section) (draft : Draft) → Keeps section draft → IfOk (whole_in section draft) IsHeadWithinLimits

@@ -8,7 +8,7 @@ use Rattle.norm_lang.specs.Faults.{LineFault}
 use Rattle.norm_lang.specs.Shipped.{set_text, queue_text}
 use Rattle.norm_parser.specs.FrontRead.{front_read, head_read}
 
--- lines, with a newline behind each
+-- lines, with a newline after each
 abbrev spelled : List (List ℕ) → List ℕ
 spelled lines = flat_map (λ line. line ++ 10 ∷ []) lines
 
@@ -16,7 +16,7 @@ abbrev is_fault : {A : Type 0} → ℕ → ℕ → Result A LineFault → Bool
 is_fault line number (Ok x) = false
 is_fault line number (Err fault) = (fault.line == line) && (fault.number == number)
 
--- a shipped text ends with its line: those behind it aren't judged
+-- a shipped text ends with its line: those after it aren't judged
 shipped : front_read (spelled (codes "oa 1" ∷ codes "# a list" ∷ codes "use list" ∷ replicate 201 32 ∷ codes "script 0" ∷ [])) 2 ≡ Ok (set_text 1, 4)
 shipped = refl
 

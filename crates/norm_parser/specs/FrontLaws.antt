@@ -5,7 +5,7 @@ use Rattle.norm_lang.specs.declared.text.Text.{Text}
 use Rattle.norm_lang.specs.Grammar.{Start, Opening, draft_at, after_line, Grammar}
 use Rattle.norm_parser.specs.FrontRead.{front_read}
 
--- behind a version line, a text that goes up to the end of the input is the text that the bytes spell
+-- after a version line, a text that goes up to the end of the input is the text that the bytes spell
 abbrev pub FrontsAreTexts : Type 0
 FrontsAreTexts =
     (bytes version : List ℕ) (rest : List (List ℕ)) (text : Text) → lines_of bytes ≡ version ∷ rest

@@ -1,7 +1,7 @@
--- The text that begins at a line of a document, and the declarations in front of a target's operations.
+-- The text that begins at a line of a document, and the declarations before a target's operations.
 --
--- Both begin behind a version line, which isn't theirs: a text of its own, a document and a target each have such a line,
--- they don't have the same one, and whoever reads them has read it before it reads on from the line behind it.
+-- Both begin after a version line, which isn't theirs: a text of its own, a document and a target each have such a line,
+-- they don't have the same one, and whoever reads them has read it before it reads on from the line after it.
 use Rattle.std.specs.Prelude.{ℕ, ◌+◌, Bool, ◌||◌, ◌&&◌, List, [], ◌∷◌, length, Option, Some, None, Result, Ok, Err, codes, nat_lt, if◌then◌else◌, IsTrue}
 use Rattle.std.specs.Str.{bytes_eq}
 use Rattle.oa_text.specs.declared.fault.TextFault.{TextFault}
@@ -36,7 +36,7 @@ ends_text word =
     || (bytes_eq word (codes "script")
     || bytes_eq word (codes "schedule"))))
 
--- a shipped text is whole behind a line that begins so
+-- a shipped text is whole after a line that begins so
 abbrev pub names_text : List ℕ → Bool
 names_text word = bytes_eq word (codes "use")
 
@@ -52,7 +52,7 @@ text_lines (line ∷ lines) =
     else (if names_text (line_word line) then line ∷ []
     else line ∷ text_lines lines)
 
--- the lines behind them
+-- the lines after them
 abbrev pub behind_text : List TextLine → List TextLine
 behind_text [] = []
 behind_text (line ∷ lines) =
@@ -79,12 +79,12 @@ misplaced (Some fault) = fault_number fault
 abbrev pub end_before : TextLine → LineFault
 end_before line = record { line = line.number; number = misplaced (line_fault line) }
 
--- where lines end: before the first of those behind them, or else with the input
+-- where lines end: before the first of those after them, or else with the input
 abbrev pub end_at : List TextLine → ℕ → LineFault
 end_at [] past = record { line = past; number = form_fault }
 end_at (line ∷ lines) past = end_before line
 
--- what is read, with the number of the line behind it, unless a further line must come first
+-- what is read, with the number of the line after it, unless a further line must come first
 abbrev pub ended : {A : Type 0} → Result A ℕ → LineFault → Result (A × ℕ) LineFault
 ended (Ok x) end = Ok (x, end.line)
 ended (Err fault) end = Err end
@@ -95,18 +95,18 @@ front_end lines past = do
   draft ← after_lines (draft_at Opening) (text_lines lines)
   Ok (draft, end_at (behind_text lines) past)
 
--- the text that lines begin with, and the number of the line behind it
+-- the text that lines begin with, and the number of the line after it
 abbrev pub front_in : List TextLine → ℕ → Result (Text × ℕ) LineFault
 front_in lines past = do
   front ← front_end lines past
   ended (finished front.0) front.1
 
--- the text that begins at a line, and the number of the line behind it; otherwise the first fault of the text's lines,
+-- the text that begins at a line, and the number of the line after it; otherwise the first fault of the text's lines,
 -- or else the fault where they end
 abbrev pub front_read : List ℕ → ℕ → Result (Text × ℕ) LineFault
 front_read bytes start = front_in (from_line start (numbered 1 (lines_of bytes))) (length (lines_of bytes) + 1)
 
--- declarations are whole with at least one root behind all nodes
+-- declarations are whole with at least one root after all nodes
 abbrev pub whole_in : Section → Draft → Result Head ℕ
 whole_in Roots draft = do
   some ← demand form_fault (nat_lt 0 (length draft.text.roots))

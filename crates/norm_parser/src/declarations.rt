@@ -1,4 +1,4 @@
-//! The lines before an operation's instructions, each behind its first word: what it declares, or its first fault. Each
+//! The lines before an operation's instructions, each after its first word: what it declares, or its first fault. Each
 //! reads the line's form first, and then judges its numbers, the names it uses, the name it declares, and the limits.
 
 ghost use Rattle.std.specs.Prelude.{◌≡◌, ◌≤◌, map, IfOk};
@@ -199,7 +199,7 @@ pub(crate) fn op(alloc: Global, ops: &[Op], words: &mut Words) -> Result<Op, Sto
     })
 }
 
-/// `use list`, behind the second word.
+/// `use list`, after the second word.
 fn list(alloc: Global, words: &mut Words) -> Result<Text, Stop>
     ensures { Gives (λ text. text) result (shipped_line (set_text 1) words.old) }
 {
@@ -207,7 +207,7 @@ fn list(alloc: Global, words: &mut Words) -> Result<Text, Stop>
     Ok(shipped_set(alloc, 1)?)
 }
 
-/// `use queue`, behind the second word.
+/// `use queue`, after the second word.
 fn queue(alloc: Global, words: &mut Words) -> Result<Text, Stop>
     ensures { Gives (λ text. text) result (shipped_line queue_text words.old) }
 {
@@ -230,7 +230,7 @@ fn buckets(words: &mut Words) -> Result<u32, Fault>
     Ok(up_to(MOST_BUCKETS, count)? as u32)
 }
 
-/// `use set B`, behind the second word.
+/// `use set B`, after the second word.
 fn set(alloc: Global, words: &mut Words) -> Result<Text, Stop>
     ensures { Gives (λ text. text) result (set_line words.old) }
 {

@@ -1,7 +1,7 @@
 //! What the lines of a text have declared so far.
 
 ghost use Rattle.std.specs.Prelude.{◌≡◌, ◌≤◌, length, [], ◌∷◌, ◌++◌, Ok, IfOk};
-ghost use Rattle.norm_lang.specs.Grammar.{no_op, draft_at, is_new, news_in, news_of, code_so_far, with_instr, with_field, with_nodes, with_node, with_root, with_op, with_whole_op, with_entries, finished, among_nodes};
+ghost use Rattle.norm_lang.specs.Grammar.{no_op, draft_at, news_in, news_of, code_so_far, with_instr, with_field, with_nodes, with_node, with_root, with_op, with_whole_op, with_entries, finished, among_nodes};
 ghost use Rattle.line_words.specs.Answered.{Reads, Gives};
 ghost use Rattle.norm_parser.specs.DraftShown.{section_shown, draft_shown};
 ghost use Rattle.norm_parser.specs.FrontRead.{whole_head};
@@ -10,6 +10,7 @@ use crate::head::Head;
 use line_words::fault::{Fault, Stop};
 use norm_lang::list::Listed;
 use norm_lang::text::{CasEntry, Entries, FieldDecl, Instr, NodeDecl, Op, RootDecl, Text};
+use norm_lang::uses::is_new;
 use std::alloc::{AllocError, Global};
 use std::mem;
 
@@ -18,7 +19,7 @@ use std::mem;
 pub(crate) enum Section {
     /// Before the version line.
     Start,
-    /// Right behind the version line.
+    /// Right after the version line.
     Opening,
     /// Among the fields.
     Fields,
@@ -26,13 +27,13 @@ pub(crate) enum Section {
     Nodes,
     /// Among the roots.
     Roots,
-    /// Behind the line that begins an operation.
+    /// After the line that begins an operation.
     Begun,
     /// In a generator.
     Generator,
     /// In a wrap-up.
     WrapUp,
-    /// Behind a line that names a shipped text.
+    /// After a line that names a shipped text.
     Shipped,
 }
 
@@ -60,12 +61,6 @@ fn no_operation(alloc: Global) -> Op
     }
 }
 
-fn new(instr: &Instr) -> bool
-    ensures { result ≡ is_new instr.now }
-{
-    matches!(instr, Instr::New(_))
-}
-
 /// How many `new` a method has.
 #[tactic(auto, using(crate::proofs::News::news_more, crate::proofs::News::news_same))]
 fn news_in(code: &[Instr]) -> usize
@@ -74,7 +69,7 @@ fn news_in(code: &[Instr]) -> usize
 {
     let mut news = 0;
     for instr in code {
-        if new(instr) {
+        if is_new(instr) {
             news += 1;
         }
     }
@@ -207,7 +202,7 @@ impl Draft {
         self.settle(alloc)
     }
 
-    /// One more entry of a commit, of which so many lines are left behind it.
+    /// One more entry of a commit, of which so many lines are left after it.
     pub(crate) fn add_entry(
         &mut self,
         alloc: Global,

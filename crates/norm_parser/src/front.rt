@@ -17,14 +17,14 @@ fn blank(b: u8) -> bool
     b == b' ' || b == b'\t'
 }
 
-/// How many blanks stand in front.
+/// How many blanks come first.
 fn blanks_in_front(bytes: &[u8]) -> usize
     ensures { result ≡ prefix_len is_blank bytes.now }
 {
     bytes.iter().take_while(|b| blank(**b)).count()
 }
 
-/// How many bytes stand in front of the first blank.
+/// How many bytes stand before the first blank.
 fn ink_in_front(bytes: &[u8]) -> usize
     ensures { result ≡ prefix_len is_ink bytes.now }
 {
@@ -51,7 +51,7 @@ fn ends_text(word: &[u8]) -> bool
         || word == b"schedule".as_slice()
 }
 
-/// Whether a text ends before a line that begins with this word: behind a line that names a shipped one it does at once.
+/// Whether a text ends before a line that begins with this word: after a line that names a shipped one it does at once.
 pub(crate) fn ends_front(named: bool, word: &[u8]) -> bool
     ensures { result ≡ named || ends_text word.now }
 {

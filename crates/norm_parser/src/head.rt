@@ -1,4 +1,4 @@
-//! The declarations in front of a target's operations.
+//! The declarations before a target's operations.
 
 use norm_lang::text::{Fields, Nodes, Roots};
 

@@ -1,12 +1,12 @@
 //! One instruction, with the entry lines of a commit.
 
-ghost use Rattle.std.specs.Prelude.{◌≡◌, ◌+◌, ◌<◌, ◌≤◌, ◌^◌, length, map, IsTrue, false, []};
+ghost use Rattle.std.specs.Prelude.{◌≡◌, ◌+◌, ◌<◌, ◌≤◌, ◌^◌, length, map, IsTrue, IfErr, false, []};
 ghost use Rattle.oa_text.specs.Shown.{line_shown};
 ghost use Rattle.oa_text.specs.Tokens.{words_of};
 ghost use Rattle.norm_lang.specs.Limits.{are_different};
 ghost use Rattle.line_words.specs.Answered.{Reads, Answers};
 ghost use Rattle.norm_parser.specs.Steps.{step_shown};
-ghost use Rattle.norm_parser.specs.Instruction.{are_skipped, AreFrom, AreLeftOf, step_of, entry_of, next_entry, entries_from, instr_read};
+ghost use Rattle.norm_parser.specs.Instruction.{are_skipped, AreFrom, AreLeftOf, AreLeftAt, AreAfter, step_of, entry_of, next_entry, entries_from, instr_read};
 
 use crate::steps::{Step, read_entry, read_step};
 use line_words::fault::{Fault, ParseError, Stop};
@@ -41,7 +41,7 @@ fn entry_of(fields: &[FieldDecl], roots: &[RootDecl], line: Line) -> Result<Opti
 }
 
 /// The next entry among the lines that are left, which are numbered from `next` on.
-#[tactic(auto, using(crate::proofs::LinesLeft::number_is, crate::proofs::LinesLeft::from_next, crate::proofs::LinesLeft::left_all, crate::proofs::LinesLeft::left_next))]
+#[tactic(auto, using(crate::proofs::LinesLeft::number_is, crate::proofs::LinesLeft::from_next, crate::proofs::LinesLeft::left_all, crate::proofs::LinesLeft::left_next, crate::proofs::LinesAfter::after_faulty, crate::proofs::LinesAfter::after_all))]
 fn next_entry(
     fields: &[FieldDecl],
     roots: &[RootDecl],
@@ -53,6 +53,7 @@ fn next_entry(
     requires ordered { AreFrom next.old rest.old }
     requires room { next.old + length rest.old < 2 ^ 32 }
     ensures entry { Answers (λ entry. (entry, rest.new)) result (next_entry fields.now roots.now (next.old + length rest.old) rest.old) }
+    ensures fault { IfErr result (λ error. AreAfter (next.old + length rest.old) error rest.new) }
     ensures ordered { AreFrom next.new rest.new }
     ensures past { next.new + length rest.new ≡ next.old + length rest.old }
     ensures left { AreLeftOf rest.old rest.new }
@@ -69,7 +70,7 @@ fn next_entry(
 }
 
 /// The entries of a commit.
-#[tactic(auto, using(crate::proofs::LinesLeft::entries_more, crate::proofs::LinesLeft::entries_stopped, crate::proofs::LinesLeft::entries_done, crate::proofs::LinesLeft::left_all, crate::proofs::LinesLeft::left_more))]
+#[tactic(auto, using(crate::proofs::LinesLeft::entries_more, crate::proofs::LinesLeft::entries_stopped, crate::proofs::LinesLeft::entries_done, crate::proofs::LinesLeft::left_all, crate::proofs::LinesLeft::left_more, crate::proofs::LinesAfter::after_entry))]
 fn entries(
     alloc: Global,
     fields: &[FieldDecl],
@@ -83,6 +84,7 @@ fn entries(
     requires ordered { AreFrom next.old rest.old }
     requires room { next.old + length rest.old < 2 ^ 32 }
     ensures entries { Answers (λ entries. (entries, rest.new)) result (entries_from fields.now roots.now (next.old + length rest.old) count [] rest.old) }
+    ensures fault { IfErr result (λ error. AreAfter (next.old + length rest.old) error rest.new) }
     ensures left { AreLeftOf rest.old rest.new }
 {
     let mut entries = Listed::empty(alloc);
@@ -93,7 +95,7 @@ fn entries(
 }
 
 /// The instruction that begins with the line `first`. For a commit its entry lines are taken from `rest`, which holds the
-/// lines behind `first`, up to the end of the input.
+/// lines after `first`, up to the end of the input.
 ///
 /// `first` isn't skipped, the input has fewer than 2^32 - 1 lines, there are at most 4 fields and 256 roots, and no two of
 /// a kind have one name.
@@ -102,8 +104,9 @@ fn entries(
 ///
 /// `Memory` where memory ran out. `Fault` where the lines are no instruction: the first of them that has a fault, with
 /// its first fault; where the input ends before the last entry line, fault 4 at one more than the number of lines. Then
-/// `rest` holds the lines behind those that were read.
-#[tactic(auto, using(crate::proofs::LinesLeft::left_all))]
+/// `rest` holds the lines after the fault's line: all of them where that is `first`, and none where the input ended. At
+/// `Memory` it holds those after some of the entry lines.
+#[tactic(auto, using(crate::proofs::LinesLeft::left_all, crate::proofs::LinesAfter::all_after, crate::proofs::LinesAfter::left_at))]
 pub fn parse_instr<'a>(
     alloc: Global,
     first: Line<'a>,
@@ -119,6 +122,7 @@ pub fn parse_instr<'a>(
     requires fields_differ { IsTrue (are_different (map (λ field. field.name) fields.now)) }
     requires roots_differ { IsTrue (are_different (map (λ root. root.name) roots.now)) }
     ensures instr { Answers (λ i. (i, rest.new)) result (instr_read fields.now roots.now (line_shown first.entry) rest.old) }
+    ensures fault { IfErr result (λ error. AreLeftAt error rest.old rest.new) }
     ensures left { AreLeftOf rest.old rest.new }
 {
     let fields = fields.items();
@@ -129,8 +133,10 @@ pub fn parse_instr<'a>(
         Ok(Step::Whole(instr)) => Ok(instr),
         Ok(Step::Commits(count)) => {
             let mut next = number + 1;
-            let entries = entries(alloc, fields, roots, count, &mut next, rest)?;
-            Ok(Instr::Commit(entries))
+            match entries(alloc, fields, roots, count, &mut next, rest) {
+                Ok(entries) => Ok(Instr::Commit(entries)),
+                Err(error) => Err(error),
+            }
         }
     }
 }

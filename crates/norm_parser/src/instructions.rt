@@ -1,4 +1,4 @@
-//! The lines of a method, each behind its first word: the instruction, or the line's first fault. Each reads the line's
+//! The lines of a method, each after its first word: the instruction, or the line's first fault. Each reads the line's
 //! form first, and then judges its numbers, the fields and roots it names, and the limits.
 
 ghost use Rattle.std.specs.Prelude.{◌≡◌, ◌≤◌, length, IfOk};

@@ -13,13 +13,10 @@ mod operands;
 mod reader;
 mod sections;
 mod steps;
+mod version;
 
 pub use head::Head;
 pub use instruction::parse_instr;
 pub use line_words::fault::{ParseError, ParseFault};
 pub use reader::{parse, parse_front, parse_head};
-
-#[cfg(test)]
-mod tests;
-#[cfg(test)]
-mod text_tests;
+pub use version::after_version;

@@ -56,7 +56,7 @@ pub fn parse(alloc: Global, input: &[u8]) -> Result<Text, ParseError>
     }
 }
 
-/// The line behind a text, or the one past the input, with the fault there if a further line must come first.
+/// The line after a text, or the one past the input, with the fault there if a further line must come first.
 fn end_before(line: Line) -> ParseFault
     ensures { fault_shown result ≡ end_before (line_shown line.entry) }
 {
@@ -100,7 +100,7 @@ fn read_front(alloc: Global, input: &[u8], line: u32) -> Result<(Draft, ParseFau
     Ok((draft, end_past(past)))
 }
 
-/// The text that begins at a line, behind the version line, and the number of the first line after it.
+/// The text that begins at a line, after the version line, and the number of the first line after it.
 ///
 /// The text ends with its `use` line where it has one; otherwise before the first line whose first word is `slots`,
 /// `phases`, `fuel`, `script` or `schedule`, also where that line has a fault, or at the end of the input. Lines count from
@@ -146,7 +146,7 @@ fn read_head(alloc: Global, input: &[u8], line: u32) -> Result<(Draft, ParseFaul
     Err(ParseError::Fault(end_past(past)))
 }
 
-/// The declarations that begin at a line, behind the version line, and the number of the first line whose first word is
+/// The declarations that begin at a line, after the version line, and the number of the first line whose first word is
 /// `op`, before which they end.
 ///
 /// They are field, nodes, node and root lines; a `use` line is fault 4. Lines count from 1. The input has fewer than

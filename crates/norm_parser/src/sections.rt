@@ -32,7 +32,7 @@ fn in_start(draft: &mut Draft, word: &[u8], words: &mut Words) -> Result<(), Sto
     Ok(())
 }
 
-/// A field, or behind at least one the count of nodes.
+/// A field, or after at least one the count of nodes.
 fn in_fields(draft: &mut Draft, alloc: Global, word: &[u8], words: &mut Words) -> Result<(), Stop>
     ensures { Gives (λ _. draft_shown draft.new) result (in_fields (draft_shown draft.old) word.now words.old) }
 {
@@ -73,7 +73,7 @@ fn in_nodes(draft: &mut Draft, alloc: Global, word: &[u8], words: &mut Words) ->
     Ok(())
 }
 
-/// A root, or behind at least one the first operation.
+/// A root, or after at least one the first operation.
 fn in_roots(draft: &mut Draft, alloc: Global, word: &[u8], words: &mut Words) -> Result<(), Stop>
     ensures { Gives (λ _. draft_shown draft.new) result (in_roots (draft_shown draft.old) word.now words.old) }
 {
@@ -144,7 +144,7 @@ fn in_method(draft: &mut Draft, alloc: Global, word: &[u8], words: &mut Words) -
     }
 }
 
-/// An instruction, or behind at least one `wrap`.
+/// An instruction, or after at least one `wrap`.
 fn in_generator(
     draft: &mut Draft,
     alloc: Global,
@@ -164,7 +164,7 @@ fn in_generator(
     }
 }
 
-/// `op NAME A` behind a whole operation.
+/// `op NAME A` after a whole operation.
 fn next_op(draft: &mut Draft, alloc: Global, words: &mut Words) -> Result<(), Stop>
     ensures { Gives (λ _. draft_shown draft.new) result (next_op (draft_shown draft.old) words.old) }
 {
@@ -174,7 +174,7 @@ fn next_op(draft: &mut Draft, alloc: Global, words: &mut Words) -> Result<(), St
     Ok(())
 }
 
-/// An instruction, or another operation behind a whole one.
+/// An instruction, or another operation after a whole one.
 fn in_wrap_up(draft: &mut Draft, alloc: Global, word: &[u8], words: &mut Words) -> Result<(), Stop>
     requires few_fields { length draft.old.text.fields ≤ 4 }
     requires few_roots { length draft.old.text.roots ≤ 256 }
@@ -205,7 +205,7 @@ fn in_section(draft: &mut Draft, alloc: Global, word: &[u8], words: &mut Words) 
     }
 }
 
-/// An entry of a commit, behind which so many lines are left.
+/// An entry of a commit, after which so many lines are left.
 fn in_commit(
     draft: &mut Draft,
     alloc: Global,
@@ -227,7 +227,7 @@ fn in_commit(
     Ok(())
 }
 
-/// Adds what a line declares, by its first word and the words behind it. Where entry lines of a commit must follow, they
+/// Adds what a line declares, by its first word and the words after it. Where entry lines of a commit must follow, they
 /// alone may stand.
 pub(crate) fn in_place(
     draft: &mut Draft,

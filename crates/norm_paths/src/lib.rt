@@ -15,6 +15,3 @@ pub mod uses;
 pub use held::REGISTERS;
 pub use kept::Kept;
 pub use method::{MethodFacts, OpFacts};
-
-#[cfg(test)]
-mod tests;

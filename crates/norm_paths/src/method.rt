@@ -18,7 +18,7 @@ use std::marker::Model;
 
 /// The facts of a method: of each register at each instruction, which registers are set at its start, and
 /// where control goes on.
-#[derive(Debug, Drop)]
+#[derive(Drop)]
 pub struct MethodFacts {
     facts: Vec<Facts>,
     started: Vec<bool>,
@@ -107,7 +107,7 @@ impl MethodFacts {
 }
 
 /// The facts of an operation's methods, and which references its wrap-up keeps.
-#[derive(Debug, Drop)]
+#[derive(Drop)]
 pub struct OpFacts {
     pub generator: MethodFacts,
     pub wrapup: MethodFacts,

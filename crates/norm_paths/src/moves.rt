@@ -4,9 +4,10 @@ ghost use Rattle.std.specs.Prelude.{◌≡◌, ◌<◌, ◌≤◌, ◌^◌, ◌�
 ghost use Rattle.norm_lang.specs.Flow.{formed_successors};
 ghost use Rattle.norm_paths.specs.Moves.{place_in, fork_to, fork_of, blind_fork_of, held_after, move_of, map_from};
 
-use crate::uses::{is_new, looks, sets};
+use crate::uses::{looks, sets};
 use norm_lang::Fork;
 use norm_lang::text::{Instr, Reg};
+use norm_lang::uses::is_new;
 use path_facts::Move;
 use std::alloc::{AllocError, Global};
 
@@ -80,7 +81,7 @@ fn blind_fork_of(count: usize, instr: &Instr, at: usize) -> Fork
     }
 }
 
-/// The states of a register behind an instruction, for each state before it.
+/// The states of a register after an instruction, for each state before it.
 fn states_behind(register: Reg, instr: &Instr) -> [u8; 4]
     ensures { result ≡ held_after register instr.now 0 ∷ held_after register instr.now 1 ∷ held_after register instr.now 2 ∷ held_after register instr.now 3 ∷ [] }
 {

@@ -3,10 +3,17 @@
 ghost use Rattle.std.specs.Prelude.{◌≡◌};
 ghost use Rattle.std.specs.List.{list_any};
 ghost use Rattle.norm_lang.specs.RegisterUse.{same_register, is_register_named, entry_sources, objects_of, operands_of, destination, reads, sets};
-ghost use Rattle.norm_lang.specs.Grammar.{is_new};
+ghost use Rattle.norm_lang.specs.Kept.{holds_reference};
 ghost use Rattle.norm_lang.specs.PathRules.{looks, is_commit, follows, exchanges};
 
 use norm_lang::text::{CasEntry, Instr, Place, Reg};
+
+/// Whether a register is one of references.
+pub fn holds_reference(register: Reg) -> bool
+    ensures { result ≡ holds_reference register }
+{
+    matches!(register, Reg::Ref(_))
+}
 
 /// Whether two registers are the same.
 pub fn same_register(a: Reg, b: Reg) -> bool
@@ -49,13 +56,6 @@ pub fn sets(register: Reg, instr: &Instr) -> bool
     ensures { result ≡ sets register instr.now }
 {
     is_register_named(register, destination(instr))
-}
-
-/// Whether the instruction is a `new`.
-pub fn is_new(instr: &Instr) -> bool
-    ensures { result ≡ is_new instr.now }
-{
-    matches!(instr, Instr::New(_))
 }
 
 /// Whether the instruction is a commit.

@@ -344,7 +344,7 @@ fn input_of_the_greatest_length_is_judged(rt: HostRuntime) -> Result<(), Fail> {
 #[test]
 fn longer_input_is_told(rt: HostRuntime) -> Result<(), Fail> {
     let bytes = vec![in rt.alloc(); b'#'; 1_048_577]?;
-    // The read behind the 257 that give the limit would fail.
+    // The read after the 257 that give the limit would fail.
     let failing = World {
         most: 4096,
         read_fails: &[258],

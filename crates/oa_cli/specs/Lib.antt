@@ -1,4 +1,7 @@
 pub mod Commands
 pub mod Statuses
 pub mod Refusals
+pub mod Inputs
 pub mod Verdicts
+pub mod Endings
+pub mod Explanations

@@ -2,7 +2,7 @@
 use Rattle.std.specs.Prelude.{◌≡◌, ℕ, ◌<◌, List, [], ◌∷◌, ◌++◌, ◌⊎◌, length, codes, decimal, Option, Some, None, Err, IsSome, IsTrue, Bool, true, false, if◌then◌else◌}
 use Rattle.std.specs.Io.KnownBytes.{Consumes, IsAtEnd, Appends}
 use Rattle.oa_text.specs.Causes.{Rose}
-use Rattle.oa_text.specs.Written.{AppendsFront}
+use Rattle.oa_text.specs.Written.{AppendsPrefix}
 use Rattle.norm_lang.specs.declared.text.Text.{Text}
 use Rattle.norm_lang.specs.NormalForm.{IsNormal}
 use Rattle.norm_lang.specs.Spelling.{spelling_of}
@@ -22,6 +22,7 @@ use Rattle.script_driver.specs.Run.{final_state}
 use Rattle.script_driver.specs.SourceRun.{RunsOnSource}
 use Rattle.script_driver.specs.Answers.{answers, is_partial}
 use Rattle.oa_cli.specs.Commands.{command_of}
+use Rattle.oa_cli.specs.Inputs.{ReadsFewer}
 use Rattle.oa_cli.specs.Refusals.{refusal_line}
 use Rattle.oa_cli.specs.declared.command.Command.{Command}
 use Rattle.oa_cli.specs.declared.command.Command.TheVariants as commands
@@ -40,10 +41,14 @@ pub record ReadsAll (old new : Option (List ℕ)) (bytes : List ℕ) : Type 0 wh
   pub short : length bytes < LIMIT
   pub done : IsAtEnd new
 
+-- no call failed: the count is as it was
+abbrev pub NoFault : ℕ → ℕ → Type 0
+NoFault before now = now ≡ before
+
 -- nothing was read
 pub record Untouched (old new : Option (List ℕ)) (before now : ℕ) : Type 0 where
   pub left : new ≡ old
-  pub faults : now ≡ before
+  pub faults : NoFault before now
 
 -- the bytes are a document whose text is in normal form
 abbrev pub IsAccepted : List ℕ → Type 0
@@ -91,25 +96,27 @@ IsOfBytes command bytes verdicts.OtherForm = (command ≡ commands.Run) × IsOth
 IsOfBytes command bytes verdicts.Memory = Unit {0}
 IsOfBytes command bytes _ = ⊥
 
--- the verdict of a command on all bytes that the source had
-abbrev pub IsOfInput : List (List ℕ) → Option (List ℕ) → Option (List ℕ) → Verdict → Type 0
-IsOfInput words old new verdict =
-    (command : Command) × (command_of words ≡ Some command) × (bytes : List ℕ) × ReadsAll old new bytes × IsOfBytes command bytes verdict
+-- the verdict of a command on all bytes that the source had; no read failed
+abbrev pub IsOfInput : List (List ℕ) → Option (List ℕ) → Option (List ℕ) → ℕ → ℕ → Verdict → Type 0
+IsOfInput words old new before now verdict =
+    (command : Command) × (command_of words ≡ Some command) × NoFault before now × (bytes : List ℕ) × ReadsAll old new bytes
+    × IsOfBytes command bytes verdict
 
--- the verdict on the words, on the source's faults, and on its bytes
+-- the verdict on the words, on the source's faults, and on its bytes: a read failed at `ReadFault` alone, where fewer bytes than
+-- the limit were read
 abbrev pub IsJudged : List (List ℕ) → Option (List ℕ) → Option (List ℕ) → ℕ → ℕ → Verdict → Type 0
-IsJudged words old new before now (verdicts.Answered plan state) = IsOfInput words old new (verdicts.Answered plan state)
-IsJudged words old new before now verdicts.Accepted = IsOfInput words old new verdicts.Accepted
-IsJudged words old new before now (verdicts.Shown spelling) = IsOfInput words old new (verdicts.Shown spelling)
-IsJudged words old new before now (verdicts.Compiled spelling) = IsOfInput words old new (verdicts.Compiled spelling)
+IsJudged words old new before now (verdicts.Answered plan state) = IsOfInput words old new before now (verdicts.Answered plan state)
+IsJudged words old new before now verdicts.Accepted = IsOfInput words old new before now verdicts.Accepted
+IsJudged words old new before now (verdicts.Shown spelling) = IsOfInput words old new before now (verdicts.Shown spelling)
+IsJudged words old new before now (verdicts.Compiled spelling) = IsOfInput words old new before now (verdicts.Compiled spelling)
 IsJudged words old new before now verdicts.Usage = (command_of words ≡ None) × Untouched old new before now
-IsJudged words old new before now verdicts.ReadFault = IsSome (command_of words) × Rose before now
+IsJudged words old new before now verdicts.ReadFault = IsSome (command_of words) × Rose before now × ReadsFewer LIMIT old new
 IsJudged words old new before now verdicts.LongInput =
-    IsSome (command_of words) × (bytes : List ℕ) × Consumes old new bytes × (length bytes ≡ LIMIT)
-IsJudged words old new before now (verdicts.BadDocument fault) = IsOfInput words old new (verdicts.BadDocument fault)
-IsJudged words old new before now (verdicts.Refused text refusal) = IsOfInput words old new (verdicts.Refused text refusal)
-IsJudged words old new before now verdicts.OtherForm = IsOfInput words old new verdicts.OtherForm
-IsJudged words old new before now verdicts.Memory = IsSome (command_of words)
+    IsSome (command_of words) × NoFault before now × (bytes : List ℕ) × Consumes old new bytes × (length bytes ≡ LIMIT)
+IsJudged words old new before now (verdicts.BadDocument fault) = IsOfInput words old new before now (verdicts.BadDocument fault)
+IsJudged words old new before now (verdicts.Refused text refusal) = IsOfInput words old new before now (verdicts.Refused text refusal)
+IsJudged words old new before now verdicts.OtherForm = IsOfInput words old new before now verdicts.OtherForm
+IsJudged words old new before now verdicts.Memory = IsSome (command_of words) × NoFault before now
 
 -- the line that tells a fault
 abbrev pub fault_line : ParseFault → List ℕ
@@ -143,7 +150,13 @@ status_for (verdicts.Refused text refusal) = statuses.Refused refusal
 status_for verdicts.OtherForm = statuses.Unbuilt
 status_for verdicts.Memory = statuses.Memory
 
--- the whole text was written, or the sink failed behind a front of it
+-- the whole text was written and no write failed, or the sink failed after a prefix of it
 abbrev pub IsSaid : Option (List ℕ) → Option (List ℕ) → ℕ → ℕ → List ℕ → Status → Status → Type 0
 IsSaid old new before now text status result =
-    ((result ≡ status) × Appends old new text) ⊎ ((result ≡ statuses.WriteFault) × Rose before now × AppendsFront old new text)
+    ((result ≡ status) × NoFault before now × Appends old new text) ⊎ ((result ≡ statuses.WriteFault) × Rose before now × AppendsPrefix old new text)
+
+-- the other way round: where the sink's count rose, a fault of writing is told; where the source's count rose, a fault of reading is,
+-- or one of writing, for which the sink's count rose too
+pub record FaultsAreTold (read_before read_now write_before write_now : ℕ) (status : Status) : Type 0 where
+  pub reading : read_before < read_now → (status ≡ statuses.ReadFault) ⊎ ((status ≡ statuses.WriteFault) × Rose write_before write_now)
+  pub writing : write_before < write_now → status ≡ statuses.WriteFault

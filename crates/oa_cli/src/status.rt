@@ -24,7 +24,7 @@ pub enum Status {
     Refused { refusal: Refusal },
     /// The sink failed.
     WriteFault,
-    /// Want of memory, before the first step of a call.
+    /// Memory ran out, before the first step of a call.
     Memory,
     /// A document that can't be run yet.
     Unbuilt,

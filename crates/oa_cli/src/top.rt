@@ -12,7 +12,7 @@ ghost use Rattle.target_code.specs.FirstScheme.{first_scheme};
 ghost use Rattle.documents.specs.DocumentRead.{IsDocument};
 ghost use Rattle.oa_cli.specs.declared.verdict.Verdict.{Verdict};
 ghost use Rattle.oa_cli.specs.Refusals.{refusal_line};
-ghost use Rattle.oa_cli.specs.Verdicts.{IsOfBytes, IsJudged, IsSaid, fault_line, text_for, status_for};
+ghost use Rattle.oa_cli.specs.Verdicts.{IsOfBytes, IsJudged, IsSaid, FaultsAreTold, fault_line, text_for, status_for};
 
 use crate::command::{Command, command_of};
 use crate::input::{InputError, read_input};
@@ -234,7 +234,7 @@ fn status_of(verdict: &Verdict) -> Status
 }
 
 /// Writes the text of a verdict, and answers its status.
-fn say<K: Sink>(out: &mut K, verdict: &Verdict) -> Status
+pub(crate) fn say<K: Sink>(out: &mut K, verdict: &Verdict) -> Status
     ensures { IsSaid (K.written out.old) (K.written out.new) (K.faults out.old) (K.faults out.new) (text_for verdict.now) (status_for verdict.now) result }
 {
     if write_verdict(out, verdict).is_err() {
@@ -244,8 +244,9 @@ fn say<K: Sink>(out: &mut K, verdict: &Verdict) -> Status
 }
 
 /// Does all that the program does: reads the words and the source, and writes the answers to the document's calls, or
-/// that its text is accepted, or its text, or what that compiles to, or why there are none. The clause has three parts: what was
-/// read and judged, what was said, and the status. The gate is for callers on threads, which come later.
+/// that its text is accepted, or its text, or what that compiles to, or why there are none. The first clause has three parts: what
+/// was read and judged, what was said, and the status. The second says that each fault is told. The gate is for callers on threads,
+/// which come later.
 pub fn oa_main<R: Threads + Sync, S: Source, K: Sink, G: Gate + Sync>(
     rt: &R,
     alloc: Global,
@@ -254,9 +255,10 @@ pub fn oa_main<R: Threads + Sync, S: Source, K: Sink, G: Gate + Sync>(
     out: &mut K,
     gate: &G,
 ) -> Status
-    ensures { (verdict : Verdict)
+    ensures judged { (verdict : Verdict)
         × IsJudged (map string_bytes words.now) (S.left input.old) (S.left input.new) (S.faults input.old) (S.faults input.new) verdict
         × IsSaid (K.written out.old) (K.written out.new) (K.faults out.old) (K.faults out.new) (text_for verdict) (status_for verdict) result }
+    ensures told { FaultsAreTold (S.faults input.old) (S.faults input.new) (K.faults out.old) (K.faults out.new) result }
 {
     let verdict = judge(alloc, words, input);
     say(out, &verdict)

@@ -1,6 +1,4 @@
-//! The callers' core. So far the turns of a schedule, which documents hold.
+//! The callers' core. So far the turns of a schedule, which documents hold too.
 #![tactic(auto)]
 
-mod turn;
-
-pub use turn::{StepKind, Turn};
+pub use schedule_turns::{StepKind, Turn};

@@ -1,4 +1,4 @@
--- A read that copies the next bytes to the front of a buffer.
+-- A read that copies the next bytes to the start of a buffer.
 use Rattle.std.proofs.Common.{◌≡◌, ℕ, ◌+◌, ◌-◌, ◌<◌, ◌≤◌, min, List, [], ◌++◌, length, take, drop, sym, ap, ◌∙◌, arith}
 use Rattle.std.proofs.lemmas.List.{take_at, take-append-drop, drop-drop, drop_all, length-drop, length-take-le}
 

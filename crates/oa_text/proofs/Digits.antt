@@ -4,7 +4,7 @@ use Rattle.std.specs.Fmt.{decimal}
 use Rattle.std.proofs.lemmas.Fmt.{decimal_step, decimal_digit, decimal_nonempty, length-decimal-le}
 use Rattle.std.proofs.lemmas.List.{append-nil, drop-set, drop_all, length-append, length-set}
 
--- the digits of n are still to come in front of the place
+-- the digits of n are still to come before the place
 pub record IsOpen (buf whole : List ℕ) (n at : ℕ) : Type 0 where
   pub fits : n < 2 ^ 64
   pub size : length buf ≡ 20
@@ -26,7 +26,7 @@ opened buf n size fits = record {
 pub some_room : (buf whole : List ℕ) (n at : ℕ) → IsOpen buf whole n at → 1 ≤ at
 some_room buf whole n at was = omega (arith, decimal_nonempty n was.fits, was.room)
 
--- the last digit of a number goes in front of the place
+-- the last digit of a number goes before the place
 pub digit_more : (buf whole : List ℕ) (n at : ℕ) → 10 ≤ n → IsOpen buf whole n at → IsOpen (set buf (at - 1) (48 + n % 10)) whole (n / 10) (at - 1)
 digit_more buf whole n at big was =
     let step : decimal n ≡ decimal (n / 10) ++ (48 + n % 10) ∷ [] = decimal_step n big was.fits in

@@ -9,7 +9,7 @@ use Rattle.oa_text.specs.Tokens.{TextToken, is_blank, is_ink, is_edge, joined, t
 use Rattle.oa_text.specs.Slices.{IsTokenOf, Spans, TokensAreSlices, TokensHoldAll}
 use Rattle.oa_text.proofs.TokenLemmas.{tokens_from_blank, cut_word, word_inked, word_ends, word_some}
 
--- what stands in front of a place is a blank, or the line's begin
+-- what stands before a place is a blank, or the line's begin
 abbrev IsGap : List ℕ → ℕ → Type 0
 IsGap bytes at = (at ≡ 0) ⊎ (is_blank (get_or bytes (at - 1) 0) ≡ true)
 
@@ -36,7 +36,7 @@ word_of bytes rest at b same gap ink =
       inked = word_inked (b ∷ rest);
       slice = rw (place, same, long) refl;
       before = ⊎_elim (λ begin. inl (omega arith)) (λ blank. inr (rw front blank)) gap;
-      behind = rw (end, ← drop-drop m at bytes, same) (word_ends (b ∷ rest));
+      after = rw (end, ← drop-drop m at bytes, same) (word_ends (b ∷ rest));
     }
 
 walk : (n : ℕ) (bytes rest : List ℕ) (at : ℕ) → length rest ≤ n → drop at bytes ≡ rest → IsGap bytes at ⊎ (is_edge rest ≡ true)

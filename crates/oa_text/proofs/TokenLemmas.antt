@@ -1,4 +1,4 @@
--- How bytes fall into tokens: blanks in front go, a word up to its edge is the first token.
+-- How bytes fall into tokens: leading blanks go, a word up to its edge is the first token.
 use Rattle.std.proofs.Common.{◌≡◌, ℕ, suc, ◌+◌, ◌<◌, ◌≤◌, Bool, true, false, cond, List, [], ◌∷◌, ◌++◌, length, take, drop, get_or, eqb, ⊎_elim, refl, sym, ap, ◌∙◌, arith, eq-eqb}
 use Rattle.std.proofs.Math.Numerals.{one-add}
 use Rattle.std.proofs.lemmas.Bool.{cases_Bool, not-true, and_parts, false_from_ne_true, eqb-true}
@@ -8,11 +8,11 @@ use Rattle.std.proofs.lemmas.List.Sums.{prefix_len_stops, prefix_len-le-length}
 use Rattle.std.specs.List.{list_all, prefix_len}
 use Rattle.oa_text.specs.Tokens.{TextToken, is_blank, is_ink, is_edge, joined, tokens_from}
 
--- a blank in front makes no token
+-- a leading blank makes no token
 pub tokens_from_blank : (c b : ℕ) (bytes : List ℕ) → is_blank b ≡ true → tokens_from c (b ∷ bytes) ≡ tokens_from (c + 1) bytes
 tokens_from_blank c b bytes blank = rw blank refl
 
--- the first token, if any, begins at the column or behind it
+-- the first token, if any, begins at the column or after it
 abbrev IsBehind : ℕ → List TextToken → Type 0
 IsBehind c [] = Unit {0}
 IsBehind c (token ∷ tokens) = c ≤ token.column
@@ -37,7 +37,7 @@ tokens_behind c (b ∷ bytes) =
       | false ↦ joined_behind c b (tokens_from (c + 1) bytes)
     ]
 
--- behind an edge no token begins at once
+-- after an edge no token begins at once
 edge_behind : (c : ℕ) (bytes : List ℕ) → is_edge bytes ≡ true → IsBehind (c + 1) (tokens_from c bytes)
 edge_behind c [] edge = tt
 edge_behind c (b ∷ bytes) edge = rw edge (tokens_behind (c + 1) bytes)
@@ -72,7 +72,7 @@ prefix_more p b bytes passes = rw passes (one-add (prefix_len p bytes))
 prefix_none : (p : ℕ → Bool) (b : ℕ) (bytes : List ℕ) → p b ≡ false → prefix_len p (b ∷ bytes) ≡ 0
 prefix_none p b bytes fails = rw fails refl
 
--- all blanks in front go
+-- all leading blanks go
 pub blanks_skipped : (c : ℕ) (bytes : List ℕ) → tokens_from c bytes ≡ tokens_from (c + prefix_len is_blank bytes) (drop (prefix_len is_blank bytes) bytes)
 blanks_skipped c [] = refl
 blanks_skipped c (b ∷ bytes) =
@@ -85,10 +85,10 @@ blanks_skipped c (b ∷ bytes) =
     (λ ink. let place : c ≡ c + 0 = omega arith in ap (λ k. tokens_from k (b ∷ bytes)) place ∙ sym (ap left (prefix_none is_blank b bytes ink)))
     (cases_Bool (is_blank b))
 
--- blanks and words in front are no longer than the bytes
+-- leading blanks and words are no longer than the bytes
 pub ruleset fronts = (prefix_len-le-length)
 
--- behind the blanks stands none
+-- after the blanks stands none
 pub skipped_to_ink : (bytes rest : List ℕ) (b : ℕ) → drop (prefix_len is_blank bytes) bytes ≡ b ∷ rest → is_blank b ≡ false
 skipped_to_ink bytes rest b same =
     let n = prefix_len is_blank bytes in
@@ -121,7 +121,7 @@ pub no_token : (c n : ℕ) (bytes rest : List ℕ) → n ≡ prefix_len is_blank
 no_token c n bytes [] count same none = blanks_skipped c bytes ∙ (rw (← count, ← same) refl)
 no_token c n bytes (b ∷ rest) count same none = absurd (omega arith)
 
--- bytes that begin with no blank: the word in front is the first token
+-- bytes that begin with no blank: the leading word is the first token
 pub cut_word : (c b : ℕ) (bytes : List ℕ) → is_blank b ≡ false
     → tokens_from c (b ∷ bytes) ≡ record { column = c; bytes = take (prefix_len is_ink (b ∷ bytes)) (b ∷ bytes) } ∷ tokens_from (c + prefix_len is_ink (b ∷ bytes)) (drop (prefix_len is_ink (b ∷ bytes)) (b ∷ bytes))
 cut_word c b bytes ink =

@@ -24,11 +24,11 @@ anywhere (suc k) c d (b ∷ bytes) le =
     rw (cut_word c b bytes ink, cut_word d b bytes ink) (ap (λ (words : List (List ℕ)). take m (b ∷ bytes) ∷ words) (anywhere k (c + m) (d + m) (drop m (b ∷ bytes)) short)))
     (cases_Bool (is_blank b))
 
--- a blank in front makes no word
+-- a leading blank makes no word
 pub words_of_blank : (b : ℕ) (rest : List ℕ) → is_blank b ≡ true → words_of (b ∷ rest) ≡ words_of rest
 words_of_blank b rest blank = rw (tokens_from_blank 1 b rest blank) (anywhere (length rest) 2 1 rest (omega arith))
 
--- a word and a blank behind it
+-- a word and a blank after it
 pub words_of_word : (b : ℕ) (word rest : List ℕ) → 0 < length word → list_all is_ink word ≡ true → is_blank b ≡ true
     → words_of (word ++ b ∷ rest) ≡ word ∷ words_of rest
 words_of_word b word rest some all blank =

@@ -18,7 +18,7 @@ nothing : (a : Option (List ℕ)) → Appends a a []
 nothing None = tt
 nothing (Some p) = sym (append-nil p)
 
--- a fault that adds nothing is one in a front of any bytes
+-- a fault that adds nothing is one in a prefix of any bytes
 pub writes_refused : {E : Type 0} (a b : Option (List ℕ)) (x : List ℕ) (e : E) → Keeps a b → Writes a b x (Err e)
 writes_refused None b x e keeps = (0, tt)
 writes_refused (Some p) None x e keeps = (0, absurd keeps)

@@ -6,7 +6,7 @@ pub record TextLine : Type 0 where
   pub number : ℕ
   pub bytes : List ℕ
 
--- a byte in front of the first line
+-- a byte put before the first line
 abbrev pub onto : ℕ → List (List ℕ) → List (List ℕ)
 onto b [] = (b ∷ []) ∷ []
 onto b (line ∷ lines) = (b ∷ line) ∷ lines

@@ -11,11 +11,11 @@ abbrev pub piece_bytes : Piece → List ℕ
 piece_bytes (Number n) = decimal n
 piece_bytes (Bytes bytes) = bytes.now
 
--- a number in decimal behind a space
+-- a number in decimal after a space
 abbrev pub argument_bytes : ℕ → List ℕ
 argument_bytes n = 32 ∷ decimal n
 
--- one piece, or numbers with a space in front of each
+-- one piece, or numbers with a space before each
 abbrev pub part_bytes : Part → List ℕ
 part_bytes (One piece) = piece_bytes piece
 part_bytes (Arguments arguments) = flat_map argument_bytes arguments.now

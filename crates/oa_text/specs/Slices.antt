@@ -10,7 +10,7 @@ pub record IsTokenOf (bytes : List ℕ) (token : TextToken) : Type 0 where
   pub inked : IsTrue (list_all is_ink token.bytes)
   pub slice : take (length token.bytes) (drop (token.column - 1) bytes) ≡ token.bytes
   pub before : (token.column ≡ 1) ⊎ IsTrue (is_blank (slice_index bytes (token.column - 2)))
-  pub behind : IsTrue (is_edge (drop (end_column token - 1) bytes))
+  pub after : IsTrue (is_edge (drop (end_column token - 1) bytes))
 
 -- each token of each line is such a slice
 abbrev pub TokensAreSlices : Type 0

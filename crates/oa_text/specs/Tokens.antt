@@ -21,11 +21,11 @@ abbrev pub is_edge : List ℕ → Bool
 is_edge [] = true
 is_edge (b ∷ bytes) = is_blank b
 
--- the column right behind a token
+-- the column right after a token
 abbrev pub end_column : TextToken → ℕ
 end_column token = token.column + length token.bytes
 
--- a byte at a column goes on to the token that begins right behind it, or is one by itself
+-- a byte at a column goes on to the token that begins right after it, or is one by itself
 abbrev pub joined : ℕ → ℕ → List TextToken → List TextToken
 joined column b [] = record { column = column; bytes = b ∷ [] } ∷ []
 joined column b (token ∷ tokens) =

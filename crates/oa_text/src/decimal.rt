@@ -24,7 +24,7 @@ fn digits_into(buffer: &mut [u8; 20], n: u64) -> usize
     at
 }
 
-/// Writes a number in decimal, with no leading zeros. At `Failed` a front of its digits was written.
+/// Writes a number in decimal, with no leading zeros. At `Failed` a prefix of its digits was written.
 pub fn write_decimal<K: Sink>(out: &mut K, n: u64) -> Result<(), Failed>
     ensures bytes { Writes (K.written out.old) (K.written out.new) (decimal n) result }
     ensures cause { HasCause (K.faults out.old) (K.faults out.new) result }

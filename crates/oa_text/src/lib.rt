@@ -21,7 +21,7 @@ pub use fault::TextFault;
 pub use gate::{Gate, OpenGate};
 pub use laws::{tokens_are_slices, tokens_hold_all};
 pub use line::{Line, Lines};
-pub use number::read_u64;
+pub use number::{read_numeral, read_u64};
 pub use pieces::{Part, Piece, Spelled, write_each, write_parts, write_piece, write_pieces};
 pub use reading::{lines, tokens};
 pub use sink::{MemorySink, Sink, write_all};
@@ -29,8 +29,3 @@ pub use source::{Failed, MemorySource, Source};
 pub use standard::{StdSink, StdSource};
 pub use sure::{SureSink, SureSource};
 pub use token::{Token, Tokens};
-
-#[cfg(test)]
-mod sink_tests;
-#[cfg(test)]
-mod tests;

@@ -1,6 +1,6 @@
 //! Numbers as tokens.
 
-ghost use Rattle.std.specs.Prelude.{◌≡◌, ℕ};
+ghost use Rattle.std.specs.Prelude.{◌≡◌, ℕ, Some, None, if◌then◌else◌};
 ghost use Rattle.std.specs.List.{list_all};
 ghost use Rattle.oa_text.specs.Numbers.{is_digit, is_numeral, with_digit, number_of, fitting, number_read};
 ghost use Rattle.oa_text.specs.Shown.{line_shown, token_shown};
@@ -56,6 +56,18 @@ fn value(digits: &[u8]) -> Option<u64>
     value
 }
 
+/// The number that bytes spell: `None` where they aren't `0` or a digit string that begins with 1 to 9, and `Some(None)`
+/// where they are and the number exceeds 2^64 - 1.
+pub fn read_numeral(bytes: &[u8]) -> Option<Option<u64>>
+    ensures { result ≡ (if is_numeral bytes.now then Some (fitting (number_of bytes.now)) else None) }
+{
+    if numeral(bytes) {
+        Some(value(bytes))
+    } else {
+        None
+    }
+}
+
 /// The number that a token of a line spells: `None` where it isn't `0` or a digit string that begins with 1 to 9.
 ///
 /// # Errors
@@ -64,12 +76,10 @@ fn value(digits: &[u8]) -> Option<u64>
 pub fn read_u64(line: Line<'_>, token: Token<'_>) -> Result<Option<u64>, TextFault>
     ensures { result ≡ number_read (line_shown line.entry) (token_shown token.entry) }
 {
-    if !numeral(token.bytes) {
-        return Ok(None);
-    }
-    match value(token.bytes) {
-        Some(n) => Ok(Some(n)),
-        None => Err(TextFault::Number {
+    match read_numeral(token.bytes) {
+        None => Ok(None),
+        Some(Some(n)) => Ok(Some(n)),
+        Some(None) => Err(TextFault::Number {
             line: line.number,
             column: token.column,
         }),

@@ -17,7 +17,7 @@ pub enum Piece<'a> {
     Bytes(&'a [u8]),
 }
 
-/// A part of a text: one piece, or numbers with a space in front of each.
+/// A part of a text: one piece, or numbers with a space before each.
 #[derive(Clone, Copy, Debug)]
 pub enum Part<'a> {
     One(Piece<'a>),
@@ -29,13 +29,13 @@ pub trait Spelled {
     /// The bytes.
     ghost spelling: { Self → List ℕ };
 
-    /// Writes the bytes. At `Failed` a front of them was written.
+    /// Writes the bytes. At `Failed` a prefix of them was written.
     fn write_to<K: Sink>(&self, out: &mut K) -> Result<(), Failed>
         ensures bytes { Writes (K.written out.old) (K.written out.new) (spelling self.now) result }
         ensures cause { HasCause (K.faults out.old) (K.faults out.new) result };
 }
 
-/// Writes things one behind another. At `Failed` a front of all their bytes was written.
+/// Writes things one after another. At `Failed` a prefix of all their bytes was written.
 pub fn write_each<K: Sink, T: Spelled>(out: &mut K, things: &[T]) -> Result<(), Failed>
     ensures bytes { Writes (K.written out.old) (K.written out.new) (flat_map T.spelling things.now) result }
     ensures cause { HasCause (K.faults out.old) (K.faults out.new) result }
@@ -57,7 +57,7 @@ impl<'a> Spelled for Piece<'a> {
     }
 }
 
-/// Writes a piece. At `Failed` a front of its bytes was written.
+/// Writes a piece. At `Failed` a prefix of its bytes was written.
 pub fn write_piece<K: Sink>(out: &mut K, piece: &Piece) -> Result<(), Failed>
     ensures bytes { Writes (K.written out.old) (K.written out.new) (piece_bytes piece.now) result }
     ensures cause { HasCause (K.faults out.old) (K.faults out.new) result }
@@ -65,7 +65,7 @@ pub fn write_piece<K: Sink>(out: &mut K, piece: &Piece) -> Result<(), Failed>
     piece.write_to(out)
 }
 
-/// Writes pieces one behind another. At `Failed` a front of all their bytes was written.
+/// Writes pieces one after another. At `Failed` a prefix of all their bytes was written.
 pub fn write_pieces<K: Sink>(out: &mut K, pieces: &[Piece]) -> Result<(), Failed>
     ensures bytes { Writes (K.written out.old) (K.written out.new) (flat_map piece_bytes pieces.now) result }
     ensures cause { HasCause (K.faults out.old) (K.faults out.new) result }
@@ -73,7 +73,7 @@ pub fn write_pieces<K: Sink>(out: &mut K, pieces: &[Piece]) -> Result<(), Failed
     write_each(out, pieces)
 }
 
-// Writes a number in decimal behind a space.
+// Writes a number in decimal after a space.
 fn write_argument<K: Sink>(out: &mut K, n: u64) -> Result<(), Failed>
     ensures bytes { Writes (K.written out.old) (K.written out.new) (argument_bytes n) result }
     ensures cause { HasCause (K.faults out.old) (K.faults out.new) result }
@@ -81,7 +81,7 @@ fn write_argument<K: Sink>(out: &mut K, n: u64) -> Result<(), Failed>
     write_pieces(out, &[Piece::Bytes(b" "), Piece::Number(n)])
 }
 
-// Writes numbers, each behind a space.
+// Writes numbers, each after a space.
 fn write_arguments<K: Sink>(out: &mut K, arguments: &[u64]) -> Result<(), Failed>
     ensures bytes { Writes (K.written out.old) (K.written out.new) (flat_map argument_bytes arguments.now) result }
     ensures cause { HasCause (K.faults out.old) (K.faults out.new) result }
@@ -103,7 +103,7 @@ impl<'a> Spelled for Part<'a> {
     }
 }
 
-/// Writes parts one behind another. At `Failed` a front of all their bytes was written.
+/// Writes parts one after another. At `Failed` a prefix of all their bytes was written.
 pub fn write_parts<K: Sink>(out: &mut K, parts: &[Part]) -> Result<(), Failed>
     ensures bytes { Writes (K.written out.old) (K.written out.new) (flat_map part_bytes parts.now) result }
     ensures cause { HasCause (K.faults out.old) (K.faults out.new) result }

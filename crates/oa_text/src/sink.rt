@@ -19,13 +19,13 @@ pub trait Sink {
     /// How many calls have failed.
     ghost faults: { Self → ℕ };
 
-    /// Takes a front of the piece and answers how many bytes it has.
+    /// Takes a prefix of the piece and answers how many bytes it has.
     ///
     /// `Ok(n)` means that the first n bytes of the piece were added to what was written; for a piece that isn't empty
     /// n is at least 1. `Failed` adds nothing.
     ///
-    /// The count of faults never falls, and `Failed` is answered only where it rose in this call (or stands at
-    /// 2^64 - 1, where it can't rise).
+    /// The count of faults never falls: at `Ok` it is as it was, and at `Failed` it rose by one (or stands at 2^64 - 1,
+    /// where it can't rise).
     fn write(&mut self, piece: &[u8]) -> Result<usize, Failed>
         ensures bound { WritesAtMost result piece.now }
         ensures some { 0 < length piece.now → IfOk result (λ n. 0 < n) }
@@ -96,7 +96,7 @@ impl Sink for MemorySink {
 
     ghost faults = { λ s. s.faults };
 
-    /// Fails where the call's number is in the list, and for want of memory.
+    /// Fails where the call's number is in the list, and where memory runs out.
     fn write(&mut self, piece: &[u8]) -> Result<usize, Failed>
         ensures bound { WritesAtMost result piece.now }
         ensures some { 0 < length piece.now → IfOk result (λ n. 0 < n) }
@@ -122,7 +122,8 @@ impl Sink for MemorySink {
     }
 }
 
-/// Writes all of the bytes, in as many calls as the sink wants. At `Failed` a front of them was written.
+/// Writes all of the bytes, in as many calls as the sink wants. It stops at the first fault: at `Failed` a prefix of
+/// them was written.
 #[tactic(auto, using(crate::proofs::Writing::writes_rest))]
 pub fn write_all<K: Sink>(out: &mut K, bytes: &[u8]) -> Result<(), Failed>
     ensures bytes { Writes (K.written out.old) (K.written out.new) bytes.now result }

@@ -20,14 +20,14 @@ pub trait Source {
     /// How many calls have failed.
     ghost faults: { Self → ℕ };
 
-    /// Puts the next bytes at the front of the buffer and answers how many.
+    /// Puts the next bytes at the start of the buffer and answers how many.
     ///
     /// `Ok(n)` gives the next n bytes, at most as many as the buffer has room for, and they are left no more. `Ok(0)`
     /// for a buffer that isn't empty is the end: where the bytes are told, none are left. `Failed` gives nothing, and
     /// what is left stays.
     ///
-    /// The count of faults never falls, and `Failed` is answered only where it rose in this call (or stands at
-    /// 2^64 - 1, where it can't rise).
+    /// The count of faults never falls: at `Ok` it is as it was, and at `Failed` it rose by one (or stands at 2^64 - 1,
+    /// where it can't rise).
     fn read(&mut self, buffer: &mut [u8]) -> Result<usize, Failed>
         ensures bound { ReadsAtMost result buffer.new }
         ensures bytes { ReadConsumes (left self.old) (left self.new) result buffer.new }
@@ -77,6 +77,13 @@ impl MemorySource {
             calls: 0,
             faults: 0,
         }
+    }
+
+    /// How many calls were made, up to 2^64 - 1.
+    pub fn calls(&self) -> u64
+        ensures { result ≡ self.now.calls }
+    {
+        self.calls
     }
 
     /// How many calls have failed, up to 2^64 - 1.

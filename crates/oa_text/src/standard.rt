@@ -2,7 +2,7 @@
 
 ghost use Rattle.std.specs.Prelude.{◌≡◌, ◌<◌, length, IfOk};
 ghost use Rattle.std.specs.Io.{ReadsAtMost, WritesAtMost};
-ghost use Rattle.std.specs.Io.KnownBytes.{ReadConsumes, WriteAppends};
+ghost use Rattle.std.specs.Io.KnownBytes.{Keeps, ReadConsumes, WriteAppends};
 ghost use Rattle.oa_text.specs.Causes.{HasCause, faults_after};
 
 use crate::sink::Sink;
@@ -80,7 +80,7 @@ impl<W: Write> Model for StdSink<W> {
 }
 
 impl<W: Write> StdSink<W> {
-    /// A sink behind what the writer holds, with no faults yet.
+    /// A sink that adds to what the writer holds, with no faults yet.
     pub fn new(inner: W) -> StdSink<W>
         ensures { result ≡ record { written = W.contents inner; faults = 0 } }
     {
@@ -92,6 +92,22 @@ impl<W: Write> StdSink<W> {
         ensures { result ≡ self.now.faults }
     {
         self.faults
+    }
+
+    /// Hands on what the writer has buffered. The count rises by one where the writer fails to, up to 2^64 - 1, and
+    /// nowhere else.
+    pub fn flush(&mut self) -> Result<(), Failed>
+        ensures bytes { Keeps self.old.written self.new.written }
+        ensures cause { HasCause self.old.faults self.new.faults result }
+        ensures count { self.new.faults ≡ faults_after result self.old.faults }
+    {
+        match self.inner.flush() {
+            Ok(()) => Ok(()),
+            Err(_) => {
+                self.faults = self.faults.saturating_add(1);
+                Err(Failed)
+            }
+        }
     }
 }
 

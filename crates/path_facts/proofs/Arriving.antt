@@ -13,7 +13,7 @@ use Rattle.path_facts.specs.declared.moves.Move.{Move}
 use Rattle.path_facts.specs.Facts.{state_behind, IsMove, IsWay, ComesIn, AreFacts}
 use Rattle.path_facts.specs.Nodes.{node, fork_with, fork_behind, nodes_of}
 
--- the fork of a node is that of its instruction with the state behind it
+-- the fork of a node is that of its instruction with the state after it
 fork_of_node : (moves : List Move) (at state : ℕ) → state < 4 → slice_get (flat_map nodes_of moves) (node at state) ≡ option_map (λ move. fork_behind move state) (slice_get moves at)
 fork_of_node [] at state lt = refl
 fork_of_node (move ∷ moves) zero zero lt = refl
@@ -29,7 +29,7 @@ length_nodes : (moves : List Move) → length (flat_map nodes_of moves) ≡ 4 * 
 length_nodes [] = refl
 length_nodes (move ∷ moves) = omega (arith, length_nodes moves)
 
--- a state behind an instruction is one of the four
+-- a state after an instruction is one of the four
 behind_lt : (count : ℕ) (move : Move) (state : ℕ) → IsMove count move → state_behind move state < 4
 behind_lt count move state is = by_length move.after state is.1
   where

@@ -4,11 +4,11 @@ use Rattle.norm_lang.specs.Flow.{Leads, state_along}
 use Rattle.norm_lang.specs.Reach.{LeadsTo, StaysBelow}
 use Rattle.path_facts.specs.declared.moves.Move.{Move}
 
--- the state behind an instruction, by the state before it
+-- the state after an instruction, by the state before it
 abbrev pub state_behind : Move → ℕ → ℕ
 state_behind move state = slice_index move.after state
 
--- an instruction of so many: its successors are among them, and no state behind it is a fifth one
+-- an instruction of so many: its successors are among them, and no state after it is a fifth one
 abbrev pub IsMove : ℕ → Move → Type 0
 IsMove count move = StaysBelow count move.fork × All (λ state. state < 4) move.after
 

@@ -12,7 +12,7 @@ use std::marker::Model;
 
 /// For each instruction the states in which a machine may arrive there. Contracts see it as the answers for the
 /// four states of each instruction, one after another.
-#[derive(Debug, Drop)]
+#[derive(Drop)]
 pub struct Facts {
     marks: Marks,
 }

@@ -8,6 +8,3 @@ mod nodes;
 
 pub use facts::Facts;
 pub use moves::Move;
-
-#[cfg(test)]
-mod tests;

@@ -37,7 +37,7 @@ pub line_stopped : {E : Type 0} (text : Text) (running : Bool) (replies : List R
 line_stopped text running replies calls i d a b e answer lt is front =
     rw (turn text running replies calls i d lt, ← is) (writes_stopped a b (call_line text i (get_or calls i d) answer) (lines_left text running replies (i + 1) (drop (i + 1) calls)) e front)
 
--- behind the last line
+-- after the last line
 pub lines_done : (text : Text) (running : Bool) (replies : List Replied) (calls : List Call) (i : ℕ) (a : Option (List ℕ))
     → length calls ≤ i → Appends a a (lines_left text running replies i (drop i calls))
 lines_done text running replies calls i a past = rw (drop_all i calls past) (nothing a)

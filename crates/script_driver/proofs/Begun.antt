@@ -29,7 +29,7 @@ abbrev pub is_before_begin : Routine → Bool
 is_before_begin routines.Begins = true
 is_before_begin _ = false
 
--- a caller whose call has begun, behind so many earlier calls: it runs still, or has its reply
+-- a caller whose call has begun, after so many earlier calls: it runs still, or has its reply
 pub record IsUnderWay (call : Call) (earlier : ℕ) (entry : Entry) : Type 0 where
   pub own : entry.call ≡ call
   pub past : is_before_begin entry.routine ≡ false

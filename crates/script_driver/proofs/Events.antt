@@ -35,7 +35,7 @@ appended : (text : Text) (b : Bool) (xs ys : List SourceEvent) (state next : Sou
 appended text true xs ys state next whole rest first = rest first
 appended text false xs ys state next whole rest first = cc
 
--- one list of events behind another
+-- one list of events after another
 pub run_append : (text : Text) (xs ys : List SourceEvent) (state next : SourceMachine) (whole : Option SourceMachine)
     → source_run text xs state ≡ Some next → source_run text ys next ≡ whole → source_run text (xs ++ ys) state ≡ whole
 run_append text [] ys state next whole first second = let same : state ≡ next = cc in rw same second

@@ -6,7 +6,7 @@ use borrow.Author.Tests.{ltb-true}
 use Rattle.norm_lang.specs.declared.text.Instr.{Instr}
 use Rattle.norm_lang.specs.declared.text.Instr.TheVariants as instr
 use Rattle.norm_lang.specs.declared.text.Op.{Op}
-use Rattle.source_machine.specs.Laws.{local_jump, LeadsForward}
+use Rattle.local_laws.specs.Forward.{local_jump, LeadsForward}
 use Rattle.script_driver.specs.FirstText.{is_number, is_number_field, is_number_root, is_first_step, is_first_commit, is_first_generator, is_first_end, is_first_wrap_up_step, is_first_wrap_up_from, is_first_wrap_up, is_first_op}
 use Rattle.script_driver.specs.SourceRun.{FirstTextsLeadForward}
 

@@ -5,7 +5,6 @@ pub mod SourceRuns
 pub mod Steps
 pub mod Worked
 mod Begun
-mod Counted
 mod Events
 mod FirstCalls
 mod FirstTexts

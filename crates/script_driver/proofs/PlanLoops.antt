@@ -18,7 +18,7 @@ use Rattle.script_driver.specs.FirstCalls.{IsCallOf}
 use Rattle.script_driver.specs.FirstForm.{◌>>=◌, call_in, calls_in, plan_in, first_form}
 use Rattle.script_driver.proofs.FirstCalls.{form_runs}
 
--- calls behind those that were found before
+-- calls after those that were found before
 abbrev pub behind_front : List Call → Option (List Call) → Option (List Call)
 behind_front made None = None
 behind_front made (Some rest) = Some (made ++ rest)
@@ -27,7 +27,7 @@ pub calls_start : (found whole : Option (List Call)) → found ≡ whole → beh
 calls_start None whole same = same
 calls_start (Some calls) whole same = same
 
--- one more call in front of others
+-- one more call before others
 abbrev after_one : Option Call → Option (List Call) → Option (List Call)
 after_one None others = None
 after_one (Some call) others = behind_front (call ∷ []) others

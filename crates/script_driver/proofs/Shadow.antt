@@ -1,4 +1,4 @@
--- The source state that a state of the run stands for. Behind a check, at a wrap-up's start and behind `again` the
+-- The source state that a state of the run stands for. After a check, at a wrap-up's start and after `again` the
 -- source machine is ahead: its local code ran with the access before.
 use Rattle.std.specs.Prelude.{◌+◌, false, [], ◌∷◌, map, None, slice_get}
 use Rattle.norm_lang.specs.declared.text.Op.{Op}
@@ -39,8 +39,8 @@ shadow_in started op routines.BeginsAnew entry = goes_on (generator_begun op (ru
 shadow_in started op (routines.Generates at) entry = stands entry (InGenerator at)
 shadow_in started op (routines.Checks at) entry =
     goes_on (generator_from op (record { at = at + 1; registers = entry.registers }) (running_of entry (InGenerator at))) (still entry)
-shadow_in started op (routines.Exchanges at made) entry = stands entry (InList (entries_of (slice_get op.generator at)) made)
-shadow_in started op (routines.WrapStarts made) entry = wrap_up_begun op made (running_of entry (InList [] made)) (still entry)
+shadow_in started op (routines.Exchanges at made) entry = stands entry (InList at (entries_of (slice_get op.generator at)) made)
+shadow_in started op (routines.WrapStarts made) entry = wrap_up_begun op made (running_of entry (InList 0 [] made)) (still entry)
 shadow_in started op (routines.WrapsUp at) entry = stands entry (InWrapUp at started false)
 
 abbrev pub shadow : Registers → Op → Text → CoreState → SourceMachine

@@ -183,7 +183,7 @@ agree_idle text words (routines.Exchanges at made) entry idle = cc
 agree_idle text words (routines.WrapStarts made) entry idle = cc
 agree_idle text words (routines.WrapsUp at) entry idle = cc
 
--- behind a call: the next one where it has ended, else the end
+-- after a call: the next one where it has ended, else the end
 behind : (text : Text) (op : Op) (call : Call) (n : ℕ) (calls : List Call) (state : CoreState) (run_rest : CoreState → CoreState) (rest : List SourceEvent) (ended : Bool)
     → let next = core_steps text (suc n) (takes call state) in
     let events = steps_image text (suc n) (takes call state) (idle_source text state) in

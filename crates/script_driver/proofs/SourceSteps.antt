@@ -91,7 +91,7 @@ wrap_up_end_alike op _ running replies before other = refl
 
 wrap_up_begun_alike : (op : Op) (made : ℕ) (entry : Entry) (stand : Stand) (before : Option Running)
     → wrap_up_begun op made (running_of entry stand) (record { replies = (still entry).replies; running = before })
-    ≡ wrap_up_begun op made (running_of entry (InList [] made)) (still entry)
+    ≡ wrap_up_begun op made (running_of entry (InList 0 [] made)) (still entry)
 wrap_up_begun_alike op made entry stand before =
     let start = with_count entry.registers made in
     let end = local_run op.wrapup (length op.wrapup) (record { at = 0; registers = start }) in
@@ -105,8 +105,8 @@ generator_follows : (text : Text) (op : Op) (started : Registers) (memory : Memo
     ≡ Some (alone memory (shadow_in started op (generator_stop i at) entry))
 generator_follows text op started memory entry at None e fetch = refl
 generator_follows text op started memory entry at (Some (instr.Commit [])) e fetch =
-    access_run text op memory (still entry).replies (running_of entry (InList [] 0)) e refl refl
-    ∙ ap (λ (caller : SourceCaller). Some (alone memory caller)) (wrap_up_begun_alike op 0 entry (InList [] 0) (Some (running_of entry (InList [] 0))))
+    access_run text op memory (still entry).replies (running_of entry (InList at [] 0)) e refl refl
+    ∙ ap (λ (caller : SourceCaller). Some (alone memory caller)) (wrap_up_begun_alike op 0 entry (InList at [] 0) (Some (running_of entry (InList at [] 0))))
 generator_follows text op started memory entry at (Some (instr.Commit (c ∷ cs))) e fetch = rw fetch refl
 generator_follows text op started memory entry at (Some _) e fetch = refl
 
@@ -139,7 +139,7 @@ generator_restarts text op memory entry at None e = rw e refl
 generator_restarts text op memory entry at (Some (instr.Commit entries)) e = rw e refl
 generator_restarts text op memory entry at (Some _) e = rw e refl
 
--- the load of `seen` behind `again`: the source machine's generator has begun already
+-- the load of `seen` after `again`: the source machine's generator has begun already
 begins_anew_follow : (text : Text) (op : Op) (started : Registers) (words : Words) (entry : Entry) → slice_get text.ops entry.call.op ≡ Some op
     → Follows started op text (record { words = words; caller = record entry { routine = routines.BeginsAnew } })
 begins_anew_follow text op started words entry e =
@@ -156,7 +156,7 @@ begins_anew_follow text op started words entry e =
           (generator_follows text op started memory next spot.at i e refl),
     )
 
--- behind a check: it passes, and the source machine is there already, or its generator begins again
+-- after a check: it passes, and the source machine is there already, or its generator begins again
 checks_by : (text : Text) (op : Op) (started : Registers) (memory : Memory) (entry : Entry) (from word count : ℕ) (passes : Bool) → slice_get text.ops entry.call.op ≡ Some op
     → let source = alone memory (goes_on (generator_from op (record { at = from; registers = entry.registers }) (running_of entry (InGenerator 0))) (still entry)) in
     let next = cond passes (generated op from entry.registers entry) (generator_begun op word (record entry { restarts = count })) in
@@ -213,22 +213,22 @@ generates_by text op started words entry at (Some (instr.LoadRoot (Ref d) x)) e 
 generates_by text op started words entry at (Some _) e fetch = (started, rw fetch refl)
 generates_by text op started words entry at None e fetch = (started, rw fetch refl)
 
--- behind an exchange that succeeded: the next one, or the wrap-up
+-- after an exchange that succeeded: the next one, or the wrap-up
 next_alike : (op : Op) (started : Registers) (entry : Entry) (at made count : ℕ) (entries : List CasEntry) (before : Option Running) (more : Bool)
     → entries_of (slice_get op.generator at) ≡ entries
     → let next = cond more (routines.Exchanges at count) (routines.WrapStarts count) in
-    let running = running_of entry (InList entries made) in
+    let running = running_of entry (InList at entries made) in
     let caller : SourceCaller = record { replies = (still entry).replies; running = before } in
-    cond more (goes_on (record running { stand = InList entries count }) caller) (wrap_up_begun op count running caller) ≡ shadow_in started op next entry
+    cond more (goes_on (record running { stand = InList at entries count }) caller) (wrap_up_begun op count running caller) ≡ shadow_in started op next entry
 next_alike op started entry at made count entries before true listed = rw listed refl
-next_alike op started entry at made count entries before false listed = wrap_up_begun_alike op count entry (InList entries made) before
+next_alike op started entry at made count entries before false listed = wrap_up_begun_alike op count entry (InList at entries made) before
 
--- behind an exchange, on the two choices
+-- after an exchange, on the two choices
 exchanged_alike : (text : Text) (op : Op) (started : Registers) (words : Words) (entry : Entry) (at made x w : ℕ) (entries : List CasEntry) (won : Bool)
     → entries_of (slice_get op.generator at) ≡ entries
     → let memory = memory_of text words in
-    let running = running_of entry (InList entries made) in
-    let turn = list_turn op entries made (cond won (Some (record memory { roots = slice_set (map Number words.cells) x (Number w) })) None) running memory (stands entry (InList entries made)) in
+    let running = running_of entry (InList at entries made) in
+    let turn = list_turn op at entries made (cond won (Some (record memory { roots = slice_set (map Number words.cells) x (Number w) })) None) running memory (stands entry (InList at entries made)) in
     let next = cond won (exchange_next at made (length entries)) (routines.WrapStarts made) in
     alone turn.memory turn.caller
     ≡ alone (memory_of text (cond won (record words { cells = slice_set words.cells x w }) words)) (shadow_in started op next (record entry { routine = next; steps = one_more entry.steps }))
@@ -237,9 +237,9 @@ exchanged_alike text op started words entry at made x w entries true listed =
     let set : map Number (slice_set words.cells x w) ≡ slice_set (map Number words.cells) x (Number w) = map-set Number words.cells x w in
     rw set (ap (alone (record (memory_of text words) { roots = slice_set (map Number words.cells) x (Number w) }))
     (next_alike op started (record entry { routine = next; steps = one_more entry.steps }) at made (made + 1) entries
-    (Some (running_of entry (InList entries made))) (ltb (made + 1) (length entries)) listed))
+    (Some (running_of entry (InList at entries made))) (ltb (made + 1) (length entries)) listed))
 exchanged_alike text op started words entry at made x w entries false listed =
-    ap (alone (memory_of text words)) (wrap_up_begun_alike op made entry (InList entries made) (Some (running_of entry (InList entries made))))
+    ap (alone (memory_of text words)) (wrap_up_begun_alike op made entry (InList at entries made) (Some (running_of entry (InList at entries made))))
 
 -- an exchange of the list, or one that the first form lacks, where the caller stays
 exchanges_by : (text : Text) (op : Op) (started : Registers) (words : Words) (entry : Entry) (at made : ℕ) (place : Place) (expected replacement : Reg) (retire : Option Reg)
@@ -250,9 +250,9 @@ exchanges_by text op started words entry at made (places.Root x) (Num b) (Num d)
     let state : CoreState = record { words = words; caller = record entry { routine = routines.Exchanges at made } } in
     let entries = entries_of (slice_get op.generator at) in
     let memory = memory_of text words in
-    let running = running_of entry (InList entries made) in
-    let source = alone memory (stands entry (InList entries made)) in
-    let turn = access_turn text 0 op (InList entries made) running memory (stands entry (InList entries made)) in
+    let running = running_of entry (InList at entries made) in
+    let source = alone memory (stands entry (InList at entries made)) in
+    let turn = access_turn text 0 op (InList at entries made) running memory (stands entry (InList at entries made)) in
     let value : value_at (map Number words.cells) x ≡ Number (slice_index words.cells x) = get_or-map Number words.cells x 0 in (
       started,
       along text (known_events op (is_enabled text source (Restart 0)) state) (Access 0 0 ∷ []) source (alone turn.memory turn.caller)

@@ -76,7 +76,7 @@ counter_row = refl
 abbrev with_line : ℕ → List ℕ → List ℕ
 with_line at line = text (take at counter_lines ++ line ∷ drop (at + 1) counter_lines)
 
--- a further line in front of a line
+-- a further line before a line
 abbrev also_line : ℕ → List ℕ → List ℕ
 also_line at line = text (take at counter_lines ++ line ∷ drop at counter_lines)
 
@@ -184,7 +184,7 @@ word_row : first_form (text (take 15 counter_lines ++ codes "op op 0" ∷ take 4
 })
 word_row = refl
 
--- so it may be named like a setting: behind the script's line nothing is set
+-- so it may be named like a setting: after the script's line nothing is set
 setting_word_row : first_form (text (take 15 counter_lines ++ codes "op fuel 0" ∷ take 4 (drop 16 counter_lines) ++ codes "script 0" ∷ codes "fuel" ∷ [])) ≡ Some (record counter {
   text = record counter.text { ops = add_op ∷ record nop_op { name = codes "fuel" } ∷ [] };
   calls = record { op = 1; args = 0 ∷ 0 ∷ 0 ∷ 0 ∷ [] } ∷ [];

@@ -64,11 +64,11 @@ begins op argument = Begin 0 op (argument ∷ 0 ∷ 0 ∷ 0 ∷ [])
 access : SourceEvent
 access = Access 0 0
 
--- the replies that the source machine has behind an image
+-- the replies that the source machine has after an image
 source_has : Plan → Option (List SourceReply)
 source_has d = option_map (λ (state : SourceMachine). source_replies state 0) (source_run d.text (image d) (source_start d.text 1))
 
--- a check that passes and the load of `seen` behind the reply give no event
+-- a check that passes and the load of `seen` after the reply give no event
 calls_image : image (plan 100 three_calls) ≡ begins 0 5 ∷ access ∷ access ∷ begins 1 0 ∷ access ∷ begins 0 7 ∷ access ∷ access ∷ []
 unfolding plan text adding three_calls call begins access
 calls_image = refl
@@ -103,7 +103,7 @@ unbegun_image : image (plan 0 three_calls) ≡ []
 unfolding plan text adding three_calls call
 unbegun_image = refl
 
--- behind `again` both loads of `seen` find a generator that has begun already, and begin it once more
+-- after `again` both loads of `seen` find a generator that has begun already, and begin it once more
 round_image : image (plan 100 (call 2 5 ∷ [])) ≡ begins 2 5 ∷ access ∷ access ∷ Restart 0 ∷ Restart 0 ∷ access ∷ access ∷ []
 unfolding plan text adding call begins access
 round_image = refl

@@ -22,7 +22,7 @@ abbrev pub answer_from : Option Replied → Bool → Answer
 answer_from None runs = unanswered runs
 answer_from (Some replied) runs = shown.Answered replied.reply
 
--- the answer to the call at an index; behind the replies the first call is the one that may run still
+-- the answer to the call at an index; after the replies the first call is the one that may run still
 abbrev pub answer_at : Bool → List Replied → ℕ → Answer
 answer_at running replies index = answer_from (slice_get replies index) (running && (index == length replies))
 
@@ -63,7 +63,7 @@ abbrev pub op_args : Option Op → ℕ
 op_args None = 0
 op_args (Some op) = op.args
 
--- an argument behind a space
+-- an argument after a space
 abbrev pub argument_text : ℕ → List ℕ
 argument_text n = 32 ∷ decimal n
 

@@ -64,7 +64,7 @@ wanted_by (Some op) routine registers = wanted_in op routine registers
 abbrev pub wants : Text → Entry → Option Access
 wants text entry = wanted_by (operation_of text entry) entry.routine entry.registers
 
--- where a generator stands behind its local code: at an access, at its list, or at the wrap-up's start if the list is empty
+-- where a generator stands after its local code: at an access, at its list, or at the wrap-up's start if the list is empty
 abbrev pub list_begins : ℕ → List CasEntry → Routine
 list_begins at [] = routines.WrapStarts 0
 list_begins at (entry ∷ entries) = routines.Exchanges at 0
@@ -92,7 +92,7 @@ replied reply entry = record entry {
   replies = record entry.replies { items = entry.replies.items ++ record { call = entry.call; reply = reply; steps = entry.steps } ∷ [] };
 }
 
--- where a wrap-up stands behind its local code
+-- where a wrap-up stands after its local code
 abbrev pub wrap_up_stop : Option Instr → Spot → Entry → Entry
 wrap_up_stop (Some (instr.Return a)) spot entry = replied (replies.Number (number_in spot.registers a)) entry
 wrap_up_stop (Some instr.ReturnNone) spot entry = replied replies.Nothing entry
@@ -115,13 +115,13 @@ loaded _ registers word = registers
 abbrev pub one_more : ℕ → ℕ
 one_more n = min (n + 1) (2 ^ 64 - 1)
 
--- behind a check: the method goes on, or begins again with the word found
+-- after a check: the method goes on, or begins again with the word found
 abbrev pub checked : Op → ℕ → ℕ → Entry → Entry
 checked op at word entry =
     if word == entry.seen then generated op (at + 1) entry.registers entry
     else generator_begun op word (record entry { restarts = one_more entry.restarts })
 
--- behind an exchange that succeeded: the next of the list, or the wrap-up's start
+-- after an exchange that succeeded: the next of the list, or the wrap-up's start
 abbrev pub exchange_next : ℕ → ℕ → ℕ → Routine
 exchange_next at made count = if nat_lt (made + 1) count then routines.Exchanges at (made + 1) else routines.WrapStarts (made + 1)
 

@@ -7,7 +7,7 @@ use Rattle.script_driver.specs.declared.caller.Routine.TheVariants as routines
 use Rattle.script_driver.specs.declared.caller.Entry.{Entry}
 use Rattle.script_driver.specs.Caller.{operation_of}
 
--- a check is behind an instruction of the generator
+-- a check is after an instruction of the generator
 abbrev pub IsPlacedIn : Op → Routine → Type 0
 IsPlacedIn op (routines.Checks at) = at < length op.generator
 IsPlacedIn op _ = Unit {0}

@@ -1,4 +1,4 @@
-//! A caller behind its access.
+//! A caller after its access.
 
 ghost use Rattle.std.specs.Prelude.{◌≡◌, ◌<◌, ◌+◌, length, option_copied, slice_get, IsSome};
 ghost use Rattle.script_driver.specs.Caller.{root_load, wanted_in, wants, generator_stop, generated, generator_begun, replied, wrap_up_stop, wrapped_up, loaded, one_more, checked, exchange_next, expected_word, exchanged, after_in, after, taken};
@@ -21,7 +21,7 @@ impl Entry {
         self.routine = Routine::Begins;
     }
 
-    /// Takes the word that the wanted access found, and makes the local code behind it.
+    /// Takes the word that the wanted access found, and makes the local code after it.
     pub fn accept(&mut self, text: &Text, word: u64)
         requires wanted { IsSome (wants text.now self.old) }
         requires placed { IsPlaced text.now self.old }
@@ -45,7 +45,7 @@ fn one_more(n: u64) -> u64
     n.saturating_add(1)
 }
 
-/// The caller behind the access of its routine.
+/// The caller after the access of its routine.
 fn go_on(op: &Op, word: u64, entry: &mut Entry)
     requires wanted { IsSome (wanted_in op.now entry.old.routine entry.old.registers) }
     requires placed { IsPlacedIn op.now entry.old.routine }
@@ -89,7 +89,7 @@ fn generate(op: &Op, start: usize, entry: &mut Entry)
     entry.routine = stop_of_generator(instruction_at(&op.generator, at), at);
 }
 
-/// Where a generator stands behind its local code.
+/// Where a generator stands after its local code.
 fn stop_of_generator(instr: Option<&Instr>, at: usize) -> Routine
     ensures { result ≡ generator_stop (option_copied instr.entry) at }
 {
@@ -105,7 +105,7 @@ fn stop_of_generator(instr: Option<&Instr>, at: usize) -> Routine
     }
 }
 
-/// Behind the load of a generator's instruction.
+/// After the load of a generator's instruction.
 fn take_load(op: &Op, at: usize, word: u64, entry: &mut Entry)
     ensures { entry.new ≡ record entry.old { routine = Routine.Checks at; registers = loaded (slice_get op.now.generator at) entry.old.registers word } }
 {
@@ -125,7 +125,7 @@ fn put_load(instr: Option<&Instr>, word: u64, registers: &mut Registers)
     }
 }
 
-/// Behind a check: the generator goes on, or begins again with the word found.
+/// After a check: the generator goes on, or begins again with the word found.
 fn check(op: &Op, at: usize, word: u64, entry: &mut Entry)
     requires { at < length op.now.generator }
     ensures { entry.new ≡ checked op.now at word entry.old }
@@ -140,7 +140,7 @@ fn check(op: &Op, at: usize, word: u64, entry: &mut Entry)
     }
 }
 
-/// Behind an exchange of a commit: the next one, or the wrap-up's start.
+/// After an exchange of a commit: the next one, or the wrap-up's start.
 fn exchange(entries: &[CasEntry], at: usize, made: usize, word: u64, entry: &mut Entry)
     requires { made < length entries.now }
     ensures { entry.new ≡ exchanged entries.now at made word entry.old }
@@ -182,7 +182,7 @@ fn wrap_up(op: &Op, made: usize, entry: &mut Entry)
     end_wrap_up(instruction_at(&op.wrapup, at), at, entry);
 }
 
-/// Where a wrap-up stands behind its local code: a reply, a new beginning, or an instruction that isn't local.
+/// Where a wrap-up stands after its local code: a reply, a new beginning, or an instruction that isn't local.
 fn end_wrap_up(instr: Option<&Instr>, at: usize, entry: &mut Entry)
     requires { length entry.old.replies.items < entry.old.replies.room }
     ensures { entry.new ≡ wrap_up_stop (option_copied instr.entry) (record { at = at; registers = entry.old.registers }) entry.old }
@@ -198,7 +198,7 @@ fn end_wrap_up(instr: Option<&Instr>, at: usize, entry: &mut Entry)
     }
 }
 
-/// Adds the reply, behind which the caller is idle.
+/// Adds the reply, after which the caller is idle.
 fn give_reply(reply: Reply, entry: &mut Entry)
     requires { length entry.old.replies.items < entry.old.replies.room }
     ensures { entry.new ≡ replied reply entry.old }

@@ -13,7 +13,7 @@ use crate::plan::{Call, Plan};
 use norm_lang::text::{Op, Text};
 use oa_text::{Failed, Part, Piece, Sink, write_parts, write_pieces};
 
-/// What is printed for a call: its reply, `spent` where its steps ran out, and `unreached` behind such a call.
+/// What is printed for a call: its reply, `spent` where its steps ran out, and `unreached` after such a call.
 #[derive(Clone, Copy, Debug, PartialEq, Eq)]
 pub enum Answer {
     Answered(Reply),
@@ -74,7 +74,7 @@ pub fn partial(plan: &Plan, state: &CoreState) -> bool
 }
 
 /// Writes a line for each call of the plan, with its answer, and a line that sums up. No memory is taken; at
-/// `Failed` a front of the text was written.
+/// `Failed` a prefix of the text was written.
 pub fn write_answers<K: Sink>(out: &mut K, plan: &Plan, state: &CoreState) -> Result<(), Failed>
     ensures bytes { Writes (K.written out.old) (K.written out.new) (answers plan.now state.now) result }
     ensures cause { HasCause (K.faults out.old) (K.faults out.new) result }

@@ -5,7 +5,7 @@ use norm_lang::list::{Listed, Reserved};
 use norm_lang::registers::Registers;
 
 /// A word of shared memory.
-#[derive(Clone, Copy, Debug, PartialEq, Eq)]
+#[derive(Clone, Copy)]
 pub enum Word {
     /// The caller's warning: the greatest phase that was announced to it.
     Warning,
@@ -14,7 +14,7 @@ pub enum Word {
 }
 
 /// One access to one word.
-#[derive(Clone, Copy, Debug, PartialEq, Eq)]
+#[derive(Clone, Copy)]
 pub enum Access {
     Load(Word),
     CompareExchange {
@@ -38,22 +38,22 @@ pub enum Routine {
     Idle,
     /// Before the load of the own warning with which an operation begins.
     Begins,
-    /// Before the load of the own warning behind `again`.
+    /// Before the load of the own warning after `again`.
     BeginsAnew,
     /// Before the access of a generator's instruction.
     Generates(usize),
-    /// Before the check behind the load of a generator's instruction.
+    /// Before the check after the load of a generator's instruction.
     Checks(usize),
-    /// Before an exchange of the list of the commit at an instruction, behind so many that succeeded.
+    /// Before an exchange of the list of the commit at an instruction, after so many that succeeded.
     Exchanges(usize, usize),
-    /// Before the load of the own warning with which a wrap-up starts, behind so many exchanges.
+    /// Before the load of the own warning with which a wrap-up starts, after so many exchanges.
     WrapStarts(usize),
     /// Before the access of a wrap-up's instruction. The first form has none.
     WrapsUp(usize),
 }
 
 /// A reply with the call that got it, and the count of steps that were made for it.
-#[derive(Clone, Copy, Debug, PartialEq, Eq)]
+#[derive(Clone, Copy, Debug)]
 pub struct Replied {
     pub call: Call,
     pub reply: Reply,

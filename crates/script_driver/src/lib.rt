@@ -15,8 +15,3 @@ mod wanted;
 pub use documents::{Document, Numbers, Script, ScriptCall, Scripts, Turns, read_document};
 pub use first_form::first_plan;
 pub use first_text::fits;
-
-#[cfg(test)]
-mod run_tests;
-#[cfg(test)]
-mod tests;

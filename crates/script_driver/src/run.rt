@@ -18,7 +18,7 @@ use std::alloc::{AllocError, Global};
 
 #[tactic(auto, using(crate::proofs::CallLemmas::plan_on_source))]
 /// Runs the calls of a plan in order, each with at most as many steps as the plan says, and
-/// none behind a call that hasn't ended. All memory is taken before the first step: a cell for each root, and
+/// none after a call that hasn't ended. All memory is taken before the first step: a cell for each root, and
 /// room for a reply to each call.
 pub fn run_script(alloc: Global, plan: &Plan) -> Result<CoreState, AllocError>
     ensures state { IfOk result (λ state. state ≡ final_state plan.now) }

@@ -1,2 +1,8 @@
-pub mod LocalCode
 mod Worked
+pub mod Along
+pub mod Names
+pub mod Places
+pub mod Frames
+pub mod Later
+pub mod Reached
+pub mod MethodRows

@@ -2,4 +2,9 @@ pub mod State
 pub mod Memory
 pub mod Step
 pub mod Run
-pub mod Laws
+pub mod MethodRuns
+pub mod Proper
+pub mod Hands
+pub mod Frames
+pub mod RunLaws
+pub mod Keeper

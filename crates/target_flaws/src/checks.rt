@@ -5,10 +5,10 @@ ghost use Rattle.std.specs.Prelude.{◌≡◌, ◌∷◌, []};
 ghost use Rattle.target_code.specs.Flaws.{clean_after};
 ghost use Rattle.target_flaws.specs.Machines.{clean_number, pair_after};
 
-use crate::uses::fetches;
 use norm_lang::text::Reg;
 use norm_paths::uses::sets;
 use target_code::target::TargetInstr;
+use target_code::uses::fetches;
 
 /// Both are clean.
 const BOTH_CLEAN: u8 = 0;
@@ -21,7 +21,7 @@ pub(crate) const REFERENCE_UNCHECKED: u8 = 2;
 
 pub(crate) const BOTH_UNCHECKED: u8 = 3;
 
-/// Whether a register is clean behind an instruction, by whether it was before.
+/// Whether a register is clean after an instruction, by whether it was before.
 fn clean_after(register: Reg, instr: &TargetInstr, was: bool) -> bool
     ensures { result ≡ clean_after register instr.now was }
 {
@@ -49,7 +49,7 @@ fn clean_number(number: bool, reference: bool) -> u8
     }
 }
 
-/// The states behind an instruction of the registers with a number, for each state before it.
+/// The states after an instruction of the registers with a number, for each state before it.
 pub(crate) fn states_behind(number: u8, instr: &TargetInstr) -> [u8; 4]
     ensures { result ≡ pair_after number instr.now 0 ∷ pair_after number instr.now 1 ∷ pair_after number instr.now 2 ∷ pair_after number instr.now 3 ∷ [] }
 {

@@ -14,7 +14,7 @@ use target_code::target::TargetInstr;
 
 /// For each register and each instruction of a method, whether the register may come there unchecked, and for
 /// references in which states its guard may come there.
-#[derive(Debug, Drop)]
+#[derive(Drop)]
 pub struct TargetFacts {
     checks: Vec<Facts>,
     guards: Vec<Facts>,

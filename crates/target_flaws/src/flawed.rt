@@ -68,7 +68,7 @@ fn has_guard_dropped(
 
 /// Which flaws an instruction of a target's method has at its place, where `needs` is what the operation of the
 /// text asks, and `facts` are those of the method. The answers are, in order: it uses a register that may be
-/// unchecked; of a register that it needs guarded there may be no guard; no check may stand behind the last one;
+/// unchecked; of a register that it needs guarded there may be no guard; no check may stand after the last one;
 /// that one may be undone, or in a wrap-up it guards a register that is kept.
 pub fn flaws(
     needs: &Needs,

@@ -13,6 +13,3 @@ mod uses;
 pub use facts::TargetFacts;
 pub use flawed::flaws;
 pub use needs::Needs;
-
-#[cfg(test)]
-mod tests;

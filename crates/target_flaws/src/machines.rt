@@ -12,7 +12,7 @@ use std::alloc::{AllocError, Global};
 use target_code::target::TargetInstr;
 
 /// What a machine sees.
-#[derive(Clone, Copy, Debug)]
+#[derive(Clone, Copy)]
 pub(crate) enum Machine {
     /// Whether the number and the reference with this number are clean.
     Checks(u8),
@@ -35,7 +35,7 @@ fn target_fork_of(count: usize, instr: &TargetInstr, at: usize) -> Fork
     }
 }
 
-/// A machine's states behind an instruction, for each state before it.
+/// A machine's states after an instruction, for each state before it.
 fn states_behind(machine: Machine, instr: &TargetInstr) -> [u8; 4]
     ensures { result ≡ machine_after machine instr.now 0 ∷ machine_after machine instr.now 1 ∷ machine_after machine instr.now 2 ∷ machine_after machine instr.now 3 ∷ [] }
 {

@@ -9,7 +9,7 @@ use norm_lang::text::{Op, Reg};
 use norm_paths::OpFacts;
 
 /// What a wrap-up uses of what registers hold at the commit.
-#[derive(Clone, Copy, Debug)]
+#[derive(Clone, Copy)]
 pub struct Needs {
     /// For each number whether the commit hands it over. The last isn't: it will be the count of exchanges.
     pub handed_over: [bool; 8],

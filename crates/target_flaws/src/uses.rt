@@ -4,24 +4,11 @@ ghost use Rattle.std.specs.Prelude.{◌≡◌};
 ghost use Rattle.std.specs.List.{list_any};
 ghost use Rattle.norm_lang.specs.RegisterUse.{same_register, operands_of};
 ghost use Rattle.target_code.specs.Paths.{target_reads};
-ghost use Rattle.target_code.specs.Flaws.{fetches, target_commits, guards, exchanged, target_exchanges};
+ghost use Rattle.target_code.specs.Flaws.{target_commits, guards, exchanged, target_exchanges};
 
 use norm_lang::text::{CasEntry, Instr, Reg};
 use norm_paths::uses::{is_commit, is_operand, reads, same_register};
 use target_code::target::TargetInstr;
-
-/// Whether the instruction puts into a register what others may recycle: a load or a `new`.
-pub(crate) fn fetches(instr: &Instr) -> bool
-    ensures { result ≡ fetches instr.now }
-{
-    matches!(
-        instr,
-        Instr::LoadRoot(_, _)
-            | Instr::LoadPick(_, _, _, _)
-            | Instr::LoadField(_, _, _)
-            | Instr::New(_)
-    )
-}
 
 /// Whether the instruction reads a register. A check and a guard read none.
 pub(crate) fn target_reads(register: Reg, instr: &TargetInstr) -> bool

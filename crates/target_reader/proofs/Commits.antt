@@ -40,7 +40,7 @@ by_line : (fields : List FieldDecl) (roots : List RootDecl) (left : ℕ) (draft 
 by_line fields roots left draft entries (Ok words) = by_words fields roots left draft entries (first_word words)
 by_line fields roots left draft entries (Err fault) = refl
 
--- the operations behind a commit whose entries are read
+-- the operations after a commit whose entries are read
 abbrev pub behind_entries : List FieldDecl → List RootDecl → ℕ → OpsDraft → List CasEntry × List TextLine → Result (List TargetOp) LineFault
 behind_entries fields roots past draft read = ops_read fields roots past (with_target_entries 0 draft read.0) read.1
 

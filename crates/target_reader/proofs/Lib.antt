@@ -1,13 +1,12 @@
 mod TargetNews
 mod Opened
-mod Ordered
+pub mod Ordered
 mod Commits
 mod Plains
 mod Reading
 mod Targets
-mod OpsLimits
-mod CodeSpelled
-mod OpsSpelled
-mod Spelled
+pub mod OpsLimits
+pub mod CodeSpelled
+pub mod OpsSpelled
+pub mod Spelled
 mod OwnLines
-mod Versions

@@ -71,7 +71,7 @@ op_line_read fields roots ops op is fresh room =
     let new : has_op (map opened ops) op.name ≡ false = sym (opened_same ops op.name) ∙ fresh in
     rw (is.name, number_read op.args (lt-ltb op.args (2 ^ 64) (omega arith)), is.free, new, opened_count ops, lt-ltb (length ops) 16 room, is.args) refl
 
--- the lines behind an operation's first
+-- the lines after an operation's first
 abbrev body_lines : List FieldDecl → List RootDecl → TargetOp → List (List (List ℕ))
 body_lines fields roots op = (codes "gen" ∷ []) ∷ (target_code_lines fields roots op.generator ++ ((codes "wrap" ∷ []) ∷ target_code_lines fields roots op.wrapup))
 
@@ -107,7 +107,7 @@ next_op_read fields roots done last op fs rs some is fresh room =
     (rw (lt-ltb 0 (length last.wrapup) some, op_line_read (length fields) (length roots) (done ++ last ∷ []) op is fresh room) refl)
     (body_read fields roots (done ++ last ∷ []) op fs rs is)
 
--- the draft behind the last of the operations
+-- the draft after the last of the operations
 abbrev pub behind_ops : List TargetOp → TargetOp → List TargetOp → OpsDraft
 behind_ops done last [] = in_code WrapUp done last
 behind_ops done last (op ∷ rest) = behind_ops (done ++ last ∷ []) op rest
@@ -131,7 +131,7 @@ ops_spelled fields roots done last (op ∷ rest) whole fs rs are same =
     (next_op_read fields roots done last op fs rs (last_is.wrapup).some this_is (fresh_among (λ (op : TargetOp). op.name) (done ++ last ∷ []) rest whole op behind are.different) (omega (arith, are.few)))
     (ops_spelled fields roots (done ++ last ∷ []) op rest whole fs rs are behind)
 
--- the operations behind the last of them
+-- the operations after the last of them
 pub ops_finished : (fields roots : ℕ) (done : List TargetOp) (last : TargetOp) (rest whole : List TargetOp) → list_all (is_target_op fields roots) whole ≡ true → done ++ last ∷ rest ≡ whole
     → finished_ops (behind_ops done last rest) ≡ Ok whole
 ops_finished fields roots done last [] whole each same =

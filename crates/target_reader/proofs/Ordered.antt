@@ -6,33 +6,17 @@ use Rattle.std.proofs.lemmas.Bool.Decides.{nat_tests}
 use Rattle.oa_text.specs.declared.line.Line.{Line}
 use Rattle.oa_text.specs.Lines.{TextLine, lines_of, numbered}
 use Rattle.oa_text.specs.Shown.{line_shown}
-use Rattle.oa_text.proofs.Counts.{length-lines_of-le}
 use Rattle.norm_parser.specs.Instruction.{AreFrom, AreLeftOf}
 use Rattle.norm_parser.specs.FrontRead.{from_line}
-use Rattle.norm_parser.proofs.LinesLeft.{number_is, from_next}
+use Rattle.norm_parser.proofs.LinesLeft.{number_is, from_next, first_from}
 
 numbered_count : (n : ℕ) (lines : List (List ℕ)) → length (numbered n lines) ≡ length lines
 numbered_count n [] = refl
 numbered_count n (line ∷ lines) = let k = numbered_count (n + 1) lines in rw k refl
 
-numbered_bytes : (n : ℕ) (lines : List (List ℕ)) → map (λ (line : TextLine). line.bytes) (numbered n lines) ≡ lines
-numbered_bytes n [] = refl
-numbered_bytes n (line ∷ lines) = ap (λ ls. line ∷ ls) (numbered_bytes (n + 1) lines)
-
 -- the lines of an input and their count
 pub first_past : (lines : List (List ℕ)) (all : List TextLine) → all ≡ numbered 1 lines → 1 + length all ≡ length lines + 1
 first_past lines all same = let k = numbered_count 1 lines in rw same (omega (arith, k))
-
-pub numbered_from : (n : ℕ) (lines : List (List ℕ)) → AreFrom n (numbered n lines)
-numbered_from n lines = ap (numbered n) (sym (numbered_bytes n lines))
-
--- they are numbered from 1
-pub first_from : (lines : List (List ℕ)) (all : List TextLine) → all ≡ numbered 1 lines → AreFrom 1 all
-first_from lines all same = rw same (ap (numbered 1) (sym (numbered_bytes 1 lines)))
-
--- those behind the first go on from it
-pub next_from : (n m : ℕ) (line : TextLine) (lines whole : List TextLine) → m ≡ n + 1 → whole ≡ line ∷ lines → AreFrom n whole → AreFrom m lines
-next_from = from_next
 
 -- lines in order, of which the last is the one before this number
 pub record AreUpTo (past : ℕ) (lines : List TextLine) : Type 0 where
@@ -115,7 +99,3 @@ pub one_taken : (n start : ℕ) (taken : Option Line) (before after whole : List
 one_taken n start None before after whole is lt from same = (rw (← same, is.0, is.1) refl, nothing_left (n + 1) after is.1)
 one_taken n start (Some line) before after whole is lt from same =
     (passed_over n start (line_shown line) after before whole lt is from same, from_next n (n + 1) (line_shown line) after before refl is from)
-
--- a million bytes have few lines
-pub few_lines : (bytes : List ℕ) → length bytes < 1000000 → length (lines_of bytes) + 1 < 2 ^ 32
-few_lines bytes few = omega (arith, length-lines_of-le bytes)

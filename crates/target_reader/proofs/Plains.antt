@@ -71,7 +71,7 @@ step_roomed fields roots part ops op line none = own_of_line fields roots part o
 abbrev counted : OpsDraft → ℕ → Instr → Result OpsDraft LineFault
 counted draft number i = at_line number (demand too_many (not (is_fifth_target_new draft (Whole i))) >>= λ room. Ok (with_one_more draft (Plain i)))
 
--- the operations behind an instruction that is read
+-- the operations after an instruction that is read
 abbrev behind_instr : List FieldDecl → List RootDecl → ℕ → OpsDraft → ℕ → Instr × List TextLine → Result (List TargetOp) LineFault
 behind_instr fields roots past draft number read = counted draft number read.0 >>= λ next. ops_read fields roots past next read.1
 
@@ -97,7 +97,7 @@ by_step fields roots past part ops op line lines (Ok (Whole i)) room read =
 by_step fields roots past part ops op line lines (Ok (Commits count)) room read =
     rw (read, room) (entries_give fields roots past count (rested part ops op) [] lines ∙ opened fields roots past line.number part ops op (entries_from fields roots past count [] lines))
 
--- where the method isn't full, the operations are those behind the instruction
+-- where the method isn't full, the operations are those after the instruction
 plain_gives : (fields : List FieldDecl) (roots : List RootDecl) (past : ℕ) (part : Part) (ops : List TargetOp) (op : TargetOp) (line : TextLine) (lines : List TextLine)
     → line_own (rested part ops op) line ≡ nothing → has_place (rested part ops op) ≡ true → line.number + 1 + length lines ≡ past
     → ops_read fields roots past (rested part ops op) (line ∷ lines) ≡ (instr_read fields roots line lines >>= behind_instr fields roots past (rested part ops op) line.number)

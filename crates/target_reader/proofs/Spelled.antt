@@ -24,6 +24,7 @@ use Rattle.text_laws.proofs.TextRead.{declared, fields_read, among_nodes, nodes_
 use Rattle.norm_parser.specs.declared.head.Head.{Head}
 use Rattle.norm_parser.specs.Instruction.{AreFrom}
 use Rattle.norm_parser.specs.FrontRead.{from_line, front_of, ends_head, head_lines, behind_head, head_in}
+use Rattle.norm_parser.proofs.LinesLeft.{first_from, numbered_from}
 use Rattle.target_code.specs.declared.target.TargetInstr.{TargetInstr}
 use Rattle.target_code.specs.declared.target.TargetInstr.TheVariants.{Plain, Check, Guard}
 use Rattle.target_code.specs.declared.target.TargetOp.{TargetOp}
@@ -32,7 +33,7 @@ use Rattle.target_code.specs.TargetSpelling.{spelled_target_version, spelled_che
 use Rattle.target_code.specs.TargetLimits.{is_target_instr, is_target_op, are_target_ops, is_target_within_limits}
 use Rattle.target_reader.specs.TargetGrammar.{WrapUp, OpsDraft, no_ops, opened, after_target_lines, finished_ops, ops_read, version_end, target_of}
 use Rattle.target_reader.specs.Laws.{SpellingsSpell}
-use Rattle.target_reader.proofs.Ordered.{all_left, first_from, numbered_from}
+use Rattle.target_reader.proofs.Ordered.{all_left}
 use Rattle.target_reader.proofs.CodeSpelled.{after_spelled, lines_then, lines_read, in_code}
 use Rattle.target_reader.proofs.OpsSpelled.{op_is as op_within, AreOps, first_op_read, behind_ops, ops_spelled, ops_finished}
 
@@ -100,18 +101,18 @@ op_are fields roots op fs rs within =
     )
 
 -- a target within the limits, part by part
-record IsTarget (target : Target) : Type 0 where
-  fields : AreFields target.fields
-  some_fields : 1 ≤ length target.fields
-  few_fields : length target.fields ≤ 4
-  nodes : list_all (λ node. are_starts (length target.nodes) target.fields node.values) target.nodes ≡ true
-  few_nodes : nat_le (length target.nodes) 256 ≡ true
-  root : list_all (is_root (length target.nodes)) target.roots ≡ true
-  roots : AreRoots target.roots
-  some_roots : 1 ≤ length target.roots
-  few_roots : length target.roots ≤ 256
-  ops : AreOps (length target.fields) (length target.roots) target.ops
-  some_ops : 1 ≤ length target.ops
+pub record IsTarget (target : Target) : Type 0 where
+  pub fields : AreFields target.fields
+  pub some_fields : 1 ≤ length target.fields
+  pub few_fields : length target.fields ≤ 4
+  pub nodes : list_all (λ node. are_starts (length target.nodes) target.fields node.values) target.nodes ≡ true
+  pub few_nodes : nat_le (length target.nodes) 256 ≡ true
+  pub root : list_all (is_root (length target.nodes)) target.roots ≡ true
+  pub roots : AreRoots target.roots
+  pub some_roots : 1 ≤ length target.roots
+  pub few_roots : length target.roots ≤ 256
+  pub ops : AreOps (length target.fields) (length target.roots) target.ops
+  pub some_ops : 1 ≤ length target.ops
 
 root_names : (count : ℕ) (roots : List RootDecl) → list_all (is_root count) roots ≡ true → list_all (λ root. is_name root.name) roots ≡ true
 root_names count [] all = refl
@@ -120,7 +121,7 @@ root_names count (root ∷ roots) all =
     let q = and_parts (is_name root.name) (is_start count root.kind root.start) p.0 in
     rw (q.0, root_names count roots p.1) refl
 
-parts_of : (target : Target) → is_target_within_limits target ≡ true → IsTarget target
+pub parts_of : (target : Target) → is_target_within_limits target ≡ true → IsTarget target
 parts_of target within =
     let fields = target.fields in
     let nodes = target.nodes in
@@ -176,7 +177,7 @@ declarations_are target is =
     )
 
 -- the declarations give their draft
-declarations_read : (target : Target) → IsTarget target
+pub declarations_read : (target : Target) → IsTarget target
     → text.after_spelled (declared Opening 0 [] [] []) (declaration_lines (declared_by target)) ≡ Ok (declared Roots (length target.nodes) target.fields target.nodes target.roots)
 declarations_read target is =
     let fields = target.fields in
@@ -194,16 +195,16 @@ declarations_read target is =
     (roots_read count fields nodes roots few is.few_roots is.root (is.roots).different)))
 
 -- the first field is read the same where no `use` line may stand
-fields_first : (fields : List FieldDecl) (lines : List (List (List ℕ))) → 1 ≤ length fields
+pub fields_first : (fields : List FieldDecl) (lines : List (List (List ℕ))) → 1 ≤ length fields
     → text.after_spelled (declared Fields 0 [] [] []) (map spelled_field fields ++ lines) ≡ text.after_spelled (declared Opening 0 [] [] []) (map spelled_field fields ++ lines)
 fields_first [] lines some = absurd (omega (arith, some))
 fields_first (field ∷ fields) lines some = refl
 
 -- lines of which none begins an operation
-abbrev NoOps : List (List (List ℕ)) → Type 0
+abbrev pub NoOps : List (List (List ℕ)) → Type 0
 NoOps lines = AllByRecursion (λ words. ends_head (front_of words) ≡ false) lines
 
-no_ops_in : {A : Type 0} (line : A → List (List ℕ)) → ((x : A) → ends_head (front_of (line x)) ≡ false) → (xs : List A) → NoOps (map line xs)
+pub no_ops_in : {A : Type 0} (line : A → List (List ℕ)) → ((x : A) → ends_head (front_of (line x)) ≡ false) → (xs : List A) → NoOps (map line xs)
 no_ops_in line is [] = tt
 no_ops_in line is (x ∷ xs) = (is x, no_ops_in line is xs)
 
@@ -211,7 +212,7 @@ no_ops_both : (xs ys : List (List (List ℕ))) → NoOps xs → NoOps ys → NoO
 no_ops_both [] ys first second = second
 no_ops_both (x ∷ xs) ys first second = (first.0, no_ops_both xs ys first.1 second)
 
-declarations_begin_none : (target : Target) → NoOps (declaration_lines (declared_by target))
+pub declarations_begin_none : (target : Target) → NoOps (declaration_lines (declared_by target))
 declarations_begin_none target =
     no_ops_both (map spelled_field target.fields) (spelled_nodes target.nodes ∷ (map spelled_node target.nodes ++ map spelled_root target.roots))
     (no_ops_in spelled_field (λ field. refl) target.fields)

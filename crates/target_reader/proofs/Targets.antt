@@ -33,7 +33,7 @@ fields_differ head within = (head_fields head within).apart
 pub roots_differ : (head : Head) → IsHeadWithinLimits head → are_different (map (λ root. root.name) head.roots) ≡ true
 roots_differ head within = (head_roots head within).apart
 
--- declarations within the limits, with operations that are read behind them
+-- declarations within the limits, with operations that are read after them
 pub target_within : (head : Head) (past : ℕ) (lines : List TextLine) (ops : List TargetOp) → IsHeadWithinLimits head → ops_read head.fields head.roots past no_ops lines ≡ Ok ops
     → is_target_within_limits (target_of head ops) ≡ true
 target_within head past lines ops within read =

@@ -43,7 +43,7 @@ line_own draft line = words_in line >>= λ words. words_own draft (first_word wo
 abbrev pub settled : Instr × List TextLine → Result (Unit {0}) LineFault
 settled read = Ok tt
 
--- an instruction's line as it is read with no line behind it
+-- an instruction's line as it is read with no line after it
 abbrev pub alone : List FieldDecl → List RootDecl → TextLine → Result (Unit {0}) LineFault
 alone fields roots line = instr_read fields roots line [] >>= settled
 

@@ -14,20 +14,21 @@ use Rattle.norm_lang.specs.declared.text.Instr.TheVariants as instr
 use Rattle.norm_lang.specs.declared.text.Op.{Op}
 use Rattle.norm_lang.specs.Faults.{LineFault, form_fault, too_many, ◌>>=◌, demand, at_line}
 use Rattle.norm_lang.specs.LineWords.{end_at}
-use Rattle.norm_lang.specs.Declarations.{version_line, op_line}
+use Rattle.norm_lang.specs.Declarations.{op_line}
 use Rattle.norm_lang.specs.Instructions.{Step, Whole, Commits, one_register, step_line, entry_line}
 use Rattle.norm_lang.specs.Grammar.{is_new}
 use Rattle.norm_lang.specs.Kept.{holds_reference}
 use Rattle.line_words.specs.Lines.{words_in, first_word}
 use Rattle.norm_parser.specs.declared.head.Head.{Head}
 use Rattle.norm_parser.specs.FrontRead.{from_line, head_read}
+use Rattle.norm_parser.specs.Version.{is_version, version_in, after_version}
 use Rattle.target_code.specs.declared.target.TargetInstr.{TargetInstr}
 use Rattle.target_code.specs.declared.target.TargetInstr.TheVariants.{Plain, Check, Guard}
 use Rattle.target_code.specs.declared.target.TargetOp.{TargetOp}
 use Rattle.target_code.specs.declared.target.Target.{Target}
 use Rattle.target_code.specs.TargetLimits.{target_news_of}
 
--- where among the operations a line stands: before the first; behind an `op` line; in a generator; in a wrap-up
+-- where among the operations a line stands: before the first; after an `op` line; in a generator; in a wrap-up
 pub data Part : Type 0 where
   Outside : Part
   Begun : Part
@@ -65,7 +66,7 @@ begun op = record { name = op.name; args = op.args; generator = []; wrapup = [] 
 abbrev pub with_target_op : OpsDraft → TargetOp → OpsDraft
 with_target_op draft op = record draft { part = Begun; op = op }
 
--- `op NAME A`, behind these operations
+-- `op NAME A`, after these operations
 abbrev pub target_op_at : List TargetOp → List (List ℕ) → Result TargetOp ℕ
 target_op_at ops words = op_line (map opened ops) words >>= λ op. Ok (begun op)
 
@@ -151,20 +152,20 @@ in_begun_op draft word rest =
     if bytes_eq word (codes "gen") then (end_at rest >>= λ done. Ok (Some (record draft { part = Generator })))
     else Err form_fault
 
--- a check or a guard, or behind at least one instruction `wrap`
+-- a check or a guard, or after at least one instruction `wrap`
 abbrev pub in_target_generator : OpsDraft → List ℕ → List (List ℕ) → Result (Option OpsDraft) ℕ
 in_target_generator draft word rest =
     if bytes_eq word (codes "wrap") && nat_lt 0 (length draft.op.generator) then (end_at rest >>= λ done. Ok (Some (record draft { part = WrapUp })))
     else added_line draft word rest
 
--- `op NAME A` behind a whole operation
+-- `op NAME A` after a whole operation
 abbrev pub next_target_op : OpsDraft → List (List ℕ) → Result (Option OpsDraft) ℕ
 next_target_op draft words = do
   whole ← with_whole_target_op draft
   next ← target_op_line whole words
   Ok (Some next)
 
--- a check or a guard, or another operation behind a whole one
+-- a check or a guard, or another operation after a whole one
 abbrev pub in_target_wrap_up : OpsDraft → List ℕ → List (List ℕ) → Result (Option OpsDraft) ℕ
 in_target_wrap_up draft word rest =
     if bytes_eq word (codes "op") then next_target_op draft rest
@@ -209,7 +210,7 @@ after_target_lines fields roots draft (line ∷ lines) = do
   next ← at_line line.number (after_target_line fields roots draft line)
   after_target_lines fields roots next lines
 
--- operations end behind an instruction of a wrap-up
+-- operations end after an instruction of a wrap-up
 abbrev pub finished_ops_in : Part → OpsDraft → Result (List TargetOp) ℕ
 finished_ops_in WrapUp draft = with_whole_target_op draft >>= λ next. Ok next.ops
 finished_ops_in _ draft = Err form_fault
@@ -220,35 +221,25 @@ finished_ops draft = do
   none ← demand form_fault (draft.left == 0)
   finished_ops_in draft.part draft
 
--- the operations behind a draft, where `past` is one more than the last line's number
+-- the operations after a draft, where `past` is one more than the last line's number
 abbrev pub ops_read : List FieldDecl → List RootDecl → ℕ → OpsDraft → List TextLine → Result (List TargetOp) LineFault
 ops_read fields roots past draft lines = do
   last ← after_target_lines fields roots draft lines
   at_line past (finished_ops last)
 
--- `oat 1`
-abbrev pub is_version_line : List ℕ → List (List ℕ) → Result Bool ℕ
-is_version_line word rest =
-    if bytes_eq word (codes "oat") then (version_line rest >>= λ done. Ok true)
-    else Err form_fault
-
--- whether a line is the version line: a line that is skipped isn't, and any other is faulty
+-- whether a line's words are `oat 1`: a line that is skipped isn't, and any other is faulty
 abbrev pub version_words : Option (List ℕ × List (List ℕ)) → Result Bool ℕ
-version_words None = Ok false
-version_words (Some word) = is_version_line word.0 word.1
+version_words words = is_version (codes "oat") words
 
 -- the same by its bytes
 abbrev pub version_of : TextLine → Result Bool ℕ
-version_of line = words_in line >>= λ words. version_words (first_word words)
+version_of line = version_in (codes "oat") line
 
--- the number of the line behind the version line
+-- the number of the line after the version line
 abbrev pub version_end : ℕ → List TextLine → Result ℕ LineFault
-version_end past [] = Err (record { line = past; number = form_fault })
-version_end past (line ∷ lines) = do
-  stands ← at_line line.number (version_of line)
-  if stands then Ok (line.number + 1) else version_end past lines
+version_end past lines = after_version (codes "oat") past lines
 
--- declarations, with operations behind them
+-- declarations, with operations after them
 abbrev pub target_of : Head → List TargetOp → Target
 target_of head ops = record { fields = head.fields; roots = head.roots; nodes = head.nodes; ops = ops }
 

@@ -18,11 +18,11 @@ use target_code::target::{TargetInstr, TargetOp, TargetOps};
 const MOST_INSTRS: usize = 4096;
 
 /// Where among the operations the next line stands.
-#[derive(Clone, Copy, Debug, PartialEq, Eq)]
+#[derive(Clone, Copy, PartialEq, Eq)]
 pub(crate) enum Part {
     /// Before the first.
     Outside,
-    /// Behind the line that begins one.
+    /// After the line that begins one.
     Begun,
     /// In a generator.
     Generator,
@@ -31,7 +31,7 @@ pub(crate) enum Part {
 }
 
 /// The operations that are whole, and the operation whose lines stand here.
-#[derive(Debug, Drop)]
+#[derive(Drop)]
 pub(crate) struct OpsDraft {
     pub(crate) part: Part,
     pub(crate) ops: TargetOps,

@@ -6,9 +6,5 @@ pub mod laws;
 mod own;
 mod plain;
 mod reader;
-mod version;
 
 pub use reader::read_target;
-
-#[cfg(test)]
-mod tests;

@@ -136,7 +136,7 @@ fn added(draft: &mut OpsDraft, word: &[u8], words: &mut Words) -> Result<bool, S
     }
 }
 
-/// A check or a guard, or behind at least one instruction `wrap`.
+/// A check or a guard, or after at least one instruction `wrap`.
 fn in_generator(draft: &mut OpsDraft, word: &[u8], words: &mut Words) -> Result<bool, Stop>
     ensures line { Gives (λ read. read_or_plain read (draft_shown draft.new)) result (in_target_generator (draft_shown draft.old) word.now words.old) }
     ensures same { IfOk result (λ read. read ≡ false → draft.new ≡ draft.old) }
@@ -150,7 +150,7 @@ fn in_generator(draft: &mut OpsDraft, word: &[u8], words: &mut Words) -> Result<
     }
 }
 
-/// `op NAME A` behind a whole operation.
+/// `op NAME A` after a whole operation.
 fn next_op(draft: &mut OpsDraft, alloc: Global, words: &mut Words) -> Result<bool, Stop>
     ensures { Gives (λ read. read_or_plain read (draft_shown draft.new)) result (next_target_op (draft_shown draft.old) words.old) }
 {
@@ -160,7 +160,7 @@ fn next_op(draft: &mut OpsDraft, alloc: Global, words: &mut Words) -> Result<boo
     Ok(true)
 }
 
-/// A check or a guard, or another operation behind a whole one.
+/// A check or a guard, or another operation after a whole one.
 fn in_wrap_up(
     draft: &mut OpsDraft,
     alloc: Global,

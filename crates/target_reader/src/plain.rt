@@ -28,7 +28,7 @@ fn is_fifth(draft: &OpsDraft, instr: &Instr) -> bool
     matches!(instr, Instr::New(_)) && draft.news() >= MOST_NEWS
 }
 
-/// An instruction's line as it is read with no line behind it: a commit whose entries are missing has the fault behind it.
+/// An instruction's line as it is read with no line after it: a commit whose entries are missing has the fault after it.
 #[tactic(auto, using(crate::proofs::Plains::stands, crate::proofs::Ordered::nothing_left))]
 fn read_alone(alloc: Global, line: Line, fields: &Fields, roots: &Roots) -> Result<(), ParseError>
     requires stands { are_skipped (words_of (line_shown line).bytes) ≡ false }

@@ -14,10 +14,9 @@ ghost use Rattle.target_reader.specs.OpsShown.{draft_shown, GoesOn};
 use crate::draft::OpsDraft;
 use crate::own::read_own;
 use crate::plain::read_plain;
-use crate::version::behind_version;
 use line_words::fault::ParseError;
 use norm_lang::text::{Fields, Roots};
-use norm_parser::parse_head;
+use norm_parser::{after_version, parse_head};
 use oa_text::{Line, Lines, lines};
 use std::alloc::Global;
 use target_code::target::{Target, TargetOps};
@@ -62,7 +61,7 @@ fn line_past(input: &[u8]) -> u32
 }
 
 /// The lines from a number on.
-#[tactic(auto, using(crate::proofs::Ordered::first_from))]
+#[tactic(auto, using(norm_parser::proofs::LinesLeft::first_from))]
 fn lines_from(input: &[u8], start: u32) -> Lines<'_>
     requires { length (lines_of input.now) + 1 < 2 ^ 32 }
     ensures { result ≡ from_line start (numbered 1 (lines_of input.now)) }
@@ -119,7 +118,7 @@ pub fn read_target(alloc: Global, input: &[u8]) -> Result<Target, ParseError>
     ensures exact { Answers (λ target. target) result (target_read input.now) }
     ensures within { IfOk result (λ target. IsTargetWithinLimits target) }
 {
-    let behind = behind_version(input)?;
+    let behind = after_version(b"oat", input)?;
     let (head, first) = parse_head(alloc, input, behind)?;
     let ops = read_ops(alloc, input, first, &head.fields, &head.roots)?;
     Ok(Target {

@@ -40,7 +40,7 @@ start_at_suits : (kind : FieldKind) (words : List (List ℕ)) → IfOk (start_at
 start_at_suits kind [] = tt
 start_at_suits kind (word ∷ rest) = then_has (start_in kind word) _ (Suits kind) _ (start_in_suits kind word) λ s h. h
 
--- a first value is read, and then what is read behind it has P
+-- a first value is read, and then what is read after it has P
 start_then : {B : Type 0} (kind : FieldKind) (words : List (List ℕ)) (f : StartWord × List (List ℕ) → Result B ℕ) (P : B → Type 0)
     → ((s : StartWord) (rest : List (List ℕ)) → Suits kind s → IfOk (f (s, rest)) P) → IfOk (start_at kind words >>= f) P
 start_then kind words f P next = then_has (start_at kind words) f (λ t. Suits kind t.0) P (start_at_suits kind words) λ t h. next t.0 t.1 h

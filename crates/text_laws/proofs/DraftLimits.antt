@@ -39,36 +39,36 @@ OpsSoFar fields roots ops = SoFar 16 (λ op. op.name) (is_op fields roots) ops
 
 -- nothing is declared
 pub record IsEmpty (text : Text) : Type 0 where
-  fields : text.fields ≡ []
-  nodes : text.nodes ≡ []
-  roots : text.roots ≡ []
-  ops : text.ops ≡ []
+  pub fields : text.fields ≡ []
+  pub nodes : text.nodes ≡ []
+  pub roots : text.roots ≡ []
+  pub ops : text.ops ≡ []
 
 -- fields alone are declared
 pub record HasFields (text : Text) : Type 0 where
-  fields : FieldsSoFar text.fields
-  nodes : text.nodes ≡ []
-  roots : text.roots ≡ []
-  ops : text.ops ≡ []
+  pub fields : FieldsSoFar text.fields
+  pub nodes : text.nodes ≡ []
+  pub roots : text.roots ≡ []
+  pub ops : text.ops ≡ []
 
 -- fields and nodes are declared, up to the count
 pub record HasNodes (count : ℕ) (text : Text) : Type 0 where
-  fields : are_fields text.fields ≡ true
-  few : nat_le count 256 ≡ true
-  each : list_all (λ node. are_starts count text.fields node.values) text.nodes ≡ true
-  within : nat_le (length text.nodes) count ≡ true
-  roots : text.roots ≡ []
-  ops : text.ops ≡ []
+  pub fields : are_fields text.fields ≡ true
+  pub few : nat_le count 256 ≡ true
+  pub each : list_all (λ node. are_starts count text.fields node.values) text.nodes ≡ true
+  pub within : nat_le (length text.nodes) count ≡ true
+  pub roots : text.roots ≡ []
+  pub ops : text.ops ≡ []
 
 -- fields, all nodes and roots are declared
 pub record HasRoots (count : ℕ) (text : Text) : Type 0 where
-  fields : are_fields text.fields ≡ true
-  nodes : are_nodes text.fields text.nodes ≡ true
-  all : length text.nodes ≡ count
-  roots : RootsSoFar count text.roots
-  ops : text.ops ≡ []
+  pub fields : are_fields text.fields ≡ true
+  pub nodes : are_nodes text.fields text.nodes ≡ true
+  pub all : length text.nodes ≡ count
+  pub roots : RootsSoFar count text.roots
+  pub ops : text.ops ≡ []
 
--- the declarations are whole, and operations stand behind them
+-- the declarations are whole, and operations stand after them
 pub record HasOps (text : Text) : Type 0 where
   fields : are_fields text.fields ≡ true
   nodes : are_nodes text.fields text.nodes ≡ true
@@ -450,7 +450,7 @@ words_kept draft (word ∷ rest) h = either (is_comment word) _ _ _ (λ _. h) (�
 pub line_kept : (draft : Draft) (line : TextLine) → Kept draft → IfOk (after_line draft line) Kept
 line_kept draft line h = anyhow (plain (line_fault line)) _ _ λ done. words_kept draft (words_of line.bytes) h
 
-at_line_has : {A : Type 0} (line : ℕ) (r : Result A ℕ) (P : A → Type 0) → IfOk r P → IfOk (at_line line r) P
+pub at_line_has : {A : Type 0} (line : ℕ) (r : Result A ℕ) (P : A → Type 0) → IfOk r P → IfOk (at_line line r) P
 at_line_has line (Ok x) P h = h
 at_line_has line (Err e) P h = tt
 

@@ -15,5 +15,11 @@ pub mod SpellingStands
 pub mod TextRead
 pub mod WithinLimits
 pub mod WordsRead
+pub mod WordsSaid
+pub mod InstrsSaid
+pub mod DeclarationsSaid
+pub mod DraftSaid
+pub mod TextsSaid
+pub mod LinesAndWordsAre
 mod WorkedTexts
 mod WrittenOut

@@ -59,12 +59,12 @@ register_fits : (words : List (List ℕ)) → IfOk (register_at words) (λ r. is
 register_fits [] = tt
 register_fits (word ∷ rest) = then_has (register_in word) _ (λ r. is_register r ≡ true) _ (register_in_fits word) λ r h. h
 
--- a number is read, and then what is read behind it has P
+-- a number is read, and then what is read after it has P
 pub number_then : {B : Type 0} (words : List (List ℕ)) (f : Option ℕ × List (List ℕ) → Result B ℕ) (P : B → Type 0)
     → ((n : Option ℕ) (rest : List (List ℕ)) → Fits n → IfOk (f (n, rest)) P) → IfOk (number_at words >>= f) P
 number_then words f P next = then_has (number_at words) f (λ n. Fits n.0) P (number_fits words) λ n h. next n.0 n.1 h
 
--- a number from 1 up is read, and then what is read behind it has P
+-- a number from 1 up is read, and then what is read after it has P
 pub positive_then : {B : Type 0} (words : List (List ℕ)) (f : Option ℕ × List (List ℕ) → Result B ℕ) (P : B → Type 0)
     → ((n : Option ℕ) (rest : List (List ℕ)) → FitsAbove n → IfOk (f (n, rest)) P) → IfOk (positive_at words >>= f) P
 positive_then words f P next = then_has (positive_at words) f (λ n. FitsAbove n.0) P fits λ n h. next n.0 n.1 h
@@ -72,12 +72,12 @@ positive_then words f P next = then_has (positive_at words) f (λ n. FitsAbove n
     fits : IfOk (positive_at words) (λ n. FitsAbove n.0)
     fits = number_then words _ _ λ n rest h. demanded form_fault (is_positive n) _ _ λ positive. above n h positive
 
--- a register is read, and then what is read behind it has P
+-- a register is read, and then what is read after it has P
 pub register_then : {B : Type 0} (words : List (List ℕ)) (f : Reg × List (List ℕ) → Result B ℕ) (P : B → Type 0)
     → ((r : Reg) (rest : List (List ℕ)) → is_register r ≡ true → IfOk (f (r, rest)) P) → IfOk (register_at words >>= f) P
 register_then words f P next = then_has (register_at words) f (λ r. is_register r.0 ≡ true) P (register_fits words) λ r h. next r.0 r.1 h
 
--- a name is read, and then what is read behind it has P
+-- a name is read, and then what is read after it has P
 pub name_then : {B : Type 0} (words : List (List ℕ)) (f : List ℕ × List (List ℕ) → Result B ℕ) (P : B → Type 0)
     → ((name : List ℕ) (rest : List (List ℕ)) → is_name name ≡ true → IfOk (f (name, rest)) P) → IfOk (name_at words >>= f) P
 name_then [] f P next = tt
@@ -86,7 +86,7 @@ name_then (word ∷ rest) f P next = then_has (name_at (word ∷ rest)) f (λ t.
     fits : IfOk (name_at (word ∷ rest)) (λ t. is_name t.0 ≡ true)
     fits = demanded form_fault (is_name word) _ _ λ h. h
 
--- the last register is read, and then what is read behind it has P
+-- the last register is read, and then what is read after it has P
 pub one_then : {B : Type 0} (words : List (List ℕ)) (f : Reg → Result B ℕ) (P : B → Type 0)
     → ((r : Reg) → is_register r ≡ true → IfOk (f r) P) → IfOk (one_register words >>= f) P
 one_then words f P next = then_has (one_register words) f (λ r. is_register r ≡ true) P fits next
@@ -112,7 +112,7 @@ three_then words f P next = then_has (three_registers words) f Are P fits λ r h
     fits : IfOk (three_registers words) Are
     fits = register_then words _ _ λ a rest ha. two_then rest _ _ λ b c hb hc. (ha, hb, hc)
 
--- the register to retire is read, if there is one, and then what is read behind it has P
+-- the register to retire is read, if there is one, and then what is read after it has P
 pub retire_then : {B : Type 0} (words : List (List ℕ)) (f : Option Reg → Result B ℕ) (P : B → Type 0)
     → ((r : Option Reg) → is_retire r ≡ true → IfOk (f r) P) → IfOk (retire_at words >>= f) P
 retire_then words f P next = then_has (retire_at words) f (λ r. is_retire r ≡ true) P (fits words) next

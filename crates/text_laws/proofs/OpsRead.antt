@@ -65,7 +65,7 @@ op_line_read fields roots ops op is fresh room =
     let le : op.args ≤ 4 = leb-true op.args 4 is.args in
     rw (is.name, number_read op.args (lt-ltb op.args (2 ^ 64) (omega arith)), is.free, fresh, lt-ltb (length ops) 16 room, is.args) refl
 
--- the lines behind an operation's first
+-- the lines after an operation's first
 body_read : (count : ℕ) (fields : List FieldDecl) (nodes : List NodeDecl) (roots : List RootDecl) (ops : List Op) (op : Op) → AreFields fields → AreRoots roots → IsOp (length fields) (length roots) op
     → after_spelled (in_code Begun count fields nodes roots ops (begun op)) ((codes "gen" ∷ []) ∷ (code_lines fields roots op.generator ++ ((codes "wrap" ∷ []) ∷ code_lines fields roots op.wrapup)))
     ≡ Ok (in_code WrapUp count fields nodes roots ops op)
@@ -86,7 +86,7 @@ body_read count fields nodes roots ops op fs rs is =
     (line_then generated wraps (codes "wrap" ∷ []) wrapup (Ok whole) (rw some refl)
     (code_read WrapUp count fields nodes roots ops coded [] op.wrapup op.wrapup tt fs rs (is.wrapup).each (is.wrapup).short is.news refl)))
 
--- the lines behind an operation's first
+-- the lines after an operation's first
 abbrev body_lines : List FieldDecl → List RootDecl → Op → List (List (List ℕ))
 body_lines fields roots op = (codes "gen" ∷ []) ∷ (code_lines fields roots op.generator ++ ((codes "wrap" ∷ []) ∷ code_lines fields roots op.wrapup))
 
@@ -107,7 +107,7 @@ next_op_read count fields nodes roots done last op fs rs some is fresh room =
     (rw (lt-ltb 0 (length last.wrapup) some, op_line_read (length fields) (length roots) (done ++ last ∷ []) op is fresh room) refl)
     (body_read count fields nodes roots (done ++ last ∷ []) op fs rs is)
 
--- the draft behind the last of the operations
+-- the draft after the last of the operations
 abbrev pub behind_ops : ℕ → List FieldDecl → List NodeDecl → List RootDecl → List Op → Op → List Op → Draft
 behind_ops count fields nodes roots done last [] = in_code WrapUp count fields nodes roots done last
 behind_ops count fields nodes roots done last (op ∷ rest) = behind_ops count fields nodes roots (done ++ last ∷ []) op rest
@@ -131,7 +131,7 @@ ops_read count fields nodes roots done last (op ∷ rest) whole fs rs are same =
     (next_op_read count fields nodes roots done last op fs rs (last_is.wrapup).some this_is (fresh_among (λ (op : Op). op.name) (done ++ last ∷ []) rest whole op behind are.different) (omega (arith, are.few)))
     (ops_read count fields nodes roots (done ++ last ∷ []) op rest whole fs rs are behind)
 
--- the text behind the last of the operations
+-- the text after the last of the operations
 pub ops_finished : (count : ℕ) (fields : List FieldDecl) (nodes : List NodeDecl) (roots : List RootDecl) (done : List Op) (last : Op) (rest whole : List Op)
     → list_all (is_op (length fields) (length roots)) whole ≡ true → done ++ last ∷ rest ≡ whole
     → finished (behind_ops count fields nodes roots done last rest) ≡ Ok (record { fields = fields; roots = roots; nodes = nodes; ops = whole })

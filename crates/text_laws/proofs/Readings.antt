@@ -3,13 +3,13 @@ use Rattle.std.specs.Prelude.{◌≡◌, ℕ, Bool, true, false, Result, Ok, Err
 use Rattle.std.proofs.Common.{refl}
 use Rattle.norm_lang.specs.Faults.{◌>>=◌, demand}
 
--- what is read has Q, and then what is read behind it has P
+-- what is read has Q, and then what is read after it has P
 pub then_has : {A B E : Type 0} (r : Result A E) (f : A → Result B E) (Q : A → Type 0) (P : B → Type 0)
     → IfOk r Q → ((x : A) → Q x → IfOk (f x) P) → IfOk (r >>= f) P
 then_has (Ok x) f Q P has next = next x has
 then_has (Err e) f Q P has next = tt
 
--- whatever is read, what is read behind it has P
+-- whatever is read, what is read after it has P
 pub anyhow : {A B E : Type 0} (r : Result A E) (f : A → Result B E) (P : B → Type 0)
     → ((x : A) → IfOk (f x) P) → IfOk (r >>= f) P
 anyhow (Ok x) f P next = next x

@@ -66,7 +66,7 @@ op_are fields roots op fs rs within =
     )
 
 -- a text within the limits, part by part
-record IsText (text : Text) : Type 0 where
+pub record IsText (text : Text) : Type 0 where
   fields : AreFields text.fields
   some_fields : 1 ≤ length text.fields
   few_fields : length text.fields ≤ 4
@@ -86,7 +86,7 @@ root_names count (root ∷ roots) all =
     let q = and_parts (is_name root.name) (is_start count root.kind root.start) p.0 in
     rw (q.0, root_names count roots p.1) refl
 
-parts_of : (text : Text) → is_within_limits text ≡ true → IsText text
+pub parts_of : (text : Text) → is_within_limits text ≡ true → IsText text
 parts_of text within =
     let fields = text.fields in
     let nodes = text.nodes in
@@ -164,12 +164,12 @@ declarations_read text is =
     (roots_read count fields nodes roots few is.few_roots is.root (is.roots).different)))
 
 -- the operations give the text
-record GivesText (text : Text) (lines : List (List (List ℕ))) : Type 0 where
-  draft : Draft
-  read : after_spelled (draft_at Start) lines ≡ Ok draft
-  done : finished draft ≡ Ok text
+pub record GivesText (text : Text) (lines : List (List (List ℕ))) : Type 0 where
+  pub draft : Draft
+  pub read : after_spelled (draft_at Start) lines ≡ Ok draft
+  pub done : finished draft ≡ Ok text
 
-ops_give : (text : Text) (ops : List Op) → IsText text → text.ops ≡ ops → GivesText text (spelled_version ∷ (declaration_lines text ++ flat_map (op_lines text.fields text.roots) ops))
+pub ops_give : (text : Text) (ops : List Op) → IsText text → text.ops ≡ ops → GivesText text (spelled_version ∷ (declaration_lines text ++ flat_map (op_lines text.fields text.roots) ops))
 ops_give text [] is same = absurd (omega (arith, is.some_ops, ap length same))
 ops_give text (op ∷ rest) is same =
     let fields = text.fields in
@@ -192,7 +192,7 @@ ops_give text (op ∷ rest) is same =
       done = ops_finished count fields nodes roots [] op rest text.ops (is.ops).each (sym same);
     }
 
-text_from : (found : List (List ℕ)) (draft : Draft) (text : Text) → after_lines (draft_at Start) (numbered 1 found) ≡ Ok draft → finished draft ≡ Ok text → text_in found ≡ Ok text
+pub text_from : (found : List (List ℕ)) (draft : Draft) (text : Text) → after_lines (draft_at Start) (numbered 1 found) ≡ Ok draft → finished draft ≡ Ok text → text_in found ≡ Ok text
 text_from found draft text read done = rw (read, done) refl
 
 pub spellings_stand : SpellingsStand

@@ -20,7 +20,7 @@ use Rattle.text_laws.proofs.CodeRead.{in_code}
 abbrev pub declared : Section → ℕ → List FieldDecl → List NodeDecl → List RootDecl → Draft
 declared section count fields nodes roots = in_code section count fields nodes roots [] no_op
 
--- behind the version line, or among the fields
+-- after the version line, or among the fields
 abbrev among_fields : List FieldDecl → Draft
 among_fields [] = declared Opening 0 [] [] []
 among_fields (field ∷ fields) = declared Fields 0 (field ∷ fields) [] []
@@ -45,7 +45,7 @@ fields_read fields are some short =
     items_read spelled_field among_fields fields (λ done rest field same. field_read done rest fields field are short same) [] fields refl
     ∙ ap Ok (among_some fields some)
 
--- among so many nodes, or behind them
+-- among so many nodes, or after them
 abbrev pub among_nodes : List FieldDecl → ℕ → List NodeDecl → Draft
 among_nodes fields count done = declared (if nat_lt (length done) count then Nodes else Roots) count fields done []
 

@@ -85,7 +85,7 @@ pub other_bytes : (a b : List ℕ) → bytes_eq a b ≡ false → bytes_eq b a �
 other_bytes a b other =
     false_from_ne_true (bytes_eq b a) (λ same. let is : b ≡ a = (bytes_eq-Decides b a).0 same in let e : false ≡ true = sym other ∙ (bytes_eq-Decides a b).1 (sym is) in let f : ⊥ = cc in f)
 
--- another item behind the first has another name
+-- another item after the first has another name
 behind : {A : Type 0} (name : A → List ℕ) (first : List ℕ) (items : List A) (at : ℕ) (item : A) → slice_get items at ≡ Some item
     → list_any (λ other. bytes_eq other first) (map name items) ≡ false → bytes_eq first (name item) ≡ false
 behind name first [] at item is none = let f : ⊥ = cc in absurd f

@@ -70,7 +70,7 @@ is_fault line number (Some fault) = (fault.line == line) && (fault.number == num
 abbrev are_judged : ℕ → List (List (List ℕ) × ℕ) → Bool
 are_judged line rows = list_all (λ row. is_fault line row.1 (fault_in (text_in row.0))) rows
 
--- lines behind these, each with the number of its fault
+-- lines after these, each with the number of its fault
 abbrev behind : List (List ℕ) → List (List ℕ × ℕ) → List (List (List ℕ) × ℕ)
 behind lines [] = []
 behind lines (row ∷ rows) = (lines ++ row.0 ∷ [], row.1) ∷ behind lines rows
@@ -141,7 +141,7 @@ instructions : are_judged 11 (behind generator (
     ∷ [])) ≡ true
 instructions = refl
 
--- the lines behind `commit 1`
+-- the lines after `commit 1`
 entries : are_judged 12 (behind (generator ++ codes "commit 1" ∷ []) (
     (codes "with r0 next r1", 4)
     ∷ (codes "with r0 other r1 r2", 5)
@@ -152,7 +152,7 @@ entries : are_judged 12 (behind (generator ++ codes "commit 1" ∷ []) (
     ∷ [])) ≡ true
 entries = refl
 
--- the lines behind the head
+-- the lines after the head
 heads : are_judged 9 (behind head (
     (codes "op script 1", 4)
     ∷ (codes "op schedule 0", 4)
@@ -178,7 +178,7 @@ heads : are_judged 9 (behind head (
     ∷ [])) ≡ true
 heads = refl
 
--- the lines behind four fields
+-- the lines after four fields
 fields : are_judged 6 (behind (codes "oa 1" ∷ codes "field a num" ∷ codes "field b ref" ∷ codes "field c num" ∷ codes "field d num" ∷ []) (
     (codes "field e num", 7)
     ∷ (codes "field a num", 6)
@@ -192,7 +192,7 @@ fields : are_judged 6 (behind (codes "oa 1" ∷ codes "field a num" ∷ codes "f
     ∷ [])) ≡ true
 fields = refl
 
--- the lines behind the count of nodes
+-- the lines after the count of nodes
 nodes : are_judged 5 (behind (codes "oa 1" ∷ codes "field key num" ∷ codes "field next ref" ∷ codes "nodes 1" ∷ []) (
     (codes "node 5", 4)
     ∷ (codes "node 5 null 6", 4)
@@ -204,7 +204,7 @@ nodes : are_judged 5 (behind (codes "oa 1" ∷ codes "field key num" ∷ codes "
     ∷ [])) ≡ true
 nodes = refl
 
--- the lines behind the version
+-- the lines after the version
 openings : are_judged 2 (behind (codes "oa 1" ∷ []) (
     (codes "use set 65", 7)
     ∷ (codes "use set 0", 7)
@@ -233,7 +233,7 @@ starts_with : are_judged 1 (
     ∷ []) ≡ true
 starts_with = refl
 
--- nothing of a text stands behind a shipped one, and a skipped line may be faulty there too
+-- nothing of a text stands after a shipped one, and a skipped line may be faulty there too
 shipped : are_judged 4 (behind (codes "# a queue" ∷ codes "oa 1" ∷ codes "use queue" ∷ []) (
     (codes "field pad num", 4)
     ∷ (codes "use queue", 4)
@@ -246,7 +246,7 @@ shipped = refl
 nothing : is_fault 1 4 (fault_in (text_read [])) ≡ true
 nothing = refl
 
--- the counter, cut behind its first `wrap` line
+-- the counter, cut after its first `wrap` line
 cut : is_fault 12 4 (fault_in (text_in (take 11 counter))) ≡ true
 cut = refl
 
@@ -341,7 +341,7 @@ every : text_in (generator ++ (
     })
 every = refl
 
--- the counter in bytes, with a newline behind each line
+-- the counter in bytes, with a newline after each line
 counter_bytes : text_read (flat_map (λ line. line ++ 10 ∷ []) counter) ≡ Ok counter_text
 counter_bytes = refl
 

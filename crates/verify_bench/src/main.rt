@@ -16,7 +16,7 @@ use std::alloc::Global;
 use std::rt::Env;
 use std::{env, io};
 
-/// What is written for want of memory, wherever it shows.
+/// What is written where memory runs out, wherever that shows.
 const MEMORY: &[u8] = b"memory\n";
 
 /// One more byte than a document may have.

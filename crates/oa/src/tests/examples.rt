@@ -88,7 +88,7 @@ script 1
 store 8
 ";
 
-/// An operation that begins anew for ever.
+/// An operation that begins again for ever.
 const SPENT: &[u8] = b"oa 1
 field pad num
 nodes 0

@@ -10,11 +10,11 @@ text        root r0 h / load r1 r0 next / ifmarked r1 3 / commit 0 | returnnone
 ok          root r0 h / chk / load r1 r0 next / chk / ifmarked r1 5 / commit 0 | returnnone
 # No check at all.
 2 0 gen 1   root r0 h / load r1 r0 next / ifmarked r1 3 / commit 0 | returnnone
-# A check behind the load only.
+# A check after the load only.
 2 0 gen 1   root r0 h / load r1 r0 next / chk / ifmarked r1 4 / commit 0 | returnnone
-# A check behind the root only.
+# A check after the root only.
 2 0 gen 3   root r0 h / chk / load r1 r0 next / ifmarked r1 4 / commit 0 | returnnone
-# A check in front of the root.
+# A check before the root.
 2 0 gen 2   chk / root r0 h / load r1 r0 next / chk / ifmarked r1 5 / commit 0 | returnnone
 # A guard in place of a check.
 2 0 gen 2   root r0 h / grd r0 / load r1 r0 next / chk / ifmarked r1 5 / commit 0 | returnnone
@@ -65,13 +65,13 @@ ok          root r0 h / chk / null r1 / grd r0 / grd r1 / chk / cas r0 next r1 r
 3 0 gen 5   root r0 h / chk / null r1 / grd r0 / chk / cas r0 next r1 r0 0 / commit 0 | returnnone
 # The expected operand alone.
 3 0 gen 5   root r0 h / chk / null r1 / grd r1 / chk / cas r0 next r1 r0 0 / commit 0 | returnnone
-# No check behind the guards.
+# No check after the guards.
 4 0 gen 5   root r0 h / chk / null r1 / grd r0 / grd r1 / cas r0 next r1 r0 0 / commit 0 | returnnone
 # The check stands before the guards.
 4 0 gen 6   root r0 h / chk / null r1 / chk / grd r0 / grd r1 / cas r0 next r1 r0 0 / commit 0 | returnnone
 # The check stands between them.
 4 0 gen 6   root r0 h / chk / null r1 / grd r0 / chk / grd r1 / cas r0 next r1 r0 0 / commit 0 | returnnone
-# A guard is made once more behind the check.
+# A guard is made once more after the check.
 4 0 gen 7   root r0 h / chk / null r1 / grd r0 / grd r1 / chk / grd r0 / cas r0 next r1 r0 0 / commit 0 | returnnone
 # A guard stands before its register is set.
 5 0 gen 6   root r0 h / chk / grd r0 / grd r1 / chk / null r1 / cas r0 next r1 r0 0 / commit 0 | returnnone
@@ -81,13 +81,13 @@ ok          root r0 h / grd r0 / null r1 / grd r1 / chk / cas r0 next r1 r0 0 / 
 text        root r0 h / null r1 / cas r0 next r1 r0 0 / commit 0 | returnnone
 # Unchecked and unguarded.
 2 0 gen 2   root r0 h / null r1 / cas r0 next r1 r0 0 / commit 0 | returnnone
-# Unchecked, and guarded with no check behind it.
+# Unchecked, and guarded with no check after it.
 2 0 gen 4   root r0 h / grd r0 / null r1 / grd r1 / cas r0 next r1 r0 0 / commit 0 | returnnone
-# r0 is unguarded, and r1 guarded with no check behind it.
+# r0 is unguarded, and r1 guarded with no check after it.
 3 0 gen 4   root r0 h / chk / null r1 / grd r1 / cas r0 next r1 r0 0 / commit 0 | returnnone
 # r0 is unguarded, and the guard of r1 is dropped.
 3 0 gen 4   root r0 h / chk / grd r1 / null r1 / cas r0 next r1 r0 0 / commit 0 | returnnone
-# r0 is guarded with no check behind it, and the guard of r1 is dropped.
+# r0 is guarded with no check after it, and the guard of r1 is dropped.
 4 0 gen 6   root r0 h / chk / grd r1 / chk / null r1 / grd r0 / cas r0 next r1 r0 0 / commit 0 | returnnone
 ";
 
@@ -100,7 +100,7 @@ ok          root r0 h / chk / null r1 / new r2 / chk / put r2 key n0 / grd r0 / 
 5 0 gen 11  root r0 h / chk / null r1 / grd r0 / grd r1 / chk / new r2 / chk / put r2 key n0 / grd r2 / chk / commit 1 / with r0 next r1 r2 | returnnone
 # r0 is guarded before the `new`, and not checked there.
 5 0 gen 10  root r0 h / chk / null r1 / grd r0 / new r2 / chk / put r2 key n0 / grd r1 / grd r2 / chk / commit 1 / with r0 next r1 r2 | returnnone
-# r0 is guarded before the `new` and again behind it.
+# r0 is guarded before the `new` and again after it.
 ok          root r0 h / grd r0 / chk / null r1 / new r2 / chk / put r2 key n0 / grd r0 / grd r1 / grd r2 / chk / commit 1 / with r0 next r1 r2 | returnnone
 # The fresh node is guarded before it is there.
 5 0 gen 10  root r0 h / chk / null r1 / grd r2 / new r2 / chk / put r2 key n0 / grd r0 / grd r1 / chk / commit 1 / with r0 next r1 r2 | returnnone
@@ -112,9 +112,9 @@ ok          root r0 h / chk / null r1 / new r2 / grd r2 / chk / put r2 key n0 / 
 3 0 gen 9   root r0 h / chk / null r1 / new r2 / chk / put r2 key n0 / grd r0 / grd r2 / chk / commit 1 / with r0 next r1 r2 | returnnone
 # The guards aren't checked.
 4 0 gen 9   root r0 h / chk / null r1 / new r2 / chk / put r2 key n0 / grd r0 / grd r1 / grd r2 / commit 1 / with r0 next r1 r2 | returnnone
-# No check behind the `new`.
+# No check after the `new`.
 2 0 gen 4   root r0 h / chk / null r1 / new r2 / put r2 key n0 / grd r0 / grd r1 / grd r2 / chk / commit 1 / with r0 next r1 r2 | returnnone
-# A reference is copied, and then set anew.
+# A reference is copied, and then set again.
 text        root r0 h / mov r1 r0 / unmark r0 r0 / casroot h r1 r0 0 / commit 0 | returnnone
 # As compiled.
 ok          root r0 h / chk / mov r1 r0 / unmark r0 r0 / grd r1 / grd r0 / chk / casroot h r1 r0 0 / commit 0 | returnnone
@@ -122,7 +122,7 @@ ok          root r0 h / chk / mov r1 r0 / unmark r0 r0 / grd r1 / grd r0 / chk /
 5 0 gen 7   root r0 h / grd r0 / chk / mov r1 r0 / unmark r0 r0 / grd r1 / chk / casroot h r1 r0 0 / commit 0 | returnnone
 # The guard of r0 isn't one of r1.
 3 0 gen 6   root r0 h / chk / mov r1 r0 / unmark r0 r0 / grd r0 / chk / casroot h r1 r0 0 / commit 0 | returnnone
-# r1 is guarded behind the check.
+# r1 is guarded after the check.
 4 0 gen 7   root r0 h / chk / mov r1 r0 / unmark r0 r0 / grd r0 / chk / grd r1 / casroot h r1 r0 0 / commit 0 | returnnone
 ";
 
@@ -139,7 +139,7 @@ ok          root r0 h / chk / root n1 t / chk / ifless n0 n1 7 / load r0 r0 next
 ok          root r0 h / grd r0 / chk / root n1 t / chk / ifless n0 n1 9 / load r0 r0 next / grd r0 / chk / null r1 / grd r1 / chk / casroot h r0 r1 0 / commit 0 | returnnone
 # A guard on both paths, and one check where they have joined.
 ok          root r0 h / grd r0 / chk / root n1 t / chk / ifless n0 n1 8 / load r0 r0 next / grd r0 / null r1 / grd r1 / chk / casroot h r0 r1 0 / commit 0 | returnnone
-# Both ways behind a test lead to the exchange.
+# Both ways after a test lead to the exchange.
 text        root r0 h / null r1 / ifmarked r0 3 / cas r0 next r1 r1 0 / commit 0 | returnnone
 # As compiled.
 ok          root r0 h / chk / null r1 / ifmarked r0 4 / grd r0 / grd r1 / chk / cas r0 next r1 r1 0 / commit 0 | returnnone
@@ -149,21 +149,21 @@ ok          root r0 h / chk / null r1 / ifmarked r0 4 / grd r0 / grd r1 / chk / 
 3 0 gen 7   root r0 h / chk / null r1 / ifmarked r0 6 / grd r0 / grd r1 / chk / cas r0 next r1 r1 0 / commit 0 | returnnone
 # To the exchange itself.
 3 0 gen 7   root r0 h / chk / null r1 / ifmarked r0 7 / grd r0 / grd r1 / chk / cas r0 next r1 r1 0 / commit 0 | returnnone
-# To the check, behind guards in front of the test.
+# To the check, after guards before the test.
 ok          root r0 h / chk / null r1 / grd r0 / grd r1 / ifmarked r0 6 / chk / cas r0 next r1 r1 0 / commit 0 | returnnone
 # Past that check.
 4 0 gen 7   root r0 h / chk / null r1 / grd r0 / grd r1 / ifmarked r0 7 / chk / cas r0 next r1 r1 0 / commit 0 | returnnone
 # Past a guard that is made once more.
 4 0 gen 8   root r0 h / chk / null r1 / grd r0 / grd r1 / chk / ifmarked r0 8 / grd r0 / cas r0 next r1 r1 0 / commit 0 | returnnone
-# Back to behind a check at the start.
+# Back to the place after a check at the start.
 ok          chk / root r0 h / chk / null r1 / ifmarked r0 5 / grd r0 / grd r1 / chk / cas r0 next r1 r1 1 / commit 0 | returnnone
-# Back to behind the root.
+# Back to the place after the root.
 1 0 gen 0   root r0 h / chk / null r1 / ifmarked r0 4 / grd r0 / grd r1 / chk / cas r0 next r1 r1 1 / commit 0 | returnnone
 # To the test itself.
 1 0 gen 0   root r0 h / chk / null r1 / ifmarked r0 3 / grd r0 / grd r1 / chk / cas r0 next r1 r1 0 / commit 0 | returnnone
 # Past the method's end.
 1 0 gen 0   root r0 h / chk / null r1 / ifmarked r0 4 / grd r0 / grd r1 / chk / cas r0 next r1 r1 99 / commit 0 | returnnone
-# Where the exchange succeeds, r1 is loaded anew and r0 isn't.
+# Where the exchange succeeds, r1 is loaded again and r0 isn't.
 text        root r0 h / root r1 h / casroot h r0 r1 4 / jump 1 / commit 0 | returnnone
 # As compiled.
 ok          root r0 h / chk / root r1 h / chk / grd r0 / grd r1 / chk / casroot h r0 r1 9 / jump 2 / commit 0 | returnnone
@@ -177,7 +177,7 @@ ok          root r0 h / grd r0 / chk / root r1 h / grd r1 / chk / casroot h r0 r
 ok          root r0 h / grd r0 / chk / root r1 h / grd r1 / chk / casroot h r0 r1 8 / jump 2 / commit 0 | returnnone
 # Each round begins with the guard of r0.
 ok          root r0 h / grd r0 / chk / root r1 h / grd r1 / chk / casroot h r0 r1 8 / jump 1 / commit 0 | returnnone
-# No path leads behind the first commit.
+# No path leads past the first commit.
 text        commit 0 / root r0 h / null r1 / cas r0 next r1 r0 1 / commit 0 | returnnone
 # No check and no guard.
 ok          commit 0 / root r0 h / null r1 / cas r0 next r1 r0 1 / commit 0 | returnnone

@@ -136,7 +136,7 @@ const TWO_AT_ONCE: [Row; 16] = [
         (2, false, 0),
         b"refused N2 op x gen 0\n",
     ),
-    // A `new` in a wrap-up, behind which control runs off the end.
+    // A `new` in a wrap-up, after which control runs off the end.
     (
         b"commit 0\n",
         b"new r0\n",
@@ -171,7 +171,7 @@ const TWO_AT_ONCE: [Row; 16] = [
         (7, false, 0),
         b"refused N7 op x gen 0\n",
     ),
-    // A jump right behind the last instruction, which is past the end.
+    // A jump right after the last instruction, which is past the end.
     (
         b"jump 1\n",
         PLAIN,

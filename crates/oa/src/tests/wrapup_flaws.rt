@@ -12,7 +12,7 @@ ok          root r0 h / chk / load r1 r0 next / chk / null r2 / null r4 / mov r3
 3 0 gen 12  root r0 h / chk / load r1 r0 next / chk / null r2 / null r4 / mov r3 r0 / grd r0 / grd r1 / grd r2 / grd r3 / chk / commit 2 / with r0 next r1 r2 retire r1 / withroot h r0 r4 | ifmarked r3 1 / returnnone
 # What is kept isn't guarded.
 3 0 gen 12  root r0 h / chk / load r1 r0 next / chk / null r2 / null r4 / mov r3 r0 / grd r0 / grd r1 / grd r2 / grd r4 / chk / commit 2 / with r0 next r1 r2 retire r1 / withroot h r0 r4 | ifmarked r3 1 / returnnone
-# What is kept is guarded behind the check.
+# What is kept is guarded after the check.
 4 0 gen 13  root r0 h / chk / load r1 r0 next / chk / null r2 / null r4 / mov r3 r0 / grd r0 / grd r1 / grd r2 / grd r4 / chk / grd r3 / commit 2 / with r0 next r1 r2 retire r1 / withroot h r0 r4 | ifmarked r3 1 / returnnone
 # What is kept is guarded before it is set.
 5 0 gen 13  root r0 h / chk / load r1 r0 next / chk / null r2 / null r4 / grd r3 / mov r3 r0 / grd r0 / grd r1 / grd r2 / grd r4 / chk / commit 2 / with r0 next r1 r2 retire r1 / withroot h r0 r4 | ifmarked r3 1 / returnnone
@@ -20,7 +20,7 @@ ok          root r0 h / chk / load r1 r0 next / chk / null r2 / null r4 / mov r3
 ok          root r0 h / chk / load r1 r0 next / null r2 / null r4 / mov r3 r0 / grd r0 / grd r1 / grd r2 / grd r4 / grd r3 / chk / commit 2 / with r0 next r1 r2 retire r1 / withroot h r0 r4 | ifmarked r3 1 / returnnone
 # Guards as early as can be.
 ok          root r0 h / grd r0 / chk / load r1 r0 next / grd r1 / null r2 / grd r2 / null r4 / grd r4 / mov r3 r0 / grd r3 / chk / commit 2 / with r0 next r1 r2 retire r1 / withroot h r0 r4 | ifmarked r3 1 / returnnone
-# The guards and no check behind the load.
+# The guards and no check after the load.
 2 0 gen 11  root r0 h / chk / load r1 r0 next / null r2 / null r4 / mov r3 r0 / grd r0 / grd r1 / grd r2 / grd r4 / grd r3 / commit 2 / with r0 next r1 r2 retire r1 / withroot h r0 r4 | ifmarked r3 1 / returnnone
 # The wrap-up keeps r0, and sets r1 itself.
 text        root r0 h / commit 0 | root r1 h / ifeq r0 r1 3 / casroot h r1 r1 0 / returnnone
@@ -28,13 +28,13 @@ text        root r0 h / commit 0 | root r1 h / ifeq r0 r1 3 / casroot h r1 r1 0 
 ok          root r0 h / chk / grd r0 / chk / commit 0 | root r1 h / chk / ifeq r0 r1 6 / grd r1 / chk / casroot h r1 r1 0 / returnnone
 # What is kept isn't guarded.
 3 0 gen 2   root r0 h / chk / commit 0 | root r1 h / chk / ifeq r0 r1 6 / grd r1 / chk / casroot h r1 r1 0 / returnnone
-# It is guarded with no check behind it. Nothing reads it at the commit.
+# It is guarded with no check after it. Nothing reads it at the commit.
 4 0 gen 2   root r0 h / grd r0 / commit 0 | root r1 h / chk / ifeq r0 r1 6 / grd r1 / chk / casroot h r1 r1 0 / returnnone
 # One check for the root and the guard.
 ok          root r0 h / grd r0 / chk / commit 0 | root r1 h / chk / ifeq r0 r1 6 / grd r1 / chk / casroot h r1 r1 0 / returnnone
 # It is guarded before it is set.
 5 0 gen 3   grd r0 / chk / root r0 h / commit 0 | root r1 h / chk / ifeq r0 r1 6 / grd r1 / chk / casroot h r1 r1 0 / returnnone
-# A guard behind the check, of what isn't needed.
+# A guard after the check, of what isn't needed.
 ok          root r0 h / grd r0 / chk / grd r1 / commit 0 | root r1 h / chk / ifeq r0 r1 6 / grd r1 / chk / casroot h r1 r1 0 / returnnone
 # Flaws in both methods.
 3 0 gen 2   root r0 h / chk / commit 0 | grd r0 / root r1 h / chk / ifeq r0 r1 7 / grd r1 / chk / casroot h r1 r1 1 / returnnone
@@ -43,7 +43,7 @@ ok          root r0 h / grd r0 / chk / grd r1 / commit 0 | root r1 h / chk / ife
 /// Wrap-ups, and numbers that they are handed.
 const WRAPUPS: &[u8] = b"# The same wrap-up, with flaws.
 text        root r0 h / commit 0 | root r1 h / ifeq r0 r1 3 / casroot h r1 r1 0 / returnnone
-# What is kept is guarded anew at the start.
+# What is kept is guarded again at the start.
 5 0 wrap 0  root r0 h / chk / grd r0 / chk / commit 0 | grd r0 / root r1 h / chk / ifeq r0 r1 7 / grd r1 / chk / casroot h r1 r1 0 / returnnone
 # The same further down.
 5 0 wrap 3  root r0 h / chk / grd r0 / chk / commit 0 | root r1 h / chk / ifeq r0 r1 7 / grd r0 / grd r1 / chk / casroot h r1 r1 0 / returnnone
@@ -53,13 +53,13 @@ text        root r0 h / commit 0 | root r1 h / ifeq r0 r1 3 / casroot h r1 r1 0 
 2 0 wrap 1  root r0 h / chk / grd r0 / chk / commit 0 | root r1 h / ifeq r0 r1 5 / grd r1 / chk / casroot h r1 r1 0 / returnnone
 # No guard.
 3 0 wrap 3  root r0 h / chk / grd r0 / chk / commit 0 | root r1 h / chk / ifeq r0 r1 4 / casroot h r1 r1 0 / returnnone
-# A guard with no check behind it.
+# A guard with no check after it.
 4 0 wrap 4  root r0 h / chk / grd r0 / chk / commit 0 | root r1 h / chk / ifeq r0 r1 5 / grd r1 / casroot h r1 r1 0 / returnnone
 # The guard is dropped by the root.
 5 0 wrap 5  root r0 h / chk / grd r0 / chk / commit 0 | grd r1 / chk / root r1 h / chk / ifeq r0 r1 6 / casroot h r1 r1 2 / returnnone
-# A flaw before what is kept is guarded anew.
+# A flaw before what is kept is guarded again.
 2 0 wrap 1  root r0 h / chk / grd r0 / chk / commit 0 | root r1 h / ifeq r0 r1 6 / grd r0 / grd r1 / chk / casroot h r1 r1 0 / returnnone
-# What is kept is guarded anew before another flaw.
+# What is kept is guarded again before another flaw.
 5 0 wrap 1  root r0 h / chk / grd r0 / chk / commit 0 | root r1 h / grd r0 / ifeq r0 r1 5 / grd r1 / casroot h r1 r1 0 / returnnone
 # The wrap-up reads n1, and n2 on one path without setting it, and n7, which is the count of exchanges by then.
 text        root n1 t / root n2 t / root n3 t / root n7 t / commit 0 | ifless n1 n7 2 / set n2 0 / return n2
@@ -67,9 +67,9 @@ text        root n1 t / root n2 t / root n3 t / root n7 t / commit 0 | ifless n1
 ok          root n1 t / chk / root n2 t / chk / root n3 t / chk / root n7 t / chk / commit 0 | ifless n1 n7 2 / set n2 0 / return n2
 # No check.
 2 0 gen 4   root n1 t / root n2 t / root n3 t / root n7 t / commit 0 | ifless n1 n7 2 / set n2 0 / return n2
-# A check behind the two that are handed over.
+# A check after the two that are handed over.
 ok          root n1 t / root n2 t / chk / root n3 t / root n7 t / commit 0 | ifless n1 n7 2 / set n2 0 / return n2
-# A check behind the first alone.
+# A check after the first alone.
 2 0 gen 5   root n1 t / chk / root n2 t / root n3 t / root n7 t / commit 0 | ifless n1 n7 2 / set n2 0 / return n2
 # A check at the end alone.
 ok          root n1 t / root n2 t / root n3 t / root n7 t / chk / commit 0 | ifless n1 n7 2 / set n2 0 / return n2
@@ -108,7 +108,7 @@ ok          root n1 t / chk / ifless n0 n1 4 / set n1 4 / chk / commit 0 | ifeq 
 1 0 gen 0   root n1 t / chk / ifless n0 n1 5 / set n1 4 / commit 0 | ifeq n1 n7 2 / again / return n1
 # Another jump in the wrap-up.
 1 0 wrap 0  root n1 t / chk / ifless n0 n1 4 / set n1 4 / commit 0 | ifeq n1 n7 1 / again / return n1
-# An instruction more behind the wrap-up's end.
+# An instruction more after the wrap-up's end.
 1 0 wrap 0  root n1 t / chk / ifless n0 n1 4 / set n1 4 / commit 0 | ifeq n1 n7 2 / again / return n1 / again
 # Both methods.
 1 0 gen 0   root n1 t / chk / ifless n0 n1 4 / set n1 5 / commit 0 | ifeq n1 n7 1 / again / return n1

@@ -1,4 +1,4 @@
-use Rattle.std.proofs.Common.{Err, Ok, arith}
+use Rattle.std.proofs.Common.{Err, Ok}
 use Rattle.std.proofs.lemmas.Result.{err_from_is_err_and}
 use Rattle.oa_text.specs.Pieces.{argument_bytes}
 use Rattle.oa_text.proofs.Writing.{item_more, item_stopped, items_done}
@@ -12,7 +12,7 @@ returns-in_err-write_argument-clause-bytes g c =
 pub loop-n-preserved : goal.loop-n-preserved
 loop-n-preserved g c = record {
   rest = λ new r next. c.loop-n.invariant.rest new r (item_more argument_bytes c.args.arguments.now c.loop-n.n-index _ _ _ new r c.loop-n-test.true c.in_ok-write_argument.ensures.bytes next);
-  later = omega (arith, c.loop-n.invariant.later, c.write_argument.ensures.cause.later);
+  kept = cc (c.in_ok-write_argument.ensures.cause.kept);
 }
 
 pub returns-clause-bytes : goal.returns-clause-bytes

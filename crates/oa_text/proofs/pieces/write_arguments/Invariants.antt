@@ -1,4 +1,4 @@
-use Rattle.std.proofs.Common.{◌≤◌, ℕ, List, Option, Result, drop}
+use Rattle.std.proofs.Common.{◌≡◌, ℕ, List, Option, Result, drop}
 use Rattle.std.specs.List.{flat_map}
 use Rattle.oa_text.specs.Written.{Writes}
 use Rattle.oa_text.specs.Pieces.{argument_bytes}
@@ -9,5 +9,5 @@ use Rattle.oa_text.proofs.pieces.write_arguments.Given as goal
 abbrev pub invariant-loop-n : goal.invariant-loop-n
 invariant-loop-n g l = record {
   rest : (new : Option (List ℕ)) (r : Result (Unit {0}) Failed) → Writes (g.K.Sink.written l.out) new (flat_map argument_bytes (drop l.n-index l.arguments)) r → Writes (g.K.Sink.written l.fn.out) new (flat_map argument_bytes l.arguments) r;
-  later : g.K.Sink.faults l.fn.out ≤ g.K.Sink.faults l.out;
+  kept : g.K.Sink.faults l.out ≡ g.K.Sink.faults l.fn.out;
 }

@@ -1,4 +1,4 @@
-use Rattle.std.proofs.Common.{Err, Ok, arith}
+use Rattle.std.proofs.Common.{Err, Ok}
 use Rattle.std.proofs.lemmas.Result.{err_from_is_err_and}
 use Rattle.oa_text.proofs.Writing.{item_more, item_stopped, items_done}
 use Rattle.oa_text.proofs.pieces.write_each.Goals as goal
@@ -11,7 +11,7 @@ returns-in_err-write_to-clause-bytes g c =
 pub loop-thing-preserved : goal.loop-thing-preserved
 loop-thing-preserved g c = record {
   rest = λ new r next. c.loop-thing.invariant.rest new r (item_more g.T.Spelled.spelling c.args.things.now c.loop-thing.thing-index _ _ _ new r c.loop-thing-test.true (rw c.thing-item.is at c.in_ok-write_to.ensures.bytes) next);
-  later = omega (arith, c.loop-thing.invariant.later, c.write_to.ensures.cause.later);
+  kept = cc (c.in_ok-write_to.ensures.cause.kept);
 }
 
 pub returns-clause-bytes : goal.returns-clause-bytes

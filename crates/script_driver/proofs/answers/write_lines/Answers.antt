@@ -1,4 +1,4 @@
-use Rattle.std.proofs.Common.{Err, Ok, arith}
+use Rattle.std.proofs.Common.{Err, Ok}
 use Rattle.std.proofs.lemmas.Result.{err_from_is_err_and}
 use Rattle.script_driver.proofs.Answering.{line_more, line_stopped, lines_done}
 use Rattle.script_driver.proofs.answers.write_lines.Goals as goal
@@ -11,7 +11,7 @@ returns-in_err-write_call_line-clause-bytes g c =
 pub loop-index-preserved : goal.loop-index-preserved
 loop-index-preserved g c = record {
   rest = λ new r next. c.loop-index.invariant.rest new r (line_more c.args.text.now c.args.running c.args.replies.now c.args.calls.now c.loop-index.index _ _ _ new r c.answer_at-answer.result c.loop-index-test.true c.answer_at-answer.ensures c.in_ok-write_call_line.ensures.bytes next);
-  later = omega (arith, c.loop-index.invariant.later, c.write_call_line.ensures.cause.later);
+  kept = cc (c.in_ok-write_call_line.ensures.cause.kept);
 }
 
 pub returns-clause-bytes : goal.returns-clause-bytes

@@ -1,4 +1,4 @@
--- A walk: the body is empty. The borrow is opened, and closed at the bytes with the piece behind them.
+-- A walk: the body is empty. The borrow is opened, and closed at the bytes with the piece after them.
 use Rattle.std.proofs.Common.{◌≡◌, [], ◌∷◌, ◌++◌, refl}
 use Rattle.std.proofs.raw_atomic.Walks.{proved}
 use mir.Syntax.{named}

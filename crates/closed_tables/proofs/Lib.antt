@@ -1,0 +1,5 @@
+pub mod Tests
+pub mod Along
+pub mod Tables
+pub mod Rules
+pub mod Normal

@@ -1,0 +1,67 @@
+-- That each fault is told.
+use Rattle.std.proofs.Common.{◌≡◌, ℕ, ◌<◌, ◌≤◌, true, false, List, length, take, Option, Some, None, inl, inr, ⊎_elim, refl, sym, ap, subst, ◌∙◌, arith}
+use Rattle.std.proofs.lemmas.List.{take_all}
+use Rattle.std.specs.Io.KnownBytes.{Appends, Keeps}
+use Rattle.oa_text.specs.Causes.{one_more}
+use Rattle.oa_cli.specs.Endings.{is_write_fault, IsFinished}
+use Rattle.oa_cli.specs.Verdicts.{IsJudged, IsSaid, FaultsAreTold, text_for, status_for}
+use Rattle.oa_cli.specs.declared.status.Status.{Status}
+use Rattle.oa_cli.specs.declared.status.Status.TheVariants as statuses
+use Rattle.oa_cli.specs.declared.verdict.Verdict.{Verdict}
+use Rattle.oa_cli.specs.declared.verdict.Verdict.TheVariants as verdicts
+
+appends_kept : (old mid new : Option (List ℕ)) (text : List ℕ) → Appends old mid text → Keeps mid new → Appends old new text
+appends_kept None mid new text added keeps = tt
+appends_kept (Some p) None new text added keeps = absurd added
+appends_kept (Some p) (Some q) None text added keeps = absurd keeps
+appends_kept (Some p) (Some q) (Some r) text added keeps = keeps ∙ added
+
+whole : (text : List ℕ) → text ≡ take (length text) text
+whole text = let le : length text ≤ length text = omega arith in sym (take_all (length text) text le)
+
+-- after a fault of writing nothing more is tried
+tried_once : (status : Status) → status ≡ statuses.WriteFault → is_write_fault status ≡ false → ⊥
+tried_once status same none = let e : true ≡ false = ap is_write_fault (sym same) ∙ none in cc
+
+-- what was said, and then handed on
+pub said_finished : (old mid new : Option (List ℕ)) (before middle now : ℕ) (text : List ℕ) (status first result : Status)
+    → IsSaid old mid before middle text status first → Keeps mid new → IsFinished middle now first result
+    → IsSaid old new before now text status result
+said_finished old mid new before middle now text status first result said keeps finished =
+    ⊎_elim
+    (λ done. ⊎_elim
+    (λ fine. inl (fine.0 ∙ done.0, fine.1 ∙ done.1, appends_kept old mid new text done.2 keeps))
+    (λ failed. inr (failed.1, failed.2 ∙ ap one_more done.1, (length text, subst (Appends old new) (whole text) (appends_kept old mid new text done.2 keeps))))
+    finished)
+    (λ stopped. ⊎_elim
+    (λ fine. inr (fine.0 ∙ stopped.0, fine.1 ∙ stopped.1, (stopped.2.0, appends_kept old mid new (take stopped.2.0 text) stopped.2.1 keeps)))
+    (λ failed. absurd (tried_once first stopped.0 failed.0))
+    finished)
+    said
+
+none_rose : (before now : ℕ) → now ≡ before → before < now → ⊥
+none_rose before now same rose = omega arith
+
+-- a verdict other than that of a fault of reading leaves the source's count
+read_told : (words : List (List ℕ)) (old new : Option (List ℕ)) (before now : ℕ) (verdict : Verdict)
+    → IsJudged words old new before now verdict → before < now → status_for verdict ≡ statuses.ReadFault
+read_told words old new before now (verdicts.Answered plan state) judged rose = absurd (none_rose before now judged.2 rose)
+read_told words old new before now verdicts.Accepted judged rose = absurd (none_rose before now judged.2 rose)
+read_told words old new before now (verdicts.Shown spelling) judged rose = absurd (none_rose before now judged.2 rose)
+read_told words old new before now (verdicts.Compiled spelling) judged rose = absurd (none_rose before now judged.2 rose)
+read_told words old new before now verdicts.Usage judged rose = absurd (none_rose before now judged.1.faults rose)
+read_told words old new before now verdicts.ReadFault judged rose = refl
+read_told words old new before now verdicts.LongInput judged rose = absurd (none_rose before now judged.1 rose)
+read_told words old new before now (verdicts.BadDocument fault) judged rose = absurd (none_rose before now judged.2 rose)
+read_told words old new before now (verdicts.Refused text refusal) judged rose = absurd (none_rose before now judged.2 rose)
+read_told words old new before now verdicts.OtherForm judged rose = absurd (none_rose before now judged.2 rose)
+read_told words old new before now verdicts.Memory judged rose = absurd (none_rose before now judged.1 rose)
+
+-- each fault is told
+pub told : (words : List (List ℕ)) (old new : Option (List ℕ)) (before now : ℕ) (verdict : Verdict) (held holds : Option (List ℕ)) (earlier later : ℕ)
+    (result : Status) → IsJudged words old new before now verdict
+    → IsSaid held holds earlier later (text_for verdict) (status_for verdict) result → FaultsAreTold before now earlier later result
+told words old new before now verdict held holds earlier later result judged said = record {
+  reading = λ rose. ⊎_elim (λ done. inl (done.0 ∙ read_told words old new before now verdict judged rose)) (λ stopped. inr (stopped.0, stopped.1)) said;
+  writing = λ rose. ⊎_elim (λ done. absurd (none_rose earlier later done.1 rose)) (λ stopped. stopped.0) said;
+}

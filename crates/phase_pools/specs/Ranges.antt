@@ -1,0 +1,88 @@
+-- Where routines may stand, and which words they may be told.
+use Rattle.std.specs.Prelude.{◌≡◌, ℕ, ◌+◌, ◌*◌, ◌≤◌, ◌<◌, ◌^◌, IsSomeAnd}
+use Rattle.oa_words.specs.Words.{Sizes}
+use Rattle.oa_words.specs.Packed.{StatusParts, status_parts}
+use Rattle.phase_pools.specs.declared.stages.SweepStage.{SweepStage}
+use Rattle.phase_pools.specs.declared.stages.SweepStage.TheVariants as sweeps
+use Rattle.phase_pools.specs.declared.stages.ClaimStage.{ClaimStage}
+use Rattle.phase_pools.specs.declared.stages.ClaimStage.TheVariants as claims
+use Rattle.phase_pools.specs.declared.stages.RetireStage.{RetireStage}
+use Rattle.phase_pools.specs.declared.stages.RetireStage.TheVariants as retires
+use Rattle.phase_pools.specs.Accesses.{IsPhase}
+use Rattle.phase_pools.specs.Pools.{Sweep}
+
+-- ---- what each state keeps, whatever the row
+
+-- each hazard word that was loaded added at most one slot: with 8 callers and 8 registers, at most 64
+abbrev pub GathersFew : SweepStage → ℕ → Type 0
+GathersFew sweeps.ReadPhase count = count ≡ 0
+GathersFew (sweeps.RaisePhase p) count = count ≡ 0
+GathersFew (sweeps.Warn c) count = count ≡ 0
+GathersFew (sweeps.ReadHazard c r) count = count ≤ 8 * c + r
+GathersFew (sweeps.ReadStatus j) count = count ≤ 64
+GathersFew (sweeps.MakeReady j q) count = count ≤ 64
+
+-- the phase that the sweep raises to has one after it, and once it is announced it is a phase
+abbrev pub HasPhase : SweepStage → ℕ → Type 0
+HasPhase sweeps.ReadPhase s = Unit {0}
+HasPhase (sweeps.RaisePhase p) s = p < 2 ^ 61
+HasPhase (sweeps.Warn c) s = IsPhase s
+HasPhase (sweeps.ReadHazard c r) s = IsPhase s
+HasPhase (sweeps.ReadStatus j) s = IsPhase s
+HasPhase (sweeps.MakeReady j q) s = IsPhase s × (q < s)
+
+-- a claim makes at most two sweeps
+abbrev pub SweepsFew : ClaimStage → ℕ → Type 0
+SweepsFew (claims.ReadStatus j) count = count ≤ 2
+SweepsFew (claims.Take j q) count = count ≤ 2
+SweepsFew claims.Sweeps count = count < 2
+
+-- a slot is taken from a phase that fits a status
+abbrev pub TakesFitting : ClaimStage → Type 0
+TakesFitting (claims.ReadStatus j) = Unit {0}
+TakesFitting (claims.Take j q) = q ≤ 2 ^ 61
+TakesFitting claims.Sweeps = Unit {0}
+
+-- a retirement stores a phase that fits a status
+abbrev pub StoresFitting : RetireStage → Type 0
+StoresFitting retires.ReadPhase = Unit {0}
+StoresFitting (retires.StoreStatus p) = p ≤ 2 ^ 61
+
+-- ---- the caller, register and slot at which a routine stands are in the row
+
+abbrev pub SweepInRange : Sizes → SweepStage → Type 0
+SweepInRange n sweeps.ReadPhase = Unit {0}
+SweepInRange n (sweeps.RaisePhase p) = Unit {0}
+SweepInRange n (sweeps.Warn c) = c < n.callers
+SweepInRange n (sweeps.ReadHazard c r) = (c < n.callers) × (r < 8)
+SweepInRange n (sweeps.ReadStatus j) = j ≤ n.slots
+SweepInRange n (sweeps.MakeReady j q) = j ≤ n.slots
+
+abbrev pub ClaimInRange : Sizes → Sweep → ClaimStage → Type 0
+ClaimInRange n sweep (claims.ReadStatus j) = j ≤ n.slots
+ClaimInRange n sweep (claims.Take j q) = j ≤ n.slots
+ClaimInRange n sweep claims.Sweeps = SweepInRange n sweep.stage
+
+-- ---- the words that a routine may be told
+
+-- a status with a kind, and a phase up to one
+abbrev pub IsStatus : ℕ → ℕ → Type 0
+IsStatus last word = IsSomeAnd (status_parts word) (λ (parts : StatusParts). parts.phase ≤ last)
+
+abbrev pub SweepTold : Sizes → ℕ → SweepStage → ℕ → Type 0
+SweepTold n last sweeps.ReadPhase word = word ≤ last
+SweepTold n last (sweeps.RaisePhase p) word = word ≤ last
+SweepTold n last (sweeps.Warn c) word = word ≤ last
+SweepTold n last (sweeps.ReadHazard c r) word = word ≤ n.slots
+SweepTold n last (sweeps.ReadStatus j) word = IsStatus last word
+SweepTold n last (sweeps.MakeReady j q) word = IsStatus last word
+
+abbrev pub ClaimTold : Sizes → ℕ → Sweep → ClaimStage → ℕ → Type 0
+ClaimTold n last sweep (claims.ReadStatus j) word = IsStatus last word
+ClaimTold n last sweep (claims.Take j q) word = IsStatus last word
+ClaimTold n last sweep claims.Sweeps word = SweepTold n last sweep.stage word
+
+-- a retirement is told a phase; what its store found is no matter
+abbrev pub RetireTold : RetireStage → ℕ → Type 0
+RetireTold retires.ReadPhase word = word ≤ 2 ^ 61
+RetireTold (retires.StoreStatus p) word = Unit {0}

@@ -1,0 +1,166 @@
+//! Routines that run alone on the words of a row, against the accesses that they have to make.
+
+ghost use Rattle.std.specs.Prelude.{◌≡◌, ◌≤◌, ◌^◌, IsTrue};
+ghost use Rattle.phase_pools.specs.Ranges.{SweepInRange, ClaimInRange, IsStatus};
+ghost use Rattle.pool_tests.specs.Told.{address_in, IsTold};
+
+use oa_words::packed::status_parts;
+use oa_words::shape::Shape;
+use phase_pools::access::{Access, ClaimEnd, SweepEnd};
+use phase_pools::claim::ClaimState;
+use phase_pools::sweep::SweepState;
+use std::process::Abort;
+
+fn address_in(access: Access) -> u32
+    ensures { result ≡ address_in access }
+{
+    match access {
+        Access::Load { at } => at,
+        Access::Store { at, .. } => at,
+        Access::CompareExchange { at, .. } => at,
+        Access::FetchMax { at, .. } => at,
+    }
+}
+
+/// What the access leaves where it found a word.
+fn left_by(access: Access, found: u64) -> u64 {
+    match access {
+        Access::Load { .. } => found,
+        Access::Store { word, .. } => word,
+        Access::CompareExchange {
+            expected,
+            replacement,
+            ..
+        } => {
+            if found == expected {
+                replacement
+            } else {
+                found
+            }
+        }
+        Access::FetchMax { word, .. } => if found < word { word } else { found },
+    }
+}
+
+fn is_status(last_phase: u64, word: u64) -> bool
+    ensures { IsTrue result → IsStatus last_phase word }
+{
+    match status_parts(word) {
+        Some((phase, _)) => phase <= last_phase,
+        None => false,
+    }
+}
+
+/// Whether a routine may be told the word, by the address at which it stands.
+fn is_told(shape: &Shape, last_phase: u64, at: u32, word: u64) -> bool
+    ensures { IsTrue result → IsTold shape.now last_phase at word }
+{
+    let callers = shape.callers();
+    let slots = shape.slots();
+    if at <= 2 * callers {
+        return word <= last_phase;
+    }
+    if at <= 10 * callers {
+        return word <= slots as u64;
+    }
+    is_status(last_phase, word)
+}
+
+/// The word at an address; the program stops where there is none, or a routine may not be told it.
+fn word_told(rt: &impl Abort, shape: &Shape, last_phase: u64, words: &[u64], access: Access) -> u64
+    ensures { IsTold shape.now last_phase (address_in access) result }
+{
+    let at = address_in(access);
+    let word = words
+        .get(at as usize)
+        .copied()
+        .expect(rt, "there is such a word");
+    assert!(rt; is_told(shape, last_phase, at, word));
+    word
+}
+
+fn leave(rt: &impl Abort, words: &mut [u64], access: Access, found: u64) {
+    let at = address_in(access) as usize;
+    assert!(rt; at < words.len());
+    words[at] = left_by(access, found);
+}
+
+/// One access of a sweep, which has to be the expected one.
+#[tactic(auto, using(crate::proofs::Told::sweep_told))]
+fn sweep_step(
+    rt: &impl Abort,
+    shape: &Shape,
+    last_phase: u64,
+    sweep: &mut SweepState,
+    words: &mut [u64],
+    expected: Access,
+) -> Option<SweepEnd>
+    requires last { last_phase ≤ 2 ^ 61 }
+    requires range { SweepInRange shape.now sweep.old.stage }
+    ensures { SweepInRange shape.now sweep.new.stage }
+{
+    let access = sweep.pending(shape);
+    assert!(rt; access == expected);
+    let found = word_told(rt, shape, last_phase, words, access);
+    leave(rt, words, access, found);
+    sweep.accept(shape, last_phase, found)
+}
+
+/// One access of a claim, which has to be the expected one.
+#[tactic(auto, using(crate::proofs::Told::claim_told))]
+fn claim_step(
+    rt: &impl Abort,
+    shape: &Shape,
+    last_phase: u64,
+    claim: &mut ClaimState,
+    words: &mut [u64],
+    expected: Access,
+) -> Option<ClaimEnd>
+    requires last { last_phase ≤ 2 ^ 61 }
+    requires range { ClaimInRange shape.now claim.old.sweep claim.old.stage }
+    ensures { ClaimInRange shape.now claim.new.sweep claim.new.stage }
+{
+    let access = claim.pending(shape, last_phase);
+    assert!(rt; access == expected);
+    let found = word_told(rt, shape, last_phase, words, access);
+    leave(rt, words, access, found);
+    claim.accept(shape, last_phase, found)
+}
+
+/// A whole sweep makes the expected accesses, and ends with the last of them.
+pub(crate) fn sweeps(
+    rt: &impl Abort,
+    shape: &Shape,
+    last_phase: u64,
+    words: &mut [u64],
+    expected: &[Access],
+) -> Option<SweepEnd>
+    requires { last_phase ≤ 2 ^ 61 }
+{
+    let mut sweep = SweepState::begin();
+    let mut end = None;
+    for access in expected {
+        assert!(rt; end.is_none());
+        end = sweep_step(rt, shape, last_phase, &mut sweep, words, *access);
+    }
+    end
+}
+
+/// A whole claim makes the expected accesses, and ends with the last of them.
+pub(crate) fn claims(
+    rt: &impl Abort,
+    shape: &Shape,
+    last_phase: u64,
+    words: &mut [u64],
+    expected: &[Access],
+) -> Option<ClaimEnd>
+    requires { last_phase ≤ 2 ^ 61 }
+{
+    let mut claim = ClaimState::begin(shape);
+    let mut end = None;
+    for access in expected {
+        assert!(rt; end.is_none());
+        end = claim_step(rt, shape, last_phase, &mut claim, words, *access);
+    }
+    end
+}

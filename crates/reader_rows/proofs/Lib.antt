@@ -1,0 +1,2 @@
+mod FewLines
+mod FirstWords

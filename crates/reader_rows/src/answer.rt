@@ -1,0 +1,130 @@
+//! What a row's reader answers.
+
+ghost use Rattle.std.specs.Prelude.{◌+◌, ◌<◌, ◌≤◌, ◌^◌, length};
+ghost use Rattle.oa_text.specs.Lines.{lines_of};
+
+use crate::contents::contents;
+use crate::error::RowError;
+use crate::instruction::instruction_answer;
+use crate::limits::few;
+use crate::row::{Reader, Row};
+use documents::read_document;
+use line_words::fault::ParseError;
+use norm_lang::show;
+use norm_parser::{parse, parse_front, parse_head};
+use std::alloc::Global;
+use target_code::show_target;
+use target_reader::read_target;
+
+/// A fault.
+pub fn refused(alloc: Global, error: ParseError) -> Result<String, RowError> {
+    match error {
+        ParseError::Fault(fault) => {
+            Ok(format!(in alloc; "line {} fault {}", fault.line, fault.number)?)
+        }
+        ParseError::Memory => Ok(format!(in alloc; "memory ran out")?),
+    }
+}
+
+/// `ok`, or the fault.
+fn accepted<T>(alloc: Global, read: Result<T, ParseError>) -> Result<String, RowError>
+where
+    T: Drop,
+{
+    match read {
+        Ok(_) => Ok(format!(in alloc; "ok")?),
+        Err(error) => refused(alloc, error),
+    }
+}
+
+/// The line after what was read, or the fault.
+fn ended<T>(alloc: Global, read: Result<(T, u32), ParseError>) -> Result<String, RowError>
+where
+    T: Drop,
+{
+    match read {
+        Ok((_, next)) => Ok(format!(in alloc; "next {next}")?),
+        Err(error) => refused(alloc, error),
+    }
+}
+
+/// A spelling in one line, with `|` for a newline.
+fn one_line(alloc: Global, spelling: &[u8]) -> Result<String, RowError> {
+    let mut line = String::new(alloc);
+    for b in spelling {
+        line.push(if *b == b'\n' { '|' } else { *b as char })?;
+    }
+    Ok(line)
+}
+
+/// The canonical spelling of a text, or the fault.
+fn text_shown(alloc: Global, bytes: &[u8]) -> Result<String, RowError>
+    requires { length (lines_of bytes.now) + 1 < 2 ^ 32 }
+{
+    match parse(alloc, bytes) {
+        Ok(text) => one_line(alloc, show(alloc, &text)?.items()),
+        Err(error) => refused(alloc, error),
+    }
+}
+
+/// What a document says besides its text, or the fault.
+fn document_shown(alloc: Global, bytes: &[u8]) -> Result<String, RowError>
+    requires { length (lines_of bytes.now) + 1 < 2 ^ 32 }
+{
+    match read_document(alloc, bytes) {
+        Ok(document) => contents(alloc, &document),
+        Err(error) => refused(alloc, error),
+    }
+}
+
+/// The canonical spelling of a document's text, or the fault.
+fn document_text(alloc: Global, bytes: &[u8]) -> Result<String, RowError>
+    requires { length (lines_of bytes.now) + 1 < 2 ^ 32 }
+{
+    match read_document(alloc, bytes) {
+        Ok(document) => one_line(alloc, show(alloc, &document.text)?.items()),
+        Err(error) => refused(alloc, error),
+    }
+}
+
+/// The canonical spelling of a target, or the fault.
+fn target_shown(alloc: Global, bytes: &[u8]) -> Result<String, RowError>
+    requires { length (lines_of bytes.now) + 1 < 2 ^ 32 }
+{
+    match read_target(alloc, bytes) {
+        Ok(target) => one_line(alloc, show_target(alloc, &target)?.items()),
+        Err(error) => refused(alloc, error),
+    }
+}
+
+/// What the reader of the text or of the declarations that begin at a line answers.
+fn part_answer(alloc: Global, row: &Row<'_>, bytes: &[u8]) -> Result<String, RowError>
+    requires { length (lines_of bytes.now) + 1 < 2 ^ 32 }
+{
+    if row.first < 1 {
+        return Err(RowError::Wrong);
+    }
+    if row.reader == Reader::Head {
+        ended(alloc, parse_head(alloc, bytes, row.first))
+    } else {
+        ended(alloc, parse_front(alloc, bytes, row.first))
+    }
+}
+
+/// What the row's reader answers.
+pub fn answer(alloc: Global, row: &Row<'_>, bytes: &[u8]) -> Result<String, RowError> {
+    if !few(bytes) {
+        return Err(RowError::Wrong);
+    }
+    match row.reader {
+        Reader::Text => accepted(alloc, parse(alloc, bytes)),
+        Reader::TextShown => text_shown(alloc, bytes),
+        Reader::Front | Reader::Head => part_answer(alloc, row, bytes),
+        Reader::Instruction => instruction_answer(alloc, bytes),
+        Reader::Document => accepted(alloc, read_document(alloc, bytes)),
+        Reader::DocumentShown => document_shown(alloc, bytes),
+        Reader::DocumentText => document_text(alloc, bytes),
+        Reader::Target => accepted(alloc, read_target(alloc, bytes)),
+        Reader::TargetShown => target_shown(alloc, bytes),
+    }
+}

@@ -1,0 +1,13 @@
+pub mod Turns
+pub mod Stable
+pub mod Walks
+pub mod Silent
+pub mod Fresh
+pub mod Snipping
+pub mod Marking
+pub mod Linking
+pub mod Events
+pub mod Proper
+pub mod Normal
+pub mod Answered
+pub mod Orders

@@ -1,0 +1,6 @@
+pub mod Methods
+pub mod Places
+pub mod LocalCode
+pub mod Uses
+pub mod Trusted
+pub mod Rules

@@ -1,0 +1,4 @@
+pub mod OpsSaid
+pub mod Parts
+pub mod TargetsSaid
+pub mod TargetsRead

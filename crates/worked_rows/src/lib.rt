@@ -1,0 +1,33 @@
+//! Rows worked out by hand, which the definitions of the source machine, of the normal form and of compiled code are held
+//! against: each says of one small text, run or target what is so. A definition that is wrong where a row looks breaks that row.
+#![tactic(auto)]
+
+ghost use Rattle.worked_rows.specs.ExchangeRows.{ExchangeRows};
+ghost use Rattle.worked_rows.specs.KindRows.{KindRows};
+ghost use Rattle.worked_rows.specs.MethodRows.{MethodRows};
+ghost use Rattle.worked_rows.specs.NormalFormRows.{NormalFormRows};
+ghost use Rattle.worked_rows.specs.TargetRows.{FlawRows, SchemeRows, ErasingRows};
+ghost use Rattle.worked_rows.specs.ValueRows.{ValueRows};
+
+/// Exchanges, beginning again, loads and local instructions, in runs of the source machine.
+#[tactic(auto, using(crate::proofs::Exchanges::exchange_rows, crate::proofs::Methods::method_rows, crate::proofs::Values::value_rows))]
+pub fn source_machine_rows()
+    ensures exchanges { ExchangeRows }
+    ensures methods { MethodRows }
+    ensures values { ValueRows }
+{}
+
+/// What breaks the rules N3, N4, N6, N8 and N11 to N13, what doesn't, and what the tests of one instruction find.
+#[tactic(auto, using(crate::proofs::BrokenRules::normal_form_rows, crate::proofs::KindTables::kind_rows))]
+pub fn normal_form_rows()
+    ensures rules { NormalFormRows }
+    ensures kinds { KindRows }
+{}
+
+/// Flaws of compiled code, what the first scheme makes of small methods, and where a target erases differently.
+#[tactic(auto, using(crate::proofs::SpoiltTargets::flaw_rows, crate::proofs::CompiledRows::scheme_rows, crate::proofs::OtherTargets::erasing_rows))]
+pub fn target_rows()
+    ensures flaws { FlawRows }
+    ensures schemes { SchemeRows }
+    ensures erasing { ErasingRows }
+{}
