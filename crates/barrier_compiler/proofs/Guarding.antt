@@ -1,5 +1,5 @@
--- What a block of the first scheme makes of a register: what it has read is checked where the block ends, and what it exchanges is
--- guarded and checked right before.
+-- What a block makes of a register: what it exchanges is guarded and checked right before, and what isn't clean after it was
+-- fetched there, or wasn't clean before, and no check stood in the block.
 use Rattle.std.proofs.Common.{◌≡◌, ℕ, zero, suc, ◌⊎◌, inl, inr, Bool, true, false, not, ◌||◌, List, [], ◌∷◌, ◌++◌, map, Option, Some, None, refl, sym, ap, subst, ◌∙◌, arith}
 use Rattle.std.specs.Prelude.{slice_get, IsTrue, if◌then◌else◌}
 use Rattle.std.specs.List.{list_any, filter}
@@ -11,16 +11,16 @@ use Rattle.norm_lang.specs.declared.text.Instr.{Instr}
 use Rattle.norm_lang.specs.declared.text.Instr.TheVariants as instr
 use Rattle.norm_lang.specs.declared.text.Op.{Op}
 use Rattle.norm_lang.specs.Limits.{is_register}
-use Rattle.norm_lang.specs.RegisterUse.{same_register, reads, reads_at, sets}
+use Rattle.norm_lang.specs.RegisterUse.{same_register, is_register_named, sources, destination, reads, reads_at, sets}
 use Rattle.norm_lang.specs.Kept.{holds_reference, IsKept}
 use Rattle.norm_lang.specs.PathRules.{is_commit}
 use Rattle.norm_paths.specs.Found.{IsOpWithin}
 use Rattle.norm_paths.proofs.Within.{register_same, reads_within, instr_within}
 use Rattle.target_code.specs.declared.target.TargetInstr.TheVariants.{Plain, Check, Guard}
 use Rattle.target_code.specs.Erasing.{redirected}
-use Rattle.target_code.specs.Flaws.{fetches, clean_after, GuardState, Published, Validated, guard_after, checked, exchanged, NeedsGuard}
+use Rattle.target_code.specs.Flaws.{fetches, clean_after, GuardState, Published, Validated, guard_after, checked, exchanged, Uses, NeedsGuard}
 use Rattle.target_code.specs.Keeping.{keeps}
-use Rattle.target_code.specs.FirstScheme.{all_references, once, kept_at, to_guard, barrier, check_behind, block}
+use Rattle.target_code.specs.Blocks.{all_references, once, kept_at, to_guard, Marked, check_if, barrier, block}
 use Rattle.barrier_compiler.proofs.BlocksInLists.{run, run_both}
 
 -- a register is one of a list
@@ -100,101 +100,89 @@ once_among r (a ∷ rs) is =
       | inr later ↦ or_right (same_register r a) (list_any (same_register r) rs) (once_among r rs (filtered_among (λ other. not (same_register a other)) r (once rs) later))
     ]
 
--- an instruction whose jump is taken elsewhere fetches, exchanges and commits the same
-pub fetches_same : (place : ℕ → ℕ) (i : Instr) → fetches (redirected place i) ≡ fetches i
-fetches_same place (instr.Set d n) = refl
-fetches_same place (instr.Mov d a) = refl
-fetches_same place (instr.Add d a b) = refl
-fetches_same place (instr.Sub d a b) = refl
-fetches_same place (instr.Rem d a n) = refl
-fetches_same place (instr.Mark d a) = refl
-fetches_same place (instr.Unmark d a) = refl
-fetches_same place (instr.Null d) = refl
-fetches_same place (instr.LoadRoot d x) = refl
-fetches_same place (instr.LoadPick d x n a) = refl
-fetches_same place (instr.LoadField d a f) = refl
-fetches_same place (instr.New d) = refl
-fetches_same place (instr.Put a f b) = refl
+-- an instruction whose jump is taken elsewhere fetches, reads, sets, exchanges and commits the same
+fetches_same : (place : ℕ → ℕ) (i : Instr) → fetches (redirected place i) ≡ fetches i
 fetches_same place (instr.Cas entry l) = refl
 fetches_same place (instr.Jump l) = refl
 fetches_same place (instr.IfEq a b l) = refl
 fetches_same place (instr.IfLess a b l) = refl
 fetches_same place (instr.IfMarked a l) = refl
-fetches_same place (instr.Commit entries) = refl
-fetches_same place (instr.Return a) = refl
-fetches_same place instr.ReturnNone = refl
-fetches_same place instr.Again = refl
+fetches_same place _ = refl
 
-pub exchanged_same : (place : ℕ → ℕ) (i : Instr) → exchanged (redirected place i) ≡ exchanged i
-exchanged_same place (instr.Set d n) = refl
-exchanged_same place (instr.Mov d a) = refl
-exchanged_same place (instr.Add d a b) = refl
-exchanged_same place (instr.Sub d a b) = refl
-exchanged_same place (instr.Rem d a n) = refl
-exchanged_same place (instr.Mark d a) = refl
-exchanged_same place (instr.Unmark d a) = refl
-exchanged_same place (instr.Null d) = refl
-exchanged_same place (instr.LoadRoot d x) = refl
-exchanged_same place (instr.LoadPick d x n a) = refl
-exchanged_same place (instr.LoadField d a f) = refl
-exchanged_same place (instr.New d) = refl
-exchanged_same place (instr.Put a f b) = refl
+sources_same : (place : ℕ → ℕ) (i : Instr) → sources (redirected place i) ≡ sources i
+sources_same place (instr.Cas entry l) = refl
+sources_same place (instr.Jump l) = refl
+sources_same place (instr.IfEq a b l) = refl
+sources_same place (instr.IfLess a b l) = refl
+sources_same place (instr.IfMarked a l) = refl
+sources_same place _ = refl
+
+destination_same : (place : ℕ → ℕ) (i : Instr) → destination (redirected place i) ≡ destination i
+destination_same place (instr.Cas entry l) = refl
+destination_same place (instr.Jump l) = refl
+destination_same place (instr.IfEq a b l) = refl
+destination_same place (instr.IfLess a b l) = refl
+destination_same place (instr.IfMarked a l) = refl
+destination_same place _ = refl
+
+exchanged_same : (place : ℕ → ℕ) (i : Instr) → exchanged (redirected place i) ≡ exchanged i
 exchanged_same place (instr.Cas entry l) = refl
 exchanged_same place (instr.Jump l) = refl
 exchanged_same place (instr.IfEq a b l) = refl
 exchanged_same place (instr.IfLess a b l) = refl
 exchanged_same place (instr.IfMarked a l) = refl
-exchanged_same place (instr.Commit entries) = refl
-exchanged_same place (instr.Return a) = refl
-exchanged_same place instr.ReturnNone = refl
-exchanged_same place instr.Again = refl
+exchanged_same place _ = refl
 
-pub commit_same : (place : ℕ → ℕ) (i : Instr) → is_commit (redirected place i) ≡ is_commit i
-commit_same place (instr.Set d n) = refl
-commit_same place (instr.Mov d a) = refl
-commit_same place (instr.Add d a b) = refl
-commit_same place (instr.Sub d a b) = refl
-commit_same place (instr.Rem d a n) = refl
-commit_same place (instr.Mark d a) = refl
-commit_same place (instr.Unmark d a) = refl
-commit_same place (instr.Null d) = refl
-commit_same place (instr.LoadRoot d x) = refl
-commit_same place (instr.LoadPick d x n a) = refl
-commit_same place (instr.LoadField d a f) = refl
-commit_same place (instr.New d) = refl
-commit_same place (instr.Put a f b) = refl
+commit_same : (place : ℕ → ℕ) (i : Instr) → is_commit (redirected place i) ≡ is_commit i
 commit_same place (instr.Cas entry l) = refl
 commit_same place (instr.Jump l) = refl
 commit_same place (instr.IfEq a b l) = refl
 commit_same place (instr.IfLess a b l) = refl
 commit_same place (instr.IfMarked a l) = refl
-commit_same place (instr.Commit entries) = refl
-commit_same place (instr.Return a) = refl
-commit_same place instr.ReturnNone = refl
-commit_same place instr.Again = refl
+commit_same place _ = refl
 
-guards_clean : (r : Reg) (rs : List Reg) → run (clean_after r) (map Guard rs ++ (Check ∷ [])) true ≡ true
-guards_clean r [] = refl
-guards_clean r (a ∷ rs) = guards_clean r rs
+-- what an instruction uses whose jump is taken elsewhere, it uses
+pub uses_same : (place : ℕ → ℕ) (op : Op) (r : Reg) (i : Instr) → Uses op r (Plain (redirected place i)) → Uses op r (Plain i)
+uses_same place op r i uses = elim uses [
+  | inl reading ↦ inl (ap (list_any (same_register r)) (sym (sources_same place i)) ∙ reading)
+  | inr commits ↦ inr (sym (commit_same place i) ∙ commits.0, commits.1)
+]
 
--- a register is clean after a barrier if it was before
-pub barrier_clean : (r : Reg) (rs : List Reg) → run (clean_after r) (barrier rs) true ≡ true
-barrier_clean r [] = refl
-barrier_clean r (a ∷ rs) = guards_clean r rs
+-- after guards and a check a register is clean
+guards_clean : (r : Reg) (rs : List Reg) (was : Bool) → run (clean_after r) (map Guard rs ++ (Check ∷ [])) was ≡ true
+guards_clean r [] was = refl
+guards_clean r (a ∷ rs) was = guards_clean r rs was
 
--- and so it is after a block
-pub block_clean : (r : Reg) (place : ℕ → ℕ) (op : Op) (i : Instr) (state : Bool) → state ≡ true → run (clean_after r) (block place op i) state ≡ true
-block_clean r place op i state clean =
-    ap (run (clean_after r) (block place op i)) clean
-    ∙ run_both (clean_after r) (barrier (to_guard op i)) (Plain (redirected place i) ∷ check_behind i) true
-    ∙ ap (run (clean_after r) (Plain (redirected place i) ∷ check_behind i)) (barrier_clean r (to_guard op i))
-    ∙ ap (λ b. run (clean_after r) (check_behind i) (if sets r (redirected place i) then not b else true)) (fetches_same place i)
-    ∙ behind (fetches i) (sets r (redirected place i))
+-- what isn't clean after a check that is only wanted at times: none stood there, and it wasn't clean before
+pub unclean_behind : (r : Reg) (wanted was : Bool) → run (clean_after r) (check_if wanted) was ≡ false → (wanted ≡ false) × (was ≡ false)
+unclean_behind r true was is = cc
+unclean_behind r false was is = (refl, is)
+
+pub unclean_barrier : (r : Reg) (wanted : Bool) (rs : List Reg) (was : Bool) → run (clean_after r) (barrier wanted rs) was ≡ false → (wanted ≡ false) × (was ≡ false)
+unclean_barrier r wanted [] was is = unclean_behind r wanted was is
+unclean_barrier r wanted (a ∷ rs) was is = let no : false ≡ true = sym is ∙ guards_clean r (a ∷ rs) was in cc
+
+-- a register isn't clean after an instruction: a load or a `new` has set it, or it was so before, and no check stood there
+abbrev pub IsUnclean : Reg → Marked → Type 0 → Type 0
+IsUnclean r m Before = (IsTrue (sets r m.instr) × IsTrue (fetches m.instr)) ⊎ ((m.before ≡ false) × Before)
+
+pub unclean_block : (r : Reg) (place : ℕ → ℕ) (op : Op) (m : Marked) (was : Bool) → run (clean_after r) (block place op m) was ≡ false
+    → (m.after ≡ false) × IsUnclean r m (was ≡ false)
+unclean_block r place op m was is =
+    let passed : Bool = run (clean_after r) (barrier m.before (to_guard op m.instr)) was in
+    let split : run (clean_after r) (block place op m) was ≡ run (clean_after r) (check_if m.after) (if sets r (redirected place m.instr) then not (fetches (redirected place m.instr)) else passed) =
+    run_both (clean_after r) (barrier m.before (to_guard op m.instr)) (Plain (redirected place m.instr) ∷ check_if m.after) was in
+    let behind = unclean_behind r m.after (if sets r (redirected place m.instr) then not (fetches (redirected place m.instr)) else passed) (sym split ∙ is) in
+    let set : sets r (redirected place m.instr) ≡ sets r m.instr = ap (is_register_named r) (destination_same place m.instr) in
+    let here : (if sets r m.instr then not (fetches m.instr) else passed) ≡ false =
+    ap (λ b. if b then not (fetches m.instr) else passed) (sym set) ∙ ap (λ b. if sets r (redirected place m.instr) then not b else passed) (sym (fetches_same place m.instr)) ∙ behind.1 in
+    (behind.0, by_bool (sets r m.instr) (fetches m.instr) refl here)
   where
-    behind : (fetched set : Bool) → run (clean_after r) (if fetched then Check ∷ [] else []) (if set then not fetched else true) ≡ true
-    behind true set = refl
-    behind false true = refl
-    behind false false = refl
+    by_bool : (b fetched : Bool) → sets r m.instr ≡ b → (if b then not fetched else run (clean_after r) (barrier m.before (to_guard op m.instr)) was) ≡ false
+        → (IsTrue b × IsTrue fetched) ⊎ ((m.before ≡ false) × (was ≡ false))
+    by_bool true true set unclean = inl (refl, refl)
+    by_bool true false set unclean = cc
+    by_bool false fetched set unclean = inr (unclean_barrier r m.before (to_guard op m.instr) was unclean)
 
 stays_published : (r : Reg) (rs : List Reg) → run (guard_after r) (map Guard rs) Published ≡ Published
 stays_published r [] = refl
@@ -213,9 +201,9 @@ guards_publish r (a ∷ rs) state is = by_bool (same_register r a) (λ later. gu
     by_bool false rest found = rest found
 
 -- a barrier that guards a register leaves its guard validated, whatever became of it before
-pub barrier_validates : (r : Reg) (rs : List Reg) (state : GuardState) → IsAmong r rs → run (guard_after r) (barrier rs) state ≡ Validated
-barrier_validates r [] state is = cc
-barrier_validates r (a ∷ rs) state is = run_both (guard_after r) (map Guard (a ∷ rs)) (Check ∷ []) state ∙ ap checked (guards_publish r (a ∷ rs) state is)
+pub barrier_validates : (r : Reg) (wanted : Bool) (rs : List Reg) (state : GuardState) → IsAmong r rs → run (guard_after r) (barrier wanted rs) state ≡ Validated
+barrier_validates r wanted [] state is = cc
+barrier_validates r wanted (a ∷ rs) state is = run_both (guard_after r) (map Guard (a ∷ rs)) (Check ∷ []) state ∙ ap checked (guards_publish r (a ∷ rs) state is)
 
 -- where the instruction that may stand at a place reads a register, there is one
 reads_some : (found : Option Instr) (r : Reg) → IsTrue (reads_at r found) → (i : Instr) × (found ≡ Some i) × IsTrue (reads r i)

@@ -6,6 +6,7 @@ mod ListLemmas
 mod EachOnce
 mod Erases
 mod SchemeLimits
+mod Combining
 mod Barring
 mod Gathering
 mod Linking

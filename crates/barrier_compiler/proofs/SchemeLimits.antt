@@ -1,4 +1,4 @@
--- What the first scheme makes of a text within the limits is within those of a target.
+-- What a scheme makes of a text within the limits is within those of a target.
 use Rattle.std.proofs.Common.{◌≡◌, ℕ, zero, suc, ◌+◌, ◌<◌, ◌≤◌, Bool, true, false, not, ◌&&◌, List, [], ◌∷◌, ◌++◌, map, length, take, refl, sym, ap, subst, ◌∙◌, arith}
 use Rattle.std.specs.Prelude.{nat_lt, nat_le, IsTrue, if◌then◌else◌}
 use Rattle.std.specs.List.{filter, list_all, list_any}
@@ -24,12 +24,12 @@ use Rattle.norm_lang.specs.PathRules.{is_commit}
 use Rattle.target_code.specs.declared.target.TargetInstr.{TargetInstr}
 use Rattle.target_code.specs.declared.target.TargetInstr.TheVariants.{Plain, Check, Guard}
 use Rattle.target_code.specs.Erasing.{redirected, plain_code}
-use Rattle.target_code.specs.Flaws.{fetches, exchanged}
+use Rattle.target_code.specs.Flaws.{exchanged}
 use Rattle.target_code.specs.Keeping.{keeps}
 use Rattle.target_code.specs.TargetLimits.{target_news_in, is_guarded_register, is_target_instr, is_target_method, is_target_op, are_target_ops, IsTargetWithinLimits}
-use Rattle.target_code.specs.FirstScheme.{all_references, kept_at, to_guard, barrier, check_behind, block, block_place, scheme_code, scheme_op, first_scheme}
+use Rattle.target_code.specs.Blocks.{all_references, kept_at, to_guard, Marked, check_if, barrier, block, block_place, laid_out, scheme_op, scheme}
 use Rattle.barrier_compiler.proofs.ListLemmas.{list_all_weaker, list_all_both, list_all_filter, list_all_take, list_all_flat_map, length_flat_map_least, length_flat_map_most}
-use Rattle.barrier_compiler.proofs.Erases.{plain_of_blocks}
+use Rattle.barrier_compiler.proofs.Erases.{instrs_of, plain_of_blocks}
 use Rattle.barrier_compiler.proofs.EachOnce.{all_once, once_short}
 
 and_weaker : (a b c d : Bool) → (IsTrue a → IsTrue c) → (IsTrue b → IsTrue d) → IsTrue (a && b) → IsTrue (c && d)
@@ -101,24 +101,28 @@ guards_few fields roots op i is =
 
 -- ---- blocks
 
-barrier_length : (rs : List Reg) → length (barrier rs) ≤ length rs + 1
-barrier_length [] = omega arith
-barrier_length (r ∷ rs) = let long = length-append (map Guard (r ∷ rs)) (Check ∷ []) in let same = length-map (r ∷ rs) Guard in omega (arith, long, same)
-
-check_length : (b : Bool) → length (if b then Check ∷ [] else []) ≤ 1
+check_length : (wanted : Bool) → length (check_if wanted) ≤ 1
 check_length true = omega arith
 check_length false = omega arith
 
-block_long : (place : ℕ → ℕ) (op : Op) (i : Instr) → 1 ≤ length (block place op i)
-block_long place op i = omega (arith, length-append (barrier (to_guard op i)) (Plain (redirected place i) ∷ check_behind i))
+barrier_length : (wanted : Bool) (rs : List Reg) → length (barrier wanted rs) ≤ length rs + 1
+barrier_length wanted [] = check_length wanted
+barrier_length wanted (r ∷ rs) = let long = length-append (map Guard (r ∷ rs)) (Check ∷ []) in let same = length-map (r ∷ rs) Guard in omega (arith, long, same)
 
--- eight guards with a check, the instruction, and a check. What fetches exchanges nothing, so 10 would do; the limits leave room for 11
-block_short : (fields roots : ℕ) (place : ℕ → ℕ) (op : Op) (i : Instr) → IsTrue (is_instr fields roots i) → length (block place op i) ≤ 11
-block_short fields roots place op i is =
-    let few = guards_few fields roots op i is in
-    let before = barrier_length (to_guard op i) in
-    let behind : length (check_behind i) ≤ 1 = check_length (fetches i) in
-    omega (arith, few, before, behind, length-append (barrier (to_guard op i)) (Plain (redirected place i) ∷ check_behind i))
+block_long : (place : ℕ → ℕ) (op : Op) (m : Marked) → 1 ≤ length (block place op m)
+block_long place op m = omega (arith, length-append (barrier m.before (to_guard op m.instr)) (Plain (redirected place m.instr) ∷ check_if m.after))
+
+-- an instruction with a mark, with so many fields and roots
+abbrev is_marked : ℕ → ℕ → Marked → Bool
+is_marked fields roots m = is_instr fields roots m.instr
+
+-- eight guards with a check, the instruction, and a check: 256 instructions become no more than 2816
+block_short : (fields roots : ℕ) (place : ℕ → ℕ) (op : Op) (m : Marked) → IsTrue (is_marked fields roots m) → length (block place op m) ≤ 11
+block_short fields roots place op m is =
+    let few = guards_few fields roots op m.instr is in
+    let before = barrier_length m.before (to_guard op m.instr) in
+    let behind : length (check_if m.after) ≤ 1 = check_length m.after in
+    omega (arith, few, before, behind, length-append (barrier m.before (to_guard op m.instr)) (Plain (redirected place m.instr) ∷ check_if m.after))
 
 redirected_within : (fields roots : ℕ) (place : ℕ → ℕ) → ((l : ℕ) → IsTrue (is_target (place l))) → (i : Instr) → IsTrue (is_instr fields roots i) → IsTrue (is_instr fields roots (redirected place i))
 redirected_within fields roots place leads (instr.Cas entry l) is = and_kept (is_entry fields roots entry) (is_target l) (is_target (place l)) (λ _. leads l) is
@@ -130,43 +134,45 @@ redirected_within fields roots place leads (instr.IfLess a b l) is =
 redirected_within fields roots place leads (instr.IfMarked a l) is = and_kept (is_register a) (is_target l) (is_target (place l)) (λ _. leads l) is
 redirected_within fields roots place leads _ is = is
 
-barrier_within : (fields roots : ℕ) (rs : List Reg) → IsTrue (list_all is_guarded_register rs) → IsTrue (list_all (is_target_instr fields roots) (barrier rs))
-barrier_within fields roots [] all = refl
-barrier_within fields roots (r ∷ rs) all =
-    list_all_both (is_target_instr fields roots) (map Guard (r ∷ rs)) (Check ∷ []) (list_all-map (is_target_instr fields roots) Guard (r ∷ rs) ∙ all) refl
-
-check_within : (fields roots : ℕ) (b : Bool) → IsTrue (list_all (is_target_instr fields roots) (if b then Check ∷ [] else []))
+check_within : (fields roots : ℕ) (wanted : Bool) → IsTrue (list_all (is_target_instr fields roots) (check_if wanted))
 check_within fields roots true = refl
 check_within fields roots false = refl
 
-block_within : (fields roots : ℕ) (place : ℕ → ℕ) → ((l : ℕ) → IsTrue (is_target (place l))) → (op : Op) (i : Instr) → IsTrue (is_instr fields roots i) → IsTrue (list_all (is_target_instr fields roots) (block place op i))
-block_within fields roots place leads op i is =
-    list_all_both (is_target_instr fields roots) (barrier (to_guard op i)) (Plain (redirected place i) ∷ check_behind i)
-    (barrier_within fields roots (to_guard op i) (all_once is_guarded_register (guarded_of op i) (guarded_within fields roots op i is)))
-    (and_from (is_instr fields roots (redirected place i)) (list_all (is_target_instr fields roots) (check_behind i)) (redirected_within fields roots place leads i is) (check_within fields roots (fetches i)))
+barrier_within : (fields roots : ℕ) (wanted : Bool) (rs : List Reg) → IsTrue (list_all is_guarded_register rs) → IsTrue (list_all (is_target_instr fields roots) (barrier wanted rs))
+barrier_within fields roots wanted [] all = check_within fields roots wanted
+barrier_within fields roots wanted (r ∷ rs) all =
+    list_all_both (is_target_instr fields roots) (map Guard (r ∷ rs)) (Check ∷ []) (list_all-map (is_target_instr fields roots) Guard (r ∷ rs) ∙ all) refl
+
+block_within : (fields roots : ℕ) (place : ℕ → ℕ) → ((l : ℕ) → IsTrue (is_target (place l))) → (op : Op) (m : Marked) → IsTrue (is_marked fields roots m) → IsTrue (list_all (is_target_instr fields roots) (block place op m))
+block_within fields roots place leads op m is =
+    list_all_both (is_target_instr fields roots) (barrier m.before (to_guard op m.instr)) (Plain (redirected place m.instr) ∷ check_if m.after)
+    (barrier_within fields roots m.before (to_guard op m.instr) (all_once is_guarded_register (guarded_of op m.instr) (guarded_within fields roots op m.instr is)))
+    (and_from (is_instr fields roots (redirected place m.instr)) (list_all (is_target_instr fields roots) (check_if m.after)) (redirected_within fields roots place leads m.instr is) (check_within fields roots m.after))
 
 -- ---- methods
 
-place_within : (fields roots : ℕ) (op : Op) (code : List Instr) → length code ≤ 256 → IsTrue (list_all (is_instr fields roots) code) → (l : ℕ) → IsTrue (is_target (block_place op code l))
-place_within fields roots op code few all l =
-    let long = length_flat_map_most (is_instr fields roots) (block (λ at. at) op) 11 (block_short fields roots (λ at. at) op) (take l code) (list_all_take (is_instr fields roots) l code all) in
-    let front = length-take l code in
-    le-leb (block_place op code l) 65535 (omega (arith, few, long, front))
+place_within : (fields roots : ℕ) (op : Op) (marked : List Marked) → length marked ≤ 256 → IsTrue (list_all (is_marked fields roots) marked) → (l : ℕ) → IsTrue (is_target (block_place op marked l))
+place_within fields roots op marked few all l =
+    let long = length_flat_map_most (is_marked fields roots) (block (λ at. at) op) 11 (block_short fields roots (λ at. at) op) (take l marked) (list_all_take (is_marked fields roots) l marked all) in
+    let front = length-take l marked in
+    le-leb (block_place op marked l) 65535 (omega (arith, few, long, front))
 
-pub method_within : (fields roots : ℕ) (op : Op) (code : List Instr) → IsTrue (is_method fields roots code) → IsTrue (is_target_method fields roots (scheme_code op code))
-method_within fields roots op code is =
+pub method_within : (fields roots : ℕ) (op : Op) (code : List Instr) (marked : List Marked) → instrs_of marked ≡ code → IsTrue (is_method fields roots code) → IsTrue (is_target_method fields roots (laid_out op marked))
+method_within fields roots op code marked same is =
     let parts = and_parts (has_between 1 256 code) (list_all (is_instr fields roots) code) is in
     let sizes = and_parts (nat_le 1 (length code)) (nat_le (length code) 256) parts.0 in
+    let long : length marked ≡ length code = sym (length-map marked (λ (m : Marked). m.instr)) ∙ ap length same in
     let some : 1 ≤ length code = leb-true 1 (length code) sizes.0 in
     let few : length code ≤ 256 = leb-true (length code) 256 sizes.1 in
-    let place = block_place op code in
-    let least = length_flat_map_least (block place op) (block_long place op) code in
-    let most = length_flat_map_most (is_instr fields roots) (block place op) 11 (block_short fields roots place op) code parts.1 in
-    and_from (has_between 1 4096 (scheme_code op code)) (list_all (is_target_instr fields roots) (scheme_code op code))
-    (and_from (nat_le 1 (length (scheme_code op code))) (nat_le (length (scheme_code op code)) 4096)
-    (le-leb 1 (length (scheme_code op code)) (omega (arith, some, least)))
-    (le-leb (length (scheme_code op code)) 4096 (omega (arith, few, most))))
-    (list_all_flat_map (is_instr fields roots) (is_target_instr fields roots) (block place op) (block_within fields roots place (place_within fields roots op code few parts.1) op) code parts.1)
+    let all : IsTrue (list_all (is_marked fields roots) marked) = sym (list_all-map (is_instr fields roots) (λ (m : Marked). m.instr) marked) ∙ (ap (list_all (is_instr fields roots)) same ∙ parts.1) in
+    let place = block_place op marked in
+    let least = length_flat_map_least (block place op) (block_long place op) marked in
+    let most = length_flat_map_most (is_marked fields roots) (block place op) 11 (block_short fields roots place op) marked all in
+    and_from (has_between 1 4096 (laid_out op marked)) (list_all (is_target_instr fields roots) (laid_out op marked))
+    (and_from (nat_le 1 (length (laid_out op marked))) (nat_le (length (laid_out op marked)) 4096)
+    (le-leb 1 (length (laid_out op marked)) (omega (arith, some, least, long)))
+    (le-leb (length (laid_out op marked)) 4096 (omega (arith, few, most, long))))
+    (list_all_flat_map (is_marked fields roots) (is_target_instr fields roots) (block place op) (block_within fields roots place (place_within fields roots op marked (omega (arith, few, long)) all) op) marked all)
 
 -- ---- counts of `new`
 
@@ -192,51 +198,56 @@ redirected_news : (place : ℕ → ℕ) (code : List Instr) → news_in (map (re
 redirected_news place [] = refl
 redirected_news place (i ∷ code) = ap (λ b. counted b (news_in (map (redirected place) code))) (new_same place i) ∙ ap (counted (is_new i)) (redirected_news place code)
 
-news_same : (op : Op) (code : List Instr) → target_news_in (scheme_code op code) ≡ news_in code
-news_same op code =
-    target_news (scheme_code op code)
-    ∙ (ap news_in (plain_of_blocks (λ l. l) (block_place op code) op code)
-    ∙ redirected_news (λ l. block_place op code l) code)
+news_same : (op : Op) (code : List Instr) (marked : List Marked) → instrs_of marked ≡ code → target_news_in (laid_out op marked) ≡ news_in code
+news_same op code marked same =
+    target_news (laid_out op marked)
+    ∙ (ap news_in (plain_of_blocks (λ l. l) (block_place op marked) op marked)
+    ∙ (redirected_news (λ l. block_place op marked l) (instrs_of marked)
+    ∙ ap news_in same))
+
+-- a scheme marks the instructions that it is given
+abbrev MarksAll : (List Instr → List Marked) → Type 0
+MarksAll marks = (code : List Instr) → instrs_of (marks code) ≡ code
 
 -- ---- operations
 
-op_within : (fields roots : ℕ) (op : Op) → IsTrue (is_op fields roots op) → IsTrue (is_target_op fields roots (scheme_op op))
-op_within fields roots op =
-    let generator = scheme_code op op.generator in
-    let wrapup = scheme_code op op.wrapup in
+op_within : (marks : List Instr → List Marked) → MarksAll marks → (fields roots : ℕ) (op : Op) → IsTrue (is_op fields roots op) → IsTrue (is_target_op fields roots (scheme_op marks op))
+op_within marks all fields roots op =
+    let generator = laid_out op (marks op.generator) in
+    let wrapup = laid_out op (marks op.wrapup) in
     let named = is_name op.name && not (is_reserved op.name) in
     let few = nat_le (news_of op) 4 in
     let still = nat_le (target_news_in generator + target_news_in wrapup) 4 in
-    let same : news_of op ≡ target_news_in generator + target_news_in wrapup = ap (λ n. n + news_in op.wrapup) (sym (news_same op op.generator)) ∙ ap (λ n. target_news_in generator + n) (sym (news_same op op.wrapup)) in
+    let same : news_of op ≡ target_news_in generator + target_news_in wrapup = ap (λ n. n + news_in op.wrapup) (sym (news_same op op.generator (marks op.generator) (all op.generator))) ∙ ap (λ n. target_news_in generator + n) (sym (news_same op op.wrapup (marks op.wrapup) (all op.wrapup))) in
     let last : IsTrue few → IsTrue still = subst (λ (n : ℕ). IsTrue (nat_le n 4)) same in
     and_kept named (nat_le op.args 4 && (is_method fields roots op.generator && (is_method fields roots op.wrapup && few))) (nat_le op.args 4 && (is_target_method fields roots generator && (is_target_method fields roots wrapup && still)))
     (and_kept (nat_le op.args 4) (is_method fields roots op.generator && (is_method fields roots op.wrapup && few)) (is_target_method fields roots generator && (is_target_method fields roots wrapup && still))
-    (and_weaker (is_method fields roots op.generator) (is_method fields roots op.wrapup && few) (is_target_method fields roots generator) (is_target_method fields roots wrapup && still) (method_within fields roots op op.generator)
-    (and_weaker (is_method fields roots op.wrapup) few (is_target_method fields roots wrapup) still (method_within fields roots op op.wrapup) last)))
+    (and_weaker (is_method fields roots op.generator) (is_method fields roots op.wrapup && few) (is_target_method fields roots generator) (is_target_method fields roots wrapup && still) (method_within fields roots op op.generator (marks op.generator) (all op.generator))
+    (and_weaker (is_method fields roots op.wrapup) few (is_target_method fields roots wrapup) still (method_within fields roots op op.wrapup (marks op.wrapup) (all op.wrapup)) last)))
 
-names_same : (ops : List Op) → map (λ op. op.name) (map scheme_op ops) ≡ map (λ op. op.name) ops
-names_same [] = refl
-names_same (op ∷ ops) = ap (λ names. op.name ∷ names) (names_same ops)
+names_same : (marks : List Instr → List Marked) (ops : List Op) → map (λ op. op.name) (map (scheme_op marks) ops) ≡ map (λ op. op.name) ops
+names_same marks [] = refl
+names_same marks (op ∷ ops) = ap (λ names. op.name ∷ names) (names_same marks ops)
 
-ops_within : (fields roots : ℕ) (ops : List Op) → IsTrue (are_ops fields roots ops) → IsTrue (are_target_ops fields roots (map scheme_op ops))
-ops_within fields roots ops is =
+ops_within : (marks : List Instr → List Marked) → MarksAll marks → (fields roots : ℕ) (ops : List Op) → IsTrue (are_ops fields roots ops) → IsTrue (are_target_ops fields roots (map (scheme_op marks) ops))
+ops_within marks all fields roots ops is =
     let one = and_parts (has_between 1 16 ops) (list_all (is_op fields roots) ops && are_different (map (λ op. op.name) ops)) is in
     let two = and_parts (list_all (is_op fields roots) ops) (are_different (map (λ op. op.name) ops)) one.1 in
-    let each : IsTrue (list_all (λ op. is_target_op fields roots (scheme_op op)) ops) = list_all_weaker (is_op fields roots) (λ op. is_target_op fields roots (scheme_op op)) (op_within fields roots) ops two.0 in
-    and_from (has_between 1 16 (map scheme_op ops)) (list_all (is_target_op fields roots) (map scheme_op ops) && are_different (map (λ op. op.name) (map scheme_op ops)))
-    (subst (λ (n : ℕ). IsTrue (nat_le 1 n && nat_le n 16)) (sym (length-map ops scheme_op)) one.0)
-    (and_from (list_all (is_target_op fields roots) (map scheme_op ops)) (are_different (map (λ op. op.name) (map scheme_op ops)))
-    (list_all-map (is_target_op fields roots) scheme_op ops ∙ each)
-    (subst (λ (names : List (List ℕ)). IsTrue (are_different names)) (sym (names_same ops)) two.1))
+    let each : IsTrue (list_all (λ op. is_target_op fields roots (scheme_op marks op)) ops) = list_all_weaker (is_op fields roots) (λ op. is_target_op fields roots (scheme_op marks op)) (op_within marks all fields roots) ops two.0 in
+    and_from (has_between 1 16 (map (scheme_op marks) ops)) (list_all (is_target_op fields roots) (map (scheme_op marks) ops) && are_different (map (λ op. op.name) (map (scheme_op marks) ops)))
+    (subst (λ (n : ℕ). IsTrue (nat_le 1 n && nat_le n 16)) (sym (length-map ops (scheme_op marks))) one.0)
+    (and_from (list_all (is_target_op fields roots) (map (scheme_op marks) ops)) (are_different (map (λ op. op.name) (map (scheme_op marks) ops)))
+    (list_all-map (is_target_op fields roots) (scheme_op marks) ops ∙ each)
+    (subst (λ (names : List (List ℕ)). IsTrue (are_different names)) (sym (names_same marks ops)) two.1))
 
 -- what is made of a text within the limits is within them
-pub first_scheme_is_within : (text : Text) → IsWithinLimits text → IsTargetWithinLimits (first_scheme text)
-first_scheme_is_within text =
+pub scheme_is_within : (marks : List Instr → List Marked) → MarksAll marks → (text : Text) → IsWithinLimits text → IsTargetWithinLimits (scheme marks text)
+scheme_is_within marks all text =
     let fields = are_fields text.fields in
     let nodes = are_nodes text.fields text.nodes in
     let roots = are_roots (length text.nodes) text.roots in
     let before = are_ops (length text.fields) (length text.roots) text.ops in
-    let after = are_target_ops (length text.fields) (length text.roots) (map scheme_op text.ops) in
+    let after = are_target_ops (length text.fields) (length text.roots) (map (scheme_op marks) text.ops) in
     and_kept fields (nodes && (roots && before)) (nodes && (roots && after))
     (and_kept nodes (roots && before) (roots && after)
-    (and_kept roots before after (ops_within (length text.fields) (length text.roots) text.ops)))
+    (and_kept roots before after (ops_within marks all (length text.fields) (length text.roots) text.ops)))

@@ -14,15 +14,17 @@ use Rattle.norm_lang.specs.Kept.{IsKept}
 use Rattle.norm_paths.specs.Found.{IsOpWithin}
 use Rattle.target_code.specs.Keeping.{keeps}
 use Rattle.target_code.specs.TargetLimits.{is_target_instr}
-use Rattle.target_code.specs.FirstScheme.{scheme_code}
+use Rattle.target_code.specs.Blocks.{laid_out}
+use Rattle.target_code.specs.SecondScheme.{second_marks}
 use Rattle.barrier_compiler.specs.Sized.{IsShort}
 use Rattle.target_code.proofs.Keeping.{keeps_is_kept}
 use Rattle.barrier_compiler.proofs.SchemeLimits.{method_within}
+use Rattle.barrier_compiler.proofs.Combining.{second_is_scheme}
 
-method_short : (fields roots : ℕ) (op : Op) (code : List Instr) → IsTrue (is_method fields roots code) → IsShort op code
+method_short : (fields roots : ℕ) (op : Op) (code : List Instr) → IsTrue (is_method fields roots code) → IsShort op (second_marks code)
 method_short fields roots op code is =
-    let compiled = scheme_code op code in
-    let sizes = and_parts (nat_le 1 (length compiled) && nat_le (length compiled) 4096) (list_all (is_target_instr fields roots) compiled) (method_within fields roots op code is) in
+    let compiled = laid_out op (second_marks code) in
+    let sizes = and_parts (nat_le 1 (length compiled) && nat_le (length compiled) 4096) (list_all (is_target_instr fields roots) compiled) (method_within fields roots op code (second_marks code) (second_is_scheme.instrs code) is) in
     leb-true (length compiled) 4096 (and_parts (nat_le 1 (length compiled)) (nat_le (length compiled) 4096) sizes.0).1
 
 methods : (fields roots : ℕ) (op : Op) → IsOpWithin op → (f : ℕ) × (r : ℕ) × IsTrue (is_method f r op.generator) × IsTrue (is_method f r op.wrapup)
@@ -38,11 +40,11 @@ methods fields roots op within =
     (f, r, first.0, (and_parts wrapup few first.1).0)
 
 -- the compiled generator is within the limit of a method
-pub generator_short : (op : Op) → IsOpWithin op → IsShort op op.generator
+pub generator_short : (op : Op) → IsOpWithin op → IsShort op (second_marks op.generator)
 generator_short op within = let m = methods 0 0 op within in method_short m.0 m.1 op op.generator m.2
 
 -- and so is the compiled wrap-up
-pub wrapup_short : (op : Op) → IsOpWithin op → IsShort op op.wrapup
+pub wrapup_short : (op : Op) → IsOpWithin op → IsShort op (second_marks op.wrapup)
 wrapup_short op within = let m = methods 0 0 op within in method_short m.0 m.1 op op.wrapup m.3
 
 alike : (a b : Bool) → IsTrue a ↔ IsTrue b → a ≡ b

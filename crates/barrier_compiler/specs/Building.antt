@@ -14,7 +14,7 @@ use Rattle.target_code.specs.declared.target.TargetInstr.TheVariants.{Plain, Che
 use Rattle.target_code.specs.Erasing.{redirected}
 use Rattle.target_code.specs.Flaws.{exchanged}
 use Rattle.target_code.specs.Keeping.{keeps}
-use Rattle.target_code.specs.FirstScheme.{all_references, barrier, check_behind}
+use Rattle.target_code.specs.Blocks.{all_references, Marked, check_if, barrier}
 
 -- a register after others, if it is of a reference and isn't among them
 abbrev pub with_register : List Reg → Reg → List Reg
@@ -38,13 +38,13 @@ abbrev pub guarded_by : List Reg → Instr → List Reg
 guarded_by kept i = with_registers (with_registers [] (exchanged i)) (kept_by kept i)
 
 -- the block of an instruction, its jump as it was
-abbrev pub block_by : List Reg → Instr → List TargetInstr
-block_by kept i = barrier (guarded_by kept i) ++ (Plain i ∷ check_behind i)
+abbrev pub block_by : List Reg → Marked → List TargetInstr
+block_by kept m = barrier m.before (guarded_by kept m.instr) ++ (Plain m.instr ∷ check_if m.after)
 
 -- where the block of each instruction begins, where the first begins at a place
-abbrev pub starts_from : List Reg → ℕ → List Instr → List ℕ
+abbrev pub starts_from : List Reg → ℕ → List Marked → List ℕ
 starts_from kept n [] = []
-starts_from kept n (i ∷ code) = n ∷ starts_from kept (n + length (block_by kept i)) code
+starts_from kept n (m ∷ marked) = n ∷ starts_from kept (n + length (block_by kept m)) marked
 
 -- where the block of an instruction begins; past the last one that is the end
 abbrev pub start_of : List ℕ → ℕ → ℕ → ℕ

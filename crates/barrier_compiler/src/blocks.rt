@@ -1,18 +1,19 @@
-//! The blocks of instructions: guards and a check before what exchanges, and a check after what loads.
+//! The blocks of instructions: guards and checks, with the instruction among them.
 
 ghost use Rattle.std.specs.Prelude.{◌≡◌, ◌≤◌, ◌++◌, ◌∷◌, [], length, map, IfOk, OnOk};
 ghost use Rattle.std.specs.List.{flat_map};
 ghost use Rattle.target_code.specs.declared.target.TargetInstr.TheVariants.{Guard};
 ghost use Rattle.target_code.specs.Erasing.{redirected};
-ghost use Rattle.target_code.specs.FirstScheme.{barrier, check_behind};
+ghost use Rattle.target_code.specs.Blocks.{check_if, barrier};
+ghost use Rattle.target_code.specs.SecondScheme.{second_marks};
 ghost use Rattle.barrier_compiler.specs.Building.{block_by, starts_from, start_of, AreNear, relocated};
 
+use crate::due::{Checks, Notes};
 use crate::guards::guarded;
 use norm_lang::duplicate::Duplicate;
 use norm_lang::text::{Instr, Reg};
 use std::alloc::{AllocError, Global};
 use target_code::target::{TargetCode, TargetInstr};
-use target_code::uses::fetches;
 
 /// The blocks of a method, whose jumps still lead to instructions of the source, and where each block begins.
 #[derive(Drop)]
@@ -30,12 +31,21 @@ fn put_guards(code: &mut TargetCode, registers: &[Reg]) -> Result<(), AllocError
     Ok(())
 }
 
-/// Adds guards, and a check after them where there are any.
-fn put_barrier(code: &mut TargetCode, registers: &[Reg]) -> Result<(), AllocError>
-    ensures { IfOk result (λ _. code.new ≡ code.old ++ barrier registers.now) }
+fn put_check(code: &mut TargetCode, wanted: bool) -> Result<(), AllocError>
+    ensures { IfOk result (λ _. code.new ≡ code.old ++ check_if wanted) }
+{
+    if wanted {
+        code.push(TargetInstr::Check)?;
+    }
+    Ok(())
+}
+
+/// Adds guards and a check after them, or, where nothing is guarded, a check if one is wanted.
+fn put_barrier(code: &mut TargetCode, wanted: bool, registers: &[Reg]) -> Result<(), AllocError>
+    ensures { IfOk result (λ _. code.new ≡ code.old ++ barrier wanted registers.now) }
 {
     if registers.is_empty() {
-        return Ok(());
+        return put_check(code, wanted);
     }
     put_guards(code, registers)?;
     code.push(TargetInstr::Check)
@@ -47,28 +57,28 @@ fn put_block(
     code: &mut TargetCode,
     kept: &[Reg],
     instr: &Instr,
+    checks: Checks,
 ) -> Result<(), AllocError>
-    ensures { IfOk result (λ _. code.new ≡ code.old ++ block_by kept.now instr.now) }
+    ensures { IfOk result (λ _. code.new ≡ code.old ++ block_by kept.now (record { instr = instr.now; before = checks.before; after = checks.after })) }
 {
     let registers = guarded(alloc, kept, instr)?;
-    put_barrier(code, &registers)?;
+    put_barrier(code, checks.before, &registers)?;
     code.push(TargetInstr::Plain(instr.duplicate(alloc)?))?;
-    if fetches(instr) {
-        code.push(TargetInstr::Check)?;
-    }
-    Ok(())
+    put_check(code, checks.after)
 }
 
 /// The blocks of a method's instructions.
 pub(crate) fn blocks_of(alloc: Global, kept: &[Reg], instrs: &[Instr]) -> Result<Blocks, AllocError>
-    ensures code { IfOk result (λ blocks. blocks.code ≡ flat_map (block_by kept.now) instrs.now) }
-    ensures starts { IfOk result (λ blocks. blocks.starts.items ≡ starts_from kept.now 0 instrs.now) }
+    ensures code { IfOk result (λ blocks. blocks.code ≡ flat_map (block_by kept.now) (second_marks instrs.now)) }
+    ensures starts { IfOk result (λ blocks. blocks.starts.items ≡ starts_from kept.now 0 (second_marks instrs.now)) }
 {
     let mut code = TargetCode::empty(alloc);
     let mut starts = Vec::new(alloc);
-    for instr in instrs {
+    let mut notes = Notes::none(alloc);
+    for (at, instr) in instrs.iter().enumerate() {
+        let checks = notes.checks(instrs, at, instr)?;
         starts.push(code.items().len())?;
-        put_block(alloc, &mut code, kept, instr)?;
+        put_block(alloc, &mut code, kept, instr, checks)?;
     }
     Ok(Blocks { code, starts })
 }

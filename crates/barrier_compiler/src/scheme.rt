@@ -4,7 +4,8 @@ ghost use Rattle.std.specs.Prelude.{◌≡◌, ◌∷◌, [], ◌++◌, length, 
 ghost use Rattle.norm_lang.specs.declared.text.Op.{Op};
 ghost use Rattle.target_code.specs.Barred.{IsBarred};
 ghost use Rattle.target_code.specs.TargetLimits.{IsTargetWithinLimits};
-ghost use Rattle.target_code.specs.FirstScheme.{scheme_code, scheme_op, first_scheme};
+ghost use Rattle.target_code.specs.Blocks.{laid_out, scheme_op};
+ghost use Rattle.target_code.specs.SecondScheme.{second_marks, second_scheme};
 ghost use Rattle.norm_paths.specs.Found.{IsOpWithin};
 ghost use Rattle.barrier_compiler.specs.Building.{kept_references};
 ghost use Rattle.barrier_compiler.specs.Sized.{IsShort};
@@ -27,8 +28,8 @@ fn compile_code(
     op: &Op,
 ) -> Result<TargetCode, AllocError>
     requires kept { kept.now ≡ kept_references op.now }
-    requires short { IsShort op.now instrs.now }
-    ensures { IfOk result (λ code. code ≡ scheme_code op.now instrs.now) }
+    requires short { IsShort op.now (second_marks instrs.now) }
+    ensures { IfOk result (λ code. code ≡ laid_out op.now (second_marks instrs.now)) }
 {
     let blocks = blocks_of(alloc, kept, instrs)?;
     linked(alloc, &blocks)
@@ -38,7 +39,7 @@ fn compile_code(
 fn compile_op(alloc: Global, normal: &Normal, number: u8, op: &Op) -> Result<TargetOp, AllocError>
     requires stands { slice_get normal.now.ops number ≡ Some op.now }
     requires within { IsOpWithin op.now }
-    ensures { IfOk result (λ compiled. compiled ≡ scheme_op op.now) }
+    ensures { IfOk result (λ compiled. compiled ≡ scheme_op second_marks op.now) }
 {
     let kept = kept_references(alloc, normal, number, op)?;
     Ok(TargetOp {
@@ -51,7 +52,7 @@ fn compile_op(alloc: Global, normal: &Normal, number: u8, op: &Op) -> Result<Tar
 
 #[tactic(auto, using(norm_paths::proofs::Founding::op_within, norm_check::proofs::Tables::few_ops, norm_check::proofs::Tables::item_stands))]
 fn compile_ops(alloc: Global, normal: &Normal) -> Result<TargetOps, AllocError>
-    ensures { IfOk result (λ ops. ops ≡ map scheme_op normal.now.ops) }
+    ensures { IfOk result (λ ops. ops ≡ map (scheme_op second_marks) normal.now.ops) }
 {
     let mut compiled = Listed::empty(alloc);
     let ops = normal.text().ops.items();
@@ -61,15 +62,16 @@ fn compile_ops(alloc: Global, normal: &Normal) -> Result<TargetOps, AllocError>
     Ok(compiled)
 }
 
-/// Compiles a text in normal form by the first scheme, after Cohen and Petrank (SPAA 2015): what an instruction reads from a
-/// node is checked at once, and what it exchanges is guarded right before it. The result is barred for the text, and within
-/// the limits. The cost grows with the count of instructions.
+/// Compiles a text in normal form by combined checks, after Cohen and Petrank (SPAA 2015): what an instruction reads from a node
+/// is checked before it is used, together with what was read since the last check, and what it exchanges is guarded right
+/// before it. The result is barred for the text, and within the limits. The cost grows with the square of a method's count
+/// of instructions.
 ///
 /// # Errors
 /// `AllocError` where memory runs out; nothing else is refused.
-#[tactic(auto, using(crate::proofs::Barring::first_scheme_is_barred, crate::proofs::SchemeLimits::first_scheme_is_within))]
+#[tactic(auto, using(crate::proofs::Barring::second_scheme_is_barred, crate::proofs::Barring::second_scheme_is_within))]
 pub fn compile(alloc: Global, normal: &Normal) -> Result<Target, AllocError>
-    ensures same { IfOk result (λ target. target ≡ first_scheme normal.now) }
+    ensures same { IfOk result (λ target. target ≡ second_scheme normal.now) }
     ensures barred { IfOk result (λ target. IsBarred target normal.now) }
     ensures within { IfOk result (λ target. IsTargetWithinLimits target) }
 {

@@ -22,7 +22,8 @@ pub fn same_register(a: Reg, b: Reg) -> bool
     a == b
 }
 
-fn destination(instr: &Instr) -> Option<Reg>
+/// The register that the instruction sets, if it sets one.
+pub fn destination(instr: &Instr) -> Option<Reg>
     ensures { result ≡ destination instr.now }
 {
     match instr {

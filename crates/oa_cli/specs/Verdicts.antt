@@ -10,7 +10,7 @@ use Rattle.norm_check.specs.declared.refusal.Refusal.{Refusal}
 use Rattle.norm_check.specs.Refusals.{IsRefused}
 use Rattle.target_code.specs.TargetSpelling.{target_spelling}
 use Rattle.target_code.specs.Barred.{IsBarred}
-use Rattle.target_code.specs.FirstScheme.{first_scheme}
+use Rattle.target_code.specs.SecondScheme.{second_scheme}
 use Rattle.norm_parser.specs.DraftShown.{fault_shown}
 use Rattle.line_words.specs.declared.fault.ParseFault.{ParseFault}
 use Rattle.documents.specs.declared.document.Document.{Document}
@@ -66,12 +66,12 @@ IsAnswered bytes plan state = IsAccepted bytes × (first_form bytes ≡ Some pla
 abbrev pub IsShown : List ℕ → List ℕ → Type 0
 IsShown bytes spelling = (document : Document) × IsDocument bytes document × (spelling ≡ spelling_of document.text)
 
--- the bytes are a document whose text is in normal form, and this is the spelling of what the first scheme makes of it, which
+-- the bytes are a document whose text is in normal form, and this is the spelling of what the second scheme makes of it, which
 -- is barred for that text
 abbrev pub IsCompiled : List ℕ → List ℕ → Type 0
 IsCompiled bytes spelling =
-    (document : Document) × IsDocument bytes document × IsNormal document.text × IsBarred (first_scheme document.text) document.text
-    × (spelling ≡ target_spelling (first_scheme document.text))
+    (document : Document) × IsDocument bytes document × IsNormal document.text × IsBarred (second_scheme document.text) document.text
+    × (spelling ≡ target_spelling (second_scheme document.text))
 
 -- the bytes are a document whose text is in normal form, and that isn't of the first form
 abbrev pub IsOtherForm : List ℕ → Type 0

@@ -8,7 +8,7 @@ ghost use Rattle.norm_lang.specs.Limits.{IsWithinLimits};
 ghost use Rattle.norm_lang.specs.NormalForm.{IsNormal};
 ghost use Rattle.target_code.specs.TargetSpelling.{target_spelling};
 ghost use Rattle.target_code.specs.Barred.{IsBarred};
-ghost use Rattle.target_code.specs.FirstScheme.{first_scheme};
+ghost use Rattle.target_code.specs.SecondScheme.{second_scheme};
 ghost use Rattle.documents.specs.DocumentRead.{IsDocument};
 ghost use Rattle.oa_cli.specs.declared.verdict.Verdict.{Verdict};
 ghost use Rattle.oa_cli.specs.Refusals.{refusal_line};
@@ -84,8 +84,8 @@ fn compile_document(alloc: Global, bytes: &[u8], document: Document) -> Verdict
 
 /// The canonical spelling of what a text compiles to.
 fn compiled(alloc: Global, normal: &Normal) -> Result<ByteText, AllocError>
-    ensures same { IfOk result (λ spelling. spelling ≡ target_spelling (first_scheme normal.now)) }
-    ensures barred { IfOk result (λ _. IsBarred (first_scheme normal.now) normal.now) }
+    ensures same { IfOk result (λ spelling. spelling ≡ target_spelling (second_scheme normal.now)) }
+    ensures barred { IfOk result (λ _. IsBarred (second_scheme normal.now) normal.now) }
 {
     let target = compile(alloc, normal)?;
     show_target(alloc, &target)

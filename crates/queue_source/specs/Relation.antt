@@ -4,7 +4,10 @@ use Rattle.std.specs.Prelude.{ℕ, zero, suc, ◌≡◌, ◌≢◌, ◌≤◌, �
 use Rattle.norm_lang.specs.declared.registers.Reference.{Reference}
 use Rattle.norm_lang.specs.Registers.{no_reference}
 use Rattle.source_machine.specs.declared.event.SourceEvent.{SourceEvent}
-use Rattle.source_machine.specs.State.{Value, Number, Node, NamedNode, SourceCaller}
+use Rattle.source_machine.specs.declared.state.Value.{Value}
+use Rattle.source_machine.specs.declared.state.Value.TheVariants.{Number, Node}
+use Rattle.source_machine.specs.declared.state.NamedNode.{NamedNode}
+use Rattle.source_machine.specs.declared.state.SourceCaller.{SourceCaller}
 use Rattle.source_machine.specs.Memory.{fields_named}
 use Rattle.source_machine.specs.MethodRuns.{MethodRun}
 use Rattle.source_machine.specs.Proper.{has}

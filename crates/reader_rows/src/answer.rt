@@ -5,9 +5,11 @@ ghost use Rattle.oa_text.specs.Lines.{lines_of};
 
 use crate::contents::contents;
 use crate::error::RowError;
+use crate::flaws::flaws_answer;
 use crate::instruction::instruction_answer;
 use crate::limits::few;
-use crate::row::{Reader, Row};
+use crate::row::{Judge, Reader, Row};
+use crate::rules::{path_answer, rule_answer};
 use documents::read_document;
 use line_words::fault::ParseError;
 use norm_lang::show;
@@ -111,6 +113,50 @@ fn part_answer(alloc: Global, row: &Row<'_>, bytes: &[u8]) -> Result<String, Row
     }
 }
 
+/// What a rule says of an instruction of a text, or the fault of the text.
+fn judged_text(alloc: Global, row: &Row<'_>, judge: Judge, bytes: &[u8]) -> Result<String, RowError>
+    requires { length (lines_of bytes.now) + 1 < 2 ^ 32 }
+{
+    let at = row.first as usize;
+    match parse(alloc, bytes) {
+        Ok(text) => match (judge, text.ops.items().first()) {
+            (_, None) => Err(RowError::Wrong),
+            (Judge::Paths, Some(op)) => path_answer(alloc, op, row.wrapup, at),
+            (judge, Some(op)) => rule_answer(alloc, &text, judge, op, row.wrapup, at),
+        },
+        Err(error) => refused(alloc, error),
+    }
+}
+
+/// The flaws of an instruction of a target, or the fault of the target.
+fn judged_target(
+    alloc: Global,
+    row: &Row<'_>,
+    carried: bool,
+    bytes: &[u8],
+) -> Result<String, RowError>
+    requires { length (lines_of bytes.now) + 1 < 2 ^ 32 }
+{
+    match read_target(alloc, bytes) {
+        Ok(target) => match target.ops.items().first() {
+            None => Err(RowError::Wrong),
+            Some(op) => flaws_answer(alloc, op, carried, row.wrapup, row.first as usize),
+        },
+        Err(error) => refused(alloc, error),
+    }
+}
+
+/// What a rule says of an instruction.
+fn judged(alloc: Global, row: &Row<'_>, judge: Judge, bytes: &[u8]) -> Result<String, RowError>
+    requires { length (lines_of bytes.now) + 1 < 2 ^ 32 }
+{
+    match judge {
+        Judge::Flaws => judged_target(alloc, row, false, bytes),
+        Judge::CarriedFlaws => judged_target(alloc, row, true, bytes),
+        judge => judged_text(alloc, row, judge, bytes),
+    }
+}
+
 /// What the row's reader answers.
 pub fn answer(alloc: Global, row: &Row<'_>, bytes: &[u8]) -> Result<String, RowError> {
     if !few(bytes) {
@@ -126,5 +172,6 @@ pub fn answer(alloc: Global, row: &Row<'_>, bytes: &[u8]) -> Result<String, RowE
         Reader::DocumentText => document_text(alloc, bytes),
         Reader::Target => accepted(alloc, read_target(alloc, bytes)),
         Reader::TargetShown => target_shown(alloc, bytes),
+        Reader::Judged(judge) => judged(alloc, row, judge, bytes),
     }
 }

@@ -1,4 +1,4 @@
-//! Answers rows: each row names a reader of the language and spells the lines that it reads.
+//! Answers rows: each row names a reader of the language, or a rule, and spells the lines that are read.
 //!
 //! A row is a line of standard input, and its answer, the row after it, is a line of standard output. A line that begins
 //! with `#` is a heading and is written as it stands; an empty line is skipped. `lines NAME SPELLING` names lines that the
@@ -8,9 +8,11 @@
 mod answer;
 mod contents;
 mod error;
+mod flaws;
 mod instruction;
 mod limits;
 mod row;
+mod rules;
 mod spelling;
 
 use crate::error::RowError;

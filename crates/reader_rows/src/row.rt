@@ -1,4 +1,25 @@
-//! A row: the reader that it names, the line that is read first, and the spelling of all lines.
+//! A row: the reader or the rule that it names, the line or the instruction that is meant, and the spelling of all lines.
+
+/// What is asked of an instruction of the first operation.
+#[derive(Clone, Copy, Debug, PartialEq, Eq)]
+pub enum Judge {
+    /// Which rules over paths it breaks.
+    Paths,
+    /// Whether a register is of the wrong kind.
+    Kind,
+    /// Whether it computes on a reference.
+    Computes,
+    /// Whether it ends the method as it mustn't.
+    End,
+    /// Whether it retires a register that it mustn't.
+    Retire,
+    /// Whether it jumps or picks out of range.
+    Range,
+    /// The flaws of an instruction of a target whose wrap-up uses nothing of its generator.
+    Flaws,
+    /// The flaws of an instruction of a target whose wrap-up uses `n1` and keeps `r3`.
+    CarriedFlaws,
+}
 
 /// What a row asks for.
 #[derive(Clone, Copy, Debug, PartialEq, Eq)]
@@ -23,15 +44,34 @@ pub enum Reader {
     Target,
     /// The canonical spelling of the target that the lines are.
     TargetShown,
+    /// What a rule says of an instruction.
+    Judged(Judge),
 }
 
 /// A row.
 #[derive(Clone, Copy, Debug)]
 pub struct Row<'a> {
     pub reader: Reader,
-    /// The line that is read first, from 1.
+    /// The line that is read first, from 1, or the place of the instruction that is judged, from 0.
     pub first: u32,
+    /// Whether the instruction is one of the wrap-up.
+    pub wrapup: bool,
     pub spelling: &'a str,
+}
+
+/// What a word asks of an instruction.
+fn judge_named(word: &str) -> Option<Judge> {
+    match word {
+        "paths" => Some(Judge::Paths),
+        "kind" => Some(Judge::Kind),
+        "computes" => Some(Judge::Computes),
+        "end" => Some(Judge::End),
+        "retire" => Some(Judge::Retire),
+        "range" => Some(Judge::Range),
+        "flaws" => Some(Judge::Flaws),
+        "carried_flaws" => Some(Judge::CarriedFlaws),
+        _ => None,
+    }
 }
 
 /// The reader that a word names.
@@ -47,6 +87,15 @@ fn reader_named(word: &str) -> Option<Reader> {
         "show_document_text" => Some(Reader::DocumentText),
         "target" => Some(Reader::Target),
         "show_target" => Some(Reader::TargetShown),
+        word => Some(Reader::Judged(judge_named(word)?)),
+    }
+}
+
+/// Whether a word names the wrap-up, and not the generator.
+fn is_wrapup(word: &str) -> Option<bool> {
+    match word {
+        "gen" => Some(false),
+        "wrap" => Some(true),
         _ => None,
     }
 }
@@ -59,25 +108,35 @@ fn cut(line: &str) -> (&str, &str) {
     }
 }
 
+/// The row whose number stands before its spelling.
+fn numbered<'a>(reader: Reader, wrapup: bool, rest: &'a str) -> Option<Row<'a>> {
+    let (first, spelling) = cut(rest);
+    let first = first.parse::<u32>().ok()?;
+    Some(Row {
+        reader,
+        first,
+        wrapup,
+        spelling,
+    })
+}
+
 impl<'a> Row<'a> {
     /// The row that a line is.
     pub fn of_line(line: &'a str) -> Option<Row<'a>> {
         let (word, rest) = cut(line);
         let reader = reader_named(word)?;
-        if reader == Reader::Front || reader == Reader::Head {
-            let (first, spelling) = cut(rest);
-            let first = first.parse::<u32>().ok()?;
-            Some(Row {
-                reader,
-                first,
-                spelling,
-            })
-        } else {
-            Some(Row {
+        match reader {
+            Reader::Front | Reader::Head => numbered(reader, false, rest),
+            Reader::Judged(_) => {
+                let (method, rest) = cut(rest);
+                numbered(reader, is_wrapup(method)?, rest)
+            }
+            _ => Some(Row {
                 reader,
                 first: 1,
+                wrapup: false,
                 spelling: rest,
-            })
+            }),
         }
     }
 }

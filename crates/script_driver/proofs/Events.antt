@@ -6,7 +6,9 @@ use Rattle.norm_lang.specs.declared.text.Text.{Text}
 use Rattle.source_machine.specs.declared.event.SourceEvent.{SourceEvent}
 use Rattle.source_machine.specs.declared.event.SourceEvent.TheVariants.{Access, Restart}
 use Rattle.source_machine.specs.declared.event.SourceReply.{SourceReply}
-use Rattle.source_machine.specs.State.{Memory, Running, SourceMachine}
+use Rattle.source_machine.specs.declared.state.Memory.{Memory}
+use Rattle.source_machine.specs.declared.state.Running.{Running}
+use Rattle.source_machine.specs.declared.state.SourceMachine.{SourceMachine}
 use Rattle.source_machine.specs.Step.{access_turn}
 use Rattle.source_machine.specs.Run.{is_enabled, is_pending, is_new_pending, source_step, source_run}
 use Rattle.script_driver.specs.Image.{restart_where, source_after}

@@ -4,7 +4,14 @@ use Rattle.std.specs.Prelude.{◌+◌, false, [], ◌∷◌, map, None, slice_ge
 use Rattle.norm_lang.specs.declared.text.Op.{Op}
 use Rattle.norm_lang.specs.declared.text.Text.{Text}
 use Rattle.norm_lang.specs.declared.registers.Registers.{Registers}
-use Rattle.source_machine.specs.State.{Number, Memory, Stand, InGenerator, InList, InWrapUp, Running, SourceCaller, SourceMachine, named_from}
+use Rattle.source_machine.specs.declared.state.Value.TheVariants.{Number}
+use Rattle.source_machine.specs.declared.state.Memory.{Memory}
+use Rattle.source_machine.specs.declared.state.Stand.{Stand}
+use Rattle.source_machine.specs.declared.state.Stand.TheVariants.{InGenerator, InList, InWrapUp}
+use Rattle.source_machine.specs.declared.state.Running.{Running}
+use Rattle.source_machine.specs.declared.state.SourceCaller.{SourceCaller}
+use Rattle.source_machine.specs.declared.state.SourceMachine.{SourceMachine}
+use Rattle.source_machine.specs.State.{named_from}
 use Rattle.source_machine.specs.Step.{goes_on, generator_begun, generator_from, wrap_up_begun}
 use Rattle.script_driver.specs.declared.caller.Routine.{Routine}
 use Rattle.script_driver.specs.declared.caller.Routine.TheVariants as routines

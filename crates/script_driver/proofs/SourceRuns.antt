@@ -16,7 +16,10 @@ use Rattle.norm_lang.specs.Local.{Spot, local_run}
 use Rattle.source_machine.specs.declared.event.SourceEvent.{SourceEvent}
 use Rattle.source_machine.specs.declared.event.SourceEvent.TheVariants.{Restart}
 use Rattle.source_machine.specs.declared.event.SourceReply.TheVariants as answers
-use Rattle.source_machine.specs.State.{Number, InWrapUp, SourceMachine, first_value, root_value, source_start}
+use Rattle.source_machine.specs.declared.state.Value.TheVariants.{Number}
+use Rattle.source_machine.specs.declared.state.Stand.TheVariants.{InWrapUp}
+use Rattle.source_machine.specs.declared.state.SourceMachine.{SourceMachine}
+use Rattle.source_machine.specs.State.{first_value, root_value, source_start}
 use Rattle.source_machine.specs.Step.{wrap_up_end}
 use Rattle.source_machine.specs.Run.{is_enabled, is_call, is_call_of, source_run}
 use Rattle.script_driver.specs.declared.plan.Call.{Call}

@@ -20,7 +20,13 @@ use Rattle.source_machine.specs.declared.event.SourceEvent.{SourceEvent}
 use Rattle.source_machine.specs.declared.event.SourceEvent.TheVariants.{Access, Restart}
 use Rattle.source_machine.specs.declared.event.SourceReply.{SourceReply}
 use Rattle.source_machine.specs.Memory.{value_at}
-use Rattle.source_machine.specs.State.{Number, Memory, Stand, InGenerator, InList, InWrapUp, Running, SourceCaller, SourceMachine}
+use Rattle.source_machine.specs.declared.state.Value.TheVariants.{Number}
+use Rattle.source_machine.specs.declared.state.Memory.{Memory}
+use Rattle.source_machine.specs.declared.state.Stand.{Stand}
+use Rattle.source_machine.specs.declared.state.Stand.TheVariants.{InGenerator, InList, InWrapUp}
+use Rattle.source_machine.specs.declared.state.Running.{Running}
+use Rattle.source_machine.specs.declared.state.SourceCaller.{SourceCaller}
+use Rattle.source_machine.specs.declared.state.SourceMachine.{SourceMachine}
 use Rattle.source_machine.specs.Step.{goes_on, generator_stand, generator_from, generator_begun as source_begun, wrap_up_end, wrap_up_begun, list_turn, access_turn}
 use Rattle.source_machine.specs.Run.{is_enabled, is_call, source_step, source_run}
 use Rattle.script_driver.specs.declared.caller.Access.{Access as WordAccess}

@@ -12,7 +12,8 @@ use Rattle.source_machine.specs.declared.event.SourceEvent.{SourceEvent}
 use Rattle.source_machine.specs.declared.event.SourceEvent.TheVariants.{Begin, Access, Restart}
 use Rattle.source_machine.specs.declared.event.SourceReply.{SourceReply}
 use Rattle.source_machine.specs.declared.event.SourceReply.TheVariants as answers
-use Rattle.source_machine.specs.State.{SourceMachine, source_start}
+use Rattle.source_machine.specs.declared.state.SourceMachine.{SourceMachine}
+use Rattle.source_machine.specs.State.{source_start}
 use Rattle.source_machine.specs.Run.{source_run, source_replies}
 use Rattle.script_driver.specs.declared.plan.Call.{Call}
 use Rattle.script_driver.specs.declared.plan.Plan.{Plan}

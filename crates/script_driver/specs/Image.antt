@@ -4,7 +4,8 @@ use Rattle.std.specs.Prelude.{ℕ, zero, suc, Bool, true, false, List, [], ◌�
 use Rattle.norm_lang.specs.declared.text.Text.{Text}
 use Rattle.source_machine.specs.declared.event.SourceEvent.{SourceEvent}
 use Rattle.source_machine.specs.declared.event.SourceEvent.TheVariants.{Begin, Access, Restart}
-use Rattle.source_machine.specs.State.{SourceMachine, source_start}
+use Rattle.source_machine.specs.declared.state.SourceMachine.{SourceMachine}
+use Rattle.source_machine.specs.State.{source_start}
 use Rattle.source_machine.specs.Run.{is_enabled, source_step}
 use Rattle.script_driver.specs.declared.plan.Call.{Call}
 use Rattle.script_driver.specs.declared.plan.Plan.{Plan}

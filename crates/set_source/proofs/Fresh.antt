@@ -4,7 +4,9 @@ use Rattle.std.proofs.lemmas.Bool.{cases_eq}
 use Rattle.norm_lang.specs.declared.registers.Reference.{Reference}
 use Rattle.norm_lang.specs.Registers.{no_reference}
 use Rattle.source_machine.specs.declared.event.SourceEvent.TheVariants.{Access}
-use Rattle.source_machine.specs.State.{Value, Number, Node, NamedNode}
+use Rattle.source_machine.specs.declared.state.Value.{Value}
+use Rattle.source_machine.specs.declared.state.Value.TheVariants.{Number, Node}
+use Rattle.source_machine.specs.declared.state.NamedNode.{NamedNode}
 use Rattle.source_machine.specs.Memory.{fields_named, with_field}
 use Rattle.source_machine.specs.MethodRuns.{MethodRun, run_with, put}
 use Rattle.source_machine.specs.Proper.{has}

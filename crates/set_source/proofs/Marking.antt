@@ -3,7 +3,7 @@ use Rattle.std.proofs.Common.{ℕ, suc, ◌≡◌, ◌≤◌, ◌<◌, ◌⊎◌
 use Rattle.norm_lang.specs.declared.registers.Reference.{Reference}
 use Rattle.norm_lang.specs.Registers.{no_reference, same_reference}
 use Rattle.source_machine.specs.declared.event.SourceEvent.TheVariants.{Access}
-use Rattle.source_machine.specs.State.{Node}
+use Rattle.source_machine.specs.declared.state.Value.TheVariants.{Node}
 use Rattle.source_machine.specs.Memory.{fields_named, with_field}
 use Rattle.source_machine.specs.MethodRuns.{MethodRun, run_begun, put}
 use Rattle.source_machine.specs.Proper.{has}

@@ -6,7 +6,8 @@ use Rattle.norm_lang.specs.declared.registers.Reference.{Reference}
 use Rattle.norm_lang.specs.Registers.{no_reference, same_reference}
 use Rattle.source_machine.specs.declared.event.SourceEvent.TheVariants.{Access}
 use Rattle.source_machine.specs.declared.event.SourceReply.TheVariants as replies
-use Rattle.source_machine.specs.State.{Node, Memory}
+use Rattle.source_machine.specs.declared.state.Value.TheVariants.{Node}
+use Rattle.source_machine.specs.declared.state.Memory.{Memory}
 use Rattle.source_machine.specs.Memory.{fields_named, with_field}
 use Rattle.source_machine.specs.MethodRuns.{MethodRun, run_begun, put}
 use Rattle.source_machine.specs.Proper.{has}

@@ -6,7 +6,8 @@ use Rattle.norm_lang.specs.declared.registers.Reference.{Reference}
 use Rattle.norm_lang.specs.Registers.{no_reference, same_reference, same_bool}
 use Rattle.norm_lang.specs.Local.{remainder}
 use Rattle.norm_lang.specs.Shipped.{buckets_from}
-use Rattle.source_machine.specs.State.{Number, Node, root_value}
+use Rattle.source_machine.specs.declared.state.Value.TheVariants.{Number, Node}
+use Rattle.source_machine.specs.State.{root_value}
 use Rattle.source_machine.specs.Memory.{value_at, fields_named}
 use Rattle.source_machine.specs.MethodRuns.{MethodRun, run_begun, run_with}
 use Rattle.source_machine.specs.Proper.{has}

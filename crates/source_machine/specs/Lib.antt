@@ -8,3 +8,6 @@ pub mod Hands
 pub mod Frames
 pub mod RunLaws
 pub mod Keeper
+pub mod Rows
+pub mod Plans
+pub mod Calls

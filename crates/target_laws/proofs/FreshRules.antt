@@ -12,7 +12,8 @@ use Rattle.target_code.specs.declared.target.TargetInstr.TheVariants.{Plain, Che
 use Rattle.target_code.specs.declared.target.Target.{Target}
 use Rattle.target_code.specs.Erasing.{source_place}
 use Rattle.target_laws.specs.Methods.{Method, code_in, source_in}
-use Rattle.target_laws.specs.Places.{with_place, source_path, is_fresh_along}
+use Rattle.target_laws.specs.Places.{with_place, source_path}
+use Rattle.target_code.specs.PathStates.{is_fresh_along}
 use Rattle.target_laws.specs.Rules.{NewIsPassedOnce, PutsGoToFresh, ExchangesShowNoFresh, OpenReadsAreNotFresh, KeptAreNotFresh}
 use Rattle.target_laws.proofs.InText.{paths_are_in_text, surely_fresh_in_target}
 use Rattle.target_laws.proofs.Redirected.{openly_redirected}

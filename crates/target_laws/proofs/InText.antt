@@ -12,7 +12,8 @@ use Rattle.local_laws.proofs.Inside.{stays_inside}
 use Rattle.target_code.specs.declared.target.Target.{Target}
 use Rattle.target_code.specs.Erasing.{source_place, ErasesTo}
 use Rattle.target_laws.specs.Methods.{Method, code_in, source_in}
-use Rattle.target_laws.specs.Places.{source_path, is_set_along, is_fresh_along, PathsAreInText, PathsLeadInside, TargetsStayInside, CyclesAreInText, StatesAreSame, FreshMayBeInText, SurelyFreshInTarget}
+use Rattle.target_laws.specs.Places.{source_path, PathsAreInText, PathsLeadInside, TargetsStayInside, CyclesAreInText, StatesAreSame, FreshMayBeInText, SurelyFreshInTarget}
+use Rattle.target_code.specs.PathStates.{is_set_along, is_fresh_along}
 use Rattle.target_laws.proofs.ErasedPlaces.{targets_erase_by_places, sources_are_inside}
 use Rattle.target_laws.proofs.Filled.{methods_filled}
 use Rattle.target_laws.proofs.SourcePaths.{way_in_source, way_inside, goes_inside, cycle_in_source, state_in_source, set_ignores_jumps, fresh_ignores_jumps}

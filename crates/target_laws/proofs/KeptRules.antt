@@ -9,7 +9,7 @@ use Rattle.target_code.specs.declared.target.TargetInstr.{TargetInstr}
 use Rattle.target_code.specs.declared.target.TargetInstr.TheVariants.{Plain, Check, Guard}
 use Rattle.target_code.specs.Erasing.{source_place}
 use Rattle.target_laws.specs.Methods.{code_in}
-use Rattle.target_laws.specs.Places.{over_plain, is_set_along}
+use Rattle.target_code.specs.PathStates.{over_plain, is_set_along}
 use Rattle.target_laws.specs.Rules.{KeptAreLeft, KeptStayUnset}
 use Rattle.target_laws.proofs.Redirected.{sets_redirected, follows_redirected, exchanges_redirected}
 use Rattle.target_laws.proofs.TextRules.{keeps_at, is_false}

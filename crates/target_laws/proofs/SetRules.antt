@@ -14,7 +14,8 @@ use Rattle.target_code.specs.declared.target.TargetInstr.TheVariants.{Plain, Che
 use Rattle.target_code.specs.declared.target.Target.{Target}
 use Rattle.target_code.specs.Erasing.{source_place, ErasesTo}
 use Rattle.target_laws.specs.Methods.{Method, code_in, generator_of, wrapup_of, Arrives}
-use Rattle.target_laws.specs.Places.{over_plain, source_path, is_set_along}
+use Rattle.target_laws.specs.Places.{source_path}
+use Rattle.target_code.specs.PathStates.{over_plain, is_set_along}
 use Rattle.target_laws.specs.Rules.{GeneratorsReadSet, WrapUpsReadSet}
 use Rattle.target_laws.proofs.ErasedPlaces.{erased_here}
 use Rattle.target_laws.proofs.InText.{paths_are_in_text, set_in_source}

@@ -14,7 +14,8 @@ use Rattle.target_code.specs.declared.target.TargetInstr.{TargetInstr}
 use Rattle.target_code.specs.declared.target.TargetInstr.TheVariants.{Plain, Check, Guard}
 use Rattle.target_code.specs.Paths.{target_goes_from, IsTargetSuccessor}
 use Rattle.target_code.specs.Erasing.{source_place, redirected}
-use Rattle.target_laws.specs.Places.{ErasesAt, ErasesByPlaces, with_place, source_path, IsTargetCycle, over_plain, IgnoresJumps}
+use Rattle.target_laws.specs.Places.{ErasesAt, ErasesByPlaces, with_place, source_path, IsTargetCycle, IgnoresJumps}
+use Rattle.target_code.specs.PathStates.{over_plain}
 use Rattle.target_laws.proofs.Redirected.{sets_redirected, is_new_redirected}
 
 -- ---- steps

@@ -1,16 +1,16 @@
 -- Local code of a target settles: a cycle of it would be one of the text's.
-use Rattle.std.proofs.Common.{◌≡◌, ℕ, ◌<◌, ◌≤◌, ◌⊎◌, inl, inr, false, List, [], ◌∷◌, ◌++◌, map, length, Option, Some, None, refl, sym, ap, subst, ◌∙◌}
+use Rattle.std.proofs.Common.{◌≡◌, ℕ, zero, suc, ◌<◌, ◌≤◌, ◌⊎◌, inl, inr, false, List, [], ◌∷◌, ◌++◌, map, length, Option, Some, None, refl, sym, ap, subst, ◌∙◌}
 use Rattle.std.specs.Prelude.{slice_get, IsTrue, IsSomeAnd}
 use Rattle.std.proofs.lemmas.Bool.{cases_lt}
 use Rattle.std.proofs.lemmas.Option.{slice_get_past}
 use Rattle.norm_lang.specs.declared.text.Instr.{Instr}
 use Rattle.norm_lang.specs.declared.text.Text.{Text}
 use Rattle.norm_lang.specs.declared.registers.Registers.{Registers}
-use Rattle.norm_lang.specs.Local.{Spot}
+use Rattle.norm_lang.specs.Local.{Spot, go_on}
 use Rattle.norm_lang.specs.Flow.{Leads, goes_to, goes_from}
 use Rattle.norm_lang.specs.NormalForm.{IsNormal}
 use Rattle.norm_lang.specs.PathRules.{looks, looks_at}
-use Rattle.local_laws.specs.Settling.{HasNoBlindCycle, StaysInside, rests, goes_on}
+use Rattle.local_laws.specs.Settling.{run_by, HasNoBlindCycle, StaysInside, rests, goes_on}
 use Rattle.local_laws.proofs.Bounded.{StepsAcyclic, settles_by, settles_once, settled}
 use Rattle.local_laws.proofs.Inside.{there_is, stops_there, own_end}
 use Rattle.local_laws.proofs.Settled.{step_goes, no_blind_cycle, GoesBlindly, blind_way}
@@ -21,7 +21,8 @@ use Rattle.target_code.specs.Paths.{target_goes_from, TargetPath}
 use Rattle.target_code.specs.Erasing.{source_place, redirected, ErasesTo}
 use Rattle.target_laws.specs.Methods.{Method, code_in, source_in}
 use Rattle.target_laws.specs.Places.{ErasesAt, ErasesByPlaces}
-use Rattle.target_laws.specs.LocalCode.{target_local_at, target_next_spot, TargetSettles, target_may_stop, TargetCodeSettles, TargetSettlesOnce, TargetSettlesInside, TargetPathsLeadOn}
+use Rattle.target_laws.specs.LocalCode.{TargetSettles, target_may_stop, TargetCodeSettles, TargetSettlesOnce, TargetSettlesInside, TargetPathsLeadOn}
+use Rattle.target_code.specs.LocalCode.{target_local_at, target_next_spot, target_run}
 use Rattle.target_laws.proofs.ErasedPlaces.{targets_erase_by_places, sources_are_inside, erased_here}
 use Rattle.target_laws.proofs.InText.{source_stays}
 use Rattle.target_laws.proofs.Redirected.{looks_redirected, end_redirected}
@@ -68,10 +69,20 @@ steps_acyclic code source erases inside free = record {
       free (source_place code at) (map (source_place code) (last ∷ path)) way.0 way.1);
 }
 
+-- local code is run by its steps
+pub target_run_is : (code : List TargetInstr) (n : ℕ) (here : Spot) → target_run code n here ≡ run_by (target_next_spot code) n here
+target_run_is code zero here = refl
+target_run_is code (suc n) here = by_next (target_next_spot code here) (target_run_is code n)
+  where
+    by_next : (o : Option Spot) → ((next : Spot) → target_run code n next ≡ run_by (target_next_spot code) n next) → go_on o here (target_run code n) ≡ go_on o here (run_by (target_next_spot code) n)
+    by_next None rest = refl
+    by_next (Some next) rest = rest next
+
 pub target_code_settles : TargetCodeSettles
 target_code_settles target text normal erases method here =
-    settles_by (target_next_spot (code_in method)) (length (code_in method)) (GoesLocally (code_in method))
-    (steps_acyclic (code_in method) (source_in method) (targets_erase_by_places target text erases method) (source_stays normal method) (no_blind_cycle text method.number method.op method.wrapup normal method.in_text)) here
+    subst (λ (there : Spot). TargetSettles (code_in method) here there) (sym (target_run_is (code_in method) (length (code_in method)) here))
+    (settles_by (target_next_spot (code_in method)) (length (code_in method)) (GoesLocally (code_in method))
+    (steps_acyclic (code_in method) (source_in method) (targets_erase_by_places target text erases method) (source_stays normal method) (no_blind_cycle text method.number method.op method.wrapup normal method.in_text)) here)
 
 pub target_settles_at_one : TargetSettlesOnce
 target_settles_at_one code here one other = settles_once (target_next_spot code) here one other

@@ -12,7 +12,7 @@ use Rattle.target_code.specs.declared.target.Target.{Target}
 use Rattle.target_code.specs.Paths.{TargetPath}
 use Rattle.target_code.specs.Erasing.{source_place, redirected, ErasesTo}
 use Rattle.target_laws.specs.Methods.{Method, code_in, source_in}
-use Rattle.target_laws.specs.Places.{is_fresh_along}
+use Rattle.target_code.specs.PathStates.{is_fresh_along}
 use Rattle.target_laws.proofs.ErasedPlaces.{erased_here}
 use Rattle.target_laws.proofs.InText.{fresh_may_be_in_text}
 

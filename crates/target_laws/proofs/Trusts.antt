@@ -19,7 +19,8 @@ use Rattle.target_code.specs.Erasing.{source_place, ErasesTo}
 use Rattle.target_code.specs.Flaws.{fetches, clean_after, target_commits}
 use Rattle.target_code.specs.Keeping.{carries}
 use Rattle.target_laws.specs.Methods.{Method, code_in, source_in, generator_of, Arrives}
-use Rattle.target_laws.specs.Places.{over_plain, source_path, is_set_along}
+use Rattle.target_laws.specs.Places.{source_path}
+use Rattle.target_code.specs.PathStates.{over_plain, is_set_along}
 use Rattle.target_laws.specs.Trusted.{Trusted, Unchecked, confirmed, trust_after, carried_by, carried_in, trust_at_start, trust_along, is_live_along, trust_of, TrustIsKnown, TrustedWhereRead, CarriedAreTrusted}
 use Rattle.target_laws.specs.Uses.{is_clean_along}
 use Rattle.target_laws.proofs.ErasedPlaces.{erased_here}

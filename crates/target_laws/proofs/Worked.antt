@@ -22,7 +22,8 @@ use Rattle.target_code.specs.Flaws.{Published, Validated}
 use Rattle.target_code.specs.Keeping.{carries}
 use Rattle.target_code.specs.Paths.{IsTargetSuccessor, TargetPath, target_goes_from}
 use Rattle.target_laws.specs.Methods.{Method}
-use Rattle.target_laws.specs.Places.{source_path, IsTargetCycle, is_set_along, is_fresh_along}
+use Rattle.target_laws.specs.Places.{source_path, IsTargetCycle}
+use Rattle.target_code.specs.PathStates.{is_set_along, is_fresh_along}
 use Rattle.target_laws.specs.Trusted.{Trusted, Unchecked, Spoilt, trust_along}
 use Rattle.target_laws.specs.Uses.{is_clean_along, guard_along}
 

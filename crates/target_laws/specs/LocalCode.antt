@@ -1,33 +1,20 @@
--- Local code of a target, where checks and guards are accesses.
-use Rattle.std.specs.Prelude.{◌≡◌, ℕ, ◌<◌, Bool, true, List, ◌++◌, length, Option, Some, None, slice_get, IsTrue, IsSomeAnd}
+-- Where local code of a target settles.
+use Rattle.std.specs.Prelude.{ℕ, ◌≡◌, ◌<◌, Bool, true, List, ◌++◌, length, slice_get, IsTrue, IsSomeAnd}
 use Rattle.norm_lang.specs.declared.text.Text.{Text}
-use Rattle.norm_lang.specs.declared.registers.Registers.{Registers}
-use Rattle.norm_lang.specs.Local.{Spot, local_step}
+use Rattle.norm_lang.specs.Local.{Spot}
 use Rattle.norm_lang.specs.NormalForm.{IsNormal}
-use Rattle.local_laws.specs.Settling.{run_by, SettlesBy, may_stop}
+use Rattle.local_laws.specs.Settling.{SettlesBy, may_stop}
 use Rattle.target_code.specs.declared.target.TargetInstr.{TargetInstr}
 use Rattle.target_code.specs.declared.target.TargetInstr.TheVariants.{Plain, Check, Guard}
 use Rattle.target_code.specs.declared.target.Target.{Target}
+use Rattle.target_code.specs.LocalCode.{target_next_spot, target_run}
 use Rattle.target_code.specs.Paths.{TargetPath}
 use Rattle.target_code.specs.Erasing.{ErasesTo}
 use Rattle.target_laws.specs.Methods.{Method, code_in}
 
--- the instruction that may stand at a place, if it is local; a check and a guard aren't
-abbrev pub target_local_at : Option TargetInstr → ℕ → Registers → Option Spot
-target_local_at (Some (Plain i)) at registers = local_step i at registers
-target_local_at _ at registers = None
-
--- what the instruction at a spot does, if it is local
-abbrev pub target_next_spot : List TargetInstr → Spot → Option Spot
-target_next_spot code here = target_local_at (slice_get code here.at) here.at here.registers
-
 -- local code of a target settles
 abbrev pub TargetSettles : List TargetInstr → Spot → Spot → Type 0
 TargetSettles code = SettlesBy (target_next_spot code)
-
--- local code of a target, at most so many instructions
-abbrev pub target_run : List TargetInstr → ℕ → Spot → Spot
-target_run code = run_by (target_next_spot code)
 
 -- local code of a target may stop at a check, at a guard, and where the text's may
 abbrev pub target_may_stop : Bool → TargetInstr → Bool

@@ -1,18 +1,18 @@
 -- Erasing by places: what stands in a text for what stands at a place of a target, and the text's path along which a target's
 -- path leads. Nothing is said of how the target was compiled.
-use Rattle.std.specs.Prelude.{◌≡◌, ℕ, ◌+◌, ◌<◌, Bool, true, false, List, [], ◌∷◌, length, Option, Some, None, slice_get, IsTrue}
+use Rattle.std.specs.Prelude.{◌≡◌, ℕ, ◌+◌, ◌<◌, List, [], ◌∷◌, length, Option, Some, None, slice_get, IsTrue}
 use Rattle.norm_lang.specs.declared.text.Reg.{Reg}
 use Rattle.norm_lang.specs.declared.text.Instr.{Instr}
 use Rattle.norm_lang.specs.declared.text.Text.{Text}
 use Rattle.norm_lang.specs.Flow.{Leads, state_along, IsPath, IsCycle}
-use Rattle.norm_lang.specs.Freshness.{fresh_after, MayBeFresh, IsSurelyFresh}
-use Rattle.norm_lang.specs.RegisterUse.{set_after}
+use Rattle.norm_lang.specs.Freshness.{MayBeFresh, IsSurelyFresh}
 use Rattle.norm_lang.specs.Limits.{IsWithinLimits}
 use Rattle.norm_lang.specs.NormalForm.{IsNormal}
 use Rattle.target_code.specs.declared.target.TargetInstr.{TargetInstr}
 use Rattle.target_code.specs.declared.target.TargetInstr.TheVariants.{Plain, Check, Guard}
 use Rattle.target_code.specs.declared.target.Target.{Target}
-use Rattle.target_code.specs.Paths.{target_goes_from, IsTargetSuccessor, TargetPath, OnSomeTargetPath}
+use Rattle.target_code.specs.Paths.{target_goes_from, IsTargetSuccessor, TargetPath}
+use Rattle.target_code.specs.PathStates.{over_plain, MayBeFreshInTarget, IsSurelyFreshInTarget}
 use Rattle.target_code.specs.Erasing.{source_place, redirected, ErasesTo}
 use Rattle.target_laws.specs.Methods.{Method, code_in, source_in}
 
@@ -43,31 +43,9 @@ abbrev pub IsTargetCycle : List TargetInstr → List ℕ → ℕ → Type 0
 IsTargetCycle code [] at = ⊥
 IsTargetCycle code (last ∷ path) at = Leads (IsTargetSuccessor code) at (last ∷ path) at
 
--- what a text's instructions make of a state, for a target's: checks and guards leave it as it is
-abbrev pub over_plain : {S : Type 0} → (Instr → S → S) → TargetInstr → S → S
-over_plain after (Plain i) state = after i state
-over_plain after Check state = state
-over_plain after (Guard r) state = state
-
 -- it is no matter to a state where jumps lead
 abbrev pub IgnoresJumps : {S : Type 0} → (Instr → S → S) → Type 0
 IgnoresJumps {S} after = (place : ℕ → ℕ) (i : Instr) (state : S) → after (redirected place i) state ≡ after i state
-
--- whether a register was set on a path of a target's method, by whether it was before
-abbrev pub is_set_along : List TargetInstr → List ℕ → Reg → Bool → Bool
-is_set_along code path r was = state_along (over_plain (set_after r)) was code path
-
--- whether the last instruction that set it there is a `new`
-abbrev pub is_fresh_along : List TargetInstr → List ℕ → Reg → Bool
-is_fresh_along code path r = state_along (over_plain (fresh_after r)) false code path
-
--- on some path to an instruction of a target a register is fresh
-abbrev pub MayBeFreshInTarget : List TargetInstr → Reg → ℕ → Type 0
-MayBeFreshInTarget code r at = OnSomeTargetPath (over_plain (fresh_after r)) false code at true
-
--- and on every one
-abbrev pub IsSurelyFreshInTarget : List TargetInstr → Reg → ℕ → Type 0
-IsSurelyFreshInTarget code r at = (path : List ℕ) → TargetPath code path at → is_fresh_along code path r ≡ true
 
 -- each method of a target that erases to a text erases to the text's, by places
 abbrev pub TargetsEraseByPlaces : Type 0

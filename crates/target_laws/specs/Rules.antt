@@ -19,7 +19,7 @@ use Rattle.target_code.specs.declared.target.TargetInstr.TheVariants.{Plain}
 use Rattle.target_code.specs.declared.target.Target.{Target}
 use Rattle.target_code.specs.Erasing.{ErasesTo}
 use Rattle.target_laws.specs.Methods.{Method, code_in, generator_of, wrapup_of, Arrives}
-use Rattle.target_laws.specs.Places.{is_set_along, is_fresh_along}
+use Rattle.target_code.specs.PathStates.{is_set_along, is_fresh_along}
 
 -- the rules that look at one instruction: its registers are of the right kinds (N1, N2), it is no end of the other method (N8),
 -- it retires what it expects or its object (N12), and its jump and its roots are inside (N13), of the target's method

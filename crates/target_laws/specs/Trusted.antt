@@ -21,7 +21,7 @@ use Rattle.target_code.specs.Flaws.{fetches, target_commits}
 use Rattle.target_code.specs.Paths.{target_reads}
 use Rattle.target_code.specs.Keeping.{carries}
 use Rattle.target_laws.specs.Methods.{Method, code_in, generator_of, wrapup_of, Arrives}
-use Rattle.target_laws.specs.Places.{is_set_along}
+use Rattle.target_code.specs.PathStates.{is_set_along}
 use Rattle.target_laws.specs.Uses.{is_clean_along}
 
 -- what is known of a register: it was checked, or computed from what was; or it was loaded or made in this run of the method

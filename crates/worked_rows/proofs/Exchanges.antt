@@ -2,7 +2,8 @@
 use Rattle.std.specs.Prelude.{◌≡◌, [], ◌∷◌, Some, None, refl}
 use Rattle.norm_lang.specs.Shipped.{root_entry}
 use Rattle.source_machine.specs.declared.event.SourceReply.TheVariants as replies
-use Rattle.source_machine.specs.State.{Number, InList}
+use Rattle.source_machine.specs.declared.state.Value.TheVariants.{Number}
+use Rattle.source_machine.specs.declared.state.Stand.TheVariants.{InList}
 use Rattle.worked_rows.specs.Small.{n1, n2, n3, ten}
 use Rattle.worked_rows.specs.Runs.{replies_after, roots_after, retired_after, nodes_after, stands_after, undisturbed, Replies, to_node}
 use Rattle.worked_rows.specs.ExchangeRows.{expects_mark, expects_no_mark, marks_and_unmarks, exchanges_ten, exchanges_nine, on_null, auxiliary_on_null, on_marked_null, on_marked, retires_null, retires_two, fails_to_retire, auxiliary_retires, in_order, fails_between, ExchangeRows}

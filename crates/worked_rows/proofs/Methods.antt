@@ -2,7 +2,7 @@
 use Rattle.std.specs.Prelude.{◌≡◌, [], ◌∷◌, Some, None, refl}
 use Rattle.source_machine.specs.declared.event.SourceEvent.TheVariants.{Begin, Access, Restart, GiveUp}
 use Rattle.source_machine.specs.declared.event.SourceReply.TheVariants as replies
-use Rattle.source_machine.specs.State.{Number}
+use Rattle.source_machine.specs.declared.state.Value.TheVariants.{Number}
 use Rattle.worked_rows.specs.Runs.{replies_after, begins, nodes_after, to_node, first_nodes}
 use Rattle.worked_rows.specs.MethodRows.{adds_then_loads, adds_then_commits, adds_in_wrap_up, doubles_count, adds_again, exchanges_once, makes_node, MethodRows}
 

@@ -2,6 +2,7 @@ pub mod Small
 pub mod NormalFormRows
 pub mod KindRows
 pub mod TargetRows
+pub mod SchemeRows
 pub mod Runs
 pub mod ExchangeRows
 pub mod MethodRows

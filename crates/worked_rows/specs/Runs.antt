@@ -6,7 +6,14 @@ use Rattle.norm_lang.specs.declared.text.Text.{Text}
 use Rattle.source_machine.specs.declared.event.SourceEvent.{SourceEvent}
 use Rattle.source_machine.specs.declared.event.SourceEvent.TheVariants.{Begin, Access}
 use Rattle.source_machine.specs.declared.event.SourceReply.{SourceReply}
-use Rattle.source_machine.specs.State.{Value, Number, Node, NamedNode, Stand, Running, SourceCaller, SourceMachine, source_start}
+use Rattle.source_machine.specs.declared.state.Value.{Value}
+use Rattle.source_machine.specs.declared.state.Value.TheVariants.{Number, Node}
+use Rattle.source_machine.specs.declared.state.NamedNode.{NamedNode}
+use Rattle.source_machine.specs.declared.state.Stand.{Stand}
+use Rattle.source_machine.specs.declared.state.Running.{Running}
+use Rattle.source_machine.specs.declared.state.SourceCaller.{SourceCaller}
+use Rattle.source_machine.specs.declared.state.SourceMachine.{SourceMachine}
+use Rattle.source_machine.specs.State.{source_start}
 use Rattle.source_machine.specs.Run.{source_run}
 use Rattle.worked_rows.specs.Small.{n1, n7, small}
 

@@ -1,10 +1,8 @@
--- Rows of compiled code: flaws of small targets, what the first scheme makes of small methods, and where a target is told to
--- erase differently.
-use Rattle.std.specs.Prelude.{◌≡◌, ℕ, Bool, true, false, List, [], ◌∷◌, drop, codes}
+-- Rows of compiled code: flaws of small targets, and where a target is told to erase differently.
+use Rattle.std.specs.Prelude.{ℕ, Bool, true, false, List, [], ◌∷◌, drop, codes}
 use Rattle.norm_lang.specs.declared.text.Start.TheVariants as starts
 use Rattle.norm_lang.specs.declared.text.Instr.{Instr}
-use Rattle.norm_lang.specs.declared.text.Instr.TheVariants.{Set, Null, LoadRoot, LoadPick, LoadField, New, Put, Cas, Jump, IfEq, IfMarked, Commit, Return, ReturnNone}
-use Rattle.norm_lang.specs.declared.text.Op.{Op}
+use Rattle.norm_lang.specs.declared.text.Instr.TheVariants.{Set, Null, LoadRoot, LoadPick, LoadField, New, Put, IfEq, IfMarked, Commit, Return, ReturnNone}
 use Rattle.norm_lang.specs.declared.text.Text.{Text}
 use Rattle.norm_lang.specs.Shipped.{reference_field, reference_root, root_entry}
 use Rattle.target_code.specs.declared.target.TargetInstr.{TargetInstr}
@@ -12,9 +10,8 @@ use Rattle.target_code.specs.declared.target.TargetInstr.TheVariants.{Plain, Che
 use Rattle.target_code.specs.declared.target.TargetOp.{TargetOp}
 use Rattle.target_code.specs.declared.target.Target.{Target}
 use Rattle.target_code.specs.Erasing.{erased, ErasesTo}
-use Rattle.target_code.specs.FirstScheme.{scheme_code}
 use Rattle.target_code.specs.Barred.{FlawKind, ErasesDifferently, UncheckedUse, GuardDropped, HasFlaw, IsFirstFlaw}
-use Rattle.worked_rows.specs.Small.{n0, n1, n2, n7, r0, r1, r2, r3, key, next, first, ten, small_fields, small_roots, small_nodes, does, over, field_entry}
+use Rattle.worked_rows.specs.Small.{n0, n1, n2, n7, r0, key, first, ten, small_fields, small_roots, small_nodes, over}
 
 -- operations of a target over the small declarations
 abbrev pub barred_over : List TargetOp → Target
@@ -51,38 +48,6 @@ loads_count = Plain (LoadRoot n7 ten) ∷ Plain (Commit []) ∷ []
 
 abbrev pub returns_count : List TargetInstr
 returns_count = Plain (Return n7) ∷ []
-
--- a commit of r3 and r2, after which the wrap-up reads r1, r0 and r3
-abbrev pub keeps_three : Op
-keeps_three =
-    does
-    (LoadRoot r0 first ∷ LoadRoot r1 first ∷ LoadRoot r2 first ∷ LoadRoot r3 first ∷ Commit (root_entry first r3 r2 ∷ []) ∷ [])
-    (IfEq r1 r0 1 ∷ IfMarked r3 2 ∷ ReturnNone ∷ [])
-
-abbrev pub keeps_three_barred : List TargetInstr
-keeps_three_barred =
-    Plain (LoadRoot r0 first)
-    ∷ Check
-    ∷ Plain (LoadRoot r1 first)
-    ∷ Check
-    ∷ Plain (LoadRoot r2 first)
-    ∷ Check
-    ∷ Plain (LoadRoot r3 first)
-    ∷ Check
-    ∷ Guard r3
-    ∷ Guard r2
-    ∷ Guard r0
-    ∷ Guard r1
-    ∷ Check
-    ∷ Plain (Commit (root_entry first r3 r2 ∷ []))
-    ∷ []
-
--- the exchange of a number, and one of a field whose two references are one register; neither keeps anything
-abbrev pub exchanges_number : Op
-exchanges_number = does (Cas (root_entry ten n1 n0) 0 ∷ Jump 0 ∷ []) (ReturnNone ∷ [])
-
-abbrev pub exchanges_same : Op
-exchanges_same = does (Cas (field_entry r0 next r1 r1) 0 ∷ Jump 0 ∷ []) (ReturnNone ∷ [])
 
 -- a text of two operations, the second with a jump
 abbrev pub sets_six : List Instr
@@ -173,19 +138,6 @@ pub record FlawRows : Type 0 where
   pub new_unchecked : IsSpoilt makes only_replies UncheckedUse false 1
   -- n7 isn't handed over to the wrap-up, so a commit doesn't use what was loaded into it
   pub count_not_handed_over : ¬ IsSpoilt loads_count returns_count UncheckedUse false 1
-
-pub record SchemeRows : Type 0 where
-  -- a pick is compiled to itself and a check
-  pub pick_compiled : scheme_code (does [] []) (LoadPick r0 first 2 n0 ∷ []) ≡ Plain (LoadPick r0 first 2 n0) ∷ Check ∷ []
-  -- a commit has guards for its operands first, and then for what is kept, in the order of numbers, each register once
-  pub kept_guarded : scheme_code keeps_three keeps_three.generator ≡ keeps_three_barred
-  -- the wrap-up, which exchanges nothing, stays as it is
-  pub kept_unguarded_later : scheme_code keeps_three keeps_three.wrapup ≡ Plain (IfEq r1 r0 1) ∷ Plain (IfMarked r3 2) ∷ Plain ReturnNone ∷ []
-  -- numbers are exchanged without guards, and so without a check
-  pub numbers_unguarded : scheme_code exchanges_number exchanges_number.generator ≡ Plain (Cas (root_entry ten n1 n0) 0) ∷ Plain (Jump 0) ∷ []
-  -- the object and one register that is both the expected and the new operand: two guards
-  pub guarded_once : scheme_code exchanges_same exchanges_same.generator
-      ≡ Guard r0 ∷ Guard r1 ∷ Check ∷ Plain (Cas (field_entry r0 next r1 r1) 0) ∷ Plain (Jump 0) ∷ []
 
 pub record ErasingRows : Type 0 where
   pub nothing_differs : ErasesTo compiled original

@@ -6,7 +6,8 @@ ghost use Rattle.worked_rows.specs.ExchangeRows.{ExchangeRows};
 ghost use Rattle.worked_rows.specs.KindRows.{KindRows};
 ghost use Rattle.worked_rows.specs.MethodRows.{MethodRows};
 ghost use Rattle.worked_rows.specs.NormalFormRows.{NormalFormRows};
-ghost use Rattle.worked_rows.specs.TargetRows.{FlawRows, SchemeRows, ErasingRows};
+ghost use Rattle.worked_rows.specs.SchemeRows.{BarrierRows, CheckRows, QueueRows};
+ghost use Rattle.worked_rows.specs.TargetRows.{FlawRows, ErasingRows};
 ghost use Rattle.worked_rows.specs.ValueRows.{ValueRows};
 
 /// Exchanges, beginning again, loads and local instructions, in runs of the source machine.
@@ -24,10 +25,17 @@ pub fn normal_form_rows()
     ensures kinds { KindRows }
 {}
 
-/// Flaws of compiled code, what the first scheme makes of small methods, and where a target erases differently.
-#[tactic(auto, using(crate::proofs::SpoiltTargets::flaw_rows, crate::proofs::CompiledRows::scheme_rows, crate::proofs::OtherTargets::erasing_rows))]
+/// Flaws of compiled code, and where a target erases differently.
+#[tactic(auto, using(crate::proofs::SpoiltTargets::flaw_rows, crate::proofs::OtherTargets::erasing_rows))]
 pub fn target_rows()
     ensures flaws { FlawRows }
-    ensures schemes { SchemeRows }
     ensures erasing { ErasingRows }
+{}
+
+/// What the second scheme makes of small methods and of the queue, and beside which instructions it puts checks.
+#[tactic(auto, using(crate::proofs::CompiledRows::barrier_rows, crate::proofs::CompiledRows::check_rows, crate::proofs::CompiledRows::queue_rows))]
+pub fn scheme_rows()
+    ensures barriers { BarrierRows }
+    ensures checks { CheckRows }
+    ensures queue { QueueRows }
 {}

@@ -47,8 +47,8 @@ gen
 root r0 tail
 chk
 load r1 r0 next
-chk
 null r2
+chk
 ifeq r1 r2 11
 grd r0
 grd r1
@@ -70,8 +70,8 @@ ifeq n7 n1 13
 root r0 tail
 chk
 load r1 r0 next
-chk
 null r2
+chk
 ifeq r1 r2 12
 grd r0
 grd r1
@@ -83,21 +83,19 @@ op dequeue 0
 gen
 null r3
 root r0 head
-chk
 root r1 tail
 chk
 load r2 r0 next
 chk
-ifeq r0 r1 15
+ifeq r0 r1 13
 load n1 r2 value
-chk
 set n2 1
 grd r0
 grd r2
 chk
 commit 1
 withroot head r0 r2 retire r0
-ifeq r2 r3 21
+ifeq r2 r3 19
 grd r1
 grd r2
 chk
@@ -151,18 +149,16 @@ returnnone
 const OBJECT_GUARDED_ONCE: &[u8] = b"op x 1
 gen
 root r0 h
-chk
 null r1
 grd r0
 grd r1
 chk
 cas r0 next r1 r0 0
 load n1 r0 key
-chk
 grd r0
 chk
 cas r0 key n1 n0 0
-casroot t n1 n0 7
+casroot t n1 n0 6
 commit 0
 wrap
 returnnone
@@ -195,7 +191,6 @@ chk
 load r2 r4 next
 chk
 load r0 r2 next
-chk
 null r6
 mov r5 r4
 mov r1 r2
@@ -216,8 +211,8 @@ return n7
 again
 ";
 
-/// Jumps forward and backward, to the method's first and last instruction, and of an exchange to itself. The wrap-up keeps
-/// r0, so the last block of the generator begins with a guard.
+/// Jumps forward and backward, to the method's first and last instruction, and of an exchange to itself. Two lead to blocks
+/// before which a check is due. The wrap-up keeps r0, so the last block of the generator begins with a guard.
 const JUMPS: &[u8] = b"op x 0
 gen
 root r0 h
@@ -239,8 +234,8 @@ returnnone
 const JUMPS_TO_BLOCKS: &[u8] = b"op x 0
 gen
 root r0 h
-chk
 null r1
+chk
 ifeq r0 r1 12
 ifmarked r0 7
 load r0 r0 next
@@ -262,6 +257,35 @@ chk
 casroot h r2 r2 0
 jump 0
 returnnone
+";
+
+/// Ends of an operation: one reads a number that was set after a load, and one doesn't read what was loaded.
+const ENDS: &[u8] = b"op x 1
+gen
+commit 0
+wrap
+root n1 t
+ifless n0 n1 5
+root n2 t
+set n3 1
+return n3
+root n2 t
+return n0
+";
+
+const ENDS_CHECKED: &[u8] = b"op x 1
+gen
+commit 0
+wrap
+root n1 t
+chk
+ifless n0 n1 7
+root n2 t
+set n3 1
+chk
+return n3
+root n2 t
+return n0
 ";
 
 // What `compile` writes of a document, whose parts are joined.
@@ -309,12 +333,13 @@ fn queue_is_compiled(rt: HostRuntime) -> Result<(), Fail> {
 }
 
 #[test]
-fn texts_are_compiled_by_the_first_scheme(rt: HostRuntime) -> Result<(), Fail> {
+fn texts_are_compiled_with_combined_checks(rt: HostRuntime) -> Result<(), Fail> {
     let alloc = rt.alloc();
     for (text, target) in [
         (OBJECT_TWICE, OBJECT_GUARDED_ONCE),
         (TWO_ENTRIES, TWO_ENTRIES_GUARDED),
         (JUMPS, JUMPS_TO_BLOCKS),
+        (ENDS, ENDS_CHECKED),
     ] {
         let wanted = joined(alloc, &[TARGET_HEAD, target])?;
         let parts: &[&[u8]] = &[HEAD, text];

@@ -1,0 +1,62 @@
+-- A new entry belongs, and so does one that takes a call.
+use Rattle.std.proofs.Common.{◌≡◌, ℕ, zero, suc, ◌≤◌, ◌<◌, true, false, [], length, replicate, Option, Some, None, refl, arith}
+use Rattle.std.specs.Prelude.{slice_get, slice_index}
+use Rattle.std.proofs.lemmas.Option.{slice_get_within}
+use Rattle.guard_words.specs.Guards.{no_guards, guard_at}
+use Rattle.guard_words.proofs.Rows.{guards_follow}
+use Rattle.target_code.specs.declared.target.TargetOp.{TargetOp}
+use Rattle.target_code.specs.declared.target.Target.{Target}
+use Rattle.caller_steps.specs.declared.call.Call.{Call}
+use Rattle.caller_steps.specs.Calls.{is_call, is_call_of}
+use Rattle.caller_steps.specs.Settings.{Setting}
+use Rattle.caller_steps.specs.Entries.{Entry, idle_entry}
+use Rattle.caller_steps.specs.Operands.{code_in}
+use Rattle.caller_steps.specs.After.{taken}
+use Rattle.caller_steps.specs.Belongs.{Belongs}
+use Rattle.caller_laws.proofs.Methods.{Methods}
+use Rattle.caller_laws.proofs.Reaching.{start_reached}
+use Rattle.caller_laws.proofs.Stopping.{first_names}
+
+no_cradle : (slots k : ℕ) → slice_index (replicate 4 0) k ≤ slots
+no_cradle slots zero = omega arith
+no_cradle slots (suc zero) = omega arith
+no_cradle slots (suc (suc zero)) = omega arith
+no_cradle slots (suc (suc (suc zero))) = omega arith
+no_cradle slots (suc (suc (suc (suc k)))) = omega arith
+
+-- a new entry belongs to every fitting pair with more callers than its number
+pub idle_belongs : (target : Target) (setting : Setting) (c : ℕ) → Methods target → c < setting.sizes.callers → Belongs target setting (idle_entry c)
+idle_belongs target setting c methods lt = record {
+  number = lt;
+  op = methods.ops;
+  hand = record {
+    registers = first_names setting.sizes.slots [];
+    started = first_names setting.sizes.slots [];
+    guards = record { row = guards_follow.row_first; within = no_guard };
+    seen = omega arith;
+  };
+  cradles = record { count = refl; within = no_cradle setting.sizes.slots };
+  reaches = methods.some 0 false methods.ops;
+  stands = tt;
+}
+  where
+    no_guard : (r : ℕ) → guard_at no_guards r ≤ setting.sizes.slots
+    no_guard r = let none : guard_at no_guards r ≡ 0 = guards_follow.first_slot r in omega (arith, none)
+
+-- an operation that is called is the target's
+called : (target : Target) (call : Call) → is_call target call ≡ true → call.op < length target.ops
+called target call is = of (slice_get target.ops call.op) refl is
+  where
+    of : (o : Option TargetOp) → slice_get target.ops call.op ≡ o → is_call_of o call.args ≡ true → call.op < length target.ops
+    of None at wrong = absurd (let z : false ≡ true = wrong in cc)
+    of (Some op) at right = slice_get_within target.ops call.op op at
+
+pub taken_belongs : (target : Target) (setting : Setting) (call : Call) (e : Entry) → Methods target → is_call target call ≡ true → Belongs target setting e → Belongs target setting (taken call e)
+taken_belongs target setting call e methods is b = record {
+  number = b.number;
+  op = called target call is;
+  hand = record { registers = b.hand.registers; started = b.hand.started; guards = b.hand.guards; seen = b.hand.seen };
+  cradles = b.cradles;
+  reaches = start_reached (code_in target (taken call e)) e.hand.registers (methods.some call.op false (called target call is));
+  stands = (refl, refl);
+}

@@ -1,0 +1,190 @@
+-- An entry that stands before the access of its instruction belongs after it.
+use Rattle.std.proofs.Common.{◌≡◌, ◌≢◌, ℕ, zero, suc, ◌+◌, ◌≤◌, ◌==◌, ◌&&◌, ◌||◌, not, Bool, true, false, [], ◌∷◌, length, Option, Some, None, refl, sym, ◌∙◌, subst, arith, if◌then◌else◌}
+use Rattle.std.specs.Prelude.{nat_le, nat_lt}
+use Rattle.std.specs.List.{list_any}
+use Rattle.std.proofs.lemmas.Bool.Decides.{nat_tests}
+use Rattle.norm_lang.specs.declared.text.Reg.{Reg}
+use Rattle.norm_lang.specs.declared.text.Reg.TheVariants.{Ref}
+use Rattle.norm_lang.specs.declared.text.CasEntry.{CasEntry}
+use Rattle.norm_lang.specs.declared.text.FieldKind.{FieldKind}
+use Rattle.norm_lang.specs.declared.text.Instr.{Instr}
+use Rattle.norm_lang.specs.declared.text.Instr.TheVariants as instr
+use Rattle.norm_lang.specs.declared.registers.Registers.{Registers}
+use Rattle.norm_lang.specs.Registers.{number_in}
+use Rattle.norm_lang.specs.RegisterUse.{same_register, sets}
+use Rattle.norm_lang.specs.InstructionRules.{holds_number, is_unlike, field_kind, root_kind, are_roots_of_one_kind}
+use Rattle.norm_lang.specs.Limits.{is_register}
+use Rattle.norm_lang.specs.Local.{remainder}
+use Rattle.target_code.specs.declared.target.TargetInstr.{TargetInstr}
+use Rattle.target_code.specs.declared.target.TargetInstr.TheVariants.{Plain, Check, Guard}
+use Rattle.target_code.specs.declared.target.Target.{Target}
+use Rattle.target_code.specs.Paths.{target_goes_from}
+use Rattle.target_code.specs.TargetLimits.{is_target_new}
+use Rattle.guard_words.specs.Guards.{with_guard, pass_check}
+use Rattle.guard_words.proofs.Rows.{guards_follow}
+use Rattle.caller_steps.specs.declared.routine.AfterRetire.{AfterRetire}
+use Rattle.caller_steps.specs.declared.routine.AfterRetire.TheVariants as onwards
+use Rattle.caller_steps.specs.Settings.{Setting}
+use Rattle.caller_steps.specs.Entries.{Entry}
+use Rattle.caller_steps.specs.Operands.{instr_in, register_number, slot_in, with_word}
+use Rattle.caller_steps.specs.Wants.{instr_wanted, plain_wanted}
+use Rattle.caller_steps.specs.After.{cas_ended, cas_failed, check_failed, check_passed, checked, goes_on, guarded, instr_accepted, loaded, onward_goes, plain_accepted, retires_then, succeeds, to_retire, with_access, with_hand, with_restart}
+use Rattle.caller_steps.specs.Lawful.{LawfulValue, Told}
+use Rattle.caller_steps.specs.Belongs.{NamesSlots, RetireFits, cas_of, has_access, has_retire, is_retiring}
+use Rattle.caller_laws.proofs.Methods.{Methods, SettingSane}
+use Rattle.caller_laws.proofs.Named.{named, worded}
+use Rattle.caller_laws.proofs.Reaching.{one_way}
+use Rattle.caller_laws.proofs.Stopping.{Holds, Here, BelongsIn, hand_belongs, restarted_belongs, site_of}
+use Rattle.caller_laws.proofs.Going.{other_word, leaves_all, goes_belongs, guards_put, pick_kind, remainder_below}
+
+-- what is premise of each lemma here: an entry that runs, at its instruction
+abbrev pub Stays : Target → Setting → Entry → TargetInstr → Type 0
+Stays target setting e i = record {
+  holds : Holds target setting e;
+  here : Here setting.sizes.slots target e;
+  is : instr_in target e ≡ Some i;
+}
+
+-- a register of the kind of what is loaded into it
+loads : (target : Target) (setting : Setting) (e : Entry) (i : Instr) (d : Reg) (kind : Option FieldKind) (word : ℕ) → Methods target → SettingSane setting → Stays target setting e (Plain i)
+    → target_goes_from (Some (Plain i)) e.hand.at (e.hand.at + 1) ≡ true → is_target_new (Plain i) ≡ false → ((r : ℕ) → sets (Ref r) i ≡ false → same_register (Ref r) d ≡ false)
+    → LawfulValue setting.sizes.slots kind word → is_unlike kind d ≡ false → BelongsIn target setting (loaded target setting.sizes d word e)
+loads target setting e i d kind word sane some s goes fresh touched lawful like =
+    goes_belongs target setting (with_access e) (Plain i) (e.hand.at + 1) (with_word e.hand.registers d word) sane some s.holds s.here s.is goes
+    (record { made = λ r wrote new. absurd (let x : false ≡ true = sym fresh ∙ new in cc); kept = λ r isnt. other_word e.hand.registers d word r (touched r isnt) })
+    (worded setting.sizes.slots e.hand.registers kind d word s.here.names lawful like)
+
+-- an instruction that sets nothing, and the next one
+pub passes : (target : Target) (setting : Setting) (e : Entry) (i : TargetInstr) → Methods target → SettingSane setting → Stays target setting e i
+    → target_goes_from (Some i) e.hand.at (e.hand.at + 1) ≡ true → is_target_new i ≡ false → BelongsIn target setting (goes_on target setting.sizes e.hand.registers e)
+passes target setting e i sane some s goes fresh =
+    goes_belongs target setting e i (e.hand.at + 1) e.hand.registers sane some s.holds s.here s.is goes (leaves_all i e.hand.registers fresh) s.here.names
+
+checks : (target : Target) (setting : Setting) (e : Entry) (word : ℕ) → Methods target → SettingSane setting → Stays target setting e Check → word ≤ setting.last
+    → BelongsIn target setting (checked target setting.sizes word e)
+checks target setting e word sane some s le = of (word == e.hand.seen) where
+  h : Holds target setting e
+  h = s.holds
+
+  of : (b : Bool) → BelongsIn target setting (if b then check_passed target setting.sizes e else check_failed target setting.sizes word e)
+  of true = passes target setting (with_hand e (record e.hand { guards = pass_check e.hand.guards })) Check sane some
+      (record { holds = record { number = h.number; op = h.op; started = h.started; guards = record { row = guards_follow.row_passed e.hand.guards h.guards.row; within = h.guards.within }; cradles = h.cradles; seen = h.seen }; here = s.here; is = s.is })
+      (one_way (e.hand.at + 1)) refl
+  of false = restarted_belongs target setting (with_hand (with_restart e) (record e.hand { seen = word; accessed = false })) sane some
+      (record { number = h.number; op = h.op; started = h.started; guards = h.guards; cradles = h.cradles; seen = le }) s.here (rw s.is refl)
+
+guards : (target : Target) (setting : Setting) (e : Entry) (r : Reg) → Methods target → SettingSane setting → Stays target setting e (Guard r) → BelongsIn target setting (guarded target setting.sizes r e)
+guards target setting e r sane some s =
+    passes target setting (with_hand e (record e.hand { guards = with_guard e.hand.guards (register_number r) (slot_in e.hand.registers r) })) (Guard r) sane some
+    (record { holds = record { number = h.number; op = h.op; started = h.started; guards = guards_put setting.sizes.slots e.hand.guards (register_number r) (slot_in e.hand.registers r) h.guards (named setting.sizes.slots e.hand.registers r s.here.names); cradles = h.cradles; seen = h.seen }; here = s.here; is = s.is })
+    (one_way (e.hand.at + 1)) refl where
+      h : Holds target setting e
+      h = s.holds
+
+-- the exchange that retired, or didn't, goes on
+abbrev pub GoesOnward : Target → Setting → Entry → AfterRetire → Type 0
+GoesOnward target setting e go = BelongsIn target setting (onward_goes target setting.sizes go e)
+
+pub retiring : (target : Target) (setting : Setting) (go : AfterRetire) (slot : ℕ) (e : Entry) → Holds target setting e → Here setting.sizes.slots target e → slot ≤ setting.sizes.slots
+    → (slot ≢ 0 → RetireFits (instr_in target e) go) → BelongsIn target setting (onward_goes target setting.sizes go e) → BelongsIn target setting (retires_then target setting.sizes go slot e)
+retiring target setting go zero e h c le stands goes = goes
+retiring target setting go (suc j) e h c le stands goes = record {
+  number = h.number;
+  op = h.op;
+  hand = hand_belongs target setting e h c.names;
+  cradles = h.cradles;
+  reaches = c.reached;
+  stands = ((omega arith, le, tt), stands (λ null. let z : suc j ≡ 0 = null in omega (arith, z)));
+}
+
+pub retire_within : (slots : ℕ) (retire : Option Reg) (registers : Registers) → NamesSlots slots registers → to_retire retire registers ≤ slots
+retire_within slots None registers s = omega arith
+retire_within slots (Some r) registers s = named slots registers r s
+
+pub retire_some : (retire : Option Reg) (registers : Registers) → to_retire retire registers ≢ 0 → has_retire retire ≡ true
+retire_some None registers ne = absurd (ne refl)
+retire_some (Some r) registers ne = refl
+
+pub two : (l next : ℕ) → list_any (λ (n : ℕ). n == next) (next ∷ l ∷ []) ≡ true
+two l next = let same : (next == next) ≡ true = grind (arith, nat_tests) in rw same refl
+
+other_two : (l next : ℕ) → list_any (λ (n : ℕ). n == l) (next ∷ l ∷ []) ≡ true
+other_two l next = let same : (l == l) ≡ true = grind (arith, nat_tests) in of (next == l) same where
+  of : (b : Bool) → (l == l) ≡ true → (b || ((l == l) || false)) ≡ true
+  of true same = refl
+  of false same = rw same refl
+
+-- an auxiliary exchange
+cas_keeps : (target : Target) (setting : Setting) (e : Entry) (exchange : CasEntry) (l word : ℕ) → Methods target → SettingSane setting → Stays target setting e (Plain (instr.Cas exchange l))
+    → BelongsIn target setting (cas_ended target setting.sizes exchange l word e)
+cas_keeps target setting e exchange l word sane some s = of (succeeds exchange e.hand.registers word) where
+  i : TargetInstr
+  i = Plain (instr.Cas exchange l)
+
+  of : (b : Bool) → BelongsIn target setting (if b then retires_then target setting.sizes onwards.Next (to_retire exchange.retire e.hand.registers) e else cas_failed target setting.sizes l e)
+  of true = retiring target setting onwards.Next (to_retire exchange.retire e.hand.registers) e s.holds s.here (retire_within setting.sizes.slots exchange.retire e.hand.registers s.here.names)
+      (λ ne. subst (λ (o : Option TargetInstr). is_retiring (cas_of o) ≡ true) (sym s.is) (retire_some exchange.retire e.hand.registers ne))
+      (passes target setting e i sane some s (two l (e.hand.at + 1)) refl)
+  of false = goes_belongs target setting e i l e.hand.registers sane some s.holds s.here s.is (other_two l (e.hand.at + 1)) (leaves_all i e.hand.registers refl) s.here.names
+
+second : (a b : Bool) → (a || b) ≡ false → b ≡ false
+second true b e = absurd (let z : true ≡ false = e in cc)
+second false b e = e
+
+pub parts : (a b : Bool) → (a && b) ≡ true → (a ≡ true) × (b ≡ true)
+parts true b e = (refl, e)
+parts false b e = absurd (let z : false ≡ true = e in cc)
+
+unnegated : (a : Bool) → not a ≡ false → a ≡ true
+unnegated true e = refl
+unnegated false e = absurd (let z : true ≡ false = e in cc)
+
+at_least : (a b : ℕ) → nat_le a b ≡ true → a ≤ b
+at_least a b e = grind (arith, nat_tests)
+
+plain_keeps : (target : Target) (setting : Setting) (e : Entry) (i : Instr) (word : ℕ) → Methods target → SettingSane setting → Stays target setting e (Plain i)
+    → has_access (Some (Plain i)) ≡ true → Told target setting (plain_wanted i e.hand.registers) word → BelongsIn target setting (plain_accepted target setting.sizes i word e)
+plain_keeps target setting e (instr.LoadRoot d x) word sane some s has told =
+    loads target setting e (instr.LoadRoot d x) d (root_kind target.roots x) word sane some s (one_way (e.hand.at + 1)) refl (λ r isnt. isnt) told
+    (site_of target e setting.sizes.slots (Plain (instr.LoadRoot d x)) sane s.here s.is).own.form.kinds
+plain_keeps target setting e (instr.LoadPick d x n a) word sane some s has told =
+    let site = site_of target e setting.sizes.slots (Plain (instr.LoadPick d x n a)) sane s.here s.is in
+    let limits = parts (is_register d) (nat_lt x (length target.roots) && ((nat_le 1 n && nat_le n 256) && is_register a)) site.limits in
+    let limits2 = parts (nat_lt x (length target.roots)) ((nat_le 1 n && nat_le n 256) && is_register a) limits.1 in
+    let limits3 = parts (nat_le 1 n && nat_le n 256) (is_register a) limits2.1 in
+    let limits4 = parts (nat_le 1 n) (nat_le n 256) limits3.0 in
+    let one = unnegated (are_roots_of_one_kind target.roots x n) site.own.form.range in
+    let k = remainder (number_in e.hand.registers a) n in
+    let same = pick_kind target.roots x n k one (remainder_below (number_in e.hand.registers a) n (at_least 1 n limits4.0)) in
+    loads target setting e (instr.LoadPick d x n a) d (root_kind target.roots x) word sane some s (one_way (e.hand.at + 1)) refl (λ r isnt. isnt)
+    (subst (λ (kind : Option FieldKind). LawfulValue setting.sizes.slots kind word) same.0 told) site.own.form.kinds
+plain_keeps target setting e (instr.LoadField d a f) word sane some s has told =
+    loads target setting e (instr.LoadField d a f) d (field_kind target.fields f) word sane some s (one_way (e.hand.at + 1)) refl (λ r isnt. isnt) told
+    (second (holds_number a) (is_unlike (field_kind target.fields f) d) (site_of target e setting.sizes.slots (Plain (instr.LoadField d a f)) sane s.here s.is).own.form.kinds)
+plain_keeps target setting e (instr.Put a f b) word sane some s has told = passes target setting e (Plain (instr.Put a f b)) sane some s (one_way (e.hand.at + 1)) refl
+plain_keeps target setting e (instr.Cas exchange l) word sane some s has told =
+    cas_keeps target setting (with_access e) exchange l word sane some (record { holds = s.holds; here = s.here; is = s.is })
+plain_keeps target setting e (instr.Set d n) word sane some s has told = absurd cc
+plain_keeps target setting e (instr.Mov d a) word sane some s has told = absurd cc
+plain_keeps target setting e (instr.Add d a b) word sane some s has told = absurd cc
+plain_keeps target setting e (instr.Sub d a b) word sane some s has told = absurd cc
+plain_keeps target setting e (instr.Rem d a n) word sane some s has told = absurd cc
+plain_keeps target setting e (instr.Mark d a) word sane some s has told = absurd cc
+plain_keeps target setting e (instr.Unmark d a) word sane some s has told = absurd cc
+plain_keeps target setting e (instr.Null d) word sane some s has told = absurd cc
+plain_keeps target setting e (instr.New d) word sane some s has told = absurd cc
+plain_keeps target setting e (instr.Jump l) word sane some s has told = absurd cc
+plain_keeps target setting e (instr.IfEq a b l) word sane some s has told = absurd cc
+plain_keeps target setting e (instr.IfLess a b l) word sane some s has told = absurd cc
+plain_keeps target setting e (instr.IfMarked a l) word sane some s has told = absurd cc
+plain_keeps target setting e (instr.Commit exchanges) word sane some s has told = absurd cc
+plain_keeps target setting e (instr.Return a) word sane some s has told = absurd cc
+plain_keeps target setting e instr.ReturnNone word sane some s has told = absurd cc
+plain_keeps target setting e instr.Again word sane some s has told = absurd cc
+
+pub instr_keeps : (target : Target) (setting : Setting) (e : Entry) (word : ℕ) (o : Option TargetInstr) → Methods target → SettingSane setting → Holds target setting e → Here setting.sizes.slots target e
+    → instr_in target e ≡ o → has_access o ≡ true → Told target setting (instr_wanted e.number o e.hand.registers) word → BelongsIn target setting (instr_accepted target setting.sizes o word e)
+instr_keeps target setting e word None sane some h c is has told = absurd (let z : false ≡ true = has in cc)
+instr_keeps target setting e word (Some Check) sane some h c is has told = checks target setting e word sane some (record { holds = h; here = c; is = is }) told.1
+instr_keeps target setting e word (Some (Guard r)) sane some h c is has told = guards target setting e r sane some (record { holds = h; here = c; is = is })
+instr_keeps target setting e word (Some (Plain i)) sane some h c is has told = plain_keeps target setting e i word sane some (record { holds = h; here = c; is = is }) has told

@@ -1,0 +1,16 @@
+pub mod Methods
+pub mod Named
+pub mod Reaching
+pub mod Settling
+pub mod Pools
+pub mod Stopping
+pub mod Going
+pub mod Instructions
+pub mod Steps
+pub mod Safety
+pub mod Fitting
+pub mod Conditions
+pub mod Beginning
+pub mod Stored
+pub mod Equations
+pub mod Together

@@ -1,0 +1,320 @@
+-- What an entry that belongs asks for is safe.
+use Rattle.std.proofs.Common.{◌≡◌, ℕ, zero, suc, ◌+◌, ◌*◌, ◌/◌, ◌≤◌, ◌<◌, ◌==◌, ◌&&◌, ◌||◌, not, Bool, true, false, List, [], ◌∷◌, length, Option, Some, None, refl, sym, ◌∙◌, subst, ap, arith, if◌then◌else◌}
+use Rattle.std.specs.Prelude.{slice_get, nat_le, nat_lt, IsSomeAnd, IfSome, slice_index_or}
+use Rattle.std.specs.List.{list_any, list_all}
+use Rattle.std.proofs.lemmas.Bool.Decides.{nat_tests}
+use Rattle.norm_lang.specs.declared.text.Reg.{Reg}
+use Rattle.norm_lang.specs.declared.text.Reg.TheVariants.{Num, Ref}
+use Rattle.norm_lang.specs.declared.text.Place.{Place}
+use Rattle.norm_lang.specs.declared.text.Place.TheVariants as places
+use Rattle.norm_lang.specs.declared.text.CasEntry.{CasEntry}
+use Rattle.norm_lang.specs.declared.text.FieldKind.{FieldKind}
+use Rattle.norm_lang.specs.declared.text.FieldKind.TheVariants as kinds
+use Rattle.norm_lang.specs.declared.text.Instr.{Instr}
+use Rattle.norm_lang.specs.declared.text.Instr.TheVariants as instr
+use Rattle.norm_lang.specs.declared.registers.Registers.{Registers}
+use Rattle.norm_lang.specs.Registers.{reference_in, number_in}
+use Rattle.norm_lang.specs.InstructionRules.{holds_number, is_unlike, field_kind, place_kind, has_wrong_object, has_wrong_operand, are_roots_of_one_kind}
+use Rattle.norm_lang.specs.Kept.{holds_reference}
+use Rattle.norm_lang.specs.Limits.{is_register, is_place, is_entry, is_retire}
+use Rattle.norm_lang.specs.Local.{remainder}
+use Rattle.target_code.specs.declared.target.TargetInstr.{TargetInstr}
+use Rattle.target_code.specs.declared.target.TargetInstr.TheVariants.{Plain, Check, Guard}
+use Rattle.target_code.specs.declared.target.Target.{Target}
+use Rattle.guard_words.specs.Guards.{Guards, next_to_clear, least_from, is_to_clear}
+use Rattle.caller_steps.specs.Settings.{Fits, Setting}
+use Rattle.caller_steps.specs.Entries.{Entry, is_idle}
+use Rattle.caller_steps.specs.Operands.{code_in, cradle_of, instr_in, list_of, op_of, register_number, slot_in, word_in}
+use Rattle.caller_steps.specs.Clearing.{restart_spares, then_spares}
+use Rattle.caller_steps.specs.Wants.{clear_wanted, exchange_wanted, instr_wanted, list_wanted, object_exchange, place_exchange, plain_wanted, wanted, wants}
+use Rattle.caller_steps.specs.Lawful.{AsksSafely, IsLawful, IsSafe, LawfulStatus, LawfulValue, is_place as is_place_word}
+use Rattle.caller_steps.specs.Belongs.{Belongs, ClaimStands, HasBound, IsSomeOf, NamesSlots, RetireStands, RunsAt, Stands, SweepStands, has_access}
+use Rattle.std.proofs.lemmas.Option.{slice_get-get_or}
+use Rattle.oa_words.specs.declared.packed.Kind.{Kind}
+use Rattle.oa_words.specs.declared.packed.Kind.TheVariants as statuses
+use Rattle.oa_words.specs.Words.{Word, Phase, Warning, Hazard, Status, FieldOf, Cell, in_row}
+use Rattle.oa_words.specs.Packed.{StatusParts, ref_word, slot_part, status_word}
+use Rattle.phase_pools.specs.declared.stages.SweepStage.{SweepStage}
+use Rattle.phase_pools.specs.declared.stages.SweepStage.TheVariants as sweeps
+use Rattle.phase_pools.specs.declared.stages.ClaimStage.{ClaimStage}
+use Rattle.phase_pools.specs.declared.stages.ClaimStage.TheVariants as claims
+use Rattle.phase_pools.specs.declared.stages.RetireStage.{RetireStage}
+use Rattle.phase_pools.specs.declared.stages.RetireStage.TheVariants as retires
+use Rattle.phase_pools.specs.Accesses.{Loads, Stores, Exchanges, Raises}
+use Rattle.phase_pools.specs.Pools.{Sweep, sweep_wants_at, claim_wants_at, retire_wants_at}
+use Rattle.caller_steps.specs.declared.routine.Routine.{Routine}
+use Rattle.caller_steps.specs.declared.routine.Routine.TheVariants.{Idle, LoadSeen, At, InList, Retires, Restarts, Clears, Claims, Zeroes}
+use Rattle.target_runs.specs.Sane.{SaneAt}
+use Rattle.caller_laws.proofs.Methods.{Methods, SettingSane}
+use Rattle.caller_laws.proofs.Named.{named}
+use Rattle.oa_words.proofs.Parts.{status_back}
+use Rattle.caller_laws.proofs.Stopping.{Here, site_of}
+use Rattle.caller_laws.proofs.Going.{pick_kind, remainder_below}
+use Rattle.caller_laws.proofs.Instructions.{parts}
+
+less : (a b : ℕ) → a < b → nat_lt a b ≡ true
+less a b lt = grind (arith, nat_tests)
+
+pub below : (a b : ℕ) → nat_lt a b ≡ true → a < b
+below a b is = grind (arith, nat_tests)
+
+at_least : (a b : ℕ) → nat_le a b ≡ true → a ≤ b
+at_least a b e = grind (arith, nat_tests)
+
+both : (a b : Bool) → a ≡ true → b ≡ true → (a && b) ≡ true
+both a b p q = rw (p, q) refl
+
+pub neither : (a b : Bool) → (a || b) ≡ false → (a ≡ false) × (b ≡ false)
+neither true b e = absurd (let z : true ≡ false = e in cc)
+neither false b e = (refl, e)
+
+pub unnegated : (a : Bool) → not a ≡ false → a ≡ true
+unnegated true e = refl
+unnegated false e = absurd (let z : true ≡ false = e in cc)
+
+-- what a register holds may be put where a word of its kind stands
+packed_slot : (node : ℕ) (marked : Bool) → slot_part (ref_word node marked) ≡ node
+packed_slot node true = let e : (2 * node + 1) / 2 ≡ node = omega arith in e
+packed_slot node false = let e : (2 * node + 0) / 2 ≡ node = omega arith in e
+
+register_lawful : (slots : ℕ) (registers : Registers) (kind : Option FieldKind) (b : Reg) → NamesSlots slots registers → is_unlike kind b ≡ false → LawfulValue slots kind (word_in registers b)
+register_lawful slots registers None b s like = tt
+register_lawful slots registers (Some kinds.Number) b s like = tt
+register_lawful slots registers (Some kinds.Reference) (Num b) s like = absurd (let z : true ≡ false = like in cc)
+register_lawful slots registers (Some kinds.Reference) (Ref b) s like =
+    subst (λ (n : ℕ). n ≤ slots) (sym (packed_slot (reference_in registers (Ref b)).node (reference_in registers (Ref b)).marked)) (s.within b)
+
+zero_lawful : (slots : ℕ) (kind : Option FieldKind) → LawfulValue slots kind 0
+zero_lawful slots None = tt
+zero_lawful slots (Some kinds.Number) = tt
+zero_lawful slots (Some kinds.Reference) = omega arith
+
+status_lawful : (last q : ℕ) (kind : Kind) → q ≤ last → LawfulStatus last (status_word q kind)
+status_lawful last q kind le = subst (λ (o : Option StatusParts). IsSomeAnd o (λ (p : StatusParts). p.phase ≤ last)) (sym (status_back q kind)) le
+
+-- each kind of access
+pub loads_safe : (target : Target) (setting : Setting) (w : Word) → in_row setting.sizes w ≡ true → is_place_word w ≡ false → IsSafe target setting (Loads w)
+loads_safe target setting w row place = record { row = row; place = place; lawful = λ found lawful. lawful }
+
+pub stores_safe : (target : Target) (setting : Setting) (w : Word) (x : ℕ) → in_row setting.sizes w ≡ true → is_place_word w ≡ false → IsLawful target setting w x → IsSafe target setting (Stores w x)
+stores_safe target setting w x row place lawful = record { row = row; place = place; lawful = λ found was. lawful }
+
+pub exchanges_safe : (target : Target) (setting : Setting) (w : Word) (expected x : ℕ) → in_row setting.sizes w ≡ true → is_place_word w ≡ false → IsLawful target setting w x → IsSafe target setting (Exchanges w expected x)
+exchanges_safe target setting w expected x row place lawful = record { row = row; place = place; lawful = λ found was. of found was (found == expected) } where
+  of : (found : ℕ) → IsLawful target setting w found → (b : Bool) → IsLawful target setting w (if b then x else found)
+  of found was true = lawful
+  of found was false = was
+
+raises_safe : (target : Target) (setting : Setting) (c x : ℕ) → c < setting.sizes.callers → setting.first ≤ x → x ≤ setting.last → IsSafe target setting (Raises (Warning c) x)
+raises_safe target setting c x lt low high = record { row = less c setting.sizes.callers lt; place = refl; lawful = λ found was. (omega (arith, was.0, low), omega (arith, was.1, high)) }
+
+field_row : (setting : Setting) (j g : ℕ) → j ≤ setting.sizes.slots → g < setting.sizes.fields → in_row setting.sizes (FieldOf j g) ≡ true
+field_row setting j g a b = both (nat_lt j (setting.sizes.slots + 1)) (nat_lt g setting.sizes.fields) (less j (setting.sizes.slots + 1) (omega (arith, a))) (less g setting.sizes.fields b)
+
+hazard_row : (setting : Setting) (c r : ℕ) → c < setting.sizes.callers → r < 8 → in_row setting.sizes (Hazard c r) ≡ true
+hazard_row setting c r a b = both (nat_lt c setting.sizes.callers) (nat_lt r 8) (less c setting.sizes.callers a) (less r 8 b)
+
+status_row : (setting : Setting) (j : ℕ) → j ≤ setting.sizes.slots → in_row setting.sizes (Status j) ≡ true
+status_row setting j a = less j (setting.sizes.slots + 1) (omega (arith, a))
+
+-- pools
+sweep_safe : (target : Target) (setting : Setting) (bound : ℕ) (stage : SweepStage) → SweepStands setting bound stage → HasBound setting bound stage → IsSafe target setting (sweep_wants_at stage bound)
+sweep_safe target setting bound sweeps.ReadPhase stands s = loads_safe target setting Phase refl refl
+sweep_safe target setting bound (sweeps.RaisePhase p) stands s = exchanges_safe target setting Phase p (p + 1) refl refl (omega (arith, stands.0), omega (arith, stands.1))
+sweep_safe target setting bound (sweeps.Warn c) stands s = raises_safe target setting c bound stands s.0 s.1
+sweep_safe target setting bound (sweeps.ReadHazard c r) stands s = loads_safe target setting (Hazard c r) (hazard_row setting c r stands.0 stands.1) refl
+sweep_safe target setting bound (sweeps.ReadStatus j) stands s = loads_safe target setting (Status j) (status_row setting j stands.1) refl
+sweep_safe target setting bound (sweeps.MakeReady j q) stands s =
+    exchanges_safe target setting (Status j) (status_word q statuses.Retired) (status_word bound statuses.Ready) (status_row setting j stands.1) refl (status_lawful setting.last bound statuses.Ready s.1)
+
+claim_safe : (target : Target) (setting : Setting) (sweep : Sweep) (stage : ClaimStage) → ClaimStands setting sweep stage → IsSafe target setting (claim_wants_at sweep stage)
+claim_safe target setting sweep (claims.ReadStatus j) stands = loads_safe target setting (Status j) (status_row setting j stands.1) refl
+claim_safe target setting sweep (claims.Take j q) stands =
+    exchanges_safe target setting (Status j) (status_word q statuses.Ready) (status_word q statuses.Used) (status_row setting j stands.1) refl (status_lawful setting.last q statuses.Used stands.2)
+claim_safe target setting sweep claims.Sweeps stands = sweep_safe target setting sweep.bound sweep.stage stands.stands stands.bound
+
+retire_safe : (target : Target) (setting : Setting) (slot : ℕ) (stage : RetireStage) → slot ≤ setting.sizes.slots → RetireStands setting stage → IsSafe target setting (retire_wants_at slot stage)
+retire_safe target setting slot retires.ReadPhase le stands = loads_safe target setting Phase refl refl
+retire_safe target setting slot (retires.StoreStatus p) le stands = stores_safe target setting (Status slot) (status_word p statuses.Retired) (status_row setting slot le) refl (status_lawful setting.last p statuses.Retired stands)
+
+-- an exchange of the text
+exchange_safe : (target : Target) (setting : Setting) (exchange : CasEntry) (registers : Registers) → Fits target setting → NamesSlots setting.sizes.slots registers
+    → is_entry (length target.fields) (length target.roots) exchange ≡ true → has_wrong_operand target.fields target.roots exchange ≡ false → IsSafe target setting (exchange_wanted exchange registers)
+exchange_safe target setting exchange registers fits s limits kinds =
+    of exchange.place (parts (is_place (length target.fields) (length target.roots) exchange.place) (is_register exchange.expected && (is_register exchange.replacement && is_retire exchange.retire)) limits).0
+    (register_lawful setting.sizes.slots registers (place_kind target.fields target.roots exchange.place) exchange.replacement s
+    (neither (is_unlike (place_kind target.fields target.roots exchange.place) exchange.expected) (is_unlike (place_kind target.fields target.roots exchange.place) exchange.replacement)
+    (neither (has_wrong_object exchange.place) (is_unlike (place_kind target.fields target.roots exchange.place) exchange.expected || is_unlike (place_kind target.fields target.roots exchange.place) exchange.replacement) kinds).1).1) where
+      expected : ℕ
+      expected = word_in registers exchange.expected
+
+      replacement : ℕ
+      replacement = word_in registers exchange.replacement
+
+      object : (j f : ℕ) → j ≤ setting.sizes.slots → f < setting.sizes.fields → LawfulValue setting.sizes.slots (field_kind target.fields f) replacement → IsSafe target setting (object_exchange j f expected replacement)
+      object zero f le lt lawful = loads_safe target setting (FieldOf 0 f) (field_row setting 0 f le lt) refl
+      object (suc j) f le lt lawful = exchanges_safe target setting (FieldOf (suc j) f) expected replacement (field_row setting (suc j) f le lt) refl lawful
+
+      of : (place : Place) → is_place (length target.fields) (length target.roots) place ≡ true → LawfulValue setting.sizes.slots (place_kind target.fields target.roots place) replacement
+          → IsSafe target setting (place_exchange place registers expected replacement)
+      of (places.Root x) limit lawful = exchanges_safe target setting (Cell x) expected replacement (less x setting.sizes.cells (let lt = below x (length target.roots) limit in omega (arith, lt, fits.cells))) refl lawful
+      of (places.Field a f) limit lawful = object (slot_in registers a) f (named setting.sizes.slots registers a s)
+          (let lt = below f (length target.fields) (parts (is_register a) (nat_lt f (length target.fields)) limit).1 in omega (arith, lt, fits.fields)) lawful
+
+plain_safe : (target : Target) (setting : Setting) (e : Entry) (i : Instr) → Methods target → SettingSane setting → Fits target setting → Here setting.sizes.slots target e → instr_in target e ≡ Some (Plain i)
+    → has_access (Some (Plain i)) ≡ true → AsksSafely target setting (plain_wanted i e.hand.registers)
+plain_safe target setting e (instr.LoadRoot d x) sane some fits c is has =
+    let site = site_of target e setting.sizes.slots (Plain (instr.LoadRoot d x)) sane c is in
+    let lt = below x (length target.roots) (parts (is_register d) (nat_lt x (length target.roots)) site.limits).1 in
+    loads_safe target setting (Cell x) (less x setting.sizes.cells (omega (arith, lt, fits.cells))) refl
+plain_safe target setting e (instr.LoadPick d x n a) sane some fits c is has =
+    let site = site_of target e setting.sizes.slots (Plain (instr.LoadPick d x n a)) sane c is in
+    let limits = parts (is_register d) (nat_lt x (length target.roots) && ((nat_le 1 n && nat_le n 256) && is_register a)) site.limits in
+    let limits2 = parts (nat_lt x (length target.roots)) ((nat_le 1 n && nat_le n 256) && is_register a) limits.1 in
+    let limits3 = parts (nat_le 1 n && nat_le n 256) (is_register a) limits2.1 in
+    let limits4 = parts (nat_le 1 n) (nat_le n 256) limits3.0 in
+    let k = remainder (number_in e.hand.registers a) n in
+    let same = pick_kind target.roots x n k (unnegated (are_roots_of_one_kind target.roots x n) site.own.form.range) (remainder_below (number_in e.hand.registers a) n (at_least 1 n limits4.0)) in
+    loads_safe target setting (Cell (x + k)) (less (x + k) setting.sizes.cells (omega (arith, same.1, fits.cells))) refl
+plain_safe target setting e (instr.LoadField d a f) sane some fits c is has =
+    let site = site_of target e setting.sizes.slots (Plain (instr.LoadField d a f)) sane c is in
+    let limits = parts (is_register d) (is_register a && nat_lt f (length target.fields)) site.limits in
+    let lt = below f (length target.fields) (parts (is_register a) (nat_lt f (length target.fields)) limits.1).1 in
+    loads_safe target setting (FieldOf (slot_in e.hand.registers a) f) (field_row setting (slot_in e.hand.registers a) f (named setting.sizes.slots e.hand.registers a c.names) (omega (arith, lt, fits.fields))) refl
+plain_safe target setting e (instr.Put a f b) sane some fits c is has =
+    let site = site_of target e setting.sizes.slots (Plain (instr.Put a f b)) sane c is in
+    let limits = parts (is_register a) (nat_lt f (length target.fields) && is_register b) site.limits in
+    let lt = below f (length target.fields) (parts (nat_lt f (length target.fields)) (is_register b) limits.1).0 in
+    let like = (neither (holds_number a) (is_unlike (field_kind target.fields f) b) site.own.form.kinds).1 in
+    stores_safe target setting (FieldOf (slot_in e.hand.registers a) f) (word_in e.hand.registers b)
+    (field_row setting (slot_in e.hand.registers a) f (named setting.sizes.slots e.hand.registers a c.names) (omega (arith, lt, fits.fields))) refl
+    (register_lawful setting.sizes.slots e.hand.registers (field_kind target.fields f) b c.names like)
+plain_safe target setting e (instr.Cas exchange l) sane some fits c is has =
+    let site = site_of target e setting.sizes.slots (Plain (instr.Cas exchange l)) sane c is in
+    exchange_safe target setting exchange e.hand.registers fits c.names (parts (is_entry (length target.fields) (length target.roots) exchange) (nat_le l 65535) site.limits).0 site.own.form.kinds
+plain_safe target setting e (instr.Set d n) sane some fits c is has = absurd cc
+plain_safe target setting e (instr.Mov d a) sane some fits c is has = absurd cc
+plain_safe target setting e (instr.Add d a b) sane some fits c is has = absurd cc
+plain_safe target setting e (instr.Sub d a b) sane some fits c is has = absurd cc
+plain_safe target setting e (instr.Rem d a n) sane some fits c is has = absurd cc
+plain_safe target setting e (instr.Mark d a) sane some fits c is has = absurd cc
+plain_safe target setting e (instr.Unmark d a) sane some fits c is has = absurd cc
+plain_safe target setting e (instr.Null d) sane some fits c is has = absurd cc
+plain_safe target setting e (instr.New d) sane some fits c is has = absurd cc
+plain_safe target setting e (instr.Jump l) sane some fits c is has = absurd cc
+plain_safe target setting e (instr.IfEq a b l) sane some fits c is has = absurd cc
+plain_safe target setting e (instr.IfLess a b l) sane some fits c is has = absurd cc
+plain_safe target setting e (instr.IfMarked a l) sane some fits c is has = absurd cc
+plain_safe target setting e (instr.Commit exchanges) sane some fits c is has = absurd cc
+plain_safe target setting e (instr.Return a) sane some fits c is has = absurd cc
+plain_safe target setting e instr.ReturnNone sane some fits c is has = absurd cc
+plain_safe target setting e instr.Again sane some fits c is has = absurd cc
+
+guard_safe : (target : Target) (setting : Setting) (e : Entry) (r : Reg) → e.number < setting.sizes.callers → (holds_reference r && is_register r) ≡ true → Here setting.sizes.slots target e
+    → IsSafe target setting (Stores (Hazard e.number (register_number r)) (slot_in e.hand.registers r))
+guard_safe target setting e (Num r) lt limit c = absurd (let z : false ≡ true = limit in cc)
+guard_safe target setting e (Ref r) lt limit c =
+    stores_safe target setting (Hazard e.number r) (slot_in e.hand.registers (Ref r)) (hazard_row setting e.number r lt (below r 8 limit)) refl (named setting.sizes.slots e.hand.registers (Ref r) c.names)
+
+instr_safe : (target : Target) (setting : Setting) (e : Entry) (o : Option TargetInstr) → Methods target → SettingSane setting → Fits target setting → e.number < setting.sizes.callers → Here setting.sizes.slots target e
+    → instr_in target e ≡ o → has_access o ≡ true → AsksSafely target setting (instr_wanted e.number o e.hand.registers)
+instr_safe target setting e None sane some fits lt c is has = absurd (let z : false ≡ true = has in cc)
+instr_safe target setting e (Some Check) sane some fits lt c is has = loads_safe target setting (Warning e.number) (less e.number setting.sizes.callers lt) refl
+instr_safe target setting e (Some (Guard r)) sane some fits lt c is has = guard_safe target setting e r lt (site_of target e setting.sizes.slots (Guard r) sane c is).limits c
+instr_safe target setting e (Some (Plain i)) sane some fits lt c is has = plain_safe target setting e i sane some fits c is has
+
+-- a number that was looked for from one on is below the end
+pub least_below : (test : ℕ → Bool) (r n : ℕ) → IfSome (least_from test r n) (λ (k : ℕ). k < r + n)
+least_below test r zero = tt
+least_below test r (suc n) = of (test r) (least_below test (r + 1) n) where
+  of : (b : Bool) → IfSome (least_from test (r + 1) n) (λ (k : ℕ). k < r + 1 + n) → IfSome (if b then Some r else least_from test (r + 1) n) (λ (k : ℕ). k < r + suc n)
+  of true rest = omega arith
+  of false rest = let same : r + 1 + n ≡ r + suc n = omega arith in subst (λ (m : ℕ). IfSome (least_from test (r + 1) n) (λ (k : ℕ). k < m)) same rest
+
+no_exchange : CasEntry
+no_exchange = record { place = places.Root 0; expected = Num 0; replacement = Num 0; retire = None }
+
+any_false : {X : Type 0} (p : X → Bool) (xs : List X) (k : ℕ) (x : X) → list_any p xs ≡ false → slice_get xs k ≡ Some x → p x ≡ false
+any_false p [] k x none is = absurd cc
+any_false p (y ∷ ys) zero x none is = let same : y ≡ x = cc in subst (λ z. p z ≡ false) same (neither (p y) (list_any p ys) none).0
+any_false p (y ∷ ys) (suc k) x none is = any_false p ys k x (neither (p y) (list_any p ys) none).1 is
+
+pub all_true : {X : Type 0} (p : X → Bool) (xs : List X) (k : ℕ) (x : X) → list_all p xs ≡ true → slice_get xs k ≡ Some x → p x ≡ true
+all_true p [] k x all is = absurd cc
+all_true p (y ∷ ys) zero x all is = let same : y ≡ x = cc in subst (λ z. p z ≡ true) same (parts (p y) (list_all p ys) all).0
+all_true p (y ∷ ys) (suc k) x all is = all_true p ys k x (parts (p y) (list_all p ys) all).1 is
+
+-- a list has exchanges at a commit alone
+pub list_there : (o : Option TargetInstr) (k : ℕ) → k < length (list_of o) → (exchanges : List CasEntry) × (o ≡ Some (Plain (instr.Commit exchanges)))
+list_there (Some (Plain (instr.Commit exchanges))) k lt = (exchanges, refl)
+list_there None k lt = absurd (let none : k < 0 = lt in omega (arith, none))
+list_there (Some Check) k lt = absurd (let none : k < 0 = lt in omega (arith, none))
+list_there (Some (Guard r)) k lt = absurd (let none : k < 0 = lt in omega (arith, none))
+list_there (Some (Plain (instr.Set d n))) k lt = absurd (let none : k < 0 = lt in omega (arith, none))
+list_there (Some (Plain (instr.Mov d a))) k lt = absurd (let none : k < 0 = lt in omega (arith, none))
+list_there (Some (Plain (instr.Add d a b))) k lt = absurd (let none : k < 0 = lt in omega (arith, none))
+list_there (Some (Plain (instr.Sub d a b))) k lt = absurd (let none : k < 0 = lt in omega (arith, none))
+list_there (Some (Plain (instr.Rem d a n))) k lt = absurd (let none : k < 0 = lt in omega (arith, none))
+list_there (Some (Plain (instr.Mark d a))) k lt = absurd (let none : k < 0 = lt in omega (arith, none))
+list_there (Some (Plain (instr.Unmark d a))) k lt = absurd (let none : k < 0 = lt in omega (arith, none))
+list_there (Some (Plain (instr.Null d))) k lt = absurd (let none : k < 0 = lt in omega (arith, none))
+list_there (Some (Plain (instr.LoadRoot d x))) k lt = absurd (let none : k < 0 = lt in omega (arith, none))
+list_there (Some (Plain (instr.LoadPick d x n a))) k lt = absurd (let none : k < 0 = lt in omega (arith, none))
+list_there (Some (Plain (instr.LoadField d a f))) k lt = absurd (let none : k < 0 = lt in omega (arith, none))
+list_there (Some (Plain (instr.New d))) k lt = absurd (let none : k < 0 = lt in omega (arith, none))
+list_there (Some (Plain (instr.Put a f b))) k lt = absurd (let none : k < 0 = lt in omega (arith, none))
+list_there (Some (Plain (instr.Cas exchange l))) k lt = absurd (let none : k < 0 = lt in omega (arith, none))
+list_there (Some (Plain (instr.Jump l))) k lt = absurd (let none : k < 0 = lt in omega (arith, none))
+list_there (Some (Plain (instr.IfEq a b l))) k lt = absurd (let none : k < 0 = lt in omega (arith, none))
+list_there (Some (Plain (instr.IfLess a b l))) k lt = absurd (let none : k < 0 = lt in omega (arith, none))
+list_there (Some (Plain (instr.IfMarked a l))) k lt = absurd (let none : k < 0 = lt in omega (arith, none))
+list_there (Some (Plain (instr.Return a))) k lt = absurd (let none : k < 0 = lt in omega (arith, none))
+list_there (Some (Plain instr.ReturnNone)) k lt = absurd (let none : k < 0 = lt in omega (arith, none))
+list_there (Some (Plain instr.Again)) k lt = absurd (let none : k < 0 = lt in omega (arith, none))
+
+list_safe : (target : Target) (setting : Setting) (e : Entry) (k : ℕ) → Methods target → Fits target setting → Here setting.sizes.slots target e
+    → k < length (list_of (instr_in target e)) → AsksSafely target setting (list_wanted (slice_get (list_of (instr_in target e)) k) e.hand.registers)
+list_safe target setting e k sane fits c lt = of (slice_get (list_of (instr_in target e)) k) refl where
+  there : (exchanges : List CasEntry) × (instr_in target e ≡ Some (Plain (instr.Commit exchanges)))
+  there = list_there (instr_in target e) k lt
+
+  exchanges : List CasEntry
+  exchanges = there.0
+
+  site : SaneAt target e.hand.wrapup (code_in target e) e.hand.at (Plain (instr.Commit exchanges))
+  site = site_of target e setting.sizes.slots (Plain (instr.Commit exchanges)) sane c there.1
+
+  same : slice_get (list_of (instr_in target e)) k ≡ slice_get exchanges k
+  same = ap (λ (q : Option TargetInstr). slice_get (list_of q) k) there.1
+
+  of : (x : Option CasEntry) → slice_get (list_of (instr_in target e)) k ≡ x → AsksSafely target setting (list_wanted x e.hand.registers)
+  of None none = absurd (let some : slice_get (list_of (instr_in target e)) k ≡ Some (slice_index_or (list_of (instr_in target e)) k no_exchange) = slice_get-get_or (list_of (instr_in target e)) k no_exchange lt in cc)
+  of (Some exchange) is =
+      exchange_safe target setting exchange e.hand.registers fits c.names
+      (all_true (is_entry (length target.fields) (length target.roots)) exchanges k exchange (parts (nat_le (length exchanges) 4) (list_all (is_entry (length target.fields) (length target.roots)) exchanges) site.limits).1 (sym same ∙ is))
+      (any_false (has_wrong_operand target.fields target.roots) exchanges k exchange site.own.form.kinds (sym same ∙ is))
+
+cleared_safe : (target : Target) (setting : Setting) (c : ℕ) (guards : Guards) (spared : List Bool) → c < setting.sizes.callers → length guards.slots ≡ 8 → IsSomeOf (next_to_clear guards spared)
+    → AsksSafely target setting (clear_wanted c (next_to_clear guards spared))
+cleared_safe target setting c guards spared lt eight some = of (next_to_clear guards spared) (least_below (is_to_clear guards.slots spared) 0 (length guards.slots)) some where
+  of : (o : Option ℕ) → IfSome o (λ (r : ℕ). r < 0 + length guards.slots) → IsSomeOf o → AsksSafely target setting (clear_wanted c o)
+  of None below some = absurd some
+  of (Some r) below some = stores_safe target setting (Hazard c r) 0 (hazard_row setting c r lt (omega (arith, below, eight))) refl (omega arith)
+
+step_safe : (target : Target) (setting : Setting) (e : Entry) (routine : Routine) → Methods target → SettingSane setting → Fits target setting → Belongs target setting e → is_idle routine ≡ false
+    → RunsAt target e routine → Stands target setting e routine → AsksSafely target setting (wanted target e routine)
+step_safe target setting e Idle sane some fits b busy reaches stands = absurd (let z : true ≡ false = busy in cc)
+step_safe target setting e (LoadSeen why) sane some fits b busy reaches stands = loads_safe target setting (Warning e.number) (less e.number setting.sizes.callers b.number) refl
+step_safe target setting e At sane some fits b busy reaches stands = instr_safe target setting e (instr_in target e) sane some fits b.number (record { reached = reaches; names = b.hand.registers }) refl stands
+step_safe target setting e (InList k) sane some fits b busy reaches stands = list_safe target setting e k sane fits (record { reached = reaches; names = b.hand.registers }) stands
+step_safe target setting e (Retires retirement go) sane some fits b busy reaches stands = retire_safe target setting retirement.slot retirement.stage stands.0.1 stands.0.2
+step_safe target setting e Restarts sane some fits b busy reaches stands = cleared_safe target setting e.number e.hand.guards (restart_spares e.hand.wrapup (op_of target e)) b.number b.hand.guards.row.slots stands.1
+step_safe target setting e (Clears next) sane some fits b busy reaches stands = cleared_safe target setting e.number e.hand.guards (then_spares next (op_of target e)) b.number b.hand.guards.row.slots stands.1
+step_safe target setting e (Claims claim) sane some fits b busy reaches stands = claim_safe target setting claim.sweep claim.stage stands.1
+step_safe target setting e (Zeroes k field) sane some fits b busy reaches stands =
+    stores_safe target setting (FieldOf (cradle_of e k) field) 0 (field_row setting (cradle_of e k) field (b.cradles.within k) stands.3) refl (zero_lawful setting.sizes.slots (field_kind target.fields field))
+
+-- what an entry that belongs wants is one safe access, unless it is idle
+pub wants_safe : (target : Target) (setting : Setting) (e : Entry) → Methods target → SettingSane setting → Fits target setting → Belongs target setting e → is_idle e.routine ≡ false → AsksSafely target setting (wants target e)
+unfolding wants
+wants_safe target setting e sane some fits b busy = step_safe target setting e e.routine sane some fits b busy b.reaches b.stands

@@ -1,0 +1,54 @@
+-- What holds of a caller of each target that it may run.
+use Rattle.std.specs.Prelude.{◌≡◌, ◌≢◌, ℕ, ◌<◌, ◌^◌, true, false, Some, None}
+use Rattle.norm_lang.specs.declared.text.Reg.{Reg}
+use Rattle.norm_lang.specs.declared.text.Instr.TheVariants as instr
+use Rattle.norm_lang.specs.declared.text.Text.{Text}
+use Rattle.target_code.specs.declared.target.TargetInstr.TheVariants.{Plain}
+use Rattle.target_code.specs.declared.target.Target.{Target}
+use Rattle.target_runs.specs.Runnable.{IsRunnable}
+use Rattle.oa_words.specs.Words.{Word}
+use Rattle.phase_pools.specs.Accesses.{Stores}
+use Rattle.caller_steps.specs.declared.call.Call.{Call}
+use Rattle.caller_steps.specs.declared.routine.Routine.TheVariants.{At}
+use Rattle.caller_steps.specs.Settings.{Setting, Fits, IsSetting}
+use Rattle.caller_steps.specs.Entries.{Entry, idle_entry, is_idle}
+use Rattle.caller_steps.specs.Calls.{is_call}
+use Rattle.caller_steps.specs.Operands.{instr_in, slot_in}
+use Rattle.caller_steps.specs.Wants.{wants}
+use Rattle.caller_steps.specs.After.{after, signs, taken}
+use Rattle.caller_steps.specs.Lawful.{Told, AsksSafely}
+use Rattle.caller_steps.specs.Belongs.{Belongs}
+use Rattle.caller_steps.specs.Asking.{AreSlots, CanAsk, CanAccept}
+
+-- of each target that is barred for a text, with a setting that fits it; texts needn't be proper
+abbrev pub ForRuns : (Target → Setting → Type 0) → Type 0
+ForRuns Holds = (target : Target) (text : Text) (setting : Setting) → IsRunnable target text → IsSetting setting → Fits target setting → Holds target setting
+
+-- an idle entry belongs, and one that belongs goes on to: where it takes a call, and where what it wants finds a lawful word
+pub record EntriesBelong (target : Target) (setting : Setting) : Type 0 where
+  pub new : (c : ℕ) → c < setting.sizes.callers → Belongs target setting (idle_entry c)
+  pub takes : (e : Entry) (call : Call) → is_call target call ≡ true → Belongs target setting e → Belongs target setting (taken call e)
+  pub steps : (e : Entry) (word : ℕ) → Belongs target setting e → Told target setting (wants target e) word → Belongs target setting (after target setting e word)
+
+-- what it wants while a call runs is one access, to a word of the row that isn't a place word, which leaves a lawful word
+-- lawful; an idle one wants nothing
+pub record EntriesAskSafely (target : Target) (setting : Setting) : Type 0 where
+  pub busy : (e : Entry) → Belongs target setting e → is_idle e.routine ≡ false → AsksSafely target setting (wants target e)
+  pub idle : (e : Entry) → is_idle e.routine ≡ true → wants target e ≡ None
+
+-- where it stands the code may ask for its access, and take a lawful word
+pub record EntriesFitCode (target : Target) (setting : Setting) : Type 0 where
+  pub asks : (e : Entry) → Belongs target setting e → CanAsk target setting e e.routine
+  pub accepts : (e : Entry) (word : ℕ) → Belongs target setting e → Told target setting (wants target e) word → CanAccept target setting e word e.routine
+  pub near : (e : Entry) → Belongs target setting e → e.hand.at < 2 ^ 62
+  pub slots : (e : Entry) → Belongs target setting e → AreSlots e.hand.registers × AreSlots e.hand.started
+
+-- the word that a store found is no matter
+pub record StoresTellNothing (target : Target) (setting : Setting) : Type 0 where
+  pub each : (e : Entry) (w : Word) (x a b : ℕ) → wants target e ≡ Some (Stores w x)
+      → (after target setting e a ≡ after target setting e b) × (signs target setting e a ≡ signs target setting e b)
+
+-- a put writes to a node: its object isn't null
+pub record PutsFindNodes (target : Target) (setting : Setting) : Type 0 where
+  pub each : (e : Entry) (a b : Reg) (f : ℕ) → Belongs target setting e → e.routine ≡ At → instr_in target e ≡ Some (Plain (instr.Put a f b))
+      → slot_in e.hand.registers a ≢ 0

@@ -1,0 +1,17 @@
+//! Laws of one caller of a barred target, with a setting that fits it.
+
+ghost use Rattle.caller_laws.specs.Laws.{ForRuns, EntriesBelong, EntriesAskSafely, EntriesFitCode, StoresTellNothing, PutsFindNodes};
+
+/// An entry goes on to belong to the target and the setting; what it wants is one access in the row, which leaves a lawful
+/// word lawful; the code may ask for it and take what it finds; and the object of a put is a node.
+pub fn entries_belong()
+    ensures belong { ForRuns EntriesBelong }
+    ensures safe { ForRuns EntriesAskSafely }
+    ensures code { ForRuns EntriesFitCode }
+    ensures puts { ForRuns PutsFindNodes }
+{}
+
+/// The word that a store found is no matter to what follows.
+pub fn stores_tell_nothing()
+    ensures { ForRuns StoresTellNothing }
+{}

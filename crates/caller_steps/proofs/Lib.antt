@@ -1,0 +1,4 @@
+pub mod Sides
+pub mod Slots
+pub mod Turns
+pub mod Emptying

@@ -1,0 +1,368 @@
+-- A caller after its wanted access found a word, and the signs of that step.
+--
+-- Local instructions run together with the access before them: `settles` runs them up to the next access, and a method
+-- that begins runs them too. What gives no sign and runs no local code answers an entry, all else a `Moved`.
+use Rattle.std.specs.Prelude.{ℕ, zero, suc, ◌+◌, Bool, true, false, ◌&&◌, not, List, [], ◌∷◌, ◌++◌, map, length, Option, Some, None, nat_lt, ◌==◌, if◌then◌else◌, slice_get, slice_set}
+use Rattle.norm_lang.specs.declared.text.Reg.{Reg}
+use Rattle.norm_lang.specs.declared.text.Reg.TheVariants.{Num, Ref}
+use Rattle.norm_lang.specs.declared.text.Place.{Place}
+use Rattle.norm_lang.specs.declared.text.Place.TheVariants as places
+use Rattle.norm_lang.specs.declared.text.CasEntry.{CasEntry}
+use Rattle.norm_lang.specs.declared.text.Instr.{Instr}
+use Rattle.norm_lang.specs.declared.text.Instr.TheVariants as instr
+use Rattle.norm_lang.specs.declared.registers.Registers.{Registers}
+use Rattle.norm_lang.specs.Registers.{first_registers, with_count, number_in, with_reference}
+use Rattle.norm_lang.specs.Local.{Spot}
+use Rattle.target_code.specs.declared.target.TargetInstr.{TargetInstr}
+use Rattle.target_code.specs.declared.target.TargetInstr.TheVariants.{Plain, Check, Guard}
+use Rattle.target_code.specs.declared.target.Target.{Target}
+use Rattle.target_code.specs.LocalCode.{target_run}
+use Rattle.guard_words.specs.Guards.{with_guard, pass_check}
+use Rattle.oa_words.specs.Words.{Sizes}
+use Rattle.phase_pools.specs.declared.access.ClaimEnd.{ClaimEnd}
+use Rattle.phase_pools.specs.declared.access.ClaimEnd.TheVariants as ends
+use Rattle.phase_pools.specs.Pools.{Claim, ClaimTurn, claim_begun, claim_accepts, Retirement, retire_begun, retire_accepts}
+use Rattle.caller_steps.specs.declared.call.Call.{Call}
+use Rattle.caller_steps.specs.declared.call.Reply.{Reply}
+use Rattle.caller_steps.specs.declared.call.Reply.TheVariants as replies
+use Rattle.caller_steps.specs.declared.entry.Hand.{Hand}
+use Rattle.caller_steps.specs.declared.routine.MethodStart.{MethodStart}
+use Rattle.caller_steps.specs.declared.routine.MethodStart.TheVariants as starts
+use Rattle.caller_steps.specs.declared.routine.AfterClear.{AfterClear}
+use Rattle.caller_steps.specs.declared.routine.AfterClear.TheVariants as clears
+use Rattle.caller_steps.specs.declared.routine.AfterRetire.{AfterRetire}
+use Rattle.caller_steps.specs.declared.routine.AfterRetire.TheVariants as retires
+use Rattle.caller_steps.specs.declared.routine.Routine.{Routine}
+use Rattle.caller_steps.specs.declared.routine.Routine.TheVariants.{Idle, LoadSeen, At, InList, Retires, Restarts, Clears, Claims, Zeroes}
+use Rattle.caller_steps.specs.Pairing.{replied_by}
+use Rattle.caller_steps.specs.Settings.{Setting}
+use Rattle.caller_steps.specs.Entries.{Entry, one_more}
+use Rattle.caller_steps.specs.Operands.{word_in, with_word, slot_in, register_number, code_in, instr_in, list_of, new_number, cradle_of}
+use Rattle.caller_steps.specs.Clearing.{restart_next, clear_next, unguarded}
+use Rattle.caller_steps.specs.Signs.{Sign, Begins, Accesses, Draws, Renews, GivesUp, Moved, quiet, told}
+
+abbrev pub with_routine : Entry → Routine → Entry
+with_routine e routine = record e { routine = routine }
+
+abbrev pub with_hand : Entry → Hand → Entry
+with_hand e hand = record e { hand = hand }
+
+-- ---- ends and clears
+
+-- the reply is added beside its call and the steps made for it, and the caller is idle
+abbrev pub replied : Reply → Entry → Entry
+replied reply e = record e { routine = Idle; replies = e.replies ++ replied_by reply e.running ∷ [] }
+
+-- at a `new` that has its slot already the fields come next, else the claim
+abbrev pub new_on : Sizes → ℕ → ℕ → Entry → Entry
+new_on sizes k zero e = with_routine e (Claims (claim_begun sizes))
+new_on sizes k (suc j) e = with_routine e (Zeroes k 0)
+
+-- what follows a clear that has nothing left to clear
+abbrev pub then_goes : Target → Sizes → AfterClear → Entry → Entry
+then_goes target sizes clears.New e = new_on sizes (new_number target e) (cradle_of e (new_number target e)) e
+then_goes target sizes clears.WrapUp e = with_routine e (LoadSeen starts.WrapUp)
+then_goes target sizes (clears.Reply reply) e = replied reply e
+then_goes target sizes clears.Again e = with_routine e (LoadSeen starts.Again)
+
+-- goes on with a clear, or with what follows it
+abbrev pub clear_on : Target → Sizes → AfterClear → Option ℕ → Entry → Entry
+clear_on target sizes next None e = then_goes target sizes next e
+clear_on target sizes next (Some r) e = with_routine e (Clears next)
+
+abbrev pub cleared : Target → Sizes → AfterClear → Entry → Entry
+cleared target sizes next e = clear_on target sizes next (clear_next target next e) e
+
+-- ---- the wrap-up's start
+
+-- a list has ended, so many of its exchanges having succeeded: the wrap-up starts with the registers of the commit, but n7
+-- is the count
+abbrev pub wrap_up_hand : ℕ → Hand → Hand
+wrap_up_hand made hand = record hand {
+  wrapup = true;
+  at = 0;
+  registers = with_count hand.registers made;
+  started = with_count hand.registers made;
+  accessed = false;
+}
+
+abbrev pub list_ended : Target → Sizes → ℕ → Entry → Entry
+list_ended target sizes made e = cleared target sizes clears.WrapUp (with_hand e (wrap_up_hand made e.hand))
+
+-- the source makes an access of its own for the end of an empty list
+abbrev pub list_begun : Target → Sizes → List CasEntry → Entry → Moved
+list_begun target sizes [] e = told (Accesses ∷ []) (quiet (list_ended target sizes 0 e))
+list_begun target sizes (exchange ∷ exchanges) e = quiet (with_routine e (InList 0))
+
+-- ---- local code, and where it stops
+
+-- and for the end of a wrap-up run that has made an access
+abbrev pub owed : Hand → List Sign
+owed hand = if hand.wrapup && hand.accessed then Accesses ∷ [] else []
+
+-- an operation ends, or begins again
+abbrev pub ended : Target → Sizes → AfterClear → Entry → Moved
+ended target sizes next e = told (owed e.hand) (quiet (cleared target sizes next e))
+
+-- where local code stopped: before an access, or at a `new`, a commit or an end
+abbrev pub plain_stop : Target → Sizes → Instr → Entry → Moved
+plain_stop target sizes (instr.New d) e = quiet (cleared target sizes clears.New e)
+plain_stop target sizes (instr.Commit exchanges) e = list_begun target sizes exchanges e
+plain_stop target sizes (instr.Return a) e = ended target sizes (clears.Reply (replies.Number (number_in e.hand.registers a))) e
+plain_stop target sizes instr.ReturnNone e = ended target sizes (clears.Reply replies.Nothing) e
+plain_stop target sizes instr.Again e = ended target sizes clears.Again e
+plain_stop target sizes _ e = quiet (with_routine e At)
+
+abbrev pub stops : Target → Sizes → Option TargetInstr → Entry → Moved
+stops target sizes None e = quiet (with_routine e At)
+stops target sizes (Some (Plain i)) e = plain_stop target sizes i e
+stops target sizes (Some Check) e = quiet (with_routine e At)
+stops target sizes (Some (Guard r)) e = quiet (with_routine e At)
+
+abbrev pub hand_at : Hand → Spot → Hand
+hand_at hand spot = record hand { at = spot.at; registers = spot.registers }
+
+abbrev pub stopped : Target → Sizes → Entry → Moved
+stopped target sizes e = stops target sizes (instr_in target e) e
+
+-- local code from a spot on
+abbrev pub settles : Target → Sizes → Spot → Entry → Moved
+settles target sizes spot e =
+    let code = code_in target e in stopped target sizes (with_hand e (hand_at e.hand (target_run code (length code) spot)))
+
+-- local code from the next instruction on, with given registers
+abbrev pub goes_on : Target → Sizes → Registers → Entry → Moved
+goes_on target sizes registers e = settles target sizes (record { at = e.hand.at + 1; registers = registers }) e
+
+-- ---- method runs
+
+-- a generator starts with its arguments, a wrap-up with the registers of its start
+abbrev pub first_spot : Bool → List ℕ → Registers → Spot
+first_spot false args started = record { at = 0; registers = first_registers args }
+first_spot true args started = record { at = 0; registers = started }
+
+-- a method runs from its start, and has made no access of the text yet. The end of a list and a failed check say so too, since
+-- clears may come before the run
+abbrev pub method_begun : Target → Sizes → Bool → Entry → Moved
+method_begun target sizes wrapup e =
+    settles target sizes (first_spot wrapup e.running.call.args e.hand.started) (with_hand e (record e.hand { wrapup = wrapup; accessed = false }))
+
+abbrev pub restart_on : Target → Sizes → Option ℕ → Entry → Moved
+restart_on target sizes None e = method_begun target sizes e.hand.wrapup e
+restart_on target sizes (Some r) e = quiet (with_routine e Restarts)
+
+-- goes on with the clear of a restart, or the method runs again
+abbrev pub restarted : Target → Sizes → Entry → Moved
+restarted target sizes e = restart_on target sizes (restart_next target e) e
+
+abbrev pub is_wrap_up : MethodStart → Bool
+is_wrap_up starts.Begin = false
+is_wrap_up starts.WrapUp = true
+is_wrap_up starts.Again = false
+
+abbrev pub seen_sign : MethodStart → Entry → Sign
+seen_sign starts.Begin e = Begins e.running.call
+seen_sign starts.WrapUp e = Renews
+seen_sign starts.Again e = Renews
+
+-- the own warning was loaded
+abbrev pub seen_loaded : Target → Sizes → MethodStart → ℕ → Entry → Moved
+seen_loaded target sizes why word e =
+    told (seen_sign why e ∷ []) (method_begun target sizes (is_wrap_up why) (with_hand e (record e.hand { seen = word })))
+
+-- ---- checks and guards
+
+-- every guard that isn't 0 is validated
+abbrev pub check_passed : Target → Sizes → Entry → Moved
+check_passed target sizes e = goes_on target sizes e.hand.registers (with_hand e (record e.hand { guards = pass_check e.hand.guards }))
+
+abbrev pub with_restart : Entry → Entry
+with_restart e = record e { counts = record e.counts { restarts = one_more e.counts.restarts } }
+
+abbrev pub check_failed : Target → Sizes → ℕ → Entry → Moved
+check_failed target sizes word e =
+    told (Renews ∷ []) (restarted target sizes (with_hand (with_restart e) (record e.hand { seen = word; accessed = false })))
+
+abbrev pub checked : Target → Sizes → ℕ → Entry → Moved
+checked target sizes word e = if word == e.hand.seen then check_passed target sizes e else check_failed target sizes word e
+
+-- the register's slot was stored in its hazard
+abbrev pub guarded : Target → Sizes → Reg → Entry → Moved
+guarded target sizes r e =
+    goes_on target sizes e.hand.registers
+    (with_hand e (record e.hand { guards = with_guard e.hand.guards (register_number r) (slot_in e.hand.registers r) }))
+
+-- ---- loads, puts and auxiliary exchanges
+
+-- a wrap-up run that has made a load or an exchange of the text
+abbrev pub with_access : Entry → Entry
+with_access e = with_hand e (record e.hand { accessed = e.hand.wrapup })
+
+abbrev pub loaded : Target → Sizes → Reg → ℕ → Entry → Moved
+loaded target sizes d word e = told (Accesses ∷ []) (goes_on target sizes (with_word e.hand.registers d word) (with_access e))
+
+abbrev pub put_made : Target → Sizes → Entry → Moved
+put_made target sizes e = told (Accesses ∷ []) (goes_on target sizes e.hand.registers e)
+
+-- an exchange succeeds where its object isn't null and the expected word was found
+abbrev pub has_object : Place → Registers → Bool
+has_object (places.Root x) registers = true
+has_object (places.Field a f) registers = not (slot_in registers a == 0)
+
+abbrev pub succeeds : CasEntry → Registers → ℕ → Bool
+succeeds exchange registers word = has_object exchange.place registers && (word == word_in registers exchange.expected)
+
+-- the slot to retire, 0 for none
+abbrev pub to_retire : Option Reg → Registers → ℕ
+to_retire None registers = 0
+to_retire (Some r) registers = slot_in registers r
+
+abbrev pub list_on : Target → Sizes → ℕ → Entry → Entry
+list_on target sizes k e =
+    if nat_lt (k + 1) (length (list_of (instr_in target e))) then with_routine e (InList (k + 1)) else list_ended target sizes (k + 1) e
+
+-- what follows a retirement, or an exchange that retires nothing
+abbrev pub onward_goes : Target → Sizes → AfterRetire → Entry → Moved
+onward_goes target sizes retires.Next e = goes_on target sizes e.hand.registers e
+onward_goes target sizes (retires.List k) e = quiet (list_on target sizes k e)
+
+abbrev pub retires_then : Target → Sizes → AfterRetire → ℕ → Entry → Moved
+retires_then target sizes go zero e = onward_goes target sizes go e
+retires_then target sizes go (suc j) e = quiet (with_routine e (Retires (retire_begun (suc j)) go))
+
+-- an auxiliary exchange
+abbrev pub cas_failed : Target → Sizes → ℕ → Entry → Moved
+cas_failed target sizes l e = settles target sizes (record { at = l; registers = e.hand.registers }) e
+
+abbrev pub cas_ended : Target → Sizes → CasEntry → ℕ → ℕ → Entry → Moved
+cas_ended target sizes exchange l word e =
+    if succeeds exchange e.hand.registers word
+    then retires_then target sizes retires.Next (to_retire exchange.retire e.hand.registers) e
+    else cas_failed target sizes l e
+
+abbrev pub cas_made : Target → Sizes → CasEntry → ℕ → ℕ → Entry → Moved
+cas_made target sizes exchange l word e = told (Accesses ∷ []) (cas_ended target sizes exchange l word (with_access e))
+
+abbrev pub plain_accepted : Target → Sizes → Instr → ℕ → Entry → Moved
+plain_accepted target sizes (instr.LoadRoot d x) word e = loaded target sizes d word e
+plain_accepted target sizes (instr.LoadPick d x count a) word e = loaded target sizes d word e
+plain_accepted target sizes (instr.LoadField d a f) word e = loaded target sizes d word e
+plain_accepted target sizes (instr.Put a f b) word e = put_made target sizes e
+plain_accepted target sizes (instr.Cas exchange l) word e = cas_made target sizes exchange l word e
+plain_accepted target sizes _ word e = quiet e
+
+abbrev pub instr_accepted : Target → Sizes → Option TargetInstr → ℕ → Entry → Moved
+instr_accepted target sizes None word e = quiet e
+instr_accepted target sizes (Some (Plain i)) word e = plain_accepted target sizes i word e
+instr_accepted target sizes (Some Check) word e = checked target sizes word e
+instr_accepted target sizes (Some (Guard r)) word e = guarded target sizes r e
+
+-- ---- exchanges of a list
+
+-- each cradle that holds a slot is emptied; null empties none
+abbrev pub emptied : ℕ → ℕ → ℕ
+emptied slot cradle = if cradle == slot then 0 else cradle
+
+-- the new operand was published
+abbrev pub with_published : Reg → Entry → Entry
+with_published (Num r) e = e
+with_published (Ref r) e = record e { cradles = map (emptied (slot_in e.hand.registers (Ref r))) e.cradles }
+
+abbrev pub entry_ended : Target → Sizes → ℕ → CasEntry → ℕ → Entry → Moved
+entry_ended target sizes k exchange word e =
+    if succeeds exchange e.hand.registers word
+    then retires_then target sizes (retires.List k) (to_retire exchange.retire e.hand.registers) (with_published exchange.replacement e)
+    else quiet (list_ended target sizes k e)
+
+abbrev pub entry_made : Target → Sizes → ℕ → CasEntry → ℕ → Entry → Moved
+entry_made target sizes k exchange word e = told (Accesses ∷ []) (entry_ended target sizes k exchange word e)
+
+abbrev pub list_accepted : Target → Sizes → ℕ → Option CasEntry → ℕ → Entry → Moved
+list_accepted target sizes k None word e = quiet e
+list_accepted target sizes k (Some exchange) word e = entry_made target sizes k exchange word e
+
+-- ---- retirements, clears and claims
+
+abbrev pub retired_on : Target → Sizes → AfterRetire → Option Retirement → Entry → Moved
+retired_on target sizes go None e = onward_goes target sizes go (with_routine e At)
+retired_on target sizes go (Some retirement) e = quiet (with_routine e (Retires retirement go))
+
+-- a hazard was cleared
+abbrev pub restart_cleared : Target → Sizes → Entry → Moved
+restart_cleared target sizes e = restarted target sizes (with_hand e (unguarded (restart_next target e) e.hand))
+
+abbrev pub then_cleared : Target → Sizes → AfterClear → Entry → Entry
+then_cleared target sizes next e = cleared target sizes next (with_hand e (unguarded (clear_next target next e) e.hand))
+
+-- a claimed slot is counted and goes into the cradle of the `new`
+abbrev pub slot_claimed : Target → ℕ → Entry → Entry
+slot_claimed target j e =
+    record e {
+      routine = Zeroes (new_number target e) 0;
+      cradles = slice_set e.cradles (new_number target e) j;
+      counts = record e.counts { claims = one_more e.counts.claims };
+    }
+
+-- a claim's end: a slot, or the call is given up
+abbrev pub claim_ended : Target → ClaimEnd → Entry → Moved
+claim_ended target (ends.Claimed j) e = quiet (slot_claimed target j e)
+claim_ended target ends.Full e = told (GivesUp None ∷ []) (quiet (replied replies.Full e))
+claim_ended target (ends.PhasesOver p) e = told (GivesUp (Some p) ∷ []) (quiet (replied (replies.Phases p) e))
+
+abbrev pub claim_on : Target → Claim → Option ClaimEnd → Entry → Moved
+claim_on target claim None e = quiet (with_routine e (Claims claim))
+claim_on target claim (Some end) e = claim_ended target end (with_routine e At)
+
+abbrev pub claimed : Target → ClaimTurn → Entry → Moved
+claimed target turn e = claim_on target turn.claim turn.ended e
+
+-- ---- the fields of a `new`
+
+-- the register that a `new` sets gets the unmarked reference
+abbrev pub with_new : Option TargetInstr → ℕ → Registers → Registers
+with_new (Some (Plain (instr.New d))) slot registers = with_reference registers d (record { node = slot; marked = false })
+with_new _ slot registers = registers
+
+-- the last store of 0 makes the node
+abbrev pub node_made : Target → Sizes → ℕ → Entry → Moved
+node_made target sizes slot e = told (Draws slot ∷ []) (goes_on target sizes (with_new (instr_in target e) slot e.hand.registers) e)
+
+abbrev pub zeroed : Target → Sizes → ℕ → ℕ → Entry → Moved
+zeroed target sizes k field e =
+    if nat_lt (field + 1) sizes.fields then quiet (with_routine e (Zeroes k (field + 1))) else node_made target sizes (cradle_of e k) e
+
+-- ---- a step
+
+abbrev pub accepted : Target → Setting → ℕ → Entry → Routine → Moved
+accepted target setting word e Idle = quiet e
+accepted target setting word e (LoadSeen why) = seen_loaded target setting.sizes why word e
+accepted target setting word e At = instr_accepted target setting.sizes (instr_in target e) word e
+accepted target setting word e (InList k) = list_accepted target setting.sizes k (slice_get (list_of (instr_in target e)) k) word e
+accepted target setting word e (Retires retirement go) = retired_on target setting.sizes go (retire_accepts retirement word) e
+accepted target setting word e Restarts = restart_cleared target setting.sizes e
+accepted target setting word e (Clears next) = quiet (then_cleared target setting.sizes next e)
+accepted target setting word e (Claims claim) = claimed target (claim_accepts setting.sizes setting.last claim word) e
+accepted target setting word e (Zeroes k field) = zeroed target setting.sizes k field e
+
+-- the step is counted
+abbrev pub counted : Entry → Entry
+counted e = record e { running = record e.running { steps = one_more e.running.steps } }
+
+abbrev pub moved : Target → Setting → Entry → ℕ → Moved
+moved target setting e word = accepted target setting word (counted e) e.routine
+
+-- the entry after its wanted access found a word
+unfoldable pub after : Target → Setting → Entry → ℕ → Entry
+after target setting e word = (moved target setting e word).entry
+
+-- the signs of that step, in order
+unfoldable pub signs : Target → Setting → Entry → ℕ → List Sign
+signs target setting e word = (moved target setting e word).signs
+
+-- an idle caller takes a call, and stands at its generator's start
+abbrev pub taken : Call → Entry → Entry
+taken call e = record e {
+  running = record { call = call; steps = 0 };
+  routine = LoadSeen starts.Begin;
+  hand = record e.hand { wrapup = false; at = 0 };
+}

@@ -1,0 +1,208 @@
+-- An entry belongs to a target and a setting: what holds of each caller in every reachable state.
+use Rattle.std.specs.Prelude.{◌≡◌, ◌≢◌, ℕ, ◌≤◌, ◌<◌, Bool, true, false, List, length, Option, Some, None, slice_get, slice_index}
+use Rattle.std.specs.List.{All}
+use Rattle.norm_lang.specs.declared.text.Reg.TheVariants.{Ref}
+use Rattle.norm_lang.specs.declared.text.CasEntry.{CasEntry}
+use Rattle.norm_lang.specs.declared.text.Instr.{Instr}
+use Rattle.norm_lang.specs.declared.text.Instr.TheVariants as instr
+use Rattle.norm_lang.specs.declared.text.Reg.{Reg}
+use Rattle.norm_lang.specs.declared.registers.Registers.{Registers}
+use Rattle.norm_lang.specs.Registers.{reference_in}
+use Rattle.target_code.specs.declared.target.TargetInstr.{TargetInstr}
+use Rattle.target_code.specs.declared.target.TargetInstr.TheVariants.{Plain, Check, Guard}
+use Rattle.target_code.specs.declared.target.Target.{Target}
+use Rattle.target_code.specs.Paths.{TargetPath}
+use Rattle.target_code.specs.PathStates.{IsSurelyFreshInTarget}
+use Rattle.oa_words.specs.Words.{slot_range}
+use Rattle.guard_words.specs.Guards.{Guards, IsRow, guard_at}
+use Rattle.phase_pools.specs.declared.stages.SweepStage.{SweepStage}
+use Rattle.phase_pools.specs.declared.stages.SweepStage.TheVariants as sweeps
+use Rattle.phase_pools.specs.declared.stages.ClaimStage.{ClaimStage}
+use Rattle.phase_pools.specs.declared.stages.ClaimStage.TheVariants as claims
+use Rattle.phase_pools.specs.declared.stages.RetireStage.{RetireStage}
+use Rattle.phase_pools.specs.declared.stages.RetireStage.TheVariants as stages
+use Rattle.phase_pools.specs.Pools.{Sweep, Claim, Retirement}
+use Rattle.caller_steps.specs.declared.routine.AfterClear.{AfterClear}
+use Rattle.caller_steps.specs.declared.routine.AfterClear.TheVariants as clears
+use Rattle.caller_steps.specs.declared.routine.AfterRetire.{AfterRetire}
+use Rattle.caller_steps.specs.declared.routine.AfterRetire.TheVariants as retires
+use Rattle.caller_steps.specs.declared.routine.MethodStart.{MethodStart}
+use Rattle.caller_steps.specs.declared.routine.MethodStart.TheVariants as starts
+use Rattle.caller_steps.specs.declared.entry.Hand.{Hand}
+use Rattle.caller_steps.specs.Settings.{Setting}
+use Rattle.caller_steps.specs.declared.routine.Routine.{Routine}
+use Rattle.caller_steps.specs.declared.routine.Routine.TheVariants.{Idle, LoadSeen, At, InList, Retires, Restarts, Clears, Claims, Zeroes}
+use Rattle.caller_steps.specs.Entries.{Entry}
+use Rattle.caller_steps.specs.Operands.{code_in, instr_in, list_of, is_new_at, new_number, cradle_of}
+use Rattle.caller_steps.specs.Clearing.{restart_next, clear_next}
+
+-- eight registers of each kind, whose references name slots of the row
+abbrev pub NamesSlots : ℕ → Registers → Type 0
+NamesSlots slots registers = record {
+  numbers : length registers.numbers ≡ 8;
+  references : length registers.references ≡ 8;
+  within : (r : ℕ) → (reference_in registers (Ref r)).node ≤ slots;
+}
+
+abbrev pub GuardsSlots : ℕ → Guards → Type 0
+GuardsSlots slots guards = record {
+  row : IsRow guards;
+  within : (r : ℕ) → guard_at guards r ≤ slots;
+}
+
+abbrev pub HoldsSlots : ℕ → List ℕ → Type 0
+HoldsSlots slots cradles = record {
+  count : length cradles ≡ 4;
+  within : (k : ℕ) → slice_index cradles k ≤ slots;
+}
+
+-- what a method run holds
+abbrev pub HandBelongs : Setting → Hand → Type 0
+HandBelongs setting hand = record {
+  registers : NamesSlots setting.sizes.slots hand.registers;
+  started : NamesSlots setting.sizes.slots hand.started;
+  guards : GuardsSlots setting.sizes.slots hand.guards;
+  seen : hand.seen ≤ setting.last;
+}
+
+-- a run of the method has come to a place: it is one of its instructions, a path leads there, and what is surely fresh
+-- there isn't null
+abbrev pub Reaches : List TargetInstr → ℕ → Registers → Type 0
+Reaches code at registers = record {
+  inside : at < length code;
+  path : (path : List ℕ) × TargetPath code path at;
+  fresh : (r : ℕ) → IsSurelyFreshInTarget code (Ref r) at → (reference_in registers (Ref r)).node ≢ 0;
+}
+
+-- the slots that hold nodes: those that are claimed, retired and swept
+abbrev pub first_slot : Setting → ℕ
+first_slot setting = (slot_range setting.sizes).first
+
+abbrev pub last_slot : Setting → ℕ
+last_slot setting = (slot_range setting.sizes).last
+
+-- where a sweep stands
+abbrev pub SweepStands : Setting → ℕ → SweepStage → Type 0
+SweepStands setting bound sweeps.ReadPhase = Unit {0}
+SweepStands setting bound (sweeps.RaisePhase p) = (setting.first ≤ p) × (p < setting.last)
+SweepStands setting bound (sweeps.Warn c) = c < setting.sizes.callers
+SweepStands setting bound (sweeps.ReadHazard c r) = (c < setting.sizes.callers) × (r < 8)
+SweepStands setting bound (sweeps.ReadStatus j) = (first_slot setting ≤ j) × (j ≤ last_slot setting)
+SweepStands setting bound (sweeps.MakeReady j q) = (first_slot setting ≤ j) × (j ≤ last_slot setting) × (q ≤ setting.last)
+
+-- a sweep that has its s has one of the run's phases; before that it has none past the last
+abbrev pub HasBound : Setting → ℕ → SweepStage → Type 0
+HasBound setting bound sweeps.ReadPhase = bound ≤ setting.last
+HasBound setting bound (sweeps.RaisePhase p) = bound ≤ setting.last
+HasBound setting bound _ = (setting.first ≤ bound) × (bound ≤ setting.last)
+
+abbrev pub SweepBelongs : Setting → Sweep → Type 0
+SweepBelongs setting sweep = record {
+  stands : SweepStands setting sweep.bound sweep.stage;
+  bound : HasBound setting sweep.bound sweep.stage;
+  gathered : All (λ j. j ≤ setting.sizes.slots) sweep.gathered;
+}
+
+-- where a claim stands; no look tries slot 0
+abbrev pub ClaimStands : Setting → Sweep → ClaimStage → Type 0
+ClaimStands setting sweep (claims.ReadStatus j) = (first_slot setting ≤ j) × (j ≤ last_slot setting)
+ClaimStands setting sweep (claims.Take j q) = (first_slot setting ≤ j) × (j ≤ last_slot setting) × (q ≤ setting.last)
+ClaimStands setting sweep claims.Sweeps = SweepBelongs setting sweep
+
+abbrev pub ClaimBelongs : Setting → Claim → Type 0
+ClaimBelongs setting claim = ClaimStands setting claim.sweep claim.stage
+
+abbrev pub RetireStands : Setting → RetireStage → Type 0
+RetireStands setting stages.ReadPhase = Unit {0}
+RetireStands setting (stages.StoreStatus p) = p ≤ setting.last
+
+abbrev pub RetireBelongs : Setting → Retirement → Type 0
+RetireBelongs setting retirement = (first_slot setting ≤ retirement.slot) × (retirement.slot ≤ last_slot setting) × RetireStands setting retirement.stage
+
+-- the instruction has an access of its own
+abbrev pub plain_has_access : Instr → Bool
+plain_has_access (instr.LoadRoot d x) = true
+plain_has_access (instr.LoadPick d x count a) = true
+plain_has_access (instr.LoadField d a f) = true
+plain_has_access (instr.Put a f b) = true
+plain_has_access (instr.Cas exchange l) = true
+plain_has_access _ = false
+
+abbrev pub has_access : Option TargetInstr → Bool
+has_access None = false
+has_access (Some (Plain i)) = plain_has_access i
+has_access (Some Check) = true
+has_access (Some (Guard r)) = true
+
+-- an exchange with a register to retire
+abbrev pub has_retire : Option Reg → Bool
+has_retire None = false
+has_retire (Some r) = true
+
+abbrev pub is_retiring : Option CasEntry → Bool
+is_retiring None = false
+is_retiring (Some exchange) = has_retire exchange.retire
+
+abbrev pub cas_of : Option TargetInstr → Option CasEntry
+cas_of (Some (Plain (instr.Cas exchange l))) = Some exchange
+cas_of _ = None
+
+abbrev pub is_check_at : Option TargetInstr → Bool
+is_check_at (Some Check) = true
+is_check_at _ = false
+
+abbrev pub is_reply_at : Option TargetInstr → Bool
+is_reply_at (Some (Plain (instr.Return a))) = true
+is_reply_at (Some (Plain instr.ReturnNone)) = true
+is_reply_at _ = false
+
+abbrev pub is_again_at : Option TargetInstr → Bool
+is_again_at (Some (Plain instr.Again)) = true
+is_again_at _ = false
+
+-- a retirement after an exchange stands at that exchange
+abbrev pub RetireFits : Option TargetInstr → AfterRetire → Type 0
+RetireFits i retires.Next = is_retiring (cas_of i) ≡ true
+RetireFits i (retires.List k) = (k < length (list_of i)) × (is_retiring (slice_get (list_of i) k) ≡ true)
+
+-- a clear stands at the moment of its row
+abbrev pub ClearStands : Option TargetInstr → Hand → AfterClear → Type 0
+ClearStands i hand clears.New = is_new_at i ≡ true
+ClearStands i hand clears.WrapUp = (hand.wrapup ≡ true) × (hand.at ≡ 0)
+ClearStands i hand (clears.Reply reply) = (hand.wrapup ≡ true) × (is_reply_at i ≡ true)
+ClearStands i hand clears.Again = (hand.wrapup ≡ true) × (is_again_at i ≡ true)
+
+abbrev pub StartStands : Option TargetInstr → Hand → MethodStart → Type 0
+StartStands i hand starts.Begin = (hand.wrapup ≡ false) × (hand.at ≡ 0)
+StartStands i hand starts.WrapUp = (hand.wrapup ≡ true) × (hand.at ≡ 0)
+StartStands i hand starts.Again = (hand.wrapup ≡ true) × (is_again_at i ≡ true)
+
+abbrev pub IsSomeOf : Option ℕ → Type 0
+IsSomeOf None = ⊥
+IsSomeOf (Some r) = Unit {0}
+
+-- it stands at an access of its routine
+abbrev pub Stands : Target → Setting → Entry → Routine → Type 0
+Stands target setting e Idle = Unit {0}
+Stands target setting e (LoadSeen why) = StartStands (instr_in target e) e.hand why
+Stands target setting e At = has_access (instr_in target e) ≡ true
+Stands target setting e (InList k) = k < length (list_of (instr_in target e))
+Stands target setting e (Retires retirement go) = RetireBelongs setting retirement × RetireFits (instr_in target e) go
+Stands target setting e Restarts = (is_check_at (instr_in target e) ≡ true) × IsSomeOf (restart_next target e)
+Stands target setting e (Clears next) = ClearStands (instr_in target e) e.hand next × IsSomeOf (clear_next target next e)
+Stands target setting e (Claims claim) = (is_new_at (instr_in target e) ≡ true) × ClaimBelongs setting claim
+Stands target setting e (Zeroes k field) =
+    (is_new_at (instr_in target e) ≡ true) × (k ≡ new_number target e) × (cradle_of e k ≢ 0) × (field < setting.sizes.fields)
+
+-- where it runs it has come to its instruction
+abbrev pub RunsAt : Target → Entry → Routine → Type 0
+RunsAt target e Idle = e.hand.at < length (code_in target e)
+RunsAt target e _ = Reaches (code_in target e) e.hand.at e.hand.registers
+
+pub record Belongs (target : Target) (setting : Setting) (e : Entry) : Type 0 where
+  pub number : e.number < setting.sizes.callers
+  pub op : e.running.call.op < length target.ops
+  pub hand : HandBelongs setting e.hand
+  pub cradles : HoldsSlots setting.sizes.slots e.cradles
+  pub reaches : RunsAt target e e.routine
+  pub stands : Stands target setting e e.routine

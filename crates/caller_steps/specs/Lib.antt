@@ -1,0 +1,12 @@
+pub mod Pairing
+pub mod Settings
+pub mod Entries
+pub mod Calls
+pub mod Operands
+pub mod Clearing
+pub mod Wants
+pub mod Signs
+pub mod After
+pub mod Lawful
+pub mod Belongs
+pub mod Asking

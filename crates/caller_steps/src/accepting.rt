@@ -1,0 +1,375 @@
+//! An entry after its wanted access found a word: one small function for each routine state and each instruction.
+
+ghost use Rattle.std.specs.Prelude.{◌≡◌, ◌<◌, ◌≤◌, ◌^◌, length, option_copied, slice_get, Some, None};
+ghost use Rattle.phase_pools.specs.Ranges.{ClaimInRange, ClaimTold, RetireTold};
+ghost use Rattle.caller_steps.specs.Operands.{instr_in, list_of};
+ghost use Rattle.caller_steps.specs.Clearing.{restart_next, clear_next, unguarded};
+ghost use Rattle.caller_steps.specs.After.{seen_loaded, check_passed, check_failed, checked, guarded, loaded, put_made, list_on, onward_goes, retires_then, cas_ended, cas_made, plain_accepted, instr_accepted, with_published, entry_ended, entry_made, list_accepted, restart_cleared, then_cleared, slot_claimed, claim_ended, node_made, zeroed, after};
+ghost use Rattle.caller_steps.specs.Asking.{AreSlots, IsNear, IsRegister, InstrAccepts, CanAccept};
+
+use crate::call::Reply;
+use crate::entry::{Entry, one_more};
+use crate::operands::{
+    empty_cradles, exchange_at, list_of, put_cradle, put_new, put_word, slot_in, succeeds,
+    to_retire,
+};
+use crate::program::Program;
+use crate::routine::{AfterClear, AfterRetire, MethodStart, Routine};
+use crate::setting::Setting;
+use norm_lang::text::{CasEntry, Instr, Reg};
+use oa_words::shape::Shape;
+use phase_pools::access::ClaimEnd;
+use phase_pools::retire::RetireState;
+use target_code::target::TargetInstr;
+
+impl Entry {
+    /// The own warning was loaded.
+    fn seen_loaded(&mut self, program: &Program, shape: &Shape, why: MethodStart, word: u64)
+        requires { length self.old.core.replies < self.old.room }
+        ensures { self.new ≡ record self.old { core = (seen_loaded program.now shape.now why word self.old.core).entry } }
+    {
+        self.hand.seen = word;
+        match why {
+            MethodStart::Begin | MethodStart::Again => self.begin_method(program, shape, false),
+            MethodStart::WrapUp => self.begin_method(program, shape, true),
+        }
+    }
+
+    fn check_passed(&mut self, program: &Program, shape: &Shape)
+        requires spare { length self.old.core.replies < self.old.room }
+        requires near { self.old.core.hand.at < 2 ^ 62 }
+        ensures { self.new ≡ record self.old { core = (check_passed program.now shape.now self.old.core).entry } }
+    {
+        self.hand.guards.pass_check();
+        self.go_on(program, shape, self.hand.registers);
+    }
+
+    fn check_failed(&mut self, program: &Program, shape: &Shape, found: u64)
+        requires { length self.old.core.replies < self.old.room }
+        ensures { self.new ≡ record self.old { core = (check_failed program.now shape.now found self.old.core).entry } }
+    {
+        self.counts.restarts = one_more(self.counts.restarts);
+        self.hand.seen = found;
+        self.hand.accessed = false;
+        self.restarted(program, shape);
+    }
+
+    fn checked(&mut self, program: &Program, shape: &Shape, word: u64)
+        requires spare { length self.old.core.replies < self.old.room }
+        requires near { self.old.core.hand.at < 2 ^ 62 }
+        ensures { self.new ≡ record self.old { core = (checked program.now shape.now word self.old.core).entry } }
+    {
+        if word == self.hand.seen {
+            self.check_passed(program, shape);
+        } else {
+            self.check_failed(program, shape, word);
+        }
+    }
+
+    /// The slot of a register was stored in its hazard.
+    fn guarded(&mut self, program: &Program, shape: &Shape, register: u8)
+        requires spare { length self.old.core.replies < self.old.room }
+        requires near { self.old.core.hand.at < 2 ^ 62 }
+        requires slots { AreSlots self.old.core.hand.registers }
+        requires register { register < 8 }
+        ensures { self.new ≡ record self.old { core = (guarded program.now shape.now (Reg.Ref register) self.old.core).entry } }
+    {
+        let slot = slot_in(&self.hand.registers, Reg::Ref(register));
+        self.hand.guards.put(register as u32, slot);
+        self.go_on(program, shape, self.hand.registers);
+    }
+
+    /// A word of the text was loaded into a register.
+    fn loaded(&mut self, program: &Program, shape: &Shape, register: Reg, word: u64)
+        requires spare { length self.old.core.replies < self.old.room }
+        requires near { self.old.core.hand.at < 2 ^ 62 }
+        ensures { self.new ≡ record self.old { core = (loaded program.now shape.now register word self.old.core).entry } }
+    {
+        let mut registers = self.hand.registers;
+        put_word(&mut registers, register, word);
+        self.hand.accessed = self.hand.wrapup;
+        self.go_on(program, shape, registers);
+    }
+
+    /// After the exchange of a list with this number.
+    fn list_on(&mut self, program: &Program, shape: &Shape, k: usize)
+        requires spare { length self.old.core.replies < self.old.room }
+        requires near { k < 2 ^ 62 }
+        ensures { self.new ≡ record self.old { core = list_on program.now shape.now k self.old.core } }
+    {
+        if k + 1 < list_of(self.instr_in(program)).len() {
+            self.routine = Routine::InList(k + 1);
+        } else {
+            self.list_ended(program, shape, k + 1);
+        }
+    }
+
+    fn onward_goes(&mut self, program: &Program, shape: &Shape, onward: AfterRetire)
+        requires spare { length self.old.core.replies < self.old.room }
+        requires near { self.old.core.hand.at < 2 ^ 62 }
+        requires few { IsNear onward }
+        ensures { self.new ≡ record self.old { core = (onward_goes program.now shape.now onward self.old.core).entry } }
+    {
+        match onward {
+            AfterRetire::Next => self.go_on(program, shape, self.hand.registers),
+            AfterRetire::List(k) => self.list_on(program, shape, k),
+        }
+    }
+
+    /// After an exchange that succeeded; slot 0 isn't retired.
+    fn retires_then(&mut self, program: &Program, shape: &Shape, onward: AfterRetire, slot: u32)
+        requires spare { length self.old.core.replies < self.old.room }
+        requires near { self.old.core.hand.at < 2 ^ 62 }
+        requires few { IsNear onward }
+        ensures { self.new ≡ record self.old { core = (retires_then program.now shape.now onward slot self.old.core).entry } }
+    {
+        if slot == 0 {
+            self.onward_goes(program, shape, onward);
+        } else {
+            self.routine = Routine::Retires(RetireState::begin(slot), onward);
+        }
+    }
+
+    fn cas_ended(
+        &mut self,
+        program: &Program,
+        shape: &Shape,
+        exchange: &CasEntry,
+        failed: u16,
+        word: u64,
+    )
+        requires spare { length self.old.core.replies < self.old.room }
+        requires near { self.old.core.hand.at < 2 ^ 62 }
+        requires slots { AreSlots self.old.core.hand.registers }
+        ensures { self.new ≡ record self.old { core = (cas_ended program.now shape.now exchange.now failed word self.old.core).entry } }
+    {
+        if succeeds(exchange, &self.hand.registers, word) {
+            let slot = to_retire(exchange.retire, &self.hand.registers);
+            self.retires_then(program, shape, AfterRetire::Next, slot);
+        } else {
+            self.settle(program, shape, failed as usize, self.hand.registers);
+        }
+    }
+
+    /// An auxiliary exchange was made.
+    fn cas_made(
+        &mut self,
+        program: &Program,
+        shape: &Shape,
+        exchange: &CasEntry,
+        failed: u16,
+        word: u64,
+    )
+        requires spare { length self.old.core.replies < self.old.room }
+        requires near { self.old.core.hand.at < 2 ^ 62 }
+        requires slots { AreSlots self.old.core.hand.registers }
+        ensures { self.new ≡ record self.old { core = (cas_made program.now shape.now exchange.now failed word self.old.core).entry } }
+    {
+        self.hand.accessed = self.hand.wrapup;
+        self.cas_ended(program, shape, exchange, failed, word);
+    }
+
+    fn plain_accepted(&mut self, program: &Program, shape: &Shape, instr: &Instr, word: u64)
+        requires spare { length self.old.core.replies < self.old.room }
+        requires near { self.old.core.hand.at < 2 ^ 62 }
+        requires slots { AreSlots self.old.core.hand.registers }
+        ensures { self.new ≡ record self.old { core = (plain_accepted program.now shape.now instr.now word self.old.core).entry } }
+    {
+        match instr {
+            Instr::LoadRoot(d, _) | Instr::LoadPick(d, _, _, _) | Instr::LoadField(d, _, _) => {
+                self.loaded(program, shape, *d, word);
+            }
+            Instr::Put(_, _, _) => self.go_on(program, shape, self.hand.registers),
+            Instr::Cas(exchange, failed) => {
+                self.cas_made(program, shape, exchange, *failed, word);
+            }
+            _ => {}
+        }
+    }
+
+    fn instr_accepted(&mut self, program: &Program, shape: &Shape, word: u64)
+        requires spare { length self.old.core.replies < self.old.room }
+        requires near { self.old.core.hand.at < 2 ^ 62 }
+        requires slots { AreSlots self.old.core.hand.registers }
+        requires can { InstrAccepts (instr_in program.now self.old.core) }
+        ensures { self.new ≡ record self.old { core = (instr_accepted program.now shape.now (instr_in program.now self.old.core) word self.old.core).entry } }
+    {
+        match self.instr_in(program) {
+            None => {}
+            Some(TargetInstr::Plain(instr)) => self.plain_accepted(program, shape, instr, word),
+            Some(TargetInstr::Check) => self.checked(program, shape, word),
+            Some(TargetInstr::Guard(Reg::Ref(r))) => self.guarded(program, shape, *r),
+            Some(TargetInstr::Guard(Reg::Num(_))) => {}
+        }
+    }
+
+    /// Each cradle that holds the slot of the operand is emptied.
+    fn publish(&mut self, operand: Reg)
+        requires { AreSlots self.old.core.hand.registers }
+        ensures { self.new ≡ record self.old { core = with_published operand self.old.core } }
+    {
+        if let Reg::Ref(_) = operand {
+            let slot = slot_in(&self.hand.registers, operand);
+            empty_cradles(&mut self.cradles, slot);
+        }
+    }
+
+    /// An exchange of a list was made.
+    fn entry_made(
+        &mut self,
+        program: &Program,
+        shape: &Shape,
+        k: usize,
+        exchange: &CasEntry,
+        word: u64,
+    )
+        requires spare { length self.old.core.replies < self.old.room }
+        requires near { self.old.core.hand.at < 2 ^ 62 }
+        requires slots { AreSlots self.old.core.hand.registers }
+        requires few { k < 2 ^ 62 }
+        ensures { self.new ≡ record self.old { core = (entry_made program.now shape.now k exchange.now word self.old.core).entry } }
+    {
+        if succeeds(exchange, &self.hand.registers, word) {
+            let slot = to_retire(exchange.retire, &self.hand.registers);
+            self.publish(exchange.replacement);
+            self.retires_then(program, shape, AfterRetire::List(k), slot);
+        } else {
+            self.list_ended(program, shape, k);
+        }
+    }
+
+    fn list_accepted(&mut self, program: &Program, shape: &Shape, k: usize, word: u64)
+        requires spare { length self.old.core.replies < self.old.room }
+        requires near { self.old.core.hand.at < 2 ^ 62 }
+        requires slots { AreSlots self.old.core.hand.registers }
+        requires few { k < 2 ^ 62 }
+        ensures { self.new ≡ record self.old { core = (list_accepted program.now shape.now k (slice_get (list_of (instr_in program.now self.old.core)) k) word self.old.core).entry } }
+    {
+        if let Some(exchange) = exchange_at(list_of(self.instr_in(program)), k) {
+            self.entry_made(program, shape, k, exchange, word);
+        }
+    }
+
+    fn cleared_at(&mut self, register: Option<u32>)
+        requires { IsRegister register }
+        ensures { self.new ≡ record self.old { core = record self.old.core { hand = unguarded register self.old.core.hand } } }
+    {
+        if let Some(r) = register {
+            self.hand.guards.put(r, 0);
+        }
+    }
+
+    fn restart_cleared(&mut self, program: &Program, shape: &Shape)
+        requires spare { length self.old.core.replies < self.old.room }
+        requires register { IsRegister (restart_next program.now self.old.core) }
+        ensures { self.new ≡ record self.old { core = (restart_cleared program.now shape.now self.old.core).entry } }
+    {
+        let register = self.restart_next(program);
+        self.cleared_at(register);
+        self.restarted(program, shape);
+    }
+
+    fn then_cleared(&mut self, program: &Program, shape: &Shape, next: AfterClear)
+        requires spare { length self.old.core.replies < self.old.room }
+        requires register { IsRegister (clear_next program.now next self.old.core) }
+        ensures { self.new ≡ record self.old { core = then_cleared program.now shape.now next self.old.core } }
+    {
+        let register = self.clear_next(program, next);
+        self.cleared_at(register);
+        self.cleared(program, shape, next);
+    }
+
+    /// A claimed slot goes into the cradle of the `new`.
+    fn slot_claimed(&mut self, program: &Program, slot: u32)
+        ensures { self.new ≡ record self.old { core = slot_claimed program.now slot self.old.core } }
+    {
+        let k = self.new_number(program);
+        put_cradle(&mut self.cradles, k, slot);
+        self.counts.claims = one_more(self.counts.claims);
+        self.routine = Routine::Zeroes(k, 0);
+    }
+
+    fn claim_ended(&mut self, program: &Program, end: ClaimEnd)
+        requires { length self.old.core.replies < self.old.room }
+        ensures { self.new ≡ record self.old { core = (claim_ended program.now end self.old.core).entry } }
+    {
+        match end {
+            ClaimEnd::Claimed(slot) => self.slot_claimed(program, slot),
+            ClaimEnd::Full => self.replied(Reply::Full),
+            ClaimEnd::PhasesOver(p) => self.replied(Reply::Phases(p)),
+        }
+    }
+
+    /// The last field of a `new` was stored.
+    fn node_made(&mut self, program: &Program, shape: &Shape, slot: u32)
+        requires spare { length self.old.core.replies < self.old.room }
+        requires near { self.old.core.hand.at < 2 ^ 62 }
+        ensures { self.new ≡ record self.old { core = (node_made program.now shape.now slot self.old.core).entry } }
+    {
+        let mut registers = self.hand.registers;
+        put_new(&mut registers, self.instr_in(program), slot);
+        self.go_on(program, shape, registers);
+    }
+
+    fn zeroed(&mut self, program: &Program, shape: &Shape, k: usize, field: u32)
+        requires spare { length self.old.core.replies < self.old.room }
+        requires near { self.old.core.hand.at < 2 ^ 62 }
+        requires field { field < shape.now.fields }
+        ensures { self.new ≡ record self.old { core = (zeroed program.now shape.now k field self.old.core).entry } }
+    {
+        let fields = shape.fields();
+        if field + 1 < fields {
+            self.routine = Routine::Zeroes(k, field + 1);
+        } else {
+            self.node_made(program, shape, self.cradle(k));
+        }
+    }
+
+    /// The entry after its wanted access found a word. It runs, with room for a reply, its registers name slots, and the word
+    /// is one that its routine may be told.
+    #[tactic(auto, unfolding(crate::specs::After::after))]
+    pub fn accept(&mut self, program: &Program, setting: &Setting, word: u64)
+        requires spare { length self.old.core.replies < self.old.room }
+        requires near { self.old.core.hand.at < 2 ^ 62 }
+        requires slots { AreSlots self.old.core.hand.registers }
+        requires can { CanAccept program.now setting.now self.old.core word self.old.core.routine }
+        ensures { self.new ≡ record self.old { core = after program.now setting.now self.old.core word } }
+    {
+        let shape = setting.shape();
+        self.running.steps = one_more(self.running.steps);
+        match &mut self.routine {
+            Routine::Idle => {}
+            Routine::LoadSeen(why) => {
+                let why = *why;
+                self.seen_loaded(program, shape, why, word);
+            }
+            Routine::At => self.instr_accepted(program, shape, word),
+            Routine::InList(k) => {
+                let k = *k;
+                self.list_accepted(program, shape, k, word);
+            }
+            Routine::Retires(retirement, onward) => {
+                let onward = *onward;
+                if retirement.accept(shape, word) {
+                    self.routine = Routine::At;
+                    self.onward_goes(program, shape, onward);
+                }
+            }
+            Routine::Restarts => self.restart_cleared(program, shape),
+            Routine::Clears(next) => {
+                let next = *next;
+                self.then_cleared(program, shape, next);
+            }
+            Routine::Claims(claim) => {
+                if let Some(end) = claim.accept(shape, setting.last_phase(), word) {
+                    self.routine = Routine::At;
+                    self.claim_ended(program, end);
+                }
+            }
+            Routine::Zeroes(k, field) => {
+                let (k, field) = (*k, *field);
+                self.zeroed(program, shape, k, field);
+            }
+        }
+    }
+}

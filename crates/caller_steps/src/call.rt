@@ -1,0 +1,43 @@
+//! Calls of operations, and what they get.
+
+/// A call of an operation by its number; the arguments past the operation's count are 0.
+#[derive(Clone, Copy, Debug, PartialEq, Eq)]
+pub struct Call {
+    /// The operation.
+    pub op: u8,
+    /// Its arguments, from n0 on.
+    pub args: [u64; 4],
+}
+
+/// How a call ended.
+#[derive(Clone, Copy, Debug, PartialEq, Eq)]
+pub enum Reply {
+    /// A number was returned.
+    Number(u64),
+    /// It returned, and no number.
+    Nothing,
+    /// The call was given up: its claim found no slot.
+    Full,
+    /// The call was given up: a sweep found this phase, which is the last one.
+    Phases(u64),
+}
+
+/// A call, and how many steps were made for it; the count stays at 2^64 - 1.
+#[derive(Clone, Copy, Debug, PartialEq, Eq)]
+pub struct Running {
+    /// The call.
+    pub call: Call,
+    /// The steps, each of which is one access.
+    pub steps: u64,
+}
+
+/// A reply with the call that got it, and the count of steps that were made for it.
+#[derive(Clone, Copy, Debug, PartialEq, Eq)]
+pub struct Replied {
+    /// The call.
+    pub call: Call,
+    /// How it ended.
+    pub reply: Reply,
+    /// The steps, the last access included.
+    pub steps: u64,
+}

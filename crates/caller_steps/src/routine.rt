@@ -1,0 +1,61 @@
+//! Where a caller stands: before which access.
+
+use crate::call::Reply;
+use phase_pools::claim::ClaimState;
+use phase_pools::retire::RetireState;
+
+/// The method run that begins with a load of the own warning.
+#[derive(Clone, Copy, Debug, PartialEq, Eq)]
+pub enum MethodStart {
+    /// An operation's first run of its generator.
+    Begin,
+    /// The wrap-up, after a list has ended.
+    WrapUp,
+    /// The generator, after `again`.
+    Again,
+}
+
+/// What follows once no guard is left to clear.
+#[derive(Clone, Copy, Debug, PartialEq, Eq)]
+pub enum AfterClear {
+    /// The fields of a `new`, or first its claim.
+    New,
+    /// The load of the warning at a wrap-up's start.
+    WrapUp,
+    /// The end of the call, with this reply.
+    Reply(Reply),
+    /// The load of the warning after `again`.
+    Again,
+}
+
+/// What follows a retirement.
+#[derive(Clone, Copy, Debug, PartialEq, Eq)]
+pub enum AfterRetire {
+    /// The next instruction.
+    Next,
+    /// What follows the exchange of the list with this number, counted from 0.
+    List(usize),
+}
+
+/// Where a caller stands between two accesses.
+#[derive(Debug, Drop)]
+pub enum Routine {
+    /// No call runs.
+    Idle,
+    /// Before the load of the own warning into `seen`.
+    LoadSeen(MethodStart),
+    /// Before the load, check, guard, put or auxiliary exchange of the instruction.
+    At,
+    /// Before the exchange of the list with this number; so many have succeeded.
+    InList(usize),
+    /// In a retirement, after an exchange that succeeded.
+    Retires(RetireState, AfterRetire),
+    /// Before the store of 0 to the hazard of the least register that is to be cleared, after a failed check.
+    Restarts,
+    /// The same at another moment, and what follows.
+    Clears(AfterClear),
+    /// In a claim, for a `new` whose cradle is empty.
+    Claims(ClaimState),
+    /// Before the store of 0 to a field of the slot in a cradle: the cradle and the field.
+    Zeroes(usize, u32),
+}

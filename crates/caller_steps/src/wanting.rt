@@ -1,0 +1,161 @@
+//! The one access that an entry makes next.
+
+ghost use Rattle.std.specs.Prelude.{◌≡◌, ◌<◌, ◌≤◌, option_copied, slice_get, Some, None};
+ghost use Rattle.phase_pools.specs.Accesses.{located};
+ghost use Rattle.caller_steps.specs.Operands.{instr_in, list_of};
+ghost use Rattle.caller_steps.specs.Wants.{exchange_wanted, object_exchange, plain_wanted, instr_wanted, list_wanted, clear_wanted, wants};
+ghost use Rattle.caller_steps.specs.Asking.{located_option, AreSlots, CanExchange, CanAsk, CanAskPlain, CanAskInstr, CanAskList, IsRegister};
+
+use crate::entry::Entry;
+use crate::operands::{exchange_at, list_of, slot_in, word_in};
+use crate::program::Program;
+use crate::routine::Routine;
+use crate::setting::Setting;
+use norm_lang::registers::{Registers, number_at};
+use norm_lang::text::{CasEntry, Instr, Place, Reg};
+use oa_words::shape::Shape;
+use phase_pools::access::Access;
+use target_code::target::TargetInstr;
+
+/// The exchange of a node's field; where the object is null the field is loaded.
+fn object_exchange(shape: &Shape, slot: u32, field: u8, expected: u64, replacement: u64) -> Access
+    requires slot { slot ≤ shape.now.slots }
+    requires field { field < shape.now.fields }
+    ensures { result ≡ located shape.now (object_exchange slot field expected replacement) }
+{
+    let at = shape.field_at(slot, field as u32);
+    if slot == 0 {
+        return Access::Load { at };
+    }
+    Access::CompareExchange {
+        at,
+        expected,
+        replacement,
+    }
+}
+
+fn exchange_wanted(shape: &Shape, exchange: &CasEntry, registers: &Registers) -> Access
+    requires slots { AreSlots registers.now }
+    requires can { CanExchange shape.now exchange.now.place registers.now }
+    ensures { result ≡ located shape.now (exchange_wanted exchange.now registers.now) }
+{
+    let expected = word_in(registers, exchange.expected);
+    let replacement = word_in(registers, exchange.replacement);
+    match exchange.place {
+        Place::Root(x) => Access::CompareExchange {
+            at: shape.cell_at(x as u32),
+            expected,
+            replacement,
+        },
+        Place::Field(a, f) => {
+            object_exchange(shape, slot_in(registers, a), f, expected, replacement)
+        }
+    }
+}
+
+fn plain_wanted(shape: &Shape, instr: &Instr, registers: &Registers) -> Option<Access>
+    requires slots { AreSlots registers.now }
+    requires can { CanAskPlain shape.now instr.now registers.now }
+    ensures { result ≡ located_option shape.now (plain_wanted instr.now registers.now) }
+{
+    match instr {
+        Instr::LoadRoot(_, x) => Some(Access::Load {
+            at: shape.cell_at(*x as u32),
+        }),
+        Instr::LoadPick(_, x, count, a) => {
+            let place = number_at(registers, *a)
+                .checked_rem(*count as u64)
+                .unwrap_or(0) as u32;
+            Some(Access::Load {
+                at: shape.cell_at(*x as u32 + place),
+            })
+        }
+        Instr::LoadField(_, a, f) => Some(Access::Load {
+            at: shape.field_at(slot_in(registers, *a), *f as u32),
+        }),
+        Instr::Put(a, f, b) => Some(Access::Store {
+            at: shape.field_at(slot_in(registers, *a), *f as u32),
+            word: word_in(registers, *b),
+        }),
+        Instr::Cas(exchange, _) => Some(exchange_wanted(shape, exchange, registers)),
+        _ => None,
+    }
+}
+
+/// A store of 0 to a hazard of the caller.
+fn clear_wanted(shape: &Shape, caller: u32, register: Option<u32>) -> Option<Access>
+    requires caller { caller < shape.now.callers }
+    requires register { IsRegister register }
+    ensures { result ≡ located_option shape.now (clear_wanted caller register) }
+{
+    match register {
+        None => None,
+        Some(r) => Some(Access::Store {
+            at: shape.hazard_at(caller, r),
+            word: 0,
+        }),
+    }
+}
+
+impl Entry {
+    fn instr_wanted(&self, program: &Program, shape: &Shape) -> Option<Access>
+        requires caller { self.now.core.number < shape.now.callers }
+        requires slots { AreSlots self.now.core.hand.registers }
+        requires can { CanAskInstr shape.now (instr_in program.now self.now.core) self.now.core.hand.registers }
+        ensures { result ≡ located_option shape.now (instr_wanted self.now.core.number (instr_in program.now self.now.core) self.now.core.hand.registers) }
+    {
+        match self.instr_in(program) {
+            None => None,
+            Some(TargetInstr::Plain(instr)) => plain_wanted(shape, instr, &self.hand.registers),
+            Some(TargetInstr::Check) => Some(Access::Load {
+                at: shape.warning_at(self.number),
+            }),
+            Some(TargetInstr::Guard(Reg::Ref(r))) => Some(Access::Store {
+                at: shape.hazard_at(self.number, *r as u32),
+                word: slot_in(&self.hand.registers, Reg::Ref(*r)) as u64,
+            }),
+            Some(TargetInstr::Guard(Reg::Num(_))) => None,
+        }
+    }
+
+    fn list_wanted(&self, program: &Program, shape: &Shape, k: usize) -> Option<Access>
+        requires slots { AreSlots self.now.core.hand.registers }
+        requires can { CanAskList shape.now (slice_get (list_of (instr_in program.now self.now.core)) k) self.now.core.hand.registers }
+        ensures { result ≡ located_option shape.now (list_wanted (slice_get (list_of (instr_in program.now self.now.core)) k) self.now.core.hand.registers) }
+    {
+        match exchange_at(list_of(self.instr_in(program)), k) {
+            None => None,
+            Some(exchange) => Some(exchange_wanted(shape, exchange, &self.hand.registers)),
+        }
+    }
+
+    /// The one access that the entry makes next; none exactly where it is idle, or stands at no access. What it stands at is
+    /// in the row, and its registers name slots.
+    #[tactic(auto, unfolding(crate::specs::Wants::wants))]
+    pub fn pending(&self, program: &Program, setting: &Setting) -> Option<Access>
+        requires caller { self.now.core.number < setting.now.sizes.callers }
+        requires slots { AreSlots self.now.core.hand.registers }
+        requires can { CanAsk program.now setting.now self.now.core self.now.core.routine }
+        ensures { result ≡ located_option setting.now.sizes (wants program.now self.now.core) }
+    {
+        let shape = setting.shape();
+        match &self.routine {
+            Routine::Idle => None,
+            Routine::LoadSeen(_) => Some(Access::Load {
+                at: shape.warning_at(self.number),
+            }),
+            Routine::At => self.instr_wanted(program, shape),
+            Routine::InList(k) => self.list_wanted(program, shape, *k),
+            Routine::Retires(retirement, _) => Some(retirement.pending(shape)),
+            Routine::Restarts => clear_wanted(shape, self.number, self.restart_next(program)),
+            Routine::Clears(next) => {
+                clear_wanted(shape, self.number, self.clear_next(program, *next))
+            }
+            Routine::Claims(claim) => Some(claim.pending(shape, setting.last_phase())),
+            Routine::Zeroes(k, field) => Some(Access::Store {
+                at: shape.field_at(self.cradle(*k), *field),
+                word: 0,
+            }),
+        }
+    }
+}

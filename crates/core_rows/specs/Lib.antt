@@ -1,0 +1,17 @@
+pub mod Short
+pub mod Stories
+pub mod SmallTexts
+pub mod SmallTargets
+pub mod ShippedTargets
+pub mod CompiledRows
+pub mod CounterRows
+pub mod SwapRows
+pub mod PressRows
+pub mod TouchRows
+pub mod MeetingRows
+pub mod DropRows
+pub mod CradleRows
+pub mod ListRows
+pub mod PairRows
+pub mod SharedRows
+pub mod ReplayRows

@@ -1,0 +1,8 @@
+pub mod Machine
+pub mod Memories
+pub mod Views
+pub mod RunSigns
+pub mod Advances
+pub mod Histories
+pub mod Scripts
+pub mod Replays

@@ -1,0 +1,3 @@
+pub mod Machine
+pub mod StartSound
+pub mod Reached

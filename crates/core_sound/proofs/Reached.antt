@@ -1,0 +1,77 @@
+-- Every reachable state is sound, and stays in the row.
+use Rattle.std.proofs.Common.{◌≡◌, ℕ, ◌<◌, Bool, true, false, Option, Some, None, refl, sym, ◌∙◌, subst}
+use Rattle.std.specs.Prelude.{slice_get}
+use Rattle.norm_lang.specs.declared.text.FieldKind.{FieldKind}
+use Rattle.norm_lang.specs.declared.text.FieldKind.TheVariants as kinds
+use Rattle.norm_lang.specs.InstructionRules.{field_kind, root_kind}
+use Rattle.target_code.specs.declared.target.Target.{Target}
+use Rattle.oa_words.specs.Words.{Phase, Warning, Hazard, Status, FieldOf, Cell, address_of, in_row, word_count}
+use Rattle.phase_pools.specs.Accesses.{WordAccess, word_of}
+use Rattle.caller_steps.specs.Settings.{Fits, Setting}
+use Rattle.caller_steps.specs.Entries.{Entry, is_idle}
+use Rattle.caller_steps.specs.Wants.{wants}
+use Rattle.caller_steps.specs.Lawful.{AsksSafely, IsLawful, IsSafe, LawfulValue, is_place}
+use Rattle.core_runs.specs.Machine.{CoreState, word_at}
+use Rattle.core_runs.proofs.Reaching.{induct}
+use Rattle.caller_laws.proofs.Methods.{Methods, SettingSane, setting_sane}
+use Rattle.caller_laws.proofs.Together.{idle_wants, methods}
+use Rattle.core_runs.specs.Views.{IsShaped}
+use Rattle.core_sound.specs.Sound.{IsSound, StaysInRow, StartSuits, Always}
+use Rattle.caller_laws.specs.Laws.{ForRuns}
+use Rattle.oa_words.proofs.Places.{within}
+use Rattle.caller_laws.proofs.Safety.{wants_safe}
+use Rattle.core_sound.proofs.Machine.{event_sound}
+use Rattle.core_sound.proofs.StartSound.{start_sound, suits}
+
+reference_lawful : (slots word : ℕ) (kind : Option FieldKind) → kind ≡ Some kinds.Reference → LawfulValue slots kind word → LawfulValue slots (Some kinds.Reference) word
+reference_lawful slots word kind is lawful = subst (λ (k : Option FieldKind). LawfulValue slots k word) is lawful
+
+-- a caller that wants something isn't idle
+wants_busy : (target : Target) (e : Entry) (a : WordAccess) (b : Bool) → is_idle e.routine ≡ b → wants target e ≡ Some a → is_idle e.routine ≡ false
+wants_busy target e a true is want = absurd (let no : None ≡ Some a = sym (idle_wants target e is) ∙ want in cc)
+wants_busy target e a false is want = is
+
+pub sound_stays : (target : Target) (setting : Setting) (state : CoreState) → Methods target → SettingSane setting → Fits target setting → IsSound target setting state → StaysInRow target setting state
+sound_stays target setting state sane some fits s = record {
+  registers = λ c r e is. (s.belong c e is).0.hand.registers.within r;
+  started = λ c r e is. (s.belong c e is).0.hand.started.within r;
+  fields = λ j g row kind. reference_lawful setting.sizes.slots (word_at setting state (FieldOf j g)) (field_kind target.fields g) kind (s.lawful (FieldOf j g) row);
+  roots = λ x row kind. reference_lawful setting.sizes.slots (word_at setting state (Cell x)) (root_kind target.roots x) kind (s.lawful (Cell x) row);
+  hazards = λ c r row. s.lawful (Hazard c r) row;
+  words = s.count;
+  wanted = λ c e a is want. asked c e a is want;
+  phase = s.lawful Phase refl;
+  warnings = λ c row. s.lawful (Warning c) row;
+  statuses = λ j row. s.lawful (Status j) row;
+} where
+  safe : (c : ℕ) (e : Entry) (a : WordAccess) → slice_get state.entries c ≡ Some e → wants target e ≡ Some a → IsSafe target setting a
+  safe c e a is want = subst (λ (o : Option WordAccess). AsksSafely target setting o) want (wants_safe target setting e sane some fits (s.belong c e is).0 (wants_busy target e a (is_idle e.routine) refl want))
+
+  asked : (c : ℕ) (e : Entry) (a : WordAccess) → slice_get state.entries c ≡ Some e → wants target e ≡ Some a
+      → (address_of setting.sizes (word_of a) < word_count setting.sizes) × (is_place (word_of a) ≡ false) × IsLawful target setting (word_of a) (word_at setting state (word_of a))
+  asked c e a is want =
+      let row = (safe c e a is want).row in
+      (within setting.sizes (word_of a) row, (safe c e a is want).place, s.lawful (word_of a) row)
+
+pub states_are_sound : Always IsSound
+states_are_sound target text setting state runs own fits reached =
+    let own_methods = methods target text runs in
+    induct target setting (IsSound target setting) (start_sound target setting own_methods runs.within own fits)
+    (λ now later event sound leads. event_sound target setting now later event own_methods (setting_sane setting own) fits sound leads) state reached
+
+pub states_stay : Always StaysInRow
+states_stay target text setting state runs own fits reached =
+    sound_stays target setting state (methods target text runs) (setting_sane setting own) fits (states_are_sound target text setting state runs own fits reached)
+
+pub sound_is_shaped : (target : Target) (setting : Setting) (state : CoreState) → Methods target → SettingSane setting → Fits target setting → IsSound target setting state → IsShaped target setting state
+sound_is_shaped target setting state sane some fits s = record { words = s.count; callers = s.callers; wanted = λ c e a is want. row c e a is want }
+  where
+    row : (c : ℕ) (e : Entry) (a : WordAccess) → slice_get state.entries c ≡ Some e → wants target e ≡ Some a → in_row setting.sizes (word_of a) ≡ true
+    row c e a is want = (subst (λ (o : Option WordAccess). AsksSafely target setting o) want (wants_safe target setting e sane some fits (s.belong c e is).0 (wants_busy target e a (is_idle e.routine) refl want))).row
+
+pub states_are_shaped : Always IsShaped
+states_are_shaped target text setting state runs own fits reached =
+    sound_is_shaped target setting state (methods target text runs) (setting_sane setting own) fits (states_are_sound target text setting state runs own fits reached)
+
+pub start_suits : ForRuns StartSuits
+start_suits target text setting runs own fits = record { suits = suits runs.within own fits }

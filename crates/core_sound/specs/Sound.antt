@@ -1,0 +1,61 @@
+-- What holds of the words and the callers in every reachable state.
+use Rattle.std.specs.Prelude.{◌≡◌, ℕ, ◌≤◌, ◌<◌, true, false, List, length, Some, slice_get, slice_index}
+use Rattle.norm_lang.specs.declared.text.Reg.TheVariants.{Ref}
+use Rattle.norm_lang.specs.declared.text.FieldKind.TheVariants as kinds
+use Rattle.norm_lang.specs.declared.text.Text.{Text}
+use Rattle.norm_lang.specs.Registers.{reference_in}
+use Rattle.norm_lang.specs.InstructionRules.{field_kind, root_kind}
+use Rattle.target_code.specs.declared.target.Target.{Target}
+use Rattle.target_runs.specs.Runnable.{IsRunnable}
+use Rattle.oa_words.specs.Words.{Word, Phase, Warning, Hazard, Status, FieldOf, Cell, address_of, in_row, word_count}
+use Rattle.oa_words.specs.Packed.{slot_part}
+use Rattle.oa_words.specs.Starts.{Suits}
+use Rattle.phase_pools.specs.Accesses.{WordAccess, word_of}
+use Rattle.caller_steps.specs.Settings.{Setting, Fits, IsSetting}
+use Rattle.caller_steps.specs.Entries.{Entry}
+use Rattle.caller_steps.specs.Wants.{wants}
+use Rattle.caller_steps.specs.Lawful.{IsLawful, LawfulPhase, LawfulStatus, is_place}
+use Rattle.caller_steps.specs.Belongs.{Belongs}
+use Rattle.core_runs.specs.Machine.{CoreState, Reachable, beginning_of, word_at}
+
+-- the words of the row are lawful
+abbrev pub AreLawful : Target → Setting → List ℕ → Type 0
+AreLawful target setting words = (w : Word) → in_row setting.sizes w ≡ true → IsLawful target setting w (slice_index words (address_of setting.sizes w))
+
+-- each entry has its number and belongs
+abbrev pub AllBelong : Target → Setting → List Entry → Type 0
+AllBelong target setting entries = (c : ℕ) (e : Entry) → slice_get entries c ≡ Some e → Belongs target setting e × (e.number ≡ c)
+
+-- as many words as the row has, all of them lawful, and an entry that belongs for each caller
+pub record IsSound (target : Target) (setting : Setting) (state : CoreState) : Type 0 where
+  pub count : length state.words ≡ word_count setting.sizes
+  pub callers : length state.entries ≡ setting.sizes.callers
+  pub lawful : AreLawful target setting state.words
+  pub belong : AllBelong target setting state.entries
+
+abbrev pub NamesSlot : Setting → ℕ → Type 0
+NamesSlot setting slot = slot ≤ setting.sizes.slots
+
+-- nothing leads out of the row: every reference in a register, a field or a root, and every hazard, names one of its slots or
+-- null; every wanted address is that of one of its words, and the word there is lawful; and phases are those of the run
+pub record StaysInRow (target : Target) (setting : Setting) (state : CoreState) : Type 0 where
+  pub registers : (c r : ℕ) (e : Entry) → slice_get state.entries c ≡ Some e → NamesSlot setting (reference_in e.hand.registers (Ref r)).node
+  pub started : (c r : ℕ) (e : Entry) → slice_get state.entries c ≡ Some e → NamesSlot setting (reference_in e.hand.started (Ref r)).node
+  pub fields : (j g : ℕ) → in_row setting.sizes (FieldOf j g) ≡ true → field_kind target.fields g ≡ Some kinds.Reference → NamesSlot setting (slot_part (word_at setting state (FieldOf j g)))
+  pub roots : (x : ℕ) → in_row setting.sizes (Cell x) ≡ true → root_kind target.roots x ≡ Some kinds.Reference → NamesSlot setting (slot_part (word_at setting state (Cell x)))
+  pub hazards : (c r : ℕ) → in_row setting.sizes (Hazard c r) ≡ true → NamesSlot setting (word_at setting state (Hazard c r))
+  pub words : length state.words ≡ word_count setting.sizes
+  pub wanted : (c : ℕ) (e : Entry) (a : WordAccess) → slice_get state.entries c ≡ Some e → wants target e ≡ Some a
+      → (address_of setting.sizes (word_of a) < word_count setting.sizes) × (is_place (word_of a) ≡ false) × IsLawful target setting (word_of a) (word_at setting state (word_of a))
+  pub phase : LawfulPhase setting (word_at setting state Phase)
+  pub warnings : (c : ℕ) → in_row setting.sizes (Warning c) ≡ true → LawfulPhase setting (word_at setting state (Warning c))
+  pub statuses : (j : ℕ) → in_row setting.sizes (Status j) ≡ true → LawfulStatus setting.last (word_at setting state (Status j))
+
+-- the initial nodes and the roots have as many words as the row asks for, so that each word at the start says what its name does
+pub record StartSuits (target : Target) (setting : Setting) : Type 0 where
+  pub suits : Suits setting.sizes (beginning_of target setting)
+
+-- of every state to which a list of enabled events leads; texts needn't be proper
+abbrev pub Always : (Target → Setting → CoreState → Type 0) → Type 0
+Always Holds = (target : Target) (text : Text) (setting : Setting) (state : CoreState) → IsRunnable target text → IsSetting setting → Fits target setting
+    → Reachable target setting state → Holds target setting state

@@ -1,0 +1,4 @@
+mod Starting
+pub mod Keeping
+pub mod Calling
+pub mod Stepping

@@ -1,0 +1,4 @@
+use Rattle.oa_words.proofs.packed.is_marked.Goals as goal
+
+pub returns : goal.returns
+returns c = search

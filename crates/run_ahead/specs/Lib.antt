@@ -1,0 +1,11 @@
+pub mod Agreeing
+pub mod Ahead
+pub mod Standing
+pub mod Following
+pub mod Guards
+pub mod Known
+pub mod Typed
+pub mod LocalLaws
+pub mod AccessLaws
+pub mod MethodLaws
+pub mod NameLaws

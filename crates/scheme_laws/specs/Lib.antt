@@ -1,0 +1,2 @@
+pub mod FirstScheme
+pub mod Compared

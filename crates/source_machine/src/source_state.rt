@@ -1,0 +1,113 @@
+//! The source machine's calls.
+
+ghost use Rattle.std.specs.Prelude.{◌≡◌, ◌<◌, ◌≤◌, length, OnOk, OnErr, IfOk};
+ghost use Rattle.source_machine.specs.State.{source_start};
+ghost use Rattle.source_machine.specs.Run.{source_replies};
+ghost use Rattle.source_machine.specs.Calls.{IsOfSourceRun, Steps, RunsTo};
+
+use crate::callers::Callers;
+use crate::error::{RunError, StepError};
+use crate::event::{SourceEvent, SourceReply};
+use crate::memory::first_memory;
+use crate::state::SourceMachine;
+use crate::steps::step_machine;
+use norm_check::Normal;
+use std::alloc::{AllocError, Global};
+use std::marker::Model;
+
+/// A state of the source machine: nodes by their names, roots, the retired names in the order of retirement, and the
+/// callers. Contracts see it as that state. A step takes no longer than a search by name does.
+#[derive(Debug, Drop)]
+pub struct SourceState {
+    machine: SourceMachine,
+}
+
+impl Model for SourceState {
+    ghost use Rattle.source_machine.specs.declared.state.SourceMachine.{SourceMachine};
+
+    ghost Value = { SourceMachine };
+
+    ghost view = { λ s. s.machine };
+}
+
+impl SourceState {
+    /// The start of a text: its initial nodes and roots, and so many idle callers, 1 to 8.
+    ///
+    /// # Errors
+    /// Where memory runs out.
+    #[tactic(auto, using(crate::proofs::Calling::starts, crate::proofs::Calling::start_callers))]
+    pub fn start(alloc: Global, normal: &Normal, callers: u32) -> Result<SourceState, AllocError>
+        requires some { 1 ≤ callers }
+        requires few { callers ≤ 8 }
+        ensures starts { IfOk result (λ s. s ≡ source_start normal.now callers) }
+        ensures runs { IfOk result (λ s. IsOfSourceRun normal.now s) }
+        ensures callers { IfOk result (λ s. length s.callers ≡ callers) }
+    {
+        let text = normal.text();
+        let machine = SourceMachine {
+            memory: first_memory(alloc, text)?,
+            callers: Callers::idle(alloc, callers)?,
+        };
+        Ok(SourceState { machine })
+    }
+
+    /// The replies of a caller, by its number, in order.
+    pub fn replies(&self, caller: u32) -> &[SourceReply]
+        requires { caller < length self.now.callers }
+        ensures { result.now ≡ source_replies self.now caller }
+    {
+        match self.machine.callers.items().get(caller as usize) {
+            None => &[],
+            Some(caller) => caller.replies.items(),
+        }
+    }
+}
+
+/// Makes an event: the pending access of a caller, or where its method or operation begins or ends. The state is one of a
+/// run of the text.
+///
+/// # Errors
+/// `NotEnabled` exactly where the event isn't enabled in the state, and `Memory` where memory runs out. The state is then
+/// unchanged.
+pub fn step(
+    alloc: Global,
+    state: &mut SourceState,
+    normal: &Normal,
+    event: &SourceEvent,
+) -> Result<(), StepError>
+    requires { IsOfSourceRun normal.now state.old }
+    ensures steps { Steps normal.now state.old event.now state.new result }
+    ensures runs { IsOfSourceRun normal.now state.new }
+    ensures callers { length state.new.callers ≡ length state.old.callers }
+{
+    step_machine(alloc, normal.text(), &mut state.machine, event)
+}
+
+/// The state after a list of events, each enabled in the state that those before it leave, from the start of 1 to 8 idle
+/// callers.
+///
+/// # Errors
+/// `NotEnabled` with the place of the first event that isn't enabled, and `Memory` where memory runs out.
+#[tactic(auto, using(crate::proofs::Calling::started, crate::proofs::Calling::of_run, crate::proofs::Calling::as_many, crate::proofs::Calling::run_goes_on, crate::proofs::Calling::run_stops))]
+pub fn run(
+    alloc: Global,
+    normal: &Normal,
+    callers: u32,
+    events: &[SourceEvent],
+) -> Result<SourceState, RunError>
+    requires some { 1 ≤ callers }
+    requires few { callers ≤ 8 }
+    ensures answers { RunsTo normal.now callers events.now result }
+    ensures runs { IfOk result (λ s. IsOfSourceRun normal.now s) }
+    ensures callers { IfOk result (λ s. length s.callers ≡ callers) }
+{
+    let mut state = SourceState::start(alloc, normal, callers)?;
+    for (at, event) in events.iter().enumerate() {
+        match step(alloc, &mut state, normal, event) {
+            Ok(()) => {}
+            Err(StepError::Memory) => return Err(RunError::Memory),
+            Err(StepError::NotEnabled) => return Err(RunError::NotEnabled { at: at as u64 }),
+        }
+    }
+    Ok(state)
+}
