@@ -34,7 +34,7 @@ use Rattle.caller_steps.specs.Operands.{code_in, instr_in, list_of, op_of, slot_
 use Rattle.caller_steps.specs.Clearing.{restart_spares, then_spares}
 use Rattle.caller_steps.specs.Wants.{exchange_wanted, instr_wanted, list_wanted, object_exchange, place_exchange, plain_wanted, wanted, wants}
 use Rattle.caller_steps.specs.Lawful.{Accepts, AsksSafely, IsSafe, Told}
-use Rattle.caller_steps.specs.Belongs.{Belongs, NamesSlots, ClaimStands, RetireFits, RunsAt, Stands}
+use Rattle.caller_steps.specs.Belongs.{Belongs, NamesSlots, ClaimStands, RetireFits, RunsAt, Stands, SweepBelongs}
 use Rattle.caller_steps.specs.Asking.{AreSlots, CanAccept, CanAsk, CanAskInstr, CanAskList, CanAskPlain, CanExchange, HasField, InstrAccepts, IsNear}
 use Rattle.caller_laws.proofs.Methods.{Methods, setting_sane}
 use Rattle.caller_laws.proofs.Stopping.{Here, site_of}
@@ -96,10 +96,10 @@ ask_list : (target : Target) (setting : Setting) (o : Option CasEntry) (register
 ask_list target setting None registers safe = tt
 ask_list target setting (Some exchange) registers safe = can_exchange target setting exchange registers safe
 
-claim_ranges : (setting : Setting) (sweep : Sweep) (stage : ClaimStage) → ClaimStands setting sweep stage → ClaimInRange setting.sizes sweep stage
-claim_ranges setting sweep (claims.ReadStatus j) s = s.1
-claim_ranges setting sweep (claims.Take j q) s = s.1
-claim_ranges setting sweep claims.Sweeps s = sweep_ranges setting sweep.bound sweep.stage s.stands
+claim_ranges : (setting : Setting) (sweep : Sweep) (stage : ClaimStage) → ClaimStands setting stage → SweepBelongs setting sweep → ClaimInRange setting.sizes sweep stage
+claim_ranges setting sweep (claims.ReadStatus j) s own = s.1
+claim_ranges setting sweep (claims.Take j q) s own = s.1
+claim_ranges setting sweep claims.Sweeps s own = sweep_ranges setting sweep.bound sweep.stage own.stands
 
 ask_step : (target : Target) (setting : Setting) (e : Entry) (routine : Routine) → Methods target → IsSetting setting → Fits target setting → Belongs target setting e
     → RunsAt target e routine → Stands target setting e routine → (is_idle routine ≡ false → AsksSafely target setting (wanted target e routine)) → CanAsk target setting e routine
@@ -110,7 +110,7 @@ ask_step target setting e (InList k) sane own fits b reaches stands safe = ask_l
 ask_step target setting e (Retires retirement go) sane own fits b reaches stands safe = stands.0.1
 ask_step target setting e Restarts sane own fits b reaches stands safe = clears_register e.hand.guards (restart_spares e.hand.wrapup (op_of target e)) b.hand.guards.row.slots
 ask_step target setting e (Clears next) sane own fits b reaches stands safe = clears_register e.hand.guards (then_spares next (op_of target e)) b.hand.guards.row.slots
-ask_step target setting e (Claims claim) sane own fits b reaches stands safe = claim_ranges setting claim.sweep claim.stage stands.1
+ask_step target setting e (Claims claim) sane own fits b reaches stands safe = claim_ranges setting claim.sweep claim.stage stands.1.stands stands.1.sweep
 ask_step target setting e (Zeroes k field) sane own fits b reaches stands safe = (b.cradles.within k, stands.3)
 
 -- what `pending` needs
@@ -157,7 +157,7 @@ accept_step target setting e word (Retires retirement go) sane own fits b reache
 accept_step target setting e word Restarts sane own fits b reaches stands told = clears_register e.hand.guards (restart_spares e.hand.wrapup (op_of target e)) b.hand.guards.row.slots
 accept_step target setting e word (Clears next) sane own fits b reaches stands told = clears_register e.hand.guards (then_spares next (op_of target e)) b.hand.guards.row.slots
 accept_step target setting e word (Claims claim) sane own fits b reaches stands told =
-    (claim_ranges setting claim.sweep claim.stage stands.1, claim_told target setting claim.sweep word claim.stage told)
+    (claim_ranges setting claim.sweep claim.stage stands.1.stands stands.1.sweep, claim_told target setting claim.sweep word claim.stage told)
 accept_step target setting e word (Zeroes k field) sane own fits b reaches stands told = stands.3
 
 -- what `accept` needs

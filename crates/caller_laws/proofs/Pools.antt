@@ -23,60 +23,60 @@ use Rattle.caller_steps.specs.Lawful.{Accepts}
 use Rattle.caller_steps.specs.Belongs.{ClaimBelongs, ClaimStands, HasBound, RetireBelongs, SweepBelongs, SweepStands}
 use Rattle.caller_laws.proofs.Methods.{SettingSane}
 
--- a sweep goes on as one that belongs, or has ended
-abbrev pub SweepOn : Setting → Option SweepEnd → Sweep → Type 0
-SweepOn setting None sweep = SweepBelongs setting sweep
-SweepOn setting (Some end) sweep = Unit {0}
-
-abbrev pub SweepKeeps : Setting → SweepTurn → Type 0
-SweepKeeps setting turn = SweepOn setting turn.ended turn.sweep
-
--- what its stages share
+-- what the stages of a sweep share
 abbrev pub Gathers : Setting → Sweep → Type 0
 Gathers setting sweep = All (λ (j : ℕ). j ≤ setting.sizes.slots) sweep.gathered
+
+-- a sweep belongs as it goes on, and as it has ended
+abbrev pub SweepKeeps : Setting → SweepTurn → Type 0
+SweepKeeps setting turn = SweepBelongs setting turn.sweep
 
 abbrev pub Bound : Setting → Sweep → Type 0
 Bound setting sweep = (setting.first ≤ sweep.bound) × (sweep.bound ≤ setting.last)
 
-pub on_keeps : (setting : Setting) (sweep : Sweep) (j : ℕ) → Bound setting sweep → Gathers setting sweep → SweepKeeps setting (sweep_on setting.sizes sweep j)
-on_keeps setting sweep j bound gathers = of (nat_lt j setting.sizes.slots) refl where
+-- a sweep before its first access
+pub fresh_sweep : (setting : Setting) → SweepBelongs setting sweep_begun
+fresh_sweep setting = record { stands = tt; bound = omega arith; gathered = λ k d lt. let no : k < 0 = lt in omega (arith, no) }
+
+pub on_keeps : (setting : Setting) (sweep : Sweep) (j : ℕ) → SweepBelongs setting sweep → Bound setting sweep → Gathers setting sweep → SweepKeeps setting (sweep_on setting.sizes sweep j)
+on_keeps setting sweep j own bound gathers = of (nat_lt j setting.sizes.slots) refl where
   of : (b : Bool) → nat_lt j setting.sizes.slots ≡ b → SweepKeeps setting (if b then sweep_goes sweep (sweeps.ReadStatus (j + 1)) else sweep_ends sweep swept.Swept)
   of true is = let lt : j < setting.sizes.slots = grind (arith, nat_tests) in record { stands = (omega arith, omega (arith, lt)); bound = bound; gathered = gathers }
-  of false is = tt
+  of false is = own
 
-freeing_keeps : (setting : Setting) (sweep : Sweep) (j q : ℕ) (kind : Kind) → 1 ≤ j → j ≤ setting.sizes.slots → q ≤ setting.last → Bound setting sweep → Gathers setting sweep
+freeing_keeps : (setting : Setting) (sweep : Sweep) (j q : ℕ) (kind : Kind) → 1 ≤ j → j ≤ setting.sizes.slots → q ≤ setting.last → SweepBelongs setting sweep → Bound setting sweep → Gathers setting sweep
     → SweepKeeps setting (freeing setting.sizes sweep j q kind)
-freeing_keeps setting sweep j q kinds.Ready low high within bound gathers = on_keeps setting sweep j bound gathers
-freeing_keeps setting sweep j q kinds.Used low high within bound gathers = on_keeps setting sweep j bound gathers
-freeing_keeps setting sweep j q kinds.Retired low high within bound gathers = of (nat_lt q sweep.bound && not (has_slot sweep.gathered j)) where
+freeing_keeps setting sweep j q kinds.Ready low high within own bound gathers = on_keeps setting sweep j own bound gathers
+freeing_keeps setting sweep j q kinds.Used low high within own bound gathers = on_keeps setting sweep j own bound gathers
+freeing_keeps setting sweep j q kinds.Retired low high within own bound gathers = of (nat_lt q sweep.bound && not (has_slot sweep.gathered j)) where
   of : (b : Bool) → SweepKeeps setting (if b then sweep_goes sweep (sweeps.MakeReady j q) else sweep_on setting.sizes sweep j)
   of true = record { stands = (low, high, within); bound = bound; gathered = gathers }
-  of false = on_keeps setting sweep j bound gathers
+  of false = on_keeps setting sweep j own bound gathers
 
 status_keeps : (setting : Setting) (sweep : Sweep) (j : ℕ) (parts : Option StatusParts) → IsSomeAnd parts (λ (p : StatusParts). p.phase ≤ setting.last)
-    → 1 ≤ j → j ≤ setting.sizes.slots → Bound setting sweep → Gathers setting sweep → SweepKeeps setting (status_read setting.sizes sweep j parts)
-status_keeps setting sweep j None lawful low high bound gathers = absurd lawful
-status_keeps setting sweep j (Some parts) lawful low high bound gathers = freeing_keeps setting sweep j parts.phase parts.kind low high lawful bound gathers
+    → 1 ≤ j → j ≤ setting.sizes.slots → SweepBelongs setting sweep → Bound setting sweep → Gathers setting sweep → SweepKeeps setting (status_read setting.sizes sweep j parts)
+status_keeps setting sweep j None lawful low high own bound gathers = absurd lawful
+status_keeps setting sweep j (Some parts) lawful low high own bound gathers = freeing_keeps setting sweep j parts.phase parts.kind low high lawful own bound gathers
 
 gathers_more : (setting : Setting) (slots : List ℕ) (word : ℕ) → word ≤ setting.sizes.slots → All (λ (j : ℕ). j ≤ setting.sizes.slots) slots → All (λ (j : ℕ). j ≤ setting.sizes.slots) (with_slot slots word)
 gathers_more setting slots zero le all = all
 gathers_more setting slots (suc j) le all = All-push (λ (i : ℕ). i ≤ setting.sizes.slots) slots (suc j) all le
 
-pub sweep_keeps : (target : Target) (setting : Setting) (sweep : Sweep) (word : ℕ) (stage : SweepStage) → SettingSane setting → 0 < setting.sizes.callers
+pub sweep_keeps : (target : Target) (setting : Setting) (sweep : Sweep) (word : ℕ) (stage : SweepStage) → SettingSane setting → 0 < setting.sizes.callers → SweepBelongs setting sweep
     → SweepStands setting sweep.bound stage → HasBound setting sweep.bound stage → Gathers setting sweep → Accepts target setting (sweep_wants_at stage sweep.bound) word
     → SweepKeeps setting (sweep_accepts_at setting.sizes setting.last sweep word stage)
-sweep_keeps target setting sweep word sweeps.ReadPhase some callers stands bound gathers lawful = of (word == setting.last) refl where
+sweep_keeps target setting sweep word sweeps.ReadPhase some callers own stands bound gathers lawful = of (word == setting.last) refl where
   of : (b : Bool) → (word == setting.last) ≡ b → SweepKeeps setting (if b then sweep_ends sweep (swept.PhasesOver word) else sweep_goes sweep (sweeps.RaisePhase word))
-  of true is = tt
+  of true is = own
   of false is = let ne : word ≢ setting.last = (λ e. let z : (word == setting.last) ≡ true = grind (arith, nat_tests) in let y : false ≡ true = sym is ∙ z in cc) in
       record { stands = (lawful.0, omega (arith, lawful.1, ne)); bound = bound; gathered = gathers }
-sweep_keeps target setting sweep word (sweeps.RaisePhase p) some callers stands bound gathers lawful =
+sweep_keeps target setting sweep word (sweeps.RaisePhase p) some callers own stands bound gathers lawful =
     record { stands = callers; bound = (omega (arith, stands.0), omega (arith, stands.1)); gathered = gathers }
-sweep_keeps target setting sweep word (sweeps.Warn c) some callers stands bound gathers lawful = of (nat_lt (c + 1) setting.sizes.callers) refl where
+sweep_keeps target setting sweep word (sweeps.Warn c) some callers own stands bound gathers lawful = of (nat_lt (c + 1) setting.sizes.callers) refl where
   of : (b : Bool) → nat_lt (c + 1) setting.sizes.callers ≡ b → SweepKeeps setting (sweep_goes sweep (if b then sweeps.Warn (c + 1) else sweeps.ReadHazard 0 0))
   of true is = record { stands = grind (arith, nat_tests); bound = bound; gathered = gathers }
   of false is = record { stands = (callers, omega arith); bound = bound; gathered = gathers }
-sweep_keeps target setting sweep word (sweeps.ReadHazard c r) some callers stands bound gathers lawful = of (nat_lt (r + 1) 8) refl (nat_lt (c + 1) setting.sizes.callers) refl where
+sweep_keeps target setting sweep word (sweeps.ReadHazard c r) some callers own stands bound gathers lawful = of (nat_lt (r + 1) 8) refl (nat_lt (c + 1) setting.sizes.callers) refl where
   more : All (λ (j : ℕ). j ≤ setting.sizes.slots) (with_slot sweep.gathered word)
   more = gathers_more setting sweep.gathered word lawful gathers
 
@@ -85,8 +85,8 @@ sweep_keeps target setting sweep word (sweeps.ReadHazard c r) some callers stand
   of true is d then_is = let lt : r + 1 < 8 = grind (arith, nat_tests) in record { stands = (stands.0, lt); bound = bound; gathered = more }
   of false is true then_is = let lt : c + 1 < setting.sizes.callers = grind (arith, nat_tests) in record { stands = (lt, omega arith); bound = bound; gathered = more }
   of false is false then_is = record { stands = (omega arith, some.slots); bound = bound; gathered = more }
-sweep_keeps target setting sweep word (sweeps.ReadStatus j) some callers stands bound gathers lawful = status_keeps setting sweep j (status_parts word) lawful stands.0 stands.1 bound gathers
-sweep_keeps target setting sweep word (sweeps.MakeReady j q) some callers stands bound gathers lawful = on_keeps setting sweep j bound gathers
+sweep_keeps target setting sweep word (sweeps.ReadStatus j) some callers own stands bound gathers lawful = status_keeps setting sweep j (status_parts word) lawful stands.0 stands.1 own bound gathers
+sweep_keeps target setting sweep word (sweeps.MakeReady j q) some callers own stands bound gathers lawful = on_keeps setting sweep j own bound gathers
 
 -- a claim goes on as one that belongs, or has ended, maybe with a slot
 abbrev pub ClaimOn : Setting → Option ClaimEnd → Claim → Type 0
@@ -102,40 +102,43 @@ ended_keeps : (setting : Setting) (claim : Claim) → ClaimKeeps setting (look_e
 ended_keeps setting claim = of (claim.sweeps == 2) where
   of : (b : Bool) → ClaimKeeps setting (if b then claim_ends claim ends.Full else record { claim = record claim { stage = claims.Sweeps; sweep = sweep_begun }; ended = None })
   of true = tt
-  of false = record { stands = tt; bound = omega arith; gathered = λ k d lt. let none : k < 0 = lt in omega (arith, none) }
+  of false = record { stands = tt; sweep = fresh_sweep setting }
 
-look_keeps : (setting : Setting) (claim : Claim) (j : ℕ) → ClaimKeeps setting (look_on setting.sizes claim j)
-look_keeps setting claim j = of (nat_lt j setting.sizes.slots) refl where
+look_keeps : (setting : Setting) (claim : Claim) (j : ℕ) → SweepBelongs setting claim.sweep → ClaimKeeps setting (look_on setting.sizes claim j)
+look_keeps setting claim j own = of (nat_lt j setting.sizes.slots) refl where
   of : (b : Bool) → nat_lt j setting.sizes.slots ≡ b → ClaimKeeps setting (if b then claim_goes claim (claims.ReadStatus (j + 1)) else look_ended claim)
-  of true is = let lt : j < setting.sizes.slots = grind (arith, nat_tests) in (omega arith, omega (arith, lt))
+  of true is = let lt : j < setting.sizes.slots = grind (arith, nat_tests) in record { stands = (omega arith, omega (arith, lt)); sweep = own }
   of false is = ended_keeps setting claim
 
-kind_keeps : (setting : Setting) (claim : Claim) (j q : ℕ) (kind : Kind) → 1 ≤ j → j ≤ setting.sizes.slots → q ≤ setting.last → ClaimKeeps setting (look_kind setting.sizes claim j q kind)
-kind_keeps setting claim j q kinds.Ready low high within = (low, high, within)
-kind_keeps setting claim j q kinds.Used low high within = look_keeps setting claim j
-kind_keeps setting claim j q kinds.Retired low high within = look_keeps setting claim j
+kind_keeps : (setting : Setting) (claim : Claim) (j q : ℕ) (kind : Kind) → 1 ≤ j → j ≤ setting.sizes.slots → q ≤ setting.last → SweepBelongs setting claim.sweep
+    → ClaimKeeps setting (look_kind setting.sizes claim j q kind)
+kind_keeps setting claim j q kinds.Ready low high within own = record { stands = (low, high, within); sweep = own }
+kind_keeps setting claim j q kinds.Used low high within own = look_keeps setting claim j own
+kind_keeps setting claim j q kinds.Retired low high within own = look_keeps setting claim j own
 
 read_keeps : (setting : Setting) (claim : Claim) (j : ℕ) (parts : Option StatusParts) → IsSomeAnd parts (λ (p : StatusParts). p.phase ≤ setting.last)
-    → 1 ≤ j → j ≤ setting.sizes.slots → ClaimKeeps setting (look_read setting.sizes claim j parts)
-read_keeps setting claim j None lawful low high = absurd lawful
-read_keeps setting claim j (Some parts) lawful low high = kind_keeps setting claim j parts.phase parts.kind low high lawful
+    → 1 ≤ j → j ≤ setting.sizes.slots → SweepBelongs setting claim.sweep → ClaimKeeps setting (look_read setting.sizes claim j parts)
+read_keeps setting claim j None lawful low high own = absurd lawful
+read_keeps setting claim j (Some parts) lawful low high own = kind_keeps setting claim j parts.phase parts.kind low high lawful own
 
-swept_keeps : (setting : Setting) (claim : Claim) (sweep : Sweep) (end : Option SweepEnd) → claim.stage ≡ claims.Sweeps → SettingSane setting → SweepOn setting end sweep → ClaimKeeps setting (sweep_ended setting.sizes claim sweep end)
-swept_keeps setting claim sweep None is some keeps = subst (λ (stage : ClaimStage). ClaimStands setting sweep stage) (sym is) keeps
-swept_keeps setting claim sweep (Some swept.Swept) is some keeps = (omega arith, some.slots)
-swept_keeps setting claim sweep (Some (swept.PhasesOver p)) is some keeps = tt
+swept_keeps : (setting : Setting) (claim : Claim) (sweep : Sweep) (end : Option SweepEnd) → claim.stage ≡ claims.Sweeps → SettingSane setting → SweepBelongs setting sweep
+    → ClaimKeeps setting (sweep_ended setting.sizes claim sweep end)
+swept_keeps setting claim sweep None is some own = record { stands = subst (λ (stage : ClaimStage). ClaimStands setting stage) (sym is) tt; sweep = own }
+swept_keeps setting claim sweep (Some swept.Swept) is some own = record { stands = (omega arith, some.slots); sweep = own }
+swept_keeps setting claim sweep (Some (swept.PhasesOver p)) is some own = tt
 
 pub claim_keeps : (target : Target) (setting : Setting) (claim : Claim) (word : ℕ) (stage : ClaimStage) → claim.stage ≡ stage → SettingSane setting → 0 < setting.sizes.callers
-    → ClaimStands setting claim.sweep stage → Accepts target setting (claim_wants_at claim.sweep stage) word
+    → ClaimStands setting stage → SweepBelongs setting claim.sweep → Accepts target setting (claim_wants_at claim.sweep stage) word
     → ClaimKeeps setting (claim_accepts_at setting.sizes setting.last claim word stage)
-claim_keeps target setting claim word (claims.ReadStatus j) is some callers stands lawful = read_keeps setting claim j (status_parts word) lawful stands.0 stands.1
-claim_keeps target setting claim word (claims.Take j q) is some callers stands lawful = of (word == status_word q kinds.Ready) where
+claim_keeps target setting claim word (claims.ReadStatus j) is some callers stands own lawful = read_keeps setting claim j (status_parts word) lawful stands.0 stands.1 own
+claim_keeps target setting claim word (claims.Take j q) is some callers stands own lawful = of (word == status_word q kinds.Ready) where
   of : (b : Bool) → ClaimKeeps setting (if b then claim_ends claim (ends.Claimed j) else look_on setting.sizes claim j)
   of true = (stands.0, stands.1)
-  of false = look_keeps setting claim j
-claim_keeps target setting claim word claims.Sweeps is some callers stands lawful =
+  of false = look_keeps setting claim j own
+claim_keeps target setting claim word claims.Sweeps is some callers stands own lawful =
     let turn = sweep_accepts setting.sizes setting.last claim.sweep word in
-    swept_keeps setting claim turn.sweep turn.ended is some (sweep_keeps target setting claim.sweep word claim.sweep.stage some callers stands.stands stands.bound stands.gathered lawful)
+    swept_keeps setting claim turn.sweep turn.ended is some
+    (sweep_keeps target setting claim.sweep word claim.sweep.stage some callers own own.stands own.bound own.gathered lawful)
 
 -- a retirement goes on as one that belongs
 abbrev pub RetireOn : Setting → Option Retirement → Type 0

@@ -28,7 +28,7 @@ use Rattle.caller_steps.specs.Operands.{code_in, cradle_of, instr_in, list_of, o
 use Rattle.caller_steps.specs.Clearing.{restart_spares, then_spares}
 use Rattle.caller_steps.specs.Wants.{clear_wanted, exchange_wanted, instr_wanted, list_wanted, object_exchange, place_exchange, plain_wanted, wanted, wants}
 use Rattle.caller_steps.specs.Lawful.{AsksSafely, IsLawful, IsSafe, LawfulStatus, LawfulValue, is_place as is_place_word}
-use Rattle.caller_steps.specs.Belongs.{Belongs, ClaimStands, HasBound, IsSomeOf, NamesSlots, RetireStands, RunsAt, Stands, SweepStands, has_access}
+use Rattle.caller_steps.specs.Belongs.{Belongs, ClaimStands, HasBound, IsSomeOf, NamesSlots, RetireStands, RunsAt, Stands, SweepBelongs, SweepStands, has_access}
 use Rattle.std.proofs.lemmas.Option.{slice_get-get_or}
 use Rattle.oa_words.specs.declared.packed.Kind.{Kind}
 use Rattle.oa_words.specs.declared.packed.Kind.TheVariants as statuses
@@ -127,11 +127,11 @@ sweep_safe target setting bound (sweeps.ReadStatus j) stands s = loads_safe targ
 sweep_safe target setting bound (sweeps.MakeReady j q) stands s =
     exchanges_safe target setting (Status j) (status_word q statuses.Retired) (status_word bound statuses.Ready) (status_row setting j stands.1) refl (status_lawful setting.last bound statuses.Ready s.1)
 
-claim_safe : (target : Target) (setting : Setting) (sweep : Sweep) (stage : ClaimStage) → ClaimStands setting sweep stage → IsSafe target setting (claim_wants_at sweep stage)
-claim_safe target setting sweep (claims.ReadStatus j) stands = loads_safe target setting (Status j) (status_row setting j stands.1) refl
-claim_safe target setting sweep (claims.Take j q) stands =
+claim_safe : (target : Target) (setting : Setting) (sweep : Sweep) (stage : ClaimStage) → ClaimStands setting stage → SweepBelongs setting sweep → IsSafe target setting (claim_wants_at sweep stage)
+claim_safe target setting sweep (claims.ReadStatus j) stands own = loads_safe target setting (Status j) (status_row setting j stands.1) refl
+claim_safe target setting sweep (claims.Take j q) stands own =
     exchanges_safe target setting (Status j) (status_word q statuses.Ready) (status_word q statuses.Used) (status_row setting j stands.1) refl (status_lawful setting.last q statuses.Used stands.2)
-claim_safe target setting sweep claims.Sweeps stands = sweep_safe target setting sweep.bound sweep.stage stands.stands stands.bound
+claim_safe target setting sweep claims.Sweeps stands own = sweep_safe target setting sweep.bound sweep.stage own.stands own.bound
 
 retire_safe : (target : Target) (setting : Setting) (slot : ℕ) (stage : RetireStage) → slot ≤ setting.sizes.slots → RetireStands setting stage → IsSafe target setting (retire_wants_at slot stage)
 retire_safe target setting slot retires.ReadPhase le stands = loads_safe target setting Phase refl refl
@@ -310,7 +310,7 @@ step_safe target setting e (InList k) sane some fits b busy reaches stands = lis
 step_safe target setting e (Retires retirement go) sane some fits b busy reaches stands = retire_safe target setting retirement.slot retirement.stage stands.0.1 stands.0.2
 step_safe target setting e Restarts sane some fits b busy reaches stands = cleared_safe target setting e.number e.hand.guards (restart_spares e.hand.wrapup (op_of target e)) b.number b.hand.guards.row.slots stands.1
 step_safe target setting e (Clears next) sane some fits b busy reaches stands = cleared_safe target setting e.number e.hand.guards (then_spares next (op_of target e)) b.number b.hand.guards.row.slots stands.1
-step_safe target setting e (Claims claim) sane some fits b busy reaches stands = claim_safe target setting claim.sweep claim.stage stands.1
+step_safe target setting e (Claims claim) sane some fits b busy reaches stands = claim_safe target setting claim.sweep claim.stage stands.1.stands stands.1.sweep
 step_safe target setting e (Zeroes k field) sane some fits b busy reaches stands =
     stores_safe target setting (FieldOf (cradle_of e k) field) 0 (field_row setting (cradle_of e k) field (b.cradles.within k) stands.3) refl (zero_lawful setting.sizes.slots (field_kind target.fields field))
 

@@ -312,7 +312,7 @@ step_keeps target setting e word (Clears next) sane some b reaches stands told =
 step_keeps target setting e word (Claims claim) sane some b reaches stands told =
     let turn = claim_accepts setting.sizes setting.last claim word in
     claimed_keeps target setting e turn.claim turn.ended sane some (holds_of target setting e b) (record { reached = reaches; names = b.hand.registers }) stands.0
-    (claim_keeps target setting claim word claim.stage refl some (omega (arith, b.number)) stands.1 told)
+    (claim_keeps target setting claim word claim.stage refl some (omega (arith, b.number)) stands.1.stands stands.1.sweep told)
 step_keeps target setting e word (Zeroes k field) sane some b reaches stands told =
     zero_keeps target setting e k field sane some (holds_of target setting e b) (record { reached = reaches; names = b.hand.registers }) stands
 

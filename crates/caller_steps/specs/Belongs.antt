@@ -104,13 +104,18 @@ SweepBelongs setting sweep = record {
 }
 
 -- where a claim stands; no look tries slot 0
-abbrev pub ClaimStands : Setting → Sweep → ClaimStage → Type 0
-ClaimStands setting sweep (claims.ReadStatus j) = (first_slot setting ≤ j) × (j ≤ last_slot setting)
-ClaimStands setting sweep (claims.Take j q) = (first_slot setting ≤ j) × (j ≤ last_slot setting) × (q ≤ setting.last)
-ClaimStands setting sweep claims.Sweeps = SweepBelongs setting sweep
+abbrev pub ClaimStands : Setting → ClaimStage → Type 0
+ClaimStands setting (claims.ReadStatus j) = (first_slot setting ≤ j) × (j ≤ last_slot setting)
+ClaimStands setting (claims.Take j q) = (first_slot setting ≤ j) × (j ≤ last_slot setting) × (q ≤ setting.last)
+ClaimStands setting claims.Sweeps = Unit {0}
 
+-- its sweep belongs, whether it is under way or has ended: the slots and phases of one that has ended stay with the claim that
+-- looks again
 abbrev pub ClaimBelongs : Setting → Claim → Type 0
-ClaimBelongs setting claim = ClaimStands setting claim.sweep claim.stage
+ClaimBelongs setting claim = record {
+  stands : ClaimStands setting claim.stage;
+  sweep : SweepBelongs setting claim.sweep;
+}
 
 abbrev pub RetireStands : Setting → RetireStage → Type 0
 RetireStands setting stages.ReadPhase = Unit {0}

@@ -10,3 +10,4 @@ pub mod Lists
 pub mod Pairs
 pub mod Shared
 pub mod Replays
+pub mod Combined

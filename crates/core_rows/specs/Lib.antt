@@ -15,3 +15,4 @@ pub mod ListRows
 pub mod PairRows
 pub mod SharedRows
 pub mod ReplayRows
+pub mod CombinedRows

@@ -3,6 +3,7 @@
 //! wrong where a row looks breaks that row.
 #![tactic(auto)]
 
+ghost use Rattle.core_rows.specs.CombinedRows.{CombinedRows};
 ghost use Rattle.core_rows.specs.CompiledRows.{CompiledRows};
 ghost use Rattle.core_rows.specs.CounterRows.{CounterRows, AgainRows, NumberRows};
 ghost use Rattle.core_rows.specs.SwapRows.{KeptRows, KeptAgainRows, PeekRows, GivenUpRows};
@@ -78,4 +79,9 @@ pub fn replay_rows()
     ensures queue { QueueReplays }
     ensures turns { TurnRows }
     ensures kinds { KindRows }
+{}
+
+/// The queue as `compile` makes it, with checks that loads share: each call alone, whole runs of the queue, and its target by hand.
+pub fn combined_rows()
+    ensures { CombinedRows }
 {}

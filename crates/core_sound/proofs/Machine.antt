@@ -36,7 +36,7 @@ store_lawful target setting words v x count row lawful all w there = ⊎_elim
     (eqb_tells (address_of setting.sizes w) (address_of setting.sizes v))
 
 -- one entry changes
-set_got : (es : List Entry) (k d : ℕ) (e f : Entry) → slice_get (set es k e) d ≡ Some f → ((d ≡ k) × (f ≡ e)) ⊎ (slice_get es d ≡ Some f)
+pub set_got : (es : List Entry) (k d : ℕ) (e f : Entry) → slice_get (set es k e) d ≡ Some f → ((d ≡ k) × (f ≡ e)) ⊎ (slice_get es d ≡ Some f)
 set_got [] k d e f is = inr is
 set_got (x ∷ xs) zero zero e f is = inl (refl, cc)
 set_got (x ∷ xs) zero (suc d) e f is = inr is

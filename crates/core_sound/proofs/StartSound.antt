@@ -58,7 +58,7 @@ starts_length nodes (f ∷ fields) [] is = absurd (let e : false ≡ true = is i
 starts_length nodes (f ∷ fields) (v ∷ values) is = ap suc (starts_length nodes fields values (and_parts (is_start nodes f.kind v) (are_starts nodes fields values) is).1)
 
 -- of all nodes
-abbrev AreFilled : ℕ → List FieldDecl → List NodeDecl → Type 0
+abbrev pub AreFilled : ℕ → List FieldDecl → List NodeDecl → Type 0
 AreFilled count fields nodes = list_all (λ (node : NodeDecl). are_starts count fields node.values) nodes ≡ true
 
 nodes_sized : (count : ℕ) (fields : List FieldDecl) (nodes : List NodeDecl) → AreFilled count fields nodes → All (λ (node : List ℕ). length node ≡ length fields) (map node_words nodes)
@@ -68,7 +68,7 @@ nodes_sized count fields (node ∷ nodes) are zero d lt =
 nodes_sized count fields (node ∷ nodes) are (suc k) d lt =
     nodes_sized count fields nodes (and_parts (are_starts count fields node.values) (list_all (λ (node : NodeDecl). are_starts count fields node.values) nodes) are).1 k d (omega (arith, lt))
 
-nodes_lawful : (slots count : ℕ) (fields : List FieldDecl) (nodes : List NodeDecl) (i g : ℕ) → count ≤ slots → AreFilled count fields nodes
+pub nodes_lawful : (slots count : ℕ) (fields : List FieldDecl) (nodes : List NodeDecl) (i g : ℕ) → count ≤ slots → AreFilled count fields nodes
     → LawfulValue slots (field_kind fields g) (field_word (slice_get (map node_words nodes) i) g)
 nodes_lawful slots count fields [] i g few are = null_lawful slots (field_kind fields g)
 nodes_lawful slots count fields (node ∷ nodes) zero g few are =
@@ -77,7 +77,7 @@ nodes_lawful slots count fields (node ∷ nodes) (suc i) g few are =
     nodes_lawful slots count fields nodes i g few (and_parts (are_starts count fields node.values) (list_all (λ (node : NodeDecl). are_starts count fields node.values) nodes) are).1
 
 -- of the roots
-roots_lawful : (slots nodes : ℕ) (roots : List RootDecl) (x : ℕ) → nodes ≤ slots → list_all (is_root nodes) roots ≡ true → LawfulValue slots (root_kind roots x) (slice_index (map root_word roots) x)
+pub roots_lawful : (slots nodes : ℕ) (roots : List RootDecl) (x : ℕ) → nodes ≤ slots → list_all (is_root nodes) roots ≡ true → LawfulValue slots (root_kind roots x) (slice_index (map root_word roots) x)
 roots_lawful slots nodes [] x few are = tt
 roots_lawful slots nodes (root ∷ roots) zero few are =
     start_lawful slots nodes root.kind root.start few (and_parts _ (is_start nodes root.kind root.start) (and_parts (is_root nodes root) (list_all (is_root nodes) roots) are).0).1
@@ -86,10 +86,10 @@ roots_lawful slots nodes (root ∷ roots) (suc x) few are = roots_lawful slots n
 -- ---- the words
 
 module _ {target : Target} {setting : Setting} (within : IsTargetWithinLimits target) (own : IsSetting setting) (fits : Fits target setting) where
-  filled : AreFilled (length target.nodes) target.fields target.nodes
+  pub filled : AreFilled (length target.nodes) target.fields target.nodes
   filled = (and_parts (has_between 0 256 target.nodes) (list_all (λ (node : NodeDecl). are_starts (length target.nodes) target.fields node.values) target.nodes) (parts target within).nodes).1
 
-  rooted : list_all (is_root (length target.nodes)) target.roots ≡ true
+  pub rooted : list_all (is_root (length target.nodes)) target.roots ≡ true
   rooted = (and_parts (list_all (is_root (length target.nodes)) target.roots) (are_different (map (λ (root : RootDecl). root.name) target.roots))
       (and_parts (has_between 1 256 target.roots) (list_all (is_root (length target.nodes)) target.roots && are_different (map (λ (root : RootDecl). root.name) target.roots)) (parts target within).roots).1).0
 
@@ -129,7 +129,7 @@ idles_count : (i n : ℕ) → length (idle_from i n) ≡ n
 idles_count i zero = refl
 idles_count i (suc n) = ap suc (idles_count (i + 1) n)
 
-idle_at : (i n c : ℕ) (e : Entry) → slice_get (idle_from i n) c ≡ Some e → (c < n) × (e ≡ idle_entry (i + c))
+pub idle_at : (i n c : ℕ) (e : Entry) → slice_get (idle_from i n) c ≡ Some e → (c < n) × (e ≡ idle_entry (i + c))
 idle_at i zero c e is = absurd (let z : None ≡ Some e = is in cc)
 idle_at i (suc n) zero e is = (omega arith, (let same : idle_entry i ≡ e = cc in sym same ∙ ap idle_entry (omega arith)))
 idle_at i (suc n) (suc c) e is = let rest = idle_at (i + 1) n c e is in let lt = rest.0 in (omega (arith, lt), rest.1 ∙ ap idle_entry (omega arith))

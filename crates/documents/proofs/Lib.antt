@@ -1,4 +1,5 @@
 mod Arguments
 mod Reading
+mod Limited
 mod TextLinesOnly
 mod TextDocuments

@@ -2,3 +2,4 @@ pub mod TailLines
 pub mod DocumentRead
 pub mod TailShown
 pub mod DocumentLaws
+pub mod DocumentLimits

@@ -7,6 +7,7 @@ ghost use Rattle.line_words.specs.Answered.{Answers};
 ghost use Rattle.norm_parser.specs.FrontRead.{from_line};
 ghost use Rattle.documents.specs.DocumentRead.{empty_tail, after_lines, document_read};
 ghost use Rattle.documents.specs.TailShown.{tail_shown};
+ghost use Rattle.documents.specs.DocumentLimits.{IsWithinDocumentLimits};
 
 use crate::document::Document;
 use crate::lines::read_line;
@@ -32,7 +33,20 @@ fn read_tail(alloc: Global, input: &[u8], line: u32) -> Result<Tail, ParseError>
     Ok(tail)
 }
 
-/// The document that the bytes spell: a line `oa 1`, a text, the settings, the scripts, and a schedule.
+/// The document that the bytes spell, with a text within the limits.
+fn read_whole(alloc: Global, input: &[u8]) -> Result<Document, ParseError>
+    requires { length (lines_of input.now) + 1 < 2 ^ 32 }
+    ensures exact { Answers (λ document. document) result (document_read input.now) }
+    ensures text { IfOk result (λ document. IsWithinLimits document.text) }
+{
+    let start = after_version(b"oa", input)?;
+    let (text, line) = parse_front(alloc, input, start)?;
+    let tail = read_tail(alloc, input, line)?;
+    Ok(tail.into_document(alloc, text)?)
+}
+
+/// The document that the bytes spell: a line `oa 1`, a text, the settings, the scripts, and a schedule. Each of its parts
+/// is within the limits.
 ///
 /// The input has fewer than 2^32 - 1 lines; its length bounds their count.
 ///
@@ -44,10 +58,7 @@ fn read_tail(alloc: Global, input: &[u8], line: u32) -> Result<Tail, ParseError>
 pub fn read_document(alloc: Global, input: &[u8]) -> Result<Document, ParseError>
     requires { length (lines_of input.now) + 1 < 2 ^ 32 }
     ensures exact { Answers (λ document. document) result (document_read input.now) }
-    ensures within { IfOk result (λ document. IsWithinLimits document.text) }
+    ensures within { IfOk result (λ document. IsWithinDocumentLimits document) }
 {
-    let start = after_version(b"oa", input)?;
-    let (text, line) = parse_front(alloc, input, start)?;
-    let tail = read_tail(alloc, input, line)?;
-    Ok(tail.into_document(alloc, text)?)
+    read_whole(alloc, input)
 }

@@ -1,8 +1,10 @@
-//! Tests of documents of the first form: which they are, and what their calls answer. They stand apart from the crate that
-//! they test, since a crate with tests is proved twice.
+//! Tests of documents that are run and replayed. They stand apart from the crate that they test, since a crate with tests is
+//! proved twice.
 #![tactic(auto)]
 
 #[cfg(test)]
-mod forms;
+mod rows;
 #[cfg(test)]
-mod runs;
+mod shapes;
+#[cfg(test)]
+mod told;

@@ -47,7 +47,8 @@ fn flush_that_fails_is_a_write_fault(rt: HostRuntime) {
 #[test]
 fn flush_that_succeeds_leaves_the_status(rt: HostRuntime) {
     let mut sink = StdSink::new(Closed);
-    for status in [Status::Done, Status::Partial, Status::ReadFault] {
+    let shape = Status::BadShape { number: 7, at: 0 };
+    for status in [Status::Done, Status::Partial, Status::ReadFault, shape] {
         assert!(rt; finish(&mut sink, status) == status);
     }
     assert!(rt; sink.faults() == 0);

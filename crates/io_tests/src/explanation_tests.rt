@@ -38,6 +38,34 @@ fn statuses_are_explained(rt: HostRuntime) {
 }
 
 #[test]
+fn calls_without_an_answer_are_explained(rt: HostRuntime) {
+    expect_sentence(
+        &rt,
+        Status::Partial,
+        b"oa: a call has no answer. It is full where it swept twice and found no slot for a new node, phases where the last phase was over, and spent where it ran out of fuel, which is how many steps may be made for one call, so that the calls after it were not reached. See 'The answers' in docs/language.md.\n",
+    );
+}
+
+#[test]
+fn faults_of_shape_are_explained(rt: HostRuntime) {
+    expect_sentence(
+        &rt,
+        Status::BadShape { number: 2, at: 0 },
+        b"oa: the document cannot be run: its slots are not 1 to 4096. See 'What can be run' in docs/language.md.\n",
+    );
+    expect_sentence(
+        &rt,
+        Status::BadShape { number: 8, at: 31 },
+        b"oa: line 31 calls what cannot be called: its text has no operation of that name. See 'What can be run' in docs/language.md.\n",
+    );
+    expect_sentence(
+        &rt,
+        Status::BadShape { number: 10, at: 4 },
+        b"oa: the replay stopped after 4 steps: a turn of the schedule needs a step of a caller that has none to make. See 'What can be run' in docs/language.md.\n",
+    );
+}
+
+#[test]
 fn sentence_that_fails_stops(rt: HostRuntime) {
     let alloc = rt.alloc();
     let Ok(fails) = [2u64].as_slice().to_vec(alloc) else {

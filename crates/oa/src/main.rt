@@ -4,9 +4,6 @@
 use oa_cli::run_program;
 use std::process::ExitCode;
 
-#[cfg(test)]
-mod tests;
-
 fn main(rt: HostRuntime) -> ExitCode {
     ExitCode::from(run_program(&rt, rt.stderr()))
 }

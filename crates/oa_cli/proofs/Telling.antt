@@ -45,7 +45,7 @@ none_rose before now same rose = omega arith
 -- a verdict other than that of a fault of reading leaves the source's count
 read_told : (words : List (List ℕ)) (old new : Option (List ℕ)) (before now : ℕ) (verdict : Verdict)
     → IsJudged words old new before now verdict → before < now → status_for verdict ≡ statuses.ReadFault
-read_told words old new before now (verdicts.Answered plan state) judged rose = absurd (none_rose before now judged.2 rose)
+read_told words old new before now (verdicts.Answered report) judged rose = absurd (none_rose before now judged.2 rose)
 read_told words old new before now verdicts.Accepted judged rose = absurd (none_rose before now judged.2 rose)
 read_told words old new before now (verdicts.Shown spelling) judged rose = absurd (none_rose before now judged.2 rose)
 read_told words old new before now (verdicts.Compiled spelling) judged rose = absurd (none_rose before now judged.2 rose)
@@ -54,7 +54,7 @@ read_told words old new before now verdicts.ReadFault judged rose = refl
 read_told words old new before now verdicts.LongInput judged rose = absurd (none_rose before now judged.1 rose)
 read_told words old new before now (verdicts.BadDocument fault) judged rose = absurd (none_rose before now judged.2 rose)
 read_told words old new before now (verdicts.Refused text refusal) judged rose = absurd (none_rose before now judged.2 rose)
-read_told words old new before now verdicts.OtherForm judged rose = absurd (none_rose before now judged.2 rose)
+read_told words old new before now (verdicts.BadShape number at) judged rose = absurd (none_rose before now judged.2 rose)
 read_told words old new before now verdicts.Memory judged rose = absurd (none_rose before now judged.1 rose)
 
 -- each fault is told

@@ -5,7 +5,7 @@ use Rattle.oa_text.specs.Causes.{Rose}
 use Rattle.oa_text.specs.Written.{AppendsPrefix}
 use Rattle.oa_cli.specs.Explanations.{explanation}
 use Rattle.oa_cli.specs.declared.status.Status.{Status}
-use Rattle.oa_cli.specs.declared.status.Status.TheVariants.{Done, Partial, Usage, ReadFault, LongInput, BadDocument, Refused, WriteFault, Memory, Unbuilt}
+use Rattle.oa_cli.specs.declared.status.Status.TheVariants.{Done, Partial, Usage, ReadFault, LongInput, BadDocument, Refused, BadShape, WriteFault, Memory}
 
 -- a fault of writing
 abbrev pub is_write_fault : Status → Bool
@@ -17,8 +17,8 @@ is_write_fault ReadFault = false
 is_write_fault LongInput = false
 is_write_fault (BadDocument line fault) = false
 is_write_fault (Refused refusal) = false
+is_write_fault (BadShape number at) = false
 is_write_fault Memory = false
-is_write_fault Unbuilt = false
 
 -- the status is the one given and nothing failed, or what was buffered could not be handed on; after a fault of writing that
 -- isn't tried

@@ -1,7 +1,7 @@
 -- The numbers of the statuses.
 use Rattle.std.specs.Prelude.{ℕ}
 use Rattle.oa_cli.specs.declared.status.Status.{Status}
-use Rattle.oa_cli.specs.declared.status.Status.TheVariants.{Done, Partial, Usage, ReadFault, LongInput, BadDocument, Refused, WriteFault, Memory, Unbuilt}
+use Rattle.oa_cli.specs.declared.status.Status.TheVariants.{Done, Partial, Usage, ReadFault, LongInput, BadDocument, Refused, BadShape, WriteFault, Memory}
 
 -- the number of a status
 abbrev pub number_of : Status → ℕ
@@ -12,6 +12,6 @@ number_of ReadFault = 3
 number_of LongInput = 4
 number_of (BadDocument line fault) = 5
 number_of (Refused refusal) = 6
+number_of (BadShape number at) = 7
 number_of WriteFault = 8
 number_of Memory = 9
-number_of Unbuilt = 10

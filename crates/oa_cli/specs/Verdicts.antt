@@ -6,7 +6,6 @@ use Rattle.oa_text.specs.Written.{AppendsPrefix}
 use Rattle.norm_lang.specs.declared.text.Text.{Text}
 use Rattle.norm_lang.specs.NormalForm.{IsNormal}
 use Rattle.norm_lang.specs.Spelling.{spelling_of}
-use Rattle.norm_check.specs.declared.refusal.Refusal.{Refusal}
 use Rattle.norm_check.specs.Refusals.{IsRefused}
 use Rattle.target_code.specs.TargetSpelling.{target_spelling}
 use Rattle.target_code.specs.Barred.{IsBarred}
@@ -15,12 +14,13 @@ use Rattle.norm_parser.specs.DraftShown.{fault_shown}
 use Rattle.line_words.specs.declared.fault.ParseFault.{ParseFault}
 use Rattle.documents.specs.declared.document.Document.{Document}
 use Rattle.documents.specs.DocumentRead.{document_read, IsDocument}
-use Rattle.script_driver.specs.declared.plan.Plan.{Plan}
-use Rattle.script_driver.specs.declared.caller.CoreState.{CoreState}
-use Rattle.script_driver.specs.FirstForm.{first_form}
-use Rattle.script_driver.specs.Run.{final_state}
-use Rattle.script_driver.specs.SourceRun.{RunsOnSource}
-use Rattle.script_driver.specs.Answers.{answers, is_partial}
+use Rattle.script_plans.specs.declared.fault.RunFault.{RunFault}
+use Rattle.script_plans.specs.declared.fault.RunFault.TheVariants as faults
+use Rattle.script_plans.specs.Plans.{IsFaultOf}
+use Rattle.script_driver.specs.declared.report.Report.{Report}
+use Rattle.script_driver.specs.Texts.{report_text, is_partial}
+use Rattle.script_driver.specs.Runs.{IsReplayFaultOf}
+use Rattle.report_laws.specs.Runs.{IsRunReport, IsReplayReport}
 use Rattle.oa_cli.specs.Commands.{command_of}
 use Rattle.oa_cli.specs.Inputs.{ReadsFewer}
 use Rattle.oa_cli.specs.Refusals.{refusal_line}
@@ -50,51 +50,55 @@ pub record Untouched (old new : Option (List ℕ)) (before now : ℕ) : Type 0 w
   pub left : new ≡ old
   pub faults : NoFault before now
 
--- the bytes are a document whose text is in normal form
-abbrev pub IsAccepted : List ℕ → Type 0
-IsAccepted bytes = (document : Document) × IsDocument bytes document × IsNormal document.text
+-- the answers of a command to the calls of a document: for `run` they tell of a complete run of it, for `replay` of the one that the
+-- turns of its schedule give. What it is to tell of a run says `TellsOf`
+abbrev pub IsAnswered : Command → Document → Report → Type 0
+IsAnswered commands.Run document report = IsRunReport document report
+IsAnswered commands.Replay document report = IsReplayReport document report
+IsAnswered _ document report = ⊥
 
--- the bytes are a document with this text, and the refusal names the first rule that it breaks
-abbrev pub IsRefusedFor : List ℕ → Text → Refusal → Type 0
-IsRefusedFor bytes text refusal = (document : Document) × IsDocument bytes document × (text ≡ document.text) × IsRefused text refusal
-
--- the plan of bytes of the first form was run to this state, and the run is one of its text on the source machine
-abbrev pub IsAnswered : List ℕ → Plan → CoreState → Type 0
-IsAnswered bytes plan state = IsAccepted bytes × (first_form bytes ≡ Some plan) × (state ≡ final_state plan) × RunsOnSource plan state
-
--- the bytes are a document, and this is the spelling of its text
-abbrev pub IsShown : List ℕ → List ℕ → Type 0
-IsShown bytes spelling = (document : Document) × IsDocument bytes document × (spelling ≡ spelling_of document.text)
-
--- the bytes are a document whose text is in normal form, and this is the spelling of what the second scheme makes of it, which
--- is barred for that text
-abbrev pub IsCompiled : List ℕ → List ℕ → Type 0
-IsCompiled bytes spelling =
-    (document : Document) × IsDocument bytes document × IsNormal document.text × IsBarred (second_scheme document.text) document.text
-    × (spelling ≡ target_spelling (second_scheme document.text))
-
--- the bytes are a document whose text is in normal form, and that isn't of the first form
-abbrev pub IsOtherForm : List ℕ → Type 0
-IsOtherForm bytes = IsAccepted bytes × (first_form bytes ≡ None)
+-- a command that makes a document's calls refuses its shape: `replay` also where its turns are refused
+abbrev pub IsShapeRefused : Command → Document → RunFault → Type 0
+IsShapeRefused commands.Run document fault = IsFaultOf document fault
+IsShapeRefused commands.Replay document fault = IsReplayFaultOf document fault
+IsShapeRefused _ document fault = ⊥
 
 -- a command that judges a document's text by the rules
 abbrev pub takes_rules : Command → Bool
 takes_rules commands.Run = true
+takes_rules commands.Replay = true
 takes_rules commands.Check = true
 takes_rules commands.Compile = true
 takes_rules commands.Show = false
 
+-- what a command makes of a document. A text that is accepted, compiled or run is in normal form; `show` takes every text
+abbrev pub IsOfDocument : Command → Document → Verdict → Type 0
+IsOfDocument command document (verdicts.Answered report) = IsAnswered command document report
+IsOfDocument command document verdicts.Accepted = (command ≡ commands.Check) × IsNormal document.text
+IsOfDocument command document (verdicts.Shown spelling) = (command ≡ commands.Show) × (spelling ≡ spelling_of document.text)
+IsOfDocument command document (verdicts.Compiled spelling) =
+    (command ≡ commands.Compile) × IsNormal document.text × IsBarred (second_scheme document.text) document.text
+    × (spelling ≡ target_spelling (second_scheme document.text))
+IsOfDocument command document (verdicts.Refused text refusal) = IsTrue (takes_rules command) × (text ≡ document.text) × IsRefused text refusal
+IsOfDocument command document (verdicts.BadShape number at) = IsShapeRefused command document (faults.Shape number at)
+IsOfDocument command document verdicts.Memory = Unit {0}
+IsOfDocument command document _ = ⊥
+
+-- the bytes are a document, and this is what the command makes of it
+abbrev pub IsOfRead : Command → List ℕ → Verdict → Type 0
+IsOfRead command bytes verdict = (document : Document) × IsDocument bytes document × IsOfDocument command document verdict
+
 -- the verdict of a command on the bytes of a document's length
 abbrev pub IsOfBytes : Command → List ℕ → Verdict → Type 0
-IsOfBytes command bytes (verdicts.Answered plan state) = (command ≡ commands.Run) × IsAnswered bytes plan state
-IsOfBytes command bytes verdicts.Accepted = (command ≡ commands.Check) × IsAccepted bytes
-IsOfBytes command bytes (verdicts.Shown spelling) = (command ≡ commands.Show) × IsShown bytes spelling
-IsOfBytes command bytes (verdicts.Compiled spelling) = (command ≡ commands.Compile) × IsCompiled bytes spelling
 IsOfBytes command bytes (verdicts.BadDocument fault) = document_read bytes ≡ Err (fault_shown fault)
-IsOfBytes command bytes (verdicts.Refused text refusal) = IsTrue (takes_rules command) × IsRefusedFor bytes text refusal
-IsOfBytes command bytes verdicts.OtherForm = (command ≡ commands.Run) × IsOtherForm bytes
 IsOfBytes command bytes verdicts.Memory = Unit {0}
-IsOfBytes command bytes _ = ⊥
+IsOfBytes command bytes verdict = IsOfRead command bytes verdict
+
+-- why a document with this text can't be run, as it is told
+abbrev pub fault_verdict : Text → RunFault → Verdict
+fault_verdict text faults.Memory = verdicts.Memory
+fault_verdict text (faults.Refused refusal) = verdicts.Refused text refusal
+fault_verdict text (faults.Shape number at) = verdicts.BadShape number at
 
 -- the verdict of a command on all bytes that the source had; no read failed
 abbrev pub IsOfInput : List (List ℕ) → Option (List ℕ) → Option (List ℕ) → ℕ → ℕ → Verdict → Type 0
@@ -105,7 +109,7 @@ IsOfInput words old new before now verdict =
 -- the verdict on the words, on the source's faults, and on its bytes: a read failed at `ReadFault` alone, where fewer bytes than
 -- the limit were read
 abbrev pub IsJudged : List (List ℕ) → Option (List ℕ) → Option (List ℕ) → ℕ → ℕ → Verdict → Type 0
-IsJudged words old new before now (verdicts.Answered plan state) = IsOfInput words old new before now (verdicts.Answered plan state)
+IsJudged words old new before now (verdicts.Answered report) = IsOfInput words old new before now (verdicts.Answered report)
 IsJudged words old new before now verdicts.Accepted = IsOfInput words old new before now verdicts.Accepted
 IsJudged words old new before now (verdicts.Shown spelling) = IsOfInput words old new before now (verdicts.Shown spelling)
 IsJudged words old new before now (verdicts.Compiled spelling) = IsOfInput words old new before now (verdicts.Compiled spelling)
@@ -115,16 +119,20 @@ IsJudged words old new before now verdicts.LongInput =
     IsSome (command_of words) × NoFault before now × (bytes : List ℕ) × Consumes old new bytes × (length bytes ≡ LIMIT)
 IsJudged words old new before now (verdicts.BadDocument fault) = IsOfInput words old new before now (verdicts.BadDocument fault)
 IsJudged words old new before now (verdicts.Refused text refusal) = IsOfInput words old new before now (verdicts.Refused text refusal)
-IsJudged words old new before now verdicts.OtherForm = IsOfInput words old new before now verdicts.OtherForm
+IsJudged words old new before now (verdicts.BadShape number at) = IsOfInput words old new before now (verdicts.BadShape number at)
 IsJudged words old new before now verdicts.Memory = IsSome (command_of words) × NoFault before now
 
 -- the line that tells a fault
 abbrev pub fault_line : ParseFault → List ℕ
 fault_line fault = codes "line " ++ decimal fault.line ++ codes " fault " ++ decimal fault.number ++ 10 ∷ []
 
+-- the line that tells what is wrong with a document's shape
+abbrev pub shape_line : ℕ → ℕ → List ℕ
+shape_line number at = codes "shape " ++ decimal number ++ codes " at " ++ decimal at ++ 10 ∷ []
+
 -- the text of a verdict, each line with its newline
 abbrev pub text_for : Verdict → List ℕ
-text_for (verdicts.Answered plan state) = answers plan state
+text_for (verdicts.Answered report) = report_text report
 text_for verdicts.Accepted = codes "accepted\n"
 text_for (verdicts.Shown spelling) = spelling
 text_for (verdicts.Compiled spelling) = spelling
@@ -133,12 +141,12 @@ text_for verdicts.ReadFault = codes "read fault\n"
 text_for verdicts.LongInput = codes "long input\n"
 text_for (verdicts.BadDocument fault) = fault_line fault
 text_for (verdicts.Refused text refusal) = refusal_line text refusal
-text_for verdicts.OtherForm = codes "unbuilt\n"
+text_for (verdicts.BadShape number at) = shape_line number at
 text_for verdicts.Memory = codes "memory\n"
 
 -- the status of a verdict
 abbrev pub status_for : Verdict → Status
-status_for (verdicts.Answered plan state) = if is_partial plan state then statuses.Partial else statuses.Done
+status_for (verdicts.Answered report) = if is_partial report then statuses.Partial else statuses.Done
 status_for verdicts.Accepted = statuses.Done
 status_for (verdicts.Shown spelling) = statuses.Done
 status_for (verdicts.Compiled spelling) = statuses.Done
@@ -147,7 +155,7 @@ status_for verdicts.ReadFault = statuses.ReadFault
 status_for verdicts.LongInput = statuses.LongInput
 status_for (verdicts.BadDocument fault) = statuses.BadDocument fault.line fault.number
 status_for (verdicts.Refused text refusal) = statuses.Refused refusal
-status_for verdicts.OtherForm = statuses.Unbuilt
+status_for (verdicts.BadShape number at) = statuses.BadShape number at
 status_for verdicts.Memory = statuses.Memory
 
 -- the whole text was written and no write failed, or the sink failed after a prefix of it

@@ -7,8 +7,10 @@ ghost use Rattle.oa_cli.specs.Commands.{command_named, command_of};
 /// What the words ask for.
 #[derive(Clone, Copy, Debug, PartialEq, Eq)]
 pub enum Command {
-    /// The document's calls are run, and their answers written.
+    /// The document's calls are made, and their answers written.
     Run,
+    /// The same, with the steps of the callers in the order that the document's schedule gives.
+    Replay,
     /// The document's text is judged by the rules of the normal form.
     Check,
     /// The document's text is written in its canonical spelling.
@@ -22,6 +24,8 @@ fn command_named(word: &str) -> Option<Command>
 {
     if word == "run" {
         Some(Command::Run)
+    } else if word == "replay" {
+        Some(Command::Replay)
     } else if word == "check" {
         Some(Command::Check)
     } else if word == "show" {

@@ -3,17 +3,18 @@
 ghost use Rattle.std.specs.Prelude.{◌≡◌};
 ghost use Rattle.oa_text.specs.Causes.{HasCause};
 ghost use Rattle.oa_text.specs.Written.{Writes};
-ghost use Rattle.oa_cli.specs.Explanations.{fault_words, rule_words, method_words, fault_sentence, refusal_sentence, explanation};
+ghost use Rattle.oa_text.specs.Pieces.{piece_bytes};
+ghost use Rattle.oa_cli.specs.Explanations.{fault_words, rule_words, shape_words, method_words, fault_sentence, refusal_sentence, place_before, place_number, place_after, shape_sentence, explanation};
 
 use crate::status::Status;
 use norm_check::Refusal;
 use oa_text::{Failed, Piece, Sink, write_all, write_pieces};
 
-const SPENT: &[u8] =
-    b"oa: a call was spent: it ran out of fuel before it ended, so the calls after it were not reached. Fuel is how many steps may be made for one call. See 'The answers' in docs/language.md.\n";
+const SHORT: &[u8] =
+    b"oa: a call has no answer. It is full where it swept twice and found no slot for a new node, phases where the last phase was over, and spent where it ran out of fuel, which is how many steps may be made for one call, so that the calls after it were not reached. See 'The answers' in docs/language.md.\n";
 
 const USAGE: &[u8] =
-    b"oa: usage: oa COMMAND < DOCUMENT, where the command is one of run (make the document's calls, and write their answers), check (say whether its text is in normal form), show (write its text in the canonical spelling) and compile (write what its text compiles to). The language of documents is in docs/language.md.\n";
+    b"oa: usage: oa COMMAND < DOCUMENT, where the command is one of run (make the document's calls, and write their answers), replay (make them with the steps in the order of the document's schedule), check (say whether its text is in normal form), show (write its text in the canonical spelling) and compile (write what its text compiles to). The language of documents is in docs/language.md.\n";
 
 const READ_FAULT: &[u8] =
     b"oa: standard input could not be read to its end, so there is no document to judge.\n";
@@ -26,9 +27,6 @@ const WRITE_FAULT: &[u8] =
 
 const MEMORY: &[u8] =
     b"oa: memory ran out before there was an answer. A shorter document needs less.\n";
-
-const UNBUILT: &[u8] =
-    b"oa: the program cannot run this document yet, since it is not of the first form. See 'The first form of a document' in docs/language.md. The commands check, show and compile take it.\n";
 
 /// What is wrong with a line, by the number of its fault.
 #[tactic(auto, unfolding(crate::specs::Explanations::fault_words))]
@@ -92,6 +90,38 @@ fn rule_words(rule: u8) -> &'static [u8]
     }
 }
 
+/// What is wrong with a document's shape, by its number.
+#[tactic(auto, unfolding(crate::specs::Explanations::shape_words))]
+fn shape_words(number: u8) -> &'static [u8]
+    ensures { result.now ≡ shape_words number }
+{
+    if number == 1 {
+        b"it needs 1 to 8 scripts"
+    } else if number == 2 {
+        b"its slots are not 1 to 4096"
+    } else if number == 3 {
+        b"its nodes do not have 1 to 4 fields"
+    } else if number == 4 {
+        b"it does not have 1 to 256 roots"
+    } else if number == 5 {
+        b"it has more initial nodes than slots"
+    } else if number == 6 {
+        b"its phases do not begin at 1 or later and end no earlier, at 2305843009213693952 or before"
+    } else if number == 7 {
+        b"its fuel is not 1 to 1000000000"
+    } else if number == 8 {
+        b"its text has no operation of that name"
+    } else if number == 9 {
+        b"the operation has another count of arguments"
+    } else if number == 10 {
+        b"a turn of the schedule needs a step of a caller that has none to make"
+    } else if number == 11 {
+        b"a replay has no more steps than these"
+    } else {
+        b"its shape is not as the language has it"
+    }
+}
+
 fn method_words(wrapup: bool) -> &'static [u8]
     ensures { result.now ≡ method_words wrapup }
 {
@@ -139,6 +169,62 @@ fn explain_refusal<K: Sink>(errors: &mut K, refusal: Refusal) -> Result<(), Fail
     )
 }
 
+/// How the place of a fault of shape is told, up to its number.
+#[tactic(auto, unfolding(crate::specs::Explanations::place_before))]
+fn place_before(number: u8) -> &'static [u8]
+    ensures { result.now ≡ place_before number }
+{
+    if number < 8 {
+        b"oa: the document cannot be run: "
+    } else if number < 10 {
+        b"oa: line "
+    } else {
+        b"oa: the replay stopped after "
+    }
+}
+
+/// The number of the place; the document as a whole has none.
+#[tactic(auto, unfolding(crate::specs::Explanations::place_number))]
+fn place_number(number: u8, at: u64) -> Piece<'static>
+    ensures { piece_bytes result ≡ place_number number at }
+{
+    if number < 8 {
+        Piece::Bytes(b"")
+    } else {
+        Piece::Number(at)
+    }
+}
+
+/// What is told after the number.
+#[tactic(auto, unfolding(crate::specs::Explanations::place_after))]
+fn place_after(number: u8) -> &'static [u8]
+    ensures { result.now ≡ place_after number }
+{
+    if number < 8 {
+        b""
+    } else if number < 10 {
+        b" calls what cannot be called: "
+    } else {
+        b" steps: "
+    }
+}
+
+fn explain_shape<K: Sink>(errors: &mut K, number: u8, at: u64) -> Result<(), Failed>
+    ensures bytes { Writes (K.written errors.old) (K.written errors.new) (shape_sentence number at) result }
+    ensures cause { HasCause (K.faults errors.old) (K.faults errors.new) result }
+{
+    write_pieces(
+        errors,
+        &[
+            Piece::Bytes(place_before(number)),
+            place_number(number, at),
+            Piece::Bytes(place_after(number)),
+            Piece::Bytes(shape_words(number)),
+            Piece::Bytes(b". See 'What can be run' in docs/language.md.\n"),
+        ],
+    )
+}
+
 /// Writes the sentence on a status: what it means, and where to read on. Where all went well there is none. At `Failed`
 /// a prefix of it was written.
 pub fn explain<K: Sink>(errors: &mut K, status: Status) -> Result<(), Failed>
@@ -147,14 +233,14 @@ pub fn explain<K: Sink>(errors: &mut K, status: Status) -> Result<(), Failed>
 {
     match status {
         Status::Done => Ok(()),
-        Status::Partial => write_all(errors, SPENT),
+        Status::Partial => write_all(errors, SHORT),
         Status::Usage => write_all(errors, USAGE),
         Status::ReadFault => write_all(errors, READ_FAULT),
         Status::LongInput => write_all(errors, LONG_INPUT),
         Status::BadDocument { line, fault } => explain_fault(errors, line, fault),
         Status::Refused { refusal } => explain_refusal(errors, refusal),
+        Status::BadShape { number, at } => explain_shape(errors, number, at),
         Status::WriteFault => write_all(errors, WRITE_FAULT),
         Status::Memory => write_all(errors, MEMORY),
-        Status::Unbuilt => write_all(errors, UNBUILT),
     }
 }

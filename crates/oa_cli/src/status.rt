@@ -10,7 +10,7 @@ use norm_check::Refusal;
 pub enum Status {
     /// Every call has a reply, or the text was accepted or shown.
     Done,
-    /// A printed answer is `spent` or `unreached`.
+    /// A printed answer is `full`, `phases` or `spent`.
     Partial,
     /// The words are no command.
     Usage,
@@ -22,12 +22,12 @@ pub enum Status {
     BadDocument { line: u32, fault: u8 },
     /// The text isn't in normal form: the first rule that it breaks, and where.
     Refused { refusal: Refusal },
+    /// The document can't be run as it is: what is wrong with its shape, by its number, and where.
+    BadShape { number: u8, at: u64 },
     /// The sink failed.
     WriteFault,
     /// Memory ran out, before the first step of a call.
     Memory,
-    /// A document that can't be run yet.
-    Unbuilt,
 }
 
 /// The number with which the program ends.
@@ -42,8 +42,8 @@ pub fn status_number(status: Status) -> u8
         Status::LongInput => 4,
         Status::BadDocument { .. } => 5,
         Status::Refused { .. } => 6,
+        Status::BadShape { .. } => 7,
         Status::WriteFault => 8,
         Status::Memory => 9,
-        Status::Unbuilt => 10,
     }
 }

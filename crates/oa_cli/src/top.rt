@@ -1,18 +1,16 @@
 //! The top call.
 
-ghost use Rattle.std.specs.Prelude.{◌≡◌, ◌<◌, ◌≤◌, length, map, IfOk};
+ghost use Rattle.std.specs.Prelude.{◌≡◌, ◌<◌, length, map, IfOk};
 ghost use Rattle.std.specs.String.{string_bytes};
 ghost use Rattle.oa_text.specs.Written.{Writes};
 ghost use Rattle.oa_text.specs.Causes.{HasCause};
-ghost use Rattle.norm_lang.specs.Limits.{IsWithinLimits};
-ghost use Rattle.norm_lang.specs.NormalForm.{IsNormal};
 ghost use Rattle.target_code.specs.TargetSpelling.{target_spelling};
 ghost use Rattle.target_code.specs.Barred.{IsBarred};
 ghost use Rattle.target_code.specs.SecondScheme.{second_scheme};
-ghost use Rattle.documents.specs.DocumentRead.{IsDocument};
+ghost use Rattle.documents.specs.DocumentLimits.{IsWithinDocumentLimits};
 ghost use Rattle.oa_cli.specs.declared.verdict.Verdict.{Verdict};
 ghost use Rattle.oa_cli.specs.Refusals.{refusal_line};
-ghost use Rattle.oa_cli.specs.Verdicts.{IsOfBytes, IsJudged, IsSaid, FaultsAreTold, fault_line, text_for, status_for};
+ghost use Rattle.oa_cli.specs.Verdicts.{IsOfDocument, IsOfBytes, IsJudged, IsSaid, FaultsAreTold, fault_verdict, fault_line, shape_line, text_for, status_for};
 
 use crate::command::{Command, command_of};
 use crate::input::{InputError, read_input};
@@ -20,14 +18,15 @@ use crate::rules::{judge_text, method_word, op_name};
 use crate::status::Status;
 use crate::verdict::Verdict;
 use barrier_compiler::compile;
+use documents::{Document, read_document};
 use line_words::fault::{ParseError, ParseFault};
 use norm_check::{CheckError, Normal, Refusal};
 use norm_lang::show;
 use norm_lang::text::{ByteText, Text};
 use oa_text::{Failed, Gate, Piece, Sink, Source, write_all, write_pieces};
-use script_driver::answers::{partial, write_answers};
-use script_driver::run::run_script;
-use script_driver::{Document, first_plan, read_document};
+use report_laws::laws::reports_are_true;
+use script_driver::{is_partial, replay_document, run_document, show_report};
+use script_plans::RunFault;
 use std::alloc::{AllocError, Global};
 use std::thread::Threads;
 use target_code::show_target;
@@ -35,29 +34,41 @@ use target_code::show_target;
 /// One more byte than a document may have.
 const LIMIT: usize = 1_048_577;
 
-/// Does what a command asks for with a document that was read of the bytes.
-fn judge_document(alloc: Global, command: Command, bytes: &[u8], document: Document) -> Verdict
-    requires short { length bytes.now < LIMIT }
-    requires read { IsDocument bytes.now document }
-    requires within { IsWithinLimits document.text }
-    ensures { IsOfBytes command bytes.now result }
+/// Does what a command asks for with a document.
+fn judge_document<R: Threads + Sync, G: Gate + Sync>(
+    rt: &R,
+    alloc: Global,
+    command: Command,
+    document: Document,
+    gate: &G,
+) -> Verdict
+    requires { IsWithinDocumentLimits document }
+    ensures { IsOfDocument command document result }
 {
     match command {
-        Command::Run => run_document(alloc, bytes, document),
-        Command::Check => check_document(alloc, bytes, document),
-        Command::Show => match show(alloc, &document.text) {
-            Ok(spelling) => Verdict::Shown(spelling),
-            Err(_) => Verdict::Memory,
-        },
-        Command::Compile => compile_document(alloc, bytes, document),
+        Command::Run => run_verdict(rt, alloc, document, gate),
+        Command::Replay => replay_verdict(alloc, document),
+        Command::Check => check_verdict(alloc, document),
+        Command::Show => show_verdict(alloc, document),
+        Command::Compile => compile_verdict(alloc, document),
     }
 }
 
-/// Judges the text of a document that was read of the bytes by the rules.
-fn check_document(alloc: Global, bytes: &[u8], document: Document) -> Verdict
-    requires read { IsDocument bytes.now document }
-    requires within { IsWithinLimits document.text }
-    ensures { IsOfBytes Command.Check bytes.now result }
+/// Writes out the text of a document.
+fn show_verdict(alloc: Global, document: Document) -> Verdict
+    requires { IsWithinDocumentLimits document }
+    ensures { IsOfDocument Command.Show document result }
+{
+    match show(alloc, &document.text) {
+        Ok(spelling) => Verdict::Shown(spelling),
+        Err(_) => Verdict::Memory,
+    }
+}
+
+/// Judges the text of a document by the rules.
+fn check_verdict(alloc: Global, document: Document) -> Verdict
+    requires { IsWithinDocumentLimits document }
+    ensures { IsOfDocument Command.Check document result }
 {
     match judge_text(alloc, &document.text) {
         Ok(_) => Verdict::Accepted,
@@ -66,11 +77,10 @@ fn check_document(alloc: Global, bytes: &[u8], document: Document) -> Verdict
     }
 }
 
-/// Compiles the text of a document that was read of the bytes, if the rules accept it.
-fn compile_document(alloc: Global, bytes: &[u8], document: Document) -> Verdict
-    requires read { IsDocument bytes.now document }
-    requires within { IsWithinLimits document.text }
-    ensures { IsOfBytes Command.Compile bytes.now result }
+/// Compiles the text of a document, if the rules accept it.
+fn compile_verdict(alloc: Global, document: Document) -> Verdict
+    requires { IsWithinDocumentLimits document }
+    ensures { IsOfDocument Command.Compile document result }
 {
     match judge_text(alloc, &document.text) {
         Ok(normal) => match compiled(alloc, &normal) {
@@ -91,51 +101,76 @@ fn compiled(alloc: Global, normal: &Normal) -> Result<ByteText, AllocError>
     show_target(alloc, &target)
 }
 
-/// Runs the calls of a document that was read of the bytes, if the rules accept its text.
-fn run_document(alloc: Global, bytes: &[u8], document: Document) -> Verdict
-    requires short { length bytes.now < LIMIT }
-    requires read { IsDocument bytes.now document }
-    requires within { IsWithinLimits document.text }
-    ensures { IsOfBytes Command.Run bytes.now result }
+/// Why a document with this text can't be run.
+fn fault_verdict(text: Text, fault: RunFault) -> Verdict
+    ensures { result ≡ fault_verdict text fault }
 {
-    match judge_text(alloc, &document.text) {
-        Ok(_) => run_accepted(alloc, bytes, document),
-        Err(CheckError::Refused(refusal)) => Verdict::Refused(document.text, refusal),
-        Err(CheckError::Memory) => Verdict::Memory,
+    match fault {
+        RunFault::Memory => Verdict::Memory,
+        RunFault::Refused(refusal) => Verdict::Refused(text, refusal),
+        RunFault::Shape { number, at } => Verdict::BadShape { number, at },
     }
 }
 
-/// Runs the calls of a document whose text is in normal form, if it is of the first form.
-fn run_accepted(alloc: Global, bytes: &[u8], document: Document) -> Verdict
-    requires short { length bytes.now < LIMIT }
-    requires read { IsDocument bytes.now document }
-    requires normal { IsNormal document.text }
-    ensures { IsOfBytes Command.Run bytes.now result }
+/// Makes the calls of a document, by callers on threads.
+fn run_verdict<R: Threads + Sync, G: Gate + Sync>(
+    rt: &R,
+    alloc: Global,
+    document: Document,
+    gate: &G,
+) -> Verdict
+    requires { IsWithinDocumentLimits document }
+    ensures { IsOfDocument Command.Run document result }
 {
-    match first_plan(alloc, bytes, document) {
-        Err(_) => Verdict::Memory,
-        Ok(None) => Verdict::OtherForm,
-        Ok(Some(plan)) => match run_script(alloc, &plan) {
-            Err(_) => Verdict::Memory,
-            Ok(state) => Verdict::Answered(plan, state),
-        },
+    match run_document(rt, alloc, &document, gate) {
+        Ok(report) => {
+            reports_are_true();
+            Verdict::Answered(report)
+        }
+        Err(fault) => fault_verdict(document.text, fault),
+    }
+}
+
+/// Makes the calls of a document under its schedule.
+fn replay_verdict(alloc: Global, document: Document) -> Verdict
+    requires { IsWithinDocumentLimits document }
+    ensures { IsOfDocument Command.Replay document result }
+{
+    match replay_document(alloc, &document) {
+        Ok(report) => {
+            reports_are_true();
+            Verdict::Answered(report)
+        }
+        Err(fault) => fault_verdict(document.text, fault),
     }
 }
 
 /// Reads the bytes as a document, and does what the command asks for.
-fn judge_bytes(alloc: Global, command: Command, bytes: &[u8]) -> Verdict
+fn judge_bytes<R: Threads + Sync, G: Gate + Sync>(
+    rt: &R,
+    alloc: Global,
+    command: Command,
+    bytes: &[u8],
+    gate: &G,
+) -> Verdict
     requires { length bytes.now < LIMIT }
     ensures { IsOfBytes command bytes.now result }
 {
     match read_document(alloc, bytes) {
-        Ok(document) => judge_document(alloc, command, bytes, document),
+        Ok(document) => judge_document(rt, alloc, command, document, gate),
         Err(ParseError::Fault(fault)) => Verdict::BadDocument(fault),
         Err(ParseError::Memory) => Verdict::Memory,
     }
 }
 
 /// Reads the source, and judges its bytes. Words that are no command leave it unread.
-fn judge<S: Source>(alloc: Global, words: &[String], input: &mut S) -> Verdict
+fn judge<R: Threads + Sync, S: Source, G: Gate + Sync>(
+    rt: &R,
+    alloc: Global,
+    words: &[String],
+    input: &mut S,
+    gate: &G,
+) -> Verdict
     ensures { IsJudged (map string_bytes words.now) (S.left input.old) (S.left input.new) (S.faults input.old) (S.faults input.new) result }
 {
     let Some(command) = command_of(words) else {
@@ -148,7 +183,7 @@ fn judge<S: Source>(alloc: Global, words: &[String], input: &mut S) -> Verdict
             if bytes.len() == LIMIT {
                 return Verdict::LongInput;
             }
-            judge_bytes(alloc, command, &bytes)
+            judge_bytes(rt, alloc, command, &bytes, gate)
         }
     }
 }
@@ -189,13 +224,30 @@ fn write_refusal<K: Sink>(out: &mut K, text: &Text, refusal: Refusal) -> Result<
     )
 }
 
+/// Writes the line that tells what is wrong with a document's shape.
+fn write_shape<K: Sink>(out: &mut K, number: u8, at: u64) -> Result<(), Failed>
+    ensures bytes { Writes (K.written out.old) (K.written out.new) (shape_line number at) result }
+    ensures cause { HasCause (K.faults out.old) (K.faults out.new) result }
+{
+    write_pieces(
+        out,
+        &[
+            Piece::Bytes(b"shape "),
+            Piece::Number(number as u64),
+            Piece::Bytes(b" at "),
+            Piece::Number(at),
+            Piece::Bytes(b"\n"),
+        ],
+    )
+}
+
 /// Writes the text of a verdict.
 fn write_verdict<K: Sink>(out: &mut K, verdict: &Verdict) -> Result<(), Failed>
     ensures bytes { Writes (K.written out.old) (K.written out.new) (text_for verdict.now) result }
     ensures cause { HasCause (K.faults out.old) (K.faults out.new) result }
 {
     match verdict {
-        Verdict::Answered(plan, state) => write_answers(out, plan, state),
+        Verdict::Answered(report) => show_report(report, out),
         Verdict::Accepted => write_pieces(out, &[Piece::Bytes(b"accepted\n")]),
         Verdict::Shown(spelling) | Verdict::Compiled(spelling) => write_all(out, spelling.items()),
         Verdict::Usage => write_pieces(out, &[Piece::Bytes(b"usage\n")]),
@@ -203,7 +255,7 @@ fn write_verdict<K: Sink>(out: &mut K, verdict: &Verdict) -> Result<(), Failed>
         Verdict::LongInput => write_pieces(out, &[Piece::Bytes(b"long input\n")]),
         Verdict::BadDocument(fault) => write_fault(out, *fault),
         Verdict::Refused(text, refusal) => write_refusal(out, text, *refusal),
-        Verdict::OtherForm => write_pieces(out, &[Piece::Bytes(b"unbuilt\n")]),
+        Verdict::BadShape { number, at } => write_shape(out, *number, *at),
         Verdict::Memory => write_pieces(out, &[Piece::Bytes(b"memory\n")]),
     }
 }
@@ -212,8 +264,8 @@ fn status_of(verdict: &Verdict) -> Status
     ensures { result ≡ status_for verdict.now }
 {
     match verdict {
-        Verdict::Answered(plan, state) => {
-            if partial(plan, state) {
+        Verdict::Answered(report) => {
+            if is_partial(report) {
                 Status::Partial
             } else {
                 Status::Done
@@ -228,7 +280,10 @@ fn status_of(verdict: &Verdict) -> Status
             fault: fault.number,
         },
         Verdict::Refused(_, refusal) => Status::Refused { refusal: *refusal },
-        Verdict::OtherForm => Status::Unbuilt,
+        Verdict::BadShape { number, at } => Status::BadShape {
+            number: *number,
+            at: *at,
+        },
         Verdict::Memory => Status::Memory,
     }
 }
@@ -245,8 +300,8 @@ pub(crate) fn say<K: Sink>(out: &mut K, verdict: &Verdict) -> Status
 
 /// Does all that the program does: reads the words and the source, and writes the answers to the document's calls, or
 /// that its text is accepted, or its text, or what that compiles to, or why there are none. The first clause has three parts: what
-/// was read and judged, what was said, and the status. The second says that each fault is told. The gate is for callers on threads,
-/// which come later.
+/// was read and judged, what was said, and the status. The second says that each fault is told. The gate is handed to the callers of
+/// `run`; it changes nothing but how their steps interleave.
 pub fn oa_main<R: Threads + Sync, S: Source, K: Sink, G: Gate + Sync>(
     rt: &R,
     alloc: Global,
@@ -260,6 +315,6 @@ pub fn oa_main<R: Threads + Sync, S: Source, K: Sink, G: Gate + Sync>(
         × IsSaid (K.written out.old) (K.written out.new) (K.faults out.old) (K.faults out.new) (text_for verdict) (status_for verdict) result }
     ensures told { FaultsAreTold (S.faults input.old) (S.faults input.new) (K.faults out.old) (K.faults out.new) result }
 {
-    let verdict = judge(alloc, words, input);
+    let verdict = judge(rt, alloc, words, input, gate);
     say(out, &verdict)
 }

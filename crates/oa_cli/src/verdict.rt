@@ -3,14 +3,13 @@
 use line_words::fault::ParseFault;
 use norm_check::Refusal;
 use norm_lang::text::{ByteText, Text};
-use script_driver::caller::CoreState;
-use script_driver::plan::Plan;
+use script_driver::Report;
 
 /// What was read and judged.
 #[derive(Debug, Drop)]
 pub enum Verdict {
-    /// The plan of the document was run to this state.
-    Answered(Plan, CoreState),
+    /// The answers to the document's calls.
+    Answered(Report),
     /// The document's text is in normal form.
     Accepted,
     /// The canonical spelling of the document's text.
@@ -26,7 +25,7 @@ pub enum Verdict {
     BadDocument(ParseFault),
     /// The document's text isn't in normal form, and this is why.
     Refused(Text, Refusal),
-    /// The document can't be run yet.
-    OtherForm,
+    /// The document can't be run as it is: what is wrong with its shape, by its number, and where.
+    BadShape { number: u8, at: u64 },
     Memory,
 }

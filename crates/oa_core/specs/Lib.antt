@@ -4,3 +4,5 @@ pub mod Tables
 pub mod Callers
 pub mod States
 pub mod Steps
+pub mod Finals
+pub mod Shown

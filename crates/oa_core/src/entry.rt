@@ -8,12 +8,16 @@ ghost use Rattle.caller_steps.specs.Asking.{located_option};
 ghost use Rattle.caller_steps.specs.Lawful.{Told};
 ghost use Rattle.caller_steps.specs.Wants.{wants};
 ghost use Rattle.caller_steps.specs.After.{after, taken};
+ghost use Rattle.core_runs.specs.Replays.{is_spent, stands_at_check, kind_wanted};
 ghost use Rattle.oa_core.specs.Callers.{BelongsTo, BelongsToAll, BelongsToSome, StaysWithAll, IsInRow};
 
+use crate::kinds::{first_field, instr_at, is_check, kind_at};
+use crate::loaded::LoadedTarget;
 use crate::prepared::{Prepared, kept};
 use barrier_check::Barred;
-use caller_steps::{Call, Entry as State, Reply, Setting};
+use caller_steps::{Call, Entry as State, Reply, Routine, Setting};
 use phase_pools::access::Access;
+use schedule_turns::StepKind;
 use std::alloc::{AllocError, Global};
 use std::marker::Model;
 
@@ -90,6 +94,16 @@ impl Entry {
         self.pending_in(&Prepared::new(barred), setting)
     }
 
+    /// `pending` of a loaded target.
+    pub fn pending_on(&self, loaded: &LoadedTarget, setting: &Setting) -> Option<Access>
+        requires belongs { BelongsTo loaded.now setting.now self.now.core }
+        ensures wanted { result ≡ located_option setting.now.sizes (wants loaded.now.target self.now.core) }
+        ensures idle { is_some result ≡ not (is_idle self.now.core.routine) }
+        ensures row { IsInRow setting.now result }
+    {
+        self.pending_in(&loaded.prepared(), setting)
+    }
+
     /// `pending` for many steps of one target.
     pub(crate) fn pending_in(&self, prepared: &Prepared, setting: &Setting) -> Option<Access>
         requires belongs { BelongsTo prepared.now setting.now self.now.core }
@@ -113,6 +127,17 @@ impl Entry {
         self.accept_in(&Prepared::new(barred), setting, word);
     }
 
+    /// `accept` of a loaded target.
+    pub fn accept_on(&mut self, loaded: &LoadedTarget, setting: &Setting, word: u64)
+        requires belongs { BelongsTo loaded.now setting.now self.old.core }
+        requires wanted { wants loaded.now.target self.old.core ≢ None }
+        requires lawful { Told loaded.now.target setting.now (wants loaded.now.target self.old.core) word }
+        ensures after { self.new ≡ record self.old { core = after loaded.now.target setting.now self.old.core word } }
+        ensures belongs { BelongsTo loaded.now setting.now self.new.core }
+    {
+        self.accept_in(&loaded.prepared(), setting, word);
+    }
+
     /// `accept` for many steps of one target.
     pub(crate) fn accept_in(&mut self, prepared: &Prepared, setting: &Setting, word: u64)
         requires belongs { BelongsTo prepared.now setting.now self.old.core }
@@ -123,6 +148,44 @@ impl Entry {
     {
         setting.kept();
         self.state.accept(&prepared.program(), setting, word);
+    }
+
+    /// Whether so many steps were made for the call that runs that it takes no more.
+    pub(crate) fn is_spent(&self, fuel: u64) -> bool
+        ensures { result ≡ is_spent fuel self.now.core }
+    {
+        !self.is_idle() && fuel <= self.state.running.steps
+    }
+
+    /// Whether the entry stands at a check.
+    fn stands_at_check(&self, prepared: &Prepared) -> bool
+        ensures { result ≡ stands_at_check prepared.now.target self.now.core self.now.core.routine }
+    {
+        match self.state.routine {
+            Routine::At => {
+                let code = prepared
+                    .program()
+                    .code(self.state.running.call.op, self.state.hand.wrapup);
+                is_check(instr_at(code, self.state.hand.at))
+            }
+            _ => false,
+        }
+    }
+
+    /// The kind of the access that the entry makes next, where turns count it.
+    pub(crate) fn kind_wanted(&self, prepared: &Prepared, setting: &Setting) -> Option<StepKind>
+        requires belongs { BelongsTo prepared.now setting.now self.now.core }
+        ensures { result ≡ kind_wanted prepared.now.target self.now.core }
+    {
+        setting.kept();
+        let _ = prepared.program();
+        if self.stands_at_check(prepared) {
+            return Some(StepKind::Check);
+        }
+        match self.pending_in(prepared, setting) {
+            None => None,
+            Some(access) => kind_at(first_field(setting), access),
+        }
     }
 
     /// The caller's number, from 0 on.

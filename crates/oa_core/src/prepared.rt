@@ -2,6 +2,7 @@
 
 ghost use Rattle.std.specs.Prelude.{◌≡◌, ◌<◌, length, slice_get};
 ghost use Rattle.barrier_check.specs.Paired.{IsSound};
+ghost use Rattle.caller_steps.specs.Clearing.{KeptIs};
 ghost use Rattle.oa_core.specs.Tables.{keeps_at, row_at, table_of};
 
 use barrier_check::Barred;
@@ -62,7 +63,7 @@ fn row_at(barred: &Barred, op: u8) -> [bool; 8]
 }
 
 /// A target has no more than sixteen operations.
-fn table_of(barred: &Barred) -> [[bool; 8]; 16]
+pub(crate) fn table_of(barred: &Barred) -> [[bool; 8]; 16]
     ensures { result ≡ table_of barred.now.target }
 {
     [
@@ -101,6 +102,21 @@ impl<'a> Prepared<'a> {
     {
         kept(barred);
         let rows = table_of(barred);
+        Prepared { barred, rows }
+    }
+
+    /// The target with its source.
+    pub(crate) fn barred(&self) -> &'a Barred
+        ensures { result.now ≡ self.now }
+    {
+        self.barred
+    }
+
+    /// Over a table that was made before.
+    pub(crate) fn over(barred: &'a Barred, rows: [[bool; 8]; 16]) -> Prepared<'a>
+        requires { KeptIs barred.now.target rows }
+        ensures { result ≡ barred.now }
+    {
         Prepared { barred, rows }
     }
 

@@ -1,10 +1,10 @@
 //! The words of a row, in a vector.
 
-ghost use Rattle.std.specs.Prelude.{◌≡◌, ◌++◌, ◌+◌, IfOk, map, replicate, flat_map};
+ghost use Rattle.std.specs.Prelude.{◌≡◌, ◌++◌, ◌+◌, IfOk, map, replicate, flat_map, slice_index};
 ghost use Rattle.oa_words.specs.Packed.{status_word};
 ghost use Rattle.oa_words.specs.Starts.{start_kind, start_statuses};
 ghost use Rattle.caller_steps.specs.Settings.{Fits};
-ghost use Rattle.core_runs.specs.Machine.{value_word, node_words, root_word, beginning_of, core_start};
+ghost use Rattle.core_runs.specs.Machine.{value_word, node_words, root_word, core_start};
 ghost use Rattle.oa_core.specs.Starts.{caller_words, slot_words};
 
 use crate::port::{Port, answer_to, at_of, left_by};
@@ -146,6 +146,20 @@ impl PlainWords {
         put_callers(&mut words, setting)?;
         put_slots(&mut words, barred.target(), setting)?;
         Ok(PlainWords { words })
+    }
+
+    /// The first word, which is the phase.
+    pub(crate) fn phase(&self) -> u64
+        ensures { result ≡ slice_index self.now 0 }
+    {
+        self.words.items().first().copied().unwrap_or(0)
+    }
+
+    /// The words, in the order of their addresses.
+    pub fn words(&self) -> &[u64]
+        ensures { result.now ≡ self.now }
+    {
+        self.words.items()
     }
 }
 

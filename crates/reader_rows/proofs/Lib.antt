@@ -1,2 +1,1 @@
-mod FewLines
 mod FirstWords

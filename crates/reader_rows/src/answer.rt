@@ -4,16 +4,15 @@ ghost use Rattle.std.specs.Prelude.{◌+◌, ◌<◌, ◌≤◌, ◌^◌, length
 ghost use Rattle.oa_text.specs.Lines.{lines_of};
 
 use crate::contents::contents;
-use crate::error::RowError;
 use crate::flaws::flaws_answer;
 use crate::instruction::instruction_answer;
-use crate::limits::few;
 use crate::row::{Judge, Reader, Row};
 use crate::rules::{path_answer, rule_answer};
 use documents::read_document;
 use line_words::fault::ParseError;
 use norm_lang::show;
 use norm_parser::{parse, parse_front, parse_head};
+use row_spelling::{RowError, few, one_line};
 use std::alloc::Global;
 use target_code::show_target;
 use target_reader::read_target;
@@ -50,21 +49,12 @@ where
     }
 }
 
-/// A spelling in one line, with `|` for a newline.
-fn one_line(alloc: Global, spelling: &[u8]) -> Result<String, RowError> {
-    let mut line = String::new(alloc);
-    for b in spelling {
-        line.push(if *b == b'\n' { '|' } else { *b as char })?;
-    }
-    Ok(line)
-}
-
 /// The canonical spelling of a text, or the fault.
 fn text_shown(alloc: Global, bytes: &[u8]) -> Result<String, RowError>
     requires { length (lines_of bytes.now) + 1 < 2 ^ 32 }
 {
     match parse(alloc, bytes) {
-        Ok(text) => one_line(alloc, show(alloc, &text)?.items()),
+        Ok(text) => Ok(one_line(alloc, show(alloc, &text)?.items())?),
         Err(error) => refused(alloc, error),
     }
 }
@@ -84,7 +74,7 @@ fn document_text(alloc: Global, bytes: &[u8]) -> Result<String, RowError>
     requires { length (lines_of bytes.now) + 1 < 2 ^ 32 }
 {
     match read_document(alloc, bytes) {
-        Ok(document) => one_line(alloc, show(alloc, &document.text)?.items()),
+        Ok(document) => Ok(one_line(alloc, show(alloc, &document.text)?.items())?),
         Err(error) => refused(alloc, error),
     }
 }
@@ -94,7 +84,7 @@ fn target_shown(alloc: Global, bytes: &[u8]) -> Result<String, RowError>
     requires { length (lines_of bytes.now) + 1 < 2 ^ 32 }
 {
     match read_target(alloc, bytes) {
-        Ok(target) => one_line(alloc, show_target(alloc, &target)?.items()),
+        Ok(target) => Ok(one_line(alloc, show_target(alloc, &target)?.items())?),
         Err(error) => refused(alloc, error),
     }
 }

@@ -1,7 +1,7 @@
 //! What a document says besides its text, in one line.
 
-use crate::error::RowError;
 use documents::{Document, Script};
+use row_spelling::RowError;
 use schedule_turns::{StepKind, Turn};
 use std::alloc::{AllocError, Global};
 use std::fmt::Write;

@@ -1,7 +1,7 @@
 //! The flaws of an instruction of a target's operation.
 
-use crate::error::RowError;
 use crate::rules::listed;
+use row_spelling::RowError;
 use std::alloc::Global;
 use target_code::target::{TargetInstr, TargetOp};
 use target_flaws::{Needs, TargetFacts, flaws};

@@ -7,10 +7,10 @@ ghost use Rattle.oa_text.specs.Tokens.{words_of};
 ghost use Rattle.norm_parser.specs.Instruction.{are_skipped, AreFrom};
 
 use crate::answer::refused;
-use crate::error::RowError;
 use norm_lang::shipped_queue;
 use norm_parser::parse_instr;
 use oa_text::{Line, Lines, lines};
+use row_spelling::RowError;
 use std::alloc::Global;
 
 /// Whether a line stands for something: its first byte is of a word that isn't a comment.

@@ -7,17 +7,13 @@
 
 mod answer;
 mod contents;
-mod error;
 mod flaws;
 mod instruction;
-mod limits;
 mod row;
 mod rules;
-mod spelling;
 
-use crate::error::RowError;
 use crate::row::Row;
-use crate::spelling::{NamedLines, spelled};
+use row_spelling::{NamedLines, RowError, named_lines, spelled};
 use std::alloc::Global;
 use std::io::{self, BufRead, BufReader};
 
@@ -41,15 +37,6 @@ fn written(alloc: Global, named: &[NamedLines], line: &str) -> io::Result<String
         Err(RowError::Wrong) => Ok(format!(in alloc; "wrong row: {line}")?),
         Err(RowError::Memory(error)) => Err(error.into()),
     }
-}
-
-/// The lines that a line of the input names.
-fn named_lines(alloc: Global, named: &[NamedLines], line: &str) -> Result<NamedLines, RowError> {
-    let (name, spelling) = line.split_once(' ').ok_or(RowError::Wrong)?;
-    Ok(NamedLines {
-        name: String::from_str(alloc, name)?,
-        bytes: spelled(alloc, named, spelling)?,
-    })
 }
 
 fn main(rt: HostRuntime) -> io::Result<()> {

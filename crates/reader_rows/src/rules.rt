@@ -3,7 +3,6 @@
 ghost use Rattle.norm_paths.specs.Found.{IsSized};
 ghost use Rattle.std.specs.Prelude.{IsTrue};
 
-use crate::error::RowError;
 use crate::row::Judge;
 use norm_check::ends::has_wrong_end;
 use norm_check::kinds::{computes_on_reference, has_wrong_kind};
@@ -15,6 +14,7 @@ use norm_paths::path_rules::{
     exchanges_kept, follows_kept, has_wrong_put, leaks_fresh, loops_blindly, makes_nodes_again,
     reads_unset, sets_kept, shows_fresh,
 };
+use row_spelling::RowError;
 use std::alloc::{AllocError, Global};
 
 /// The rules over paths.

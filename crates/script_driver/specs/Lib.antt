@@ -1,10 +1,5 @@
-pub use Rattle.documents.specs.DocumentRead
-pub mod FirstText
-pub mod FirstCalls
-pub mod FirstForm
-pub mod Caller
-pub mod Placed
-pub mod Run
-pub mod Answers
-pub mod Image
-pub mod SourceRun
+pub mod Reports
+pub mod Texts
+pub mod Runs
+pub mod Blanks
+pub mod PlanRuns

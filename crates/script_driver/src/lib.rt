@@ -1,17 +1,13 @@
-//! Documents, and the first form of them: its plan, the run of its calls, and their answers.
+//! Documents that are run or replayed: the answer to each call of their scripts, and the text that tells it.
 #![tactic(auto)]
 
-mod accepted;
-pub mod answers;
-pub mod caller;
-mod first_form;
-mod first_text;
-pub mod laws;
-mod memory;
-pub mod plan;
-pub mod run;
-mod wanted;
+mod building;
+mod printing;
+mod report;
+mod running;
 
 pub use documents::{Document, Numbers, Script, ScriptCall, Scripts, Turns, read_document};
-pub use first_form::first_plan;
-pub use first_text::fits;
+pub use printing::{is_partial, show_report};
+pub use report::{Answer, Report, ReportLine, ReportLines};
+pub use running::{replay_document, run_document};
+pub use script_plans::{RunFault, ShapeFault};

@@ -20,6 +20,3 @@ returns-in-WriteFault-clause-bytes g c = rw c.in-WriteFault.is c.write_all-in-Wr
 
 pub returns-in-Memory-clause-bytes : goal.returns-in-Memory-clause-bytes
 returns-in-Memory-clause-bytes g c = rw c.in-Memory.is c.write_all-in-Memory.ensures.bytes
-
-pub returns-in-Unbuilt-clause-bytes : goal.returns-in-Unbuilt-clause-bytes
-returns-in-Unbuilt-clause-bytes g c = rw c.in-Unbuilt.is c.write_all-in-Unbuilt.ensures.bytes

@@ -1,0 +1,401 @@
+-- A call of an operation with one `new`: it claims at most once before it has published, and past that it claims no more.
+use Rattle.std.proofs.Common.{◌≡◌, ◌≢◌, ◌⊎◌, inl, inr, ⊎_elim, ℕ, zero, suc, ◌+◌, ◌-◌, ◌^◌, ◌≤◌, ◌<◌, ◌==◌, Bool, true, false, List, [], ◌∷◌, ◌++◌, length, set, Option, Some, None, refl, sym, ◌∙◌, ap, subst, arith, if◌then◌else◌, get_or-set_same}
+use Rattle.std.specs.Prelude.{slice_get, slice_index}
+use Rattle.std.proofs.lemmas.List.{append_assoc}
+use native.Mathlib.Decide.{ℕ_discrete}
+use mathlib.Core.Logic.{dite}
+use Rattle.norm_lang.specs.declared.text.Reg.{Reg}
+use Rattle.norm_lang.specs.declared.text.Instr.{Instr}
+use Rattle.norm_lang.specs.declared.text.Instr.TheVariants as instr
+use Rattle.target_code.specs.declared.target.TargetInstr.{TargetInstr}
+use Rattle.target_code.specs.declared.target.TargetInstr.TheVariants.{Plain, Check, Guard}
+use Rattle.target_code.specs.declared.target.TargetOp.{TargetOp}
+use Rattle.target_code.specs.declared.target.Target.{Target}
+use Rattle.target_code.specs.TargetLimits.{target_news_in}
+use Rattle.phase_pools.specs.declared.access.ClaimEnd.{ClaimEnd}
+use Rattle.phase_pools.specs.declared.access.ClaimEnd.TheVariants as ends
+use Rattle.phase_pools.specs.Pools.{Claim, ClaimTurn, claim_accepts}
+use Rattle.caller_steps.specs.declared.call.Reply.{Reply}
+use Rattle.caller_steps.specs.declared.call.Reply.TheVariants as replies
+use Rattle.caller_steps.specs.declared.call.Replied.{Replied}
+use Rattle.caller_steps.specs.declared.call.Running.{Running}
+use Rattle.caller_steps.specs.declared.routine.MethodStart.{MethodStart}
+use Rattle.caller_steps.specs.declared.routine.MethodStart.TheVariants as starts
+use Rattle.caller_steps.specs.declared.routine.AfterRetire.{AfterRetire}
+use Rattle.caller_steps.specs.declared.routine.AfterRetire.TheVariants as retires
+use Rattle.caller_steps.specs.declared.routine.Routine.{Routine}
+use Rattle.caller_steps.specs.declared.routine.Routine.TheVariants.{Idle, LoadSeen, At, InList, Retires, Restarts, Clears, Claims, Zeroes}
+use Rattle.caller_steps.specs.Pairing.{replied_by}
+use Rattle.caller_steps.specs.Settings.{Setting}
+use Rattle.caller_steps.specs.Entries.{Entry, is_idle, one_more}
+use Rattle.caller_steps.specs.Operands.{code_in, cradle_of, instr_in, is_new_at, method_code, new_number, news_before}
+use Rattle.caller_steps.specs.Signs.{Moved}
+use Rattle.caller_steps.specs.After.{after, counted, claim_on, is_wrap_up}
+use Rattle.caller_steps.specs.Belongs.{Belongs, RunsAt, Stands}
+use Rattle.core_runs.specs.Advances.{RunsOn, Ends}
+use Rattle.core_runs.proofs.Turning.{after_turns}
+use Rattle.target_runs.specs.Sane.{SaneAt}
+use Rattle.caller_laws.proofs.Methods.{Methods}
+use Rattle.caller_laws.proofs.Equations.{after_is, moved_claims}
+use Rattle.caller_laws.proofs.Stopping.{site_of}
+use Rattle.caller_laws.proofs.Going.{new_below}
+use Rattle.caller_laws.proofs.Pools.{ClaimOn}
+use Rattle.claim_laws.specs.CallSteps.{StepMade}
+use Rattle.claim_laws.specs.Publishing.{news_of, news_of_call, HasFewNews, Publishes}
+use Rattle.claim_laws.proofs.Answering.{IsAnswer, IsBefore, IsNoClaim, StandsAfter, after_answers}
+use Rattle.claim_laws.proofs.Onward.{ClaimStarts, KeepsFrom, Keeps, IsPastAt, IsPast, StepKeeps, after_keeps}
+
+-- ---- at a `new`
+
+new_there : (o : Option TargetInstr) → is_new_at o ≡ true → (d : Reg) × (o ≡ Some (Plain (instr.New d)))
+new_there (Some (Plain (instr.New d))) is = (d, refl)
+new_there None is = absurd (let z : false ≡ true = is in cc)
+new_there (Some Check) is = absurd (let z : false ≡ true = is in cc)
+new_there (Some (Guard r)) is = absurd (let z : false ≡ true = is in cc)
+new_there (Some (Plain (instr.Set d n))) is = absurd (let z : false ≡ true = is in cc)
+new_there (Some (Plain (instr.Mov d a))) is = absurd (let z : false ≡ true = is in cc)
+new_there (Some (Plain (instr.Add d a b))) is = absurd (let z : false ≡ true = is in cc)
+new_there (Some (Plain (instr.Sub d a b))) is = absurd (let z : false ≡ true = is in cc)
+new_there (Some (Plain (instr.Rem d a n))) is = absurd (let z : false ≡ true = is in cc)
+new_there (Some (Plain (instr.Mark d a))) is = absurd (let z : false ≡ true = is in cc)
+new_there (Some (Plain (instr.Unmark d a))) is = absurd (let z : false ≡ true = is in cc)
+new_there (Some (Plain (instr.Null d))) is = absurd (let z : false ≡ true = is in cc)
+new_there (Some (Plain (instr.Jump l))) is = absurd (let z : false ≡ true = is in cc)
+new_there (Some (Plain (instr.IfEq a b l))) is = absurd (let z : false ≡ true = is in cc)
+new_there (Some (Plain (instr.IfLess a b l))) is = absurd (let z : false ≡ true = is in cc)
+new_there (Some (Plain (instr.IfMarked a l))) is = absurd (let z : false ≡ true = is in cc)
+new_there (Some (Plain (instr.LoadRoot d x))) is = absurd (let z : false ≡ true = is in cc)
+new_there (Some (Plain (instr.LoadPick d x n a))) is = absurd (let z : false ≡ true = is in cc)
+new_there (Some (Plain (instr.LoadField d a f))) is = absurd (let z : false ≡ true = is in cc)
+new_there (Some (Plain (instr.Put a f b))) is = absurd (let z : false ≡ true = is in cc)
+new_there (Some (Plain (instr.Cas exchange l))) is = absurd (let z : false ≡ true = is in cc)
+new_there (Some (Plain (instr.Commit exchanges))) is = absurd (let z : false ≡ true = is in cc)
+new_there (Some (Plain (instr.Return a))) is = absurd (let z : false ≡ true = is in cc)
+new_there (Some (Plain instr.ReturnNone)) is = absurd (let z : false ≡ true = is in cc)
+new_there (Some (Plain instr.Again)) is = absurd (let z : false ≡ true = is in cc)
+
+generator_news : (o : Option TargetOp) → target_news_in (method_code o false) ≡ news_of o
+generator_news None = refl
+generator_news (Some op) = refl
+
+module _ (target : Target) (setting : Setting) (sane : Methods target) where
+  -- a caller that claims is in a generator, at one of its `new`
+  pub claims_at_new : (e : Entry) (claim : Claim) → Belongs target setting e → e.routine ≡ Claims claim → (e.hand.wrapup ≡ false) × (new_number target e < news_of_call target e.running.call)
+  claims_at_new e claim b is = (in_generator, subst (λ (n : ℕ). new_number target e < n) count below) where
+    stands : is_new_at (instr_in target e) ≡ true
+    stands = let all : Stands target setting e (Claims claim) = subst (Stands target setting e) is b.stands in all.0
+
+    there : (d : Reg) × (instr_in target e ≡ Some (Plain (instr.New d)))
+    there = new_there (instr_in target e) stands
+
+    site : SaneAt target e.hand.wrapup (code_in target e) e.hand.at (Plain (instr.New there.0))
+    site = site_of target e setting.sizes.slots (Plain (instr.New there.0)) sane (record { reached = subst (RunsAt target e) is b.reaches; names = b.hand.registers }) there.1
+
+    in_generator : e.hand.wrapup ≡ false
+    in_generator = site.own.news refl
+
+    below : news_before (code_in target e) e.hand.at < target_news_in (code_in target e)
+    below = new_below (code_in target e) e.hand.at there.0 there.1
+
+    count : target_news_in (code_in target e) ≡ news_of_call target e.running.call
+    count = ap (λ (w : Bool). target_news_in (method_code (slice_get target.ops e.running.call.op) w)) in_generator ∙ generator_news (slice_get target.ops e.running.call.op)
+
+  -- a caller of a wrap-up claims nothing
+  past_of_wrap : (e : Entry) → Belongs target setting e → e.hand.wrapup ≡ true → IsPast e ⊎ (is_idle e.routine ≡ true)
+  past_of_wrap e b w = of e.routine refl where
+    of : (routine : Routine) → e.routine ≡ routine → IsPast e ⊎ (is_idle e.routine ≡ true)
+    of Idle is = inr (ap is_idle is)
+    of (Claims claim) is = absurd (let z : true ≡ false = sym w ∙ (claims_at_new e claim b is).0 in cc)
+    of (LoadSeen why) is = inl (subst (IsPastAt e) (sym is) w)
+    of At is = inl (subst (IsPastAt e) (sym is) w)
+    of (InList k) is = inl (subst (IsPastAt e) (sym is) tt)
+    of (Retires retirement retires.Next) is = inl (subst (IsPastAt e) (sym is) w)
+    of (Retires retirement (retires.List k)) is = inl (subst (IsPastAt e) (sym is) tt)
+    of Restarts is = inl (subst (IsPastAt e) (sym is) w)
+    of (Clears next) is = inl (subst (IsPastAt e) (sym is) w)
+    of (Zeroes k field) is = inl (subst (IsPastAt e) (sym is) w)
+
+-- ---- credits
+
+-- a call that got an answer may have claimed for each of its `new`
+abbrev pub credit : Target → Replied → Reply → ℕ
+credit target r (replies.Number n) = news_of_call target r.call
+credit target r replies.Nothing = news_of_call target r.call
+credit target r replies.Full = 0
+credit target r (replies.Phases p) = 0
+
+abbrev pub credits : Target → List Replied → ℕ
+credits target [] = 0
+credits target (r ∷ given) = credit target r r.reply + credits target given
+
+credits_more : (target : Target) (given : List Replied) (r : Replied) → credits target (given ++ r ∷ []) ≡ credits target given + credit target r r.reply
+credits_more target [] r = omega arith
+credits_more target (x ∷ given) r = let rest = credits_more target given r in omega (arith, rest)
+
+answer_credit : (target : Target) (run : Running) (reply : Reply) → IsAnswer reply → credit target (replied_by reply run) reply ≡ news_of_call target run.call
+answer_credit target run (replies.Number n) is = refl
+answer_credit target run replies.Nothing is = refl
+answer_credit target run replies.Full is = absurd is
+answer_credit target run (replies.Phases p) is = absurd is
+
+-- ---- where a call stands
+
+-- it has published
+pub record HasPublished (target : Target) (setting : Setting) (steps : List StepMade) : Type 0 where
+  pub before : List StepMade
+  pub step : StepMade
+  pub later : List StepMade
+  pub among : steps ≡ before ++ step ∷ later
+  pub publishes : Publishes target setting step
+
+abbrev NoClaim : Routine → Type 0
+NoClaim (Claims claim) = ⊥
+NoClaim _ = Unit {0}
+
+-- the one cradle holds its slot
+abbrev Holds : Entry → Type 0
+Holds e = (cradle_of e 0 ≢ 0) × NoClaim e.routine
+
+-- it has claimed nothing, or it has claimed once and holds the slot, or it has published the node and is past its generator
+abbrev HasClaimed : Target → Setting → Entry → List StepMade → Type 0
+HasClaimed target setting e steps =
+    (e.counts.claims ≤ credits target e.replies + 1) × (1 ≤ news_of_call target e.running.call) × (Holds e ⊎ (HasPublished target setting steps × IsPast e))
+
+abbrev pub Standing : Target → Setting → Entry → List StepMade → Type 0
+Standing target setting e steps = (e.counts.claims ≤ credits target e.replies) ⊎ HasClaimed target setting e steps
+
+-- what a step makes of it
+pub record Ended (target : Target) (e later : Entry) : Type 0 where
+  pub reply : Reply
+  pub idle : is_idle later.routine ≡ true
+  pub given : later.replies ≡ e.replies ++ replied_by reply (counted e).running ∷ []
+  pub claims : later.counts.claims ≤ credits target later.replies
+  pub full : reply ≡ replies.Full → 1 ≤ news_of_call target e.running.call
+
+pub record Going (target : Target) (setting : Setting) (e later : Entry) (steps : List StepMade) : Type 0 where
+  pub busy : is_idle later.routine ≡ false
+  pub given : later.replies ≡ e.replies
+  pub stands : Standing target setting later steps
+
+module _ (target : Target) (setting : Setting) (sane : Methods target) (few : HasFewNews target) (e : Entry) (word : ℕ) (steps : List StepMade) where
+  abbrev s : StepMade
+  s = record { entry = e; found = word }
+
+  abbrev all : List StepMade
+  all = steps ++ s ∷ []
+
+  abbrev later : Entry
+  later = after target setting e word
+
+  published_on : HasPublished target setting steps → HasPublished target setting all
+  published_on p = record {
+    before = p.before;
+    step = p.step;
+    later = p.later ++ s ∷ [];
+    among = ap (λ (l : List StepMade). l ++ s ∷ []) p.among ∙ append_assoc p.before (p.step ∷ p.later) (s ∷ []);
+    publishes = p.publishes;
+  }
+
+  -- the one `new` of an operation has number 0
+  only_new : (x : Entry) (claim : Claim) → Belongs target setting x → x.routine ≡ Claims claim → (new_number target x ≡ 0) × (1 ≤ news_of_call target x.running.call)
+  only_new x claim b is = let lt = (claims_at_new target setting sane x claim b is).1 in let most = few x.running.call.op in (omega (arith, lt, most), omega (arith, lt))
+
+  module _ (b : Belongs target setting e) (b_later : Belongs target setting later) (busy : is_idle e.routine ≡ false) (before : IsBefore e.routine)
+      (never : e.routine ≡ LoadSeen starts.Again → HasPublished target setting steps → ⊥) (standing : Standing target setting e steps) where
+    turns : RunsOn (counted e) later ⊎ Ends (counted e) later
+    turns = after_turns target setting e word busy
+
+    -- ---- a step that isn't one of a claim
+
+    module _ (plain : IsNoClaim e.routine) where
+      answers : (later.counts.claims ≡ e.counts.claims) × StandsAfter setting.sizes (counted e) later later.routine
+      answers = after_answers target setting e word before plain
+
+      -- it ends with an answer
+      ends_so : is_idle later.routine ≡ true → Ended target e later
+      ends_so idle = by later.routine refl answers.1 where
+        by : (routine : Routine) → later.routine ≡ routine → StandsAfter setting.sizes (counted e) later routine → Ended target e later
+        by Idle is stands = record {
+          reply = stands.0;
+          idle = idle;
+          given = stands.2;
+          claims = within standing;
+          full = λ full. absurd (no_full stands.0 stands.1 full);
+        } where
+          no_full : (reply : Reply) → IsAnswer reply → reply ≡ replies.Full → ⊥
+          no_full (replies.Number n) answer e = cc
+          no_full replies.Nothing answer e = cc
+          no_full replies.Full answer e = answer
+          no_full (replies.Phases p) answer e = answer
+
+          sum : credits target later.replies ≡ credits target e.replies + news_of_call target e.running.call
+          sum = ap (credits target) stands.2 ∙ (credits_more target e.replies (replied_by stands.0 (counted e).running) ∙ ap (λ (n : ℕ). credits target e.replies + n) (answer_credit target (counted e).running stands.0 stands.1))
+
+          within : Standing target setting e steps → later.counts.claims ≤ credits target later.replies
+          within (inl le) = let same = answers.0 in omega (arith, le, same, sum)
+          within (inr claimed) = let same = answers.0 in let le = claimed.0 in let some = claimed.1 in omega (arith, le, some, same, sum)
+        by (LoadSeen why) is stands = absurd (let z : false ≡ true = sym (ap is_idle is) ∙ idle in cc)
+        by At is stands = absurd (let z : false ≡ true = sym (ap is_idle is) ∙ idle in cc)
+        by (InList k) is stands = absurd (let z : false ≡ true = sym (ap is_idle is) ∙ idle in cc)
+        by (Retires retirement go) is stands = absurd (let z : false ≡ true = sym (ap is_idle is) ∙ idle in cc)
+        by Restarts is stands = absurd (let z : false ≡ true = sym (ap is_idle is) ∙ idle in cc)
+        by (Clears next) is stands = absurd (let z : false ≡ true = sym (ap is_idle is) ∙ idle in cc)
+        by (Claims claim) is stands = absurd (let z : false ≡ true = sym (ap is_idle is) ∙ idle in cc)
+        by (Zeroes k field) is stands = absurd (let z : false ≡ true = sym (ap is_idle is) ∙ idle in cc)
+
+      -- it goes on: what is left to say is whether it still holds its slot or is past its generator
+      goes_so : RunsOn (counted e) later → (Holds e → Holds later ⊎ (HasPublished target setting all × IsPast later)) → (HasPublished target setting steps → IsPast e → IsPast later) → Going target setting e later all
+      goes_so runs holds past = record { busy = runs.0; given = runs.1; stands = by standing } where
+        same : later.counts.claims ≡ e.counts.claims
+        same = answers.0
+
+        given : credits target later.replies ≡ credits target e.replies
+        given = ap (credits target) runs.1
+
+        news : news_of_call target later.running.call ≡ news_of_call target e.running.call
+        news = ap (λ (run : Running). news_of_call target run.call) runs.2
+
+        by : Standing target setting e steps → Standing target setting later all
+        by (inl le) = inl (omega (arith, le, same, given))
+        by (inr claimed) = inr (
+          (let le = claimed.0 in omega (arith, le, same, given)),
+          (let some = claimed.1 in omega (arith, some, news)),
+          ⊎_elim
+              (λ (t : Holds e). holds t)
+              (λ (t : HasPublished target setting steps × IsPast e). inr (published_on t.0, past t.0 t.1))
+              claimed.2,
+        )
+
+      -- its cradles are those before, and where it claims now its cradle is empty
+      holds_on : later.cradles ≡ e.cradles → ClaimStarts target later later.routine → Holds e → Holds later
+      holds_on same starts holds = (full, by later.routine refl starts) where
+        full : cradle_of later 0 ≢ 0
+        full = subst (λ (l : List ℕ). slice_index l 0 ≢ 0) (sym same) holds.0
+
+        by : (routine : Routine) → later.routine ≡ routine → ClaimStarts target later routine → NoClaim later.routine
+        by (Claims claim) is empty = absurd (full (ap (cradle_of later) (sym (only_new later claim b_later is).0) ∙ empty))
+        by Idle is empty = subst NoClaim (sym is) tt
+        by (LoadSeen why) is empty = subst NoClaim (sym is) tt
+        by At is empty = subst NoClaim (sym is) tt
+        by (InList k) is empty = subst NoClaim (sym is) tt
+        by (Retires retirement go) is empty = subst NoClaim (sym is) tt
+        by Restarts is empty = subst NoClaim (sym is) tt
+        by (Clears next) is empty = subst NoClaim (sym is) tt
+        by (Zeroes k field) is empty = subst NoClaim (sym is) tt
+
+      past_busy : is_idle later.routine ≡ false → later.hand.wrapup ≡ true → IsPast later
+      past_busy running w = ⊎_elim (λ (t : IsPast later). t) (λ (t : is_idle later.routine ≡ true). absurd (let z : false ≡ true = sym running ∙ t in cc)) (past_of_wrap target setting sane later b_later w)
+
+      -- a step that keeps cradles and wrap-ups
+      kept_goes : RunsOn (counted e) later → (wrapup : Bool) → KeepsFrom target e.cradles wrapup later → (HasPublished target setting steps → IsPast e → wrapup ≡ true) → Going target setting e later all
+      kept_goes runs wrapup keeps wraps = goes_so runs (λ holds. inl (holds_on keeps.0 keeps.2 holds)) (λ published past. past_busy runs.0 (keeps.1 (wraps published past)))
+
+      no_claim_past : (x : Entry) (routine : Routine) → x.routine ≡ routine → IsPastAt x routine → NoClaim x.routine
+      no_claim_past x (Claims claim) is past = absurd past
+      no_claim_past x Idle is past = subst NoClaim (sym is) tt
+      no_claim_past x (LoadSeen why) is past = subst NoClaim (sym is) tt
+      no_claim_past x At is past = subst NoClaim (sym is) tt
+      no_claim_past x (InList k) is past = subst NoClaim (sym is) tt
+      no_claim_past x (Retires retirement go) is past = subst NoClaim (sym is) tt
+      no_claim_past x Restarts is past = subst NoClaim (sym is) tt
+      no_claim_past x (Clears next) is past = subst NoClaim (sym is) tt
+      no_claim_past x (Zeroes k field) is past = subst NoClaim (sym is) tt
+
+      -- a step of a list, which may publish
+      list_goes : RunsOn (counted e) later → IsPast later → Going target setting e later all
+      list_goes runs past = goes_so runs (λ holds. dite (ℕ_discrete (cradle_of later 0) 0)
+          (λ (empty : cradle_of later 0 ≡ 0). inr (record { before = steps; step = s; later = []; among = refl; publishes = (0, holds.0, empty) }, past))
+          (λ (full : cradle_of later 0 ≢ 0). inl (full, no_claim_past later later.routine refl past)))
+          (λ published was. past)
+
+      busy_goes : RunsOn (counted e) later → Going target setting e later all
+      busy_goes runs = by e.routine refl (after_keeps target setting e word) where
+        kept : (routine : Routine) → e.routine ≡ routine → (IsPastAt e routine → e.hand.wrapup ≡ true) → KeepsFrom target e.cradles e.hand.wrapup later → Going target setting e later all
+        kept routine is wraps keeps = kept_goes runs e.hand.wrapup keeps (λ published past. wraps (subst (IsPastAt e) is past))
+
+        seen : (why : MethodStart) → e.routine ≡ LoadSeen why → KeepsFrom target e.cradles (is_wrap_up why) later → Going target setting e later all
+        seen starts.Begin is keeps = kept_goes runs false keeps
+            (λ published past. absurd (let w : e.hand.wrapup ≡ true = subst (IsPastAt e) is past in
+            let stands : Stands target setting e (LoadSeen starts.Begin) = subst (Stands target setting e) is b.stands in let z : true ≡ false = sym w ∙ stands.0 in cc))
+        seen starts.WrapUp is keeps = kept_goes runs true keeps (λ published past. refl)
+        seen starts.Again is keeps = kept_goes runs false keeps (λ published past. absurd (never is published))
+
+        by : (routine : Routine) → e.routine ≡ routine → StepKeeps target (counted e) later routine → Going target setting e later all
+        by Idle is keeps = absurd (let z : true ≡ false = sym (ap is_idle is) ∙ busy in cc)
+        by (Claims claim) is keeps = absurd (subst IsNoClaim is plain)
+        by (LoadSeen why) is keeps = seen why is keeps
+        by (InList k) is keeps = list_goes runs keeps
+        by (Retires retirement (retires.List k)) is keeps = list_goes runs keeps.1
+        by (Retires retirement retires.Next) is keeps = kept (Retires retirement retires.Next) is (λ w. w) keeps
+        by At is keeps = kept At is (λ w. w) keeps
+        by Restarts is keeps = kept Restarts is (λ w. w) keeps
+        by (Clears next) is keeps = kept (Clears next) is (λ w. w) keeps
+        by (Zeroes k field) is keeps = kept (Zeroes k field) is (λ w. w) keeps
+
+      plain_step : Going target setting e later all ⊎ Ended target e later
+      plain_step = ⊎_elim (λ (t : RunsOn (counted e) later). inl (busy_goes t)) (λ (t : Ends (counted e) later). inr (ends_so t.1)) turns
+
+    -- ---- one of a claim
+
+    module _ (claim : Claim) (there : e.routine ≡ Claims claim) where
+      abbrev turn : ClaimTurn
+      turn = claim_accepts setting.sizes setting.last claim word
+
+      abbrev Outcome : Entry → Type 0
+      Outcome x = Going target setting e x all ⊎ Ended target e x
+
+      later_is : later ≡ (claim_on target turn.claim turn.ended (counted e)).entry
+      later_is = after_is target setting e word ∙ ap (λ (m : Moved). m.entry) (moved_claims target setting e word claim there)
+
+      -- nothing was claimed yet
+      none_yet : Standing target setting e steps → e.counts.claims ≤ credits target e.replies
+      none_yet (inl le) = le
+      none_yet (inr claimed) = ⊎_elim
+          (λ (t : Holds e). absurd (subst NoClaim there t.1))
+          (λ (t : HasPublished target setting steps × IsPast e). absurd (subst (IsPastAt e) there t.1))
+          claimed.2
+
+      by_end : (next : Claim) (o : Option ClaimEnd) → ClaimOn setting o next → Outcome (claim_on target next o (counted e)).entry
+      by_end next None on = inl (record { busy = refl; given = refl; stands = inl (none_yet standing) })
+      by_end next (Some (ends.Claimed j)) on =
+          let only = only_new e claim b there in
+          let few_cradles : 0 < length e.cradles = (let four = b.cradles.count in omega (arith, four)) in
+          let held : slice_index (set e.cradles (new_number target e) j) 0 ≡ j = ap (λ (k : ℕ). slice_index (set e.cradles k j) 0) only.0 ∙ get_or-set_same e.cradles 0 j 0 few_cradles in
+          inl (record {
+            busy = refl;
+            given = refl;
+            stands = inr ((let le = none_yet standing in omega (arith, le)), only.1, inl ((λ null. let z : j ≡ 0 = sym held ∙ null in let low = on.0 in omega (arith, low, z)), tt));
+          })
+      by_end next (Some ends.Full) on = inr (record {
+        reply = replies.Full;
+        idle = refl;
+        given = refl;
+        claims = (let le = none_yet standing in let sum = credits_more target e.replies (replied_by replies.Full (counted e).running) in omega (arith, le, sum));
+        full = λ z. (only_new e claim b there).1;
+      })
+      by_end next (Some (ends.PhasesOver p)) on = inr (record {
+        reply = replies.Phases p;
+        idle = refl;
+        given = refl;
+        claims = (let le = none_yet standing in let sum = credits_more target e.replies (replied_by (replies.Phases p) (counted e).running) in omega (arith, le, sum));
+        full = λ z. absurd cc;
+      })
+
+      claim_step : ClaimOn setting turn.ended turn.claim → Outcome later
+      claim_step on = subst Outcome (sym later_is) (by_end turn.claim turn.ended on)
+
+    pub call_step : ((claim : Claim) → e.routine ≡ Claims claim → (let turn = claim_accepts setting.sizes setting.last claim word in ClaimOn setting turn.ended turn.claim)) → Going target setting e later all ⊎ Ended target e later
+    call_step on = of e.routine refl where
+      plain_by : (routine : Routine) → e.routine ≡ routine → IsNoClaim routine → Going target setting e later all ⊎ Ended target e later
+      plain_by routine is other = plain_step (subst IsNoClaim (sym is) other)
+
+      of : (routine : Routine) → e.routine ≡ routine → Going target setting e later all ⊎ Ended target e later
+      of Idle is = absurd (let z : true ≡ false = sym (ap is_idle is) ∙ busy in cc)
+      of (Claims claim) is = claim_step claim is (on claim is)
+      of (LoadSeen why) is = plain_by (LoadSeen why) is tt
+      of At is = plain_by At is tt
+      of (InList k) is = plain_by (InList k) is tt
+      of (Retires retirement go) is = plain_by (Retires retirement go) is tt
+      of Restarts is = plain_by Restarts is tt
+      of (Clears next) is = plain_by (Clears next) is tt
+      of (Zeroes k field) is = plain_by (Zeroes k field) is tt

@@ -1,0 +1,17 @@
+pub mod Answering
+pub mod Claiming
+pub mod Lasts
+pub mod Causing
+pub mod Following
+pub mod Naming
+pub mod Avoiding
+pub mod Meeting
+pub mod Counting
+pub mod Touching
+pub mod Pooling
+pub mod Filling
+pub mod Tallying
+pub mod Stepping
+pub mod Onward
+pub mod Calling
+pub mod Taking

@@ -1,0 +1,330 @@
+-- What a caller finds and what it writes, where nothing in the row names a slot.
+use Rattle.std.proofs.Common.{◌≡◌, ◌≢◌, ℕ, zero, suc, ◌+◌, ◌≤◌, ◌<◌, ◌==◌, ◌&&◌, ◌||◌, not, Bool, true, false, List, [], ◌∷◌, length, Option, Some, None, refl, sym, ◌∙◌, subst, ap, arith, if◌then◌else◌}
+use Rattle.std.specs.Prelude.{slice_get, nat_le, nat_lt}
+use Rattle.std.specs.List.{All, list_any}
+use Rattle.std.proofs.lemmas.Bool.Decides.{nat_tests}
+use Rattle.norm_lang.specs.declared.text.Reg.{Reg}
+use Rattle.norm_lang.specs.declared.text.Reg.TheVariants.{Num, Ref}
+use Rattle.norm_lang.specs.declared.text.Place.{Place}
+use Rattle.norm_lang.specs.declared.text.Place.TheVariants as places
+use Rattle.norm_lang.specs.declared.text.CasEntry.{CasEntry}
+use Rattle.norm_lang.specs.declared.text.FieldKind.{FieldKind}
+use Rattle.norm_lang.specs.declared.text.Instr.{Instr}
+use Rattle.norm_lang.specs.declared.text.Instr.TheVariants as instr
+use Rattle.norm_lang.specs.declared.registers.Registers.{Registers}
+use Rattle.norm_lang.specs.Registers.{number_in}
+use Rattle.norm_lang.specs.InstructionRules.{holds_number, is_unlike, field_kind, root_kind, place_kind, has_wrong_object, has_wrong_operand, are_roots_of_one_kind}
+use Rattle.norm_lang.specs.Limits.{is_register}
+use Rattle.norm_lang.specs.Local.{remainder}
+use Rattle.target_code.specs.declared.target.TargetInstr.{TargetInstr}
+use Rattle.target_code.specs.declared.target.TargetInstr.TheVariants.{Plain, Check, Guard}
+use Rattle.target_code.specs.declared.target.Target.{Target}
+use Rattle.oa_words.specs.declared.packed.Kind.{Kind}
+use Rattle.oa_words.specs.declared.packed.Kind.TheVariants as statuses
+use Rattle.oa_words.specs.Words.{Word, Phase, Warning, Hazard, Status, FieldOf, Cell}
+use Rattle.oa_words.specs.Packed.{StatusParts, status_parts, status_word}
+use Rattle.guard_words.specs.Guards.{has_slot}
+use Rattle.phase_pools.specs.declared.access.ClaimEnd.{ClaimEnd}
+use Rattle.phase_pools.specs.declared.access.ClaimEnd.TheVariants as ends
+use Rattle.phase_pools.specs.declared.access.SweepEnd.{SweepEnd}
+use Rattle.phase_pools.specs.declared.access.SweepEnd.TheVariants as swept
+use Rattle.phase_pools.specs.declared.stages.SweepStage.{SweepStage}
+use Rattle.phase_pools.specs.declared.stages.SweepStage.TheVariants as sweeps
+use Rattle.phase_pools.specs.declared.stages.ClaimStage.{ClaimStage}
+use Rattle.phase_pools.specs.declared.stages.ClaimStage.TheVariants as claims
+use Rattle.phase_pools.specs.declared.stages.RetireStage.{RetireStage}
+use Rattle.phase_pools.specs.declared.stages.RetireStage.TheVariants as retires
+use Rattle.phase_pools.specs.Accesses.{WordAccess, word_of, word_after, Loads, Stores, Exchanges, Raises}
+use Rattle.phase_pools.specs.Pools.{Sweep, SweepTurn, sweep_begun, sweep_goes, sweep_ends, sweep_on, sweep_accepts, sweep_accepts_at, sweep_wants_at, freeing, status_read, Claim, ClaimTurn, claim_accepts, claim_accepts_at, claim_goes, claim_ends, claim_wants_at, look_on, look_ended, look_kind, look_read, look_took, sweep_ended, retire_wants_at}
+use Rattle.caller_steps.specs.declared.routine.Routine.{Routine}
+use Rattle.caller_steps.specs.declared.routine.Routine.TheVariants.{Idle, LoadSeen, At, InList, Retires, Restarts, Clears, Claims, Zeroes}
+use Rattle.caller_steps.specs.Settings.{Setting}
+use Rattle.caller_steps.specs.Entries.{Entry}
+use Rattle.caller_steps.specs.Operands.{code_in, cradle_of, instr_in, list_of, register_number, slot_in, word_in}
+use Rattle.caller_steps.specs.Clearing.{restart_next, clear_next}
+use Rattle.caller_steps.specs.Wants.{clear_wanted, exchange_wanted, instr_wanted, list_wanted, object_exchange, place_exchange, plain_wanted, wanted, wants}
+use Rattle.caller_steps.specs.Belongs.{Belongs, RunsAt, Stands, has_access}
+use Rattle.target_runs.specs.Sane.{SaneAt}
+use Rattle.caller_laws.proofs.Methods.{Methods}
+use Rattle.caller_laws.proofs.Stopping.{Here, site_of}
+use Rattle.caller_laws.proofs.Going.{pick_kind, remainder_below}
+use Rattle.caller_laws.proofs.Instructions.{parts}
+use Rattle.caller_laws.proofs.Safety.{neither, unnegated, list_there}
+use Rattle.claim_laws.specs.Untouched.{ValueAvoids, WordAvoids, RegistersAvoid, RoutineAvoids, EntryAvoids}
+use Rattle.claim_laws.proofs.Naming.{null, names_other, worded, register_avoids, zero_avoids, gathered}
+use Rattle.claim_laws.proofs.Avoiding.{LoadAvoids, InstrAvoids, ClaimAvoids, StepAvoids}
+
+-- what an access finds doesn't name the slot
+abbrev pub FoundAvoids : Target → ℕ → WordAccess → ℕ → Type 0
+FoundAvoids target j a word = WordAvoids target j (word_of a) word
+
+abbrev pub ToldAvoids : Target → ℕ → Option WordAccess → ℕ → Type 0
+ToldAvoids target j None word = Unit {0}
+ToldAvoids target j (Some a) word = FoundAvoids target j a word
+
+-- nor does what it leaves, then
+abbrev pub LeavesOther : Target → ℕ → Option WordAccess → Type 0
+LeavesOther target j None = Unit {0}
+LeavesOther target j (Some a) = (found : ℕ) → WordAvoids target j (word_of a) found → WordAvoids target j (word_of a) (word_after a found)
+
+-- a claim of the step doesn't end with the slot
+abbrev pub ClaimsOther : Setting → ℕ → ℕ → Routine → Type 0
+ClaimsOther setting j word (Claims claim) = (claim_accepts setting.sizes setting.last claim word).ended ≡ Some (ends.Claimed j) → ⊥
+ClaimsOther setting j word _ = Unit {0}
+
+at_least : (a b : ℕ) → nat_le a b ≡ true → a ≤ b
+at_least a b e = grind (arith, nat_tests)
+
+any_false : {X : Type 0} (p : X → Bool) (xs : List X) (k : ℕ) (x : X) → list_any p xs ≡ false → slice_get xs k ≡ Some x → p x ≡ false
+any_false p [] k x none is = absurd cc
+any_false p (y ∷ ys) zero x none is = let same : y ≡ x = cc in subst (λ z. p z ≡ false) same (neither (p y) (list_any p ys) none).0
+any_false p (y ∷ ys) (suc k) x none is = any_false p ys k x (neither (p y) (list_any p ys) none).1 is
+
+module _ (target : Target) (setting : Setting) (sane : Methods target) (j : ℕ) (some : 1 ≤ j) where
+  -- ---- loads
+
+  plain_found : (e : Entry) (i : Instr) (word : ℕ) → Here setting.sizes.slots target e → instr_in target e ≡ Some (Plain i) → RegistersAvoid j e.hand.registers
+      → ToldAvoids target j (plain_wanted i e.hand.registers) word → LoadAvoids j i word e.hand.registers
+  plain_found e (instr.LoadRoot d x) word c is s told =
+      worded j some e.hand.registers (root_kind target.roots x) d word s told (site_of target e setting.sizes.slots (Plain (instr.LoadRoot d x)) sane c is).own.form.kinds
+  plain_found e (instr.LoadPick d x n a) word c is s told =
+      let site = site_of target e setting.sizes.slots (Plain (instr.LoadPick d x n a)) sane c is in
+      let limits = parts (is_register d) (nat_lt x (length target.roots) && ((nat_le 1 n && nat_le n 256) && is_register a)) site.limits in
+      let limits2 = parts (nat_lt x (length target.roots)) ((nat_le 1 n && nat_le n 256) && is_register a) limits.1 in
+      let limits3 = parts (nat_le 1 n && nat_le n 256) (is_register a) limits2.1 in
+      let limits4 = parts (nat_le 1 n) (nat_le n 256) limits3.0 in
+      let one = unnegated (are_roots_of_one_kind target.roots x n) site.own.form.range in
+      let same = pick_kind target.roots x n (remainder (number_in e.hand.registers a) n) one (remainder_below (number_in e.hand.registers a) n (at_least 1 n limits4.0)) in
+      worded j some e.hand.registers (root_kind target.roots x) d word s (subst (λ (kind : Option FieldKind). ValueAvoids j kind word) same.0 told) site.own.form.kinds
+  plain_found e (instr.LoadField d a f) word c is s told =
+      worded j some e.hand.registers (field_kind target.fields f) d word s told
+      (neither (holds_number a) (is_unlike (field_kind target.fields f) d) (site_of target e setting.sizes.slots (Plain (instr.LoadField d a f)) sane c is).own.form.kinds).1
+  plain_found e (instr.Set d n) word c is s told = tt
+  plain_found e (instr.Mov d a) word c is s told = tt
+  plain_found e (instr.Add d a b) word c is s told = tt
+  plain_found e (instr.Sub d a b) word c is s told = tt
+  plain_found e (instr.Rem d a n) word c is s told = tt
+  plain_found e (instr.Mark d a) word c is s told = tt
+  plain_found e (instr.Unmark d a) word c is s told = tt
+  plain_found e (instr.Null d) word c is s told = tt
+  plain_found e (instr.Jump l) word c is s told = tt
+  plain_found e (instr.IfEq a b l) word c is s told = tt
+  plain_found e (instr.IfLess a b l) word c is s told = tt
+  plain_found e (instr.IfMarked a l) word c is s told = tt
+  plain_found e (instr.New d) word c is s told = tt
+  plain_found e (instr.Put a f b) word c is s told = tt
+  plain_found e (instr.Cas exchange l) word c is s told = tt
+  plain_found e (instr.Commit exchanges) word c is s told = tt
+  plain_found e (instr.Return a) word c is s told = tt
+  plain_found e instr.ReturnNone word c is s told = tt
+  plain_found e instr.Again word c is s told = tt
+
+  instr_found : (e : Entry) (o : Option TargetInstr) (word : ℕ) → Here setting.sizes.slots target e → instr_in target e ≡ o → RegistersAvoid j e.hand.registers
+      → ToldAvoids target j (instr_wanted e.number o e.hand.registers) word → InstrAvoids j o word e.hand.registers
+  instr_found e None word c is s told = tt
+  instr_found e (Some Check) word c is s told = tt
+  instr_found e (Some (Guard r)) word c is s told = tt
+  instr_found e (Some (Plain i)) word c is s told = plain_found e i word c is s told
+
+  -- ---- sweeps and claims
+
+  abbrev Others : List ℕ → Type 0
+  Others slots = All (λ (slot : ℕ). slot ≢ j) slots
+
+  on_others : (sweep : Sweep) (k : ℕ) → Others sweep.gathered → Others (sweep_on setting.sizes sweep k).sweep.gathered
+  on_others sweep k all = of (nat_lt k setting.sizes.slots) where
+    of : (b : Bool) → Others (if b then sweep_goes sweep (sweeps.ReadStatus (k + 1)) else sweep_ends sweep swept.Swept).sweep.gathered
+    of true = all
+    of false = all
+
+  freeing_others : (sweep : Sweep) (k q : ℕ) (kind : Kind) → Others sweep.gathered → Others (freeing setting.sizes sweep k q kind).sweep.gathered
+  freeing_others sweep k q statuses.Ready all = on_others sweep k all
+  freeing_others sweep k q statuses.Used all = on_others sweep k all
+  freeing_others sweep k q statuses.Retired all = of (nat_lt q sweep.bound && not (has_slot sweep.gathered k)) where
+    of : (b : Bool) → Others (if b then sweep_goes sweep (sweeps.MakeReady k q) else sweep_on setting.sizes sweep k).sweep.gathered
+    of true = all
+    of false = on_others sweep k all
+
+  status_others : (sweep : Sweep) (k : ℕ) (o : Option StatusParts) → Others sweep.gathered → Others (status_read setting.sizes sweep k o).sweep.gathered
+  status_others sweep k None all = on_others sweep k all
+  status_others sweep k (Some p) all = freeing_others sweep k p.phase p.kind all
+
+  sweep_others : (sweep : Sweep) (word : ℕ) (stage : SweepStage) → Others sweep.gathered → FoundAvoids target j (sweep_wants_at stage sweep.bound) word
+      → Others (sweep_accepts_at setting.sizes setting.last sweep word stage).sweep.gathered
+  sweep_others sweep word sweeps.ReadPhase all told = of (word == setting.last) where
+    of : (b : Bool) → Others (if b then sweep_ends sweep (swept.PhasesOver word) else sweep_goes sweep (sweeps.RaisePhase word)).sweep.gathered
+    of true = all
+    of false = all
+  sweep_others sweep word (sweeps.RaisePhase p) all told = all
+  sweep_others sweep word (sweeps.Warn c) all told = all
+  sweep_others sweep word (sweeps.ReadHazard c r) all told = gathered j some sweep.gathered word told all
+  sweep_others sweep word (sweeps.ReadStatus k) all told = status_others sweep k (status_parts word) all
+  sweep_others sweep word (sweeps.MakeReady k q) all told = on_others sweep k all
+
+  none_gathered : Others []
+  none_gathered k d lt = let none : k < 0 = lt in omega (arith, none)
+
+  -- where the claim doesn't end with the slot
+  abbrev Goes : ClaimTurn → Type 0
+  Goes turn = (turn.ended ≡ Some (ends.Claimed j) → ⊥) → ClaimAvoids j turn.claim turn.ended
+
+  look_goes : (claim : Claim) (k : ℕ) → Others claim.sweep.gathered → Goes (look_on setting.sizes claim k)
+  look_goes claim k all = of (nat_lt k setting.sizes.slots) where
+    last : (b : Bool) → Goes (if b then claim_ends claim ends.Full else record { claim = record claim { stage = claims.Sweeps; sweep = sweep_begun }; ended = None })
+    last true other = tt
+    last false other = none_gathered
+
+    of : (b : Bool) → Goes (if b then claim_goes claim (claims.ReadStatus (k + 1)) else look_ended claim)
+    of true = λ other. all
+    of false = last (claim.sweeps == 2)
+
+  kind_goes : (claim : Claim) (k q : ℕ) (kind : Kind) → Others claim.sweep.gathered → Goes (look_kind setting.sizes claim k q kind)
+  kind_goes claim k q statuses.Ready all = λ other. all
+  kind_goes claim k q statuses.Used all = look_goes claim k all
+  kind_goes claim k q statuses.Retired all = look_goes claim k all
+
+  read_goes : (claim : Claim) (k : ℕ) (o : Option StatusParts) → Others claim.sweep.gathered → Goes (look_read setting.sizes claim k o)
+  read_goes claim k None all = look_goes claim k all
+  read_goes claim k (Some p) all = kind_goes claim k p.phase p.kind all
+
+  swept_goes : (claim : Claim) (next : Sweep) (end : Option SweepEnd) → Others next.gathered → Goes (sweep_ended setting.sizes claim next end)
+  swept_goes claim next None all = λ other. all
+  swept_goes claim next (Some swept.Swept) all = λ other. all
+  swept_goes claim next (Some (swept.PhasesOver p)) all = λ other. tt
+
+  claim_goes_on : (claim : Claim) (word : ℕ) (stage : ClaimStage) → Others claim.sweep.gathered → FoundAvoids target j (claim_wants_at claim.sweep stage) word
+      → Goes (claim_accepts_at setting.sizes setting.last claim word stage)
+  claim_goes_on claim word (claims.ReadStatus k) all told = read_goes claim k (status_parts word) all
+  claim_goes_on claim word (claims.Take k q) all told = of (word == status_word q statuses.Ready) where
+    of : (b : Bool) → Goes (if b then claim_ends claim (ends.Claimed k) else look_on setting.sizes claim k)
+    of true = λ other is. other (ap (λ (i : ℕ). Some (ends.Claimed i)) is)
+    of false = look_goes claim k all
+  claim_goes_on claim word claims.Sweeps all told =
+      let turn = sweep_accepts setting.sizes setting.last claim.sweep word in swept_goes claim turn.sweep turn.ended (sweep_others claim.sweep word claim.sweep.stage all told)
+
+  -- ---- each step
+
+  found_step : (e : Entry) (word : ℕ) (routine : Routine) → Belongs target setting e → RunsAt target e routine → RegistersAvoid j e.hand.registers → RoutineAvoids j routine
+      → ToldAvoids target j (wanted target e routine) word → ClaimsOther setting j word routine → StepAvoids target setting j e word routine
+  found_step e word Idle b reaches s a told other = tt
+  found_step e word (LoadSeen why) b reaches s a told other = tt
+  found_step e word At b reaches s a told other = instr_found e (instr_in target e) word (record { reached = reaches; names = b.hand.registers }) refl s told
+  found_step e word (InList k) b reaches s a told other = tt
+  found_step e word (Retires retirement go) b reaches s a told other = tt
+  found_step e word Restarts b reaches s a told other = tt
+  found_step e word (Clears next) b reaches s a told other = tt
+  found_step e word (Claims claim) b reaches s a told other = claim_goes_on claim word claim.stage a told other
+  found_step e word (Zeroes k field) b reaches s a told other = tt
+
+  pub step_found : (e : Entry) (word : ℕ) → Belongs target setting e → EntryAvoids j e → ToldAvoids target j (wants target e) word → ClaimsOther setting j word e.routine → StepAvoids target setting j e word e.routine
+  unfolding wants
+  step_found e word b a told other = found_step e word e.routine b b.reaches a.registers a.routine told other
+
+  -- ---- what is written
+
+  exchange_leaves : (w : Word) (expected x : ℕ) → WordAvoids target j w x → LeavesOther target j (Some (Exchanges w expected x))
+  exchange_leaves w expected x other found was = of (found == expected) where
+    of : (b : Bool) → WordAvoids target j w (if b then x else found)
+    of true = other
+    of false = was
+
+  text_exchange : (exchange : CasEntry) (registers : Registers) → RegistersAvoid j registers → has_wrong_operand target.fields target.roots exchange ≡ false
+      → LeavesOther target j (Some (exchange_wanted exchange registers))
+  text_exchange exchange registers s kinds =
+      of exchange.place
+      (register_avoids j some registers (place_kind target.fields target.roots exchange.place) exchange.replacement s
+      (neither (is_unlike (place_kind target.fields target.roots exchange.place) exchange.expected) (is_unlike (place_kind target.fields target.roots exchange.place) exchange.replacement)
+      (neither (has_wrong_object exchange.place) (is_unlike (place_kind target.fields target.roots exchange.place) exchange.expected || is_unlike (place_kind target.fields target.roots exchange.place) exchange.replacement) kinds).1).1) where
+        object : (k f : ℕ) → ValueAvoids j (field_kind target.fields f) (word_in registers exchange.replacement)
+            → LeavesOther target j (Some (object_exchange k f (word_in registers exchange.expected) (word_in registers exchange.replacement)))
+        object zero f other = λ found was. was
+        object (suc k) f other = exchange_leaves (FieldOf (suc k) f) (word_in registers exchange.expected) (word_in registers exchange.replacement) other
+
+        of : (place : Place) → ValueAvoids j (place_kind target.fields target.roots place) (word_in registers exchange.replacement)
+            → LeavesOther target j (Some (place_exchange place registers (word_in registers exchange.expected) (word_in registers exchange.replacement)))
+        of (places.Root x) other = exchange_leaves (Cell x) (word_in registers exchange.expected) (word_in registers exchange.replacement) other
+        of (places.Field a f) other = object (slot_in registers a) f other
+
+  plain_leaves : (e : Entry) (i : Instr) → Here setting.sizes.slots target e → instr_in target e ≡ Some (Plain i) → RegistersAvoid j e.hand.registers → LeavesOther target j (plain_wanted i e.hand.registers)
+  plain_leaves e (instr.LoadRoot d x) c is s = λ found was. was
+  plain_leaves e (instr.LoadPick d x n a) c is s = λ found was. was
+  plain_leaves e (instr.LoadField d a f) c is s = λ found was. was
+  plain_leaves e (instr.Put a f b) c is s = λ found was. register_avoids j some e.hand.registers (field_kind target.fields f) b s
+      (neither (holds_number a) (is_unlike (field_kind target.fields f) b) (site_of target e setting.sizes.slots (Plain (instr.Put a f b)) sane c is).own.form.kinds).1
+  plain_leaves e (instr.Cas exchange l) c is s = text_exchange exchange e.hand.registers s (site_of target e setting.sizes.slots (Plain (instr.Cas exchange l)) sane c is).own.form.kinds
+  plain_leaves e (instr.Set d n) c is s = tt
+  plain_leaves e (instr.Mov d a) c is s = tt
+  plain_leaves e (instr.Add d a b) c is s = tt
+  plain_leaves e (instr.Sub d a b) c is s = tt
+  plain_leaves e (instr.Rem d a n) c is s = tt
+  plain_leaves e (instr.Mark d a) c is s = tt
+  plain_leaves e (instr.Unmark d a) c is s = tt
+  plain_leaves e (instr.Null d) c is s = tt
+  plain_leaves e (instr.Jump l) c is s = tt
+  plain_leaves e (instr.IfEq a b l) c is s = tt
+  plain_leaves e (instr.IfLess a b l) c is s = tt
+  plain_leaves e (instr.IfMarked a l) c is s = tt
+  plain_leaves e (instr.New d) c is s = tt
+  plain_leaves e (instr.Commit exchanges) c is s = tt
+  plain_leaves e (instr.Return a) c is s = tt
+  plain_leaves e instr.ReturnNone c is s = tt
+  plain_leaves e instr.Again c is s = tt
+
+  instr_leaves : (e : Entry) (o : Option TargetInstr) → Here setting.sizes.slots target e → instr_in target e ≡ o → RegistersAvoid j e.hand.registers
+      → LeavesOther target j (instr_wanted e.number o e.hand.registers)
+  instr_leaves e None c is s = tt
+  instr_leaves e (Some Check) c is s = λ found was. was
+  instr_leaves e (Some (Guard r)) c is s = λ found was. names_other j some e.hand.registers r s
+  instr_leaves e (Some (Plain i)) c is s = plain_leaves e i c is s
+
+  list_leaves : (e : Entry) (k : ℕ) → Here setting.sizes.slots target e → RegistersAvoid j e.hand.registers → k < length (list_of (instr_in target e))
+      → LeavesOther target j (list_wanted (slice_get (list_of (instr_in target e)) k) e.hand.registers)
+  list_leaves e k c s lt = of (slice_get (list_of (instr_in target e)) k) refl where
+    there : (exchanges : List CasEntry) × (instr_in target e ≡ Some (Plain (instr.Commit exchanges)))
+    there = list_there (instr_in target e) k lt
+
+    site : SaneAt target e.hand.wrapup (code_in target e) e.hand.at (Plain (instr.Commit there.0))
+    site = site_of target e setting.sizes.slots (Plain (instr.Commit there.0)) sane c there.1
+
+    same : slice_get (list_of (instr_in target e)) k ≡ slice_get there.0 k
+    same = ap (λ (q : Option TargetInstr). slice_get (list_of q) k) there.1
+
+    of : (x : Option CasEntry) → slice_get (list_of (instr_in target e)) k ≡ x → LeavesOther target j (list_wanted x e.hand.registers)
+    of None none = tt
+    of (Some exchange) is = text_exchange exchange e.hand.registers s (any_false (has_wrong_operand target.fields target.roots) there.0 k exchange site.own.form.kinds (sym same ∙ is))
+
+  clear_leaves : (c : ℕ) (o : Option ℕ) → LeavesOther target j (clear_wanted c o)
+  clear_leaves c None = tt
+  clear_leaves c (Some r) = λ found was. null j some
+
+  retire_leaves : (slot : ℕ) (stage : RetireStage) → LeavesOther target j (Some (retire_wants_at slot stage))
+  retire_leaves slot retires.ReadPhase = λ found was. tt
+  retire_leaves slot (retires.StoreStatus p) = λ found was. tt
+
+  sweep_leaves : (bound : ℕ) (stage : SweepStage) → LeavesOther target j (Some (sweep_wants_at stage bound))
+  sweep_leaves bound sweeps.ReadPhase = λ found was. tt
+  sweep_leaves bound (sweeps.RaisePhase p) = λ found was. tt
+  sweep_leaves bound (sweeps.Warn c) = λ found was. tt
+  sweep_leaves bound (sweeps.ReadHazard c r) = λ found was. was
+  sweep_leaves bound (sweeps.ReadStatus k) = λ found was. tt
+  sweep_leaves bound (sweeps.MakeReady k q) = λ found was. tt
+
+  claim_leaves : (sweep : Sweep) (stage : ClaimStage) → LeavesOther target j (Some (claim_wants_at sweep stage))
+  claim_leaves sweep (claims.ReadStatus k) = λ found was. tt
+  claim_leaves sweep (claims.Take k q) = λ found was. tt
+  claim_leaves sweep claims.Sweeps = sweep_leaves sweep.bound sweep.stage
+
+  leaves_step : (e : Entry) (routine : Routine) → Belongs target setting e → RunsAt target e routine → Stands target setting e routine → RegistersAvoid j e.hand.registers → LeavesOther target j (wanted target e routine)
+  leaves_step e Idle b reaches stands s = tt
+  leaves_step e (LoadSeen why) b reaches stands s = λ found was. was
+  leaves_step e At b reaches stands s = instr_leaves e (instr_in target e) (record { reached = reaches; names = b.hand.registers }) refl s
+  leaves_step e (InList k) b reaches stands s = list_leaves e k (record { reached = reaches; names = b.hand.registers }) s stands
+  leaves_step e (Retires retirement go) b reaches stands s = retire_leaves retirement.slot retirement.stage
+  leaves_step e Restarts b reaches stands s = clear_leaves e.number (restart_next target e)
+  leaves_step e (Clears next) b reaches stands s = clear_leaves e.number (clear_next target next e)
+  leaves_step e (Claims claim) b reaches stands s = claim_leaves claim.sweep claim.stage
+  leaves_step e (Zeroes k field) b reaches stands s = λ found was. zero_avoids j some (field_kind target.fields field)
+
+  pub step_leaves : (e : Entry) → Belongs target setting e → EntryAvoids j e → LeavesOther target j (wants target e)
+  unfolding wants
+  step_leaves e b a = leaves_step e e.routine b b.reaches b.stands a.registers

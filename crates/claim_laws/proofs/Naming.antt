@@ -1,0 +1,151 @@
+-- Registers, guards, cradles and words that don't name a slot go on not to.
+use Rattle.std.proofs.Common.{◌≡◌, ◌≢◌, ℕ, zero, suc, ◌+◌, ◌*◌, ◌/◌, ◌%◌, ◌^◌, ◌≤◌, ◌<◌, ◌==◌, Bool, true, false, List, [], ◌∷◌, set, map, Option, Some, None, refl, sym, ◌∙◌, subst, arith, if◌then◌else◌}
+use Rattle.std.specs.Prelude.{slice_get, slice_index, IfSome}
+use Rattle.std.specs.List.{All}
+use Rattle.std.proofs.lemmas.List.Elements.{All-push}
+use Rattle.norm_lang.specs.declared.text.Reg.{Reg}
+use Rattle.norm_lang.specs.declared.text.Reg.TheVariants.{Num, Ref}
+use Rattle.norm_lang.specs.declared.text.FieldKind.{FieldKind}
+use Rattle.norm_lang.specs.declared.text.FieldKind.TheVariants as kinds
+use Rattle.norm_lang.specs.declared.text.Instr.{Instr}
+use Rattle.norm_lang.specs.declared.text.Instr.TheVariants as instr
+use Rattle.norm_lang.specs.declared.registers.Reference.{Reference}
+use Rattle.norm_lang.specs.declared.registers.Registers.{Registers}
+use Rattle.norm_lang.specs.Registers.{no_reference, first_registers, number_in, reference_in, with_number, with_reference, moved}
+use Rattle.norm_lang.specs.InstructionRules.{is_unlike}
+use Rattle.norm_lang.specs.Local.{Spot, local_step, go_on}
+use Rattle.target_code.specs.declared.target.TargetInstr.{TargetInstr}
+use Rattle.target_code.specs.declared.target.TargetInstr.TheVariants.{Plain, Check, Guard}
+use Rattle.target_code.specs.LocalCode.{target_local_at, target_run}
+use Rattle.oa_words.specs.Packed.{ref_word, slot_part}
+use Rattle.guard_words.specs.Guards.{Guards, guard_at, with_guard, with_slot}
+use Rattle.caller_steps.specs.Operands.{unpacked, with_word, word_in, slot_in}
+use Rattle.caller_steps.specs.After.{emptied, to_retire}
+use Rattle.caller_laws.proofs.Named.{set_keeps}
+use Rattle.claim_laws.specs.Untouched.{ValueAvoids, RegistersAvoid}
+
+module _ (j : ℕ) (some : 1 ≤ j) where
+  pub null : 0 ≢ j
+  null is = omega (arith, is, some)
+
+  pub numbered : (registers : Registers) (d : Reg) (n : ℕ) → RegistersAvoid j registers → RegistersAvoid j (with_number registers d n)
+  numbered registers (Num d) n s = s
+  numbered registers (Ref d) n s = s
+
+  pub referred : (registers : Registers) (d : Reg) (v : Reference) → RegistersAvoid j registers → v.node ≢ j → RegistersAvoid j (with_reference registers d v)
+  referred registers (Num d) v s other = s
+  referred registers (Ref d) v s other = λ r. set_keeps (λ (x : Reference). x.node ≢ j) registers.references d v no_reference r other (s r)
+
+  moves : (registers : Registers) (d a : Reg) → RegistersAvoid j registers → RegistersAvoid j (moved registers d a)
+  moves registers d (Num a) s = numbered registers d (number_in registers (Num a)) s
+  moves registers d (Ref a) s = referred registers d (reference_in registers (Ref a)) s (s a)
+
+  pub names_other : (registers : Registers) (a : Reg) → RegistersAvoid j registers → slot_in registers a ≢ j
+  names_other registers (Num a) s = null
+  names_other registers (Ref a) s = s a
+
+  pub worded : (registers : Registers) (kind : Option FieldKind) (d : Reg) (word : ℕ) → RegistersAvoid j registers → ValueAvoids j kind word → is_unlike kind d ≡ false
+      → RegistersAvoid j (with_word registers d word)
+  worded registers kind (Num d) word s other like = numbered registers (Num d) word s
+  worded registers None (Ref d) word s other like = absurd (let e : true ≡ false = like in cc)
+  worded registers (Some kinds.Number) (Ref d) word s other like = absurd (let e : true ≡ false = like in cc)
+  worded registers (Some kinds.Reference) (Ref d) word s other like = referred registers (Ref d) (unpacked word) s other
+
+  pub first_avoid : (args : List ℕ) → RegistersAvoid j (first_registers args)
+  first_avoid args zero = null
+  first_avoid args (suc zero) = null
+  first_avoid args (suc (suc zero)) = null
+  first_avoid args (suc (suc (suc zero))) = null
+  first_avoid args (suc (suc (suc (suc zero)))) = null
+  first_avoid args (suc (suc (suc (suc (suc zero))))) = null
+  first_avoid args (suc (suc (suc (suc (suc (suc zero)))))) = null
+  first_avoid args (suc (suc (suc (suc (suc (suc (suc zero))))))) = null
+  first_avoid args (suc (suc (suc (suc (suc (suc (suc (suc r)))))))) = null
+
+  -- ---- local code
+
+  local_avoids : (i : Instr) (at : ℕ) (registers : Registers) → RegistersAvoid j registers → IfSome (local_step i at registers) (λ (spot : Spot). RegistersAvoid j spot.registers)
+  local_avoids (instr.Set d n) at registers s = numbered registers d n s
+  local_avoids (instr.Mov d a) at registers s = moves registers d a s
+  local_avoids (instr.Add d a b) at registers s = numbered registers d ((number_in registers a + number_in registers b) % 2 ^ 64) s
+  local_avoids (instr.Sub d a b) at registers s = numbered registers d _ s
+  local_avoids (instr.Rem d a n) at registers s = numbered registers d _ s
+  local_avoids (instr.Mark d a) at registers s = referred registers d (record { node = (reference_in registers a).node; marked = true }) s (names_other registers a s)
+  local_avoids (instr.Unmark d a) at registers s = referred registers d (record { node = (reference_in registers a).node; marked = false }) s (names_other registers a s)
+  local_avoids (instr.Null d) at registers s = referred registers d no_reference s null
+  local_avoids (instr.LoadRoot d x) at registers s = tt
+  local_avoids (instr.LoadPick d x n a) at registers s = tt
+  local_avoids (instr.LoadField d a f) at registers s = tt
+  local_avoids (instr.New d) at registers s = tt
+  local_avoids (instr.Put a f b) at registers s = tt
+  local_avoids (instr.Cas entry l) at registers s = tt
+  local_avoids (instr.Jump l) at registers s = s
+  local_avoids (instr.IfEq a b l) at registers s = s
+  local_avoids (instr.IfLess a b l) at registers s = s
+  local_avoids (instr.IfMarked a l) at registers s = s
+  local_avoids (instr.Commit entries) at registers s = tt
+  local_avoids (instr.Return a) at registers s = tt
+  local_avoids instr.ReturnNone at registers s = tt
+  local_avoids instr.Again at registers s = tt
+
+  abbrev Further : List TargetInstr → ℕ → Type 0
+  Further code n = (next : Spot) → RegistersAvoid j next.registers → RegistersAvoid j (target_run code n next).registers
+
+  pub run_avoids : (code : List TargetInstr) (n : ℕ) (spot : Spot) → RegistersAvoid j spot.registers → RegistersAvoid j (target_run code n spot).registers
+  run_avoids code zero spot s = s
+  run_avoids code (suc n) spot s = turn (λ next d. run_avoids code n next d) (slice_get code spot.at) where
+    step : Further code n → (i : Instr) → (o : Option Spot) → local_step i spot.at spot.registers ≡ o → RegistersAvoid j (go_on o spot (target_run code n)).registers
+    step further i None steps = s
+    step further i (Some next) steps = further next (subst (λ (o : Option Spot). IfSome o (λ (x : Spot). RegistersAvoid j x.registers)) steps (local_avoids i spot.at spot.registers s))
+
+    turn : Further code n → (o : Option TargetInstr) → RegistersAvoid j (go_on (target_local_at o spot.at spot.registers) spot (target_run code n)).registers
+    turn further None = s
+    turn further (Some Check) = s
+    turn further (Some (Guard r)) = s
+    turn further (Some (Plain i)) = step further i (local_step i spot.at spot.registers) refl
+
+  -- ---- what a register gives
+
+  packed_slot : (node : ℕ) (marked : Bool) → slot_part (ref_word node marked) ≡ node
+  packed_slot node true = let e : (2 * node + 1) / 2 ≡ node = omega arith in e
+  packed_slot node false = let e : (2 * node + 0) / 2 ≡ node = omega arith in e
+
+  pub register_avoids : (registers : Registers) (kind : Option FieldKind) (b : Reg) → RegistersAvoid j registers → is_unlike kind b ≡ false → ValueAvoids j kind (word_in registers b)
+  register_avoids registers None b s like = tt
+  register_avoids registers (Some kinds.Number) b s like = tt
+  register_avoids registers (Some kinds.Reference) (Num b) s like = absurd (let z : true ≡ false = like in cc)
+  register_avoids registers (Some kinds.Reference) (Ref b) s like =
+      subst (λ (n : ℕ). n ≢ j) (sym (packed_slot (reference_in registers (Ref b)).node (reference_in registers (Ref b)).marked)) (s b)
+
+  pub zero_avoids : (kind : Option FieldKind) → ValueAvoids j kind 0
+  zero_avoids None = tt
+  zero_avoids (Some kinds.Number) = tt
+  zero_avoids (Some kinds.Reference) = null
+
+  pub retires_other : (retire : Option Reg) (registers : Registers) → RegistersAvoid j registers → to_retire retire registers ≢ j
+  retires_other None registers s = null
+  retires_other (Some r) registers s = names_other registers r s
+
+  -- ---- guards, cradles and gathered slots
+
+  pub guard_put : (guards : Guards) (r slot k : ℕ) → ((i : ℕ) → guard_at guards i ≢ j) → slot ≢ j → guard_at (with_guard guards r slot) k ≢ j
+  guard_put guards r slot k g other = set_keeps (λ (x : ℕ). x ≢ j) guards.slots r slot 0 k other (g k)
+
+  pub cradle_put : (xs : List ℕ) (i x r : ℕ) → x ≢ j → slice_index xs r ≢ j → slice_index (set xs i x) r ≢ j
+  cradle_put [] i x r p q = q
+  cradle_put (y ∷ ys) zero x zero p q = p
+  cradle_put (y ∷ ys) zero x (suc r) p q = q
+  cradle_put (y ∷ ys) (suc i) x zero p q = q
+  cradle_put (y ∷ ys) (suc i) x (suc r) p q = cradle_put ys i x r p q
+
+  pub cradle_emptied : (slot : ℕ) (xs : List ℕ) (k : ℕ) → slice_index xs k ≢ j → slice_index (map (emptied slot) xs) k ≢ j
+  cradle_emptied slot [] k other = other
+  cradle_emptied slot (x ∷ xs) zero other = of (x == slot) where
+    of : (b : Bool) → (if b then 0 else x) ≢ j
+    of true = null
+    of false = other
+  cradle_emptied slot (x ∷ xs) (suc k) other = cradle_emptied slot xs k other
+
+  pub gathered : (slots : List ℕ) (word : ℕ) → word ≢ j → All (λ (slot : ℕ). slot ≢ j) slots → All (λ (slot : ℕ). slot ≢ j) (with_slot slots word)
+  gathered slots zero other all = all
+  gathered slots (suc i) other all = All-push (λ (slot : ℕ). slot ≢ j) slots (suc i) all other

@@ -1,0 +1,5 @@
+use Rattle.claim_laws.proofs.Filling.{full_takes}
+use Rattle.claim_laws.proofs.laws.full_takes_claims.Goals as goal
+
+pub returns : goal.returns
+returns c = full_takes

@@ -1,0 +1,56 @@
+-- How many calls a full pool takes. A cradle keeps a slot from call to call until a list publishes its node, so a call of an
+-- operation with one `new` claims at most once, unless it begins again after it has published.
+use Rattle.std.specs.Prelude.{◌≡◌, ◌≢◌, ℕ, ◌+◌, ◌≤◌, ◌<◌, List, [], ◌∷◌, ◌++◌, length, Option, Some, None, slice_get}
+use Rattle.target_code.specs.declared.target.TargetOp.{TargetOp}
+use Rattle.target_code.specs.declared.target.Target.{Target}
+use Rattle.target_code.specs.TargetLimits.{target_news_in}
+use Rattle.caller_steps.specs.declared.call.Call.{Call}
+use Rattle.caller_steps.specs.declared.call.Reply.TheVariants as replies
+use Rattle.caller_steps.specs.declared.call.Replied.{Replied}
+use Rattle.caller_steps.specs.declared.call.Running.{Running}
+use Rattle.caller_steps.specs.declared.routine.MethodStart.TheVariants as starts
+use Rattle.caller_steps.specs.declared.routine.Routine.TheVariants.{LoadSeen}
+use Rattle.caller_steps.specs.Settings.{Setting}
+use Rattle.caller_steps.specs.Entries.{Entry}
+use Rattle.caller_steps.specs.Operands.{cradle_of}
+use Rattle.caller_steps.specs.After.{after}
+use Rattle.core_runs.specs.Machine.{CoreState, CoreEvent, Reachable, core_run, core_start}
+use Rattle.core_runs.specs.Histories.{calls_of}
+use Rattle.claim_laws.specs.CallSteps.{StepMade, steps_of_call}
+
+-- how many `new` an operation has: only a generator has any
+abbrev pub news_of : Option TargetOp → ℕ
+news_of None = 0
+news_of (Some op) = target_news_in op.generator
+
+abbrev pub news_of_call : Target → Call → ℕ
+news_of_call target call = news_of (slice_get target.ops call.op)
+
+-- none has more than one
+abbrev pub HasFewNews : Target → Type 0
+HasFewNews target = (op : ℕ) → news_of (slice_get target.ops op) ≤ 1
+
+-- the node of a cradle was published: the step's exchange emptied the cradle
+abbrev pub Publishes : Target → Setting → StepMade → Type 0
+Publishes target setting step = (k : ℕ) × (cradle_of step.entry k ≢ 0) × (cradle_of (after target setting step.entry step.found) k ≡ 0)
+
+-- in no run does a call begin again once it has published a node
+pub record PublishedEnd (target : Target) (setting : Setting) : Type 0 where
+  pub each : (events : List CoreEvent) (state : CoreState) (c : ℕ) (e : Entry) (before : List StepMade) (step : StepMade) (later : List StepMade)
+      → core_run target setting events (core_start target setting) ≡ Some state → slice_get state.entries c ≡ Some e → e.routine ≡ LoadSeen starts.Again
+      → steps_of_call target setting events c (length e.replies) ≡ before ++ step ∷ later → Publishes target setting step → ⊥
+
+-- the `new` of all calls that a caller took; where no operation has more than one, that is how many calls are of one with a `new`
+abbrev pub new_calls : Target → List Running → ℕ
+new_calls target [] = 0
+new_calls target (run ∷ runs) = news_of_call target run.call + new_calls target runs
+
+-- of all callers
+abbrev pub new_calls_in : Target → List Entry → ℕ
+new_calls_in target [] = 0
+new_calls_in target (e ∷ entries) = new_calls target (calls_of e) + new_calls_in target entries
+
+-- then, where a caller was told that the pool is full, the initial nodes and those calls of all callers are more than the slots
+pub record FullTakesCalls (target : Target) (setting : Setting) : Type 0 where
+  pub each : (state : CoreState) (c i : ℕ) (e : Entry) (replied : Replied) → HasFewNews target → PublishedEnd target setting → Reachable target setting state → slice_get state.entries c ≡ Some e
+      → slice_get e.replies i ≡ Some replied → replied.reply ≡ replies.Full → setting.sizes.slots < setting.nodes + new_calls_in target state.entries

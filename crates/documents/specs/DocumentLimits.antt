@@ -1,0 +1,31 @@
+-- The limits of a document's parts.
+use Rattle.std.specs.Prelude.{ℕ, ◌≤◌, List, length}
+use Rattle.std.specs.List.{All}
+use Rattle.norm_lang.specs.Limits.{IsWithinLimits}
+use Rattle.schedule_turns.specs.declared.turn.Turn.{Turn}
+use Rattle.schedule_turns.specs.declared.turn.Turn.TheVariants as turns
+use Rattle.documents.specs.declared.document.Document.{Document}
+
+-- how many calls a script has at most
+abbrev pub most_calls : ℕ
+most_calls = 100000
+
+-- scripts with at most so many calls each
+abbrev pub AreShort : {A : Type 0} → List (List A) → Type 0
+AreShort {A} scripts = All (λ (script : List A). length script ≤ most_calls) scripts
+
+-- the steps, the accesses of a kind, or the operations that a turn is to last
+abbrev pub count_of : Turn → ℕ
+count_of (turns.Step caller count) = count
+count_of (turns.Upto caller kind count) = count
+count_of (turns.Ops caller count) = count
+
+-- each turn lasts for at least one
+abbrev pub AreTurns : List Turn → Type 0
+AreTurns schedule = All (λ (turn : Turn). 1 ≤ count_of turn) schedule
+
+-- a document whose every part is within the limits: the condition of every call that takes one
+pub record IsWithinDocumentLimits (document : Document) : Type 0 where
+  pub text : IsWithinLimits document.text
+  pub scripts : AreShort document.scripts
+  pub turns : AreTurns document.schedule

@@ -1,0 +1,75 @@
+-- The end of a run of scripts, and what a replay answers.
+use Rattle.std.specs.Prelude.{◌≡◌, ℕ, ◌≤◌, Bool, false, List, map, length, Option, Some, None, Result, Ok, Err, slice_get, slice_index}
+use Rattle.target_code.specs.declared.target.Target.{Target}
+use Rattle.caller_steps.specs.declared.call.Call.{Call}
+use Rattle.caller_steps.specs.Settings.{Setting}
+use Rattle.caller_steps.specs.Entries.{Entry, RoomyEntry}
+use Rattle.core_runs.specs.Machine.{CoreState, CoreEvent}
+use Rattle.core_runs.specs.Scripts.{IsComplete}
+use Rattle.core_runs.specs.Replays.{Replay, Replaying, Refusal, StepOfNobody, LongReplay, is_spent}
+use Rattle.core_sound.specs.Sound.{IsSound, StaysInRow}
+use Rattle.oa_core.specs.declared.replaying.ReplayError.{ReplayError}
+use Rattle.oa_core.specs.declared.replaying.ReplayError.TheVariants as errors
+
+-- the words and the entries in which a run of scripts ended, and the steps that each call could get
+pub record Final : Type 0 where
+  pub words : List ℕ
+  pub entries : List RoomyEntry
+  pub fuel : ℕ
+
+abbrev pub core_part : RoomyEntry → Entry
+core_part e = e.core
+
+abbrev pub core_of : Final → CoreState
+core_of final = record { words = final.words; entries = map core_part final.entries }
+
+-- the phase is the first word
+abbrev pub phase_of : Final → ℕ
+phase_of final = slice_index final.words 0
+
+-- whether a caller has an operation that was spent
+abbrev pub entry_spent : ℕ → Option RoomyEntry → Bool
+entry_spent fuel None = false
+entry_spent fuel (Some e) = is_spent fuel e.core
+
+abbrev pub is_spent_in : Final → ℕ → Bool
+is_spent_in final c = entry_spent final.fuel (slice_get final.entries c)
+
+-- ---- replays
+
+-- no script has more calls
+abbrev pub IsShort : List Call → Type 0
+IsShort script = length script ≤ 100000
+
+-- the most steps of a replay
+unfoldable pub replay_limit : ℕ
+replay_limit = 20000000
+
+abbrev pub replay_of : Target → Setting → List (List Call) → ℕ → Replay
+replay_of target setting scripts fuel = record { target = target; setting = setting; scripts = scripts; fuel = fuel; limit = replay_limit }
+
+-- the turns lead to this end
+abbrev pub LeadsTo : Final → ℕ → Result Replaying Refusal → Type 0
+LeadsTo final fuel (Ok r) = (core_of final ≡ r.state) × (final.fuel ≡ fuel)
+LeadsTo final fuel (Err refusal) = ⊥
+
+-- they are refused so
+abbrev pub IsRefused : Refusal → Result Replaying Refusal → Type 0
+IsRefused refusal (Ok r) = ⊥
+IsRefused refusal (Err other) = other ≡ refusal
+
+-- a replay answers what its turns give; that memory ran out says nothing of them
+abbrev pub Answers : Result Final ReplayError → ℕ → Result Replaying Refusal → Type 0
+Answers (Ok final) fuel given = LeadsTo final fuel given
+Answers (Err errors.Memory) fuel given = Unit {0}
+Answers (Err (errors.StepOfNobody steps)) fuel given = IsRefused (StepOfNobody steps) given
+Answers (Err (errors.LongReplay steps)) fuel given = IsRefused (LongReplay steps) given
+
+-- ---- runs of scripts
+
+-- a complete run of the scripts ends so: each caller's entry belongs, each word is lawful, and nothing leads out of the row
+pub record EndsRun (target : Target) (setting : Setting) (scripts : List (List Call)) (fuel : ℕ) (final : Final) : Type 0 where
+  pub events : List CoreEvent
+  pub complete : IsComplete target setting scripts fuel events (core_of final)
+  pub sound : IsSound target setting (core_of final)
+  pub stays : StaysInRow target setting (core_of final)

@@ -1,0 +1,173 @@
+-- A replay under way as the code holds it: without its events.
+use Rattle.std.specs.Prelude.{◌≡◌, ℕ, ◌+◌, ◌-◌, ◌≤◌, ◌<◌, All, Bool, true, false, List, [], ◌∷◌, map, length, Option, Some, None, option_map, Result, Ok, Err, nat_le, if◌then◌else◌, slice_get, slice_set}
+use Rattle.schedule_turns.specs.declared.turn.Turn.{Turn}
+use Rattle.schedule_turns.specs.declared.turn.StepKind.{StepKind}
+use Rattle.schedule_turns.specs.declared.turn.StepKind.TheVariants as kinds
+use Rattle.target_code.specs.declared.target.Target.{Target}
+use Rattle.phase_pools.specs.declared.access.Access.{Access}
+use Rattle.phase_pools.specs.declared.access.Access.TheVariants as codes
+use Rattle.caller_steps.specs.declared.call.Call.{Call}
+use Rattle.caller_steps.specs.Settings.{Setting, Fits}
+use Rattle.caller_steps.specs.Entries.{Entry, RoomyEntry, idle_entry, is_idle}
+use Rattle.caller_steps.specs.Calls.{is_call, AreCalls}
+use Rattle.caller_steps.specs.After.{taken}
+use Rattle.core_runs.specs.Machine.{CoreEvent, Takes, Steps}
+use Rattle.core_runs.specs.Scripts.{script_of}
+use Rattle.core_runs.specs.Replays.{Replay, Replaying, Refusal, StepOfNobody, LongReplay, is_spent, replay_start, go_further, most_steps, turns_made, caller_ended, callers_ended}
+use Rattle.barrier_check.specs.Paired.{Paired}
+use Rattle.oa_core.specs.declared.progress.Move.{Move}
+use Rattle.oa_core.specs.declared.progress.Move.TheVariants as moves
+use Rattle.oa_core.specs.declared.progress.Stop.{Stop}
+use Rattle.oa_core.specs.declared.progress.Stop.TheVariants as stops
+use Rattle.oa_core.specs.Callers.{BelongsTo}
+use Rattle.oa_core.specs.Steps.{WordsSound, StepIs}
+use Rattle.oa_core.specs.declared.replaying.ReplayError.{ReplayError}
+use Rattle.oa_core.specs.declared.replaying.ReplayError.TheVariants as errors
+use Rattle.oa_core.specs.Finals.{core_part, IsShort}
+
+-- what is replayed
+pub record Terms : Type 0 where
+  pub pair : Paired
+  pub setting : Setting
+  pub scripts : List (List Call)
+  pub fuel : ℕ
+  pub limit : ℕ
+
+abbrev pub replay_by : Terms → Replay
+replay_by t = record { target = t.pair.target; setting = t.setting; scripts = t.scripts; fuel = t.fuel; limit = t.limit }
+
+-- the words, the entries, and how many steps were made
+pub record Progress : Type 0 where
+  pub words : List ℕ
+  pub entries : List RoomyEntry
+  pub steps : ℕ
+
+abbrev pub shown : Progress → Replaying
+shown now = record { state = record { words = now.words; entries = map core_part now.entries }; events = []; steps = now.steps }
+
+-- a replay without its events, which say how it came there
+abbrev pub bare : Replaying → Replaying
+bare r = record r { events = [] }
+
+abbrev pub bared : Result Replaying Refusal → Result Replaying Refusal
+bared (Ok r) = Ok (bare r)
+bared (Err refusal) = Err refusal
+
+-- what the code tells of it
+abbrev pub refusal_of : Stop → Refusal
+refusal_of (stops.StepOfNobody steps) = StepOfNobody steps
+refusal_of (stops.LongReplay steps) = LongReplay steps
+
+abbrev pub told : Result (Unit {0}) Stop → Progress → Result Replaying Refusal
+told (Ok done) now = Ok (shown now)
+told (Err stop) now = Err (refusal_of stop)
+
+-- ---- one step of a caller
+
+-- what a caller does next: it takes a call and makes a step, or it makes a step; nothing where it has no step to take
+abbrev pub next_of : ℕ → List Call → Entry → Option Move
+next_of fuel script e =
+    if is_idle e.routine then option_map moves.Takes (slice_get script (length e.replies))
+    else (if is_spent fuel e then None else Some moves.GoesOn)
+
+abbrev pub next_for : Terms → ℕ → Option RoomyEntry → Option Move
+next_for t c None = None
+next_for t c (Some e) = next_of t.fuel (script_of t.scripts c) e.core
+
+abbrev pub next_in : Terms → ℕ → Progress → Option Move
+next_in t c now = next_for t c (slice_get now.entries c)
+
+abbrev pub events_of : ℕ → Move → List CoreEvent
+events_of c (moves.Takes call) = Takes c call ∷ Steps c ∷ []
+events_of c moves.GoesOn = Steps c ∷ []
+
+-- the entry before the step
+abbrev pub begun : Move → RoomyEntry → RoomyEntry
+begun (moves.Takes call) e = record e { core = taken call e.core }
+begun moves.GoesOn e = e
+
+-- an idle entry with room takes a call of the target; one that runs goes on
+abbrev pub CanMove : Target → Move → RoomyEntry → Type 0
+CanMove target (moves.Takes call) e = (is_idle e.core.routine ≡ true) × (length e.core.replies < e.room) × (is_call target call ≡ true)
+CanMove target moves.GoesOn e = is_idle e.core.routine ≡ false
+
+abbrev pub CanMoveAt : Target → Move → Option RoomyEntry → Type 0
+CanMoveAt target next None = ⊥
+CanMoveAt target next (Some e) = CanMove target next e
+
+-- one entry made a step, and all others stay
+pub record EntryMoves (target : Target) (setting : Setting) (words later : List ℕ) (next : Move) (c : ℕ) (entries others : List RoomyEntry) (e : RoomyEntry) : Type 0 where
+  pub moved : RoomyEntry
+  pub step : StepIs target setting words later (begun next e) moved
+  pub left : others ≡ slice_set entries c moved
+
+abbrev pub MovesAt : Target → Setting → List ℕ → List ℕ → Move → ℕ → List RoomyEntry → List RoomyEntry → Option RoomyEntry → Type 0
+MovesAt target setting words later next c entries others None = ⊥
+MovesAt target setting words later next c entries others (Some e) = EntryMoves target setting words later next c entries others e
+
+pub record AllBelongTo (pair : Paired) (setting : Setting) (entries : List RoomyEntry) : Type 0 where
+  pub each : (c : ℕ) (e : RoomyEntry) → slice_get entries c ≡ Some e → BelongsTo pair setting e.core
+
+-- ---- turns
+
+-- how many accesses of the kind are left after a look at whether one is wanted; none where it is the last
+abbrev pub left_after : Bool → ℕ → Option ℕ
+left_after wanted left = if wanted then (if nat_le left 1 then None else Some (left - 1)) else Some left
+
+-- ---- what holds all the while
+
+pub record IsUnderWay (t : Terms) (now : Progress) : Type 0 where
+  pub words : WordsSound t.pair.target t.setting now.words
+  pub belong : AllBelongTo t.pair t.setting now.entries
+  pub rooms : (c : ℕ) (e : RoomyEntry) → slice_get now.entries c ≡ Some e → length (script_of t.scripts c) ≤ e.room
+  pub calls : (c k : ℕ) (call : Call) → slice_get (script_of t.scripts c) k ≡ Some call → is_call t.pair.target call ≡ true
+
+-- ---- the start and the whole
+
+-- an idle entry for each script, from a number on, with room for its replies
+abbrev pub fresh_entries : ℕ → List (List Call) → List RoomyEntry
+fresh_entries c [] = []
+fresh_entries c (script ∷ scripts) = record { core = idle_entry c; room = length script } ∷ fresh_entries (c + 1) scripts
+
+-- what the start needs
+pub record SuitsReplay (t : Terms) : Type 0 where
+  pub fits : Fits t.pair.target t.setting
+  pub count : length t.scripts ≡ t.setting.sizes.callers
+  pub calls : All (AreCalls t.pair.target) t.scripts
+  pub few : All IsShort t.scripts
+
+-- the turns and then each caller to its end, from a state on
+abbrev pub replayed_from : Replay → List Turn → Replaying → Result Replaying Refusal
+replayed_from p turns r = go_further (turns_made p turns r) (callers_ended p 0 p.setting.sizes.callers)
+
+abbrev pub error_of : Stop → ReplayError
+error_of (stops.StepOfNobody steps) = errors.StepOfNobody steps
+error_of (stops.LongReplay steps) = errors.LongReplay steps
+
+-- ---- one caller alone
+
+-- with another limit
+abbrev pub limited : Terms → ℕ → Replay
+limited t limit = record (replay_by t) { limit = limit }
+
+abbrev pub alone_from : Replay → Replaying → Result Replaying Refusal
+alone_from p r = caller_ended p 0 (most_steps p r) r
+
+-- the first caller ended so: where the limit is great enough
+pub record EndsAlone (t : Terms) (now : Progress) : Type 0 where
+  pub limit : ℕ
+  pub r : Replaying
+  pub ended : alone_from (limited t limit) (replay_start (limited t limit)) ≡ Ok r
+  pub state : r.state ≡ (shown now).state
+
+-- ---- kinds of access
+
+-- fields and cells stand from one address on
+abbrev pub kind_from : ℕ → ℕ → StepKind → Option StepKind
+kind_from first at kind = if nat_le first at then Some kind else None
+
+abbrev pub kind_at : ℕ → Access → Option StepKind
+kind_at first (codes.Load at) = kind_from first at kinds.Load
+kind_at first (codes.CompareExchange at expected replacement) = kind_from first at kinds.Exchange
+kind_at first (codes.Store at word) = None
+kind_at first (codes.FetchMax at word) = None

@@ -1,0 +1,186 @@
+//! Replay: the run of scripts that the turns of a schedule give.
+
+ghost use Rattle.std.specs.Prelude.{◌≡◌, ◌≤◌, IfOk, All, length};
+ghost use Rattle.caller_steps.specs.Calls.{AreCalls};
+ghost use Rattle.caller_steps.specs.Settings.{Fits};
+ghost use Rattle.core_runs.specs.Replays.{replay_start, replayed};
+ghost use Rattle.oa_core.specs.Finals.{IsShort, phase_of, is_spent_in, replay_limit, replay_of, Answers, EndsRun};
+ghost use Rattle.oa_core.specs.Shown.{replay_by, shown, bared, told, fresh_entries, replayed_from, error_of, SuitsReplay, IsUnderWay};
+
+use crate::entry::Entry;
+use crate::prepared::{Prepared, kept};
+use crate::progress::{Progress, Stop, Terms};
+use crate::words::PlainWords;
+use barrier_check::Barred;
+use caller_steps::{Call, Setting};
+use norm_lang::list::Listed;
+use schedule_turns::Turn;
+use std::alloc::{AllocError, Global};
+use std::marker::Model;
+
+/// Why a schedule isn't replayed.
+#[derive(Clone, Copy, Debug, PartialEq, Eq)]
+pub enum ReplayError {
+    /// Memory ran out, before the first step.
+    Memory,
+    /// A turn needs a step of a caller that has none to take, or that doesn't exist.
+    StepOfNobody {
+        /// The steps made before.
+        steps: u64,
+    },
+    /// 20,000,000 steps were made, and another is wanted.
+    LongReplay {
+        /// The steps made.
+        steps: u64,
+    },
+}
+
+/// Calls, in order.
+pub type CallList = Listed<Call>;
+
+/// The words and the entries in which a run of scripts ended.
+#[derive(Debug, Drop)]
+pub struct CoreState {
+    pub(crate) words: PlainWords,
+    pub(crate) entries: Vec<Entry>,
+    pub(crate) fuel: u64,
+}
+
+impl Model for CoreState {
+    ghost use Rattle.oa_core.specs.Finals.{Final};
+
+    ghost Value = { Final };
+
+    ghost view = { λ s. record { words = s.words; entries = s.entries.items; fuel = s.fuel } };
+}
+
+impl CoreState {
+    /// The phase.
+    pub fn phase(&self) -> u64
+        ensures { result ≡ phase_of self.now }
+    {
+        self.words.phase()
+    }
+
+    /// The callers' entries, by their numbers.
+    pub fn entries(&self) -> &[Entry]
+        ensures { result.now ≡ self.now.entries }
+    {
+        &self.entries
+    }
+
+    /// Whether an operation of this caller was given its fuel of steps and hasn't ended.
+    pub fn is_spent(&self, caller: u32) -> bool
+        ensures { result ≡ is_spent_in self.now caller }
+    {
+        match self.entries.get(caller as usize) {
+            None => false,
+            Some(entry) => entry.is_spent(self.fuel),
+        }
+    }
+}
+
+/// An idle entry for each script, with room for its replies.
+fn put_entries(alloc: Global, scripts: &[CallList]) -> Result<Vec<Entry>, AllocError>
+    requires count { length scripts.now ≤ 8 }
+    requires few { All IsShort scripts.now }
+    ensures { IfOk result (λ entries. entries.items ≡ fresh_entries 0 scripts.now) }
+{
+    let mut entries = Vec::new(alloc);
+    let mut number = 0;
+    for script in scripts {
+        let entry = Entry::new(alloc, number, script.items().len() as u32)?;
+        entries.push(entry)?;
+        number += 1;
+    }
+    Ok(entries)
+}
+
+/// The start of a replay.
+pub(crate) fn start(alloc: Global, terms: &Terms) -> Result<Progress, AllocError>
+    requires suits { SuitsReplay terms.now }
+    ensures started { IfOk result (λ now. shown now ≡ replay_start (replay_by terms.now)) }
+    ensures under_way { IfOk result (λ now. IsUnderWay terms.now now) }
+{
+    terms.setting.kept();
+    let _ = terms.prepared.program();
+    let _callers = terms.setting.shape().callers();
+    let words = PlainWords::new(alloc, terms.prepared.barred(), terms.setting)?;
+    let entries = put_entries(alloc, terms.scripts)?;
+    Ok(Progress {
+        words,
+        entries,
+        steps: 0,
+    })
+}
+
+/// The turns, and then each caller to its end.
+fn run(terms: &Terms, now: &mut Progress, schedule: &[Turn]) -> Result<(), Stop>
+    requires under_way { IsUnderWay terms.now now.old }
+    ensures { told result now.new ≡ bared (replayed_from (replay_by terms.now) schedule.now (shown now.old)) }
+{
+    terms.make_turns(now, schedule)?;
+    terms.end_callers(now)
+}
+
+fn error_of(stop: Stop) -> ReplayError
+    ensures { result ≡ error_of stop }
+{
+    match stop {
+        Stop::StepOfNobody { steps } => ReplayError::StepOfNobody { steps },
+        Stop::LongReplay { steps } => ReplayError::LongReplay { steps },
+    }
+}
+
+#[tactic(auto, unfolding(crate::specs::Finals::replay_limit))]
+fn replay_limit() -> u64
+    ensures { result ≡ replay_limit }
+{
+    20_000_000
+}
+
+/// Replays scripts, one for each caller: the turns of a schedule in order, and then each caller to its end, in the order of
+/// their numbers. A caller has a step to take where its operation runs or its script has a further call, and no operation
+/// of it was spent. An operation is spent where `fuel` steps were made for it and it hasn't ended.
+///
+/// # Errors
+/// A turn needs a step of a caller that has none to take or that doesn't exist, 20,000,000 steps were made and another is
+/// wanted, or memory ran out.
+pub fn replay(
+    alloc: Global,
+    barred: &Barred,
+    setting: &Setting,
+    scripts: &[CallList],
+    fuel: u64,
+    schedule: &[Turn],
+) -> Result<CoreState, ReplayError>
+    requires fits { Fits barred.now.target setting.now }
+    requires count { length scripts.now ≡ setting.now.sizes.callers }
+    requires calls { All (AreCalls barred.now.target) scripts.now }
+    requires few { All IsShort scripts.now }
+    requires fuel { 1 ≤ fuel }
+    ensures replayed { Answers result fuel (replayed (replay_of barred.now.target setting.now scripts.now fuel) schedule.now) }
+    ensures complete { IfOk result (λ s. EndsRun barred.now.target setting.now scripts.now fuel s) }
+{
+    kept(barred);
+    setting.kept();
+    let terms = Terms {
+        prepared: Prepared::new(barred),
+        setting,
+        scripts,
+        fuel,
+        limit: replay_limit(),
+    };
+    let mut now = match start(alloc, &terms) {
+        Err(_) => return Err(ReplayError::Memory),
+        Ok(now) => now,
+    };
+    match run(&terms, &mut now, schedule) {
+        Err(stop) => Err(error_of(stop)),
+        Ok(()) => Ok(CoreState {
+            words: now.words,
+            entries: now.entries,
+            fuel,
+        }),
+    }
+}

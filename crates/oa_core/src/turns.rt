@@ -1,0 +1,172 @@
+//! The turns of a schedule, and each caller to its end.
+
+ghost use Rattle.std.specs.Prelude.{◌≡◌, ◌<◌, ◌+◌, ◌^◌, is_some};
+ghost use Rattle.core_runs.specs.Replays.{is_of_kind, next_events, wants_kind, most_steps, steps_made, upto_made, ended_calls, ops_made, turn_made, turns_made, caller_ended, callers_ended};
+ghost use Rattle.oa_core.specs.Shown.{replay_by, shown, bared, told, left_after, IsUnderWay};
+
+use crate::progress::{Progress, Stop, Terms, entry_at};
+use schedule_turns::{StepKind, Turn};
+
+/// Whether an access of this kind is wanted.
+fn is_of_kind(kind: StepKind, wanted: Option<StepKind>) -> bool
+    ensures { result ≡ is_of_kind kind wanted }
+{
+    match wanted {
+        None => false,
+        Some(StepKind::Load) => matches!(kind, StepKind::Load),
+        Some(StepKind::Check) => matches!(kind, StepKind::Check),
+        Some(StepKind::Exchange) => matches!(kind, StepKind::Exchange),
+    }
+}
+
+/// How many accesses of the kind are left after a look at whether one is wanted; none where it is the last.
+fn left_after(wanted: bool, left: u32) -> Option<u32>
+    ensures { result ≡ left_after wanted left }
+{
+    if !wanted {
+        return Some(left);
+    }
+    if left <= 1 { None } else { Some(left - 1) }
+}
+
+impl<'a> Terms<'a> {
+    /// Whether a caller's next access is of this kind.
+    fn wants_kind(&self, now: &Progress, caller: u32, kind: StepKind) -> bool
+        requires { IsUnderWay self.now now.now }
+        ensures { result ≡ wants_kind (replay_by self.now) caller kind (shown now.now) }
+    {
+        match entry_at(&now.entries, caller) {
+            None => false,
+            Some(entry) => is_of_kind(kind, entry.kind_wanted(&self.prepared, self.setting)),
+        }
+    }
+
+    /// How many of a caller's calls have ended.
+    fn ended_calls(&self, now: &Progress, caller: u32) -> u64
+        ensures count { result ≡ ended_calls caller (shown now.now) }
+        ensures few { result < 2 ^ 62 }
+    {
+        match now.entries.get(caller as usize) {
+            None => 0,
+            Some(entry) => entry.replies().len() as u64,
+        }
+    }
+
+    /// How many of a caller's calls have ended once so many more have.
+    fn goal_of(&self, now: &Progress, caller: u32, count: u32) -> u64
+        ensures { result ≡ ended_calls caller (shown now.now) + count }
+    {
+        self.ended_calls(now, caller) + count as u64
+    }
+
+    /// So many steps of a caller.
+    #[tactic(auto, using(crate::proofs::Looping::steps_more, crate::proofs::Looping::steps_stop, crate::proofs::Looping::steps_end))]
+    fn make_steps(&self, now: &mut Progress, caller: u32, count: u32) -> Result<(), Stop>
+        requires under_way { IsUnderWay self.now now.old }
+        ensures made { told result now.new ≡ bared (steps_made (replay_by self.now) caller count (shown now.old)) }
+        ensures under_way { IsUnderWay self.now now.new }
+    {
+        for _ in 0..count {
+            self.step_of(now, caller)?;
+        }
+        Ok(())
+    }
+
+    /// Steps of a caller up to the access that is, from here on, this one of its kind; that one isn't made.
+    #[tactic(auto, using(crate::proofs::Looping::upto_more, crate::proofs::Looping::upto_stop, crate::proofs::Looping::upto_end))]
+    fn make_upto(
+        &self,
+        now: &mut Progress,
+        caller: u32,
+        kind: StepKind,
+        count: u32,
+    ) -> Result<(), Stop>
+        requires under_way { IsUnderWay self.now now.old }
+        ensures made { told result now.new ≡ bared (upto_made (replay_by self.now) caller kind (most_steps (replay_by self.now) (shown now.old)) count (shown now.old)) }
+        ensures under_way { IsUnderWay self.now now.new }
+    {
+        let mut left = count;
+        'steps: while let Some(rest) = left_after(self.wants_kind(now, caller, kind), left) {
+            self.step_of(now, caller)?;
+            left = rest;
+        }
+        Ok(())
+    }
+
+    /// Steps of a caller until so many more of its calls have ended.
+    #[tactic(auto, using(crate::proofs::Looping::ops_more, crate::proofs::Looping::ops_stop, crate::proofs::Looping::ops_end))]
+    fn make_ops(&self, now: &mut Progress, caller: u32, count: u32) -> Result<(), Stop>
+        requires under_way { IsUnderWay self.now now.old }
+        ensures made { told result now.new ≡ bared (ops_made (replay_by self.now) caller (most_steps (replay_by self.now) (shown now.old)) (ended_calls caller (shown now.old) + count) (shown now.old)) }
+        ensures under_way { IsUnderWay self.now now.new }
+    {
+        let goal = self.goal_of(now, caller, count);
+        'steps: while self.ended_calls(now, caller) < goal {
+            self.step_of(now, caller)?;
+        }
+        Ok(())
+    }
+
+    fn make_turn(&self, now: &mut Progress, turn: Turn) -> Result<(), Stop>
+        requires under_way { IsUnderWay self.now now.old }
+        ensures made { told result now.new ≡ bared (turn_made (replay_by self.now) turn (shown now.old)) }
+        ensures under_way { IsUnderWay self.now now.new }
+    {
+        match turn {
+            Turn::Step { caller, count } => self.make_steps(now, caller, count),
+            Turn::Upto {
+                caller,
+                kind,
+                count,
+            } => self.make_upto(now, caller, kind, count),
+            Turn::Ops { caller, count } => self.make_ops(now, caller, count),
+        }
+    }
+
+    /// The turns in order.
+    #[tactic(auto, using(crate::proofs::Looping::turns_more, crate::proofs::Looping::turns_stop))]
+    pub(crate) fn make_turns(&self, now: &mut Progress, schedule: &[Turn]) -> Result<(), Stop>
+        requires under_way { IsUnderWay self.now now.old }
+        ensures made { told result now.new ≡ bared (turns_made (replay_by self.now) schedule.now (shown now.old)) }
+        ensures under_way { IsUnderWay self.now now.new }
+    {
+        for turn in schedule {
+            self.make_turn(now, *turn)?;
+        }
+        Ok(())
+    }
+
+    /// Whether a caller has a step to take.
+    fn has_step(&self, now: &Progress, caller: u32) -> bool
+        ensures { result ≡ is_some (next_events (replay_by self.now) caller (shown now.now)) }
+    {
+        self.next_of(now, caller).is_some()
+    }
+
+    /// All the steps that a caller has.
+    #[tactic(auto, using(crate::proofs::Looping::caller_more, crate::proofs::Looping::caller_stop, crate::proofs::Looping::caller_end))]
+    fn end_caller(&self, now: &mut Progress, caller: u32) -> Result<(), Stop>
+        requires under_way { IsUnderWay self.now now.old }
+        ensures made { told result now.new ≡ bared (caller_ended (replay_by self.now) caller (most_steps (replay_by self.now) (shown now.old)) (shown now.old)) }
+        ensures under_way { IsUnderWay self.now now.new }
+    {
+        'steps: while self.has_step(now, caller) {
+            self.step_of(now, caller)?;
+        }
+        Ok(())
+    }
+
+    /// Each caller to its end, in the order of their numbers.
+    #[tactic(auto, using(crate::proofs::Looping::callers_more, crate::proofs::Looping::callers_stop, crate::proofs::Looping::callers_end))]
+    pub(crate) fn end_callers(&self, now: &mut Progress) -> Result<(), Stop>
+        requires under_way { IsUnderWay self.now now.old }
+        ensures made { told result now.new ≡ bared (callers_ended (replay_by self.now) 0 self.now.setting.sizes.callers (shown now.old)) }
+        ensures under_way { IsUnderWay self.now now.new }
+    {
+        let callers = self.setting.shape().callers();
+        for caller in 0..callers {
+            self.end_caller(now, caller)?;
+        }
+        Ok(())
+    }
+}

@@ -1,0 +1,219 @@
+-- From the step lemma to every run of the core.
+use Rattle.std.proofs.Common.{if◌then◌else◌, ℕ, ◌≡◌, ◌≢◌, ◌<◌, ◌∙◌, ◌++◌, Bool, true, false, List, [], ◌∷◌, Option, Some, None, ⊎_elim, sym, ap, subst, refl, arith}
+use Rattle.std.specs.Prelude.{slice_get, unwrap_or}
+use Rattle.target_code.specs.declared.target.Target.{Target}
+use Rattle.oa_words.specs.Words.{Word, in_row}
+use Rattle.phase_pools.specs.Accesses.{WordAccess, word_of}
+use Rattle.source_machine.specs.MethodRuns.{put}
+use Rattle.source_machine.specs.Proper.{IsProper}
+use Rattle.source_machine.proofs.Places.{each_put, put_same}
+use Rattle.caller_steps.specs.declared.call.Call.{Call}
+use Rattle.caller_steps.specs.declared.routine.Routine.{Routine}
+use Rattle.caller_steps.specs.declared.routine.Routine.TheVariants.{Idle, LoadSeen, At, InList, Retires, Restarts, Clears, Claims, Zeroes}
+use Rattle.caller_steps.specs.Settings.{Setting}
+use Rattle.caller_steps.specs.Entries.{Entry, idle_entry, is_idle}
+use Rattle.caller_steps.specs.Wants.{wants}
+use Rattle.caller_steps.specs.After.{after, signs, taken, counted}
+use Rattle.caller_steps.specs.After.{moved as after_moves}
+use Rattle.caller_steps.specs.Belongs.{Belongs}
+use Rattle.core_runs.specs.Machine.{CoreState, CoreEvent, Takes, Steps, core_event, core_run, run_on}
+use Rattle.caller_steps.specs.Calls.{is_call}
+use Rattle.core_sound.specs.Sound.{IsSound}
+use Rattle.core_runs.specs.Advances.{RunsOn, Ends, EndsOrRuns}
+use Rattle.core_runs.proofs.Turning.{after_turns}
+use Rattle.core_runs.specs.Views.{CoreView, view, Moves}
+use Rattle.core_runs.specs.Views.{EventsAreSeen, IsShaped}
+use Rattle.core_runs.specs.RunSigns.{Signed, signed, run_signs, event_signs, signs_on}
+use Rattle.core_runs.proofs.Keeping.{idle_wants}
+use Rattle.oa_words.specs.Words.{in_row, address_of}
+use Rattle.local_laws.proofs.Inside.{there_is}
+use Rattle.std.specs.Prelude.{slice_index}
+use Rattle.sim_relation.specs.Views.{Plan, IsPlan, Shared, Caller}
+use Rattle.sim_relation.specs.Callers.{Told, Spotted}
+use Rattle.sim_relation.specs.Steps.{Kept, TakeKept, StepsKeep, after_access}
+use Rattle.sim_relation.specs.Worlds.{World}
+use Rattle.caller_steps.specs.Signs.{Moved}
+use Rattle.oa_simulation.specs.Shadow.{Shadow, shadow_run}
+use Rattle.sim_relation.specs.Points.{point, DrawsHome}
+use Rattle.oa_simulation.specs.Beside.{Placed, Beside}
+use Rattle.oa_simulation.proofs.Worlds.{holds_on}
+use Rattle.oa_simulation.proofs.Lifting.{Lifted, lift, stays_proper}
+use Rattle.oa_simulation.specs.Relation.{HomeIs}
+use Rattle.oa_simulation.proofs.Homes.{home_before, run_append, draws_home}
+
+idle_is : (r : Routine) → is_idle r ≡ true → r ≡ Idle
+idle_is Idle is = refl
+idle_is (LoadSeen why) is = absurd (let z : false ≡ true = is in cc)
+idle_is At is = absurd (let z : false ≡ true = is in cc)
+idle_is (InList k) is = absurd (let z : false ≡ true = is in cc)
+idle_is (Retires retirement go) is = absurd (let z : false ≡ true = is in cc)
+idle_is Restarts is = absurd (let z : false ≡ true = is in cc)
+idle_is (Clears next) is = absurd (let z : false ≡ true = is in cc)
+idle_is (Claims claim) is = absurd (let z : false ≡ true = is in cc)
+idle_is (Zeroes k field) is = absurd (let z : false ≡ true = is in cc)
+
+-- a call is taken
+pub take_kept : (t : Plan) (s : Shared) (c : ℕ) (x : Caller) (call : Call) → Told t s c x → is_idle x.entry.routine ≡ true → TakeKept t c s x call
+take_kept t s c x call told idle =
+    let spot : Spotted t s c x Idle = subst (λ (r : Routine). Spotted t s c x r) (idle_is x.entry.routine idle) told.spot in
+    let b = told.base in
+    record {
+      x' = record x { entry = taken call x.entry };
+      entry = refl;
+      source = refl;
+      watch = refl;
+      told = record {
+        base = record { number = b.number; seen = b.seen; old = b.old; hazard = b.hazard; protects = b.protects; known = b.known; cradle = b.cradle };
+        spot = (spot.0, spot.1, spot.2);
+      };
+    }
+
+busy : (target : Target) (e : Entry) (a : WordAccess) (b : Bool) → is_idle e.routine ≡ b → wants target e ≡ Some a → is_idle e.routine ≡ false
+busy target e a true is want = absurd (idle_wants target e a is want)
+busy target e a false is want = is
+
+belongs_seen : (target : Target) (setting : Setting) (state : CoreState) (c : ℕ) → IsSound target setting state → c < setting.sizes.callers → Belongs target setting ((view setting state).who c)
+belongs_seen target setting state c s lt = of (slice_get state.entries c) refl where
+  of : (o : Option Entry) → slice_get state.entries c ≡ o → Belongs target setting (unwrap_or o (idle_entry c))
+  of None is = absurd (let callers = s.callers in let there = there_is state.entries c (omega (arith, lt, callers)) in let z : None ≡ Some there.0 = sym is ∙ there.1 in cc)
+  of (Some e) is = (s.belong c e is).0
+
+-- the entry after a step, and its signs
+after_is : (target : Target) (setting : Setting) (e : Entry) (word : ℕ) → after target setting e word ≡ (after_moves target setting e word).entry
+unfolding after
+after_is target setting e word = refl
+
+pub signs_are : (target : Target) (setting : Setting) (e : Entry) (word : ℕ) → signs target setting e word ≡ (after_moves target setting e word).signs
+unfolding signs
+signs_are target setting e word = refl
+
+-- the call stays
+call_stays : (before later : Entry) → EndsOrRuns before later → later.running.call ≡ before.running.call
+call_stays before later turns = ap (λ running. running.call) (⊎_elim (λ (r : RunsOn before later). r.2) (λ (r : Ends before later). r.3) turns)
+
+module _ (t : Plan) (plan : IsPlan t) (test : Entry → Bool) (keeps : StepsKeep t test) (proper : IsProper t.text) (events_seen : EventsAreSeen t.target t.setting) where
+  abbrev seen : CoreState → CoreView
+  seen state = view t.setting state
+
+  abbrev n : ℕ
+  n = t.setting.sizes.callers
+
+  called_put : (v : CoreView) (c : ℕ) (e : Entry) → ((d : ℕ) → d < n → is_idle (v.who d).routine ≡ false → is_call t.target (v.who d).running.call ≡ true)
+      → (is_idle e.routine ≡ false → is_call t.target e.running.call ≡ true) → (who' : ℕ → Entry) → who' ≡ put v.who c e
+      → (d : ℕ) → d < n → is_idle (who' d).routine ≡ false → is_call t.target (who' d).running.call ≡ true
+  called_put v c e old new who' is d lt =
+      subst (λ (k : ℕ → Entry). is_idle (k d).routine ≡ false → is_call t.target (k d).running.call ≡ true) (sym is)
+      (each_put (λ i (y : Entry). i < n → is_idle y.routine ≡ false → is_call t.target y.running.call ≡ true) v.who c e (λ lt. new) (λ i ne. old i) d lt)
+
+  entry_put : (w : World) (v : CoreView) (c : ℕ) (x' : Caller) (e : Entry) → ((d : ℕ) → d < n → (w.who d).entry ≡ v.who d) → x'.entry ≡ e → (who' : ℕ → Entry) → who' ≡ put v.who c e
+      → (d : ℕ) → d < n → (put w.who c x' d).entry ≡ who' d
+  entry_put w v c x' e old new who' is =
+      subst (λ (k : ℕ → Entry). (d : ℕ) → d < n → (put w.who c x' d).entry ≡ k d) (sym is)
+      (each_put (λ d (y : Caller). d < n → y.entry ≡ put v.who c e d) w.who c x' (λ lt. new ∙ sym (put_same v.who c e)) (λ d ne lt. old d lt ∙ other d ne)) where
+        other : (d : ℕ) → d ≢ c → v.who d ≡ put v.who c e d
+        other d ne = sym (let open_ = put_other_here d ne in open_) where
+          put_other_here : (d : ℕ) → d ≢ c → put v.who c e d ≡ v.who d
+          put_other_here d ne = each_put (λ i (y : Entry). i ≢ c → y ≡ v.who i) v.who c e (λ no. absurd (no refl)) (λ i ne no. refl) d ne
+
+  take_beside : (state behind : CoreState) (z : Shadow) (c : ℕ) (call : Call) → Beside t state z → Moves t.target t.setting (seen state) (Takes c call) (seen behind) → Beside t behind z
+  take_beside state behind z c call b m =
+      let lt = m.0 in
+      let e = b.entry c lt in
+      let k = take_kept t b.w.shared c (b.w.who c) call (b.holds.told c lt) (ap (λ (e : Entry). is_idle e.routine) e ∙ m.1) in
+      record {
+        w = record { shared = b.w.shared; who = put b.w.who c k.x' };
+        v = b.v;
+        holds = record {
+          fine = b.holds.fine;
+          told = each_put (λ d (x : Caller). d < n → Told t b.w.shared d x) b.w.who c k.x' (λ lt. k.told) (λ d ne lt. b.holds.told d lt);
+        };
+        memory = b.memory ∙ sym m.3;
+        entry = entry_put b.w (seen state) c k.x' (taken call ((seen state).who c)) b.entry (k.entry ∙ ap (taken call) e) (seen behind).who m.4;
+        sourced = b.sourced;
+        source = b.source;
+        caller = each_put (λ d (x : Caller). d < n → slice_get b.v.machine.callers d ≡ Some x.source) b.w.who c k.x' (λ lt. b.caller c lt ∙ ap Some (sym k.source)) (λ d ne lt. b.caller d lt);
+        run = each_put (λ d (x : Caller). d < n → b.v.runs d ≡ x.watch) b.w.who c k.x' (λ lt. b.run c lt ∙ sym k.watch) (λ d ne lt. b.run d lt);
+        unused = b.unused;
+        called = called_put (seen state) c (taken call ((seen state).who c)) b.called (λ run. m.2) (seen behind).who m.4;
+      }
+
+  -- a word that the row hasn't is seen as 0
+  past_row : (state : CoreState) (w : Word) → in_row t.setting.sizes w ≡ false → (seen state).memory w ≡ 0
+  past_row state w out = ap (λ (b : Bool). if b then slice_index state.words (address_of t.setting.sizes w) else 0) out
+
+  pub step_beside : (state behind : CoreState) (z : Shadow) (c : ℕ) → test ((seen state).who c) ≡ true → IsSound t.target t.setting state → IsShaped t.target t.setting state → Beside t state z → Moves t.target t.setting (seen state) (Steps c) (seen behind)
+      → HomeIs t.home (shadow_run t.text (event_signs t.target t.setting state (Steps c)) z) → Beside t behind (shadow_run t.text (event_signs t.target t.setting state (Steps c)) z)
+  step_beside state behind z c passes sound shaped b m homes =
+      let a : WordAccess = m.0 in
+      let lt = m.1 in
+      let s : Shared = b.w.shared in
+      let x : Caller = b.w.who c in
+      let e : x.entry ≡ (seen state).who c = b.entry c lt in
+      let want : wants t.target ((seen state).who c) ≡ Some a = m.2 in
+      let made : Moved = after_moves t.target t.setting x.entry (s.memory (word_of a)) in
+      let same_move : made ≡ after_moves t.target t.setting ((seen state).who c) ((seen state).memory (word_of a)) =
+      ap (λ (e : Entry). after_moves t.target t.setting e (s.memory (word_of a))) e
+      ∙ ap (λ (k : Word → ℕ). after_moves t.target t.setting ((seen state).who c) (k (word_of a))) b.memory in
+      let same : signed c made.signs ≡ event_signs t.target t.setting state (Steps c) =
+      ap (λ (k : Moved). signed c k.signs) same_move
+      ∙ (ap (signed c) (sym (signs_are t.target t.setting ((seen state).who c) ((seen state).memory (word_of a)))) ∙ sym (events_seen.signs state c a shaped lt want)) in
+      let placed : Placed b.v z c (point s x) = record { caller = b.caller c lt; memory = b.source; run = b.run c lt; unused = b.unused } in
+      let draws : DrawsHome t.home made.signs s.unused =
+      subst (λ (u : ℕ). DrawsHome t.home made.signs u) b.unused
+      (draws_home t.text t.home c made.signs z (subst (λ (k : List Signed). HomeIs t.home (shadow_run t.text k z)) (sym same) homes)) in
+      let run : is_idle ((seen state).who c).routine ≡ false = busy t.target ((seen state).who c) a (is_idle ((seen state).who c).routine) refl want in
+      let k : Kept t c s x (after_access s.memory a) made =
+      keeps.step c s x a (ap test e ∙ passes) lt b.holds.fine (b.holds.told c lt)
+      (subst (λ (e : Entry). Belongs t.target t.setting e) (sym e) (belongs_seen t.target t.setting state c sound lt))
+      (ap (λ (e : Entry). is_call t.target e.running.call) e ∙ b.called c lt run)
+      (stays_proper t.text n c z b.v (point s x) proper b.sourced placed)
+      (ap (wants t.target) e ∙ want) m.3 (λ w out. ap (λ (k : Word → ℕ). k w) b.memory ∙ past_row state w out) draws in
+      let l : Lifted t.text n c b.v (point k.s' k.x') (shadow_run t.text (event_signs t.target t.setting state (Steps c)) z) =
+      subst (λ (i : List Signed). Lifted t.text n c b.v (point k.s' k.x') (shadow_run t.text i z)) same
+      (lift t.text n c made.signs (point s x) (point k.s' k.x') k.plays z b.v b.sourced placed) in
+      let next : Entry = after t.target t.setting ((seen state).who c) ((seen state).memory (word_of a)) in
+      record {
+        w = record { shared = k.s'; who = put b.w.who c k.x' };
+        v = l.v';
+        holds = holds_on t b.w c (after_access s.memory a) made plan b.holds k;
+        memory = k.memory ∙ (ap (λ (i : Word → ℕ). after_access i a) b.memory ∙ sym m.4);
+        entry = entry_put b.w (seen state) c k.x' next b.entry
+            (k.entry ∙ (ap (λ (i : Moved). i.entry) same_move ∙ sym (after_is t.target t.setting ((seen state).who c) ((seen state).memory (word_of a)))))
+            (seen behind).who m.5;
+        sourced = l.sourced;
+        source = l.placed.memory;
+        caller = each_put (λ d (y : Caller). d < n → slice_get l.v'.machine.callers d ≡ Some y.source) b.w.who c k.x' (λ lt. l.placed.caller) (λ d ne lt. (l.others d ne).0 ∙ b.caller d lt);
+        run = each_put (λ d (y : Caller). d < n → l.v'.runs d ≡ y.watch) b.w.who c k.x' (λ lt. l.placed.run) (λ d ne lt. (l.others d ne).1 ∙ b.run d lt);
+        unused = l.placed.unused;
+        called = called_put (seen state) c next b.called
+            (λ on. ap (is_call t.target) (call_stays (counted ((seen state).who c)) next (after_turns t.target t.setting ((seen state).who c) ((seen state).memory (word_of a)) run)) ∙ b.called c lt run)
+            (seen behind).who m.5;
+      }
+
+  event_beside : ((e : Entry) → test e ≡ true) → (event : CoreEvent) (state behind : CoreState) (z : Shadow) → IsSound t.target t.setting state → IsShaped t.target t.setting state → Beside t state z → Moves t.target t.setting (seen state) event (seen behind)
+      → HomeIs t.home (shadow_run t.text (event_signs t.target t.setting state event) z) → Beside t behind (shadow_run t.text (event_signs t.target t.setting state event) z)
+  event_beside all (Takes c call) state behind z sound shaped b m homes = take_beside state behind z c call b m
+  event_beside all (Steps c) state behind z sound shaped b m homes = step_beside state behind z c (all ((seen state).who c)) sound shaped b m homes
+
+  -- the induction, over what stays sound
+  pub run_beside : ((e : Entry) → test e ≡ true) → ((state : CoreState) → IsSound t.target t.setting state → IsShaped t.target t.setting state)
+      → ((state behind : CoreState) (event : CoreEvent) → IsSound t.target t.setting state → core_event t.target t.setting state event ≡ Some behind → IsSound t.target t.setting behind)
+      → (events : List CoreEvent) (state behind : CoreState) (z : Shadow) → IsSound t.target t.setting state → Beside t state z → core_run t.target t.setting events state ≡ Some behind
+      → HomeIs t.home (shadow_run t.text (run_signs t.target t.setting events state) z) → Beside t behind (shadow_run t.text (run_signs t.target t.setting events state) z)
+  run_beside all shaped stays [] state behind z sound b is homes = subst (λ (i : CoreState). Beside t i z) (let same : state ≡ behind = cc in same) b
+  run_beside all shaped stays (event ∷ events) state behind z sound b is homes =
+      of (λ next. run_beside all shaped stays events next behind) (core_event t.target t.setting state event) refl is homes where
+        of : ((next : CoreState) (z : Shadow) → IsSound t.target t.setting next → Beside t next z → core_run t.target t.setting events next ≡ Some behind
+            → HomeIs t.home (shadow_run t.text (run_signs t.target t.setting events next) z) → Beside t behind (shadow_run t.text (run_signs t.target t.setting events next) z))
+            → (o : Option CoreState) → core_event t.target t.setting state event ≡ o → run_on o (core_run t.target t.setting events) ≡ Some behind
+            → HomeIs t.home (shadow_run t.text (event_signs t.target t.setting state event ++ signs_on o (run_signs t.target t.setting events)) z)
+            → Beside t behind (shadow_run t.text (event_signs t.target t.setting state event ++ signs_on o (run_signs t.target t.setting events)) z)
+        of more None at runs homes = absurd (let y : None ≡ Some behind = runs in cc)
+        of more (Some next) at runs homes =
+            let append = run_append t.text (event_signs t.target t.setting state event) (run_signs t.target t.setting events next) z in
+            let mid : Shadow = shadow_run t.text (event_signs t.target t.setting state event) z in
+            let homes2 : HomeIs t.home (shadow_run t.text (run_signs t.target t.setting events next) mid) = subst (λ (i : Shadow). HomeIs t.home i) append homes in
+            subst (λ (i : Shadow). Beside t behind i) (sym append)
+            (more next mid (stays state next event sound at)
+            (event_beside all event state next z sound (shaped state sound) b (events_seen.moves state next event (shaped state sound) at) (home_before t.text t.home (run_signs t.target t.setting events next) mid homes2))
+            runs homes2)

@@ -1,0 +1,13 @@
+pub mod Worlds
+pub mod Lifting
+pub mod Homes
+pub mod Induction
+pub mod Agreeing
+pub mod Shadows
+pub mod Refining
+pub mod Starting
+pub mod FirstWords
+pub mod QuietSteps
+pub mod Barring
+pub mod Testing
+pub mod FactsHold

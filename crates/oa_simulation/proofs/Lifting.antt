@@ -1,0 +1,162 @@
+-- What a caller's signs do to its own part of the source, the whole source does.
+use Rattle.std.proofs.Common.{ℕ, zero, suc, ◌≡◌, ◌≢◌, ◌∙◌, Bool, true, false, List, [], ◌∷◌, Some, None, set, sym, ap, subst, refl}
+use Rattle.std.specs.Prelude.{slice_get}
+use Rattle.norm_lang.specs.declared.text.Text.{Text}
+use Rattle.source_machine.specs.declared.event.SourceEvent.{SourceEvent}
+use Rattle.source_machine.specs.declared.event.SourceEvent.TheVariants.{Restart}
+use Rattle.source_machine.specs.declared.state.Memory.{Memory}
+use Rattle.source_machine.specs.declared.state.SourceCaller.{SourceCaller}
+use Rattle.source_machine.specs.declared.state.SourceMachine.{SourceMachine}
+use Rattle.source_machine.specs.Step.{caller_turn}
+use Rattle.source_machine.specs.Run.{mover, is_enabled, is_enabled_for}
+use Rattle.source_machine.specs.MethodRuns.{MethodRun, run_after, run_at, Watched, watched_start, watched_step, watched_run}
+use Rattle.source_machine.specs.Proper.{runs_method, IsProper, IsProperState}
+use Rattle.source_machine.proofs.Places.{put_same, put_other}
+use Rattle.source_machine.proofs.Along.{source_run_more, watched_more, watched_machine}
+use Rattle.caller_steps.specs.Signs.{Sign, Begins, Accesses, Draws, Renews, GivesUp}
+use Rattle.core_runs.specs.RunSigns.{signed}
+use Rattle.sim_relation.specs.Points.{event_of}
+use Rattle.oa_simulation.specs.Shadow.{Shadow, is_told, shadow_step, shadow_run}
+use Rattle.sim_relation.specs.Points.{Point, Plays, done, makes, leaves_out, is_open, played, IsProperPoint, StaysProper}
+use Rattle.oa_simulation.specs.Beside.{Sourced, Placed}
+
+mover_is : (c u : ℕ) (sign : Sign) → mover (event_of c u sign) ≡ c
+mover_is c u (Begins call) = refl
+mover_is c u Accesses = refl
+mover_is c u (Draws j) = refl
+mover_is c u Renews = refl
+mover_is c u (GivesUp phase) = refl
+
+told_open : (sign : Sign) → is_told sign true ≡ true
+told_open (Begins call) = refl
+told_open Accesses = refl
+told_open (Draws j) = refl
+told_open Renews = refl
+told_open (GivesUp phase) = refl
+
+set_same : (xs : List SourceCaller) (k : ℕ) (x y : SourceCaller) → slice_get xs k ≡ Some x → slice_get (set xs k y) k ≡ Some y
+set_same [] k x y at = absurd (let z : None ≡ Some x = at in cc)
+set_same (a ∷ xs) zero x y at = refl
+set_same (a ∷ xs) (suc k) x y at = set_same xs k x y at
+
+set_away : (xs : List SourceCaller) (k d : ℕ) (y : SourceCaller) → d ≢ k → slice_get (set xs k y) d ≡ slice_get xs d
+set_away [] k d y ne = refl
+set_away (a ∷ xs) zero zero y ne = absurd (ne refl)
+set_away (a ∷ xs) zero (suc d) y ne = refl
+set_away (a ∷ xs) (suc k) zero y ne = refl
+set_away (a ∷ xs) (suc k) (suc d) y ne = set_away xs k d y (λ e. ne (ap suc e))
+
+abbrev Others : Watched → Watched → ℕ → Type 0
+Others v v' c = (d : ℕ) → d ≢ c → (slice_get v'.machine.callers d ≡ slice_get v.machine.callers d) × (v'.runs d ≡ v.runs d)
+
+-- one event of a caller
+record Stepped (text : Text) (v : Watched) (event : SourceEvent) (c : ℕ) (x : SourceCaller) : Type 0 where
+  caller : slice_get (watched_step text v event).machine.callers c ≡ Some (caller_turn text event v.machine.memory x).caller
+  memory : (watched_step text v event).machine.memory ≡ (caller_turn text event v.machine.memory x).memory
+  run : (watched_step text v event).runs c ≡ run_after text event v.machine.memory x (v.runs c)
+  others : Others v (watched_step text v event) c
+
+stepped_here : (text : Text) (v : Watched) (event : SourceEvent) (x : SourceCaller) → slice_get v.machine.callers (mover event) ≡ Some x → Stepped text v event (mover event) x
+stepped_here text v event x at = record {
+  caller = rw at (set_same v.machine.callers (mover event) x (caller_turn text event v.machine.memory x).caller at);
+  memory = rw at refl;
+  run = put_same v.runs (mover event) (run_at text event v.machine.memory (slice_get v.machine.callers (mover event)) (v.runs (mover event)))
+      ∙ ap (λ o. run_at text event v.machine.memory o (v.runs (mover event))) at;
+  others = λ d ne. (
+    rw at (set_away v.machine.callers (mover event) d (caller_turn text event v.machine.memory x).caller ne),
+    put_other v.runs (mover event) d (run_at text event v.machine.memory (slice_get v.machine.callers (mover event)) (v.runs (mover event))) ne,
+  );
+}
+
+stepped : (text : Text) (v : Watched) (event : SourceEvent) (c : ℕ) (x : SourceCaller) → mover event ≡ c → slice_get v.machine.callers c ≡ Some x → Stepped text v event c x
+stepped text v event c x is at =
+    subst (λ k. Stepped text v event k x) is (stepped_here text v event x (ap (slice_get v.machine.callers) is ∙ at))
+
+-- the source after signs, and where their caller then stands
+pub record Lifted (text : Text) (callers c : ℕ) (v : Watched) (q : Point) (z' : Shadow) : Type 0 where
+  pub v' : Watched
+  pub sourced : Sourced text callers z' v'
+  pub placed : Placed v' z' c q
+  pub others : Others v v' c
+
+abbrev point_at : Watched → Shadow → ℕ → SourceCaller → Point
+point_at v z c x = record { unused = z.unused; memory = v.machine.memory; caller = x; run = v.runs c }
+
+point_is : (v : Watched) (z : Shadow) (c : ℕ) (p : Point) → Placed v z c p → point_at v z c p.caller ≡ p
+point_is v z c p at =
+    ap (λ (u : ℕ). let k : Point = record { unused = u; memory = v.machine.memory; caller = p.caller; run = v.runs c } in k) at.unused
+    ∙ (ap (λ (m : Memory). let k : Point = record { unused = p.unused; memory = m; caller = p.caller; run = v.runs c } in k) at.memory
+    ∙ ap (λ (r : MethodRun). let k : Point = record { unused = p.unused; memory = p.memory; caller = p.caller; run = r } in k) at.run)
+
+pub machine_is : (text : Text) (callers : ℕ) (z : Shadow) (v : Watched) → Sourced text callers z v → v.machine ≡ z.machine
+machine_is text callers z v s = ap (λ (u : Watched). u.machine) s.watched ∙ watched_machine text callers z.events z.machine s.run
+
+-- whether an event is enabled
+enabled_is : (text : Text) (v : Watched) (event : SourceEvent) (c : ℕ) (x : SourceCaller) (b : Bool) → mover event ≡ c → slice_get v.machine.callers c ≡ Some x
+    → is_enabled_for text event (Some x) v.machine.memory ≡ b → is_enabled text v.machine event ≡ b
+enabled_is text v event c x b is at open_ = ap (λ o. is_enabled_for text event o v.machine.memory) (ap (slice_get v.machine.callers) is ∙ at) ∙ open_
+
+open_at : (text : Text) (callers c : ℕ) (sign : Sign) (z : Shadow) (v : Watched) (x : SourceCaller) → Sourced text callers z v → slice_get v.machine.callers c ≡ Some x
+    → is_open text c sign (point_at v z c x) → Lifted text callers c v (played text c sign (point_at v z c x)) (shadow_step text z (record { caller = c; sign = sign }))
+open_at text callers c sign z v x s at open_ =
+    let event : SourceEvent = event_of c z.unused sign in
+    let machine = machine_is text callers z v s in
+    let e : is_enabled text z.machine event ≡ true = subst (λ m. is_enabled text m event ≡ true) machine (enabled_is text v event c x true (mover_is c z.unused sign) at open_) in
+    let k = stepped text v event c x (mover_is c z.unused sign) at in
+    rw e (rw (told_open sign) (record {
+      v' = watched_step text v event;
+      sourced = record {
+        run = source_run_more text callers z.events event z.machine s.run e;
+        watched = ap (λ u. watched_step text u event) s.watched ∙ sym (watched_more text z.events event (watched_start text callers));
+      };
+      placed = record { caller = k.caller; memory = k.memory; run = k.run; unused = refl };
+      others = k.others;
+    }))
+
+open_lifted : (text : Text) (callers c : ℕ) (sign : Sign) (z : Shadow) (v : Watched) (p : Point) → Sourced text callers z v → Placed v z c p → is_open text c sign p
+    → Lifted text callers c v (played text c sign p) (shadow_step text z (record { caller = c; sign = sign }))
+open_lifted text callers c sign z v p s at open_ =
+    let same = point_is v z c p at in
+    subst (λ (k : Point). Lifted text callers c v (played text c sign k) (shadow_step text z (record { caller = c; sign = sign }))) same
+    (open_at text callers c sign z v p.caller s at.caller (subst (λ (k : Point). is_open text c sign k) (sym same) open_))
+
+left_out : (text : Text) (c : ℕ) (z : Shadow) → is_enabled text z.machine (Restart c) ≡ false → shadow_step text z (record { caller = c; sign = Renews }) ≡ z
+left_out text c z e = rw e refl
+
+pub lift : (text : Text) (callers c : ℕ) (signs : List Sign) (p q : Point) → Plays text c signs p q → (z : Shadow) (v : Watched) → Sourced text callers z v → Placed v z c p
+    → Lifted text callers c v q (shadow_run text (signed c signs) z)
+lift text callers c signs p q (done k) z v s at = record { v' = v; sourced = s; placed = at; others = λ d ne. (refl, refl) }
+lift text callers c signs p q (makes sign rest k l open_ plays) z v s at =
+    let one = open_lifted text callers c sign z v k s at open_ in
+    let more = lift text callers c rest (played text c sign k) l plays (shadow_step text z (record { caller = c; sign = sign })) one.v' one.sourced one.placed in
+    record {
+      v' = more.v';
+      sourced = more.sourced;
+      placed = more.placed;
+      others = λ d ne. ((more.others d ne).0 ∙ (one.others d ne).0, (more.others d ne).1 ∙ (one.others d ne).1);
+    }
+lift text callers c signs p q (leaves_out rest k l shut plays) z v s at =
+    let e : is_enabled text z.machine (Restart c) ≡ false =
+    subst (λ m. is_enabled text m (Restart c) ≡ false) (machine_is text callers z v s)
+    (enabled_is text v (Restart c) c k.caller false refl at.caller (subst (λ (m : Memory). is_enabled_for text (Restart c) (Some k.caller) m ≡ false) (sym at.memory) shut)) in
+    subst (λ (y : Shadow). Lifted text callers c v l (shadow_run text (signed c rest) y)) (sym (left_out text c z e)) (lift text callers c rest k l plays z v s at)
+
+-- a proper text makes each point proper
+proper_at : (v : Watched) (z : Shadow) (c : ℕ) (x : SourceCaller) → IsProperState v.machine v.runs → slice_get v.machine.callers c ≡ Some x → IsProperPoint (point_at v z c x)
+proper_at v z c x s at = record {
+  once = s.once;
+  roots = s.roots;
+  got = λ runs name other got reaches. s.got c name other (ap runs_method at ∙ runs) got reaches;
+}
+
+proper_point : (text : Text) (callers c : ℕ) (z : Shadow) (v : Watched) (p : Point) → IsProper text → Sourced text callers z v → Placed v z c p → IsProperPoint p
+proper_point text callers c z v p proper s at =
+    subst IsProperPoint (point_is v z c p at)
+    (proper_at v z c p.caller (subst (λ (u : Watched). IsProperState u.machine u.runs) (sym s.watched)
+    (subst (λ (m : SourceMachine). IsProperState m (watched_run text z.events (watched_start text callers)).runs) (sym (watched_machine text callers z.events z.machine s.run))
+    (proper callers z.events z.machine s.run))) at.caller)
+
+pub stays_proper : (text : Text) (callers c : ℕ) (z : Shadow) (v : Watched) (p : Point) → IsProper text → Sourced text callers z v → Placed v z c p → StaysProper text c p
+stays_proper text callers c z v p proper s at signs q plays =
+    let l = lift text callers c signs p q plays z v s at in
+    proper_point text callers c (shadow_run text (signed c signs) z) l.v' q proper l.sourced l.placed

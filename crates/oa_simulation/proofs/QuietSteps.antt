@@ -1,0 +1,118 @@
+-- The start is in the relation, each quiet step keeps it, and no sweep frees what a validated guard names.
+use Rattle.std.proofs.Common.{ℕ, ◌≡◌, ◌≢◌, ◌<◌, ◌∙◌, true, List, Option, Some, sym, ap, subst, refl, arith}
+use Rattle.std.specs.Prelude.{nat_le}
+use Rattle.norm_lang.specs.declared.text.Text.{Text}
+use Rattle.target_code.specs.declared.target.Target.{Target}
+use Rattle.oa_words.specs.declared.packed.Kind.TheVariants as kinds
+use Rattle.oa_words.specs.Words.{Word, Hazard, Status}
+use Rattle.oa_words.specs.Packed.{status_word}
+use Rattle.phase_pools.specs.declared.stages.SweepStage.{SweepStage}
+use Rattle.phase_pools.specs.declared.stages.SweepStage.TheVariants as sweeps
+use Rattle.phase_pools.specs.declared.stages.ClaimStage.{ClaimStage}
+use Rattle.phase_pools.specs.declared.stages.ClaimStage.TheVariants as claims
+use Rattle.phase_pools.specs.Accesses.{WordAccess, word_of}
+use Rattle.source_machine.specs.Proper.{IsProper}
+use Rattle.caller_steps.specs.declared.routine.Routine.{Routine}
+use Rattle.caller_steps.specs.declared.routine.Routine.TheVariants.{Claims}
+use Rattle.caller_steps.specs.Settings.{Setting, Fits, IsSetting}
+use Rattle.caller_steps.specs.Entries.{Entry}
+use Rattle.caller_steps.specs.Signs.{Sign}
+use Rattle.caller_steps.specs.Wants.{wants}
+use Rattle.caller_steps.specs.After.{signs}
+use Rattle.caller_steps.specs.After.{moved as after_moves}
+use Rattle.caller_laws.proofs.Together.{methods}
+use Rattle.caller_laws.proofs.Methods.{setting_sane}
+use Rattle.core_runs.specs.Machine.{CoreState, CoreEvent, Steps, Reachable, core_start, core_event}
+use Rattle.core_runs.specs.RunSigns.{Signed, signed, event_signs}
+use Rattle.core_runs.specs.Views.{view, Moves}
+use Rattle.core_runs.proofs.Seeing.{events_are_seen}
+use Rattle.core_runs.proofs.Starting.{start_is_seen}
+use Rattle.core_sound.specs.Sound.{IsSound}
+use Rattle.core_sound.proofs.Reached.{states_are_sound, states_are_shaped, start_suits}
+use Rattle.target_runs.specs.Runnable.{IsRunnable}
+use Rattle.target_runs.proofs.SaneTargets.{runnable_is_sane}
+use Rattle.sim_relation.specs.Views.{Plan, IsPlan, Shared, Caller}
+use Rattle.sim_relation.specs.Callers.{Told, Spotted, SweepAt, ClaimAt}
+use Rattle.sim_pools.proofs.Slots.{Freed, unguarded}
+use Rattle.sim_steps.specs.Quiet.{is_quiet}
+use Rattle.sim_steps.proofs.Drawing.{quiet_draws_none}
+use Rattle.sim_steps.proofs.Dispatching.{quiet_steps}
+use Rattle.oa_simulation.specs.Shadow.{Shadow, shadow_run, shadow_start, first_home}
+use Rattle.oa_simulation.specs.Beside.{Beside}
+use Rattle.oa_simulation.specs.Relation.{HomeIs, Related, StartIsRelated, QuietStepsKeep, Frees, SweepsSpareGuards, QuietIsKept}
+use Rattle.oa_simulation.proofs.Homes.{undrawn}
+use Rattle.oa_simulation.proofs.Induction.{step_beside, signs_are}
+use Rattle.oa_simulation.proofs.FirstWords.{first_words}
+use Rattle.oa_simulation.proofs.Refining.{start_beside, either}
+
+-- slots of the names make a plan
+abbrev pub planned : Target → Text → Setting → (ℕ → ℕ) → Plan
+planned target text setting home = record { target = target; text = text; setting = setting; home = home }
+
+pub is_plan : (target : Target) (text : Text) (setting : Setting) (home : ℕ → ℕ) → IsRunnable target text → IsSetting setting → Fits target setting → home 0 ≡ 0 → IsPlan (planned target text setting home)
+is_plan target text setting home runs own fits null = record {
+  compiled = record { normal = runs.normal; within = runs.small; barred = runs.barred };
+  sane = runnable_is_sane target text runs;
+  some = own;
+  fits = fits;
+  callers = own.sizes.0;
+  null = null;
+}
+
+pub start_related : (target : Target) (text : Text) (setting : Setting) → IsRunnable target text → IsSetting setting → Fits target setting → StartIsRelated target text setting
+start_related target text setting runs own fits =
+    let home : ℕ → ℕ = first_home setting.nodes in
+    let null : home 0 ≡ 0 = either (nat_le 0 setting.nodes) in
+    let t : Plan = planned target text setting home in
+    record {
+      home = home;
+      null = null;
+      homes = λ n lt. refl;
+      beside = start_beside t (is_plan target text setting home runs own fits null) own (start_is_seen target setting) (start_suits target text setting runs own fits).suits
+          (first_words t runs own fits (λ n lt. refl));
+    }
+
+pub quiet_kept : (target : Target) (text : Text) (setting : Setting) → IsRunnable target text → IsSetting setting → Fits target setting → IsProper text → QuietStepsKeep target text setting
+quiet_kept target text setting runs own fits proper state later z c reached related quiet is =
+    let home : ℕ → ℕ = related.home in
+    let t : Plan = planned target text setting home in
+    let sound = states_are_sound target text setting state runs own fits reached in
+    let shaped = states_are_shaped target text setting state runs own fits reached in
+    let seen = events_are_seen target setting in
+    let m : Moves target setting (view setting state) (Steps c) (view setting later) = seen.moves state later (Steps c) shaped is in
+    let word : ℕ = (view setting state).memory (word_of m.0) in
+    let same : event_signs target setting state (Steps c) ≡ signed c (after_moves target setting ((view setting state).who c) word).signs =
+    seen.signs state c m.0 shaped m.1 m.2 ∙ ap (signed c) (signs_are target setting ((view setting state).who c) word) in
+    let homes : HomeIs home (shadow_run text (event_signs target setting state (Steps c)) z) =
+    subst (λ (xs : List Signed). HomeIs home (shadow_run text xs z)) (sym same)
+    (undrawn text home c (after_moves target setting ((view setting state).who c) word).signs z (quiet_draws_none target setting ((view setting state).who c) word quiet) related.homes) in
+    record {
+      home = home;
+      null = related.null;
+      homes = homes;
+      beside = step_beside t (is_plan target text setting home runs own fits related.null) (is_quiet target setting) (quiet_steps t (is_plan target text setting home runs own fits related.null)) proper seen
+          state later z c quiet sound shaped related.beside m homes;
+    }
+
+pub sweeps_spare : (target : Target) (text : Text) (setting : Setting) → SweepsSpareGuards target text setting
+sweeps_spare target text setting state z related c j below frees d r some named =
+    let t : Plan = planned target text setting related.home in
+    let b : Beside t state z = related.beside in
+    let s : Shared = b.w.shared in
+    let told : Told t s c (b.w.who c) = b.holds.told c below in
+    let routine : (b.w.who c).entry.routine ≡ Claims frees.claim = ap (λ (e : Entry). e.routine) (b.entry c below) ∙ frees.at in
+    let spot : Spotted t s c (b.w.who c) (Claims frees.claim) = subst (λ (r : Routine). Spotted t s c (b.w.who c) r) routine told.spot in
+    let claim : ClaimAt t s frees.claim.sweep claims.Sweeps = subst (λ (stage : ClaimStage). ClaimAt t s frees.claim.sweep stage) frees.in_sweep spot.0 in
+    let sweep : SweepAt t s frees.claim.sweep.bound frees.claim.sweep.gathered (sweeps.MakeReady j frees.phase) =
+    subst (λ (stage : SweepStage). SweepAt t s frees.claim.sweep.bound frees.claim.sweep.gathered stage) frees.stage claim in
+    let expected : s.memory (Status j) ≡ status_word frees.phase kinds.Retired = ap (λ (k : Word → ℕ). k (Status j)) b.memory ∙ frees.expected in
+    let freed : Freed t s frees.claim.sweep.bound j frees.phase frees.claim.sweep.gathered = record { word = expected; below = sweep.1; away = sweep.2; sweeps = sweep.0 } in
+    unguarded t s frees.claim.sweep.bound j frees.phase frees.claim.sweep.gathered b.holds.fine freed d r some
+    (sym (b.holds.fine.guard d r some).word ∙ (ap (λ (k : Word → ℕ). k (Hazard d r)) b.memory ∙ named))
+
+pub keeps_quiet : (target : Target) (text : Text) (setting : Setting) → IsRunnable target text → IsSetting setting → Fits target setting → QuietIsKept target text setting
+keeps_quiet target text setting runs own fits proper = record {
+  start = start_related target text setting runs own fits;
+  steps = quiet_kept target text setting runs own fits proper;
+  guards = sweeps_spare target text setting;
+}

@@ -1,0 +1,191 @@
+-- Every run of the core is simulated by a run of the source.
+use Rattle.std.proofs.Common.{ℕ, zero, suc, ◌≡◌, ◌<◌, ◌∙◌, Bool, true, false, List, [], replicate, Option, Some, None, sym, ap, subst, refl, arith, if◌then◌else◌}
+use Rattle.std.specs.Prelude.{nat_le, slice_get, slice_index, unwrap_or}
+use Rattle.norm_lang.specs.declared.text.Text.{Text}
+use Rattle.target_code.specs.declared.target.Target.{Target}
+use Rattle.oa_words.specs.Words.{Word, Hazard, Status, address_of, in_row}
+use Rattle.guard_words.specs.Guards.{guard_at, no_guards}
+use Rattle.source_machine.specs.State.{idle_caller}
+use Rattle.source_machine.specs.Run.{caller_replies}
+use Rattle.source_machine.specs.MethodRuns.{watched_start}
+use Rattle.caller_steps.specs.Settings.{Setting, IsSetting}
+use Rattle.caller_steps.specs.Entries.{Entry, idle_entry, is_idle}
+use Rattle.core_runs.specs.Machine.{CoreState, CoreEvent, core_start}
+use Rattle.core_sound.specs.Sound.{IsSound}
+use Rattle.core_runs.specs.Views.{view}
+use Rattle.core_sound.proofs.Machine.{event_sound}
+use Rattle.core_sound.proofs.StartSound.{start_sound}
+use Rattle.core_sound.proofs.Reached.{states_are_sound, sound_is_shaped, start_suits}
+use Rattle.core_runs.specs.Views.{StartIsSeen}
+use Rattle.core_runs.proofs.Seeing.{events_are_seen}
+use Rattle.core_runs.proofs.Starting.{start_is_seen}
+use Rattle.caller_laws.proofs.Together.{methods}
+use Rattle.target_runs.proofs.SaneTargets.{runnable_is_sane}
+use Rattle.oa_words.specs.Starts.{Suits}
+use Rattle.core_runs.specs.Machine.{beginning_of}
+use Rattle.caller_laws.proofs.Methods.{setting_sane}
+use Rattle.sim_relation.specs.Views.{Plan, IsPlan, Caller}
+use Rattle.sim_relation.specs.Callers.{Told, replies_of}
+use Rattle.core_runs.specs.RunSigns.{run_signs}
+use Rattle.oa_simulation.specs.Shadow.{Shadow, shadow, shadow_start, home_of}
+use Rattle.oa_simulation.specs.Beside.{Beside}
+use Rattle.oa_simulation.specs.Statements.{AgreesWith, Agrees, ForProper, Refines}
+use Rattle.oa_simulation.proofs.Worlds.{no_guarded_ready}
+use Rattle.oa_simulation.proofs.Starting.{IsFirst, first_shared, fine_first}
+use Rattle.caller_steps.specs.Settings.{Fits}
+use Rattle.target_runs.specs.Runnable.{IsRunnable}
+use Rattle.sim_steps.proofs.Dispatching.{steps_keep}
+use Rattle.oa_simulation.specs.Relation.{HomeIs, RunsAreSimulated}
+use Rattle.oa_simulation.proofs.FirstWords.{first_words}
+use Rattle.oa_simulation.proofs.Testing.{exchanges_agree}
+use Rattle.oa_simulation.proofs.Homes.{home_stays}
+use Rattle.oa_simulation.proofs.Induction.{run_beside}
+use Rattle.oa_simulation.proofs.Agreeing.{told_agrees}
+use Rattle.oa_simulation.proofs.Lifting.{machine_is, stays_proper}
+use Rattle.oa_simulation.proofs.FactsHold.{facts_hold}
+use Rattle.sim_relation.specs.Points.{point}
+use Rattle.std.proofs.lemmas.Option.{slice_get_within}
+use Rattle.source_machine.specs.declared.event.SourceReply.{SourceReply}
+
+no_guard : (r : ℕ) → guard_at no_guards r ≡ 0
+no_guard zero = refl
+no_guard (suc zero) = refl
+no_guard (suc (suc zero)) = refl
+no_guard (suc (suc (suc zero))) = refl
+no_guard (suc (suc (suc (suc zero)))) = refl
+no_guard (suc (suc (suc (suc (suc zero))))) = refl
+no_guard (suc (suc (suc (suc (suc (suc zero)))))) = refl
+no_guard (suc (suc (suc (suc (suc (suc (suc zero))))))) = refl
+no_guard (suc (suc (suc (suc (suc (suc (suc (suc r)))))))) = refl
+
+no_cradle : (k : ℕ) → slice_index (replicate 4 0) k ≡ 0
+no_cradle zero = refl
+no_cradle (suc zero) = refl
+no_cradle (suc (suc zero)) = refl
+no_cradle (suc (suc (suc zero))) = refl
+no_cradle (suc (suc (suc (suc k)))) = refl
+
+abbrev first_caller : ℕ → Caller
+first_caller d = record {
+  entry = idle_entry d;
+  names = record { name = λ r. 0; valid = λ r. false };
+  held = record { got = []; old = [] };
+  source = idle_caller;
+  watch = record { got = []; old = [] };
+}
+
+told_first : (t : Plan) (memory : Word → ℕ) (d : ℕ) → ((r : ℕ) → memory (Hazard d r) ≡ 0) → Told t (first_shared t memory) d (first_caller d)
+told_first t memory d hazards = record {
+  base = record {
+    number = refl;
+    seen = omega arith;
+    old = λ n p is. absurd (let z : None ≡ Some p = is in cc);
+    hazard = λ r. hazards r ∙ sym (no_guard r);
+    protects = λ r. refl;
+    known = λ n got. absurd (let z : false ≡ true = got in cc);
+    cradle = λ k some. absurd (some (no_cradle k));
+  };
+  spot = (no_guard, λ r valid. refl, refl);
+}
+
+all_idle : (n d : ℕ) → d < n → slice_get (replicate n idle_caller) d ≡ Some idle_caller
+all_idle zero d lt = absurd (omega (arith, lt))
+all_idle (suc n) zero lt = refl
+all_idle (suc n) (suc d) lt = all_idle n d (omega (arith, lt))
+
+no_hazard : (target : Target) (setting : Setting) → StartIsSeen target setting → Suits setting.sizes (beginning_of target setting) → (d r : ℕ) → (view setting (core_start target setting)).memory (Hazard d r) ≡ 0
+no_hazard target setting s suits d r = of (in_row setting.sizes (Hazard d r)) refl where
+  of : (b : Bool) → in_row setting.sizes (Hazard d r) ≡ b → (view setting (core_start target setting)).memory (Hazard d r) ≡ 0
+  of true row = s.memory suits (Hazard d r) row
+  of false row = ap (λ (b : Bool). if b then slice_index (core_start target setting).words (address_of setting.sizes (Hazard d r)) else 0) row
+
+-- the start beside its shadow
+pub start_beside : (t : Plan) → IsPlan t → IsSetting t.setting → StartIsSeen t.target t.setting → Suits t.setting.sizes (beginning_of t.target t.setting) → IsFirst t (view t.setting (core_start t.target t.setting)).memory
+    → Beside t (core_start t.target t.setting) (shadow_start t.text t.setting)
+start_beside t plan own start suits first = record {
+  w = record { shared = first_shared t (view t.setting (core_start t.target t.setting)).memory; who = first_caller };
+  v = watched_start t.text t.setting.sizes.callers;
+  holds = record {
+    fine = fine_first t (view t.setting (core_start t.target t.setting)).memory plan first;
+    told = λ d lt. told_first t (view t.setting (core_start t.target t.setting)).memory d (no_hazard t.target t.setting start suits d);
+  };
+  memory = refl;
+  entry = λ d lt. sym (start.who d);
+  sourced = record { run = record { some = own.sizes.0; few = own.sizes.1; runs = refl }; watched = refl };
+  source = refl;
+  caller = λ d lt. all_idle t.setting.sizes.callers d lt;
+  run = λ d lt. refl;
+  unused = refl;
+  called = λ d lt busy. absurd (let e : is_idle ((view t.setting (core_start t.target t.setting)).who d).routine ≡ true = ap (λ (e : Entry). is_idle e.routine) (start.who d) in
+      let z : true ≡ false = sym e ∙ busy in cc);
+}
+
+state_agrees : (t : Plan) (state : CoreState) (z : Shadow) → IsSound t.target t.setting state → Beside t state z → Agrees state z.machine
+state_agrees t state z s b c e at =
+    let within = slice_get_within state.entries c e at in
+    let callers = s.callers in
+    let lt : c < t.setting.sizes.callers = omega (arith, within, callers) in
+    let own : (b.w.who c).entry ≡ e = b.entry c lt ∙ ap (λ (o : Option Entry). unwrap_or o (idle_entry c)) at in
+    let same : (b.w.who c).source.replies ≡ caller_replies (slice_get z.machine.callers c) =
+    sym (ap (λ m. caller_replies (slice_get m.callers c)) (sym (machine_is t.text t.setting.sizes.callers z b.v b.sourced)) ∙ ap caller_replies (b.caller c lt)) in
+    subst (λ (i : List SourceReply). AgreesWith (is_idle e.routine) (replies_of e) i) same
+    (subst (λ (i : Entry). AgreesWith (is_idle i.routine) (replies_of i) (b.w.who c).source.replies) own (told_agrees t b.w.shared c (b.w.who c) (b.holds.told c lt)))
+
+pub either : (b : Bool) → ◌≡◌ {A = ℕ} (if b then 0 else 0) 0
+either true = refl
+either false = refl
+
+-- every reachable state stands beside its shadow
+abbrev plan_of : Target → Text → Setting → List CoreEvent → Plan
+plan_of target text setting events = record { target = target; text = text; setting = setting; home = home_of target text setting events }
+
+record Stood (target : Target) (text : Text) (setting : Setting) (events : List CoreEvent) (state : CoreState) : Type 0 where
+  plan : IsPlan (plan_of target text setting events)
+  sound : IsSound target setting state
+  beside : Beside (plan_of target text setting events) state (shadow target text setting events)
+
+-- what holds of every core run
+stands : ForProper Stood
+stands target text setting events state runs own fits proper is =
+    let t : Plan = record { target = target; text = text; setting = setting; home = home_of target text setting events } in
+    let z0 : Shadow = shadow_start text setting in
+    let signs = run_signs target setting events (core_start target setting) in
+    let homes : HomeIs t.home z0 = λ n lt. home_stays text signs z0 n lt in
+    let suits = (start_suits target text setting runs own fits).suits in
+    let plan : IsPlan t = record {
+      compiled = record { normal = runs.normal; within = runs.small; barred = runs.barred };
+      sane = runnable_is_sane target text runs;
+      some = own;
+      fits = fits;
+      callers = own.sizes.0;
+      null = homes 0 (omega arith) ∙ either (nat_le 0 setting.nodes);
+    } in
+    let first = start_beside t plan own (start_is_seen target setting) suits (first_words t runs own fits homes) in
+    let sound0 = start_sound target setting (methods target text runs) runs.within own fits in
+    let sound = states_are_sound target text setting state runs own fits (record { events = events; runs = is }) in
+    let b = run_beside t plan (λ e. true) (steps_keep t plan) proper (events_are_seen target setting) (λ e. refl)
+    (λ s sound. sound_is_shaped target setting s (methods target text runs) (setting_sane setting own) fits sound)
+    (λ s next event sound at. event_sound target setting s next event (methods target text runs) (setting_sane setting own) fits sound at)
+    events (core_start target setting) state z0 sound0 first is (λ n lt. refl) in
+    record { plan = plan; sound = sound; beside = b }
+
+pub simulates : (target : Target) (text : Text) (setting : Setting) → IsRunnable target text → IsSetting setting → Fits target setting → RunsAreSimulated target text setting
+simulates target text setting runs own fits proper events state is =
+    let t : Plan = plan_of target text setting events in
+    let k = stands target text setting events state runs own fits proper is in
+    let shaped = sound_is_shaped target setting state (methods target text runs) (setting_sane setting own) fits k.sound in
+    record {
+      refined = record {
+        run = k.beside.sourced.run;
+        agrees = state_agrees t state (shadow target text setting events) k.sound k.beside;
+        exchanges = exchanges_agree t state (shadow target text setting events) k.plan proper shaped k.beside;
+      };
+      related = record { home = t.home; null = k.plan.null; homes = λ n lt. refl; beside = k.beside };
+      guarded = λ c r q some ready. no_guarded_ready t k.beside.w.shared k.beside.holds.fine c r q some (ap (λ (m : Word → ℕ). m (Status (m (Hazard c r)))) k.beside.memory ∙ ready);
+      facts = facts_hold t k.beside.w k.plan k.beside.holds (λ c lt.
+          stays_proper text setting.sizes.callers c (shadow target text setting events) k.beside.v (point k.beside.w.shared (k.beside.w.who c)) proper k.beside.sourced
+          (record { caller = k.beside.caller c lt; memory = k.beside.source; run = k.beside.run c lt; unused = k.beside.unused }));
+    }
+
+pub refines : Refines
+refines target text setting events state runs own fits proper is = (simulates target text setting runs own fits proper events state is).refined

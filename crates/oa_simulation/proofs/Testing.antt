@@ -1,0 +1,193 @@
+-- An exchange of the text succeeds exactly where the source's does.
+use Rattle.std.proofs.Common.{ℕ, ◌≡◌, ◌<◌, ◌∙◌, Bool, true, false, List, [], length, Option, Some, None, sym, ap, subst, refl, arith, if◌then◌else◌}
+use Rattle.std.specs.Prelude.{slice_get, slice_index, option_map, is_some, unwrap_or}
+use Rattle.std.proofs.lemmas.Option.{slice_get_within}
+use Rattle.norm_lang.specs.declared.text.Reg.TheVariants.{Ref}
+use Rattle.norm_lang.specs.declared.text.CasEntry.{CasEntry}
+use Rattle.norm_lang.specs.declared.text.Instr.{Instr}
+use Rattle.norm_lang.specs.declared.text.Instr.TheVariants as instr
+use Rattle.norm_lang.specs.declared.text.Op.{Op}
+use Rattle.norm_lang.specs.declared.text.Text.{Text}
+use Rattle.norm_lang.specs.declared.registers.Registers.{Registers}
+use Rattle.norm_lang.specs.InstructionRules.{has_wrong_operand}
+use Rattle.norm_lang.specs.Kept.{code_of}
+use Rattle.norm_lang.specs.Local.{Spot}
+use Rattle.target_code.specs.declared.target.TargetInstr.{TargetInstr}
+use Rattle.target_code.specs.declared.target.TargetInstr.TheVariants.{Plain, Check, Guard}
+use Rattle.target_code.specs.Erasing.{source_place}
+use Rattle.oa_words.specs.Words.{Word, address_of, in_row}
+use Rattle.phase_pools.specs.Accesses.{WordAccess, word_of}
+use Rattle.source_machine.specs.declared.state.Memory.{Memory}
+use Rattle.source_machine.specs.declared.state.Running.{Running}
+use Rattle.source_machine.specs.declared.state.Stand.TheVariants.{InGenerator, InList, InWrapUp}
+use Rattle.source_machine.specs.declared.state.SourceCaller.{SourceCaller}
+use Rattle.source_machine.specs.declared.state.SourceMachine.{SourceMachine}
+use Rattle.source_machine.specs.Memory.{exchange}
+use Rattle.source_machine.specs.Step.{performed_by, goes_on, generator_stand, wrap_up_stop}
+use Rattle.source_machine.specs.Proper.{IsProper}
+use Rattle.caller_steps.specs.declared.routine.Routine.{Routine}
+use Rattle.caller_steps.specs.declared.routine.Routine.TheVariants.{Idle, LoadSeen, At, Retires, Restarts, Clears, Claims, Zeroes}
+use Rattle.caller_steps.specs.declared.routine.Routine.TheVariants.{InList as InCoreList}
+use Rattle.caller_steps.specs.Settings.{IsSetting}
+use Rattle.caller_steps.specs.Entries.{Entry, idle_entry}
+use Rattle.caller_steps.specs.Operands.{instr_in, list_of}
+use Rattle.caller_steps.specs.Belongs.{cas_of}
+use Rattle.caller_steps.specs.Wants.{wants, wanted, exchange_wanted, list_wanted, instr_wanted}
+use Rattle.caller_steps.specs.After.{succeeds}
+use Rattle.caller_laws.proofs.Safety.{list_there}
+use Rattle.core_runs.specs.Machine.{CoreState, found_by}
+use Rattle.core_runs.specs.Views.{view, IsShaped}
+use Rattle.target_laws.specs.Methods.{code_in}
+use Rattle.run_ahead.specs.Standing.{Call, stands_at, stands_in_list, running_at, running_of, caller_of}
+use Rattle.run_ahead.proofs.Plain.{at_place, kind_right}
+use Rattle.run_ahead.proofs.Quiet.{stands_there}
+use Rattle.sim_relation.specs.Views.{Plan, IsPlan, Shared, Caller}
+use Rattle.sim_relation.specs.Shared.{Fine}
+use Rattle.sim_relation.specs.Callers.{Told, Spotted, Calm, Trail, Running as CallerRuns, InExecutor, spared, spot_of}
+use Rattle.sim_relation.specs.Points.{IsProperPoint, point, done}
+use Rattle.sim_relation.proofs.Codes.{instr_is}
+use Rattle.sim_pools.proofs.Core.{wants_is}
+use Rattle.sim_exchanges.proofs.Exchanging.{Offers, tests_agree}
+use Rattle.sim_exchanges.proofs.Offering.{offers, operand_is_own, own_in_generator, none_passes}
+use Rattle.oa_simulation.specs.Shadow.{Shadow}
+use Rattle.oa_simulation.specs.Beside.{Beside, Placed}
+use Rattle.oa_simulation.specs.Statements.{ExchangesAgree, core_exchange, exchange_of, stand_exchange, exchange_makes, performed_makes, caller_makes, source_makes}
+use Rattle.oa_simulation.proofs.Lifting.{machine_is, stays_proper}
+
+-- ---- the source's exchange, by where its caller stands
+
+makes_at : (text : Text) (op : Op) (memory : Memory) (caller : SourceCaller) (running : Running) → caller.running ≡ Some running → slice_get text.ops running.op ≡ Some op
+    → caller_makes text memory (Some caller) ≡ exchange_makes memory (record { op = op; running = running }) (stand_exchange op running.stand)
+makes_at text op memory caller running is there =
+    ap (λ (o : Option Running). performed_makes memory (performed_by text o)) is
+    ∙ ap (λ (o : Option Op). performed_makes memory (option_map (λ op. record { op = op; running = running }) o)) there
+
+list_makes : (text : Text) (op : Op) (at : ℕ) (entries : List CasEntry) (k : ℕ) (mirror : Registers) (call : Call) (entry : CasEntry) (memory : Memory) → slice_get text.ops call.number ≡ Some op → slice_get entries k ≡ Some entry
+    → caller_makes text memory (Some (stands_in_list at entries k mirror call)) ≡ is_some (exchange entry mirror memory)
+list_makes text op at entries k mirror call entry memory there one =
+    makes_at text op memory (stands_in_list at entries k mirror call) (running_at call mirror (InList at entries k)) refl there
+    ∙ ap (λ (o : Option CasEntry). exchange_makes memory (record { op = op; running = running_at call mirror (InList at entries k) }) o) one
+
+cas_makes : (text : Text) (op : Op) (wrapup : Bool) (started : Registers) (accessed : Bool) (call : Call) (mirror : Registers) (place l : ℕ) (entry : CasEntry) (memory : Memory) → slice_get text.ops call.number ≡ Some op
+    → slice_get (code_of op wrapup) place ≡ Some (instr.Cas entry l)
+    → caller_makes text memory (Some (stands_at op wrapup started accessed call (record { at = place; registers = mirror }))) ≡ is_some (exchange entry mirror memory)
+cas_makes text op false started accessed call mirror place l entry memory there here =
+    let running : Running = running_at call mirror (InGenerator place) in
+    ap (λ (o : Option Instr). caller_makes text memory (Some (goes_on (running_at call mirror (generator_stand o place)) (caller_of call)))) here
+    ∙ (makes_at text op memory (goes_on running (caller_of call)) running refl there
+    ∙ ap (λ (o : Option Instr). exchange_makes memory (record { op = op; running = running }) (exchange_of o)) here)
+cas_makes text op true started true call mirror place l entry memory there here =
+    let running : Running = running_at call mirror (InWrapUp place started true) in
+    makes_at text op memory (goes_on running (caller_of call)) running refl there
+    ∙ ap (λ (o : Option Instr). exchange_makes memory (record { op = op; running = running }) (exchange_of o)) here
+cas_makes text op true started false call mirror place l entry memory there here =
+    let running : Running = running_at call mirror (InWrapUp place started false) in
+    ap (λ (o : Option Instr). caller_makes text memory (Some (wrap_up_stop false op o running (caller_of call)))) here
+    ∙ (makes_at text op memory (goes_on running (caller_of call)) running refl there
+    ∙ ap (λ (o : Option Instr). exchange_makes memory (record { op = op; running = running }) (exchange_of o)) here)
+
+cas_there : (o : Option TargetInstr) (entry : CasEntry) → cas_of o ≡ Some entry → (l : ℕ) × (o ≡ Some (Plain (instr.Cas entry l)))
+cas_there (Some (Plain (instr.Cas exchange l))) entry is = (l, (let same : exchange ≡ entry = cc in ap (λ (x : CasEntry). Some (Plain (instr.Cas x l))) same))
+cas_there None entry is = absurd (let z : None ≡ Some entry = is in cc)
+cas_there (Some Check) entry is = absurd (let z : None ≡ Some entry = is in cc)
+cas_there (Some (Guard r)) entry is = absurd (let z : None ≡ Some entry = is in cc)
+cas_there (Some (Plain _)) entry is = absurd (let z : None ≡ Some entry = is in cc)
+
+-- ---- one caller
+
+module _ (t : Plan) (s : Shared) (c : ℕ) (x : Caller) (plan : IsPlan t) (f : Fine t s) (told : Told t s c x) (proper : IsProperPoint (point s x)) where
+  abbrev TestsAgree : CasEntry → WordAccess → Type 0
+  TestsAgree entry a = succeeds entry x.entry.hand.registers (s.memory (word_of a)) ≡ caller_makes t.text s.source (Some x.source)
+
+  -- an auxiliary exchange
+  cas_agrees : (entry : CasEntry) (l : ℕ) → x.entry.routine ≡ At → instr_in t.target x.entry ≡ Some (Plain (instr.Cas entry l)) → TestsAgree entry (exchange_wanted entry x.entry.hand.registers)
+  cas_agrees entry l at is =
+      let run : CallerRuns t s c x (spot_of x.entry.hand) = subst (λ (r : Routine). Spotted t s c x r) at told.spot in
+      let m : Trail t = run.0 in
+      let here : slice_get (code_in run.0.walk.method) x.entry.hand.at ≡ Some (Plain (instr.Cas entry l)) = sym (instr_is t s c x (spot_of x.entry.hand) run.0 run.1) ∙ is in
+      let offered : Offers t s c (spared t run.0.walk) x.entry.hand.registers run.0.mirror entry = offers t s c x run.0 (instr.Cas entry l) 0 entry (record {
+        plan = plan;
+        fine = f;
+        base = told.base;
+        walks = run.1;
+        guards = run.4;
+        here = here;
+        one = refl;
+        right = kind_right run.0.walk.method plan.compiled x.entry.hand.at (instr.Cas entry l) here;
+        own = λ r operand. operand_is_own t run.0 x.entry.hand.at entry l r plan run.1.ahead.path_is here operand;
+        proper = proper;
+      }) in
+      let there = stands_there run.0.walk.method t.home (Calm s c x) run.0.path (spot_of x.entry.hand) run.0.mirror run.0.there (instr.Cas entry l) plan.compiled here refl run.1.ahead in
+      let op = ap (slice_get t.text.ops) run.1.number ∙ run.0.walk.method.in_text in
+      tests_agree t s c (spared t run.0.walk) x.entry.hand.registers run.0.mirror entry plan f offered
+      ∙ sym (ap (λ (caller : SourceCaller). caller_makes t.text s.source (Some caller))
+      (run.2.stands ∙ ap (λ (spot : Spot). stands_at run.0.walk.method.op run.0.walk.method.wrapup run.0.walk.started x.entry.hand.accessed run.0.walk.call spot) (sym there))
+      ∙ cas_makes t.text run.0.walk.method.op run.0.walk.method.wrapup run.0.walk.started x.entry.hand.accessed run.0.walk.call run.0.mirror (source_place (code_in run.0.walk.method) x.entry.hand.at)
+      (source_place (code_in run.0.walk.method) l) entry s.source op (at_place run.0.walk.method plan.compiled x.entry.hand.at (Plain (instr.Cas entry l)) here).0)
+
+  -- an exchange of the list
+  entry_agrees : (k : ℕ) (entry : CasEntry) → x.entry.routine ≡ InCoreList k → slice_get (list_of (instr_in t.target x.entry)) k ≡ Some entry → TestsAgree entry (exchange_wanted entry x.entry.hand.registers)
+  entry_agrees k entry at one =
+      let run : InExecutor t s c x k = subst (λ (r : Routine). Spotted t s c x r) at told.spot in
+      let commit = list_there (instr_in t.target x.entry) k (slice_get_within (list_of (instr_in t.target x.entry)) k entry one) in
+      let here : slice_get (code_in run.0.walk.method) x.entry.hand.at ≡ Some (Plain (instr.Commit commit.0)) = sym (instr_is t s c x (spot_of x.entry.hand) run.0 run.1) ∙ commit.1 in
+      let listed : slice_get commit.0 k ≡ Some entry = sym (ap (λ (o : Option TargetInstr). slice_get (list_of o) k) commit.1) ∙ one in
+      let offered : Offers t s c (spared t run.0.walk) x.entry.hand.registers run.0.mirror entry = offers t s c x run.0 (instr.Commit commit.0) k entry (record {
+        plan = plan;
+        fine = f;
+        base = told.base;
+        walks = run.1;
+        guards = run.2;
+        here = here;
+        one = listed;
+        right = none_passes (has_wrong_operand t.text.fields t.text.roots) commit.0 k entry (kind_right run.0.walk.method plan.compiled x.entry.hand.at (instr.Commit commit.0) here) listed;
+        own = λ r operand. own_in_generator t run.0 r run.3;
+        proper = proper;
+      }) in
+      let op = ap (slice_get t.text.ops) run.1.number ∙ run.0.walk.method.in_text in
+      tests_agree t s c (spared t run.0.walk) x.entry.hand.registers run.0.mirror entry plan f offered
+      ∙ sym (ap (λ (caller : SourceCaller). caller_makes t.text s.source (Some caller)) run.4
+      ∙ list_makes t.text run.0.walk.method.op (source_place (code_in run.0.walk.method) x.entry.hand.at) (list_of (instr_in t.target x.entry)) k run.0.mirror run.0.walk.call entry s.source op one)
+
+  by_routine : (r : Routine) (entry : CasEntry) (a : WordAccess) → x.entry.routine ≡ r → core_exchange t.target x.entry r ≡ Some entry → wanted t.target x.entry r ≡ Some a → TestsAgree entry a
+  by_routine At entry a at is want =
+      let there = cas_there (instr_in t.target x.entry) entry is in
+      let made : Some (exchange_wanted entry x.entry.hand.registers) ≡ Some a = sym (ap (λ (o : Option TargetInstr). instr_wanted x.entry.number o x.entry.hand.registers) there.1) ∙ want in
+      let same : exchange_wanted entry x.entry.hand.registers ≡ a = cc in
+      subst (TestsAgree entry) same (cas_agrees entry there.0 at there.1)
+  by_routine (InCoreList k) entry a at is want =
+      let made : Some (exchange_wanted entry x.entry.hand.registers) ≡ Some a = sym (ap (λ (o : Option CasEntry). list_wanted o x.entry.hand.registers) is) ∙ want in
+      let same : exchange_wanted entry x.entry.hand.registers ≡ a = cc in
+      subst (TestsAgree entry) same (entry_agrees k entry at is)
+  by_routine Idle entry a at is want = absurd (let z : None ≡ Some entry = is in cc)
+  by_routine (LoadSeen why) entry a at is want = absurd (let z : None ≡ Some entry = is in cc)
+  by_routine (Retires retirement go) entry a at is want = absurd (let z : None ≡ Some entry = is in cc)
+  by_routine Restarts entry a at is want = absurd (let z : None ≡ Some entry = is in cc)
+  by_routine (Clears next) entry a at is want = absurd (let z : None ≡ Some entry = is in cc)
+  by_routine (Claims claim) entry a at is want = absurd (let z : None ≡ Some entry = is in cc)
+  by_routine (Zeroes k field) entry a at is want = absurd (let z : None ≡ Some entry = is in cc)
+
+  pub caller_agrees : (entry : CasEntry) (a : WordAccess) → core_exchange t.target x.entry x.entry.routine ≡ Some entry → wants t.target x.entry ≡ Some a → TestsAgree entry a
+  caller_agrees entry a is want = by_routine x.entry.routine entry a refl is (sym (wants_is t.target x.entry x.entry.routine refl) ∙ want)
+
+-- ---- a state beside its shadow
+
+pub exchanges_agree : (t : Plan) (state : CoreState) (z : Shadow) → IsPlan t → IsProper t.text → IsShaped t.target t.setting state → Beside t state z → ExchangesAgree t.target t.text t.setting state z.machine
+exchanges_agree t state z plan proper shaped b c e entry a at is want =
+    let within = slice_get_within state.entries c e at in
+    let callers = shaped.callers in
+    let lt : c < t.setting.sizes.callers = omega (arith, within, callers) in
+    let s : Shared = b.w.shared in
+    let x : Caller = b.w.who c in
+    let own : x.entry ≡ e = b.entry c lt ∙ ap (λ (o : Option Entry). unwrap_or o (idle_entry c)) at in
+    let row : in_row t.setting.sizes (word_of a) ≡ true = shaped.wanted c e a at want in
+    let found : s.memory (word_of a) ≡ found_by t.setting state a =
+    ap (λ (k : Word → ℕ). k (word_of a)) b.memory ∙ ap (λ (b : Bool). if b then slice_index state.words (address_of t.setting.sizes (word_of a)) else 0) row in
+    let placed : Placed b.v z c (point s x) = record { caller = b.caller c lt; memory = b.source; run = b.run c lt; unused = b.unused } in
+    let here : IsProperPoint (point s x) = stays_proper t.text t.setting.sizes.callers c z b.v (point s x) proper b.sourced placed [] (point s x) (done (point s x)) in
+    let mine : succeeds entry x.entry.hand.registers (s.memory (word_of a)) ≡ caller_makes t.text s.source (Some x.source) =
+    caller_agrees t s c x plan b.holds.fine (b.holds.told c lt) here entry a (ap (λ (i : Entry). core_exchange t.target i i.routine) own ∙ is) (ap (wants t.target) own ∙ want) in
+    sym (ap (λ (word : ℕ). succeeds entry x.entry.hand.registers word) found ∙ ap (λ (i : Entry). succeeds entry i.hand.registers (found_by t.setting state a)) own)
+    ∙ (mine ∙ (ap (λ (memory : Memory). caller_makes t.text memory (Some x.source)) (sym b.source)
+    ∙ (ap (caller_makes t.text b.v.machine.memory) (sym (b.caller c lt))
+    ∙ ap (λ (machine : SourceMachine). source_makes t.text machine c) (machine_is t.text t.setting.sizes.callers z b.v b.sourced))))

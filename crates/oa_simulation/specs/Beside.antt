@@ -1,0 +1,39 @@
+-- A core state beside its shadow.
+use Rattle.std.specs.Prelude.{ℕ, ◌≡◌, ◌<◌, true, false, Some, slice_get}
+use Rattle.norm_lang.specs.declared.text.Text.{Text}
+use Rattle.source_machine.specs.Run.{IsSourceRun}
+use Rattle.source_machine.specs.MethodRuns.{Watched, watched_start, watched_run}
+use Rattle.caller_steps.specs.Entries.{is_idle}
+use Rattle.core_runs.specs.Machine.{CoreState}
+use Rattle.caller_steps.specs.Calls.{is_call}
+use Rattle.core_runs.specs.Views.{view}
+use Rattle.sim_relation.specs.Views.{Plan}
+use Rattle.sim_relation.specs.Worlds.{World, Holds}
+use Rattle.oa_simulation.specs.Shadow.{Shadow}
+use Rattle.sim_relation.specs.Points.{Point}
+
+-- the shadow's events are a source run to its machine; the method runs beside it
+pub record Sourced (text : Text) (callers : ℕ) (z : Shadow) (v : Watched) : Type 0 where
+  pub run : IsSourceRun text callers z.events z.machine
+  pub watched : v ≡ watched_run text z.events (watched_start text callers)
+
+-- where a caller of the source stands
+pub record Placed (v : Watched) (z : Shadow) (c : ℕ) (p : Point) : Type 0 where
+  pub caller : slice_get v.machine.callers c ≡ Some p.caller
+  pub memory : v.machine.memory ≡ p.memory
+  pub run : v.runs c ≡ p.run
+  pub unused : z.unused ≡ p.unused
+
+pub record Beside (t : Plan) (state : CoreState) (z : Shadow) : Type 0 where
+  pub w : World
+  pub v : Watched
+  pub holds : Holds t w
+  pub memory : w.shared.memory ≡ (view t.setting state).memory
+  pub entry : (d : ℕ) → d < t.setting.sizes.callers → (w.who d).entry ≡ (view t.setting state).who d
+  pub sourced : Sourced t.text t.setting.sizes.callers z v
+  pub source : v.machine.memory ≡ w.shared.source
+  pub caller : (d : ℕ) → d < t.setting.sizes.callers → slice_get v.machine.callers d ≡ Some (w.who d).source
+  pub run : (d : ℕ) → d < t.setting.sizes.callers → v.runs d ≡ (w.who d).watch
+  pub unused : z.unused ≡ w.shared.unused
+  -- a call that runs is one of the target's
+  pub called : (d : ℕ) → d < t.setting.sizes.callers → is_idle ((view t.setting state).who d).routine ≡ false → is_call t.target ((view t.setting state).who d).running.call ≡ true

@@ -1,0 +1,4 @@
+mod RunningOut
+mod Runnable
+mod Unanswered
+mod Truth

@@ -1,0 +1,152 @@
+//! The bytes that a row spells.
+//!
+//! `|` is a newline, `\xHH` the byte with these two digits, `{NAME}` the lines with this name, and `(N:LINES)` these lines N
+//! times, in which `%` is the copy's number from 0 and `&` are two letters that no other of 676 copies has.
+
+ghost use Rattle.std.specs.Prelude.{◌<◌, IfOk};
+
+use crate::error::RowError;
+use std::alloc::{AllocError, Global};
+
+/// Lines with a name.
+#[derive(Debug, Drop)]
+pub struct NamedLines {
+    pub name: String,
+    pub bytes: Vec<u8>,
+}
+
+/// The number that a hexadecimal digit is.
+fn hex(digit: u8) -> Result<u8, RowError>
+    ensures { IfOk result (λ n. n < 16) }
+{
+    match digit {
+        b'0'..=b'9' => Ok(digit - b'0'),
+        b'a'..=b'f' => Ok(digit - b'a' + 10),
+        _ => Err(RowError::Wrong),
+    }
+}
+
+fn add_byte(out: &mut Vec<u8>, byte: u8) -> Result<(), AllocError> {
+    out.push(byte)?;
+    Ok(())
+}
+
+/// Adds the letters of a copy.
+fn add_letters(out: &mut Vec<u8>, copy: u32) -> Result<(), AllocError> {
+    out.push(b'a' + (copy / 26 % 26) as u8)?;
+    out.push(b'a' + (copy % 26) as u8)?;
+    Ok(())
+}
+
+/// Adds bytes in which no escape stands.
+fn add_plain(alloc: Global, out: &mut Vec<u8>, bytes: &[u8], copy: u32) -> Result<(), AllocError> {
+    for b in bytes {
+        match *b {
+            b'|' => out.push(b'\n')?,
+            b'%' => out.extend_from_slice(copy.to_string(alloc)?.as_bytes())?,
+            b'&' => add_letters(out, copy)?,
+            b => out.push(b)?,
+        }
+    }
+    Ok(())
+}
+
+/// Adds what stands after the `\` of an escape.
+fn add_escaped(alloc: Global, out: &mut Vec<u8>, bytes: &[u8], copy: u32) -> Result<(), RowError> {
+    match bytes {
+        [b'x', high, low, rest @ ..] => {
+            add_byte(out, hex(*high)? * 16 + hex(*low)?)?;
+            Ok(add_plain(alloc, out, rest, copy)?)
+        }
+        _ => Err(RowError::Wrong),
+    }
+}
+
+/// Adds bytes in which no name and no count stands.
+fn add_bytes(alloc: Global, out: &mut Vec<u8>, spelling: &str, copy: u32) -> Result<(), RowError> {
+    for (i, part) in spelling.split('\\').enumerate() {
+        if i == 0 {
+            add_plain(alloc, out, part.as_bytes(), copy)?;
+        } else {
+            add_escaped(alloc, out, part.as_bytes(), copy)?;
+        }
+    }
+    Ok(())
+}
+
+/// Adds the lines with a name.
+fn add_named(out: &mut Vec<u8>, named: &[NamedLines], name: &str) -> Result<(), RowError> {
+    for lines in named {
+        if lines.name.as_str() == name {
+            out.extend_from_slice(&lines.bytes)?;
+            return Ok(());
+        }
+    }
+    Err(RowError::Wrong)
+}
+
+/// Adds bytes in which no count stands.
+fn add_lines(
+    alloc: Global,
+    out: &mut Vec<u8>,
+    named: &[NamedLines],
+    spelling: &str,
+) -> Result<(), RowError> {
+    for (i, part) in spelling.split('{').enumerate() {
+        if i == 0 {
+            add_bytes(alloc, out, part, 0)?;
+        } else {
+            let (name, rest) = part.split_once('}').ok_or(RowError::Wrong)?;
+            add_named(out, named, name)?;
+            add_bytes(alloc, out, rest, 0)?;
+        }
+    }
+    Ok(())
+}
+
+/// Adds lines as often as their count says.
+fn add_copies(alloc: Global, out: &mut Vec<u8>, counted: &str) -> Result<(), RowError> {
+    let (count, lines) = counted.split_once(':').ok_or(RowError::Wrong)?;
+    let count = count.parse::<u32>().ok().ok_or(RowError::Wrong)?;
+    for copy in 0..count {
+        add_bytes(alloc, out, lines, copy)?;
+    }
+    Ok(())
+}
+
+/// The bytes that a row spells.
+pub fn spelled(alloc: Global, named: &[NamedLines], spelling: &str) -> Result<Vec<u8>, RowError> {
+    let mut out = Vec::new(alloc);
+    for (i, part) in spelling.split('(').enumerate() {
+        if i == 0 {
+            add_lines(alloc, &mut out, named, part)?;
+        } else {
+            let (counted, rest) = part.split_once(')').ok_or(RowError::Wrong)?;
+            add_copies(alloc, &mut out, counted)?;
+            add_lines(alloc, &mut out, named, rest)?;
+        }
+    }
+    Ok(out)
+}
+
+/// The lines that a name and their spelling, which stand in one line, name.
+pub fn named_lines(
+    alloc: Global,
+    named: &[NamedLines],
+    line: &str,
+) -> Result<NamedLines, RowError> {
+    let (name, spelling) = line.split_once(' ').ok_or(RowError::Wrong)?;
+    Ok(NamedLines {
+        name: String::from_str(alloc, name)?,
+        bytes: spelled(alloc, named, spelling)?,
+    })
+}
+
+/// Bytes in one line, with `|` for a newline.
+pub fn one_line(alloc: Global, bytes: &[u8]) -> Result<String, AllocError> {
+    let mut line = String::new(alloc);
+    for b in bytes {
+        line.push(if *b == b'\n' { '|' } else { *b as char })?;
+    }
+    Ok(line)
+}

@@ -1,0 +1,7 @@
+mod Naming
+mod Firsts
+mod Settings
+mod Limits
+mod Accepted
+mod Ready
+mod Planned

@@ -1,0 +1,115 @@
+-- What a plan keeps.
+use Rattle.std.proofs.Common.{◌≡◌, ℕ, ◌≤◌, Bool, true, false, ◌&&◌, List, [], ◌∷◌, map, length, drop, get_or, Option, Some, None, refl, arith}
+use Rattle.std.proofs.lemmas.Bool.{eqb-true}
+use Rattle.std.proofs.lemmas.Bool.Decides.{nat_tests}
+use Rattle.std.proofs.lemmas.List.{drop_all, length-map}
+use Rattle.std.proofs.lemmas.List.Elements.{All-nil, All-cons, All-map, All-get_or, All-from_get_or}
+use Rattle.std.proofs.lemmas.Option.{slice_get-map}
+use Rattle.std.specs.Prelude.{not, nat_le, nat_lt, ◌==◌, if◌then◌else◌, slice_get}
+use Rattle.std.specs.List.{All, list_all}
+use Rattle.std.specs.Option.{option_or, option_map}
+use Rattle.norm_lang.specs.declared.text.Op.{Op}
+use Rattle.target_code.specs.Blocks.{scheme_op}
+use Rattle.target_code.specs.SecondScheme.{second_marks}
+use Rattle.oa_words.specs.Within.{is_count}
+use Rattle.caller_steps.specs.declared.call.Call.{Call}
+use Rattle.caller_steps.specs.Settings.{are_phases}
+use Rattle.caller_steps.specs.Calls.{is_call_of}
+use Rattle.documents.specs.declared.document.ScriptCall.{ScriptCall}
+use Rattle.documents.specs.declared.document.Document.{Document}
+use Rattle.documents.specs.DocumentLimits.{AreShort, IsWithinDocumentLimits}
+use Rattle.script_plans.specs.declared.fault.ShapeFault.{ShapeFault}
+use Rattle.script_plans.specs.Shapes.{first_of, most_fuel, sizes_of, sizes_fault, fault_unless, op_number, call_fault_at, args_fault, call_fault, script_fault, scripts_fault, setting_fault}
+use Rattle.script_plans.specs.Plans.{padded, call_of, plan_for, IsRunnable, IsReady}
+
+both : (one other : Option ShapeFault) → option_or one other ≡ None → (one ≡ None) × (other ≡ None)
+both None other none = (refl, none)
+both (Some fault) other none = cc
+
+passed : (number : ℕ) (test : Bool) → fault_unless number test ≡ None → test ≡ true
+passed number true none = refl
+passed number false none = cc
+
+-- ---- calls
+
+zeros : (args : List ℕ) → list_all (λ word. word == 0) (drop (length args) (padded args)) ≡ true
+zeros [] = refl
+zeros (a ∷ []) = refl
+zeros (a ∷ b ∷ []) = refl
+zeros (a ∷ b ∷ c ∷ []) = refl
+zeros (a ∷ b ∷ c ∷ d ∷ rest) = rw (drop_all (length (a ∷ b ∷ c ∷ d ∷ rest)) (a ∷ b ∷ c ∷ d ∷ []) (omega arith)) refl
+
+abbrev unless_counted : ScriptCall → Bool → Option ShapeFault
+unless_counted call test = if test then None else Some (call_fault_at 9 call)
+
+counted : (call : ScriptCall) (op : Option Op) → args_fault call op ≡ None → is_call_of (option_map (scheme_op second_marks) op) (padded call.args) ≡ true
+counted call None none = cc
+counted call (Some op) none = go (length call.args == op.args) refl none
+  where
+    go : (test : Bool) → (length call.args == op.args) ≡ test → unless_counted call test ≡ None
+        → list_all (λ word. word == 0) (drop op.args (padded call.args)) ≡ true
+    go true same none = rw (← eqb-true (length call.args) op.args same) (zeros call.args)
+    go false same none = cc
+
+abbrev IsIn : List Op → Call → Type 0
+IsIn ops call = is_call_of (slice_get (map (scheme_op second_marks) ops) call.op) call.args ≡ true
+
+call_is : (ops : List Op) (call : ScriptCall) → call_fault ops call ≡ None → IsIn ops (call_of ops call)
+call_is ops call none = rw (slice_get-map (scheme_op second_marks) ops (op_number ops call.name)) (counted call (slice_get ops (op_number ops call.name)) none)
+
+script_is : (ops : List Op) (script : List ScriptCall) → script_fault ops script ≡ None → All (IsIn ops) (map (call_of ops) script)
+script_is ops [] none = All-nil (IsIn ops)
+script_is ops (call ∷ script) none =
+    let parts = both (call_fault ops call) (script_fault ops script) none in
+    All-cons (IsIn ops) (call_of ops call) (map (call_of ops) script) (call_is ops call parts.0) (script_is ops script parts.1)
+
+abbrev AreIn : List Op → List Call → Type 0
+AreIn ops calls = All (IsIn ops) calls
+
+scripts_are : (ops : List Op) (scripts : List (List ScriptCall)) → scripts_fault ops scripts ≡ None → All (AreIn ops) (map (map (call_of ops)) scripts)
+scripts_are ops [] none = All-nil (AreIn ops)
+scripts_are ops (script ∷ scripts) none =
+    let parts = both (script_fault ops script) (scripts_fault ops scripts) none in
+    All-cons (AreIn ops) (map (call_of ops) script) (map (map (call_of ops)) scripts) (script_is ops script parts.0) (scripts_are ops scripts parts.1)
+
+-- ---- the rest
+
+abbrev Short : {A : Type 0} → List A → Type 0
+Short script = length script ≤ 100000
+
+one_short : (ops : List Op) (script : List ScriptCall) → Short script → Short (map (call_of ops) script)
+one_short ops script le = rw (length-map script (call_of ops)) le
+
+short_are : (ops : List Op) (scripts : List (List ScriptCall)) → AreShort scripts → AreShort (map (map (call_of ops)) scripts)
+short_are ops scripts short =
+    All-map (Short {A = Call}) (map (call_of ops)) scripts
+    (All-from_get_or (λ (script : List ScriptCall). Short (map (call_of ops) script)) scripts [] (λ i lt. one_short ops (get_or scripts i []) (All-get_or (Short {A = ScriptCall}) scripts i [] lt short)))
+
+fuelled : (document : Document) → setting_fault document ≡ None → 1 ≤ document.fuel
+fuelled document none =
+    let last : fault_unless 7 (is_count most_fuel document.fuel) ≡ None =
+    fourth (sizes_fault (sizes_of document)) (fault_unless 5 (not (nat_lt document.slots (length document.text.nodes)))) (fault_unless 6 (are_phases document.first document.last)) (fault_unless 7 (is_count most_fuel document.fuel)) none in
+    first (nat_le 1 document.fuel) (nat_le document.fuel most_fuel) refl (passed 7 (is_count most_fuel document.fuel) last)
+  where
+    fourth : (a b c d : Option ShapeFault) → first_of (a ∷ b ∷ c ∷ d ∷ []) ≡ None → d ≡ None
+    fourth None None None None none = refl
+    fourth None None None (Some fault) none = cc
+    fourth None None (Some fault) d none = cc
+    fourth None (Some fault) c d none = cc
+    fourth (Some fault) b c d none = cc
+
+    first : (a b : Bool) → nat_le 1 document.fuel ≡ a → (a && b) ≡ true → 1 ≤ document.fuel
+    first true b le is = grind (arith, nat_tests)
+    first false b le is = cc
+
+pub plan_is_ready : (document : Document) → IsWithinDocumentLimits document → IsRunnable document → IsReady (plan_for document)
+plan_is_ready document within runs =
+    let parts = both (setting_fault document) (first_of (scripts_fault document.text.ops document.scripts ∷ [])) runs.shape in
+    let calls = both (scripts_fault document.text.ops document.scripts) None parts.1 in
+    record {
+      fits = record { fields = refl; cells = refl; nodes = refl };
+      count = length-map document.scripts (map (call_of document.text.ops));
+      calls = scripts_are document.text.ops document.scripts calls.0;
+      short = short_are document.text.ops document.scripts within.scripts;
+      fuel = fuelled document parts.0;
+    }

@@ -1,0 +1,12 @@
+//! What a document asks of its callers: its text compiled, the setting of the row, and the calls of each caller. Or why it
+//! can't be run.
+#![tactic(auto)]
+
+mod calls;
+mod fault;
+mod plan;
+mod setting;
+mod shape;
+
+pub use fault::{RunFault, ShapeFault};
+pub use plan::{CallList, CallLists, Plan, plan_of};

@@ -1,0 +1,100 @@
+//! The plan of a document.
+
+ghost use Rattle.std.specs.Prelude.{◌≡◌, ◌<◌, ◌^◌, length, IfOk, IfErr};
+ghost use Rattle.target_code.specs.SecondScheme.{second_scheme};
+ghost use Rattle.documents.specs.DocumentLimits.{IsWithinDocumentLimits};
+ghost use Rattle.script_plans.specs.declared.fault.RunFault.TheVariants as told;
+ghost use Rattle.script_plans.specs.Shapes.{setting_of, shape_fault};
+ghost use Rattle.script_plans.specs.Told.{or_fault};
+ghost use Rattle.script_plans.specs.Plans.{IsPlanned, IsReady};
+
+use crate::calls::calls_of;
+use crate::fault::{RunFault, ShapeFault};
+use crate::setting::setting_of;
+use crate::shape::scripts_fault;
+use barrier_check::laws::flawed_is_not_barred;
+use barrier_check::{Barred, VerifyError, verify};
+use barrier_compiler::compile;
+use caller_steps::{Call, Setting};
+use documents::Document;
+use norm_check::{Normal, check};
+use norm_lang::list::Listed;
+use std::alloc::Global;
+
+/// The calls of one caller, in order.
+pub type CallList = Listed<Call>;
+
+/// The calls of the callers, by their numbers.
+pub type CallLists = Listed<CallList>;
+
+/// What the callers of a document run: the code that its text compiles to, the setting of the row, the calls of each caller, and
+/// how many steps may be made for each call.
+#[derive(Debug, Drop)]
+pub struct Plan {
+    pub barred: Barred,
+    pub setting: Setting,
+    pub scripts: CallLists,
+    pub fuel: u64,
+}
+
+/// The code that a text compiles to. The verifier takes each that the compiler answers.
+fn barred_of(alloc: Global, normal: &Normal) -> Result<Barred, RunFault>
+    ensures code { IfOk result (λ barred. barred ≡ record { target = second_scheme normal.now; source = normal.now }) }
+    ensures memory { IfErr result (λ fault. fault ≡ told.Memory) }
+{
+    let target = compile(alloc, normal)?;
+    match verify(alloc, target, normal) {
+        Ok(barred) => Ok(barred),
+        Err(VerifyError::Memory) => Err(RunFault::Memory),
+        Err(VerifyError::Flawed(_)) => {
+            flawed_is_not_barred();
+            unreachable!()
+        }
+    }
+}
+
+/// The setting of a document, or what is wrong with its shape.
+fn shaped(document: &Document) -> Result<Setting, ShapeFault>
+    requires few { length document.now.text.nodes < 2 ^ 32 }
+    ensures { result ≡ or_fault (shape_fault document.now) (setting_of document.now) }
+{
+    let setting = setting_of(document)?;
+    match scripts_fault(document.text.ops.items(), document.scripts.items()) {
+        None => Ok(setting),
+        Some(fault) => Err(fault),
+    }
+}
+
+/// The plan of a document, part by part.
+#[tactic(auto, using(crate::proofs::Limits::few_nodes, crate::proofs::Limits::few_ops))]
+fn planned(alloc: Global, document: &Document) -> Result<Plan, RunFault>
+    requires { IsWithinDocumentLimits document.now }
+    ensures { IsPlanned document.now result }
+{
+    let normal = check(alloc, document.text.copy(alloc)?)?;
+    let setting = shaped(document)?;
+    let barred = barred_of(alloc, &normal)?;
+    let scripts = calls_of(alloc, document)?;
+    Ok(Plan {
+        barred,
+        setting,
+        scripts,
+        fuel: document.fuel,
+    })
+}
+
+/// The plan of a document.
+///
+/// Its text is within the limits of texts, each of its scripts has at most 100,000 calls, and each turn counts at least 1.
+///
+/// # Errors
+///
+/// `Refused` exactly where the text isn't in normal form, with the first rule that is broken. Else `Shape` exactly where its
+/// shape is refused, with the first fault: see `ShapeFault`. `Memory` where memory runs out, be it before one of these.
+pub fn plan_of(alloc: Global, document: &Document) -> Result<Plan, RunFault>
+    requires { IsWithinDocumentLimits document.now }
+    ensures exact { IsPlanned document.now result }
+    ensures ready { IfOk result (λ plan. IsReady plan) }
+{
+    planned(alloc, document)
+}

@@ -1,0 +1,161 @@
+-- The stores of a `new` over the real core, and the clear before it.
+use Rattle.std.proofs.Common.{ℕ, ◌≡◌, ◌≢◌, ◌==◌, ◌+◌, ◌<◌, ◌⊎◌, ◌∙◌, ◌&&◌, Bool, true, false, [], ◌∷◌, length, Option, Some, inl, inr, sym, ap, subst, refl, if◌then◌else◌}
+use Rattle.std.specs.Prelude.{nat_lt}
+use Rattle.norm_lang.specs.declared.text.Reg.TheVariants.{Ref}
+use Rattle.norm_lang.specs.declared.text.Instr.TheVariants as instr
+use Rattle.target_code.specs.declared.target.TargetInstr.{TargetInstr}
+use Rattle.target_code.specs.declared.target.TargetInstr.TheVariants.{Plain}
+use Rattle.oa_words.specs.Words.{Word, Phase, Place, Warning, Hazard, Status, FieldOf, Cell}
+use Rattle.core_runs.specs.Memories.{store}
+use Rattle.guard_words.specs.Guards.{guard_at, with_guard}
+use Rattle.target_code.specs.Keeping.{keeps}
+use Rattle.source_machine.specs.MethodRuns.{put}
+use Rattle.source_machine.specs.Proper.{has}
+use Rattle.std.proofs.lemmas.Bool.Decides.{eqb_tells}
+use Rattle.caller_steps.specs.declared.routine.AfterClear.TheVariants as clears
+use Rattle.caller_steps.specs.declared.routine.Routine.TheVariants.{Zeroes}
+use Rattle.caller_steps.specs.Entries.{one_more}
+use Rattle.caller_steps.specs.Operands.{cradle_of, instr_in}
+use Rattle.caller_steps.specs.Clearing.{clear_next, none_spared, unguarded}
+use Rattle.caller_steps.specs.After.{counted, with_new, with_hand, then_cleared, cleared, goes_on, zeroed as core_zeroed}
+use Rattle.sim_relation.specs.Views.{Plan, Shared, Caller}
+use Rattle.sim_relation.specs.Shared.{Fine}
+use Rattle.sim_relation.specs.Callers.{Base, Trail, Walks, Stands, Gets, AtNew, Calm, spared, spot_of}
+use Rattle.sim_relation.specs.Goes.{Goes}
+use Rattle.caller_steps.specs.Signs.{Draws, quiet, told}
+use Rattle.sim_relation.specs.Points.{point}
+use Rattle.sim_relation.proofs.Playing.{plays_first}
+use Rattle.sim_relation.specs.Steps.{Kept, Ends, hazarded, regarded}
+use Rattle.sim_relation.proofs.Moving.{base_moved, walks_moved}
+use Rattle.sim_exchanges.proofs.Fresh.{zeroed, goes_zeroed, drawn, goes_drawn}
+use Rattle.sim_walks.proofs.Quieting.{cleared_new}
+use Rattle.sim_walks.proofs.Stopping.{settles_ends}
+use Rattle.sim_guards.proofs.Guarding.{fine_hazarded, goes_hazarded, base_hazarded, kept_hazarded, guard_other, protects_more}
+use Rattle.sim_relation.proofs.Clearing.{clear_some}
+use Rattle.sim_guards.proofs.Unguarding.{counted_caller, kept_ends}
+use Rattle.sim_walks.proofs.Accessing.{turned, took}
+use Rattle.sim_accesses.proofs.News.{Zeroing, zero_kept, Drawing, draws, behind_new, new_takes}
+
+-- a word that is stored twice
+twice_at : (b : Bool) (x y : ℕ) → (if b then x else (if b then x else y)) ≡ (if b then x else y)
+twice_at true x y = refl
+twice_at false x y = refl
+
+twice_word : (m : Word → ℕ) (j g : ℕ) (v : Word) → store (store m (FieldOf j g) 0) (FieldOf j g) 0 v ≡ store m (FieldOf j g) 0 v
+twice_word m j g (FieldOf a b) = twice_at ((a == j) && (b == g)) 0 (m (FieldOf a b))
+twice_word m j g Phase = refl
+twice_word m j g (Place c) = refl
+twice_word m j g (Warning c) = refl
+twice_word m j g (Hazard c r) = refl
+twice_word m j g (Status i) = refl
+twice_word m j g (Cell x) = refl
+
+twice : (m : Word → ℕ) (j g : ℕ) → store (store m (FieldOf j g) 0) (FieldOf j g) 0 ≡ store m (FieldOf j g) 0
+twice m j g = λ i v. twice_word m j g v i
+
+pub zeroing_moved : (t : Plan) (s : Shared) (c : ℕ) (x : Caller) (m : Trail t) (r k g : ℕ) → Zeroing t s c x m r k g → Zeroing t s c (counted_caller x) m r k g
+zeroing_moved t s c x m r k g w = record {
+  plan = w.plan;
+  fine = w.fine;
+  base = base_moved t s c x (one_more x.entry.running.steps) x.entry.counts x.entry.routine w.base;
+  walks = walks_moved t s c x (spot_of x.entry.hand) m (one_more x.entry.running.steps) x.entry.counts x.entry.routine w.walks;
+  gets = w.gets;
+  held = w.held;
+  zeros = w.zeros;
+  empty = w.empty;
+  here = w.here;
+  number = w.number;
+  generator = w.generator;
+}
+
+-- the zero, and the draw in the same step
+goes_new : (t : Plan) (s : Shared) (c k j g : ℕ) → Goes t c s (zeroed s j g) → Goes t c (zeroed s j g) (drawn t (zeroed s j g) j g) → Goes t c s (drawn t (zeroed s j g) j g)
+goes_new t s c k j g one two = record {
+  phase = two.phase;
+  warning = two.warning;
+  tag = two.tag;
+  public = two.public;
+  link = two.link;
+  hazard = two.hazard;
+  protects = two.protects;
+  validated = two.validated;
+  held = λ i d q ne own. let a = one.held i d q ne own in let b = two.held i d q ne a.0 in (b.0, b.1 ∙ a.1, (λ h. b.2 h ∙ a.2 h));
+  retiring = λ i d ne own. let a = one.retiring i d ne own in let b = two.retiring i d ne a.0 in (b.0, b.1 ∙ a.1, refl);
+}
+
+-- a store of 0 at a `new`: the next field's, or the draw and the local code after it
+pub new_stores : (t : Plan) (c : ℕ) (s : Shared) (x : Caller) (m : Trail t) (r k g : ℕ) → Zeroing t s c x m r k g → Stands t x m → instr_in t.target x.entry ≡ Some (Plain (instr.New (Ref r)))
+    → (nat_lt (g + 1) t.setting.sizes.fields ≡ false → Drawing t (zeroed s (cradle_of x.entry k) g) c (counted_caller x) m r k g)
+    → Kept t c s x (store s.memory (FieldOf (cradle_of x.entry k) g) 0) (core_zeroed t.target t.setting.sizes k g (counted x.entry))
+new_stores t c s x m r k g w st is draw = of (nat_lt (g + 1) t.setting.sizes.fields) refl where
+  last : nat_lt (g + 1) t.setting.sizes.fields ≡ false → Kept t c s x (store s.memory (FieldOf (cradle_of x.entry k) g) 0) (told (Draws (cradle_of x.entry k) ∷ []) (goes_on t.target t.setting.sizes (with_new (Some (Plain (instr.New (Ref r)))) (cradle_of x.entry k) x.entry.hand.registers) (counted x.entry)))
+  last ends =
+      let d = draw ends in
+      let j = cradle_of x.entry k in
+      let s1 = zeroed s j g in
+      let s' = drawn t s1 j g in
+      let y = counted_caller x in
+      let own = w.base.cradle k w.held in
+      let taken = new_takes t s1 c y m r k g d in
+      let z = took t s1 c s.unused y (behind_new x r j) x.entry.hand.accessed s.unused in
+      let ended = settles_ends t s' c (record (turned y z.source z.watch) { held = z.held }) (behind_new x r j) w.plan taken.1 taken.2 taken.3 in
+      record {
+        s' = s';
+        x' = ended.x';
+        memory = twice s.memory j g;
+        entry = ended.entry;
+        plays = plays_first t.text c (Draws (cradle_of x.entry k)) _ (point s x) (point s' z) (point s' ended.x') taken.0 refl ended.plays;
+        fine = taken.1;
+        goes = goes_new t s c k j g (goes_zeroed t s c k j g own) (goes_drawn t s1 c k j g w.plan d.zeroing.fine (draws t s1 c y m r k g d));
+        told = ended.told;
+      }
+
+  of : (b : Bool) → nat_lt (g + 1) t.setting.sizes.fields ≡ b → Kept t c s x (store s.memory (FieldOf (cradle_of x.entry k) g) 0)
+      (if b then quiet (record (counted x.entry) { routine = Zeroes k (g + 1) }) else told (Draws (cradle_of x.entry k) ∷ []) (goes_on t.target t.setting.sizes (with_new (instr_in t.target (counted x.entry)) (cradle_of x.entry k) x.entry.hand.registers) (counted x.entry)))
+  of true more = zero_kept t c s x m r k g w st
+  of false ends = subst (λ (o : Option TargetInstr). Kept t c s x (store s.memory (FieldOf (cradle_of x.entry k) g) 0) (told (Draws (cradle_of x.entry k) ∷ []) (goes_on t.target t.setting.sizes (with_new o (cradle_of x.entry k) x.entry.hand.registers) (counted x.entry)))) (sym is) (last ends)
+
+-- ---- the clear before a `new`
+
+new_regarded : (t : Plan) (s : Shared) (c : ℕ) (x : Caller) (m : Trail t) (r : ℕ) → r < length x.entry.hand.guards.slots → m.walk.method.wrapup ≡ false → Walks t s c x (spot_of x.entry.hand) m → Stands t x m → Gets t s c x m
+    → AtNew t (hazarded s c r 0) c (regarded (counted_caller x) r 0 0) (spot_of x.entry.hand)
+new_regarded t s c x m r lt gen w st g = (
+  m,
+  record {
+    call = w.call;
+    wrapup = w.wrapup;
+    first = w.first;
+    number = w.number;
+    start = w.start;
+    ahead = w.ahead;
+    generator = w.generator;
+    kept = kept_hazarded t x r 0 0 m.walk (ap (λ (b : Bool). b && keeps m.walk.method.op (Ref r)) gen) w.kept;
+    shown = w.shown;
+    sound = record {
+      word = λ calm k. word calm k (eqb_tells k r);
+      pairs = λ o e f free some some'.
+          let p = protects_more s c r 0 c o some in
+          let q = protects_more s c r 0 c e some' in
+          rw (p.0, q.0) (w.sound.pairs o e f free (λ z. some (p.0 ∙ z)) (λ z. some' (q.0 ∙ z)));
+      apart = λ gen' k e trusted some. let q = protects_more s c r 0 c e some in rw q.0 (w.sound.apart gen' k e trusted (λ z. some (q.0 ∙ z)));
+    };
+  },
+  st,
+  record { got = g.got; named = λ k. named k (eqb_tells k r); fresh = g.fresh; shown = g.shown; made = g.made },
+) where
+  word : Calm s c x → (k : ℕ) → (((k == r) ≡ true) × (k ≡ r)) ⊎ (((k == r) ≡ false) × (k ≢ r)) → put x.names.name r 0 k ≢ 0 → put x.names.valid r false k ≡ false → guard_at (with_guard x.entry.hand.guards r 0) k ≡ t.home (put x.names.name r 0 k)
+  word calm k (inl e) = rw e.0 (λ some invalid. absurd (some refl))
+  word calm k (inr e) = rw e.0 (λ some invalid. guard_other x.entry.hand.guards r 0 k e.1 ∙ w.sound.word calm k some invalid)
+
+  named : (k : ℕ) → (((k == r) ≡ true) × (k ≡ r)) ⊎ (((k == r) ≡ false) × (k ≢ r)) → put x.names.name r 0 k ≢ 0 → spared t m.walk k ≡ false → has (put x.names.name r 0 k) x.held.got ≡ true
+  named k (inl e) = rw e.0 (λ some free. absurd (some refl))
+  named k (inr e) = rw e.0 (λ some free. g.named k some free)
+
+pub new_clears : (t : Plan) (c : ℕ) (s : Shared) (x : Caller) (r : ℕ) → Fine t s → Base t s c x → clear_next t.target clears.New x.entry ≡ Some r → (at : AtNew t s c x (spot_of x.entry.hand)) → at.0.walk.method.wrapup ≡ false
+    → Kept t c s x (store s.memory (Hazard c r) 0) (quiet (then_cleared t.target t.setting.sizes clears.New (counted x.entry)))
+new_clears t c s x r f b is at gen =
+    let found = clear_some x.entry.hand.guards none_spared r is in
+    let y = regarded (counted_caller x) r 0 0 in
+    kept_ends t c s (hazarded s c r 0) x y (quiet (then_cleared t.target t.setting.sizes clears.New (counted x.entry))) (store s.memory (Hazard c r) 0) (fine_hazarded t c s r 0 f) (goes_hazarded t c s r 0) refl refl
+    (subst (λ (o : Option ℕ). Ends t (hazarded s c r 0) c y (quiet (cleared t.target t.setting.sizes clears.New (with_hand (counted x.entry) (unguarded o x.entry.hand))))) (sym is)
+    (cleared_new t (hazarded s c r 0) c y (base_hazarded t c s (counted_caller x) r 0 0 found.1 (base_moved t s c x (one_more x.entry.running.steps) x.entry.counts x.entry.routine b)) (new_regarded t s c x at.0 r found.1 gen at.1 at.2 at.3)))

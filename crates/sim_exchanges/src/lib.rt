@@ -1,0 +1,2 @@
+//! Simulation: what an exchange and a `new` do to words and names.
+#![tactic(auto)]

@@ -1,0 +1,2 @@
+//! Simulation: checks, guards, clears and retirements.
+#![tactic(auto)]

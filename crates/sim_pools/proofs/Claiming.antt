@@ -1,0 +1,239 @@
+-- The claim of a `new`: looks, sweeps, the slot that it takes, and the call that it gives up.
+use Rattle.std.proofs.Common.{ℕ, ◌≡◌, ◌≢◌, ◌==◌, ◌+◌, ◌≤◌, ◌<◌, ◌∙◌, Bool, true, false, List, [], ◌∷◌, ◌++◌, map, length, Option, Some, None, arith, ⊎_elim, sym, ap, subst, refl, if◌then◌else◌, set}
+use Rattle.std.specs.Prelude.{slice_get, slice_index}
+use Rattle.std.proofs.lemmas.List.{map-append}
+use Rattle.std.proofs.lemmas.Bool.{cases_eq}
+use Rattle.std.proofs.lemmas.Bool.Decides.{nat_tests}
+use Rattle.norm_lang.specs.declared.text.Instr.TheVariants as instr
+use Rattle.target_code.specs.declared.target.TargetInstr.TheVariants.{Plain}
+use Rattle.oa_words.specs.declared.packed.Kind.{Kind}
+use Rattle.oa_words.specs.declared.packed.Kind.TheVariants as kinds
+use Rattle.oa_words.specs.Words.{Word, Status}
+use Rattle.core_runs.specs.Memories.{store}
+use Rattle.oa_words.specs.Packed.{StatusParts, status_word, status_parts}
+use Rattle.phase_pools.specs.declared.access.ClaimEnd.{ClaimEnd}
+use Rattle.phase_pools.specs.declared.access.ClaimEnd.TheVariants as ends
+use Rattle.phase_pools.specs.declared.access.SweepEnd.{SweepEnd}
+use Rattle.phase_pools.specs.declared.access.SweepEnd.TheVariants as swept
+use Rattle.phase_pools.specs.declared.stages.ClaimStage.{ClaimStage}
+use Rattle.phase_pools.specs.declared.stages.ClaimStage.TheVariants as claims
+use Rattle.phase_pools.specs.Accesses.{word_of}
+use Rattle.phase_pools.specs.Pools.{Claim, Sweep, claim_wants_at, claim_accepts_at, claim_goes, claim_ends, look_ended, look_on, look_kind, look_read, look_took, sweep_ended, sweep_begun, sweep_accepts_at, has_next, sweep_wants_at}
+use Rattle.source_machine.specs.declared.event.SourceEvent.TheVariants as events
+use Rattle.source_machine.specs.declared.event.SourceReply.{SourceReply}
+use Rattle.source_machine.specs.Step.{caller_turn, give_up_reply, replied}
+use Rattle.source_machine.specs.MethodRuns.{run_after, put}
+use Rattle.caller_steps.specs.declared.call.Reply.{Reply}
+use Rattle.caller_steps.specs.declared.call.Reply.TheVariants as core_replies
+use Rattle.caller_steps.specs.declared.call.Replied.{Replied}
+use Rattle.caller_steps.specs.declared.routine.Routine.TheVariants.{At, Claims, Zeroes}
+use Rattle.caller_steps.specs.Entries.{one_more}
+use Rattle.caller_steps.specs.Operands.{instr_in, is_new_at, new_number}
+use Rattle.caller_steps.specs.After.{counted, claimed, claim_on, claim_ended, with_routine, replied as entry_replied}
+use Rattle.target_laws.specs.Methods.{code_in}
+use Rattle.run_ahead.specs.Standing.{Call, caller_of}
+use Rattle.run_ahead.proofs.Ends.{giving_up_is_followed}
+use Rattle.caller_steps.specs.Signs.{GivesUp, quiet, told}
+use Rattle.caller_steps.specs.Pairing.{replied_by}
+use Rattle.caller_steps.specs.declared.entry.Counts.{Counts}
+use Rattle.sim_relation.specs.Views.{Plan, IsPlan, Pool, Held, Shared, Caller, settled_names}
+use Rattle.sim_relation.specs.Shared.{Fine}
+use Rattle.sim_relation.specs.Points.{done, point}
+use Rattle.sim_relation.proofs.Playing.{plays_none, plays_one, points_same}
+use Rattle.sim_walks.proofs.Replying.{follows_of}
+use Rattle.sim_relation.specs.Callers.{Calm, Base, Trail, AtNew, Empty, ClaimAt, spot_of, source_reply, replies_of, call_of}
+use Rattle.sim_relation.specs.Steps.{Kept, GoesForAll, after_access, moved, cradled}
+use Rattle.sim_relation.proofs.Words.{store_idle}
+use Rattle.sim_relation.proofs.Moving.{base_moved, new_moved, own_base, own_new, goes_same, new_cradled, base_cradled, base_settled, settled_is}
+use Rattle.sim_pools.proofs.Slots.{in_pool, taken, apart, with_status}
+use Rattle.source_machine.specs.Proper.{has}
+use Rattle.source_machine.proofs.Places.{put_same, put_other}
+use Rattle.sim_relation.proofs.Lists.{index_set, index_set_other}
+use Rattle.sim_pools.proofs.Sweeping.{SweepNext, sweep_step}
+use Rattle.sim_relation.proofs.Codes.{instr_is, new_there}
+
+-- a caller in a claim, but for what the claim itself knows
+pub record Claiming (t : Plan) (s : Shared) (c : ℕ) (x : Caller) : Type 0 where
+  pub base : Base t s c x
+  pub running : AtNew t s c x (spot_of x.entry.hand)
+  pub empty : Empty x
+  -- it stands at a `new` of its generator
+  pub at_new : is_new_at (instr_in t.target x.entry) ≡ true
+  pub generator : x.entry.hand.wrapup ≡ false
+
+own_claiming : (t : Plan) (c : ℕ) (s s' : Shared) (x : Caller) → IsPlan t → GoesForAll t s s' → Fine t s → Fine t s' → Claiming t s c x → Claiming t s' c x
+own_claiming t c s s' x plan g f f' w = record {
+  base = own_base t c s s' x g f w.base;
+  running = own_new t c s s' x (spot_of x.entry.hand) plan g f f' w.base w.running;
+  empty = w.empty;
+  at_new = w.at_new;
+  generator = w.generator;
+}
+
+-- ---- the call is given up
+
+-- the reply that tells why
+abbrev pub given_up : Option ℕ → Reply
+given_up None = core_replies.Full
+given_up (Some p) = core_replies.Phases p
+
+same_reply : (phase : Option ℕ) → source_reply (given_up phase) ≡ give_up_reply phase
+same_reply None = refl
+same_reply (Some p) = refl
+
+pub gave_up : (t : Plan) (c : ℕ) (s s' : Shared) (x : Caller) (phase : Option ℕ) (memory' : Word → ℕ) → IsPlan t → Fine t s → Fine t s' → GoesForAll t s s' → s'.source ≡ s.source → s'.unused ≡ s.unused → s'.memory ≡ memory' → Claiming t s c x
+    → Kept t c s x memory' (told (GivesUp phase ∷ []) (quiet (entry_replied (given_up phase) (with_routine (counted x.entry) At))))
+gave_up t c s s' x phase memory' plan f f' g source unused memory w =
+    let m : Trail t = w.running.0 in
+    let walks = w.running.1 in
+    let new = new_there (instr_in t.target x.entry) w.at_new in
+    let is : slice_get (code_in m.walk.method) x.entry.hand.at ≡ Some (Plain (instr.New new.0)) = sym (instr_is t s c x (spot_of x.entry.hand) m walks) ∙ new.1 in
+    let turns = giving_up_is_followed (Calm s c x) t.target t.text plan.compiled t.home m.walk m.path (spot_of x.entry.hand) m.mirror x.entry.hand.accessed x.source (follows_of t s c x m walks w.running.2) new.0 is c phase s.source in
+    let x' : Caller = record x {
+      names = settled_names x.names;
+      entry = entry_replied (given_up phase) (with_routine (counted x.entry) At);
+      source = (caller_turn t.text (events.GiveUp c phase) s.source x.source).caller;
+      watch = run_after t.text (events.GiveUp c phase) s.source x.source x.watch;
+    } in
+    let b = base_settled t s' c x (own_base t c s s' x g f w.base) in
+    record {
+      s' = s';
+      x' = x';
+      memory = memory;
+      entry = refl;
+      plays = plays_one t.text c (GivesUp phase) (point s x) (point s' x') (turns.enabled, (source ∙ sym (ap (λ turn. turn.memory) turns.turns), refl, refl)) unused;
+      fine = f';
+      goes = g c;
+      told = record {
+        base = record { number = b.number; seen = b.seen; old = b.old; hazard = b.hazard; protects = b.protects; known = b.known; cradle = b.cradle };
+        spot = (w.empty, settled_is x, ap (λ turn. turn.caller) turns.turns ∙ idle m.walk.call walks.call);
+      };
+    }
+  where
+    idle : (call : Call) → call ≡ call_of x.entry → replied (give_up_reply phase) (caller_of call) ≡ record { replies = map (λ (r : Replied). source_reply r.reply) (x.entry.replies ++ replied_by (given_up phase) (record x.entry.running { steps = one_more x.entry.running.steps }) ∷ []); running = None }
+    idle call is = ap (λ call. replied (give_up_reply phase) (caller_of call)) is
+        ∙ ap (λ (rs : List SourceReply). record { replies = rs; running = None }) (ap (λ (r : SourceReply). replies_of x.entry ++ r ∷ []) (sym (same_reply phase))
+        ∙ sym (map-append (λ (r : Replied). source_reply r.reply) x.entry.replies (replied_by (given_up phase) (record x.entry.running { steps = one_more x.entry.running.steps }) ∷ [])))
+
+-- ---- the claim goes on
+
+-- what is known of a claim that goes on, or has ended without a slot
+abbrev pub ClaimGoes : Plan → Shared → Claim → Option ClaimEnd → Type 0
+ClaimGoes t s claim None = ClaimAt t s claim.sweep claim.stage
+ClaimGoes t s claim (Some (ends.Claimed j)) = ⊥
+ClaimGoes t s claim (Some ends.Full) = Unit {0}
+ClaimGoes t s claim (Some (ends.PhasesOver p)) = Unit {0}
+
+pub claim_kept : (t : Plan) (c : ℕ) (s s' : Shared) (x : Caller) (claim : Claim) (end : Option ClaimEnd) (memory' : Word → ℕ) → IsPlan t → Fine t s → Fine t s' → GoesForAll t s s' → s'.source ≡ s.source → s'.unused ≡ s.unused → s'.memory ≡ memory' → Claiming t s c x
+    → ClaimGoes t s' claim end → Kept t c s x memory' (claim_on t.target claim end (counted x.entry))
+claim_kept t c s s' x claim None memory' plan f f' g source unused memory w goes =
+    let w' = own_claiming t c s s' x plan g f f' w in
+    record {
+      s' = s';
+      x' = moved x (one_more x.entry.running.steps) x.entry.counts (Claims claim);
+      memory = memory;
+      entry = refl;
+      plays = plays_none t.text c (point s x) (point s' (moved x (one_more x.entry.running.steps) x.entry.counts (Claims claim))) (points_same (point s x) (point s' (moved x (one_more x.entry.running.steps) x.entry.counts (Claims claim))) unused source refl refl);
+      fine = f';
+      goes = g c;
+      told = record {
+        base = base_moved t s' c x (one_more x.entry.running.steps) x.entry.counts (Claims claim) w'.base;
+        spot = (goes, new_moved t s' c x (spot_of x.entry.hand) (one_more x.entry.running.steps) x.entry.counts (Claims claim) w'.running, w.empty);
+      };
+    }
+claim_kept t c s s' x claim (Some (ends.Claimed j)) memory' plan f f' g source unused memory w goes = absurd goes
+claim_kept t c s s' x claim (Some ends.Full) memory' plan f f' g source unused memory w goes = gave_up t c s s' x None memory' plan f f' g source unused memory w
+claim_kept t c s s' x claim (Some (ends.PhasesOver p)) memory' plan f f' g source unused memory w goes = gave_up t c s s' x (Some p) memory' plan f f' g source unused memory w
+
+look_ends : (t : Plan) (s : Shared) (claim : Claim) → ClaimGoes t s (look_ended claim).claim (look_ended claim).ended
+look_ends t s claim = of (claim.sweeps == 2) where
+  of : (b : Bool) → ClaimGoes t s (if b then claim_ends claim ends.Full else record { claim = record claim { stage = claims.Sweeps; sweep = sweep_begun }; ended = None }).claim
+      (if b then claim_ends claim ends.Full else record { claim = record claim { stage = claims.Sweeps; sweep = sweep_begun }; ended = None }).ended
+  of true = tt
+  of false = tt
+
+look_next : (t : Plan) (s : Shared) (claim : Claim) (j : ℕ) → ClaimGoes t s (look_on t.setting.sizes claim j).claim (look_on t.setting.sizes claim j).ended
+look_next t s claim j = of (has_next t.setting.sizes j) where
+  of : (b : Bool) → ClaimGoes t s (if b then claim_goes claim (claims.ReadStatus (j + 1)) else look_ended claim).claim (if b then claim_goes claim (claims.ReadStatus (j + 1)) else look_ended claim).ended
+  of true = omega arith
+  of false = look_ends t s claim
+
+kind_next : (t : Plan) (s : Shared) (claim : Claim) (j q : ℕ) (kind : Kind) → 1 ≤ j → ClaimGoes t s (look_kind t.setting.sizes claim j q kind).claim (look_kind t.setting.sizes claim j q kind).ended
+kind_next t s claim j q kinds.Ready le = le
+kind_next t s claim j q kinds.Used le = look_next t s claim j
+kind_next t s claim j q kinds.Retired le = look_next t s claim j
+
+read_next : (t : Plan) (s : Shared) (claim : Claim) (j : ℕ) (parts : Option StatusParts) → 1 ≤ j → ClaimGoes t s (look_read t.setting.sizes claim j parts).claim (look_read t.setting.sizes claim j parts).ended
+read_next t s claim j None le = look_next t s claim j
+read_next t s claim j (Some parts) le = kind_next t s claim j parts.phase parts.kind le
+
+sweep_goes_on : (t : Plan) (s : Shared) (claim : Claim) (sweep : Sweep) (end : Option SweepEnd) → claim.stage ≡ claims.Sweeps → SweepNext t s sweep end → ClaimGoes t s (sweep_ended t.setting.sizes claim sweep end).claim (sweep_ended t.setting.sizes claim sweep end).ended
+sweep_goes_on t s claim sweep None is next = subst (λ (stage : ClaimStage). ClaimAt t s sweep stage) (sym is) next
+sweep_goes_on t s claim sweep (Some swept.Swept) is next = omega arith
+sweep_goes_on t s claim sweep (Some (swept.PhasesOver p)) is next = tt
+
+-- ---- a slot is taken
+
+abbrev pub one_claim : Counts → Counts
+one_claim counts = record counts { claims = one_more counts.claims }
+
+took : (t : Plan) (c : ℕ) (s : Shared) (x : Caller) (claim : Claim) (j q : ℕ) → IsPlan t → Fine t s → Claiming t s c x → 1 ≤ j → new_number t.target x.entry < length x.entry.cradles → s.memory (Status j) ≡ status_word q kinds.Ready
+    → Kept t c s x (store s.memory (Status j) (status_word q kinds.Used)) (claim_ended t.target (ends.Claimed j) (with_routine (counted x.entry) At))
+took t c s x claim j q plan f w some lt is =
+    let k : ℕ = new_number t.target x.entry in
+    let take = taken t s c k j q plan f is in
+    let pool = in_pool (s.owner j) q (s.memory (Status j)) (s.present j) (s.tag (s.present j)) (has (s.present j) s.source.retired) (s.public (s.present j)) is (f.slot j) in
+    let w' = own_claiming t c s (with_status s j (Held c k) (status_word q kinds.Used)) x plan take.1 f take.0 w in
+    let cradles : List ℕ = set x.entry.cradles k j in
+    let there : slice_index cradles k ≡ j = index_set x.entry.cradles k j lt in
+    record {
+      s' = with_status s j (Held c k) (status_word q kinds.Used);
+      x' = moved (cradled x cradles) (one_more x.entry.running.steps) (one_claim x.entry.counts) (Zeroes k 0);
+      memory = refl;
+      entry = refl;
+      plays = done _;
+      fine = take.0;
+      goes = take.1 c;
+      told = record {
+        base = base_moved t _ c (cradled x cradles) (one_more x.entry.running.steps) (one_claim x.entry.counts) (Zeroes k 0)
+            (base_cradled t _ c x cradles (cradle k refl) w'.base);
+        spot = (
+          (λ z. omega (arith, some, there, z)),
+          ((λ none. absurd (omega (arith, none))), (λ g none. absurd (omega (arith, none)))),
+          new_moved t _ c (cradled x cradles) (spot_of x.entry.hand) (one_more x.entry.running.steps) (one_claim x.entry.counts) (Zeroes k 0)
+              (new_cradled t _ c x (spot_of x.entry.hand) cradles w'.running),
+          w.empty,
+        );
+      };
+    }
+  where
+    cradle : (k : ℕ) → k ≡ new_number t.target x.entry → (i : ℕ) → slice_index (set x.entry.cradles k j) i ≢ 0 → put s.owner j (Held c k) (slice_index (set x.entry.cradles k j) i) ≡ Held c i
+    cradle k here i full = ⊎_elim
+        (λ (e : i ≡ k). rw e (ap (λ (n : ℕ). put s.owner j (Held c k) n) (index_set x.entry.cradles k j (subst (λ (n : ℕ). n < length x.entry.cradles) (sym here) lt)) ∙ put_same s.owner j (Held c k)))
+        (λ (ne : i ≢ k).
+        let same : slice_index (set x.entry.cradles k j) i ≡ slice_index x.entry.cradles i = index_set_other x.entry.cradles k j i ne in
+        let own : s.owner (slice_index x.entry.cradles i) ≡ Held c i = w.base.cradle i (λ z. full (same ∙ z)) in
+        let pool = in_pool (s.owner j) q (s.memory (Status j)) (s.present j) (s.tag (s.present j)) (has (s.present j) s.source.retired) (s.public (s.present j)) is (f.slot j) in
+        ap (λ (n : ℕ). put s.owner j (Held c k) n) same ∙ (put_other s.owner j (slice_index x.entry.cradles i) (Held c k) (apart s (slice_index x.entry.cradles i) j (Held c i) Pool own pool.0 (λ e. cc)) ∙ own))
+        (cases_eq i k)
+
+takes : (t : Plan) (c : ℕ) (s : Shared) (x : Caller) (claim : Claim) (j q : ℕ) → IsPlan t → Fine t s → Claiming t s c x → 1 ≤ j → new_number t.target x.entry < length x.entry.cradles
+    → Kept t c s x (after_access s.memory (claim_wants_at claim.sweep (claims.Take j q))) (claimed t.target (look_took t.setting.sizes claim j q (s.memory (Status j))) (counted x.entry))
+takes t c s x claim j q plan f w some lt = of (s.memory (Status j) == status_word q kinds.Ready) refl where
+  of : (b : Bool) → (s.memory (Status j) == status_word q kinds.Ready) ≡ b
+      → Kept t c s x (store s.memory (Status j) (if b then status_word q kinds.Used else s.memory (Status j))) (claimed t.target (if b then claim_ends claim (ends.Claimed j) else look_on t.setting.sizes claim j) (counted x.entry))
+  of true is = took t c s x claim j q plan f w some lt (grind (arith, nat_tests))
+  of false is = claim_kept t c s s x (look_on t.setting.sizes claim j).claim (look_on t.setting.sizes claim j).ended _ plan f f (goes_same t s) refl refl (store_idle s.memory (Status j)) w (look_next t s claim j)
+
+-- each step of a claim
+pub claims_keep : (t : Plan) (c : ℕ) (s : Shared) (x : Caller) (claim : Claim) (stage : ClaimStage) → claim.stage ≡ stage → IsPlan t → Fine t s → Claiming t s c x → new_number t.target x.entry < length x.entry.cradles → ClaimAt t s claim.sweep stage
+    → Kept t c s x (after_access s.memory (claim_wants_at claim.sweep stage)) (claimed t.target (claim_accepts_at t.setting.sizes t.setting.last claim (s.memory (word_of (claim_wants_at claim.sweep stage))) stage) (counted x.entry))
+claims_keep t c s x claim (claims.ReadStatus j) is plan f w lt at =
+    let turn = look_read t.setting.sizes claim j (status_parts (s.memory (Status j))) in
+    claim_kept t c s s x turn.claim turn.ended _ plan f f (goes_same t s) refl refl (store_idle s.memory (Status j)) w (read_next t s claim j (status_parts (s.memory (Status j))) at)
+claims_keep t c s x claim (claims.Take j q) is plan f w lt at = takes t c s x claim j q plan f w at lt
+claims_keep t c s x claim claims.Sweeps is plan f w lt at =
+    let turn = sweep_accepts_at t.setting.sizes t.setting.last claim.sweep (s.memory (word_of (sweep_wants_at claim.sweep.stage claim.sweep.bound))) claim.sweep.stage in
+    let swept = sweep_step t s claim.sweep claim.sweep.stage plan f at in
+    claim_kept t c s swept.s' x (sweep_ended t.setting.sizes claim turn.sweep turn.ended).claim (sweep_ended t.setting.sizes claim turn.sweep turn.ended).ended _ plan f swept.fine swept.goes swept.source swept.unused swept.memory w
+    (sweep_goes_on t swept.s' claim turn.sweep turn.ended is swept.next)

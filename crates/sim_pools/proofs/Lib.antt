@@ -1,0 +1,5 @@
+pub mod Phases
+pub mod Slots
+pub mod Sweeping
+pub mod Claiming
+pub mod Core

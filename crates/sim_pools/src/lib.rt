@@ -1,0 +1,2 @@
+//! Simulation: phases, slots, sweeps and claims.
+#![tactic(auto)]

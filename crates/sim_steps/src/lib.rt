@@ -1,0 +1,2 @@
+//! Simulation: each step of each caller is kept, by where the caller stands.
+#![tactic(auto)]

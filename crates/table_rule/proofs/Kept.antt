@@ -1,0 +1,26 @@
+-- Each kind of step keeps the rule.
+use Rattle.std.proofs.Common.{◌≡◌, ℕ, List, refl, sym, ap, ◌∙◌}
+use Rattle.std.specs.Prelude.{slice_index}
+use Rattle.atomic_table.specs.Table.{Final, Seen}
+use Rattle.table_rule.specs.Seen.{Fixed, SeatView}
+use Rattle.table_rule.specs.Rule.{Holds}
+use Rattle.table_rule.specs.Closing.{Shut}
+use Rattle.table_rule.specs.Laws.{StepsKeepRule}
+use Rattle.table_rule.proofs.Accesses.{may_make}
+use Rattle.table_rule.proofs.Others.{split_kept, join_kept, look_allowed, try_allowed, opens, closes}
+
+shuts : (key : Fixed) (id phase : ℕ) (v : SeatView) (words slots : List ℕ) → Final (Seen (Holds key) id v) words slots → phase ≡ slice_index words 0 → Shut key v phase
+shuts key id phase v words slots f is =
+    let c = closes key id v words slots f in
+    record { good = c.good; core = c.core; reachable = c.reachable; phase_is = is ∙ c.phase; here = c.here }
+
+pub steps_keep_rule : (key : Fixed) → StepsKeepRule key
+steps_keep_rule key = record {
+  accesses = λ slots id me e access good can. may_make key slots id me e access good can;
+  tries = λ slots id word me can is. try_allowed key slots id word me is can.bare can.fixed can.empty can.more;
+  splits = λ id v. split_kept key id v;
+  joins = λ id v other w. join_kept key id v other w;
+  looks = λ slots id me fixed. look_allowed key slots id me fixed;
+  opens = λ words good is. opens key words good is;
+  closes = λ id phase v words slots f is. shuts key id phase v words slots f is;
+}

@@ -1,0 +1,10 @@
+pub mod Rows
+pub mod Sums
+pub mod Counts
+pub mod Moves
+pub mod Accesses
+pub mod Others
+pub mod Merged
+pub mod Ordered
+pub mod Drives
+pub mod Kept

@@ -1,0 +1,7 @@
+pub mod Seen
+pub mod Rule
+pub mod Plays
+pub mod Drives
+pub mod Seats
+pub mod Closing
+pub mod Laws

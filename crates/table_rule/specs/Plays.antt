@@ -1,0 +1,102 @@
+-- What each kind of step tells the seat that makes it.
+use Rattle.std.specs.Prelude.{◌≡◌, ℕ, ◌+◌, ◌-◌, ◌≤◌, ◌<◌, ◌==◌, MatchBool, ◌⊎◌, true, false, List, [], ◌∷◌, ◌++◌, Option, Some}
+use Rattle.atomic_table.specs.Table.{Me, Step}
+use Rattle.phase_pools.specs.declared.access.Access.{Access}
+use Rattle.phase_pools.specs.Accesses.{WordAccess}
+use Rattle.caller_steps.specs.declared.call.Call.{Call}
+use Rattle.caller_steps.specs.Entries.{Entry, idle_entry, is_idle}
+use Rattle.caller_steps.specs.Calls.{is_call}
+use Rattle.caller_steps.specs.Wants.{wants}
+use Rattle.caller_steps.specs.After.{after, taken}
+use Rattle.caller_steps.specs.Lawful.{Told}
+use Rattle.caller_steps.specs.Asking.{located_option}
+use Rattle.core_runs.specs.Advances.{Advances}
+use Rattle.oa_core.specs.Callers.{BelongsTo}
+use Rattle.table_rule.specs.Seen.{Fixed, SeatView}
+use Rattle.table_rule.specs.Rule.{callers_of, times}
+
+-- ---- a caller of a table
+
+-- the access that it wants
+abbrev pub wish : Fixed → Entry → Option WordAccess
+wish key e = wants key.target.target e
+
+-- what it becomes once that access found a word
+abbrev pub next : Fixed → Entry → ℕ → Entry
+next key e word = after key.target.target key.setting e word
+
+-- the word is lawful where its access stands
+abbrev pub IsTold : Fixed → Entry → ℕ → Type 0
+IsTold key e word = Told key.target.target key.setting (wish key e) word
+
+-- the words were found by its steps, one after another
+abbrev pub Steps : Fixed → Entry → List ℕ → Entry → Type 0
+Steps key e words e' = Advances key.target.target key.setting e words e'
+
+abbrev pub Belonging : Fixed → Entry → Type 0
+Belonging key e = BelongsTo key.target key.setting e
+
+-- the entry itself, or with a call that it takes
+abbrev pub InHand : Fixed → Entry → Entry → Type 0
+InHand key base e = (e ≡ base) ⊎ ((is_idle base.routine ≡ true) × ((call : Call) × (is_call key.target.target call ≡ true) × (e ≡ taken call base)))
+
+-- ---- accesses: a step of the core, after a Take where a call is in hand
+
+abbrev pub with_entry : SeatView → Entry → SeatView
+with_entry v e = record v { entries = e ∷ [] }
+
+-- a caller that runs may step: its seat has the entry as it stood before the call that is in hand
+pub record CanGo (key : Fixed) (me : Me ℕ SeatView) (e : Entry) : Type 0 where
+  pub bare : me.1 ≡ []
+  pub live : me.0.live ≡ true
+  pub fixed : me.0.fixed ≡ key
+  pub base : Entry
+  pub alone : me.0.entries ≡ base ∷ []
+  pub hand : InHand key base e
+  pub belongs : Belonging key e
+  pub busy : is_idle e.routine ≡ false
+
+-- and it wants this access
+pub record CanStep (key : Fixed) (me : Me ℕ SeatView) (e : Entry) (access : Access) : Type 0 where
+  pub can : CanGo key me e
+  pub wanted : Some access ≡ located_option key.setting.sizes (wish key e)
+
+-- the word found is lawful, and the seat's one entry is what the entry in hand becomes
+pub record Made (e : Entry) (me : Me ℕ SeatView) (n : ℕ) (w : Me ℕ SeatView) : Type 0 where
+  pub lawful : IsTold me.0.fixed e n
+  pub view : w ≡ (with_entry me.0 (next me.0.fixed e n), [])
+
+-- ---- taking a place
+
+abbrev pub with_found : SeatView → ℕ → SeatView
+with_found v k = record v { found = k }
+
+-- where the place word was 0, the seat has the empty entry with the place's number, which is one less than the word's; else it
+-- has found one more place taken
+abbrev pub Tried : Step ℕ → Me ℕ SeatView → ℕ → Me ℕ SeatView → Type 0
+Tried st me n w = MatchBool (n == 0) (w ≡ (with_entry me.0 (idle_entry (st.word - 1)), [])) (w ≡ (with_found me.0 (me.0.found + 1), []))
+
+-- ---- splitting and joining seats
+
+-- a new seat that was split off has no entry, and has found no place
+abbrev pub cut_off : SeatView → SeatView
+cut_off v = record v { entries = []; found = 0 }
+
+-- one seat gets both lists of entries
+abbrev pub joined : SeatView → SeatView → SeatView
+joined v w = record v { entries = v.entries ++ w.entries }
+
+-- ---- a look after joining: a load of the phase word, which changes nothing
+
+abbrev pub AllBelow : ℕ → List Entry → Type 0
+AllBelow n [] = Unit {0}
+AllBelow n (e ∷ es) = (e.number < n) × AllBelow n es
+
+-- the numbers are different, and below n
+pub record Apart (n : ℕ) (es : List Entry) : Type 0 where
+  pub once : (c : ℕ) → c < n → times c es ≤ 1
+  pub below : AllBelow n es
+
+pub record Looked (me w : Me ℕ SeatView) : Type 0 where
+  pub same : w ≡ me
+  pub apart : Apart (callers_of me.0.fixed) me.0.entries

@@ -1,0 +1,5 @@
+pub mod Longest
+pub mod Halves
+pub mod Entered
+pub mod Written
+pub mod OfScripts

@@ -1,0 +1,45 @@
+use Rattle.std.proofs.Common.{rules, ◌≡◌, ◌≤◌, ◌<◌, ◌+◌, ◌-◌, ◌++◌, ◌∷◌, [], List, length, vec_len, vec_capacity, ℕ, sym, subst, ap, ◌∙◌, arith, length-append}
+use Rattle.std.specs.Prelude.{All}
+use Rattle.std.proofs.lemmas.Grind.{common_steps}
+use Rattle.std.proofs.lemmas.List.Elements.{All-push, All-pop, All-append}
+use Rattle.caller_steps.specs.Entries.{RoomyEntry}
+use Rattle.word_runner.specs.Shown.{RestShown}
+use Rattle.thread_runs.specs.Scripts.{Finished, Ended}
+use Rattle.thread_runs.proofs.whole.gather.Goals as goal
+
+pub loop-caller-init : goal.loop-caller-init
+loop-caller-init c =
+    let E = λ (r : RoomyEntry). Ended c.args.arena.now.fixed c.args.scripts.now c.args.fuel r.core in
+    let mine = c.requires.first in
+    let e = c.rest-rest.ensures in
+    let entries : c.rest-rest.result.entries ≡ c.args.first.entry ∷ [] = ap (λ (r : RestShown). r.entries) e in
+    let ended = subst (All E) (sym entries) (All-push E [] c.args.first.entry (λ k d lt. absurd (omega arith)) mine.ended) in (
+      (ap (λ (r : RestShown). r.table) e ∙ mine.came.0, ap (λ (r : RestShown). r.fixed) e ∙ mine.came.1),
+      c.requires.others,
+      ended,
+      let n = ap length entries in grind (arith, common_steps),
+    )
+
+pub merge-rest-requires-clause-theirs : goal.merge-rest-requires-clause-theirs
+merge-rest-requires-clause-theirs c =
+    let F = Finished c.args.arena.now c.args.scripts.now c.args.fuel in
+    let popped = All-pop F c.loop-caller.callers.items c.pop.new.self.items c.pop.result c.pop.ensures.items c.loop-caller.invariant.1 in
+    let mine : F c.in-Some.caller = search rules in
+    let came = mine.came in
+    search rules
+
+pub loop-caller-preserved : goal.loop-caller-preserved
+loop-caller-preserved c =
+    let F = Finished c.args.arena.now c.args.scripts.now c.args.fuel in
+    let popped = All-pop F c.loop-caller.callers.items c.pop.new.self.items c.pop.result c.pop.ensures.items c.loop-caller.invariant.1 in
+    let mine : F c.in-Some.caller = search rules in
+    let E = λ (r : RoomyEntry). Ended c.args.arena.now.fixed c.args.scripts.now c.args.fuel r.core in
+    let e = c.merge-rest.ensures in
+    let one = ap (λ (r : RestShown). r.entries) c.rest.ensures in
+    let entries : c.merge-rest.result.entries ≡ c.loop-caller.rest.entries ++ c.in-Some.caller.entry ∷ [] = ap (λ (r : RestShown). r.entries) e ∙ ap (λ (l : List RoomyEntry). c.loop-caller.rest.entries ++ l) one in
+    let ended = subst (All E) (sym entries) (All-push E c.loop-caller.rest.entries c.in-Some.caller.entry c.loop-caller.invariant.2 mine.ended) in (
+      (ap (λ (r : RestShown). r.table) e ∙ c.loop-caller.invariant.0.0, ap (λ (r : RestShown). r.fixed) e ∙ c.loop-caller.invariant.0.1),
+      popped.0,
+      ended,
+      let n = ap length entries in grind (arith, common_steps),
+    )

@@ -1,0 +1,38 @@
+-- A whole run of scripts.
+use Rattle.std.specs.Prelude.{◌≡◌, ◌≤◌, ℕ, List, length, slice_index, All}
+use Rattle.caller_steps.specs.declared.call.Call.{Call}
+use Rattle.caller_steps.specs.Entries.{RoomyEntry}
+use Rattle.core_runs.specs.Machine.{CoreState, CoreEvent}
+use Rattle.core_runs.specs.Scripts.{IsComplete}
+use Rattle.core_sound.specs.Sound.{IsSound}
+use Rattle.table_rule.specs.Seen.{Fixed}
+use Rattle.table_rule.specs.Seats.{cores}
+use Rattle.word_runner.specs.Shown.{ArenaShown, BlankShown, CameFrom}
+use Rattle.thread_runs.specs.Scripts.{Ended}
+
+-- a blank of the arena, with this room
+abbrev pub IsBlank : ArenaShown → ℕ → BlankShown → Type 0
+IsBlank arena room b = CameFrom arena b.table b.fixed × (b.room ≡ room)
+
+abbrev pub AllBlank : ArenaShown → ℕ → List BlankShown → Type 0
+AllBlank arena room bs = All (IsBlank arena room) bs
+
+-- each entry has taken its own script
+abbrev pub AllEnded : Fixed → List (List Call) → ℕ → List RoomyEntry → Type 0
+AllEnded key scripts fuel rs = All (λ (r : RoomyEntry). Ended key scripts fuel r.core) rs
+
+-- the room holds each script
+abbrev pub HasRooms : List (List Call) → ℕ → Type 0
+HasRooms scripts room = All (λ (s : List Call). length s ≤ room) scripts
+
+abbrev pub AreShort : List (List Call) → Type 0
+AreShort scripts = HasRooms scripts 100000
+
+-- the phase and the entries are those of one state of the core, in which a complete run of the scripts ends
+pub record IsFinalOf (key : Fixed) (scripts : List (List Call)) (fuel phase : ℕ) (entries : List RoomyEntry) : Type 0 where
+  pub events : List CoreEvent
+  pub core : CoreState
+  pub complete : IsComplete key.target.target key.setting scripts fuel events core
+  pub sound : IsSound key.target.target key.setting core
+  pub phase_is : phase ≡ slice_index core.words 0
+  pub entries_are : cores entries ≡ core.entries

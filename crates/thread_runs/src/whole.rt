@@ -1,0 +1,137 @@
+//! A whole run: from the target to the final state.
+
+ghost use Rattle.std.specs.Prelude.{◌≡◌, ◌<◌, ◌≤◌, ◌+◌, [], length, vec_capacity, IfOk, IfSome};
+ghost use Rattle.caller_steps.specs.Settings.{Fits};
+ghost use Rattle.core_runs.specs.Scripts.{SuitScripts};
+ghost use Rattle.table_rule.specs.Rule.{callers_of};
+ghost use Rattle.word_runner.specs.Shown.{CameFrom};
+ghost use Rattle.thread_runs.specs.Scripts.{AllFresh, Finished, AllFinished};
+ghost use Rattle.thread_runs.specs.Whole.{AllBlank, AllEnded, HasRooms, AreShort, IsFinalOf};
+
+use crate::scripts::{CallList, run_all};
+use barrier_check::Barred;
+use caller_steps::Setting;
+use oa_text::Gate;
+use std::alloc::{AllocError, Global};
+use std::thread::Threads;
+use word_runner::{Arena, Blank, Caller, Final, Rest};
+
+/// The length of the longest script.
+fn longest(scripts: &[CallList]) -> u32
+    requires short { AreShort scripts.now }
+    ensures { HasRooms scripts.now result }
+{
+    let mut room = 0;
+    for script in scripts {
+        room = room.max(script.items().len() as u32);
+    }
+    room
+}
+
+/// As many blanks as callers.
+fn split_all(
+    alloc: Global,
+    arena: &Arena,
+    mut first: Blank,
+    count: u32,
+) -> Result<Vec<Blank>, AllocError>
+    requires came { CameFrom arena.now first.table first.fixed }
+    requires count { 0 < count }
+    ensures { IfOk result (λ v. AllBlank arena.now first.room v.items × (length v.items ≡ count)) }
+{
+    let mut blanks = Vec::with_capacity(alloc, count as usize)?;
+    let mut left = count - 1;
+    while left > 0 {
+        let next = first.split(alloc, arena)?;
+        blanks.push_reserved(next);
+        left -= 1;
+    }
+    blanks.push_reserved(first);
+    Ok(blanks)
+}
+
+/// Enters them all, as far as there are places.
+fn enter_all(
+    arena: &Arena,
+    scripts: &[CallList],
+    room: u32,
+    mut blanks: Vec<Blank>,
+    mut callers: Vec<Caller>,
+) -> Option<Vec<Caller>>
+    requires blanks { AllBlank arena.now room blanks.items }
+    requires suit { SuitScripts arena.now.fixed.target.target arena.now.fixed.setting scripts.now }
+    requires rooms { HasRooms scripts.now room }
+    requires short { AreShort scripts.now }
+    requires space { (callers.items ≡ []) × (length blanks.items ≤ vec_capacity callers) }
+    ensures { IfSome result (λ v. AllFresh arena.now scripts.now v.items × (length v.items ≡ length blanks.items)) }
+{
+    while let Some(blank) = blanks.pop() {
+        match blank.enter(arena) {
+            Ok(caller) => callers.push_reserved(caller),
+            Err(_) => return None,
+        }
+    }
+    Some(callers)
+}
+
+/// Merges them all with the first.
+fn gather(
+    arena: &Arena,
+    scripts: &[CallList],
+    fuel: u64,
+    first: Caller,
+    mut callers: Vec<Caller>,
+) -> Rest
+    requires first { Finished arena.now scripts.now fuel first }
+    requires others { AllFinished arena.now scripts.now fuel callers.items }
+    ensures came { CameFrom arena.now result.table result.fixed }
+    ensures count { length result.entries ≡ length callers.items + 1 }
+    ensures ended { AllEnded arena.now.fixed scripts.now fuel result.entries }
+{
+    let mut rest = first.rest();
+    while let Some(caller) = callers.pop() {
+        rest = rest.merge(caller.rest(), arena);
+    }
+    rest
+}
+
+/// Runs the scripts by as many callers on threads, half of them in a thread of their own and so on, where threads can be made, and
+/// closes their table: the final state is that of a complete core run of the scripts. Each call gets at most `fuel` steps, and
+/// after one that has used them up its caller makes no further call. Before each call its caller passes the gate with its number
+/// and the call's index. No step waits for another caller. The setting fits the target; there are as many scripts as callers, each of
+/// at most 100,000 calls of the target.
+///
+/// # Errors
+/// Memory ran out, before any caller entered. And where a blank finds no place, which comes in no run, since there are as many
+/// places as blanks; a step tells of its own seat alone, so no clause excludes it.
+pub fn run_scripts<R: Threads + Sync, G: Gate + Sync>(
+    rt: &R,
+    alloc: Global,
+    barred: Barred,
+    setting: Setting,
+    scripts: &[CallList],
+    fuel: u64,
+    gate: &G,
+) -> Result<Final, AllocError>
+    requires fits { Fits barred.target setting }
+    requires suit { SuitScripts barred.target setting scripts.now }
+    requires short { AreShort scripts.now }
+    requires fuel { 0 < fuel }
+    ensures { IfOk result (λ f. IsFinalOf (record { target = barred; setting = setting }) scripts.now fuel f.phase f.entries) }
+{
+    setting.kept();
+    let count = setting.shape().callers();
+    let room = longest(scripts);
+    let (arena, first) = Arena::make(alloc, barred, setting, room)?;
+    let callers = Vec::with_capacity(alloc, count as usize)?;
+    let blanks = split_all(alloc, &arena, first, count)?;
+    let Some(mut callers) = enter_all(&arena, scripts, room, blanks, callers) else {
+        return Err(AllocError);
+    };
+    run_all(rt, &arena, gate, scripts, fuel, callers.as_mut_slice());
+    let Some(first) = callers.pop() else {
+        return Err(AllocError);
+    };
+    let rest = gather(&arena, scripts, fuel, first, callers);
+    Ok(arena.close(rest))
+}

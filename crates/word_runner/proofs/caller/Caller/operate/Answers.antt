@@ -1,0 +1,16 @@
+use Rattle.std.proofs.Common.{ap, ◌∙◌}
+use Rattle.caller_steps.specs.declared.call.Call.{Call}
+use Rattle.caller_steps.specs.Entries.{RoomyEntry}
+use Rattle.caller_steps.specs.After.{taken}
+use Rattle.word_runner.specs.Shown.{CallerShown}
+use Rattle.word_runner.specs.Outcome.{answer_of}
+use Rattle.word_runner.proofs.Ended.{replies_taken}
+use Rattle.word_runner.proofs.caller.Caller.operate.Goals as goal
+
+pub returns-clause-outcome : goal.returns-clause-outcome
+returns-clause-outcome c =
+    let call : Call = record { op = c.args.op; args = c.args.args } in
+    replies_taken c.args.arena.now.fixed c.args.self.now.entry.core c.begin.new.entry.core c.drive.new.entry.core call c.drive.ensures.ran.drove.words (answer_of c.answer.result)
+    (ap (λ (r : RoomyEntry). r.core) c.begin.ensures.taken ∙ ap (λ (x : CallerShown). taken call x.entry.core) c.self.view_is)
+    c.drive.ensures.ran.drove.advances
+    c.answer.ensures

@@ -1,0 +1,177 @@
+//! The arena: a table of words, with the target and the setting of the callers that meet there.
+
+ghost use Rattle.std.specs.Prelude.{◌≡◌, ◌<◌, ◌≤◌, ◌+◌, [], true, false, MatchBool, IfOk, length};
+ghost use Rattle.caller_steps.specs.Settings.{Fits};
+ghost use Rattle.caller_steps.specs.Entries.{idle_entry, is_idle};
+ghost use Rattle.caller_steps.specs.Calls.{is_call};
+ghost use Rattle.caller_steps.specs.After.{taken};
+ghost use Rattle.core_runs.specs.Machine.{core_start};
+ghost use Rattle.table_rule.specs.Seen.{newcomer, IsGround};
+ghost use Rattle.table_rule.specs.Rule.{callers_of};
+ghost use Rattle.table_rule.specs.Plays.{CanGo, Belonging, cut_off, joined, Looked, with_entry, with_found};
+ghost use Rattle.table_rule.specs.Drives.{Went, Ran};
+ghost use Rattle.table_rule.specs.Closing.{Shut};
+
+use crate::access::access;
+use crate::ground::{Cut, Glue, Ground, Hand, Looks, Place, Tries, Words};
+use barrier_check::Barred;
+use caller_steps::Setting;
+use oa_core::{Entry, LoadedTarget};
+use std::alloc::{AllocError, Global};
+use std::marker::{Brand, Model};
+
+/// A table of words on which the callers of one target meet. Threads share it by `&`: each step is one atomic access, and none
+/// waits for another.
+#[derive(Drop)]
+pub struct Arena {
+    table: Words,
+    ground: Ground,
+}
+
+impl Model for Arena {
+    ghost use Rattle.std.specs.Prelude.{◌≡◌};
+    ghost use Rattle.oa_words.specs.Words.{word_count};
+    ghost use Rattle.table_rule.specs.Seen.{IsGround};
+    ghost use Rattle.word_runner.specs.Shown.{ArenaShown};
+
+    ghost Value = { ArenaShown };
+
+    ghost view = { λ a. record { table = a.table.shared.table_id; fixed = a.ground } };
+
+    ghost invariant = { λ a. (a.table.shared.key ≡ a.ground) × (a.table.shared.table_id.words ≡ word_count a.ground.setting.sizes) × (a.table.shared.table_id.slots ≡ 0) × IsGround a.ground };
+}
+
+impl Arena {
+    pub(crate) fn over(
+        alloc: Global,
+        barred: Barred,
+        setting: Setting,
+        words: &[u64],
+    ) -> Result<(Arena, Place), AllocError>
+        requires fits { Fits barred.target setting }
+        requires words { words.now ≡ (core_start barred.target setting).words }
+        ensures { IfOk result (λ p. (p.0.fixed ≡ record { target = barred; setting = setting }) × (p.1.table_id ≡ p.0.table) × (p.1.me ≡ (newcomer p.0.fixed, []))) }
+    {
+        setting.kept();
+        let target = LoadedTarget::new(barred);
+        let ground = Ground { target, setting };
+        let (table, place) = Words::of_words(alloc, words, &ground)?;
+        Ok((Arena { table, ground }, place))
+    }
+
+    pub(crate) fn shut(self, seat: Place) -> u64
+        requires { seat.table_id ≡ self.table }
+        ensures { Shut self.fixed seat.me.0 result }
+    {
+        let Arena { table, ground: _ } = self;
+        let closed = table.close_with(seat);
+        let phase = closed.word(0);
+        closed.free();
+        phase
+    }
+
+    fn step<H: Hand>(&self, seat: &mut Place, entry: &mut Entry)
+        requires hand { H.entry ≡ entry.old.core }
+        requires table { seat.old.table_id ≡ self.now.table }
+        requires can { CanGo self.now.fixed seat.old.me entry.old.core }
+        ensures table { seat.new.table_id ≡ seat.old.table_id }
+        ensures went { Went self.now.fixed seat.old.me entry.old seat.new.me entry.new }
+    {
+        let Ground { target, setting } = &self.ground;
+        if let Some(wanted) = entry.pending_on(target, setting) {
+            let word = access::<H>(&self.table, seat, wanted);
+            entry.accept_on(target, setting, word);
+        }
+    }
+
+    /// How many callers its setting has, 1 to 8.
+    pub(crate) fn callers(&self) -> u32
+        ensures number { result ≡ callers_of self.now.fixed }
+        ensures range { (0 < result) × (result ≤ 8) }
+    {
+        self.ground.setting.kept();
+        self.ground.setting.shape().callers()
+    }
+
+    /// A target that is barred, and a setting that fits it.
+    pub(crate) fn kept(&self)
+        ensures { IsGround self.now.fixed }
+    {
+        let _ = &self.ground;
+    }
+
+    pub(crate) fn split(&self, seat: &mut Place) -> Place
+        requires table { seat.old.table_id ≡ self.now.table }
+        ensures kept { (seat.new.table_id ≡ seat.old.table_id) × (seat.new.me ≡ seat.old.me) }
+        ensures given { (result.table_id ≡ seat.old.table_id) × (result.me ≡ (cut_off seat.old.me.0, [])) }
+    {
+        self.table.shared.split_seat::<Cut>(seat)
+    }
+
+    pub(crate) fn join(&self, seat: &mut Place, other: Place)
+        requires table { (seat.old.table_id ≡ self.now.table) × (other.table_id ≡ self.now.table) × (other.me.1 ≡ []) }
+        ensures { (seat.new.table_id ≡ seat.old.table_id) × (seat.new.me ≡ (joined seat.old.me.0 other.me.0, seat.old.me.1)) }
+    {
+        self.table.shared.join_seat::<Glue>(seat, other);
+    }
+
+    /// Loads the phase word, and sees that the seat's entries have different numbers.
+    pub(crate) fn look(&self, seat: &mut Place)
+        requires table { (seat.old.table_id ≡ self.now.table) × (seat.old.me.0.fixed ≡ self.now.fixed) }
+        ensures { (seat.new.table_id ≡ seat.old.table_id) × Looked seat.old.me seat.new.me }
+    {
+        self.table.shared.load::<Looks>(seat, 0);
+    }
+
+    /// Tries the place that is next after those found taken.
+    pub(crate) fn try_place(&self, seat: &mut Place, found: u32) -> bool
+        requires table { (seat.old.table_id ≡ self.now.table) × (seat.old.me.0.fixed ≡ self.now.fixed) }
+        requires empty { (seat.old.me.1 ≡ []) × (seat.old.me.0.entries ≡ []) }
+        requires found { (seat.old.me.0.found ≡ found) × (found < callers_of self.now.fixed) }
+        ensures table { seat.new.table_id ≡ seat.old.table_id }
+        ensures tried { MatchBool result (seat.new.me ≡ (with_entry seat.old.me.0 (idle_entry found), [])) (seat.new.me ≡ (with_found seat.old.me.0 (found + 1), [])) }
+    {
+        self.table
+            .shared
+            .compare_exchange::<Tries>(seat, 1 + found as usize, 0, 1)
+            == 0
+    }
+
+    /// The entry takes a call.
+    pub(crate) fn begin(&self, entry: &mut Entry, op: u8, args: [u64; 4])
+        requires belongs { Belonging self.now.fixed entry.old.core }
+        requires idle { is_idle entry.old.core.routine ≡ true }
+        requires spare { length entry.old.core.replies < entry.old.room }
+        requires call { is_call self.now.fixed.target.target (record { op = op; args = args }) ≡ true }
+        ensures taken { entry.new ≡ record entry.old { core = taken (record { op = op; args = args }) entry.old.core } }
+        ensures belongs { Belonging self.now.fixed entry.new.core }
+    {
+        entry.begin(self.ground.target.barred(), op, args);
+    }
+
+    /// One step of the entry.
+    pub(crate) fn advance(&self, seat: &mut Place, entry: &mut Entry)
+        requires table { seat.old.table_id ≡ self.now.table }
+        requires can { CanGo self.now.fixed seat.old.me entry.old.core }
+        ensures table { seat.new.table_id ≡ seat.old.table_id }
+        ensures went { Went self.now.fixed seat.old.me entry.old seat.new.me entry.new }
+    {
+        self.step::<Brand>(seat, entry)
+    }
+}
+
+/// Steps the entry until its call has ended, at most `budget` times.
+pub(crate) fn drive(arena: &Arena, seat: &mut Place, entry: &mut Entry, budget: u64)
+    requires table { seat.old.table_id ≡ arena.now.table }
+    requires can { CanGo arena.now.fixed seat.old.me entry.old.core }
+    requires budget { 0 < budget }
+    ensures table { seat.new.table_id ≡ seat.old.table_id }
+    ensures ran { Ran arena.now.fixed seat.old.me entry.old budget seat.new.me entry.new }
+{
+    arena.advance(seat, entry);
+    let mut left = budget - 1;
+    while left > 0 && !entry.is_idle() {
+        arena.advance(seat, entry);
+        left -= 1;
+    }
+}
