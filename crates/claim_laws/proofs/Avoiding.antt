@@ -1,7 +1,7 @@
 -- A step after which nothing that the caller holds names a slot.
 --
 -- One lemma for each small definition of `after`.
-use Rattle.std.proofs.Common.{ℕ, zero, suc, ◌≡◌, ◌==◌, ◌+◌, ◌≤◌, ◌<◌, ◌≢◌, Bool, true, false, refl, sym, ap, subst, arith, List, [], ◌∷◌, set, map, length, Option, Some, None, if◌then◌else◌}
+use Rattle.std.proofs.Common.{ℕ, zero, suc, ◌≡◌, ◌==◌, ◌+◌, ◌≤◌, ◌<◌, ◌≢◌, Bool, true, false, refl, sym, subst, arith, List, [], ◌∷◌, length, Option, Some, None, if◌then◌else◌}
 use Rattle.std.specs.Prelude.{slice_get, nat_lt}
 use Rattle.norm_lang.specs.declared.text.Reg.{Reg}
 use Rattle.norm_lang.specs.declared.text.Reg.TheVariants.{Num, Ref}
@@ -37,9 +37,8 @@ use Rattle.caller_steps.specs.Clearing.{restart_next, clear_next, unguarded}
 use Rattle.caller_steps.specs.Signs.{quiet}
 use Rattle.caller_steps.specs.After.{with_routine, with_hand, hand_at, new_on, then_goes, clear_on, cleared, wrap_up_hand, list_ended, list_begun, plain_stop, stops, stopped, settles, goes_on, first_spot, method_begun, restart_on, restarted, is_wrap_up, check_passed, check_failed, checked, with_restart, with_access, succeeds, to_retire, list_on, onward_goes, retires_then, cas_failed, cas_ended, plain_accepted, instr_accepted, with_published, entry_ended, list_accepted, retired_on, claim_on, with_new, node_made, zeroed, accepted, counted, after}
 use Rattle.std.specs.Prelude.{slice_index}
-use Rattle.caller_steps.specs.declared.call.Reply.{Reply}
 use Rattle.claim_laws.specs.Untouched.{RegistersAvoid, RoutineAvoids, EntryAvoids}
-use Rattle.claim_laws.proofs.Naming.{null, numbered, referred, names_other, first_avoid, run_avoids, retires_other, guard_put, cradle_put, cradle_emptied}
+use Rattle.claim_laws.proofs.Naming.{null, referred, names_other, first_avoid, run_avoids, retires_other, guard_put, cradle_put, cradle_emptied}
 
 -- what a caller holds beside its routine
 pub record IsFree (j : ℕ) (e : Entry) : Type 0 where

@@ -1,11 +1,10 @@
 -- A call of an operation with one `new`: it claims at most once before it has published, and past that it claims no more.
-use Rattle.std.proofs.Common.{◌≡◌, ◌≢◌, ◌⊎◌, inl, inr, ⊎_elim, ℕ, zero, suc, ◌+◌, ◌-◌, ◌^◌, ◌≤◌, ◌<◌, ◌==◌, Bool, true, false, List, [], ◌∷◌, ◌++◌, length, set, Option, Some, None, refl, sym, ◌∙◌, ap, subst, arith, if◌then◌else◌, get_or-set_same}
+use Rattle.std.proofs.Common.{◌≡◌, ◌≢◌, ◌⊎◌, inl, inr, ⊎_elim, ℕ, ◌+◌, ◌≤◌, ◌<◌, Bool, true, false, List, [], ◌∷◌, ◌++◌, length, set, Option, Some, None, refl, sym, ◌∙◌, ap, subst, arith, get_or-set_same}
 use Rattle.std.specs.Prelude.{slice_get, slice_index}
 use Rattle.std.proofs.lemmas.List.{append_assoc}
 use native.Mathlib.Decide.{ℕ_discrete}
 use mathlib.Core.Logic.{dite}
 use Rattle.norm_lang.specs.declared.text.Reg.{Reg}
-use Rattle.norm_lang.specs.declared.text.Instr.{Instr}
 use Rattle.norm_lang.specs.declared.text.Instr.TheVariants as instr
 use Rattle.target_code.specs.declared.target.TargetInstr.{TargetInstr}
 use Rattle.target_code.specs.declared.target.TargetInstr.TheVariants.{Plain, Check, Guard}
@@ -21,13 +20,12 @@ use Rattle.caller_steps.specs.declared.call.Replied.{Replied}
 use Rattle.caller_steps.specs.declared.call.Running.{Running}
 use Rattle.caller_steps.specs.declared.routine.MethodStart.{MethodStart}
 use Rattle.caller_steps.specs.declared.routine.MethodStart.TheVariants as starts
-use Rattle.caller_steps.specs.declared.routine.AfterRetire.{AfterRetire}
 use Rattle.caller_steps.specs.declared.routine.AfterRetire.TheVariants as retires
 use Rattle.caller_steps.specs.declared.routine.Routine.{Routine}
 use Rattle.caller_steps.specs.declared.routine.Routine.TheVariants.{Idle, LoadSeen, At, InList, Retires, Restarts, Clears, Claims, Zeroes}
 use Rattle.caller_steps.specs.Pairing.{replied_by}
 use Rattle.caller_steps.specs.Settings.{Setting}
-use Rattle.caller_steps.specs.Entries.{Entry, is_idle, one_more}
+use Rattle.caller_steps.specs.Entries.{Entry, is_idle}
 use Rattle.caller_steps.specs.Operands.{code_in, cradle_of, instr_in, is_new_at, method_code, new_number, news_before}
 use Rattle.caller_steps.specs.Signs.{Moved}
 use Rattle.caller_steps.specs.After.{after, counted, claim_on, is_wrap_up}
@@ -42,8 +40,7 @@ use Rattle.caller_laws.proofs.Going.{new_below}
 use Rattle.caller_laws.proofs.Pools.{ClaimOn}
 use Rattle.claim_laws.specs.CallSteps.{StepMade}
 use Rattle.claim_laws.specs.Publishing.{news_of, news_of_call, HasFewNews, Publishes}
-use Rattle.claim_laws.proofs.Answering.{IsAnswer, IsBefore, IsNoClaim, StandsAfter, after_answers}
-use Rattle.claim_laws.proofs.Onward.{ClaimStarts, KeepsFrom, Keeps, IsPastAt, IsPast, StepKeeps, after_keeps}
+use Rattle.claim_laws.proofs.Onward.{IsAnswer, IsBefore, IsNoClaim, StandsAfter, after_answers, ClaimStarts, KeepsFrom, IsPastAt, IsPast, StepKeeps, after_keeps}
 
 -- ---- at a `new`
 

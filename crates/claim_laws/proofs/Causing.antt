@@ -1,13 +1,13 @@
 -- A step of a call: either it goes on and has found neither cause, or it ends with a reply that its steps caused.
-use Rattle.std.proofs.Common.{◌≡◌, ◌↔◌, ◌⊎◌, inl, inr, ⊎_elim, ℕ, zero, suc, ◌≤◌, Bool, true, false, List, [], ◌∷◌, ◌++◌, Option, Some, None, refl, sym, ◌∙◌, ap, subst, arith}
+use Rattle.std.proofs.Common.{◌≡◌, ◌⊎◌, inl, inr, ⊎_elim, ℕ, zero, suc, ◌≤◌, true, false, List, [], ◌∷◌, ◌++◌, Option, Some, None, refl, sym, ◌∙◌, ap, subst, arith}
 use Rattle.target_code.specs.declared.target.Target.{Target}
 use Rattle.oa_words.specs.declared.packed.Kind.TheVariants as kinds
-use Rattle.oa_words.specs.Words.{Phase, Status}
+use Rattle.oa_words.specs.Words.{Status}
 use Rattle.oa_words.specs.Packed.{status_word}
 use Rattle.phase_pools.specs.declared.access.ClaimEnd.{ClaimEnd}
 use Rattle.phase_pools.specs.declared.access.ClaimEnd.TheVariants as ends
 use Rattle.phase_pools.specs.Accesses.{WordAccess, Loads, Exchanges}
-use Rattle.phase_pools.specs.Pools.{Claim, ClaimTurn, claim_begun, claim_wants, claim_accepts}
+use Rattle.phase_pools.specs.Pools.{Claim, ClaimTurn, claim_accepts}
 use Rattle.caller_steps.specs.declared.call.Reply.{Reply}
 use Rattle.caller_steps.specs.declared.call.Reply.TheVariants as replies
 use Rattle.caller_steps.specs.declared.routine.Routine.{Routine}
@@ -16,14 +16,14 @@ use Rattle.caller_steps.specs.Pairing.{replied_by}
 use Rattle.caller_steps.specs.Settings.{Setting}
 use Rattle.caller_steps.specs.Entries.{Entry, is_idle}
 use Rattle.caller_steps.specs.Signs.{Moved}
-use Rattle.caller_steps.specs.After.{after, counted, moved, claimed, claim_on}
+use Rattle.caller_steps.specs.After.{after, counted, claim_on}
 use Rattle.core_runs.specs.Advances.{RunsOn, Ends}
 use Rattle.core_runs.proofs.Turning.{after_turns}
 use Rattle.caller_laws.proofs.Equations.{after_is, moved_claims}
 use Rattle.claim_laws.specs.CallSteps.{StepMade}
-use Rattle.claim_laws.specs.Causes.{IsSweepsPhaseLoad, FoundLastPhase, IsMadeInLastLook, IsReadyWord, FindsNotReady, LosesExchange, IsTriedInVain, EndsInVain, EndsInFailedLook, IsCaused, FoundNeither}
+use Rattle.claim_laws.specs.Causes.{IsSweepsPhaseLoad, FoundLastPhase, IsMadeInLastLook, IsReadyWord, IsTriedInVain, EndsInVain, EndsInFailedLook, IsCaused, FoundNeither}
 use Rattle.claim_laws.proofs.Lasts.{last_same, last_of_two, last_or_before}
-use Rattle.claim_laws.proofs.Answering.{IsAnswer, IsBefore, IsNoClaim, StandsAfter, after_answers}
+use Rattle.claim_laws.proofs.Onward.{IsAnswer, IsBefore, IsNoClaim, StandsAfter, after_answers}
 use Rattle.claim_laws.proofs.Claiming.{LooksSoFar, GivesAt, claim_gives, phases_end, unready_ends, lost_ends}
 
 -- what holds of a call that runs, with the steps that were made for it

@@ -1,11 +1,11 @@
 -- One step of a claim: what it adds to a look that has tried slots in vain, and how the claim ends.
-use Rattle.std.proofs.Common.{◌≡◌, ◌≢◌, inl, inr, ℕ, zero, suc, ◌+◌, ◌≤◌, ◌<◌, ◌==◌, ◌&&◌, not, Bool, true, false, List, [], ◌∷◌, ◌++◌, Option, Some, None, refl, sym, ◌∙◌, ap, subst, arith, if◌then◌else◌}
+use Rattle.std.proofs.Common.{◌≡◌, ◌≢◌, inl, inr, ℕ, suc, ◌+◌, ◌≤◌, ◌<◌, ◌==◌, ◌&&◌, not, Bool, true, false, List, [], ◌∷◌, ◌++◌, Option, Some, None, refl, sym, ◌∙◌, ap, subst, arith, if◌then◌else◌}
 use Rattle.std.specs.Prelude.{nat_lt}
 use Rattle.std.proofs.lemmas.Bool.Decides.{nat_tests}
 use Rattle.std.proofs.Math.Seq.{append_snoc}
 use Rattle.oa_words.specs.declared.packed.Kind.{Kind}
 use Rattle.oa_words.specs.declared.packed.Kind.TheVariants as kinds
-use Rattle.oa_words.specs.Words.{Word, Phase, Warning, Hazard, Status}
+use Rattle.oa_words.specs.Words.{Phase, Status}
 use Rattle.oa_words.specs.Packed.{StatusParts, status_parts, status_word}
 use Rattle.guard_words.specs.Guards.{has_slot}
 use Rattle.phase_pools.specs.declared.access.ClaimEnd.{ClaimEnd}
@@ -16,8 +16,8 @@ use Rattle.phase_pools.specs.declared.stages.SweepStage.{SweepStage}
 use Rattle.phase_pools.specs.declared.stages.SweepStage.TheVariants as sweeps
 use Rattle.phase_pools.specs.declared.stages.ClaimStage.{ClaimStage}
 use Rattle.phase_pools.specs.declared.stages.ClaimStage.TheVariants as claims
-use Rattle.phase_pools.specs.Accesses.{WordAccess, Loads, Exchanges}
-use Rattle.phase_pools.specs.Pools.{Sweep, SweepTurn, sweep_begun, sweep_wants_at, sweep_goes, sweep_ends, sweep_on, sweep_accepts, sweep_accepts_at, phase_read, freeing, status_read, Claim, ClaimTurn, claim_wants, claim_wants_at, claim_accepts, claim_accepts_at, claim_goes, claim_ends, look_on, look_ended, look_kind, look_read, look_took, sweep_ended}
+use Rattle.phase_pools.specs.Accesses.{Loads, Exchanges}
+use Rattle.phase_pools.specs.Pools.{Sweep, sweep_begun, sweep_wants_at, sweep_goes, sweep_ends, sweep_on, sweep_accepts, sweep_accepts_at, freeing, status_read, Claim, ClaimTurn, claim_wants, claim_wants_at, claim_accepts, claim_accepts_at, claim_goes, claim_ends, look_on, look_ended, look_kind, look_read, look_took, sweep_ended}
 use Rattle.caller_steps.specs.declared.routine.Routine.TheVariants.{Claims}
 use Rattle.caller_steps.specs.Settings.{Setting}
 use Rattle.claim_laws.specs.CallSteps.{StepMade}

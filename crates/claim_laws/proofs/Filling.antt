@@ -1,6 +1,6 @@
 -- From the start on: where a reply says that the pool is full, each slot holds an initial node or was claimed.
-use Rattle.std.proofs.Common.{◌≡◌, ◌≢◌, ◌⊎◌, inl, inr, ⊎_elim, ℕ, zero, suc, ◌+◌, ◌-◌, ◌^◌, ◌≤◌, ◌<◌, Bool, true, false, List, [], ◌∷◌, length, map, Option, Some, None, refl, sym, ◌∙◌, ap, subst, arith}
-use Rattle.std.specs.Prelude.{slice_get, slice_index, nat_le, min}
+use Rattle.std.proofs.Common.{◌≡◌, ◌≢◌, ◌⊎◌, inl, inr, ℕ, zero, suc, ◌+◌, ◌-◌, ◌≤◌, ◌<◌, true, false, List, [], length, map, Option, Some, None, refl, sym, ◌∙◌, ap, subst, arith}
+use Rattle.std.specs.Prelude.{slice_get, slice_index, nat_le}
 use Rattle.std.proofs.lemmas.Bool.Decides.{nat_tests}
 use Rattle.std.proofs.lemmas.List.{length-map}
 use Rattle.norm_lang.specs.declared.text.FieldKind.{FieldKind}
@@ -10,10 +10,9 @@ use Rattle.target_code.specs.declared.target.Target.{Target}
 use Rattle.target_code.specs.TargetLimits.{IsTargetWithinLimits}
 use Rattle.norm_lang.specs.declared.text.Text.{Text}
 use Rattle.target_runs.specs.Runnable.{IsRunnable}
-use Rattle.oa_words.specs.declared.packed.Kind.{Kind}
 use Rattle.oa_words.specs.declared.packed.Kind.TheVariants as statuses
 use Rattle.oa_words.specs.Words.{Word, Phase, Place, Warning, Hazard, Status, FieldOf, Cell, in_row}
-use Rattle.oa_words.specs.Packed.{status_word, slot_part}
+use Rattle.oa_words.specs.Packed.{status_word}
 use Rattle.oa_words.specs.Starts.{start_kind, start_word, slot_word}
 use Rattle.guard_words.specs.Guards.{guard_at, no_guards, has_slot}
 use Rattle.caller_steps.specs.declared.call.Reply.TheVariants as replies
@@ -21,18 +20,18 @@ use Rattle.caller_steps.specs.declared.call.Replied.{Replied}
 use Rattle.caller_steps.specs.Settings.{Setting, Fits, IsSetting}
 use Rattle.caller_steps.specs.Entries.{Entry, idle_entry}
 use Rattle.caller_steps.specs.Lawful.{LawfulValue}
-use Rattle.core_runs.specs.Machine.{CoreState, Reachable, core_start, beginning_of, node_words, root_word, word_at}
+use Rattle.core_runs.specs.Machine.{CoreState, Reachable, core_start, beginning_of, node_words, root_word}
 use Rattle.core_runs.proofs.Reaching.{induct_reached}
 use Rattle.caller_laws.specs.Laws.{ForRuns}
-use Rattle.caller_laws.proofs.Methods.{Methods, setting_sane}
+use Rattle.caller_laws.proofs.Methods.{setting_sane}
 use Rattle.caller_laws.proofs.Together.{methods}
 use Rattle.core_sound.proofs.StartSound.{nodes_lawful, roots_lawful, filled, rooted, named, idle_at}
 use Rattle.core_sound.proofs.Reached.{states_are_sound}
 use Rattle.claim_laws.specs.Untouched.{ValueAvoids, WordAvoids, EntryAvoids, IsUntouched}
 use Rattle.claim_laws.specs.Full.{claims_in, FullTakesClaims}
 use Rattle.claim_laws.proofs.Naming.{null, first_avoid}
-use Rattle.claim_laws.proofs.Counting.{IsCounted, covers}
-use Rattle.claim_laws.proofs.Touching.{IsUntaken, IsTouched, AllTouched}
+use Rattle.claim_laws.proofs.Counting.{covers}
+use Rattle.claim_laws.proofs.Touching.{IsTouched, AllTouched}
 use Rattle.claim_laws.proofs.Pooling.{NoneFull, CallerPool, Pool, IsPooled, event_pool}
 
 -- ---- the start

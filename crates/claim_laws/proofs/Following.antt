@@ -1,5 +1,5 @@
 -- Along a run: each reply of a caller stands beside the steps of its call, and a call that runs beside those made so far.
-use Rattle.std.proofs.Common.{◌≡◌, ◌≢◌, ◌⊎◌, inl, inr, ◌<◌, ◌≤◌, ◌==◌, ◌&&◌, ℕ, zero, suc, ◌+◌, eq-eqb, ne_eqb, Bool, true, false, List, [], ◌∷◌, ◌++◌, length, set, Option, Some, None, refl, sym, ap, ◌∙◌, subst, ⊎_elim, arith, if◌then◌else◌}
+use Rattle.std.proofs.Common.{◌≡◌, ◌≢◌, inl, inr, ◌≤◌, ◌==◌, ◌&&◌, ℕ, zero, suc, ◌+◌, eq-eqb, ne_eqb, Bool, true, false, List, [], ◌∷◌, ◌++◌, length, set, Option, Some, None, refl, sym, ap, ◌∙◌, subst, ⊎_elim, arith, if◌then◌else◌}
 use Rattle.std.proofs.lemmas.List.{append-nil}
 use Rattle.std.specs.Prelude.{slice_get, slice_set, slice_index_or}
 use mathlib.Core.Logic.{dite}
@@ -8,10 +8,8 @@ use Rattle.target_code.specs.declared.target.Target.{Target}
 use Rattle.phase_pools.specs.Accesses.{WordAccess}
 use Rattle.caller_steps.specs.declared.call.Call.{Call}
 use Rattle.caller_steps.specs.declared.call.Replied.{Replied}
-use Rattle.caller_steps.specs.declared.routine.Routine.{Routine}
-use Rattle.caller_steps.specs.declared.routine.Routine.TheVariants.{Claims}
 use Rattle.caller_steps.specs.Pairing.{replied_by}
-use Rattle.caller_steps.specs.Settings.{Setting, IsSetting}
+use Rattle.caller_steps.specs.Settings.{Setting}
 use Rattle.caller_steps.specs.Entries.{Entry, idle_entry, is_idle}
 use Rattle.caller_steps.specs.Calls.{is_call}
 use Rattle.caller_steps.specs.Wants.{wants}
@@ -20,10 +18,10 @@ use Rattle.core_runs.specs.Machine.{CoreState, CoreEvent, Takes, Steps, core_eve
 use Rattle.core_runs.proofs.Reaching.{some_is}
 use Rattle.core_runs.proofs.Keeping.{idle_wants, got_same, got_other, run_count}
 use Rattle.caller_laws.specs.Laws.{ForRuns}
-use Rattle.claim_laws.specs.CallSteps.{StepMade, steps_wanted, steps_by, with_steps, event_steps, steps_on, events_steps, call_steps, steps_of_call}
-use Rattle.claim_laws.specs.Causes.{IsCaused, FoundNeither, FoundLastPhase, IsTriedInVain, EndsInVain, EndsInFailedLook, RepliesAreCaused}
+use Rattle.claim_laws.specs.CallSteps.{StepMade, steps_wanted, steps_by, with_steps, event_steps, steps_on, events_steps, call_steps}
+use Rattle.claim_laws.specs.Causes.{IsCaused, FoundNeither, IsTriedInVain, EndsInVain, RepliesAreCaused}
 use Rattle.claim_laws.proofs.Lasts.{never_nil}
-use Rattle.claim_laws.proofs.Causing.{Unfinished, GoesOn, GetsReply, Outcome, step_caused}
+use Rattle.claim_laws.proofs.Causing.{Unfinished, GoesOn, GetsReply, step_caused}
 
 -- each reply is caused by the steps beside it
 abbrev AreCaused : Setting → List Replied → List (List StepMade) → Type 0

@@ -1,4 +1,3 @@
-pub mod Answering
 pub mod Claiming
 pub mod Lasts
 pub mod Causing
@@ -12,6 +11,7 @@ pub mod Pooling
 pub mod Filling
 pub mod Tallying
 pub mod Stepping
+pub mod Running
 pub mod Onward
 pub mod Calling
 pub mod Taking

@@ -3,8 +3,6 @@ use Rattle.std.proofs.Common.{◌≡◌, ◌≢◌, ℕ, zero, suc, ◌+◌, ◌
 use Rattle.std.specs.Prelude.{slice_get, nat_le, nat_lt}
 use Rattle.std.specs.List.{All, list_any}
 use Rattle.std.proofs.lemmas.Bool.Decides.{nat_tests}
-use Rattle.norm_lang.specs.declared.text.Reg.{Reg}
-use Rattle.norm_lang.specs.declared.text.Reg.TheVariants.{Num, Ref}
 use Rattle.norm_lang.specs.declared.text.Place.{Place}
 use Rattle.norm_lang.specs.declared.text.Place.TheVariants as places
 use Rattle.norm_lang.specs.declared.text.CasEntry.{CasEntry}
@@ -21,10 +19,9 @@ use Rattle.target_code.specs.declared.target.TargetInstr.TheVariants.{Plain, Che
 use Rattle.target_code.specs.declared.target.Target.{Target}
 use Rattle.oa_words.specs.declared.packed.Kind.{Kind}
 use Rattle.oa_words.specs.declared.packed.Kind.TheVariants as statuses
-use Rattle.oa_words.specs.Words.{Word, Phase, Warning, Hazard, Status, FieldOf, Cell}
+use Rattle.oa_words.specs.Words.{Word, FieldOf, Cell}
 use Rattle.oa_words.specs.Packed.{StatusParts, status_parts, status_word}
 use Rattle.guard_words.specs.Guards.{has_slot}
-use Rattle.phase_pools.specs.declared.access.ClaimEnd.{ClaimEnd}
 use Rattle.phase_pools.specs.declared.access.ClaimEnd.TheVariants as ends
 use Rattle.phase_pools.specs.declared.access.SweepEnd.{SweepEnd}
 use Rattle.phase_pools.specs.declared.access.SweepEnd.TheVariants as swept
@@ -34,16 +31,16 @@ use Rattle.phase_pools.specs.declared.stages.ClaimStage.{ClaimStage}
 use Rattle.phase_pools.specs.declared.stages.ClaimStage.TheVariants as claims
 use Rattle.phase_pools.specs.declared.stages.RetireStage.{RetireStage}
 use Rattle.phase_pools.specs.declared.stages.RetireStage.TheVariants as retires
-use Rattle.phase_pools.specs.Accesses.{WordAccess, word_of, word_after, Loads, Stores, Exchanges, Raises}
-use Rattle.phase_pools.specs.Pools.{Sweep, SweepTurn, sweep_begun, sweep_goes, sweep_ends, sweep_on, sweep_accepts, sweep_accepts_at, sweep_wants_at, freeing, status_read, Claim, ClaimTurn, claim_accepts, claim_accepts_at, claim_goes, claim_ends, claim_wants_at, look_on, look_ended, look_kind, look_read, look_took, sweep_ended, retire_wants_at}
+use Rattle.phase_pools.specs.Accesses.{WordAccess, word_of, word_after, Exchanges}
+use Rattle.phase_pools.specs.Pools.{Sweep, sweep_begun, sweep_goes, sweep_ends, sweep_on, sweep_accepts, sweep_accepts_at, sweep_wants_at, freeing, status_read, Claim, ClaimTurn, claim_accepts, claim_accepts_at, claim_goes, claim_ends, claim_wants_at, look_on, look_ended, look_kind, look_read, sweep_ended, retire_wants_at}
 use Rattle.caller_steps.specs.declared.routine.Routine.{Routine}
 use Rattle.caller_steps.specs.declared.routine.Routine.TheVariants.{Idle, LoadSeen, At, InList, Retires, Restarts, Clears, Claims, Zeroes}
 use Rattle.caller_steps.specs.Settings.{Setting}
 use Rattle.caller_steps.specs.Entries.{Entry}
-use Rattle.caller_steps.specs.Operands.{code_in, cradle_of, instr_in, list_of, register_number, slot_in, word_in}
+use Rattle.caller_steps.specs.Operands.{code_in, instr_in, list_of, slot_in, word_in}
 use Rattle.caller_steps.specs.Clearing.{restart_next, clear_next}
 use Rattle.caller_steps.specs.Wants.{clear_wanted, exchange_wanted, instr_wanted, list_wanted, object_exchange, place_exchange, plain_wanted, wanted, wants}
-use Rattle.caller_steps.specs.Belongs.{Belongs, RunsAt, Stands, has_access}
+use Rattle.caller_steps.specs.Belongs.{Belongs, RunsAt, Stands}
 use Rattle.target_runs.specs.Sane.{SaneAt}
 use Rattle.caller_laws.proofs.Methods.{Methods}
 use Rattle.caller_laws.proofs.Stopping.{Here, site_of}

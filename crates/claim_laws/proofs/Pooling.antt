@@ -26,7 +26,7 @@ use Rattle.caller_steps.specs.Signs.{Moved}
 use Rattle.caller_steps.specs.Wants.{wants}
 use Rattle.caller_steps.specs.After.{after, taken, counted, claim_on}
 use Rattle.caller_steps.specs.Lawful.{AsksSafely, IsSafe}
-use Rattle.caller_steps.specs.Belongs.{Belongs, Stands, ClaimStands}
+use Rattle.caller_steps.specs.Belongs.{Belongs, Stands}
 use Rattle.core_runs.specs.Machine.{CoreState, CoreEvent, Takes, Steps, core_event, event_by, found_by, made, stepped, word_at}
 use Rattle.core_runs.specs.Advances.{RunsOn, Ends}
 use Rattle.core_runs.proofs.Reaching.{some_is}
@@ -38,11 +38,11 @@ use Rattle.caller_laws.proofs.Safety.{wants_safe}
 use Rattle.core_sound.specs.Sound.{IsSound}
 use Rattle.core_sound.proofs.Machine.{set_got}
 use Rattle.claim_laws.specs.Untouched.{WordAvoids, EntryAvoids, IsUntouched}
-use Rattle.claim_laws.proofs.Answering.{IsAnswer, IsBefore, IsNoClaim, StandsAfter, after_answers}
+use Rattle.claim_laws.proofs.Onward.{IsAnswer, IsBefore, IsNoClaim, StandsAfter, after_answers}
 use Rattle.claim_laws.proofs.Avoiding.{after_avoids}
 use Rattle.claim_laws.proofs.Meeting.{ClaimsOther, ToldAvoids, LeavesOther, step_found, step_leaves}
 use Rattle.claim_laws.proofs.Counting.{IsCounted, counts_same, counts_more}
-use Rattle.claim_laws.proofs.Touching.{LeavesReady, step_leaves_ready, IsUntaken, AllTouched, LooksTouched, RoutineTouched, TouchesAt, FindsReady, touched_more, untaken_before, routine_more, claim_touches}
+use Rattle.claim_laws.proofs.Touching.{LeavesReady, step_leaves_ready, IsUntaken, AllTouched, RoutineTouched, TouchesAt, FindsReady, touched_more, untaken_before, routine_more, claim_touches}
 
 -- ---- one word changes
 

@@ -1,17 +1,16 @@
 -- The steps of a call are as many as its entry counts.
-use Rattle.std.proofs.Common.{◌≡◌, ◌≢◌, ℕ, zero, suc, ◌+◌, ◌-◌, ◌^◌, ◌≤◌, ◌==◌, ◌&&◌, Bool, true, false, List, [], ◌∷◌, ◌++◌, length, map, Option, Some, None, refl, sym, ◌∙◌, ap, subst, arith, if◌then◌else◌}
-use Rattle.std.specs.Prelude.{slice_get, min}
+use Rattle.std.proofs.Common.{◌≡◌, ℕ, ◌+◌, ◌==◌, Bool, true, false, List, [], ◌∷◌, ◌++◌, length, map, Option, Some, None, refl, sym, ◌∙◌, ap, arith, if◌then◌else◌}
+use Rattle.std.specs.Prelude.{slice_get}
 use Rattle.std.proofs.lemmas.List.{map-append, length-append}
 use Rattle.target_code.specs.declared.target.Target.{Target}
 use Rattle.phase_pools.specs.Accesses.{WordAccess}
-use Rattle.caller_steps.specs.declared.call.Call.{Call}
 use Rattle.caller_steps.specs.declared.call.Running.{Running}
 use Rattle.caller_steps.specs.Settings.{Setting}
 use Rattle.caller_steps.specs.Entries.{Entry, one_more}
 use Rattle.caller_steps.specs.Wants.{wants}
 use Rattle.core_runs.specs.Machine.{CoreState, CoreEvent, Takes, Steps, core_event, core_run, core_start, run_on, event_by, stepped, OfAll}
-use Rattle.core_runs.specs.Histories.{bumped, with_event, with_events, calls_in}
-use Rattle.claim_laws.specs.CallSteps.{StepMade, steps_wanted, steps_by, with_steps, event_steps, steps_on, events_steps, call_steps, count_of, StepsAreCounted}
+use Rattle.core_runs.specs.Histories.{bumped, with_event, with_events}
+use Rattle.claim_laws.specs.CallSteps.{StepMade, steps_wanted, steps_by, with_steps, event_steps, steps_on, events_steps, count_of, StepsAreCounted}
 
 abbrev steps_counted : Running → ℕ
 steps_counted run = run.steps

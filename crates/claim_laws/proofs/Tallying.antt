@@ -1,5 +1,5 @@
 -- The slots that a run claims: what each step adds to its caller's count, and that all other slots stay untouched.
-use Rattle.std.proofs.Common.{◌≡◌, ◌≢◌, ◌⊎◌, inl, inr, ⊎_elim, ℕ, zero, suc, ◌+◌, ◌-◌, ◌^◌, ◌≤◌, ◌<◌, ◌==◌, ◌&&◌, ◌||◌, not, eq-eqb, ne_eqb, Bool, true, false, List, [], ◌∷◌, ◌++◌, length, set, Option, Some, None, refl, sym, ◌∙◌, ap, subst, arith, if◌then◌else◌}
+use Rattle.std.proofs.Common.{◌≡◌, ◌≢◌, ℕ, ◌+◌, ◌-◌, ◌^◌, ◌≤◌, ◌<◌, ◌==◌, ◌&&◌, ◌||◌, eq-eqb, ne_eqb, Bool, true, false, List, [], ◌∷◌, ◌++◌, length, set, Option, Some, None, refl, sym, ◌∙◌, ap, subst, arith, if◌then◌else◌}
 use Rattle.std.specs.Prelude.{slice_get, slice_set, flat_map, nat_lt, min}
 use Rattle.std.proofs.lemmas.List.{append-nil, length-append}
 use Rattle.std.proofs.lemmas.Bool.Decides.{nat_tests}
@@ -20,12 +20,11 @@ use Rattle.phase_pools.specs.declared.access.SweepEnd.TheVariants as swept
 use Rattle.phase_pools.specs.declared.stages.ClaimStage.{ClaimStage}
 use Rattle.phase_pools.specs.declared.stages.ClaimStage.TheVariants as claims
 use Rattle.phase_pools.specs.Accesses.{WordAccess}
-use Rattle.phase_pools.specs.Pools.{Sweep, sweep_begun, sweep_accepts, Claim, ClaimTurn, claim_accepts, claim_accepts_at, claim_goes, claim_ends, look_on, look_ended, look_kind, look_read, look_took, sweep_ended}
-use Rattle.caller_steps.specs.declared.call.Call.{Call}
+use Rattle.phase_pools.specs.Pools.{Sweep, sweep_begun, sweep_accepts, Claim, ClaimTurn, claim_accepts, claim_accepts_at, claim_goes, claim_ends, look_on, look_ended, look_kind, look_read, sweep_ended}
 use Rattle.caller_steps.specs.declared.routine.Routine.{Routine}
 use Rattle.caller_steps.specs.declared.routine.Routine.TheVariants.{Idle, LoadSeen, At, InList, Retires, Restarts, Clears, Claims, Zeroes}
 use Rattle.caller_steps.specs.Settings.{Setting, Fits, IsSetting}
-use Rattle.caller_steps.specs.Entries.{Entry, idle_entry, is_idle, one_more}
+use Rattle.caller_steps.specs.Entries.{Entry, is_idle, one_more}
 use Rattle.caller_steps.specs.Calls.{is_call}
 use Rattle.caller_steps.specs.Signs.{Moved}
 use Rattle.caller_steps.specs.Wants.{wants}
@@ -34,15 +33,15 @@ use Rattle.core_runs.specs.Machine.{CoreState, CoreEvent, Takes, Steps, Reachabl
 use Rattle.core_runs.proofs.Reaching.{some_is, starts, reaches, run_more, induct_reached}
 use Rattle.core_runs.proofs.Keeping.{idle_wants, got_same, got_other, run_count}
 use Rattle.caller_laws.specs.Laws.{ForRuns}
-use Rattle.caller_laws.proofs.Methods.{Methods, setting_sane}
+use Rattle.caller_laws.proofs.Methods.{setting_sane}
 use Rattle.caller_laws.proofs.Equations.{after_is, moved_claims}
 use Rattle.caller_laws.proofs.Together.{methods}
 use Rattle.core_sound.proofs.StartSound.{idle_at}
 use Rattle.core_sound.proofs.Reached.{states_are_sound}
-use Rattle.claim_laws.specs.CallSteps.{StepMade, steps_wanted, steps_by}
+use Rattle.claim_laws.specs.CallSteps.{steps_wanted, steps_by}
 use Rattle.claim_laws.specs.Untouched.{IsUntouched}
 use Rattle.claim_laws.specs.Claimed.{taken_at, taken_in, slots_taken, event_claims, claims_on, events_claims, claimed_by, ClaimsAreCounted, UnclaimedIsUntouched}
-use Rattle.claim_laws.proofs.Answering.{IsBefore, IsNoClaim, after_answers}
+use Rattle.claim_laws.proofs.Onward.{IsBefore, IsNoClaim, after_answers}
 use Rattle.claim_laws.proofs.Meeting.{ClaimsOther}
 use Rattle.claim_laws.proofs.Pooling.{take_untouched, untouched_stays}
 use Rattle.claim_laws.proofs.Filling.{start_untouched, reached_pool}

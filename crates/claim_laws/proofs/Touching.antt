@@ -1,8 +1,7 @@
 -- Slots that were never claimed stay ready, and a look finds none of them otherwise.
-use Rattle.std.proofs.Common.{◌≡◌, ◌≢◌, ◌⊎◌, inl, inr, ⊎_elim, ℕ, zero, suc, ◌+◌, ◌*◌, ◌≤◌, ◌<◌, ◌==◌, ◌&&◌, ◌||◌, not, Bool, true, false, List, [], ◌∷◌, Option, Some, None, refl, sym, ◌∙◌, ap, subst, arith, if◌then◌else◌}
+use Rattle.std.proofs.Common.{◌≡◌, ◌≢◌, ◌⊎◌, inl, inr, ⊎_elim, ℕ, zero, suc, ◌+◌, ◌*◌, ◌≤◌, ◌<◌, ◌==◌, ◌||◌, Bool, true, false, List, ◌∷◌, Option, Some, None, refl, sym, ◌∙◌, ap, subst, arith, if◌then◌else◌}
 use Rattle.std.specs.Prelude.{nat_lt, nat_le, slice_get}
 use Rattle.std.proofs.lemmas.Bool.Decides.{nat_tests}
-use Rattle.norm_lang.specs.declared.text.Reg.{Reg}
 use Rattle.norm_lang.specs.declared.text.Place.{Place}
 use Rattle.norm_lang.specs.declared.text.Place.TheVariants as places
 use Rattle.norm_lang.specs.declared.text.CasEntry.{CasEntry}
@@ -14,7 +13,7 @@ use Rattle.target_code.specs.declared.target.TargetInstr.TheVariants.{Plain, Che
 use Rattle.target_code.specs.declared.target.Target.{Target}
 use Rattle.oa_words.specs.declared.packed.Kind.{Kind}
 use Rattle.oa_words.specs.declared.packed.Kind.TheVariants as kinds
-use Rattle.oa_words.specs.Words.{Word, Phase, Warning, Hazard, Status, FieldOf, Cell}
+use Rattle.oa_words.specs.Words.{Status}
 use Rattle.oa_words.specs.Packed.{StatusParts, status_parts, status_word}
 use Rattle.oa_words.proofs.Parts.{status_back}
 use Rattle.guard_words.specs.Guards.{has_slot}
@@ -28,13 +27,13 @@ use Rattle.phase_pools.specs.declared.stages.ClaimStage.{ClaimStage}
 use Rattle.phase_pools.specs.declared.stages.ClaimStage.TheVariants as claims
 use Rattle.phase_pools.specs.declared.stages.RetireStage.{RetireStage}
 use Rattle.phase_pools.specs.declared.stages.RetireStage.TheVariants as retires
-use Rattle.phase_pools.specs.Accesses.{WordAccess, word_of, word_after, Loads, Stores, Exchanges, Raises}
-use Rattle.phase_pools.specs.Pools.{Sweep, sweep_begun, sweep_accepts, sweep_wants_at, Claim, ClaimTurn, claim_accepts, claim_accepts_at, claim_goes, claim_ends, claim_wants_at, look_on, look_ended, look_kind, look_read, look_took, sweep_ended, retire_wants_at}
+use Rattle.phase_pools.specs.Accesses.{WordAccess, word_of, word_after}
+use Rattle.phase_pools.specs.Pools.{Sweep, sweep_begun, sweep_accepts, sweep_wants_at, Claim, ClaimTurn, claim_accepts_at, claim_goes, claim_ends, claim_wants_at, look_on, look_ended, look_kind, look_read, look_took, sweep_ended, retire_wants_at}
 use Rattle.caller_steps.specs.declared.routine.Routine.{Routine}
 use Rattle.caller_steps.specs.declared.routine.Routine.TheVariants.{Idle, LoadSeen, At, InList, Retires, Restarts, Clears, Claims, Zeroes}
 use Rattle.caller_steps.specs.Settings.{Setting}
 use Rattle.caller_steps.specs.Entries.{Entry}
-use Rattle.caller_steps.specs.Operands.{cradle_of, instr_in, list_of, register_number, slot_in, word_in}
+use Rattle.caller_steps.specs.Operands.{instr_in, list_of, slot_in, word_in}
 use Rattle.caller_steps.specs.Clearing.{restart_next, clear_next}
 use Rattle.caller_steps.specs.Wants.{clear_wanted, exchange_wanted, instr_wanted, list_wanted, object_exchange, place_exchange, plain_wanted, wanted, wants}
 use Rattle.caller_steps.specs.Belongs.{ClaimStands}

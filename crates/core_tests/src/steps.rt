@@ -47,7 +47,7 @@ fn is_call_of(op: Option<&TargetOp>, args: &[u64; 4]) -> bool
 }
 
 /// Whether the target has the operation, and arguments past its count are 0.
-pub(crate) fn is_call(barred: &Barred, call: &Call) -> bool
+fn is_call(barred: &Barred, call: &Call) -> bool
     ensures { result ≡ is_call barred.now.target call.now }
 {
     is_call_of(
@@ -71,6 +71,14 @@ pub(crate) fn words_of(
     PlainWords::new(rt.alloc(), barred, setting).expect(rt, "memory ran out")
 }
 
+/// A call with at most one argument.
+pub(crate) fn call(op: u8, arg: u64) -> Call {
+    Call {
+        op,
+        args: [arg, 0, 0, 0],
+    }
+}
+
 /// An idle entry of a caller with this number.
 #[tactic(auto, using(crate::proofs::Starting::alone_belongs))]
 pub(crate) fn entry_of(
@@ -86,6 +94,19 @@ pub(crate) fn entry_of(
 {
     kept(barred);
     Entry::new(rt.alloc(), number, room).expect(rt, "memory ran out")
+}
+
+/// That of a second caller, with room for one reply; the program stops where there is none.
+pub(crate) fn second_entry(
+    rt: &(impl Abort + AllocGlobal),
+    barred: &Barred,
+    setting: &Setting,
+) -> Entry
+    requires fits { Fits barred.now.target setting.now }
+    ensures { BelongsTo barred.now setting.now result.core }
+{
+    assert!(rt; 1 < setting.shape().callers());
+    entry_of(rt, barred, setting, 1, 1)
 }
 
 /// The entry takes a call; the program stops where it mayn't.
@@ -126,5 +147,42 @@ pub(crate) fn step(
             entry.accept(barred, setting, word);
             Some(access)
         }
+    }
+}
+
+/// Whether a caller makes these accesses, one after another, and is idle then.
+pub(crate) fn makes(
+    barred: &Barred,
+    setting: &Setting,
+    entry: &mut Entry,
+    words: &mut PlainWords,
+    accesses: &[Access],
+) -> bool
+    requires belongs { BelongsTo barred.now setting.now entry.old.core }
+    requires lawful { WordsSound barred.now.target setting.now words.old }
+    ensures belongs { BelongsTo barred.now setting.now entry.new.core }
+    ensures lawful { WordsSound barred.now.target setting.now words.new }
+{
+    for access in accesses {
+        if step(barred, setting, entry, words) != Some(*access) {
+            return false;
+        }
+    }
+    true
+}
+
+pub(crate) fn load(at: u32) -> Access {
+    Access::Load { at }
+}
+
+pub(crate) fn store(at: u32, word: u64) -> Access {
+    Access::Store { at, word }
+}
+
+pub(crate) fn exchange(at: u32, expected: u64, replacement: u64) -> Access {
+    Access::CompareExchange {
+        at,
+        expected,
+        replacement,
     }
 }

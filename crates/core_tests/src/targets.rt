@@ -8,7 +8,7 @@ ghost use Rattle.caller_steps.specs.Settings.{Fits};
 use barrier_check::{Barred, verify};
 use barrier_compiler::compile;
 use norm_check::check;
-use norm_lang::{Text, shipped_queue, shipped_set};
+use norm_lang::Text;
 use norm_parser::parse;
 use oa_core::Setting;
 use oa_words::shape::Shape;
@@ -32,6 +32,33 @@ return n2
 again
 op nop 0
 gen
+commit 0
+wrap
+returnnone
+";
+
+/// A stack that holds as many nodes as were pushed.
+const STACK: &[u8] = b"oa 1
+field next ref
+nodes 0
+root top ref null
+op push 0
+gen
+root r0 top
+new r1
+put r1 next r0
+commit 1
+withroot top r0 r1
+wrap
+returnnone
+op pop 0
+gen
+root r0 top
+null r2
+ifeq r0 r2 5
+load r1 r0 next
+commit 1
+withroot top r0 r1 retire r0
 commit 0
 wrap
 returnnone
@@ -72,18 +99,12 @@ pub(crate) fn counter(rt: &(impl Abort + AllocGlobal)) -> Barred {
     read(rt, COUNTER)
 }
 
+pub(crate) fn stack(rt: &(impl Abort + AllocGlobal)) -> Barred {
+    read(rt, STACK)
+}
+
 pub(crate) fn nodes(rt: &(impl Abort + AllocGlobal)) -> Barred {
     read(rt, NODES)
-}
-
-pub(crate) fn list(rt: &(impl Abort + AllocGlobal)) -> Barred {
-    let text = shipped_set(rt.alloc(), 1).expect(rt, "memory ran out");
-    barred_of(rt, text)
-}
-
-pub(crate) fn queue(rt: &(impl Abort + AllocGlobal)) -> Barred {
-    let text = shipped_queue(rt.alloc()).expect(rt, "memory ran out");
-    barred_of(rt, text)
 }
 
 fn fits(barred: &Barred, setting: &Setting) -> bool

@@ -4,9 +4,13 @@ use Rattle.std.proofs.lemmas.List.{take_all}
 use Rattle.std.specs.Io.KnownBytes.{Appends, Keeps}
 use Rattle.oa_text.specs.Causes.{one_more}
 use Rattle.oa_cli.specs.Endings.{is_write_fault, IsFinished}
-use Rattle.oa_cli.specs.Verdicts.{IsJudged, IsSaid, FaultsAreTold, text_for, status_for}
-use Rattle.oa_cli.specs.declared.status.Status.{Status}
-use Rattle.oa_cli.specs.declared.status.Status.TheVariants as statuses
+use Rattle.oa_cli.specs.Commands.{request_of}
+use Rattle.oa_cli.specs.Verdicts.{IsOfSource, IsOfRequest, IsJudged, IsSaid, FaultsAreTold, text_for, status_for}
+use Rattle.oa_cli.specs.declared.command.Command.{Command}
+use Rattle.oa_cli.specs.declared.command.Request.{Request}
+use Rattle.oa_cli.specs.declared.command.Request.TheVariants as requests
+use Rattle.statuses.specs.declared.status.Status.{Status}
+use Rattle.statuses.specs.declared.status.Status.TheVariants as statuses
 use Rattle.oa_cli.specs.declared.verdict.Verdict.{Verdict}
 use Rattle.oa_cli.specs.declared.verdict.Verdict.TheVariants as verdicts
 
@@ -43,25 +47,32 @@ none_rose : (before now : ℕ) → now ≡ before → before < now → ⊥
 none_rose before now same rose = omega arith
 
 -- a verdict other than that of a fault of reading leaves the source's count
-read_told : (words : List (List ℕ)) (old new : Option (List ℕ)) (before now : ℕ) (verdict : Verdict)
-    → IsJudged words old new before now verdict → before < now → status_for verdict ≡ statuses.ReadFault
-read_told words old new before now (verdicts.Answered report) judged rose = absurd (none_rose before now judged.2 rose)
-read_told words old new before now verdicts.Accepted judged rose = absurd (none_rose before now judged.2 rose)
-read_told words old new before now (verdicts.Shown spelling) judged rose = absurd (none_rose before now judged.2 rose)
-read_told words old new before now (verdicts.Compiled spelling) judged rose = absurd (none_rose before now judged.2 rose)
-read_told words old new before now verdicts.Usage judged rose = absurd (none_rose before now judged.1.faults rose)
-read_told words old new before now verdicts.ReadFault judged rose = refl
-read_told words old new before now verdicts.LongInput judged rose = absurd (none_rose before now judged.1 rose)
-read_told words old new before now (verdicts.BadDocument fault) judged rose = absurd (none_rose before now judged.2 rose)
-read_told words old new before now (verdicts.Refused text refusal) judged rose = absurd (none_rose before now judged.2 rose)
-read_told words old new before now (verdicts.BadShape number at) judged rose = absurd (none_rose before now judged.2 rose)
-read_told words old new before now verdicts.Memory judged rose = absurd (none_rose before now judged.1 rose)
+source_told : (command : Command) (old new : Option (List ℕ)) (before now : ℕ) (verdict : Verdict)
+    → IsOfSource command old new before now verdict → before < now → status_for verdict ≡ statuses.ReadFault
+source_told command old new before now (verdicts.Answered report) judged rose = absurd (none_rose before now judged.0 rose)
+source_told command old new before now (verdicts.Worked report) judged rose = absurd (none_rose before now judged.0 rose)
+source_told command old new before now verdicts.Accepted judged rose = absurd (none_rose before now judged.0 rose)
+source_told command old new before now (verdicts.Shown spelling) judged rose = absurd (none_rose before now judged.0 rose)
+source_told command old new before now (verdicts.Compiled spelling) judged rose = absurd (none_rose before now judged.0 rose)
+source_told command old new before now verdicts.Usage judged rose = absurd (none_rose before now judged.0 rose)
+source_told command old new before now verdicts.ReadFault judged rose = refl
+source_told command old new before now verdicts.LongInput judged rose = absurd (none_rose before now judged.0 rose)
+source_told command old new before now (verdicts.BadDocument fault) judged rose = absurd (none_rose before now judged.0 rose)
+source_told command old new before now (verdicts.Refused text refusal) judged rose = absurd (none_rose before now judged.0 rose)
+source_told command old new before now (verdicts.BadShape number at) judged rose = absurd (none_rose before now judged.0 rose)
+source_told command old new before now verdicts.Memory judged rose = absurd (none_rose before now judged rose)
+
+read_told : (request : Option Request) (old new : Option (List ℕ)) (before now : ℕ) (verdict : Verdict)
+    → IsOfRequest request old new before now verdict → before < now → status_for verdict ≡ statuses.ReadFault
+read_told None old new before now verdict judged rose = absurd (none_rose before now judged.1.faults rose)
+read_told (Some (requests.OfDocument command)) old new before now verdict judged rose = source_told command old new before now verdict judged rose
+read_told (Some (requests.Workload count callers)) old new before now verdict judged rose = absurd (none_rose before now judged.1.faults rose)
 
 -- each fault is told
 pub told : (words : List (List ℕ)) (old new : Option (List ℕ)) (before now : ℕ) (verdict : Verdict) (held holds : Option (List ℕ)) (earlier later : ℕ)
     (result : Status) → IsJudged words old new before now verdict
     → IsSaid held holds earlier later (text_for verdict) (status_for verdict) result → FaultsAreTold before now earlier later result
 told words old new before now verdict held holds earlier later result judged said = record {
-  reading = λ rose. ⊎_elim (λ done. inl (done.0 ∙ read_told words old new before now verdict judged rose)) (λ stopped. inr (stopped.0, stopped.1)) said;
+  reading = λ rose. ⊎_elim (λ done. inl (done.0 ∙ read_told (request_of words) old new before now verdict judged rose)) (λ stopped. inr (stopped.0, stopped.1)) said;
   writing = λ rose. ⊎_elim (λ done. absurd (none_rose earlier later done.1 rose)) (λ stopped. stopped.0) said;
 }

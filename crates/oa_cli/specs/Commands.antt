@@ -1,8 +1,13 @@
--- The commands.
-use Rattle.std.specs.Prelude.{ℕ, List, [], ◌∷◌, Option, Some, None, codes, if◌then◌else◌}
+-- What words ask for.
+use Rattle.std.specs.Prelude.{ℕ, ◌≤◌, ◌&&◌, List, [], ◌∷◌, Option, Some, None, codes, if◌then◌else◌}
+use Rattle.std.specs.Option.{option_map}
 use Rattle.std.specs.Str.{bytes_eq}
+use Rattle.oa_text.specs.Numbers.{is_numeral, number_of}
+use Rattle.oa_words.specs.Within.{is_count}
 use Rattle.oa_cli.specs.declared.command.Command.{Command}
 use Rattle.oa_cli.specs.declared.command.Command.TheVariants.{Run, Replay, Check, Show, Compile}
+use Rattle.oa_cli.specs.declared.command.Request.{Request}
+use Rattle.oa_cli.specs.declared.command.Request.TheVariants.{OfDocument, Workload}
 
 -- `run`, `replay`, `check`, `show` or `compile`
 abbrev pub command_named : List ℕ → Option Command
@@ -14,8 +19,35 @@ command_named word =
     else (if bytes_eq word (codes "compile") then Some Compile
     else None))))
 
--- the command that words are: each is one word, and no list of words but these is one
-abbrev pub command_of : List (List ℕ) → Option Command
-command_of [] = None
-command_of (word ∷ []) = command_named word
-command_of (word ∷ other ∷ words) = None
+-- the number that a word spells, from 1 to `most`, as a document spells numbers
+abbrev pub count_in : ℕ → List ℕ → Option ℕ
+count_in most word = if is_numeral word && is_count most (number_of word) then Some (number_of word) else None
+
+abbrev pub most_calls : ℕ
+most_calls = 100000
+
+abbrev pub most_callers : ℕ
+most_callers = 8
+
+abbrev pub workload_of : Option ℕ → Option ℕ → Option Request
+workload_of None callers = None
+workload_of (Some count) None = None
+workload_of (Some count) (Some callers) = Some (Workload count callers)
+
+-- the words after `workload`: N, from 1 to 100,000, and C, from 1 to 8
+abbrev pub workload_in : List (List ℕ) → Option Request
+workload_in [] = None
+workload_in (count ∷ []) = None
+workload_in (count ∷ callers ∷ []) = workload_of (count_in most_calls count) (count_in most_callers callers)
+workload_in (count ∷ callers ∷ other ∷ words) = None
+
+-- what words ask for, if they are in the grammar: the word of a command on a document, or `workload N C`; no other list of words is
+abbrev pub request_of : List (List ℕ) → Option Request
+request_of [] = None
+request_of (word ∷ []) = option_map OfDocument (command_named word)
+request_of (word ∷ other ∷ words) = if bytes_eq word (codes "workload") then workload_in (other ∷ words) else None
+
+-- the numbers of a workload
+abbrev pub IsInRange : Request → Type 0
+IsInRange (OfDocument command) = Unit {0}
+IsInRange (Workload count callers) = (1 ≤ count) × (count ≤ most_calls) × (1 ≤ callers) × (callers ≤ most_callers)

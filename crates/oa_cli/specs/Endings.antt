@@ -3,9 +3,9 @@ use Rattle.std.specs.Prelude.{◌≡◌, ℕ, List, Bool, true, false, Option, I
 use Rattle.std.specs.Io.KnownBytes.{Appends}
 use Rattle.oa_text.specs.Causes.{Rose}
 use Rattle.oa_text.specs.Written.{AppendsPrefix}
-use Rattle.oa_cli.specs.Explanations.{explanation}
-use Rattle.oa_cli.specs.declared.status.Status.{Status}
-use Rattle.oa_cli.specs.declared.status.Status.TheVariants.{Done, Partial, Usage, ReadFault, LongInput, BadDocument, Refused, BadShape, WriteFault, Memory}
+use Rattle.statuses.specs.Explanations.{explanation}
+use Rattle.statuses.specs.declared.status.Status.{Status}
+use Rattle.statuses.specs.declared.status.Status.TheVariants.{Done, Partial, Usage, ReadFault, LongInput, BadDocument, Refused, BadShape, WriteFault, Memory}
 
 -- a fault of writing
 abbrev pub is_write_fault : Status → Bool

@@ -1,7 +1,6 @@
 pub mod Commands
-pub mod Statuses
 pub mod Refusals
 pub mod Inputs
 pub mod Verdicts
+pub mod Complete
 pub mod Endings
-pub mod Explanations

@@ -1,5 +1,5 @@
 -- What is read and judged, what is said of it, and the status.
-use Rattle.std.specs.Prelude.{◌≡◌, ℕ, ◌<◌, List, [], ◌∷◌, ◌++◌, ◌⊎◌, length, codes, decimal, Option, Some, None, Err, IsSome, IsTrue, Bool, true, false, if◌then◌else◌}
+use Rattle.std.specs.Prelude.{◌≡◌, ℕ, ◌<◌, List, [], ◌∷◌, ◌++◌, ◌⊎◌, length, codes, decimal, Option, Some, None, Err, IsTrue, Bool, true, false, if◌then◌else◌}
 use Rattle.std.specs.Io.KnownBytes.{Consumes, IsAtEnd, Appends}
 use Rattle.oa_text.specs.Causes.{Rose}
 use Rattle.oa_text.specs.Written.{AppendsPrefix}
@@ -21,15 +21,19 @@ use Rattle.script_driver.specs.declared.report.Report.{Report}
 use Rattle.script_driver.specs.Texts.{report_text, is_partial}
 use Rattle.script_driver.specs.Runs.{IsReplayFaultOf}
 use Rattle.report_laws.specs.Runs.{IsRunReport, IsReplayReport}
-use Rattle.oa_cli.specs.Commands.{command_of}
+use Rattle.workload_runs.specs.Runs.{IsWorkloadReport}
+use Rattle.workload_runs.specs.Texts.{workload_text, is_short}
+use Rattle.statuses.specs.declared.status.Status.{Status}
+use Rattle.statuses.specs.declared.status.Status.TheVariants as statuses
+use Rattle.oa_cli.specs.Commands.{request_of}
 use Rattle.oa_cli.specs.Inputs.{ReadsFewer}
 use Rattle.oa_cli.specs.Refusals.{refusal_line}
 use Rattle.oa_cli.specs.declared.command.Command.{Command}
 use Rattle.oa_cli.specs.declared.command.Command.TheVariants as commands
+use Rattle.oa_cli.specs.declared.command.Request.{Request}
+use Rattle.oa_cli.specs.declared.command.Request.TheVariants as requests
 use Rattle.oa_cli.specs.declared.verdict.Verdict.{Verdict}
 use Rattle.oa_cli.specs.declared.verdict.Verdict.TheVariants as verdicts
-use Rattle.oa_cli.specs.declared.status.Status.{Status}
-use Rattle.oa_cli.specs.declared.status.Status.TheVariants as statuses
 
 -- one more byte than a document may have
 abbrev pub LIMIT : ℕ
@@ -101,26 +105,32 @@ fault_verdict text (faults.Refused refusal) = verdicts.Refused text refusal
 fault_verdict text (faults.Shape number at) = verdicts.BadShape number at
 
 -- the verdict of a command on all bytes that the source had; no read failed
-abbrev pub IsOfInput : List (List ℕ) → Option (List ℕ) → Option (List ℕ) → ℕ → ℕ → Verdict → Type 0
-IsOfInput words old new before now verdict =
-    (command : Command) × (command_of words ≡ Some command) × NoFault before now × (bytes : List ℕ) × ReadsAll old new bytes
-    × IsOfBytes command bytes verdict
+abbrev pub IsOfInput : Command → Option (List ℕ) → Option (List ℕ) → ℕ → ℕ → Verdict → Type 0
+IsOfInput command old new before now verdict = NoFault before now × (bytes : List ℕ) × ReadsAll old new bytes × IsOfBytes command bytes verdict
 
--- the verdict on the words, on the source's faults, and on its bytes: a read failed at `ReadFault` alone, where fewer bytes than
--- the limit were read
+-- the verdict of a command on what it read: a read failed at `ReadFault` alone, where fewer bytes than the limit were read; at
+-- `LongInput` that many were
+abbrev pub IsOfSource : Command → Option (List ℕ) → Option (List ℕ) → ℕ → ℕ → Verdict → Type 0
+IsOfSource command old new before now verdicts.ReadFault = Rose before now × ReadsFewer LIMIT old new
+IsOfSource command old new before now verdicts.LongInput = NoFault before now × (bytes : List ℕ) × Consumes old new bytes × (length bytes ≡ LIMIT)
+IsOfSource command old new before now verdicts.Memory = NoFault before now
+IsOfSource command old new before now verdict = IsOfInput command old new before now verdict
+
+-- the verdict on a workload: the reports of both of its documents
+abbrev pub IsOfWorkload : ℕ → ℕ → Verdict → Type 0
+IsOfWorkload count callers (verdicts.Worked report) = IsWorkloadReport count callers report
+IsOfWorkload count callers verdicts.Memory = Unit {0}
+IsOfWorkload count callers _ = ⊥
+
+-- words that ask for nothing leave the source unread, and so does a workload
+abbrev pub IsOfRequest : Option Request → Option (List ℕ) → Option (List ℕ) → ℕ → ℕ → Verdict → Type 0
+IsOfRequest None old new before now verdict = (verdict ≡ verdicts.Usage) × Untouched old new before now
+IsOfRequest (Some (requests.OfDocument command)) old new before now verdict = IsOfSource command old new before now verdict
+IsOfRequest (Some (requests.Workload count callers)) old new before now verdict = IsOfWorkload count callers verdict × Untouched old new before now
+
+-- the verdict on the words, on the source's faults, and on its bytes
 abbrev pub IsJudged : List (List ℕ) → Option (List ℕ) → Option (List ℕ) → ℕ → ℕ → Verdict → Type 0
-IsJudged words old new before now (verdicts.Answered report) = IsOfInput words old new before now (verdicts.Answered report)
-IsJudged words old new before now verdicts.Accepted = IsOfInput words old new before now verdicts.Accepted
-IsJudged words old new before now (verdicts.Shown spelling) = IsOfInput words old new before now (verdicts.Shown spelling)
-IsJudged words old new before now (verdicts.Compiled spelling) = IsOfInput words old new before now (verdicts.Compiled spelling)
-IsJudged words old new before now verdicts.Usage = (command_of words ≡ None) × Untouched old new before now
-IsJudged words old new before now verdicts.ReadFault = IsSome (command_of words) × Rose before now × ReadsFewer LIMIT old new
-IsJudged words old new before now verdicts.LongInput =
-    IsSome (command_of words) × NoFault before now × (bytes : List ℕ) × Consumes old new bytes × (length bytes ≡ LIMIT)
-IsJudged words old new before now (verdicts.BadDocument fault) = IsOfInput words old new before now (verdicts.BadDocument fault)
-IsJudged words old new before now (verdicts.Refused text refusal) = IsOfInput words old new before now (verdicts.Refused text refusal)
-IsJudged words old new before now (verdicts.BadShape number at) = IsOfInput words old new before now (verdicts.BadShape number at)
-IsJudged words old new before now verdicts.Memory = IsSome (command_of words) × NoFault before now
+IsJudged words old new before now verdict = IsOfRequest (request_of words) old new before now verdict
 
 -- the line that tells a fault
 abbrev pub fault_line : ParseFault → List ℕ
@@ -133,6 +143,7 @@ shape_line number at = codes "shape " ++ decimal number ++ codes " at " ++ decim
 -- the text of a verdict, each line with its newline
 abbrev pub text_for : Verdict → List ℕ
 text_for (verdicts.Answered report) = report_text report
+text_for (verdicts.Worked report) = workload_text report
 text_for verdicts.Accepted = codes "accepted\n"
 text_for (verdicts.Shown spelling) = spelling
 text_for (verdicts.Compiled spelling) = spelling
@@ -147,6 +158,7 @@ text_for verdicts.Memory = codes "memory\n"
 -- the status of a verdict
 abbrev pub status_for : Verdict → Status
 status_for (verdicts.Answered report) = if is_partial report then statuses.Partial else statuses.Done
+status_for (verdicts.Worked report) = if is_short report then statuses.Partial else statuses.Done
 status_for verdicts.Accepted = statuses.Done
 status_for (verdicts.Shown spelling) = statuses.Done
 status_for (verdicts.Compiled spelling) = statuses.Done

@@ -2,16 +2,12 @@
 #![tactic(auto)]
 
 mod command;
-mod explanation;
 pub mod input;
 mod program;
 mod rules;
-mod status;
 mod top;
 mod verdict;
 
-pub use explanation::explain;
-pub use norm_check::Refusal;
 pub use program::{conclude, finish, run_program, serve};
-pub use status::{Status, status_number};
+pub use statuses::{Refusal, Status, explain, status_number};
 pub use top::oa_main;

@@ -6,14 +6,15 @@ ghost use Rattle.std.specs.String.{string_bytes};
 ghost use Rattle.std.specs.Io.KnownBytes.{Keeps};
 ghost use Rattle.oa_cli.specs.declared.verdict.Verdict.{Verdict};
 ghost use Rattle.oa_cli.specs.Verdicts.{IsJudged, IsSaid, FaultsAreTold, text_for, status_for};
-ghost use Rattle.oa_cli.specs.Statuses.{number_of};
+ghost use Rattle.statuses.specs.Statuses.{number_of};
+ghost use Rattle.oa_cli.specs.Commands.{request_of};
+ghost use Rattle.oa_cli.specs.Complete.{IsComplete};
 ghost use Rattle.oa_cli.specs.Endings.{is_write_fault, IsFinished, IsExplained};
 
-use crate::explanation::explain;
-use crate::status::{Status, status_number};
 use crate::top::{oa_main, say};
 use crate::verdict::Verdict;
 use oa_text::{Gate, OpenGate, Source, StdSink, StdSource};
+use statuses::{Status, explain, status_number};
 use std::alloc::Global;
 use std::io::{BufWriter, ErrorKind, Write};
 use std::rt::Env;
@@ -70,6 +71,7 @@ pub fn serve<R: Threads + Sync, S: Source, W: Write, G: Gate + Sync>(
         × IsJudged (map string_bytes words.now) (S.left input.old) (S.left input.new) (S.faults input.old) (S.faults input.new) verdict
         × IsSaid out.old.written out.new.written out.old.faults out.new.faults (text_for verdict) (status_for verdict) result }
     ensures told { FaultsAreTold (S.faults input.old) (S.faults input.new) out.old.faults out.new.faults result }
+    ensures complete { IsComplete (request_of (map string_bytes words.now)) (S.left input.old) (S.faults input.old) (S.faults input.new) out.old.faults out.new.faults result }
 {
     let status = oa_main(rt, alloc, words, input, out, gate);
     finish(out, status)

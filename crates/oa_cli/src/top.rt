@@ -1,6 +1,6 @@
 //! The top call.
 
-ghost use Rattle.std.specs.Prelude.{◌≡◌, ◌<◌, length, map, IfOk};
+ghost use Rattle.std.specs.Prelude.{◌≡◌, ◌≤◌, ◌<◌, length, map, IfOk};
 ghost use Rattle.std.specs.String.{string_bytes};
 ghost use Rattle.oa_text.specs.Written.{Writes};
 ghost use Rattle.oa_text.specs.Causes.{HasCause};
@@ -10,12 +10,13 @@ ghost use Rattle.target_code.specs.SecondScheme.{second_scheme};
 ghost use Rattle.documents.specs.DocumentLimits.{IsWithinDocumentLimits};
 ghost use Rattle.oa_cli.specs.declared.verdict.Verdict.{Verdict};
 ghost use Rattle.oa_cli.specs.Refusals.{refusal_line};
-ghost use Rattle.oa_cli.specs.Verdicts.{IsOfDocument, IsOfBytes, IsJudged, IsSaid, FaultsAreTold, fault_verdict, fault_line, shape_line, text_for, status_for};
+ghost use Rattle.oa_cli.specs.Commands.{request_of};
+ghost use Rattle.oa_cli.specs.Complete.{IsComplete};
+ghost use Rattle.oa_cli.specs.Verdicts.{IsOfDocument, IsOfBytes, IsOfSource, IsOfWorkload, IsJudged, IsSaid, FaultsAreTold, fault_verdict, fault_line, shape_line, text_for, status_for};
 
-use crate::command::{Command, command_of};
+use crate::command::{Command, Request, request_of};
 use crate::input::{InputError, read_input};
 use crate::rules::{judge_text, method_word, op_name};
-use crate::status::Status;
 use crate::verdict::Verdict;
 use barrier_compiler::compile;
 use documents::{Document, read_document};
@@ -27,9 +28,11 @@ use oa_text::{Failed, Gate, Piece, Sink, Source, write_all, write_pieces};
 use report_laws::laws::reports_are_true;
 use script_driver::{is_partial, replay_document, run_document, show_report};
 use script_plans::RunFault;
+use statuses::Status;
 use std::alloc::{AllocError, Global};
 use std::thread::Threads;
 use target_code::show_target;
+use workload_runs::{is_short, run_workload, show_workload};
 
 /// One more byte than a document may have.
 const LIMIT: usize = 1_048_577;
@@ -163,7 +166,47 @@ fn judge_bytes<R: Threads + Sync, G: Gate + Sync>(
     }
 }
 
-/// Reads the source, and judges its bytes. Words that are no command leave it unread.
+/// Reads the source to its end, and judges its bytes.
+fn judge_source<R: Threads + Sync, S: Source, G: Gate + Sync>(
+    rt: &R,
+    alloc: Global,
+    command: Command,
+    input: &mut S,
+    gate: &G,
+) -> Verdict
+    ensures { IsOfSource command (S.left input.old) (S.left input.new) (S.faults input.old) (S.faults input.new) result }
+{
+    match read_input(alloc, input, LIMIT) {
+        Err(InputError::Memory) => Verdict::Memory,
+        Err(InputError::Fault) => Verdict::ReadFault,
+        Ok(bytes) => {
+            if bytes.len() == LIMIT {
+                return Verdict::LongInput;
+            }
+            judge_bytes(rt, alloc, command, &bytes, gate)
+        }
+    }
+}
+
+/// Runs both documents of a workload.
+fn workload_verdict<R: Threads + Sync, G: Gate + Sync>(
+    rt: &R,
+    alloc: Global,
+    count: u32,
+    callers: u32,
+    gate: &G,
+) -> Verdict
+    requires count { (1 ≤ count) × (count ≤ 100000) }
+    requires callers { (1 ≤ callers) × (callers ≤ 8) }
+    ensures { IsOfWorkload count callers result }
+{
+    match run_workload(rt, alloc, count, callers, gate) {
+        Ok(report) => Verdict::Worked(report),
+        Err(_) => Verdict::Memory,
+    }
+}
+
+/// Does what the words ask for. Words that ask for nothing leave the source unread, and so does a workload.
 fn judge<R: Threads + Sync, S: Source, G: Gate + Sync>(
     rt: &R,
     alloc: Global,
@@ -173,17 +216,11 @@ fn judge<R: Threads + Sync, S: Source, G: Gate + Sync>(
 ) -> Verdict
     ensures { IsJudged (map string_bytes words.now) (S.left input.old) (S.left input.new) (S.faults input.old) (S.faults input.new) result }
 {
-    let Some(command) = command_of(words) else {
-        return Verdict::Usage;
-    };
-    match read_input(alloc, input, LIMIT) {
-        Err(InputError::Memory) => Verdict::Memory,
-        Err(InputError::Fault) => Verdict::ReadFault,
-        Ok(bytes) => {
-            if bytes.len() == LIMIT {
-                return Verdict::LongInput;
-            }
-            judge_bytes(rt, alloc, command, &bytes, gate)
+    match request_of(words) {
+        None => Verdict::Usage,
+        Some(Request::OfDocument(command)) => judge_source(rt, alloc, command, input, gate),
+        Some(Request::Workload { count, callers }) => {
+            workload_verdict(rt, alloc, count, callers, gate)
         }
     }
 }
@@ -248,6 +285,7 @@ fn write_verdict<K: Sink>(out: &mut K, verdict: &Verdict) -> Result<(), Failed>
 {
     match verdict {
         Verdict::Answered(report) => show_report(report, out),
+        Verdict::Worked(report) => show_workload(report, out),
         Verdict::Accepted => write_pieces(out, &[Piece::Bytes(b"accepted\n")]),
         Verdict::Shown(spelling) | Verdict::Compiled(spelling) => write_all(out, spelling.items()),
         Verdict::Usage => write_pieces(out, &[Piece::Bytes(b"usage\n")]),
@@ -266,6 +304,13 @@ fn status_of(verdict: &Verdict) -> Status
     match verdict {
         Verdict::Answered(report) => {
             if is_partial(report) {
+                Status::Partial
+            } else {
+                Status::Done
+            }
+        }
+        Verdict::Worked(report) => {
+            if is_short(report) {
                 Status::Partial
             } else {
                 Status::Done
@@ -299,9 +344,11 @@ pub(crate) fn say<K: Sink>(out: &mut K, verdict: &Verdict) -> Status
 }
 
 /// Does all that the program does: reads the words and the source, and writes the answers to the document's calls, or
-/// that its text is accepted, or its text, or what that compiles to, or why there are none. The first clause has three parts: what
-/// was read and judged, what was said, and the status. The second says that each fault is told. The gate is handed to the callers of
-/// `run`; it changes nothing but how their steps interleave.
+/// that its text is accepted, or its text, or what that compiles to, or what the answers of a workload add up to, or why there are
+/// none. The first clause has three parts: what was read and judged, what was said, and the status. The second says that each fault
+/// is told. The third says that all is answered which nothing refuses, where memory suffices; by the first the whole text was written
+/// then, and each call has a reply at `Done`. The gate is handed to the callers of `run` and of a workload; it changes nothing but how
+/// their steps interleave.
 pub fn oa_main<R: Threads + Sync, S: Source, K: Sink, G: Gate + Sync>(
     rt: &R,
     alloc: Global,
@@ -314,6 +361,7 @@ pub fn oa_main<R: Threads + Sync, S: Source, K: Sink, G: Gate + Sync>(
         × IsJudged (map string_bytes words.now) (S.left input.old) (S.left input.new) (S.faults input.old) (S.faults input.new) verdict
         × IsSaid (K.written out.old) (K.written out.new) (K.faults out.old) (K.faults out.new) (text_for verdict) (status_for verdict) result }
     ensures told { FaultsAreTold (S.faults input.old) (S.faults input.new) (K.faults out.old) (K.faults out.new) result }
+    ensures complete { IsComplete (request_of (map string_bytes words.now)) (S.left input.old) (S.faults input.old) (S.faults input.new) (K.faults out.old) (K.faults out.new) result }
 {
     let verdict = judge(rt, alloc, words, input, gate);
     say(out, &verdict)

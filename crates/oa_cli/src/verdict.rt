@@ -4,12 +4,15 @@ use line_words::fault::ParseFault;
 use norm_check::Refusal;
 use norm_lang::text::{ByteText, Text};
 use script_driver::Report;
+use workload_runs::WorkloadReport;
 
 /// What was read and judged.
 #[derive(Debug, Drop)]
 pub enum Verdict {
     /// The answers to the document's calls.
     Answered(Report),
+    /// What the answers of a workload add up to.
+    Worked(WorkloadReport),
     /// The document's text is in normal form.
     Accepted,
     /// The canonical spelling of the document's text.

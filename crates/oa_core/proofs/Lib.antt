@@ -8,4 +8,3 @@ mod Ending
 mod Entering
 mod Looping
 mod Moving
-mod OneCaller

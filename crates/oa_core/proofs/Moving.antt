@@ -1,6 +1,6 @@
 -- One step of a caller in its place among the entries.
 use Rattle.std.proofs.Common.{◌≡◌, ◌<◌, ◌≤◌, ◌+◌, ◌&&◌, ℕ, zero, suc, ◌⊎◌, inl, inr, ⊎_elim, Bool, true, false, List, [], ◌∷◌, map, set, length, Option, Some, None, refl, sym, ap, ◌∙◌, subst, arith, if◌then◌else◌}
-use Rattle.std.specs.Prelude.{slice_get, slice_set, option_map, nat_le, Err}
+use Rattle.std.specs.Prelude.{slice_get, slice_set, option_map, is_some, nat_le, Err}
 use Rattle.std.proofs.lemmas.List.{map-set, set-set}
 use Rattle.std.proofs.lemmas.Option.{slice_get-map, slice_get_within}
 use Rattle.target_code.specs.declared.target.Target.{Target}
@@ -22,7 +22,7 @@ use Rattle.oa_core.specs.Callers.{BelongsTo}
 use Rattle.oa_core.specs.Finals.{core_part}
 use Rattle.oa_core.specs.Steps.{StepIs, WordsSound}
 use Rattle.oa_core.specs.Shown.{Terms, Progress, replay_by, shown, bared, next_of, next_for, next_in, events_of, begun, CanMove, CanMoveAt, EntryMoves, MovesAt, AllBelongTo, IsUnderWay}
-use Rattle.oa_core.proofs.Bare.{made_to}
+use Rattle.oa_core.proofs.Bare.{made_to, refused}
 
 -- ---- an entry is there
 
@@ -188,7 +188,19 @@ events_in t c now = ap (caller_events (replay_by t) c) (slice_get-map core_part 
   of None = refl
   of (Some e) = events_next t c e.core
 
+pub has_next : (t : Terms) (c : ℕ) (now : Progress) (next : Move) → Some next ≡ next_in t c now → is_some (next_events (replay_by t) c (shown now)) ≡ true
+has_next t c now next is = ap is_some (events_in t c now ∙ ap (option_map (events_of c)) (sym is))
+
+pub has_none : (t : Terms) (c : ℕ) (now : Progress) → next_in t c now ≡ None → is_some (next_events (replay_by t) c (shown now)) ≡ false
+has_none t c now none = ap is_some (events_in t c now ∙ ap (option_map (events_of c)) none)
+
 -- ---- the step
+
+pub step_is_long : (t : Terms) (c : ℕ) (now : Progress) (next : Move) → next_in t c now ≡ Some next → nat_le t.limit now.steps ≡ true
+    → refused (LongReplay now.steps) ≡ bared (one_step (replay_by t) c (shown now))
+step_is_long t c now next is past =
+    sym (ap (λ (o : Option (List CoreEvent)). bared (step_by (replay_by t) (shown now) o)) (events_in t c now ∙ ap (option_map (events_of c)) is)
+    ∙ ap (λ (b : Bool). bared (if b then Err (LongReplay now.steps) else stepped_to (shown now) (events_of c next) (core_run t.pair.target t.setting (events_of c next) (shown now).state))) past)
 
 pub step_is_made : (t : Terms) (c : ℕ) (old new : Progress) (next : Move) → next_in t c old ≡ Some next → nat_le t.limit old.steps ≡ false
     → core_run t.pair.target t.setting (events_of c next) (shown old).state ≡ Some (shown new).state → new.steps ≡ old.steps + 1 → made_to (shown new) ≡ bared (one_step (replay_by t) c (shown old))

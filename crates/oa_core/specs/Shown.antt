@@ -13,7 +13,7 @@ use Rattle.caller_steps.specs.Calls.{is_call, AreCalls}
 use Rattle.caller_steps.specs.After.{taken}
 use Rattle.core_runs.specs.Machine.{CoreEvent, Takes, Steps}
 use Rattle.core_runs.specs.Scripts.{script_of}
-use Rattle.core_runs.specs.Replays.{Replay, Replaying, Refusal, StepOfNobody, LongReplay, is_spent, replay_start, go_further, most_steps, turns_made, caller_ended, callers_ended}
+use Rattle.core_runs.specs.Replays.{Replay, Replaying, Refusal, StepOfNobody, LongReplay, is_spent, go_further, turns_made, callers_ended}
 use Rattle.barrier_check.specs.Paired.{Paired}
 use Rattle.oa_core.specs.declared.progress.Move.{Move}
 use Rattle.oa_core.specs.declared.progress.Move.TheVariants as moves
@@ -143,22 +143,6 @@ replayed_from p turns r = go_further (turns_made p turns r) (callers_ended p 0 p
 abbrev pub error_of : Stop → ReplayError
 error_of (stops.StepOfNobody steps) = errors.StepOfNobody steps
 error_of (stops.LongReplay steps) = errors.LongReplay steps
-
--- ---- one caller alone
-
--- with another limit
-abbrev pub limited : Terms → ℕ → Replay
-limited t limit = record (replay_by t) { limit = limit }
-
-abbrev pub alone_from : Replay → Replaying → Result Replaying Refusal
-alone_from p r = caller_ended p 0 (most_steps p r) r
-
--- the first caller ended so: where the limit is great enough
-pub record EndsAlone (t : Terms) (now : Progress) : Type 0 where
-  pub limit : ℕ
-  pub r : Replaying
-  pub ended : alone_from (limited t limit) (replay_start (limited t limit)) ≡ Ok r
-  pub state : r.state ≡ (shown now).state
 
 -- ---- kinds of access
 

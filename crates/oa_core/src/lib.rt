@@ -1,7 +1,6 @@
 //! The callers' core: what a caller of compiled code does next, and the words on which callers meet.
 #![tactic(auto)]
 
-pub mod alone;
 pub mod entry;
 mod kinds;
 pub mod laws;
@@ -14,7 +13,6 @@ mod step;
 mod turns;
 pub mod words;
 
-pub use alone::run_alone;
 pub use caller_steps::{Call, Reply, Setting, SettingFault};
 pub use entry::Entry;
 pub use loaded::LoadedTarget;

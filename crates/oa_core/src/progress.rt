@@ -150,11 +150,10 @@ impl<'a> Terms<'a> {
     }
 
     /// Makes a step of a caller, and doesn't count it.
-    pub(crate) fn move_in(&self, now: &mut Progress, caller: u32, next: Move)
+    fn move_in(&self, now: &mut Progress, caller: u32, next: Move)
         requires under_way { IsUnderWay self.now now.old }
         requires next { next_in self.now caller now.old ≡ Some next }
         ensures runs { core_run self.now.pair.target self.now.setting (events_of caller next) (shown now.old).state ≡ Some (shown now.new).state }
-        ensures moved { MovesAt self.now.pair.target self.now.setting now.old.words now.new.words next caller now.old.entries now.new.entries (slice_get now.old.entries caller) }
         ensures uncounted { now.new.steps ≡ now.old.steps }
         ensures under_way { IsUnderWay self.now now.new }
     {
@@ -182,6 +181,25 @@ impl<'a> Terms<'a> {
         self.limit <= now.steps
     }
 
+    /// The step that a caller has next.
+    ///
+    /// # Errors
+    /// The limit is reached.
+    pub(crate) fn make_step(&self, now: &mut Progress, caller: u32, next: Move) -> Result<(), Stop>
+        requires under_way { IsUnderWay self.now now.old }
+        requires next { next_in self.now caller now.old ≡ Some next }
+        ensures made { told result now.new ≡ bared (one_step (replay_by self.now) caller (shown now.old)) }
+        ensures counted { OnOk result (now.new.steps ≡ now.old.steps + 1) }
+        ensures below { OnOk result (now.old.steps < self.now.limit) }
+        ensures under_way { IsUnderWay self.now now.new }
+    {
+        if self.is_at_limit(now) {
+            return Err(Stop::LongReplay { steps: now.steps });
+        }
+        self.move_on(now, caller, next);
+        Ok(())
+    }
+
     /// One step of a caller. That it has none to take is told before that the limit is reached.
     ///
     /// # Errors
@@ -195,13 +213,7 @@ impl<'a> Terms<'a> {
     {
         match self.next_of(now, caller) {
             None => Err(Stop::StepOfNobody { steps: now.steps }),
-            Some(next) => {
-                if self.is_at_limit(now) {
-                    return Err(Stop::LongReplay { steps: now.steps });
-                }
-                self.move_on(now, caller, next);
-                Ok(())
-            }
+            Some(next) => self.make_step(now, caller, next),
         }
     }
 }

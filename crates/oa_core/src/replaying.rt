@@ -97,7 +97,7 @@ fn put_entries(alloc: Global, scripts: &[CallList]) -> Result<Vec<Entry>, AllocE
 }
 
 /// The start of a replay.
-pub(crate) fn start(alloc: Global, terms: &Terms) -> Result<Progress, AllocError>
+fn start(alloc: Global, terms: &Terms) -> Result<Progress, AllocError>
     requires suits { SuitsReplay terms.now }
     ensures started { IfOk result (λ now. shown now ≡ replay_start (replay_by terms.now)) }
     ensures under_way { IfOk result (λ now. IsUnderWay terms.now now) }

@@ -1,7 +1,7 @@
 //! The turns of a schedule, and each caller to its end.
 
-ghost use Rattle.std.specs.Prelude.{◌≡◌, ◌<◌, ◌+◌, ◌^◌, is_some};
-ghost use Rattle.core_runs.specs.Replays.{is_of_kind, next_events, wants_kind, most_steps, steps_made, upto_made, ended_calls, ops_made, turn_made, turns_made, caller_ended, callers_ended};
+ghost use Rattle.std.specs.Prelude.{◌≡◌, ◌<◌, ◌+◌, ◌^◌};
+ghost use Rattle.core_runs.specs.Replays.{is_of_kind, wants_kind, most_steps, steps_made, upto_made, ended_calls, ops_made, turn_made, turns_made, caller_ended, callers_ended};
 ghost use Rattle.oa_core.specs.Shown.{replay_by, shown, bared, told, left_after, IsUnderWay};
 
 use crate::progress::{Progress, Stop, Terms, entry_at};
@@ -136,22 +136,14 @@ impl<'a> Terms<'a> {
         Ok(())
     }
 
-    /// Whether a caller has a step to take.
-    fn has_step(&self, now: &Progress, caller: u32) -> bool
-        ensures { result ≡ is_some (next_events (replay_by self.now) caller (shown now.now)) }
-    {
-        self.next_of(now, caller).is_some()
-    }
-
     /// All the steps that a caller has.
-    #[tactic(auto, using(crate::proofs::Looping::caller_more, crate::proofs::Looping::caller_stop, crate::proofs::Looping::caller_end))]
     fn end_caller(&self, now: &mut Progress, caller: u32) -> Result<(), Stop>
         requires under_way { IsUnderWay self.now now.old }
         ensures made { told result now.new ≡ bared (caller_ended (replay_by self.now) caller (most_steps (replay_by self.now) (shown now.old)) (shown now.old)) }
         ensures under_way { IsUnderWay self.now now.new }
     {
-        'steps: while self.has_step(now, caller) {
-            self.step_of(now, caller)?;
+        'steps: while let Some(next) = self.next_of(now, caller) {
+            self.make_step(now, caller, next)?;
         }
         Ok(())
     }

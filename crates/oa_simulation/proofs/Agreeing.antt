@@ -21,7 +21,7 @@ use Rattle.caller_steps.specs.Entries.{is_idle}
 use Rattle.caller_steps.specs.Operands.{instr_in, list_of}
 use Rattle.run_ahead.specs.Standing.{Call, stands_at}
 use Rattle.sim_relation.specs.Views.{Plan, Shared, Caller}
-use Rattle.sim_relation.specs.Callers.{Told, Spotted, Walks, Stands, Begins, Trail, call_of, replies_of, spot_of, BehindEntry, InExecutor}
+use Rattle.sim_relation.specs.Callers.{CallerHolds, HoldsAt, Walks, Stands, Begins, Trail, call_of, replies_of, spot_of, AfterExchange, InExecutor}
 use Rattle.oa_simulation.specs.Statements.{AgreesWith}
 
 -- a caller that runs has its call's replies, or one more
@@ -79,12 +79,12 @@ module _ (t : Plan) (s : Shared) (d : ℕ) (x : Caller) where
   in_list : (k : ℕ) → InExecutor t s d x k → HasAbout (replies_of x.entry) x.source
   in_list k e = inl (ap (λ (c : SourceCaller). c.replies) e.4 ∙ replies_are e.0.walk.call (call_of x.entry) e.1.call)
 
-  behind_entry : (made : ℕ) (b : Bool) → BehindEntry t s d x made b → HasAbout (replies_of x.entry) x.source
+  behind_entry : (made : ℕ) (b : Bool) → AfterExchange t s d x made b → HasAbout (replies_of x.entry) x.source
   behind_entry made true e = in_list made e
   behind_entry made false e = about (replies_of x.entry) e.0.walk.call x.source _ (replies_are e.0.walk.call (call_of x.entry) e.1.call) e.4
       (at_stand e.0.walk.method.op true (with_count e.0.mirror made) false e.0.walk.call _)
 
-  by_routine : (r : Routine) → Spotted t s d x r → AgreesWith (is_idle r) (replies_of x.entry) x.source.replies
+  by_routine : (r : Routine) → HoldsAt t s d x r → AgreesWith (is_idle r) (replies_of x.entry) x.source.replies
   by_routine Idle told = ap (λ (c : SourceCaller). c.replies) told.2
   by_routine (LoadSeen starts.Begin) told = inl (ap (λ (c : SourceCaller). c.replies) told.2)
   by_routine (LoadSeen starts.WrapUp) told = beginning told.0 told.1
@@ -101,5 +101,5 @@ module _ (t : Plan) (s : Shared) (d : ℕ) (x : Caller) where
   by_routine (Claims claim) told = walking (spot_of x.entry.hand) told.1.0 told.1.1 told.1.2
   by_routine (Zeroes k field) told = walking (spot_of x.entry.hand) told.2.0 told.2.1 told.2.2
 
-  pub told_agrees : Told t s d x → AgreesWith (is_idle x.entry.routine) (replies_of x.entry) x.source.replies
+  pub told_agrees : CallerHolds t s d x → AgreesWith (is_idle x.entry.routine) (replies_of x.entry) x.source.replies
   told_agrees told = by_routine x.entry.routine told.spot

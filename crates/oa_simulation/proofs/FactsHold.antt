@@ -7,15 +7,15 @@ use Rattle.source_machine.specs.Proper.{itself}
 use Rattle.caller_steps.specs.declared.routine.Routine.{Routine}
 use Rattle.caller_steps.specs.declared.routine.Routine.TheVariants.{At, Claims}
 use Rattle.sim_relation.specs.Views.{Plan, IsPlan, Shared}
-use Rattle.sim_relation.specs.Callers.{Spotted, Running, ClaimAt, spot_of}
-use Rattle.sim_relation.specs.Goes.{Goes}
+use Rattle.sim_relation.specs.Callers.{HoldsAt, Running, ClaimAt, spot_of}
+use Rattle.sim_relation.specs.MayChange.{MayChange}
 use Rattle.sim_relation.specs.Points.{StaysProper, point}
 use Rattle.sim_relation.specs.Worlds.{World, Holds}
 use Rattle.sim_guards.proofs.Residents.{resident}
 use Rattle.sim_accesses.proofs.Stepping.{proper_here}
 use Rattle.oa_simulation.specs.Facts.{Facts, TagIsNoLessThanThePhaseAtUnlinking}
 
-pub tags_are_no_less : (t : Plan) (c : ℕ) (s s' : Shared) → Goes t c s s' → TagIsNoLessThanThePhaseAtUnlinking s s'
+pub tags_are_no_less : (t : Plan) (c : ℕ) (s s' : Shared) → MayChange t c s s' → TagIsNoLessThanThePhaseAtUnlinking s s'
 tags_are_no_less t c s s' g n p new is = ⊎_elim (λ (old : s.tag n ≡ Some p). absurd (new old)) (λ (le : s.memory Phase ≤ p). le) (g.tag n p is)
 
 pub facts_hold : (t : Plan) (w : World) → IsPlan t → Holds t w → ((c : ℕ) → c < t.setting.sizes.callers → StaysProper t.text c (point w.shared (w.who c))) → Facts t w
@@ -25,7 +25,7 @@ facts_hold t w plan h proper = record {
   tag_is_no_more_than_the_phase = h.fine.tag;
   tagged_below_seen_was_retired_before_the_run = λ c n p lt. (h.told c lt).base.old n p;
   sweep_has_warned_and_gathered = λ c claim lt at in_sweep.
-      (let spot : Spotted t w.shared c (w.who c) (Claims claim) = subst (λ (r : Routine). Spotted t w.shared c (w.who c) r) at (h.told c lt).spot in
+      (let spot : HoldsAt t w.shared c (w.who c) (Claims claim) = subst (λ (r : Routine). HoldsAt t w.shared c (w.who c) r) at (h.told c lt).spot in
       subst (λ (stage : ClaimStage). ClaimAt t w.shared claim.sweep stage) in_sweep spot.0);
   got_of_a_caller_that_was_not_warned_is_resident = λ c n lt at calm got.
       (let run = running c lt at in
@@ -36,4 +36,4 @@ facts_hold t w plan h proper = record {
   trusted_registers_hold_the_values_of_the_source = λ c lt at. (let run = running c lt at in (run.0, run.1.ahead.agree));
 } where
   running : (c : ℕ) → c < t.setting.sizes.callers → (w.who c).entry.routine ≡ At → Running t w.shared c (w.who c) (spot_of (w.who c).entry.hand)
-  running c lt at = subst (λ (r : Routine). Spotted t w.shared c (w.who c) r) at (h.told c lt).spot
+  running c lt at = subst (λ (r : Routine). HoldsAt t w.shared c (w.who c) r) at (h.told c lt).spot

@@ -29,13 +29,15 @@ use Rattle.oa_words.specs.Words.{in_row, address_of}
 use Rattle.local_laws.proofs.Inside.{there_is}
 use Rattle.std.specs.Prelude.{slice_index}
 use Rattle.sim_relation.specs.Views.{Plan, IsPlan, Shared, Caller}
-use Rattle.sim_relation.specs.Callers.{Told, Spotted}
-use Rattle.sim_relation.specs.Steps.{Kept, TakeKept, StepsKeep, after_access}
+use Rattle.sim_relation.specs.Callers.{CallerHolds, HoldsAt}
+use Rattle.sim_relation.specs.Naming.{present_at}
+use Rattle.sim_relation.specs.Steps.{KeptWith, Stepped, NamesAfter, TakeKept, StepsKeep, after_access}
 use Rattle.sim_relation.specs.Worlds.{World}
 use Rattle.caller_steps.specs.Signs.{Moved}
 use Rattle.oa_simulation.specs.Shadow.{Shadow, shadow_run}
 use Rattle.sim_relation.specs.Points.{point, DrawsHome}
 use Rattle.oa_simulation.specs.Beside.{Placed, Beside}
+use Rattle.oa_simulation.specs.Present.{present_after, present_on, present_run}
 use Rattle.oa_simulation.proofs.Worlds.{holds_on}
 use Rattle.oa_simulation.proofs.Lifting.{Lifted, lift, stays_proper}
 use Rattle.oa_simulation.specs.Relation.{HomeIs}
@@ -52,14 +54,19 @@ idle_is (Clears next) is = absurd (let z : false ≡ true = is in cc)
 idle_is (Claims claim) is = absurd (let z : false ≡ true = is in cc)
 idle_is (Zeroes k field) is = absurd (let z : false ≡ true = is in cc)
 
+-- and each slot has the name that is given
+abbrev pub NamedBeside : (t : Plan) (state : CoreState) (z : Shadow) → (ℕ → ℕ) → Type 0
+NamedBeside t state z present = (b : Beside t state z) × (b.w.shared.present ≡ present)
+
 -- a call is taken
-pub take_kept : (t : Plan) (s : Shared) (c : ℕ) (x : Caller) (call : Call) → Told t s c x → is_idle x.entry.routine ≡ true → TakeKept t c s x call
+pub take_kept : (t : Plan) (s : Shared) (c : ℕ) (x : Caller) (call : Call) → CallerHolds t s c x → is_idle x.entry.routine ≡ true → TakeKept t c s x call
 take_kept t s c x call told idle =
-    let spot : Spotted t s c x Idle = subst (λ (r : Routine). Spotted t s c x r) (idle_is x.entry.routine idle) told.spot in
+    let spot : HoldsAt t s c x Idle = subst (λ (r : Routine). HoldsAt t s c x r) (idle_is x.entry.routine idle) told.spot in
     let b = told.base in
     record {
       x' = record x { entry = taken call x.entry };
       entry = refl;
+      names = refl;
       source = refl;
       watch = refl;
       told = record {
@@ -91,6 +98,23 @@ signs_are target setting e word = refl
 call_stays : (before later : Entry) → EndsOrRuns before later → later.running.call ≡ before.running.call
 call_stays before later turns = ap (λ running. running.call) (⊎_elim (λ (r : RunsOn before later). r.2) (λ (r : Ends before later). r.3) turns)
 
+-- a caller that takes a call
+pub record TookCall (t : Plan) (state behind : CoreState) (z : Shadow) (c : ℕ) (call : Call) (b : Beside t state z) : Type 0 where
+  pub beside : Beside t behind z
+  pub kept : TakeKept t c b.w.shared (b.w.who c) call
+  pub world : beside.w ≡ record { shared = b.w.shared; who = put b.w.who c kept.x' }
+
+-- what a caller's step leads to, beside what it was before: the world in which all facts hold again, and what became of the names of
+-- the caller's guards
+pub record Went (t : Plan) (state behind : CoreState) (z z' : Shadow) (c : ℕ) (b : Beside t state z) : Type 0 where
+  pub beside : Beside t behind z'
+  pub access : WordAccess
+  pub at : wants t.target ((view t.setting state).who c) ≡ Some access
+  pub there : in_row t.setting.sizes (word_of access) ≡ true
+  pub stepped : Stepped t c b.w.shared (b.w.who c) (NamesAfter t b.w.shared c (b.w.who c) (b.w.who c).entry.routine) (after_access b.w.shared.memory access) (after_moves t.target t.setting (b.w.who c).entry (b.w.shared.memory (word_of access))) (present_at t.setting.sizes b.w.shared.memory b.w.shared.unused (b.w.who c).entry (b.w.who c).entry.routine b.w.shared.present)
+  pub world : beside.w ≡ record { shared = stepped.kept.s'; who = put b.w.who c stepped.kept.x' }
+  pub present : beside.w.shared.present ≡ present_after t.setting (view t.setting state) (Steps c) z.unused b.w.shared.present
+
 module _ (t : Plan) (plan : IsPlan t) (test : Entry → Bool) (keeps : StepsKeep t test) (proper : IsProper t.text) (events_seen : EventsAreSeen t.target t.setting) where
   abbrev seen : CoreState → CoreView
   seen state = view t.setting state
@@ -115,35 +139,42 @@ module _ (t : Plan) (plan : IsPlan t) (test : Entry → Bool) (keeps : StepsKeep
           put_other_here : (d : ℕ) → d ≢ c → put v.who c e d ≡ v.who d
           put_other_here d ne = each_put (λ i (y : Entry). i ≢ c → y ≡ v.who i) v.who c e (λ no. absurd (no refl)) (λ i ne no. refl) d ne
 
-  take_beside : (state behind : CoreState) (z : Shadow) (c : ℕ) (call : Call) → Beside t state z → Moves t.target t.setting (seen state) (Takes c call) (seen behind) → Beside t behind z
-  take_beside state behind z c call b m =
+  pub take_went : (state behind : CoreState) (z : Shadow) (c : ℕ) (call : Call) → (b : Beside t state z) → Moves t.target t.setting (seen state) (Takes c call) (seen behind) → TookCall t state behind z c call b
+  take_went state behind z c call b m =
       let lt = m.0 in
       let e = b.entry c lt in
       let k = take_kept t b.w.shared c (b.w.who c) call (b.holds.told c lt) (ap (λ (e : Entry). is_idle e.routine) e ∙ m.1) in
       record {
-        w = record { shared = b.w.shared; who = put b.w.who c k.x' };
-        v = b.v;
-        holds = record {
-          fine = b.holds.fine;
-          told = each_put (λ d (x : Caller). d < n → Told t b.w.shared d x) b.w.who c k.x' (λ lt. k.told) (λ d ne lt. b.holds.told d lt);
+        kept = k;
+        world = refl;
+        beside = record {
+          w = record { shared = b.w.shared; who = put b.w.who c k.x' };
+          v = b.v;
+          holds = record {
+            fine = b.holds.fine;
+            told = each_put (λ d (x : Caller). d < n → CallerHolds t b.w.shared d x) b.w.who c k.x' (λ lt. k.told) (λ d ne lt. b.holds.told d lt);
+          };
+          memory = b.memory ∙ sym m.3;
+          entry = entry_put b.w (seen state) c k.x' (taken call ((seen state).who c)) b.entry (k.entry ∙ ap (taken call) e) (seen behind).who m.4;
+          sourced = b.sourced;
+          source = b.source;
+          caller = each_put (λ d (x : Caller). d < n → slice_get b.v.machine.callers d ≡ Some x.source) b.w.who c k.x' (λ lt. b.caller c lt ∙ ap Some (sym k.source)) (λ d ne lt. b.caller d lt);
+          run = each_put (λ d (x : Caller). d < n → b.v.runs d ≡ x.watch) b.w.who c k.x' (λ lt. b.run c lt ∙ sym k.watch) (λ d ne lt. b.run d lt);
+          unused = b.unused;
+          called = called_put (seen state) c (taken call ((seen state).who c)) b.called (λ run. m.2) (seen behind).who m.4;
         };
-        memory = b.memory ∙ sym m.3;
-        entry = entry_put b.w (seen state) c k.x' (taken call ((seen state).who c)) b.entry (k.entry ∙ ap (taken call) e) (seen behind).who m.4;
-        sourced = b.sourced;
-        source = b.source;
-        caller = each_put (λ d (x : Caller). d < n → slice_get b.v.machine.callers d ≡ Some x.source) b.w.who c k.x' (λ lt. b.caller c lt ∙ ap Some (sym k.source)) (λ d ne lt. b.caller d lt);
-        run = each_put (λ d (x : Caller). d < n → b.v.runs d ≡ x.watch) b.w.who c k.x' (λ lt. b.run c lt ∙ sym k.watch) (λ d ne lt. b.run d lt);
-        unused = b.unused;
-        called = called_put (seen state) c (taken call ((seen state).who c)) b.called (λ run. m.2) (seen behind).who m.4;
       }
+
+  take_beside : (state behind : CoreState) (z : Shadow) (c : ℕ) (call : Call) (b : Beside t state z) → Moves t.target t.setting (seen state) (Takes c call) (seen behind) → NamedBeside t behind z b.w.shared.present
+  take_beside state behind z c call b m = let took = take_went state behind z c call b m in (took.beside, ap (λ (w : World). w.shared.present) took.world)
 
   -- a word that the row hasn't is seen as 0
   past_row : (state : CoreState) (w : Word) → in_row t.setting.sizes w ≡ false → (seen state).memory w ≡ 0
   past_row state w out = ap (λ (b : Bool). if b then slice_index state.words (address_of t.setting.sizes w) else 0) out
 
-  pub step_beside : (state behind : CoreState) (z : Shadow) (c : ℕ) → test ((seen state).who c) ≡ true → IsSound t.target t.setting state → IsShaped t.target t.setting state → Beside t state z → Moves t.target t.setting (seen state) (Steps c) (seen behind)
-      → HomeIs t.home (shadow_run t.text (event_signs t.target t.setting state (Steps c)) z) → Beside t behind (shadow_run t.text (event_signs t.target t.setting state (Steps c)) z)
-  step_beside state behind z c passes sound shaped b m homes =
+  pub step_went : (state behind : CoreState) (z : Shadow) (c : ℕ) → test ((seen state).who c) ≡ true → IsSound t.target t.setting state → IsShaped t.target t.setting state → (b : Beside t state z) → Moves t.target t.setting (seen state) (Steps c) (seen behind)
+      → HomeIs t.home (shadow_run t.text (event_signs t.target t.setting state (Steps c)) z) → Went t state behind z (shadow_run t.text (event_signs t.target t.setting state (Steps c)) z) c b
+  step_went state behind z c passes sound shaped b m homes =
       let a : WordAccess = m.0 in
       let lt = m.1 in
       let s : Shared = b.w.shared in
@@ -162,58 +193,78 @@ module _ (t : Plan) (plan : IsPlan t) (test : Entry → Bool) (keeps : StepsKeep
       subst (λ (u : ℕ). DrawsHome t.home made.signs u) b.unused
       (draws_home t.text t.home c made.signs z (subst (λ (k : List Signed). HomeIs t.home (shadow_run t.text k z)) (sym same) homes)) in
       let run : is_idle ((seen state).who c).routine ≡ false = busy t.target ((seen state).who c) a (is_idle ((seen state).who c).routine) refl want in
-      let k : Kept t c s x (after_access s.memory a) made =
+      let stepped : Stepped t c s x (NamesAfter t s c x x.entry.routine) (after_access s.memory a) made (present_at t.setting.sizes s.memory s.unused x.entry x.entry.routine s.present) =
       keeps.step c s x a (ap test e ∙ passes) lt b.holds.fine (b.holds.told c lt)
       (subst (λ (e : Entry). Belongs t.target t.setting e) (sym e) (belongs_seen t.target t.setting state c sound lt))
       (ap (λ (e : Entry). is_call t.target e.running.call) e ∙ b.called c lt run)
       (stays_proper t.text n c z b.v (point s x) proper b.sourced placed)
       (ap (wants t.target) e ∙ want) m.3 (λ w out. ap (λ (k : Word → ℕ). k w) b.memory ∙ past_row state w out) draws in
+      let k : KeptWith t c s x stepped.row (after_access s.memory a) made (present_at t.setting.sizes s.memory s.unused x.entry x.entry.routine s.present) = stepped.kept in
       let l : Lifted t.text n c b.v (point k.s' k.x') (shadow_run t.text (event_signs t.target t.setting state (Steps c)) z) =
       subst (λ (i : List Signed). Lifted t.text n c b.v (point k.s' k.x') (shadow_run t.text i z)) same
       (lift t.text n c made.signs (point s x) (point k.s' k.x') k.plays z b.v b.sourced placed) in
       let next : Entry = after t.target t.setting ((seen state).who c) ((seen state).memory (word_of a)) in
       record {
-        w = record { shared = k.s'; who = put b.w.who c k.x' };
-        v = l.v';
-        holds = holds_on t b.w c (after_access s.memory a) made plan b.holds k;
-        memory = k.memory ∙ (ap (λ (i : Word → ℕ). after_access i a) b.memory ∙ sym m.4);
-        entry = entry_put b.w (seen state) c k.x' next b.entry
-            (k.entry ∙ (ap (λ (i : Moved). i.entry) same_move ∙ sym (after_is t.target t.setting ((seen state).who c) ((seen state).memory (word_of a)))))
-            (seen behind).who m.5;
-        sourced = l.sourced;
-        source = l.placed.memory;
-        caller = each_put (λ d (y : Caller). d < n → slice_get l.v'.machine.callers d ≡ Some y.source) b.w.who c k.x' (λ lt. l.placed.caller) (λ d ne lt. (l.others d ne).0 ∙ b.caller d lt);
-        run = each_put (λ d (y : Caller). d < n → l.v'.runs d ≡ y.watch) b.w.who c k.x' (λ lt. l.placed.run) (λ d ne lt. (l.others d ne).1 ∙ b.run d lt);
-        unused = l.placed.unused;
-        called = called_put (seen state) c next b.called
-            (λ on. ap (is_call t.target) (call_stays (counted ((seen state).who c)) next (after_turns t.target t.setting ((seen state).who c) ((seen state).memory (word_of a)) run)) ∙ b.called c lt run)
-            (seen behind).who m.5;
+        access = a;
+        at = want;
+        there = m.3;
+        stepped = stepped;
+        world = refl;
+        present = k.present ∙ (ap (λ (memory : Word → ℕ). present_at t.setting.sizes memory s.unused x.entry x.entry.routine s.present) b.memory
+            ∙ (ap (λ (drawn : ℕ). present_at t.setting.sizes (seen state).memory drawn x.entry x.entry.routine s.present) (sym b.unused)
+            ∙ ap (λ (e : Entry). present_at t.setting.sizes (seen state).memory z.unused e e.routine s.present) e));
+        beside = record {
+          w = record { shared = k.s'; who = put b.w.who c k.x' };
+          v = l.v';
+          holds = holds_on t b.w c stepped.row (after_access s.memory a) made (present_at t.setting.sizes s.memory s.unused x.entry x.entry.routine s.present) plan b.holds k;
+          memory = k.memory ∙ (ap (λ (i : Word → ℕ). after_access i a) b.memory ∙ sym m.4);
+          entry = entry_put b.w (seen state) c k.x' next b.entry
+              (k.entry ∙ (ap (λ (i : Moved). i.entry) same_move ∙ sym (after_is t.target t.setting ((seen state).who c) ((seen state).memory (word_of a)))))
+              (seen behind).who m.5;
+          sourced = l.sourced;
+          source = l.placed.memory;
+          caller = each_put (λ d (y : Caller). d < n → slice_get l.v'.machine.callers d ≡ Some y.source) b.w.who c k.x' (λ lt. l.placed.caller) (λ d ne lt. (l.others d ne).0 ∙ b.caller d lt);
+          run = each_put (λ d (y : Caller). d < n → l.v'.runs d ≡ y.watch) b.w.who c k.x' (λ lt. l.placed.run) (λ d ne lt. (l.others d ne).1 ∙ b.run d lt);
+          unused = l.placed.unused;
+          called = called_put (seen state) c next b.called
+              (λ on. ap (is_call t.target) (call_stays (counted ((seen state).who c)) next (after_turns t.target t.setting ((seen state).who c) ((seen state).memory (word_of a)) run)) ∙ b.called c lt run)
+              (seen behind).who m.5;
+        };
       }
 
-  event_beside : ((e : Entry) → test e ≡ true) → (event : CoreEvent) (state behind : CoreState) (z : Shadow) → IsSound t.target t.setting state → IsShaped t.target t.setting state → Beside t state z → Moves t.target t.setting (seen state) event (seen behind)
-      → HomeIs t.home (shadow_run t.text (event_signs t.target t.setting state event) z) → Beside t behind (shadow_run t.text (event_signs t.target t.setting state event) z)
+  pub step_beside : (state behind : CoreState) (z : Shadow) (c : ℕ) → test ((seen state).who c) ≡ true → IsSound t.target t.setting state → IsShaped t.target t.setting state → (b : Beside t state z) → Moves t.target t.setting (seen state) (Steps c) (seen behind)
+      → HomeIs t.home (shadow_run t.text (event_signs t.target t.setting state (Steps c)) z)
+      → NamedBeside t behind (shadow_run t.text (event_signs t.target t.setting state (Steps c)) z) (present_after t.setting (seen state) (Steps c) z.unused b.w.shared.present)
+  step_beside state behind z c passes sound shaped b m homes = let went = step_went state behind z c passes sound shaped b m homes in (went.beside, went.present)
+
+  event_beside : ((e : Entry) → test e ≡ true) → (event : CoreEvent) (state behind : CoreState) (z : Shadow) → IsSound t.target t.setting state → IsShaped t.target t.setting state → (b : Beside t state z) → Moves t.target t.setting (seen state) event (seen behind)
+      → HomeIs t.home (shadow_run t.text (event_signs t.target t.setting state event) z)
+      → NamedBeside t behind (shadow_run t.text (event_signs t.target t.setting state event) z) (present_after t.setting (seen state) event z.unused b.w.shared.present)
   event_beside all (Takes c call) state behind z sound shaped b m homes = take_beside state behind z c call b m
   event_beside all (Steps c) state behind z sound shaped b m homes = step_beside state behind z c (all ((seen state).who c)) sound shaped b m homes
 
   -- the induction, over what stays sound
   pub run_beside : ((e : Entry) → test e ≡ true) → ((state : CoreState) → IsSound t.target t.setting state → IsShaped t.target t.setting state)
       → ((state behind : CoreState) (event : CoreEvent) → IsSound t.target t.setting state → core_event t.target t.setting state event ≡ Some behind → IsSound t.target t.setting behind)
-      → (events : List CoreEvent) (state behind : CoreState) (z : Shadow) → IsSound t.target t.setting state → Beside t state z → core_run t.target t.setting events state ≡ Some behind
-      → HomeIs t.home (shadow_run t.text (run_signs t.target t.setting events state) z) → Beside t behind (shadow_run t.text (run_signs t.target t.setting events state) z)
-  run_beside all shaped stays [] state behind z sound b is homes = subst (λ (i : CoreState). Beside t i z) (let same : state ≡ behind = cc in same) b
-  run_beside all shaped stays (event ∷ events) state behind z sound b is homes =
+      → (events : List CoreEvent) (state behind : CoreState) (z : Shadow) (present : ℕ → ℕ) → IsSound t.target t.setting state → NamedBeside t state z present → core_run t.target t.setting events state ≡ Some behind
+      → HomeIs t.home (shadow_run t.text (run_signs t.target t.setting events state) z)
+      → NamedBeside t behind (shadow_run t.text (run_signs t.target t.setting events state) z) (present_run t.target t.text t.setting events state z present)
+  run_beside all shaped stays [] state behind z present sound b is homes = subst (λ (i : CoreState). NamedBeside t i z present) (let same : state ≡ behind = cc in same) b
+  run_beside all shaped stays (event ∷ events) state behind z present sound b is homes =
       of (λ next. run_beside all shaped stays events next behind) (core_event t.target t.setting state event) refl is homes where
-        of : ((next : CoreState) (z : Shadow) → IsSound t.target t.setting next → Beside t next z → core_run t.target t.setting events next ≡ Some behind
-            → HomeIs t.home (shadow_run t.text (run_signs t.target t.setting events next) z) → Beside t behind (shadow_run t.text (run_signs t.target t.setting events next) z))
+        of : ((next : CoreState) (z : Shadow) (present : ℕ → ℕ) → IsSound t.target t.setting next → NamedBeside t next z present → core_run t.target t.setting events next ≡ Some behind
+            → HomeIs t.home (shadow_run t.text (run_signs t.target t.setting events next) z)
+            → NamedBeside t behind (shadow_run t.text (run_signs t.target t.setting events next) z) (present_run t.target t.text t.setting events next z present))
             → (o : Option CoreState) → core_event t.target t.setting state event ≡ o → run_on o (core_run t.target t.setting events) ≡ Some behind
             → HomeIs t.home (shadow_run t.text (event_signs t.target t.setting state event ++ signs_on o (run_signs t.target t.setting events)) z)
-            → Beside t behind (shadow_run t.text (event_signs t.target t.setting state event ++ signs_on o (run_signs t.target t.setting events)) z)
+            → NamedBeside t behind (shadow_run t.text (event_signs t.target t.setting state event ++ signs_on o (run_signs t.target t.setting events)) z)
+            (present_on o (λ next. present_run t.target t.text t.setting events next (shadow_run t.text (event_signs t.target t.setting state event) z) (present_after t.setting (view t.setting state) event z.unused present)) (present_after t.setting (view t.setting state) event z.unused present))
         of more None at runs homes = absurd (let y : None ≡ Some behind = runs in cc)
         of more (Some next) at runs homes =
             let append = run_append t.text (event_signs t.target t.setting state event) (run_signs t.target t.setting events next) z in
             let mid : Shadow = shadow_run t.text (event_signs t.target t.setting state event) z in
             let homes2 : HomeIs t.home (shadow_run t.text (run_signs t.target t.setting events next) mid) = subst (λ (i : Shadow). HomeIs t.home i) append homes in
-            subst (λ (i : Shadow). Beside t behind i) (sym append)
-            (more next mid (stays state next event sound at)
-            (event_beside all event state next z sound (shaped state sound) b (events_seen.moves state next event (shaped state sound) at) (home_before t.text t.home (run_signs t.target t.setting events next) mid homes2))
-            runs homes2)
+            let one = event_beside all event state next z sound (shaped state sound) b.0 (events_seen.moves state next event (shaped state sound) at) (home_before t.text t.home (run_signs t.target t.setting events next) mid homes2) in
+            subst (λ (i : Shadow). NamedBeside t behind i (present_run t.target t.text t.setting events next mid (present_after t.setting (view t.setting state) event z.unused present))) (sym append)
+            (more next mid (present_after t.setting (view t.setting state) event z.unused present) (stays state next event sound at)
+            (one.0, one.1 ∙ ap (present_after t.setting (view t.setting state) event z.unused) b.1) runs homes2)

@@ -3,10 +3,7 @@ pub mod Lifting
 pub mod Homes
 pub mod Induction
 pub mod Agreeing
-pub mod Shadows
 pub mod Refining
-pub mod Starting
-pub mod FirstWords
 pub mod QuietSteps
 pub mod Barring
 pub mod Testing

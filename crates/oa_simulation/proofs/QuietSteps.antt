@@ -32,17 +32,18 @@ use Rattle.core_sound.proofs.Reached.{states_are_sound, states_are_shaped, start
 use Rattle.target_runs.specs.Runnable.{IsRunnable}
 use Rattle.target_runs.proofs.SaneTargets.{runnable_is_sane}
 use Rattle.sim_relation.specs.Views.{Plan, IsPlan, Shared, Caller}
-use Rattle.sim_relation.specs.Callers.{Told, Spotted, SweepAt, ClaimAt}
+use Rattle.sim_relation.specs.Callers.{CallerHolds, HoldsAt, SweepAt, ClaimAt}
 use Rattle.sim_pools.proofs.Slots.{Freed, unguarded}
 use Rattle.sim_steps.specs.Quiet.{is_quiet}
 use Rattle.sim_steps.proofs.Drawing.{quiet_draws_none}
 use Rattle.sim_steps.proofs.Dispatching.{quiet_steps}
-use Rattle.oa_simulation.specs.Shadow.{Shadow, shadow_run, shadow_start, first_home}
+use Rattle.oa_simulation.specs.Shadow.{Shadow, shadow_run, shadow_start}
+use Rattle.sim_starts.specs.FirstNames.{first_home}
 use Rattle.oa_simulation.specs.Beside.{Beside}
 use Rattle.oa_simulation.specs.Relation.{HomeIs, Related, StartIsRelated, QuietStepsKeep, Frees, SweepsSpareGuards, QuietIsKept}
 use Rattle.oa_simulation.proofs.Homes.{undrawn}
 use Rattle.oa_simulation.proofs.Induction.{step_beside, signs_are}
-use Rattle.oa_simulation.proofs.FirstWords.{first_words}
+use Rattle.sim_starts.proofs.FirstWords.{first_words}
 use Rattle.oa_simulation.proofs.Refining.{start_beside, either}
 
 -- slots of the names make a plan
@@ -68,8 +69,8 @@ start_related target text setting runs own fits =
       home = home;
       null = null;
       homes = λ n lt. refl;
-      beside = start_beside t (is_plan target text setting home runs own fits null) own (start_is_seen target setting) (start_suits target text setting runs own fits).suits
-          (first_words t runs own fits (λ n lt. refl));
+      beside = (start_beside t (is_plan target text setting home runs own fits null) own (start_is_seen target setting) (start_suits target text setting runs own fits).suits
+          (first_words t runs own fits (λ n lt. refl))).0;
     }
 
 pub quiet_kept : (target : Target) (text : Text) (setting : Setting) → IsRunnable target text → IsSetting setting → Fits target setting → IsProper text → QuietStepsKeep target text setting
@@ -90,8 +91,8 @@ quiet_kept target text setting runs own fits proper state later z c reached rela
       home = home;
       null = related.null;
       homes = homes;
-      beside = step_beside t (is_plan target text setting home runs own fits related.null) (is_quiet target setting) (quiet_steps t (is_plan target text setting home runs own fits related.null)) proper seen
-          state later z c quiet sound shaped related.beside m homes;
+      beside = (step_beside t (is_plan target text setting home runs own fits related.null) (is_quiet target setting) (quiet_steps t (is_plan target text setting home runs own fits related.null)) proper seen
+          state later z c quiet sound shaped related.beside m homes).0;
     }
 
 pub sweeps_spare : (target : Target) (text : Text) (setting : Setting) → SweepsSpareGuards target text setting
@@ -99,9 +100,9 @@ sweeps_spare target text setting state z related c j below frees d r some named 
     let t : Plan = planned target text setting related.home in
     let b : Beside t state z = related.beside in
     let s : Shared = b.w.shared in
-    let told : Told t s c (b.w.who c) = b.holds.told c below in
+    let told : CallerHolds t s c (b.w.who c) = b.holds.told c below in
     let routine : (b.w.who c).entry.routine ≡ Claims frees.claim = ap (λ (e : Entry). e.routine) (b.entry c below) ∙ frees.at in
-    let spot : Spotted t s c (b.w.who c) (Claims frees.claim) = subst (λ (r : Routine). Spotted t s c (b.w.who c) r) routine told.spot in
+    let spot : HoldsAt t s c (b.w.who c) (Claims frees.claim) = subst (λ (r : Routine). HoldsAt t s c (b.w.who c) r) routine told.spot in
     let claim : ClaimAt t s frees.claim.sweep claims.Sweeps = subst (λ (stage : ClaimStage). ClaimAt t s frees.claim.sweep stage) frees.in_sweep spot.0 in
     let sweep : SweepAt t s frees.claim.sweep.bound frees.claim.sweep.gathered (sweeps.MakeReady j frees.phase) =
     subst (λ (stage : SweepStage). SweepAt t s frees.claim.sweep.bound frees.claim.sweep.gathered stage) frees.stage claim in

@@ -1,5 +1,6 @@
 -- Every run of the core is simulated by a run of the source.
-use Rattle.std.proofs.Common.{ℕ, zero, suc, ◌≡◌, ◌<◌, ◌∙◌, Bool, true, false, List, [], replicate, Option, Some, None, sym, ap, subst, refl, arith, if◌then◌else◌}
+use Rattle.std.proofs.Common.{ℕ, zero, suc, ◌≡◌, ◌==◌, ◌<◌, ◌∙◌, ◌&&◌, not, Bool, true, false, List, [], replicate, Option, Some, None, sym, ap, subst, refl, arith, if◌then◌else◌}
+use Rattle.std.proofs.lemmas.Bool.Decides.{nat_tests}
 use Rattle.std.specs.Prelude.{nat_le, slice_get, slice_index, unwrap_or}
 use Rattle.norm_lang.specs.declared.text.Text.{Text}
 use Rattle.target_code.specs.declared.target.Target.{Target}
@@ -25,27 +26,32 @@ use Rattle.oa_words.specs.Starts.{Suits}
 use Rattle.core_runs.specs.Machine.{beginning_of}
 use Rattle.caller_laws.proofs.Methods.{setting_sane}
 use Rattle.sim_relation.specs.Views.{Plan, IsPlan, Caller}
-use Rattle.sim_relation.specs.Callers.{Told, replies_of}
+use Rattle.sim_relation.specs.Callers.{CallerHolds, replies_of}
 use Rattle.core_runs.specs.RunSigns.{run_signs}
 use Rattle.oa_simulation.specs.Shadow.{Shadow, shadow, shadow_start, home_of}
 use Rattle.oa_simulation.specs.Beside.{Beside}
 use Rattle.oa_simulation.specs.Statements.{AgreesWith, Agrees, ForProper, Refines}
 use Rattle.oa_simulation.proofs.Worlds.{no_guarded_ready}
-use Rattle.oa_simulation.proofs.Starting.{IsFirst, first_shared, fine_first}
+use Rattle.sim_starts.proofs.Starting.{IsFirst, first_shared, fine_first}
 use Rattle.caller_steps.specs.Settings.{Fits}
 use Rattle.target_runs.specs.Runnable.{IsRunnable}
 use Rattle.sim_steps.proofs.Dispatching.{steps_keep}
 use Rattle.oa_simulation.specs.Relation.{HomeIs, RunsAreSimulated}
-use Rattle.oa_simulation.proofs.FirstWords.{first_words}
+use Rattle.sim_starts.proofs.FirstWords.{first_words}
 use Rattle.oa_simulation.proofs.Testing.{exchanges_agree}
 use Rattle.oa_simulation.proofs.Homes.{home_stays}
-use Rattle.oa_simulation.proofs.Induction.{run_beside}
+use Rattle.oa_simulation.proofs.Induction.{NamedBeside, run_beside}
+use Rattle.oa_simulation.specs.Present.{first_present, present_in}
 use Rattle.oa_simulation.proofs.Agreeing.{told_agrees}
 use Rattle.oa_simulation.proofs.Lifting.{machine_is, stays_proper}
 use Rattle.oa_simulation.proofs.FactsHold.{facts_hold}
 use Rattle.sim_relation.specs.Points.{point}
 use Rattle.std.proofs.lemmas.Option.{slice_get_within}
 use Rattle.source_machine.specs.declared.event.SourceReply.{SourceReply}
+
+pub either : (b : Bool) → ◌≡◌ {A = ℕ} (if b then 0 else 0) 0
+either true = refl
+either false = refl
 
 no_guard : (r : ℕ) → guard_at no_guards r ≡ 0
 no_guard zero = refl
@@ -74,7 +80,7 @@ first_caller d = record {
   watch = record { got = []; old = [] };
 }
 
-told_first : (t : Plan) (memory : Word → ℕ) (d : ℕ) → ((r : ℕ) → memory (Hazard d r) ≡ 0) → Told t (first_shared t memory) d (first_caller d)
+told_first : (t : Plan) (memory : Word → ℕ) (d : ℕ) → ((r : ℕ) → memory (Hazard d r) ≡ 0) → CallerHolds t (first_shared t memory) d (first_caller d)
 told_first t memory d hazards = record {
   base = record {
     number = refl;
@@ -99,26 +105,34 @@ no_hazard target setting s suits d r = of (in_row setting.sizes (Hazard d r)) re
   of true row = s.memory suits (Hazard d r) row
   of false row = ap (λ (b : Bool). if b then slice_index (core_start target setting).words (address_of setting.sizes (Hazard d r)) else 0) row
 
+-- the relation's first names are the run's
+first_names : (nodes j : ℕ) → (if not (j == 0) && nat_le j nodes then j else 0) ≡ first_present nodes j
+first_names nodes zero = sym (either (nat_le 0 nodes))
+first_names nodes (suc j) = let some : (suc j == 0) ≡ false = grind (arith, nat_tests) in rw some refl
+
 -- the start beside its shadow
 pub start_beside : (t : Plan) → IsPlan t → IsSetting t.setting → StartIsSeen t.target t.setting → Suits t.setting.sizes (beginning_of t.target t.setting) → IsFirst t (view t.setting (core_start t.target t.setting)).memory
-    → Beside t (core_start t.target t.setting) (shadow_start t.text t.setting)
-start_beside t plan own start suits first = record {
-  w = record { shared = first_shared t (view t.setting (core_start t.target t.setting)).memory; who = first_caller };
-  v = watched_start t.text t.setting.sizes.callers;
-  holds = record {
-    fine = fine_first t (view t.setting (core_start t.target t.setting)).memory plan first;
-    told = λ d lt. told_first t (view t.setting (core_start t.target t.setting)).memory d (no_hazard t.target t.setting start suits d);
-  };
-  memory = refl;
-  entry = λ d lt. sym (start.who d);
-  sourced = record { run = record { some = own.sizes.0; few = own.sizes.1; runs = refl }; watched = refl };
-  source = refl;
-  caller = λ d lt. all_idle t.setting.sizes.callers d lt;
-  run = λ d lt. refl;
-  unused = refl;
-  called = λ d lt busy. absurd (let e : is_idle ((view t.setting (core_start t.target t.setting)).who d).routine ≡ true = ap (λ (e : Entry). is_idle e.routine) (start.who d) in
-      let z : true ≡ false = sym e ∙ busy in cc);
-}
+    → NamedBeside t (core_start t.target t.setting) (shadow_start t.text t.setting) (first_present t.setting.nodes)
+start_beside t plan own start suits first = (
+  record {
+    w = record { shared = first_shared t (view t.setting (core_start t.target t.setting)).memory; who = first_caller };
+    v = watched_start t.text t.setting.sizes.callers;
+    holds = record {
+      fine = fine_first t (view t.setting (core_start t.target t.setting)).memory plan first;
+      told = λ d lt. told_first t (view t.setting (core_start t.target t.setting)).memory d (no_hazard t.target t.setting start suits d);
+    };
+    memory = refl;
+    entry = λ d lt. sym (start.who d);
+    sourced = record { run = record { some = own.sizes.0; few = own.sizes.1; runs = refl }; watched = refl };
+    source = refl;
+    caller = λ d lt. all_idle t.setting.sizes.callers d lt;
+    run = λ d lt. refl;
+    unused = refl;
+    called = λ d lt busy. absurd (let e : is_idle ((view t.setting (core_start t.target t.setting)).who d).routine ≡ true = ap (λ (e : Entry). is_idle e.routine) (start.who d) in
+        let z : true ≡ false = sym e ∙ busy in cc);
+  },
+  λ i j. first_names t.setting.nodes j i,
+)
 
 state_agrees : (t : Plan) (state : CoreState) (z : Shadow) → IsSound t.target t.setting state → Beside t state z → Agrees state z.machine
 state_agrees t state z s b c e at =
@@ -131,21 +145,19 @@ state_agrees t state z s b c e at =
     subst (λ (i : List SourceReply). AgreesWith (is_idle e.routine) (replies_of e) i) same
     (subst (λ (i : Entry). AgreesWith (is_idle i.routine) (replies_of i) (b.w.who c).source.replies) own (told_agrees t b.w.shared c (b.w.who c) (b.holds.told c lt)))
 
-pub either : (b : Bool) → ◌≡◌ {A = ℕ} (if b then 0 else 0) 0
-either true = refl
-either false = refl
-
 -- every reachable state stands beside its shadow
-abbrev plan_of : Target → Text → Setting → List CoreEvent → Plan
+abbrev pub plan_of : Target → Text → Setting → List CoreEvent → Plan
 plan_of target text setting events = record { target = target; text = text; setting = setting; home = home_of target text setting events }
 
-record Stood (target : Target) (text : Text) (setting : Setting) (events : List CoreEvent) (state : CoreState) : Type 0 where
-  plan : IsPlan (plan_of target text setting events)
-  sound : IsSound target setting state
-  beside : Beside (plan_of target text setting events) state (shadow target text setting events)
+pub record Stood (target : Target) (text : Text) (setting : Setting) (events : List CoreEvent) (state : CoreState) : Type 0 where
+  pub plan : IsPlan (plan_of target text setting events)
+  pub sound : IsSound target setting state
+  pub beside : Beside (plan_of target text setting events) state (shadow target text setting events)
+  -- the relation's names are the run's
+  pub present : beside.w.shared.present ≡ present_in target text setting events
 
 -- what holds of every core run
-stands : ForProper Stood
+pub stands : ForProper Stood
 stands target text setting events state runs own fits proper is =
     let t : Plan = record { target = target; text = text; setting = setting; home = home_of target text setting events } in
     let z0 : Shadow = shadow_start text setting in
@@ -166,8 +178,8 @@ stands target text setting events state runs own fits proper is =
     let b = run_beside t plan (λ e. true) (steps_keep t plan) proper (events_are_seen target setting) (λ e. refl)
     (λ s sound. sound_is_shaped target setting s (methods target text runs) (setting_sane setting own) fits sound)
     (λ s next event sound at. event_sound target setting s next event (methods target text runs) (setting_sane setting own) fits sound at)
-    events (core_start target setting) state z0 sound0 first is (λ n lt. refl) in
-    record { plan = plan; sound = sound; beside = b }
+    events (core_start target setting) state z0 (first_present setting.nodes) sound0 first is (λ n lt. refl) in
+    record { plan = plan; sound = sound; beside = b.0; present = b.1 }
 
 pub simulates : (target : Target) (text : Text) (setting : Setting) → IsRunnable target text → IsSetting setting → Fits target setting → RunsAreSimulated target text setting
 simulates target text setting runs own fits proper events state is =

@@ -42,8 +42,8 @@ use Rattle.run_ahead.specs.Standing.{Call, stands_at, stands_in_list, running_at
 use Rattle.run_ahead.proofs.Plain.{at_place, kind_right}
 use Rattle.run_ahead.proofs.Quiet.{stands_there}
 use Rattle.sim_relation.specs.Views.{Plan, IsPlan, Shared, Caller}
-use Rattle.sim_relation.specs.Shared.{Fine}
-use Rattle.sim_relation.specs.Callers.{Told, Spotted, Calm, Trail, Running as CallerRuns, InExecutor, spared, spot_of}
+use Rattle.sim_relation.specs.Shared.{SharedHolds}
+use Rattle.sim_relation.specs.Callers.{CallerHolds, HoldsAt, Calm, Trail, Running as CallerRuns, InExecutor, spared, spot_of}
 use Rattle.sim_relation.specs.Points.{IsProperPoint, point, done}
 use Rattle.sim_relation.proofs.Codes.{instr_is}
 use Rattle.sim_pools.proofs.Core.{wants_is}
@@ -95,14 +95,14 @@ cas_there (Some (Plain _)) entry is = absurd (let z : None ≡ Some entry = is i
 
 -- ---- one caller
 
-module _ (t : Plan) (s : Shared) (c : ℕ) (x : Caller) (plan : IsPlan t) (f : Fine t s) (told : Told t s c x) (proper : IsProperPoint (point s x)) where
+module _ (t : Plan) (s : Shared) (c : ℕ) (x : Caller) (plan : IsPlan t) (f : SharedHolds t s) (told : CallerHolds t s c x) (proper : IsProperPoint (point s x)) where
   abbrev TestsAgree : CasEntry → WordAccess → Type 0
   TestsAgree entry a = succeeds entry x.entry.hand.registers (s.memory (word_of a)) ≡ caller_makes t.text s.source (Some x.source)
 
   -- an auxiliary exchange
   cas_agrees : (entry : CasEntry) (l : ℕ) → x.entry.routine ≡ At → instr_in t.target x.entry ≡ Some (Plain (instr.Cas entry l)) → TestsAgree entry (exchange_wanted entry x.entry.hand.registers)
   cas_agrees entry l at is =
-      let run : CallerRuns t s c x (spot_of x.entry.hand) = subst (λ (r : Routine). Spotted t s c x r) at told.spot in
+      let run : CallerRuns t s c x (spot_of x.entry.hand) = subst (λ (r : Routine). HoldsAt t s c x r) at told.spot in
       let m : Trail t = run.0 in
       let here : slice_get (code_in run.0.walk.method) x.entry.hand.at ≡ Some (Plain (instr.Cas entry l)) = sym (instr_is t s c x (spot_of x.entry.hand) run.0 run.1) ∙ is in
       let offered : Offers t s c (spared t run.0.walk) x.entry.hand.registers run.0.mirror entry = offers t s c x run.0 (instr.Cas entry l) 0 entry (record {
@@ -128,7 +128,7 @@ module _ (t : Plan) (s : Shared) (c : ℕ) (x : Caller) (plan : IsPlan t) (f : F
   -- an exchange of the list
   entry_agrees : (k : ℕ) (entry : CasEntry) → x.entry.routine ≡ InCoreList k → slice_get (list_of (instr_in t.target x.entry)) k ≡ Some entry → TestsAgree entry (exchange_wanted entry x.entry.hand.registers)
   entry_agrees k entry at one =
-      let run : InExecutor t s c x k = subst (λ (r : Routine). Spotted t s c x r) at told.spot in
+      let run : InExecutor t s c x k = subst (λ (r : Routine). HoldsAt t s c x r) at told.spot in
       let commit = list_there (instr_in t.target x.entry) k (slice_get_within (list_of (instr_in t.target x.entry)) k entry one) in
       let here : slice_get (code_in run.0.walk.method) x.entry.hand.at ≡ Some (Plain (instr.Commit commit.0)) = sym (instr_is t s c x (spot_of x.entry.hand) run.0 run.1) ∙ commit.1 in
       let listed : slice_get commit.0 k ≡ Some entry = sym (ap (λ (o : Option TargetInstr). slice_get (list_of o) k) commit.1) ∙ one in

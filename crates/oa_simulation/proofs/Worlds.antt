@@ -8,21 +8,22 @@ use Rattle.source_machine.specs.MethodRuns.{put}
 use Rattle.source_machine.specs.Proper.{has}
 use Rattle.source_machine.proofs.Places.{each_put}
 use Rattle.sim_relation.specs.Views.{Plan, IsPlan, Shared}
-use Rattle.sim_relation.specs.Shared.{Fine}
-use Rattle.sim_relation.specs.Callers.{Told}
-use Rattle.sim_relation.specs.Steps.{Kept}
+use Rattle.sim_relation.specs.Shared.{SharedHolds}
+use Rattle.sim_relation.specs.Callers.{CallerHolds}
+use Rattle.sim_relation.specs.Steps.{KeptWith}
+use Rattle.run_ahead.specs.Guards.{GuardRow}
 use Rattle.sim_relation.specs.Worlds.{World, Holds}
 use Rattle.sim_relation.proofs.Stable.{stable}
 use Rattle.sim_pools.proofs.Slots.{in_pool}
 
-pub holds_on : (t : Plan) (w : World) (c : ℕ) (memory' : Word → ℕ) (m : Moved) → IsPlan t → Holds t w → (k : Kept t c w.shared (w.who c) memory' m) → Holds t (record { shared = k.s'; who = put w.who c k.x' })
-holds_on t w c memory' m plan h k = record {
+pub holds_on : (t : Plan) (w : World) (c : ℕ) (row : GuardRow) (memory' : Word → ℕ) (m : Moved) (present' : ℕ → ℕ) → IsPlan t → Holds t w → (k : KeptWith t c w.shared (w.who c) row memory' m present') → Holds t (record { shared = k.s'; who = put w.who c k.x' })
+holds_on t w c row memory' m present' plan h k = record {
   fine = k.fine;
-  told = each_put (λ d x. d < t.setting.sizes.callers → Told t k.s' d x) w.who c k.x' (λ lt. k.told) (λ d ne lt. stable t c d w.shared k.s' (w.who d) plan k.goes h.fine k.fine ne (h.told d lt));
+  told = each_put (λ d x. d < t.setting.sizes.callers → CallerHolds t k.s' d x) w.who c k.x' (λ lt. k.told) (λ d ne lt. stable t c d w.shared k.s' (w.who d) plan k.goes h.fine k.fine ne (h.told d lt));
 }
 
 -- no validated guard names a ready slot
-pub no_guarded_ready : (t : Plan) (s : Shared) → Fine t s → (c r q : ℕ) → s.protects c r ≢ 0 → s.memory (Status (s.memory (Hazard c r))) ≡ status_word q kinds.Ready → ⊥
+pub no_guarded_ready : (t : Plan) (s : Shared) → SharedHolds t s → (c r q : ℕ) → s.protects c r ≢ 0 → s.memory (Status (s.memory (Hazard c r))) ≡ status_word q kinds.Ready → ⊥
 no_guarded_ready t s f c r q some ready =
     let g = f.guard c r some in
     let j : ℕ = s.memory (Hazard c r) in

@@ -1,4 +1,5 @@
 pub mod Shadow
+pub mod Present
 pub mod Statements
 pub mod Beside
 pub mod Relation

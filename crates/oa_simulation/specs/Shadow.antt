@@ -2,7 +2,7 @@
 --
 -- It is a fold of the run's signs. Each `new` draws the least name above all used ones, initial nodes being named from 1 on; no name
 -- is read, in the core's words or registers or anywhere else.
-use Rattle.std.specs.Prelude.{ℕ, ◌+◌, Bool, true, false, List, [], ◌∷◌, ◌++◌, nat_le, if◌then◌else◌}
+use Rattle.std.specs.Prelude.{ℕ, ◌+◌, Bool, true, false, List, [], ◌∷◌, ◌++◌}
 use Rattle.norm_lang.specs.declared.text.Text.{Text}
 use Rattle.target_code.specs.declared.target.Target.{Target}
 use Rattle.source_machine.specs.declared.event.SourceEvent.{SourceEvent}
@@ -15,6 +15,7 @@ use Rattle.caller_steps.specs.Signs.{Sign, Draws, Renews}
 use Rattle.core_runs.specs.Machine.{CoreEvent, core_start}
 use Rattle.core_runs.specs.RunSigns.{Signed, run_signs}
 use Rattle.sim_relation.specs.Points.{event_of, unused_after}
+use Rattle.sim_starts.specs.FirstNames.{first_home}
 
 -- the source's machine, the least name above all used ones, the names' slots, and the source's events so far
 pub record Shadow : Type 0 where
@@ -56,10 +57,6 @@ shadow_step text z x =
 abbrev pub shadow_run : Text → List Signed → Shadow → Shadow
 shadow_run text [] z = z
 shadow_run text (x ∷ xs) z = shadow_run text xs (shadow_step text z x)
-
--- an initial node's name is its number, and so is its slot; slot 0 is null's
-abbrev pub first_home : ℕ → ℕ → ℕ
-first_home nodes n = if nat_le n nodes then n else 0
 
 abbrev pub shadow_start : Text → Setting → Shadow
 shadow_start text setting = record {

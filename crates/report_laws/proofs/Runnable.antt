@@ -35,15 +35,14 @@ no_more n m is = of (nat_lt n m) refl is where
 counted : (most n : ℕ) → is_count most n ≡ true → (1 ≤ n) × (n ≤ most)
 counted most n is = let parts = both_true (nat_le 1 n) (nat_le n most) is in (at_most 1 n parts.0, at_most n most parts.1)
 
-pub setting_is : (document : Document) → IsRunnable document → IsSetting (setting_of document)
-setting_is document runs = record { sizes = sizes; first = first.0; phases = later.0; last = later.1; nodes = nodes } where
+module _ (document : Document) (runs : IsRunnable document) where
   whole : (setting_fault document ≡ None) × (first_of (scripts_fault document.text.ops document.scripts ∷ []) ≡ None)
   whole = both (setting_fault document) (first_of (scripts_fault document.text.ops document.scripts ∷ [])) runs.shape
 
-  rest : List (Option ShapeFault)
+  abbrev rest : List (Option ShapeFault)
   rest = fault_unless 7 (is_count most_fuel document.fuel) ∷ []
 
-  after_sizes : List (Option ShapeFault)
+  abbrev after_sizes : List (Option ShapeFault)
   after_sizes = fault_unless 5 (not (nat_lt document.slots (length document.text.nodes))) ∷ fault_unless 6 (are_phases document.first document.last) ∷ rest
 
   setting : (sizes_fault (sizes_of document) ≡ None) × (first_of after_sizes ≡ None)
@@ -76,3 +75,10 @@ setting_is document runs = record { sizes = sizes; first = first.0; phases = lat
 
   later : (document.first ≤ document.last) × (document.last ≤ 2 ^ 61)
   later = let parts = both_true (nat_le document.first document.last) (nat_le document.last (2 ^ 61)) first.1 in (at_most document.first document.last parts.0, at_most document.last (2 ^ 61) parts.1)
+
+  pub setting_is : IsSetting (setting_of document)
+  setting_is = record { sizes = sizes; first = first.0; phases = later.0; last = later.1; nodes = nodes }
+
+  -- each call may make a step
+  pub fuel_is : 1 ≤ document.fuel
+  fuel_is = (counted most_fuel document.fuel (passed 7 (is_count most_fuel document.fuel) [] phased.1).0).0

@@ -1,13 +1,12 @@
 -- The lines of a report are true of the run in whose end it was made.
-use Rattle.std.proofs.Common.{◌≡◌, ◌≤◌, ◌<◌, ℕ, zero, suc, ◌+◌, ◌-◌, ◌^◌, Bool, true, false, ◌&&◌, not, ◌==◌, eq-eqb, List, [], ◌∷◌, ◌++◌, length, map, Option, Some, None, refl, sym, ap, ◌∙◌, subst, arith}
-use Rattle.std.proofs.lemmas.Bool.{eqb-true}
+use Rattle.std.proofs.Common.{◌≡◌, ◌≤◌, ℕ, zero, suc, ◌+◌, Bool, true, false, List, [], ◌∷◌, ◌++◌, length, map, Option, Some, None, refl, sym, ap, ◌∙◌, subst, arith}
 use Rattle.std.proofs.lemmas.List.{length-map}
 use Rattle.std.proofs.lemmas.List.Recursion.{is_sum_by}
-use Rattle.std.proofs.lemmas.List.Elements.{All-nil, All-cons, All-append}
-use Rattle.std.proofs.lemmas.Option.{slice_get-map}
-use Rattle.std.specs.Prelude.{slice_get, min}
-use Rattle.std.specs.List.{All, sum_by}
+use Rattle.std.specs.Prelude.{slice_get}
+use Rattle.std.specs.List.{sum_by}
 use Rattle.std.specs.Option.{option_map}
+use Rattle.norm_lang.specs.Shipped.{queue_text}
+use Rattle.source_machine.specs.Proper.{IsProper}
 use Rattle.target_runs.specs.Runnable.{IsRunnable as MayRun}
 use Rattle.target_code.specs.declared.target.Target.{Target}
 use Rattle.barrier_compiler.specs.Laws.{SecondSchemeIsBarred, SecondSchemeIsWithin}
@@ -19,36 +18,31 @@ use Rattle.caller_steps.specs.Pairing.{reply_of, run_of}
 use Rattle.caller_steps.specs.Settings.{Setting, Fits, IsSetting}
 use Rattle.caller_steps.specs.Entries.{Entry, is_idle}
 use Rattle.core_runs.specs.Machine.{CoreState, CoreEvent, Reachable, core_run, core_start}
-use Rattle.core_runs.specs.Histories.{running_of, calls_of, calls_in}
+use Rattle.core_runs.specs.Histories.{running_of, calls_in}
 use Rattle.core_runs.proofs.Keeping.{kept_calls}
 use Rattle.core_sound.proofs.Reached.{states_are_sound}
-use Rattle.claim_laws.specs.CallSteps.{StepMade, steps_of_call}
+use Rattle.claim_laws.specs.CallSteps.{steps_of_call}
 use Rattle.claim_laws.specs.Causes.{FoundNeither, IsCaused, RepliesAreCaused}
-use Rattle.claim_laws.specs.Full.{claims_in, FullTakesClaims}
+use Rattle.claim_laws.specs.Full.{claims_in}
 use Rattle.claim_laws.proofs.Following.{replies_caused}
 use Rattle.claim_laws.proofs.Filling.{full_takes}
-use Rattle.documents.specs.declared.document.ScriptCall.{ScriptCall}
 use Rattle.documents.specs.declared.document.Document.{Document}
-use Rattle.documents.specs.DocumentLimits.{IsWithinDocumentLimits}
 use Rattle.script_plans.specs.Shapes.{setting_of}
-use Rattle.script_plans.specs.Plans.{target_of, calls_of as scripts_of, IsRunnable}
-use Rattle.script_driver.specs.declared.report.Answer.{Answer}
+use Rattle.script_plans.specs.Plans.{target_of, calls_of as scripts_of}
 use Rattle.script_driver.specs.declared.report.Answer.TheVariants as answers
-use Rattle.script_driver.specs.declared.report.ReportLine.{ReportLine}
-use Rattle.script_driver.specs.Reports.{answer_from, answer_by, answer_in, line_of, lines_from, all_lines, claims_of, capped, report_of}
+use Rattle.script_driver.specs.Reports.{answer_from, answer_in, claims_of, capped, report_of}
 use Rattle.script_driver.specs.Runs.{IsCompleteRunOf}
-use Rattle.report_laws.specs.Fuel.{replies_of, reply_to, IsOutOfFuel, RunsStill, SpentCallsRanOut}
-use Rattle.report_laws.specs.Lines.{IsTrueAnswer, IsTrueLine, TakesClaims, TellsOf, ReportsAreTrue}
+use Rattle.report_laws.specs.Fuel.{replies_of, reply_to, IsOutOfFuel, RunsStill}
+use Rattle.report_laws.specs.Sources.{HasSourceRun}
+use Rattle.report_laws.specs.Lines.{IsTrueAnswer, IsTrueLine, TakesClaims, ReportsAreTrue}
+use Rattle.report_laws.proofs.NeverFull.{never_full}
+use Rattle.report_laws.proofs.EachLine.{runs_true, runs_false, replied_is, still, answer_is, told_reply, every_line}
 use Rattle.report_laws.proofs.RunningOut.{ran_out}
-use Rattle.report_laws.proofs.Runnable.{setting_is}
+use Rattle.report_laws.proofs.Runnable.{setting_is, fuel_is}
+use Rattle.report_laws.proofs.Sourced.{SetsAreProper, named_is_proper, has_source_run}
 use Rattle.report_laws.proofs.Unanswered.{never_taken, finds_nothing, running_found}
 
 -- ---- lists
-
-entry_there : (es : List Entry) (c : ℕ) → c < length es → (e : Entry) × (slice_get es c ≡ Some e)
-entry_there [] c lt = absurd (omega (arith, lt))
-entry_there (e ∷ es) zero lt = (e, refl)
-entry_there (e ∷ es) (suc c) lt = entry_there es c (omega (arith, lt))
 
 taken_there : (xs : List Replied) (more : List Running) (i : ℕ) (x : Replied) → slice_get xs i ≡ Some x → slice_get (map run_of xs ++ more) i ≡ Some (run_of x)
 taken_there [] more i x is = absurd (let z : None ≡ Some x = is in cc)
@@ -57,22 +51,6 @@ taken_there (y ∷ xs) more (suc i) x is = taken_there xs more i x is
 
 summed : (es : List Entry) → claims_in es ≡ sum_by claims_of es
 summed = is_sum_by claims_in claims_of refl (λ e es. refl)
-
--- ---- whether a call runs
-
-abbrev runs_at : Bool → ℕ → ℕ → Bool
-runs_at idle i n = not idle && (i == n)
-
-runs_true : (idle : Bool) (i n : ℕ) → runs_at idle i n ≡ true → (idle ≡ false) × (i ≡ n)
-runs_true true i n is = cc
-runs_true false i n is = (refl, eqb-true i n is)
-
-runs_false : (idle : Bool) (i n : ℕ) → runs_at idle i n ≡ false → idle ≡ false → i ≡ n → ⊥
-runs_false true i n is busy same = let z : true ≡ false = busy in cc
-runs_false false i n is busy same = let z : true ≡ false = sym (eq-eqb i n same) ∙ is in cc
-
-replied_is : (a b : Reply) → answers.Replied a ≡ answers.Replied b → a ≡ b
-replied_is a b is = cc
 
 some_same : (a b : Replied) → Some a ≡ Some b → a ≡ b
 some_same a b is = cc
@@ -90,9 +68,6 @@ module _ (document : Document) (events : List CoreEvent) (state : CoreState) (co
   module _ (c : ℕ) (e : Entry) (there : slice_get state.entries c ≡ Some e) (i : ℕ) where
     runs : core_run target setting events (core_start target setting) ≡ Some state
     runs = complete.run.runs
-
-    abbrev still : Bool
-    still = runs_at (is_idle e.routine) i (length (map reply_of e.replies))
 
     replies_are : reply_to state c i ≡ slice_get e.replies i
     replies_are = ap (λ (o : Option Entry). slice_get (replies_of o) i) there
@@ -116,7 +91,7 @@ module _ (document : Document) (events : List CoreEvent) (state : CoreState) (co
       taken : slice_get (calls_in c events) i ≡ Some (run_of replied)
       taken = sym (ap (λ (l : List Running). slice_get l i) (kept_calls target setting events state c e runs there)) ∙ taken_there e.replies (running_of (is_idle e.routine) e) i replied is
 
-    untold : slice_get e.replies i ≡ None → (b : Bool) → still ≡ b → IsTrueAnswer document events state c i (answer_from None b)
+    untold : slice_get e.replies i ≡ None → (b : Bool) → still e i ≡ b → IsTrueAnswer document events state c i (answer_from None b)
     untold none true is = record {
       phases = λ p. ((λ z. absurd cc), (λ found. absurd (neither.phases p found)));
       full = ((λ z. absurd cc), (λ failed. absurd (neither.full failed)));
@@ -143,49 +118,23 @@ module _ (document : Document) (events : List CoreEvent) (state : CoreState) (co
       neither : FoundNeither setting (steps_of_call target setting events c i)
       neither = finds_nothing target setting own.sizes.2 events state runs c e there i never
 
-    answer_is : answer_in state c i ≡ answer_from (option_map reply_of (slice_get e.replies i)) still
-    answer_is = ap (λ (o : Option Entry). answer_by o i) there ∙ ap (λ (o : Option Reply). answer_from o still) (slice_get-map reply_of e.replies i)
-
     true_answer : IsTrueAnswer document events state c i (answer_in state c i)
-    true_answer = subst (IsTrueAnswer document events state c i) (sym answer_is) (of (slice_get e.replies i) refl) where
-      of : (o : Option Replied) → slice_get e.replies i ≡ o → IsTrueAnswer document events state c i (answer_from (option_map reply_of o) still)
-      of None none = untold none still refl
+    true_answer = subst (IsTrueAnswer document events state c i) (sym (answer_is state c e there i)) (of (slice_get e.replies i) refl) where
+      of : (o : Option Replied) → slice_get e.replies i ≡ o → IsTrueAnswer document events state c i (answer_from (option_map reply_of o) (still e i))
+      of None none = untold none (still e i) refl
       of (Some replied) is = told replied is
-
-    -- the reply that an answer is
-    told_reply : (reply : Reply) → answer_in state c i ≡ answers.Replied reply → (replied : Replied) × (slice_get e.replies i ≡ Some replied) × (replied.reply ≡ reply)
-    told_reply reply is = of (slice_get e.replies i) refl (sym answer_is ∙ is) where
-      un : (b : Bool) → answer_from None b ≡ answers.Replied reply → ⊥
-      un true z = cc
-      un false z = cc
-
-      of : (o : Option Replied) → slice_get e.replies i ≡ o → answer_from (option_map reply_of o) still ≡ answers.Replied reply
-          → (replied : Replied) × (slice_get e.replies i ≡ Some replied) × (replied.reply ≡ reply)
-      of None none z = absurd (un still z)
-      of (Some replied) there z = (replied, there, replied_is replied.reply reply z)
-
--- ---- all lines
-
-module _ (state : CoreState) (P : ReportLine → Type 0) (each : (c i : ℕ) (call : ScriptCall) (e : Entry) → slice_get state.entries c ≡ Some e → P (line_of c i call (answer_in state c i))) where
-  each_line : (c i : ℕ) (e : Entry) (script : List ScriptCall) → slice_get state.entries c ≡ Some e → All P (lines_from (answer_in state c) c i script)
-  each_line c i e [] there = All-nil P
-  each_line c i e (call ∷ script) there =
-      All-cons P (line_of c i call (answer_in state c i)) (lines_from (answer_in state c) c (i + 1) script) (each c i call e there) (each_line c (i + 1) e script there)
-
-  every_line : (c : ℕ) (scripts : List (List ScriptCall)) → c + length scripts ≡ length state.entries → All P (all_lines (answer_in state) c scripts)
-  every_line c [] count = All-nil P
-  every_line c (script ∷ scripts) count =
-      let e = entry_there state.entries c (omega (arith, count)) in
-      All-append P (lines_from (answer_in state c) c 0 script) (all_lines (answer_in state) (c + 1) scripts) (each_line c 0 e.0 script e.1) (every_line (c + 1) scripts (omega (arith, count)))
 
 -- ---- the report
 
-pub reports_true : SecondSchemeIsBarred → SecondSchemeIsWithin → ReportsAreTrue
-reports_true barred small document events state within can complete = record {
+pub reports_true : SecondSchemeIsBarred → SecondSchemeIsWithin → SetsAreProper → IsProper queue_text → ReportsAreTrue
+reports_true barred small sets queue document events state within can complete = record {
   complete = complete;
   of = refl;
   lines = every_line state (IsTrueLine document events state) (λ c i call e there. true_answer document events state complete own caused c e there i) 0 document.scripts count;
-  full = every_line state (TakesClaims document (capped (sum_by claims_of state.entries))) (λ c i call e there full. enough c i e there (told_reply document events state complete own caused c e there i replies.Full full)) 0 document.scripts count;
+  full = every_line state (TakesClaims document (capped (sum_by claims_of state.entries))) (λ c i call e there full. enough c i e there (told_reply state c e there i replies.Full full)) 0 document.scripts count;
+  proper = sourced;
+  named = λ named. sourced (named_is_proper sets queue document.text named);
+  shipped = never_full document events state complete own may count;
 } where
   own : IsSetting (setting_of document)
   own = setting_is document can
@@ -204,6 +153,9 @@ reports_true barred small document events state within can complete = record {
 
   count : 0 + length document.scripts ≡ length state.entries
   count = let same : length document.scripts ≡ length state.entries = sym (states_are_sound (target_of document) document.text (setting_of document) state may own fits reached).callers in omega (arith, same)
+
+  sourced : IsProper document.text → HasSourceRun document events state (report_of document state)
+  sourced proper = has_source_run document events state may own fits (fuel_is document can) count complete proper
 
   enough : (c i : ℕ) (e : Entry) → slice_get state.entries c ≡ Some e → (replied : Replied) × (slice_get e.replies i ≡ Some replied) × (replied.reply ≡ replies.Full)
       → document.slots ≤ length document.text.nodes + capped (sum_by claims_of state.entries)

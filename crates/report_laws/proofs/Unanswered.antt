@@ -10,7 +10,7 @@ use Rattle.caller_steps.specs.Entries.{Entry, is_idle}
 use Rattle.core_runs.specs.Machine.{CoreState, CoreEvent, core_run, core_start}
 use Rattle.core_runs.specs.Histories.{running_of, calls_of, calls_in}
 use Rattle.core_runs.proofs.Keeping.{kept_calls}
-use Rattle.claim_laws.specs.CallSteps.{StepMade, call_steps, steps_of_call, count_of, StepsAreCounted}
+use Rattle.claim_laws.specs.CallSteps.{StepMade, call_steps, steps_of_call, count_of}
 use Rattle.claim_laws.specs.Causes.{FoundNeither, IsTriedInVain, EndsInVain, RepliesAreCaused}
 use Rattle.claim_laws.proofs.Lasts.{never_nil}
 use Rattle.claim_laws.proofs.Stepping.{steps_are_counted}

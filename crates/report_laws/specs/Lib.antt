@@ -1,3 +1,6 @@
 pub mod Fuel
+pub mod Sources
+pub mod UseLines
+pub mod Shipped
 pub mod Lines
 pub mod Runs

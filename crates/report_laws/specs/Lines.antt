@@ -1,6 +1,7 @@
 -- What the lines of a report say of the run that it tells of.
 use Rattle.std.specs.Prelude.{◌≡◌, ◌↔◌, ℕ, ◌+◌, ◌≤◌, List, length, None, slice_get}
 use Rattle.std.specs.List.{All}
+use Rattle.source_machine.specs.Proper.{IsProper}
 use Rattle.caller_steps.specs.declared.call.Reply.TheVariants as replies
 use Rattle.core_runs.specs.Machine.{CoreState, CoreEvent}
 use Rattle.core_runs.specs.Histories.{calls_in}
@@ -17,6 +18,8 @@ use Rattle.script_driver.specs.declared.report.Report.{Report}
 use Rattle.script_driver.specs.Reports.{report_of}
 use Rattle.script_driver.specs.Runs.{IsCompleteRunOf}
 use Rattle.report_laws.specs.Fuel.{IsOutOfFuel}
+use Rattle.report_laws.specs.Sources.{HasSourceRun, IsNamed}
+use Rattle.report_laws.specs.Shipped.{ShippedIsNeverFull}
 
 -- the steps that were made in a run of a document for a caller's call
 abbrev pub steps_for : Document → List CoreEvent → ℕ → ℕ → List StepMade
@@ -42,12 +45,17 @@ IsTrueLine document events state line = IsTrueAnswer document events state line.
 abbrev pub TakesClaims : Document → ℕ → ReportLine → Type 0
 TakesClaims document claims line = line.answer ≡ answers.Replied replies.Full → document.slots ≤ length document.text.nodes + claims
 
--- a report tells of a complete run of its document: it is that of the state in which the run ends, and its lines are true
+-- a report tells of a complete run of its document: it is that of the state in which the run ends, and its lines are true. Where the
+-- text is proper, the run is one of the text on memory that is never recycled, and the lines are what that one answers; of a text that
+-- a `use` line names nothing is assumed. Of a shipped text no line is full where the slots are enough
 pub record TellsOf (document : Document) (events : List CoreEvent) (state : CoreState) (report : Report) : Type 0 where
   pub complete : IsCompleteRunOf document events state
   pub of : report ≡ report_of document state
   pub lines : All (IsTrueLine document events state) report.lines
   pub full : All (TakesClaims document report.claims) report.lines
+  pub proper : IsProper document.text → HasSourceRun document events state report
+  pub named : IsNamed document.text → HasSourceRun document events state report
+  pub shipped : ShippedIsNeverFull document report
 
 -- of each complete run of each document that can be run
 abbrev pub ReportsAreTrue : Type 0

@@ -1,1 +1,2 @@
 mod FewLines
+mod OneLine

@@ -3,7 +3,9 @@
 //! `|` is a newline, `\xHH` the byte with these two digits, `{NAME}` the lines with this name, and `(N:LINES)` these lines N
 //! times, in which `%` is the copy's number from 0 and `&` are two letters that no other of 676 copies has.
 
-ghost use Rattle.std.specs.Prelude.{◌<◌, IfOk};
+ghost use Rattle.std.specs.Prelude.{◌≡◌, ◌<◌, IfOk};
+ghost use Rattle.std.specs.String.{string_bytes};
+ghost use Rattle.row_spelling.specs.OneLine.{shown, one_line};
 
 use crate::error::RowError;
 use std::alloc::{AllocError, Global};
@@ -142,11 +144,21 @@ pub fn named_lines(
     })
 }
 
+/// The character that stands for a byte in a line.
+fn shown(byte: u8) -> char
+    ensures { result ≡ shown byte }
+{
+    if byte == b'\n' { '|' } else { byte as char }
+}
+
 /// Bytes in one line, with `|` for a newline.
-pub fn one_line(alloc: Global, bytes: &[u8]) -> Result<String, AllocError> {
+#[tactic(auto, using(crate::proofs::OneLine::line_more))]
+pub fn one_line(alloc: Global, bytes: &[u8]) -> Result<String, AllocError>
+    ensures { IfOk result (λ line. string_bytes line ≡ one_line bytes.now) }
+{
     let mut line = String::new(alloc);
     for b in bytes {
-        line.push(if *b == b'\n' { '|' } else { *b as char })?;
+        line.push(shown(*b))?;
     }
     Ok(line)
 }

@@ -7,7 +7,8 @@ mod report;
 mod running;
 
 pub use documents::{Document, Numbers, Script, ScriptCall, Scripts, Turns, read_document};
-pub use printing::{is_partial, show_report};
+pub use printing::{count_short, is_partial, show_report};
 pub use report::{Answer, Report, ReportLine, ReportLines};
 pub use running::{replay_document, run_document};
 pub use script_plans::{RunFault, ShapeFault};
+pub use workload_documents::workload_document;

@@ -138,7 +138,7 @@ fn write_summary<K: Sink>(
 
 /// How many calls didn't return.
 #[tactic(auto, using(crate::proofs::Counting::counts_left))]
-fn count_short(lines: &[ReportLine]) -> usize
+pub fn count_short(lines: &[ReportLine]) -> usize
     ensures { result ≡ count_by is_short_line lines.now }
 {
     let answered = count_answered(lines);

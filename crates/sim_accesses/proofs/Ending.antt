@@ -18,7 +18,7 @@ use Rattle.target_laws.specs.Methods.{code_in}
 use Rattle.run_ahead.proofs.Lists.{lists_are_made}
 use Rattle.target_code.specs.Erasing.{source_place}
 use Rattle.sim_relation.specs.Views.{Plan, IsPlan, Shared, Caller}
-use Rattle.sim_relation.specs.Shared.{Fine}
+use Rattle.sim_relation.specs.Shared.{SharedHolds}
 use Rattle.sim_relation.specs.Callers.{Base, Committed, InExecutor, spared}
 use Rattle.caller_steps.specs.Signs.{Accesses, quiet, told}
 use Rattle.sim_relation.specs.Points.{point}
@@ -29,7 +29,7 @@ use Rattle.sim_exchanges.proofs.Exchanging.{Offers, tests_agree}
 use Rattle.sim_walks.proofs.Committing.{list_ends}
 use Rattle.sim_accesses.proofs.Failing.{fails_stay}
 
-pub entry_fails : (t : Plan) (c : ℕ) (s : Shared) (x : Caller) (k : ℕ) (entry : CasEntry) (entries : List CasEntry) → IsPlan t → Fine t s → Base t s c x → (w : InExecutor t s c x k)
+pub entry_fails : (t : Plan) (c : ℕ) (s : Shared) (x : Caller) (k : ℕ) (entry : CasEntry) (entries : List CasEntry) → IsPlan t → SharedHolds t s → Base t s c x → (w : InExecutor t s c x k)
     → slice_get (code_in w.0.walk.method) x.entry.hand.at ≡ Some (Plain (instr.Commit entries)) → slice_get (list_of (instr_in t.target x.entry)) k ≡ Some entry
     → Offers t s c (spared t w.0.walk) x.entry.hand.registers w.0.mirror entry → exchange entry w.0.mirror s.source ≡ None
     → Kept t c s x (after_access s.memory (exchange_wanted entry x.entry.hand.registers)) (entry_made t.target t.setting.sizes k entry (s.memory (word_of (exchange_wanted entry x.entry.hand.registers))) (counted x.entry))
@@ -60,7 +60,9 @@ entry_fails t c s x k entry entries plan f b w here there offers none =
       s' = s;
       x' = ended.x';
       memory = fails_stay s.memory entry x.entry.hand.registers fails;
+      present = refl;
       entry = ended.entry;
+      names = ended.names;
       plays = plays_first t.text c Accesses _ (point s x) (point s y) (point s ended.x')
           (ap (λ caller. is_enabled_for t.text (events.Access c 0) (Some caller) s.source) w.4 ∙ turns.enabled, (sym (ap (λ turn. turn.memory) turned), refl, sym begun)) refl ended.plays;
       fine = f;

@@ -43,9 +43,9 @@ use Rattle.run_ahead.proofs.Lists.{lists_are_made}
 use Rattle.run_ahead.proofs.Plain.{kind_right}
 use Rattle.run_ahead.proofs.TypedMemory.{register_for, exchange_typed}
 use Rattle.sim_relation.specs.Views.{Plan, IsPlan, Held, Living, Retiring, Shared, Caller, name_of, link, Resident}
-use Rattle.sim_relation.specs.Shared.{Fine}
-use Rattle.sim_relation.specs.Goes.{Goes}
-use Rattle.sim_relation.specs.Callers.{Told, Spotted, IsRetiring, Shown, Base, Trail, Walks, Guards, InExecutor, BehindEntry, spared, spot_of}
+use Rattle.sim_relation.specs.Shared.{SharedHolds}
+use Rattle.sim_relation.specs.MayChange.{MayChange}
+use Rattle.sim_relation.specs.Callers.{CallerHolds, HoldsAt, IsRetiring, Shown, Base, Trail, Walks, Guards, InExecutor, AfterExchange, spared, spot_of}
 use Rattle.sim_relation.specs.Points.{StaysProper, IsProperPoint, point, played, makes, done}
 use Rattle.sim_relation.specs.Steps.{Kept, after_access}
 use Rattle.sim_relation.proofs.Codes.{instr_is}
@@ -61,12 +61,13 @@ use Rattle.sim_exchanges.proofs.Placing.{place_memory, placed, PlaceThere, place
 use Rattle.sim_exchanges.proofs.Dropping.{Drops, drops, untagged}
 use Rattle.sim_accesses.proofs.Ending.{entry_fails}
 use Rattle.sim_accesses.proofs.Objects.{object_openly}
+use Rattle.sim_relation.proofs.Moving.{same_names}
 
 -- the caller stands before an exchange of its list
 pub record AtEntry (t : Plan) (c : ℕ) (s : Shared) (x : Caller) (k : ℕ) (entry : CasEntry) : Type 0 where
   pub plan : IsPlan t
-  pub fine : Fine t s
-  pub told : Told t s c x
+  pub fine : SharedHolds t s
+  pub told : CallerHolds t s c x
   pub at : x.entry.routine ≡ InList k
   pub here : slice_get (list_of (instr_in t.target x.entry)) k ≡ Some entry
   pub proper : StaysProper t.text c (point s x)
@@ -117,7 +118,7 @@ slot_agrees t s c own core mirror entry plan w = of entry.replacement refl where
 abbrev pub IsNew : Plan → Shared → ℕ → ℕ → Type 0
 IsNew t s c n = (n ≡ 0) ⊎ (Resident t s n × ((s.public n ≡ true) ⊎ ((i : ℕ) × (s.owner (t.home n) ≡ Held c i))))
 
-new_of : (t : Plan) (s : Shared) (c : ℕ) (own : ℕ → Bool) (n : ℕ) → Fine t s → IsUnder s c own n → IsNew t s c n
+new_of : (t : Plan) (s : Shared) (c : ℕ) (own : ℕ → Bool) (n : ℕ) → SharedHolds t s → IsUnder s c own n → IsNew t s c n
 new_of t s c own n f (null z) = inl z
 new_of t s c own n f (under r free is some) = inr (
   subst (λ (i : ℕ). Resident t s i) is (f.guard c r (λ z. some (sym is ∙ z))).resident,
@@ -260,8 +261,8 @@ by_retirement t c s x m k entry entries after j w some slot kept =
 
 -- where nothing is retired the next entry follows, or the wrap-up's start
 keeps_on : (t : Plan) (c : ℕ) (s s' : Shared) (x : Caller) (m : Trail t) (k : ℕ) (entry : CasEntry) (entries : List CasEntry) → Tries t c s x m k entry entries → Passes t c s s' (name_of (value_in m.mirror entry.replacement))
-    → exchange entry m.mirror s.source ≡ Some s'.source → s'.memory ≡ after_access s.memory (exchange_wanted entry x.entry.hand.registers) → s'.unused ≡ s.unused → EntryKept t c s x k entry 0
-keeps_on t c s s' x m k entry entries w passes after memory unused = of (nat_lt (k + 1) (length (list_of (instr_in t.target x.entry)))) (λ routine. enters t s s' c x m k n entry cradles routine (enters_at t c s s' x m k entry entries w passes after)) where
+    → exchange entry m.mirror s.source ≡ Some s'.source → s'.memory ≡ after_access s.memory (exchange_wanted entry x.entry.hand.registers) → s'.unused ≡ s.unused → s'.present ≡ s.present → EntryKept t c s x k entry 0
+keeps_on t c s s' x m k entry entries w passes after memory unused present = of (nat_lt (k + 1) (length (list_of (instr_in t.target x.entry)))) (λ routine. enters t s s' c x m k n entry cradles routine (enters_at t c s s' x m k entry entries w passes after)) where
   n : ℕ
   n = name_of (value_in m.mirror entry.replacement)
 
@@ -270,7 +271,7 @@ keeps_on t c s s' x m k entry entries w passes after memory unused = of (nat_lt 
 
   of : (b : Bool)
       → ((routine : Routine) → let y = entered t c s s' x (cradles_after entry.replacement x.entry.hand.registers x.entry.cradles) routine in
-      PlaysEvent t.text (events.Access c 0) s.source x.source x.watch s'.source y.source y.watch × Base t s' c y × BehindEntry t s' c y (k + 1) b)
+      PlaysEvent t.text (events.Access c 0) s.source x.source x.watch s'.source y.source y.watch × Base t s' c y × AfterExchange t s' c y (k + 1) b)
       → Kept t c s x (after_access s.memory (exchange_wanted entry x.entry.hand.registers))
       (told (Accesses ∷ []) (quiet (if b then with_routine (record (counted x.entry) { cradles = cradles_after entry.replacement x.entry.hand.registers x.entry.cradles }) (InList (k + 1))
       else list_ended t.target t.setting.sizes (k + 1) (record (counted x.entry) { cradles = cradles_after entry.replacement x.entry.hand.registers x.entry.cradles }))))
@@ -281,7 +282,9 @@ keeps_on t c s s' x m k entry entries w passes after memory unused = of (nat_lt 
         s' = s';
         x' = y;
         memory = memory;
+        present = present;
         entry = refl;
+        names = same_names x.names false;
         plays = plays_one t.text c Accesses (point s x) (point s' y) e.0 unused;
         fine = passes.fine;
         goes = passes.goes;
@@ -296,7 +299,9 @@ keeps_on t c s s' x m k entry entries w passes after memory unused = of (nat_lt 
         s' = s';
         x' = ended.x';
         memory = memory;
+        present = present;
         entry = ended.entry;
+        names = ended.names;
         plays = plays_first t.text c Accesses _ (point s x) (point s' y) (point s' ended.x') e.0 unused ended.plays;
         fine = passes.fine;
         goes = passes.goes;
@@ -305,8 +310,8 @@ keeps_on t c s s' x m k entry entries w passes after memory unused = of (nat_lt 
 
 -- and a name that is retired goes into the retire routine
 retires_on : (t : Plan) (c : ℕ) (s s' : Shared) (x : Caller) (m : Trail t) (k : ℕ) (entry : CasEntry) (entries : List CasEntry) (j n : ℕ) → Tries t c s x m k entry entries → Passes t c s s' (name_of (value_in m.mirror entry.replacement))
-    → exchange entry m.mirror s.source ≡ Some s'.source → s'.memory ≡ after_access s.memory (exchange_wanted entry x.entry.hand.registers) → s'.unused ≡ s.unused → IsRetiring s' c (suc j) n None → EntryKept t c s x k entry (suc j)
-retires_on t c s s' x m k entry entries j n w passes after memory unused retiring =
+    → exchange entry m.mirror s.source ≡ Some s'.source → s'.memory ≡ after_access s.memory (exchange_wanted entry x.entry.hand.registers) → s'.unused ≡ s.unused → s'.present ≡ s.present → IsRetiring s' c (suc j) n None → EntryKept t c s x k entry (suc j)
+retires_on t c s s' x m k entry entries j n w passes after memory unused present retiring =
     let cradles = cradles_after entry.replacement x.entry.hand.registers x.entry.cradles in
     let routine = Retires (retire_begun (suc j)) (onward.List k) in
     let e = enters t s s' c x m k (name_of (value_in m.mirror entry.replacement)) entry (cradles_after entry.replacement x.entry.hand.registers x.entry.cradles) (Retires (retire_begun (suc j)) (onward.List k)) (enters_at t c s s' x m k entry entries w passes after) in
@@ -315,7 +320,9 @@ retires_on t c s s' x m k entry entries j n w passes after memory unused retirin
       s' = s';
       x' = y;
       memory = memory;
+      present = present;
       entry = refl;
+      names = same_names x.names false;
       plays = plays_one t.text c Accesses (point s x) (point s' y) e.0 unused;
       fine = passes.fine;
       goes = passes.goes;
@@ -364,7 +371,7 @@ retired_kept t c s s1 x m k entry entries after n d is j home =
     by_slot : (j : ℕ) → t.home (suc n) ≡ j → t.home (suc n) ≢ 0 → Passes t c s (dropped t s1 c (suc n)) (name_of (value_in m.mirror entry.replacement)) → exchange entry m.mirror s.source ≡ Some (dropped t s1 c (suc n)).source
         → IsRetiring (dropped t s1 c (suc n)) c (t.home (suc n)) (suc n) None → EntryKept t c s x k entry j
     by_slot zero home ne passes made retiring = absurd (ne home)
-    by_slot (suc j) home ne passes made retiring = retires_on t c s (dropped t s1 c (suc n)) x m k entry entries j (suc n) d.tries passes made (sym d.memory) d.unused
+    by_slot (suc j) home ne passes made retiring = retires_on t c s (dropped t s1 c (suc n)) x m k entry entries j (suc n) d.tries passes made (sym d.memory) d.unused (λ i l. d.present l i)
         (subst (λ (i : ℕ). IsRetiring (dropped t s1 c (suc n)) c i (suc n) None) home retiring)
 
 made_kept : (t : Plan) (c : ℕ) (s s1 : Shared) (x : Caller) (m : Trail t) (k : ℕ) (entry : CasEntry) (entries : List CasEntry) (after : Memory) → Done t c s x m k entry entries (name_of (value_in m.mirror entry.replacement)) s1 after
@@ -373,7 +380,7 @@ made_kept t c s s1 x m k entry entries after d = by_drop (to_drop entry.retire m
   by_drop : (n : ℕ) → to_drop entry.retire m.mirror ≡ n
       → Kept t c s x (after_access s.memory (exchange_wanted entry x.entry.hand.registers)) (entry_made t.target t.setting.sizes k entry (s.memory (word_of (exchange_wanted entry x.entry.hand.registers))) (counted x.entry))
   by_drop zero none = by_retirement t c s x m k entry entries after 0 d.tries d.makes (d.drops.slot ∙ (ap t.home none ∙ d.tries.before.plan.null))
-      (keeps_on t c s s1 x m k entry entries d.tries d.passes (d.makes ∙ ap Some (d.after_is ∙ ap (λ (n : ℕ). with_name_retired n s1.source) none)) (sym d.memory) d.unused)
+      (keeps_on t c s s1 x m k entry entries d.tries d.passes (d.makes ∙ ap Some (d.after_is ∙ ap (λ (n : ℕ). with_name_retired n s1.source) none)) (sym d.memory) d.unused (λ i l. d.present l i))
   by_drop (suc n) is =
       let kept = retired_kept t c s s1 x m k entry entries after n d is (t.home (suc n)) refl in
       by_retirement t c s x m k entry entries after (t.home (suc n)) d.tries d.makes kept.0 kept.1
@@ -381,7 +388,7 @@ made_kept t c s s1 x m k entry entries after d = by_drop (to_drop entry.retire m
 -- an exchange of a list, whether it fails or succeeds, and whatever it retires
 pub entry_step : (t : Plan) (c : ℕ) (s : Shared) (x : Caller) (k : ℕ) (entry : CasEntry) → AtEntry t c s x k entry
     → Kept t c s x (after_access s.memory (exchange_wanted entry x.entry.hand.registers)) (entry_made t.target t.setting.sizes k entry (s.memory (word_of (exchange_wanted entry x.entry.hand.registers))) (counted x.entry))
-entry_step t c s x k entry w = by_spot (subst (λ (r : Routine). Spotted t s c x r) w.at w.told.spot) (commit_there (instr_in t.target x.entry) k entry w.here) where
+entry_step t c s x k entry w = by_spot (subst (λ (r : Routine). HoldsAt t s c x r) w.at w.told.spot) (commit_there (instr_in t.target x.entry) k entry w.here) where
   by_spot : InExecutor t s c x k → (entries : List CasEntry) × (instr_in t.target x.entry ≡ Some (Plain (instr.Commit entries)))
       → Kept t c s x (after_access s.memory (exchange_wanted entry x.entry.hand.registers)) (entry_made t.target t.setting.sizes k entry (s.memory (word_of (exchange_wanted entry x.entry.hand.registers))) (counted x.entry))
   by_spot spot commit =

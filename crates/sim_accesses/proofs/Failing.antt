@@ -28,7 +28,7 @@ use Rattle.run_ahead.specs.Standing.{run_from}
 use Rattle.run_ahead.proofs.Changing.{nothing_changes}
 use Rattle.run_ahead.proofs.Getting.{plain_got}
 use Rattle.sim_relation.specs.Views.{Plan, IsPlan, Shared, Caller}
-use Rattle.sim_relation.specs.Shared.{Fine}
+use Rattle.sim_relation.specs.Shared.{SharedHolds}
 use Rattle.sim_relation.specs.Callers.{Calm, Base, Trail, Stands, Guards, Running, spared, spot_of}
 use Rattle.caller_steps.specs.Signs.{Accesses, told}
 use Rattle.sim_relation.specs.Points.{point}
@@ -103,7 +103,7 @@ failure_takes t s c x m entry l accessed w st guards none marked =
     goes l = grind (arith, nat_tests)
 
 -- a failed auxiliary exchange, and the local code after it
-pub failure_kept : (t : Plan) (c : ℕ) (s : Shared) (x : Caller) (entry : CasEntry) (l : ℕ) → IsPlan t → Fine t s → Base t s c x → (walk : Running t s c x (spot_of x.entry.hand))
+pub failure_kept : (t : Plan) (c : ℕ) (s : Shared) (x : Caller) (entry : CasEntry) (l : ℕ) → IsPlan t → SharedHolds t s → Base t s c x → (walk : Running t s c x (spot_of x.entry.hand))
     → slice_get (code_in walk.0.walk.method) x.entry.hand.at ≡ Some (Plain (instr.Cas entry l)) → Offers t s c (spared t walk.0.walk) x.entry.hand.registers walk.0.mirror entry → exchange entry walk.0.mirror s.source ≡ None
     → Kept t c s x (after_access s.memory (exchange_wanted entry x.entry.hand.registers)) (plain_accepted t.target t.setting.sizes (instr.Cas entry l) (s.memory (word_of (exchange_wanted entry x.entry.hand.registers))) (counted x.entry))
 failure_kept t c s x entry l plan f base walk here offers none =
@@ -122,7 +122,9 @@ failure_kept t c s x entry l plan f base walk here offers none =
       s' = s;
       x' = ended.x';
       memory = fails_stay s.memory entry x.entry.hand.registers fails;
+      present = refl;
       entry = ended.entry;
+      names = ended.names;
       plays = plays_first t.text c Accesses _ (point s x) (point s z) (point s ended.x') taken.0 refl ended.plays;
       fine = f;
       goes = goes_same t s c;

@@ -53,7 +53,7 @@ use Rattle.run_ahead.proofs.Plain.{at_place, kind_right}
 use Rattle.run_ahead.proofs.Telling.{told_trusted}
 use Rattle.run_ahead.proofs.TypedMemory.{FindsFor, root_finds, field_finds, pick_finds}
 use Rattle.sim_relation.specs.Views.{Plan, IsPlan, Null, Held, Shared, Caller, word_for, name_of, Resident}
-use Rattle.sim_relation.specs.Shared.{Fine}
+use Rattle.sim_relation.specs.Shared.{SharedHolds}
 use Rattle.sim_relation.specs.Callers.{Known, Shown, Calm, Base, Trail, Walks, Stands, Gets, Guards, Running, spot_of}
 use Rattle.sim_relation.specs.Allowing.{IsProperFor}
 use Rattle.caller_steps.specs.Signs.{Accesses, Moved}
@@ -125,7 +125,7 @@ pub record Found (t : Plan) (s : Shared) (c : ℕ) (x : Caller) (m : Trail t) (i
 -- what a load stands on
 pub record Reading (t : Plan) (s : Shared) (c : ℕ) (x : Caller) (m : Trail t) (i : Instr) : Type 0 where
   pub plan : IsPlan t
-  pub fine : Fine t s
+  pub fine : SharedHolds t s
   pub base : Base t s c x
   pub walks : Walks t s c x (spot_of x.entry.hand) m
   pub gets : Gets t s c x m
@@ -134,7 +134,7 @@ pub record Reading (t : Plan) (s : Shared) (c : ℕ) (x : Caller) (m : Trail t) 
   pub here : slice_get (code_in m.walk.method) x.entry.hand.at ≡ Some (Plain i)
 
 -- what a register that a load reads holds agrees
-read_agrees : (t : Plan) (s : Shared) (c : ℕ) (x : Caller) (m : Trail t) (i : Instr) (r : Reg) → Reading t s c x m i → IsTrue (reads r i) → Agree t.home x.entry.hand.registers m.mirror r
+pub read_agrees : (t : Plan) (s : Shared) (c : ℕ) (x : Caller) (m : Trail t) (i : Instr) (r : Reg) → Reading t s c x m i → IsTrue (reads r i) → Agree t.home x.entry.hand.registers m.mirror r
 read_agrees t s c x m i r w is =
     told_trusted (Calm s c x) (trust_along m.walk.method m.path r) (Agree t.home x.entry.hand.registers m.mirror r)
     (trusted_at m.walk.method w.plan.compiled m.path x.entry.hand.at i r w.walks.ahead.path_is w.here is) (w.walks.ahead.agree r)
@@ -148,7 +148,7 @@ by_kind t s c x m i d w o finds word known = record {
 }
 
 -- the fields after a name: the word of a resident's, and blank ones of null
-pub field_word : (t : Plan) (s : Shared) (y : Reference) (f : ℕ) → IsPlan t → Fine t s → Resident t s y.node → s.memory (FieldOf (t.home y.node) f) ≡ word_for t.home (value_at (fields_behind t.text s.source y) f)
+pub field_word : (t : Plan) (s : Shared) (y : Reference) (f : ℕ) → IsPlan t → SharedHolds t s → Resident t s y.node → s.memory (FieldOf (t.home y.node) f) ≡ word_for t.home (value_at (fields_behind t.text s.source y) f)
 field_word t s y f plan fine here = ⊎_elim
     (λ (z : y.node ≡ 0).
     let none : fields_named y.node s.source.nodes ≡ None = ap (λ (n : ℕ). fields_named n s.source.nodes) z ∙ fine.store.null_node in
@@ -164,7 +164,7 @@ field_word t s y f plan fine here = ⊎_elim
     (cases_eq y.node 0)
 
 -- what stands there is null or published
-pub field_known : (t : Plan) (s : Shared) (y : Reference) (f : ℕ) → IsPlan t → Fine t s → (name_of (value_at (fields_behind t.text s.source y) f) ≡ 0) ⊎ (s.public (name_of (value_at (fields_behind t.text s.source y) f)) ≡ true)
+pub field_known : (t : Plan) (s : Shared) (y : Reference) (f : ℕ) → IsPlan t → SharedHolds t s → (name_of (value_at (fields_behind t.text s.source y) f) ≡ 0) ⊎ (s.public (name_of (value_at (fields_behind t.text s.source y) f)) ≡ true)
 field_known t s y f plan fine = of (fields_named y.node s.source.nodes) refl where
   of : (o : Option (List Value)) → fields_named y.node s.source.nodes ≡ o → (name_of (value_at (unwrap_or o (blank_fields t.text)) f) ≡ 0) ⊎ (s.public (name_of (value_at (unwrap_or o (blank_fields t.text)) f)) ≡ true)
   of None is = inl (blank_value t t.text.fields f plan.null).1
@@ -177,7 +177,7 @@ trusted_resident t s c x m i r w is calm =
     hoped_resident t s c x m w.plan w.fine w.base w.below calm w.proper (blank m.walk w.walks.generator) w.walks.kept w.gets (node_in m.mirror r)
     (inr (r, (λ spoilt. let z : Trusted ≡ Spoilt = sym trusted ∙ spoilt in cc), refl))
 
-object_resident : (t : Plan) (s : Shared) (c : ℕ) (x : Caller) (m : Trail t) (i : Instr) (a : Reg) → Reading t s c x m i → IsTrue (reads a i) → Calm s c x → Resident t s (reference_in m.mirror a).node
+pub object_resident : (t : Plan) (s : Shared) (c : ℕ) (x : Caller) (m : Trail t) (i : Instr) (a : Reg) → Reading t s c x m i → IsTrue (reads a i) → Calm s c x → Resident t s (reference_in m.mirror a).node
 object_resident t s c x m i (Ref r) w is calm = trusted_resident t s c x m i r w is calm
 object_resident t s c x m i (Num r) w is calm = null_resident t s 0 w.plan w.fine refl
 
@@ -325,7 +325,7 @@ abbrev pub made_by : Caller → SourceCaller → MethodRun → MethodRun → Cal
 made_by x source watch held = record x { source = source; watch = watch; held = held; entry = with_access (counted x.entry) }
 
 -- a load, and the local code after it
-pub load_kept : (t : Plan) (c : ℕ) (s : Shared) (x : Caller) (i : Instr) (d : Reg) (w : Word) → IsPlan t → Fine t s → Base t s c x → (walk : Running t s c x (spot_of x.entry.hand)) → c < t.setting.sizes.callers → IsProperFor s x
+pub load_kept : (t : Plan) (c : ℕ) (s : Shared) (x : Caller) (i : Instr) (d : Reg) (w : Word) → IsPlan t → SharedHolds t s → Base t s c x → (walk : Running t s c x (spot_of x.entry.hand)) → c < t.setting.sizes.callers → IsProperFor s x
     → slice_get (code_in walk.0.walk.method) x.entry.hand.at ≡ Some (Plain i) → loads_into i ≡ Some d → LooksAt i x.entry.hand.registers w
     → Kept t c s x (store s.memory w (s.memory w)) (plain_accepted t.target t.setting.sizes i (s.memory w) (counted x.entry))
 load_kept t c s x i d w plan f b walk below proper here loads looks =
@@ -339,7 +339,9 @@ load_kept t c s x i d w plan f b walk below proper here loads looks =
       s' = s;
       x' = ended.x';
       memory = store_idle s.memory w;
+      present = refl;
       entry = ended.entry;
+      names = ended.names;
       plays = plays_first t.text c Accesses _ (point s x) (point s z) (point s ended.x') taken.0 refl ended.plays;
       fine = f;
       goes = goes_same t s c;

@@ -19,8 +19,8 @@ use Rattle.caller_steps.specs.declared.routine.Routine.TheVariants.{Retires}
 use Rattle.caller_steps.specs.Entries.{one_more}
 use Rattle.caller_steps.specs.Wants.{exchange_wanted}
 use Rattle.caller_steps.specs.After.{counted, with_access, with_routine, succeeds, retires_then, to_retire, cas_failed, plain_accepted}
-use Rattle.sim_relation.specs.Goes.{Goes}
-use Rattle.sim_relation.proofs.Moving.{base_moved, walks_moved}
+use Rattle.sim_relation.specs.MayChange.{MayChange}
+use Rattle.sim_relation.proofs.Moving.{base_moved, walks_moved, same_names}
 use Rattle.sim_exchanges.proofs.Exchanging.{Offers, tests_agree}
 use Rattle.sim_walks.proofs.Stopping.{settles_ends}
 use Rattle.sim_guards.proofs.Unguarding.{counted_caller}
@@ -36,7 +36,7 @@ use Rattle.run_ahead.proofs.Quiet.{less_calm}
 use Rattle.sim_relation.proofs.Stable.{stable_shown}
 use Rattle.run_ahead.specs.Agreeing.{node_in}
 use Rattle.sim_relation.specs.Views.{Plan, Held, Shared, Caller, link, Resident, Apart}
-use Rattle.sim_relation.specs.Shared.{Fine}
+use Rattle.sim_relation.specs.Shared.{SharedHolds}
 use Rattle.sim_relation.specs.Callers.{IsRetiring, Own, Known, Calm, Base, Trail, Walks, Stands, Gets, Guards, Running, spared, spot_of}
 use Rattle.caller_steps.specs.Signs.{Accesses, told}
 use Rattle.sim_relation.specs.Points.{point}
@@ -78,7 +78,7 @@ keeps_base t c s s' x q b = record {
   cradle = λ k some. q.owns _ k (b.cradle k some);
 }
 
-pub keeps_walks : (t : Plan) (c : ℕ) (s s' : Shared) (x : Caller) (core : Spot) (m : Trail t) → Fine t s → Keeps t c s s' → Walks t s c x core m → Walks t s' c x core m
+pub keeps_walks : (t : Plan) (c : ℕ) (s s' : Shared) (x : Caller) (core : Spot) (m : Trail t) → SharedHolds t s → Keeps t c s s' → Walks t s c x core m → Walks t s' c x core m
 keeps_walks t c s s' x core m f q w = record {
   call = w.call;
   wrapup = w.wrapup;
@@ -130,7 +130,7 @@ exchange_makes t s c x m entry l after w some =
 
 -- to the next instruction, in what is shared after the exchange: the source's succeeds too
 pub success_takes : (t : Plan) (s s' : Shared) (c : ℕ) (x : Caller) (m : Trail t) (entry : CasEntry) (l : ℕ) (accessed : Bool) → Reads t s c x m (instr.Cas entry l) → Stands t x m → Guards t x m
-    → exchange entry m.mirror s.source ≡ Some s'.source → Fine t s' → Keeps t c s s' → (m.walk.method.wrapup ≡ true → accessed ≡ true)
+    → exchange entry m.mirror s.source ≡ Some s'.source → SharedHolds t s' → Keeps t c s s' → (m.walk.method.wrapup ≡ true → accessed ≡ true)
     → let next : Spot = record { at = x.entry.hand.at + 1; registers = x.entry.hand.registers } in
     let y = took t s c 0 x next accessed 0 in
     PlaysEvent t.text (events.Access c 0) s.source x.source x.watch s'.source y.source y.watch × (Base t s' c y × Running t s' c y next)
@@ -170,8 +170,8 @@ pub record Succeeds (t : Plan) (s s' : Shared) (c : ℕ) (x : Caller) (m : Trail
   pub guards : Guards t x m
   pub offers : Offers t s c (spared t m.walk) x.entry.hand.registers m.mirror entry
   pub makes : exchange entry m.mirror s.source ≡ Some s'.source
-  pub fine : Fine t s'
-  pub goes : Goes t c s s'
+  pub fine : SharedHolds t s'
+  pub goes : MayChange t c s s'
   pub keeps : Keeps t c s s'
   pub unused : s'.unused ≡ s.unused
   pub memory : s'.memory ≡ after_access s.memory (exchange_wanted entry x.entry.hand.registers)
@@ -210,7 +210,9 @@ success_kept t c s s' x m entry l w none =
       s' = s';
       x' = ended.x';
       memory = w.memory;
+      present = λ i j. w.keeps.present j i;
       entry = ended.entry;
+      names = ended.names;
       plays = plays_first t.text c Accesses _ (point s x) (point s' z) (point s' ended.x') taken.0 w.unused ended.plays;
       fine = w.fine;
       goes = w.goes;
@@ -233,7 +235,9 @@ success_retires t c s s' x m entry l j n w some retiring =
       s' = s';
       x' = record (made_by x z.source z.watch z.held) { entry = with_routine (with_access (counted x.entry)) r };
       memory = w.memory;
+      present = λ i j. w.keeps.present j i;
       entry = refl;
+      names = same_names x.names false;
       plays = plays_one t.text c Accesses (point s x) (point s' (made_by x z.source z.watch z.held)) taken.0 w.unused;
       fine = w.fine;
       goes = w.goes;

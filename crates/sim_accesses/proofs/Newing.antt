@@ -19,13 +19,14 @@ use Rattle.caller_steps.specs.Operands.{cradle_of, instr_in}
 use Rattle.caller_steps.specs.Clearing.{clear_next, none_spared, unguarded}
 use Rattle.caller_steps.specs.After.{counted, with_new, with_hand, then_cleared, cleared, goes_on, zeroed as core_zeroed}
 use Rattle.sim_relation.specs.Views.{Plan, Shared, Caller}
-use Rattle.sim_relation.specs.Shared.{Fine}
+use Rattle.sim_relation.specs.Shared.{SharedHolds}
 use Rattle.sim_relation.specs.Callers.{Base, Trail, Walks, Stands, Gets, AtNew, Calm, spared, spot_of}
-use Rattle.sim_relation.specs.Goes.{Goes}
+use Rattle.sim_relation.specs.MayChange.{MayChange}
 use Rattle.caller_steps.specs.Signs.{Draws, quiet, told}
 use Rattle.sim_relation.specs.Points.{point}
 use Rattle.sim_relation.proofs.Playing.{plays_first}
-use Rattle.sim_relation.specs.Steps.{Kept, Ends, hazarded, regarded}
+use Rattle.sim_relation.specs.Naming.{named_at}
+use Rattle.sim_relation.specs.Steps.{KeptNaming, Ends, hazarded, regarded, KeptBy, with_names}
 use Rattle.sim_relation.proofs.Moving.{base_moved, walks_moved}
 use Rattle.sim_exchanges.proofs.Fresh.{zeroed, goes_zeroed, drawn, goes_drawn}
 use Rattle.sim_walks.proofs.Quieting.{cleared_new}
@@ -69,7 +70,7 @@ zeroing_moved t s c x m r k g w = record {
 }
 
 -- the zero, and the draw in the same step
-goes_new : (t : Plan) (s : Shared) (c k j g : ℕ) → Goes t c s (zeroed s j g) → Goes t c (zeroed s j g) (drawn t (zeroed s j g) j g) → Goes t c s (drawn t (zeroed s j g) j g)
+goes_new : (t : Plan) (s : Shared) (c k j g : ℕ) → MayChange t c s (zeroed s j g) → MayChange t c (zeroed s j g) (drawn t (zeroed s j g) j g) → MayChange t c s (drawn t (zeroed s j g) j g)
 goes_new t s c k j g one two = record {
   phase = two.phase;
   warning = two.warning;
@@ -86,9 +87,9 @@ goes_new t s c k j g one two = record {
 -- a store of 0 at a `new`: the next field's, or the draw and the local code after it
 pub new_stores : (t : Plan) (c : ℕ) (s : Shared) (x : Caller) (m : Trail t) (r k g : ℕ) → Zeroing t s c x m r k g → Stands t x m → instr_in t.target x.entry ≡ Some (Plain (instr.New (Ref r)))
     → (nat_lt (g + 1) t.setting.sizes.fields ≡ false → Drawing t (zeroed s (cradle_of x.entry k) g) c (counted_caller x) m r k g)
-    → Kept t c s x (store s.memory (FieldOf (cradle_of x.entry k) g) 0) (core_zeroed t.target t.setting.sizes k g (counted x.entry))
+    → KeptNaming t c s x (store s.memory (FieldOf (cradle_of x.entry k) g) 0) (core_zeroed t.target t.setting.sizes k g (counted x.entry)) (named_at (nat_lt (g + 1) t.setting.sizes.fields) (cradle_of x.entry k) s.unused (put s.present (cradle_of x.entry k) 0))
 new_stores t c s x m r k g w st is draw = of (nat_lt (g + 1) t.setting.sizes.fields) refl where
-  last : nat_lt (g + 1) t.setting.sizes.fields ≡ false → Kept t c s x (store s.memory (FieldOf (cradle_of x.entry k) g) 0) (told (Draws (cradle_of x.entry k) ∷ []) (goes_on t.target t.setting.sizes (with_new (Some (Plain (instr.New (Ref r)))) (cradle_of x.entry k) x.entry.hand.registers) (counted x.entry)))
+  last : nat_lt (g + 1) t.setting.sizes.fields ≡ false → KeptNaming t c s x (store s.memory (FieldOf (cradle_of x.entry k) g) 0) (told (Draws (cradle_of x.entry k) ∷ []) (goes_on t.target t.setting.sizes (with_new (Some (Plain (instr.New (Ref r)))) (cradle_of x.entry k) x.entry.hand.registers) (counted x.entry))) (put (put s.present (cradle_of x.entry k) 0) (cradle_of x.entry k) s.unused)
   last ends =
       let d = draw ends in
       let j = cradle_of x.entry k in
@@ -103,17 +104,19 @@ new_stores t c s x m r k g w st is draw = of (nat_lt (g + 1) t.setting.sizes.fie
         s' = s';
         x' = ended.x';
         memory = twice s.memory j g;
+        present = refl;
         entry = ended.entry;
+        names = ended.names;
         plays = plays_first t.text c (Draws (cradle_of x.entry k)) _ (point s x) (point s' z) (point s' ended.x') taken.0 refl ended.plays;
         fine = taken.1;
         goes = goes_new t s c k j g (goes_zeroed t s c k j g own) (goes_drawn t s1 c k j g w.plan d.zeroing.fine (draws t s1 c y m r k g d));
         told = ended.told;
       }
 
-  of : (b : Bool) → nat_lt (g + 1) t.setting.sizes.fields ≡ b → Kept t c s x (store s.memory (FieldOf (cradle_of x.entry k) g) 0)
-      (if b then quiet (record (counted x.entry) { routine = Zeroes k (g + 1) }) else told (Draws (cradle_of x.entry k) ∷ []) (goes_on t.target t.setting.sizes (with_new (instr_in t.target (counted x.entry)) (cradle_of x.entry k) x.entry.hand.registers) (counted x.entry)))
+  of : (b : Bool) → nat_lt (g + 1) t.setting.sizes.fields ≡ b → KeptNaming t c s x (store s.memory (FieldOf (cradle_of x.entry k) g) 0)
+      (if b then quiet (record (counted x.entry) { routine = Zeroes k (g + 1) }) else told (Draws (cradle_of x.entry k) ∷ []) (goes_on t.target t.setting.sizes (with_new (instr_in t.target (counted x.entry)) (cradle_of x.entry k) x.entry.hand.registers) (counted x.entry))) (named_at b (cradle_of x.entry k) s.unused (put s.present (cradle_of x.entry k) 0))
   of true more = zero_kept t c s x m r k g w st
-  of false ends = subst (λ (o : Option TargetInstr). Kept t c s x (store s.memory (FieldOf (cradle_of x.entry k) g) 0) (told (Draws (cradle_of x.entry k) ∷ []) (goes_on t.target t.setting.sizes (with_new o (cradle_of x.entry k) x.entry.hand.registers) (counted x.entry)))) (sym is) (last ends)
+  of false ends = subst (λ (o : Option TargetInstr). KeptNaming t c s x (store s.memory (FieldOf (cradle_of x.entry k) g) 0) (told (Draws (cradle_of x.entry k) ∷ []) (goes_on t.target t.setting.sizes (with_new o (cradle_of x.entry k) x.entry.hand.registers) (counted x.entry))) (put (put s.present (cradle_of x.entry k) 0) (cradle_of x.entry k) s.unused)) (sym is) (last ends)
 
 -- ---- the clear before a `new`
 
@@ -151,11 +154,11 @@ new_regarded t s c x m r lt gen w st g = (
   named k (inl e) = rw e.0 (λ some free. absurd (some refl))
   named k (inr e) = rw e.0 (λ some free. g.named k some free)
 
-pub new_clears : (t : Plan) (c : ℕ) (s : Shared) (x : Caller) (r : ℕ) → Fine t s → Base t s c x → clear_next t.target clears.New x.entry ≡ Some r → (at : AtNew t s c x (spot_of x.entry.hand)) → at.0.walk.method.wrapup ≡ false
-    → Kept t c s x (store s.memory (Hazard c r) 0) (quiet (then_cleared t.target t.setting.sizes clears.New (counted x.entry)))
+pub new_clears : (t : Plan) (c : ℕ) (s : Shared) (x : Caller) (r : ℕ) → SharedHolds t s → Base t s c x → clear_next t.target clears.New x.entry ≡ Some r → (at : AtNew t s c x (spot_of x.entry.hand)) → at.0.walk.method.wrapup ≡ false
+    → KeptBy t c s x (with_names x.names r 0) (store s.memory (Hazard c r) 0) (quiet (then_cleared t.target t.setting.sizes clears.New (counted x.entry)))
 new_clears t c s x r f b is at gen =
     let found = clear_some x.entry.hand.guards none_spared r is in
     let y = regarded (counted_caller x) r 0 0 in
-    kept_ends t c s (hazarded s c r 0) x y (quiet (then_cleared t.target t.setting.sizes clears.New (counted x.entry))) (store s.memory (Hazard c r) 0) (fine_hazarded t c s r 0 f) (goes_hazarded t c s r 0) refl refl
+    kept_ends t c s (hazarded s c r 0) x y (quiet (then_cleared t.target t.setting.sizes clears.New (counted x.entry))) (store s.memory (Hazard c r) 0) (fine_hazarded t c s r 0 f) (goes_hazarded t c s r 0) refl refl refl
     (subst (λ (o : Option ℕ). Ends t (hazarded s c r 0) c y (quiet (cleared t.target t.setting.sizes clears.New (with_hand (counted x.entry) (unguarded o x.entry.hand))))) (sym is)
     (cleared_new t (hazarded s c r 0) c y (base_hazarded t c s (counted_caller x) r 0 0 found.1 (base_moved t s c x (one_more x.entry.running.steps) x.entry.counts x.entry.routine b)) (new_regarded t s c x at.0 r found.1 gen at.1 at.2 at.3)))

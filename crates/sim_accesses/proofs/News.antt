@@ -39,13 +39,13 @@ use Rattle.run_ahead.proofs.TypedMemory.{new_typed}
 use Rattle.target_code.specs.PathStates.{over_plain}
 use Rattle.norm_lang.specs.Freshness.{fresh_after}
 use Rattle.sim_relation.specs.Views.{Plan, IsPlan, Held, Shared, Caller, Resident}
-use Rattle.sim_relation.specs.Shared.{Fine}
+use Rattle.sim_relation.specs.Shared.{SharedHolds}
 use Rattle.sim_relation.specs.Callers.{Own, Known, Shown, Calm, Base, Trail, Walks, Stands, Gets, Running, Empty, Zeroed, guard_state, spot_of}
 use Rattle.caller_steps.specs.Signs.{quiet}
 use Rattle.sim_relation.specs.Points.{done}
 use Rattle.sim_relation.proofs.Playing.{PlaysEvent}
-use Rattle.sim_relation.specs.Steps.{Kept, moved}
-use Rattle.sim_relation.proofs.Moving.{base_moved, walks_moved}
+use Rattle.sim_relation.specs.Steps.{KeptNaming, moved}
+use Rattle.sim_relation.proofs.Moving.{base_moved, walks_moved, same_names}
 use Rattle.sim_relation.proofs.Names.{null_resident, unprotected}
 use Rattle.sim_walks.proofs.Along.{undone, made_before}
 use Rattle.sim_relation.proofs.Codes.{blank}
@@ -57,7 +57,7 @@ use Rattle.sim_walks.proofs.Accessing.{Makes, turns, took, stands_took}
 -- what is known where the fields of a cradle's slot are zeroed
 pub record Zeroing (t : Plan) (s : Shared) (c : ℕ) (x : Caller) (m : Trail t) (r k g : ℕ) : Type 0 where
   pub plan : IsPlan t
-  pub fine : Fine t s
+  pub fine : SharedHolds t s
   pub base : Base t s c x
   pub walks : Walks t s c x (spot_of x.entry.hand) m
   pub gets : Gets t s c x m
@@ -137,14 +137,16 @@ zeroing_on t s c x m r k g w = record {
 
 -- the store that isn't the last
 pub zero_kept : (t : Plan) (c : ℕ) (s : Shared) (x : Caller) (m : Trail t) (r k g : ℕ) → Zeroing t s c x m r k g → Stands t x m
-    → Kept t c s x (store s.memory (FieldOf (cradle_of x.entry k) g) 0) (quiet (with_routine (counted x.entry) (Zeroes k (g + 1))))
+    → KeptNaming t c s x (store s.memory (FieldOf (cradle_of x.entry k) g) 0) (quiet (with_routine (counted x.entry) (Zeroes k (g + 1)))) (put s.present (cradle_of x.entry k) 0)
 zero_kept t c s x m r k g w st =
     let z = zeroing_on t s c x m r k g w in
     record {
       s' = zeroed s (cradle_of x.entry k) g;
       x' = moved x (one_more x.entry.running.steps) x.entry.counts (Zeroes k (g + 1));
       memory = refl;
+      present = refl;
       entry = refl;
+      names = same_names x.names false;
       plays = done _;
       fine = z.fine;
       goes = goes_zeroed t s c k (cradle_of x.entry k) g (w.base.cradle k w.held);
@@ -192,7 +194,7 @@ pub new_takes : (t : Plan) (s : Shared) (c : ℕ) (x : Caller) (m : Trail t) (r 
     → let j = cradle_of x.entry k in
     let s' = drawn t s j g in
     let y = took t s c s.unused x (behind_new x r j) x.entry.hand.accessed s.unused in
-    PlaysEvent t.text (events.Access c s.unused) s.source x.source x.watch s'.source y.source y.watch × Fine t s' × Base t s' c y × Running t s' c y (behind_new x r j)
+    PlaysEvent t.text (events.Access c s.unused) s.source x.source x.watch s'.source y.source y.watch × SharedHolds t s' × Base t s' c y × Running t s' c y (behind_new x r j)
 new_takes t s c x m r k g d =
     let z = d.zeroing in
     let j = cradle_of x.entry k in

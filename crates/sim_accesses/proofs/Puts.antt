@@ -37,7 +37,7 @@ use Rattle.run_ahead.proofs.Telling.{told_trusted}
 use Rattle.run_ahead.proofs.TypedMemory.{behind_typed, register_for, field_at, put_typed}
 use Rattle.target_laws.proofs.FreshRules.{puts_go_to_fresh}
 use Rattle.sim_relation.specs.Views.{Plan, IsPlan, Null, Held, Shared, Caller, word_for, name_of, link, Resident, Apart}
-use Rattle.sim_relation.specs.Shared.{Fine}
+use Rattle.sim_relation.specs.Shared.{SharedHolds}
 use Rattle.sim_relation.specs.Callers.{Own, Shown, Calm, Base, Trail, Walks, Stands, Gets, Guards, Running, spot_of}
 use Rattle.caller_steps.specs.Signs.{Accesses}
 use Rattle.sim_relation.specs.Points.{point}
@@ -61,7 +61,7 @@ is_within (first ∷ kinds) [] f kind typed is = absurd typed
 is_within (first ∷ kinds) (v ∷ values) zero kind typed is = omega arith
 is_within (first ∷ kinds) (v ∷ values) (suc f) kind typed is = let lt = is_within kinds values f kind typed.1 is in omega (arith, lt)
 
-pub field_there : (t : Plan) (s : Shared) (o f : ℕ) (kind : FieldKind) → Fine t s → Resident t s o → o ≢ 0 → field_kind t.text.fields f ≡ Some kind → (values : List Value) × (fields_named o s.source.nodes ≡ Some values) × (f < length values)
+pub field_there : (t : Plan) (s : Shared) (o f : ℕ) (kind : FieldKind) → SharedHolds t s → Resident t s o → o ≢ 0 → field_kind t.text.fields f ≡ Some kind → (values : List Value) × (fields_named o s.source.nodes ≡ Some values) × (f < length values)
 field_there t s o f kind fine here some is =
     let node = fine.store.node (t.home o) (λ z. some (sym here ∙ z)) in
     let fields : fields_named o s.source.nodes ≡ Some node.0 = ap (λ (n : ℕ). fields_named n s.source.nodes) (sym here) ∙ node.1 in
@@ -72,7 +72,7 @@ field_there t s o f kind fine here some is =
 -- an access that reads registers
 pub record Reads (t : Plan) (s : Shared) (c : ℕ) (x : Caller) (m : Trail t) (i : Instr) : Type 0 where
   pub plan : IsPlan t
-  pub fine : Fine t s
+  pub fine : SharedHolds t s
   pub base : Base t s c x
   pub walks : Walks t s c x (spot_of x.entry.hand) m
   pub gets : Gets t s c x m
@@ -130,7 +130,7 @@ pub put_takes : (t : Plan) (s : Shared) (c : ℕ) (x : Caller) (m : Trail t) (r 
     let y = took t s c 0 x next x.entry.hand.accessed 0 in
     PlaysEvent t.text (events.Access c 0) s.source x.source x.watch s'.source y.source y.watch
     × (s'.memory ≡ store s.memory (FieldOf (slot_in x.entry.hand.registers (Ref r)) f) (word_in x.entry.hand.registers b))
-    × Fine t s' × Base t s' c y × ((k : ℕ) × (s.owner (t.home (node_in m.mirror r)) ≡ Held c k)) × Links t s (node_in m.mirror r) f v × Running t s' c y next
+    × SharedHolds t s' × Base t s' c y × ((k : ℕ) × (s.owner (t.home (node_in m.mirror r)) ≡ Held c k)) × Links t s (node_in m.mirror r) f v × Running t s' c y next
 put_takes t s c x m r f b w st guards =
     let i = instr.Put (Ref r) f b in
     let method = m.walk.method in
@@ -147,7 +147,7 @@ put_takes t s c x m r f b w st guards =
     let kind = register_for (field_kind t.text.fields f) b (or_parts (holds_number (Ref r)) _ right).1 in
     let there = field_there t s o f kind.0 w.fine own.2 some kind.1 in
     let links : Links t s o f v = record { here = own.2; some = some; values = there.0; fields = there.1; within = there.2; known = value_shown t s c x m b w.gets rules.0 rules.2; typed = put_typed t.text 0 0 (Ref r) b f m.mirror s.source right w.fine.typed } in
-    let fine' : Fine t s' = fine_linked t s o f v w.fine links in
+    let fine' : SharedHolds t s' = fine_linked t s o f v w.fine links in
     let slot : slot_in x.entry.hand.registers (Ref r) ≡ t.home o = (read_same t s c x m i (Ref r) w (reads_first (Ref r) _)).0 in
     let word : word_in x.entry.hand.registers b ≡ word_for t.home v = word_agrees t x.entry.hand.registers m.mirror b (read_same t s c x m i b w (reads_second (Ref r) b)) in
     let changes = nothing_changes t.home (Told (Calm s c x) Trusted) x.entry.hand.registers m.mirror w.walks.ahead.sized in
@@ -183,7 +183,7 @@ put_takes t s c x m r f b w st guards =
     )
 
 -- a put, and the local code after it
-pub put_kept : (t : Plan) (c : ℕ) (s : Shared) (x : Caller) (a : Reg) (f : ℕ) (b : Reg) → IsPlan t → Fine t s → Base t s c x → (walk : Running t s c x (spot_of x.entry.hand))
+pub put_kept : (t : Plan) (c : ℕ) (s : Shared) (x : Caller) (a : Reg) (f : ℕ) (b : Reg) → IsPlan t → SharedHolds t s → Base t s c x → (walk : Running t s c x (spot_of x.entry.hand))
     → slice_get (code_in walk.0.walk.method) x.entry.hand.at ≡ Some (Plain (instr.Put a f b))
     → Kept t c s x (store s.memory (FieldOf (slot_in x.entry.hand.registers a) f) (word_in x.entry.hand.registers b)) (plain_accepted t.target t.setting.sizes (instr.Put a f b) (s.memory (FieldOf (slot_in x.entry.hand.registers a) f)) (counted x.entry))
 put_kept t c s x (Num r) f b plan fine base walk here = absurd (let z : true ≡ false = (or_parts true (is_unlike (field_kind t.text.fields f) b) (kind_right walk.0.walk.method plan.compiled x.entry.hand.at (instr.Put (Num r) f b) here)).0 in cc)
@@ -200,7 +200,9 @@ put_kept t c s x (Ref r) f b plan fine base walk here =
       s' = s';
       x' = ended.x';
       memory = taken.1;
+      present = refl;
       entry = ended.entry;
+      names = ended.names;
       plays = plays_first t.text c Accesses _ (point s x) (point s' z) (point s' ended.x') taken.0 refl ended.plays;
       fine = taken.2;
       goes = goes_put t c taken.4.0 s (node_in walk.0.mirror r) f (value_in walk.0.mirror b) taken.5 taken.4.1 (own_private t s c taken.4.0 (node_in walk.0.mirror r) fine taken.4.1 taken.5.here);

@@ -16,8 +16,8 @@ use Rattle.caller_steps.specs.After.{counted, plain_accepted}
 use Rattle.target_laws.specs.Methods.{code_in}
 use Rattle.run_ahead.specs.Standing.{loads_into}
 use Rattle.sim_relation.specs.Views.{Plan, IsPlan, Shared, Caller}
-use Rattle.sim_relation.specs.Shared.{Fine}
-use Rattle.sim_relation.specs.Callers.{Tied, Told, Spotted, Running, spot_of}
+use Rattle.sim_relation.specs.Shared.{SharedHolds}
+use Rattle.sim_relation.specs.Callers.{Tied, CallerHolds, HoldsAt, Running, spot_of}
 use Rattle.sim_relation.specs.Allowing.{IsProperFor}
 use Rattle.sim_relation.specs.Points.{StaysProper, IsProperPoint, point, done}
 use Rattle.sim_relation.specs.Steps.{Kept, after_access}
@@ -35,15 +35,15 @@ proper_here t c s x stays (inr (ended, none)) n other got reaches = absurd (let 
 -- the caller stands before a plain instruction of its method
 pub record AtPlain (t : Plan) (c : ℕ) (s : Shared) (x : Caller) (i : Instr) : Type 0 where
   pub plan : IsPlan t
-  pub fine : Fine t s
-  pub told : Told t s c x
+  pub fine : SharedHolds t s
+  pub told : CallerHolds t s c x
   pub below : c < t.setting.sizes.callers
   pub at : x.entry.routine ≡ At
   pub here : instr_in t.target x.entry ≡ Some (Plain i)
   pub proper : StaysProper t.text c (point s x)
 
 pub running_at : (t : Plan) (c : ℕ) (s : Shared) (x : Caller) (i : Instr) → AtPlain t c s x i → Running t s c x (spot_of x.entry.hand)
-running_at t c s x i w = subst (λ (r : Routine). Spotted t s c x r) w.at w.told.spot
+running_at t c s x i w = subst (λ (r : Routine). HoldsAt t s c x r) w.at w.told.spot
 
 pub code_at : (t : Plan) (c : ℕ) (s : Shared) (x : Caller) (i : Instr) (w : AtPlain t c s x i) → slice_get (code_in (running_at t c s x i w).0.walk.method) x.entry.hand.at ≡ Some (Plain i)
 code_at t c s x i w = let r = running_at t c s x i w in sym (instr_is t s c x (spot_of x.entry.hand) r.0 r.1) ∙ w.here

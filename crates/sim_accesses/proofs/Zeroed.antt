@@ -1,7 +1,7 @@
 -- The stores of a `new` at a caller that belongs.
-use Rattle.std.proofs.Common.{ℕ, ◌≡◌, ◌==◌, ◌+◌, ◌<◌, ◌∙◌, ◌&&◌, Bool, true, false, length, Some, arith, sym, ap, subst, refl, if◌then◌else◌, set}
+use Rattle.std.proofs.Common.{ℕ, zero, suc, ◌≡◌, ◌≢◌, ◌==◌, ◌+◌, ◌<◌, ◌⊎◌, ◌∙◌, ◌&&◌, Bool, true, false, inl, inr, length, Some, arith, sym, ap, subst, refl, if◌then◌else◌, set}
 use Rattle.std.specs.Prelude.{nat_lt}
-use Rattle.std.proofs.lemmas.Bool.Decides.{nat_tests}
+use Rattle.std.proofs.lemmas.Bool.Decides.{nat_tests, eqb_tells}
 use Rattle.std.proofs.lemmas.List.{get_or-set_same}
 use Rattle.std.proofs.lemmas.Option.{unwrap_or-slice_get}
 use Rattle.norm_lang.specs.declared.text.Reg.{Reg}
@@ -13,6 +13,7 @@ use Rattle.norm_lang.specs.Registers.{no_reference, with_reference}
 use Rattle.target_code.specs.declared.target.TargetInstr.TheVariants.{Plain}
 use Rattle.oa_words.specs.Words.{Word, FieldOf, in_row}
 use Rattle.core_runs.specs.Memories.{store}
+use Rattle.source_machine.specs.MethodRuns.{put}
 use Rattle.caller_steps.specs.declared.routine.Routine.{Routine}
 use Rattle.caller_steps.specs.declared.routine.Routine.TheVariants.{Zeroes}
 use Rattle.caller_steps.specs.Belongs.{Belongs, Stands as CoreStands}
@@ -22,10 +23,11 @@ use Rattle.caller_steps.specs.Signs.{quiet}
 use Rattle.run_ahead.specs.Agreeing.{node_in}
 use Rattle.run_ahead.proofs.Plain.{kind_right}
 use Rattle.sim_relation.specs.Views.{Plan, IsPlan, Shared, Caller}
-use Rattle.sim_relation.specs.Shared.{Fine}
-use Rattle.sim_relation.specs.Callers.{Told, Spotted, Walks, Trail, spot_of}
+use Rattle.sim_relation.specs.Shared.{SharedHolds}
+use Rattle.sim_relation.specs.Callers.{CallerHolds, HoldsAt, Walks, Trail, spot_of}
 use Rattle.sim_relation.specs.Points.{DrawsHome}
-use Rattle.sim_relation.specs.Steps.{Kept}
+use Rattle.sim_relation.specs.Naming.{emptied_at, named_at}
+use Rattle.sim_relation.specs.Steps.{KeptNaming}
 use Rattle.sim_relation.proofs.Codes.{code_is, instr_is, new_there}
 use Rattle.sim_walks.proofs.Quieting.{sane_here}
 use Rattle.sim_guards.proofs.Unguarding.{counted_caller}
@@ -35,8 +37,8 @@ use Rattle.sim_accesses.proofs.Newing.{zeroing_moved, new_stores}
 -- the caller stores 0 to a field of a cradle's slot
 pub record AtZeroes (t : Plan) (c : ℕ) (s : Shared) (x : Caller) (k field : ℕ) : Type 0 where
   pub plan : IsPlan t
-  pub fine : Fine t s
-  pub told : Told t s c x
+  pub fine : SharedHolds t s
+  pub told : CallerHolds t s c x
   pub belongs : Belongs t.target t.setting x.entry
   pub at : x.entry.routine ≡ Zeroes k field
   -- no word past the row holds anything
@@ -62,20 +64,31 @@ past t s j g i beyond ends lt =
     of true is = is
     of false is = is
 
+-- from the second store on the slot has no name already
+none_before : (present : ℕ → ℕ) (j field : ℕ) → (0 < field → present j ≡ 0) → put present j 0 ≡ emptied_at field j present
+none_before present j zero none = refl
+none_before present j (suc field) none = λ i l. at l (eqb_tells l j) i where
+  at : (l : ℕ) → (((l == j) ≡ true) × (l ≡ j)) ⊎ (((l == j) ≡ false) × (l ≢ j)) → put present j 0 l ≡ present l
+  at l (inl e) = rw e.0 (sym (ap present e.1 ∙ none (omega arith)))
+  at l (inr e) = rw e.0 refl
+
 pub zero_step : (t : Plan) (c : ℕ) (s : Shared) (x : Caller) (k field : ℕ) → AtZeroes t c s x k field
-    → Kept t c s x (store s.memory (FieldOf (cradle_of x.entry k) field) 0) (core_zeroed t.target t.setting.sizes k field (counted x.entry))
+    → KeptNaming t c s x (store s.memory (FieldOf (cradle_of x.entry k) field) 0) (core_zeroed t.target t.setting.sizes k field (counted x.entry))
+    (named_at (nat_lt (field + 1) t.setting.sizes.fields) (cradle_of x.entry k) s.unused (emptied_at field (cradle_of x.entry k) s.present))
 zero_step t c s x k field w =
-    let spot : Spotted t s c x (Zeroes k field) = subst (λ (r : Routine). Spotted t s c x r) w.at w.told.spot in
+    let spot : HoldsAt t s c x (Zeroes k field) = subst (λ (r : Routine). HoldsAt t s c x r) w.at w.told.spot in
     let stands : CoreStands t.target t.setting x.entry (Zeroes k field) = subst (λ (r : Routine). CoreStands t.target t.setting x.entry r) w.at w.belongs.stands in
     let there = new_there (instr_in t.target x.entry) stands.0 in
-    by_register there.0 there.1 spot stands
+    subst (λ (present : ℕ → ℕ). KeptNaming t c s x (store s.memory (FieldOf (cradle_of x.entry k) field) 0) (core_zeroed t.target t.setting.sizes k field (counted x.entry)) (named_at (nat_lt (field + 1) t.setting.sizes.fields) (cradle_of x.entry k) s.unused present))
+    (none_before s.present (cradle_of x.entry k) field spot.1.0) (by_register there.0 there.1 spot stands)
   where
     draws_home : (b : Bool) → b ≡ false → DrawsHome t.home (if b then quiet (record (counted x.entry) { routine = Zeroes k (field + 1) }) else node_made t.target t.setting.sizes (cradle_of x.entry k) (counted x.entry)).signs s.unused → t.home s.unused ≡ cradle_of x.entry k
     draws_home true is home = absurd (let z : true ≡ false = is in cc)
     draws_home false is home = home.0
 
-    by_register : (d : Reg) → instr_in t.target x.entry ≡ Some (Plain (instr.New d)) → Spotted t s c x (Zeroes k field) → CoreStands t.target t.setting x.entry (Zeroes k field)
-        → Kept t c s x (store s.memory (FieldOf (cradle_of x.entry k) field) 0) (core_zeroed t.target t.setting.sizes k field (counted x.entry))
+    by_register : (d : Reg) → instr_in t.target x.entry ≡ Some (Plain (instr.New d)) → HoldsAt t s c x (Zeroes k field) → CoreStands t.target t.setting x.entry (Zeroes k field)
+        → KeptNaming t c s x (store s.memory (FieldOf (cradle_of x.entry k) field) 0) (core_zeroed t.target t.setting.sizes k field (counted x.entry))
+        (named_at (nat_lt (field + 1) t.setting.sizes.fields) (cradle_of x.entry k) s.unused (put s.present (cradle_of x.entry k) 0))
     by_register (Num r) is spot stands =
         let at = spot.2 in
         let here = sym (instr_is t s c x (spot_of x.entry.hand) at.0 at.1) ∙ is in

@@ -16,7 +16,7 @@ use Rattle.source_machine.specs.Proper.{has}
 use Rattle.caller_steps.specs.After.{to_retire}
 use Rattle.run_ahead.specs.Agreeing.{Agree, node_in}
 use Rattle.sim_relation.specs.Views.{Plan, IsPlan, Shared, Retiring, name_of, Resident}
-use Rattle.sim_relation.specs.Shared.{Fine}
+use Rattle.sim_relation.specs.Shared.{SharedHolds}
 use Rattle.sim_relation.specs.Callers.{Shown}
 use Rattle.sim_relation.proofs.Names.{null_resident}
 use Rattle.sim_exchanges.proofs.Exchanging.{IsUnder, under_resident, PlaceUnder, Offers}
@@ -36,7 +36,7 @@ not_true : (b : Bool) → not b ≡ false → b ≡ true
 not_true true is = refl
 not_true false is = absurd (let z : true ≡ false = is in cc)
 
-pub drops : (t : Plan) (s : Shared) (c : ℕ) (own : ℕ → Bool) (core mirror : Registers) (entry : CasEntry) (found : Value) → IsPlan t → Fine t s → Offers t s c own core mirror entry
+pub drops : (t : Plan) (s : Shared) (c : ℕ) (own : ℕ → Bool) (core mirror : Registers) (entry : CasEntry) (found : Value) → IsPlan t → SharedHolds t s → Offers t s c own core mirror entry
     → found_at entry.place mirror s.source ≡ Some found → name_of found ≡ name_of (value_in mirror entry.expected)
     → ((r f : ℕ) → entry.place ≡ places.Field (Ref r) f → Shown s (node_in mirror r)) → is_stranger entry entry.retire ≡ false → Drops t s core mirror entry.retire
 drops t s c own core mirror entry found plan f w finds same object right = by_retire entry.retire right where
@@ -71,7 +71,7 @@ drops t s c own core mirror entry found plan f w finds same object right = by_re
       ]
 
 -- a name that isn't retired has no tag
-pub untagged : (t : Plan) (s : Shared) (n : ℕ) → Fine t s → has n s.source.retired ≡ false → s.tag n ≡ None
+pub untagged : (t : Plan) (s : Shared) (n : ℕ) → SharedHolds t s → has n s.source.retired ≡ false → s.tag n ≡ None
 untagged t s n f live = of (s.tag n) refl where
   of : (o : Option ℕ) → s.tag n ≡ o → s.tag n ≡ None
   of None is = is

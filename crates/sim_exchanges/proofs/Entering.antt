@@ -30,9 +30,9 @@ use Rattle.sim_relation.specs.Points.{point}
 use Rattle.sim_relation.proofs.Playing.{PlaysEvent}
 use Rattle.run_ahead.specs.Agreeing.{node_in}
 use Rattle.sim_relation.specs.Views.{Plan, IsPlan, Owner, Null, Pool, Held, Living, Retiring, Dead, Shared, Caller, link, Resident, Apart}
-use Rattle.sim_relation.specs.Shared.{Fine}
-use Rattle.sim_relation.specs.Callers.{Shown, CommitsShown, Calm, Base, Trail, Walks, Guards, BehindEntry, spot_of}
-use Rattle.sim_relation.specs.Goes.{Goes}
+use Rattle.sim_relation.specs.Shared.{SharedHolds}
+use Rattle.sim_relation.specs.Callers.{Shown, CommitsShown, Calm, Base, Trail, Walks, Guards, AfterExchange, spot_of}
+use Rattle.sim_relation.specs.MayChange.{MayChange}
 use Rattle.sim_relation.specs.Steps.{Kept, moved, cradled}
 use Rattle.sim_relation.proofs.Names.{residents_apart, slot_by, own_private}
 use Rattle.sim_pools.proofs.Slots.{apart}
@@ -48,14 +48,14 @@ abbrev pub written : Shared → (Word → ℕ) → List NamedNode → List Value
 written s memory nodes roots = record s { memory = memory; source = record s.source { nodes = nodes; roots = roots } }
 
 pub record Writes (t : Plan) (c : ℕ) (s : Shared) (memory : Word → ℕ) (nodes : List NamedNode) (roots : List Value) : Type 0 where
-  pub fine : Fine t (written s memory nodes roots)
-  pub goes : Goes t c s (written s memory nodes roots)
+  pub fine : SharedHolds t (written s memory nodes roots)
+  pub goes : MayChange t c s (written s memory nodes roots)
   pub links : (n g : ℕ) → (link (written s memory nodes roots) n g ≡ link s n g) ⊎ Resident t s (link (written s memory nodes roots) n g)
   pub hazard : (d r : ℕ) → memory (Hazard d r) ≡ s.memory (Hazard d r)
   pub warning : (d : ℕ) → memory (Warning d) ≡ s.memory (Warning d)
 
 -- published, resident and not retired: its slot is that of a living name
-pub living : (t : Plan) (s : Shared) (n : ℕ) → Fine t s → Resident t s n → n ≢ 0 → s.public n ≡ true → has n s.source.retired ≡ false → s.owner (t.home n) ≡ Living
+pub living : (t : Plan) (s : Shared) (n : ℕ) → SharedHolds t s → Resident t s n → n ≢ 0 → s.public n ≡ true → has n s.source.retired ≡ false → s.owner (t.home n) ≡ Living
 living t s n f here some public live = of (s.owner (t.home n)) refl where
   named : s.present (t.home n) ≡ n
   named = here
@@ -68,16 +68,16 @@ living t s n f here some public live = of (s.owner (t.home n)) refl where
   of (Retiring d) is = absurd (let z : false ≡ true = sym live ∙ (sym (ap (λ (i : ℕ). has i s.source.retired) here) ∙ (slot_by s (t.home n) (Retiring d) is (f.slot (t.home n))).2) in cc)
   of Dead is = absurd (let slot = slot_by s (t.home n) Dead is (f.slot (t.home n)) in let z : false ≡ true = sym live ∙ f.tagged n slot.0 (ap s.tag (sym here) ∙ slot.2) in cc)
 
-pub publishes : (t : Plan) (s : Shared) (c n : ℕ) → Fine t s → (n ≡ 0) ⊎ (Resident t s n × ((s.public n ≡ true) ⊎ ((i : ℕ) × (s.owner (t.home n) ≡ Held c i))))
-    → Fine t (published_if t s n) × Goes t c s (published_if t s n)
+pub publishes : (t : Plan) (s : Shared) (c n : ℕ) → SharedHolds t s → (n ≡ 0) ⊎ (Resident t s n × ((s.public n ≡ true) ⊎ ((i : ℕ) × (s.owner (t.home n) ≡ Held c i))))
+    → SharedHolds t (published_if t s n) × MayChange t c s (published_if t s n)
 publishes t s c n f new = of (n == 0) refl where
-  some_of : n ≢ 0 → (n ≡ 0) ⊎ (Resident t s n × ((s.public n ≡ true) ⊎ ((i : ℕ) × (s.owner (t.home n) ≡ Held c i)))) → Fine t (published t s n) × Goes t c s (published t s n)
+  some_of : n ≢ 0 → (n ≡ 0) ⊎ (Resident t s n × ((s.public n ≡ true) ⊎ ((i : ℕ) × (s.owner (t.home n) ≡ Held c i)))) → SharedHolds t (published t s n) × MayChange t c s (published t s n)
   some_of some (inl z) = absurd (some z)
   some_of some (inr k) = (fine_published t s n f some k.0, goes_published t c s n f k.0 k.1)
 
   of : (b : Bool) → (n == 0) ≡ b
-      → Fine t (record s { public = if b then s.public else put s.public n true; owner = if b then s.owner else put s.owner (t.home n) (publish (s.owner (t.home n))) })
-      × Goes t c s (record s { public = if b then s.public else put s.public n true; owner = if b then s.owner else put s.owner (t.home n) (publish (s.owner (t.home n))) })
+      → SharedHolds t (record s { public = if b then s.public else put s.public n true; owner = if b then s.owner else put s.owner (t.home n) (publish (s.owner (t.home n))) })
+      × MayChange t c s (record s { public = if b then s.public else put s.public n true; owner = if b then s.owner else put s.owner (t.home n) (publish (s.owner (t.home n))) })
   of true is = (f, goes_same t s c)
   of false is = some_of (let ne : n ≢ 0 = grind (arith, nat_tests) in ne) new
 
@@ -102,8 +102,8 @@ owner_still t s n j away = ⊎_elim
 
 -- what an exchange that publishes a name leaves of what the caller knows
 pub record Passes (t : Plan) (c : ℕ) (s s' : Shared) (n : ℕ) : Type 0 where
-  pub fine : Fine t s'
-  pub goes : Goes t c s s'
+  pub fine : SharedHolds t s'
+  pub goes : MayChange t c s s'
   pub warning : s'.memory (Warning c) ≡ s.memory (Warning c)
   pub hazard : (r : ℕ) → s'.memory (Hazard c r) ≡ s.memory (Hazard c r)
   pub protects : (r : ℕ) → s'.protects c r ≡ s.protects c r
@@ -115,7 +115,7 @@ pub record Passes (t : Plan) (c : ℕ) (s s' : Shared) (n : ℕ) : Type 0 where
 -- the exchange of an entry that succeeds in both machines
 pub record Enters (t : Plan) (s s' : Shared) (c : ℕ) (x : Caller) (m : Trail t) (k n : ℕ) (entry : CasEntry) (cradles : List ℕ) : Type 0 where
   pub plan : IsPlan t
-  pub fine : Fine t s
+  pub fine : SharedHolds t s
   pub base : Base t s c x
   pub walks : Walks t s c x (spot_of x.entry.hand) m
   pub guards : Guards t x m
@@ -140,7 +140,7 @@ entered t c s s' x cradles routine = record (moved (cradled x cradles) (one_more
 -- the source makes it too, and stands before the next entry, or has begun the wrap-up
 pub enters : (t : Plan) (s s' : Shared) (c : ℕ) (x : Caller) (m : Trail t) (k n : ℕ) (entry : CasEntry) (cradles : List ℕ) (routine : Routine) → Enters t s s' c x m k n entry cradles
     → let y = entered t c s s' x cradles routine in
-    PlaysEvent t.text (events.Access c 0) s.source x.source x.watch s'.source y.source y.watch × Base t s' c y × BehindEntry t s' c y (k + 1) (nat_lt (k + 1) (length (list_of (instr_in t.target x.entry))))
+    PlaysEvent t.text (events.Access c 0) s.source x.source x.watch s'.source y.source y.watch × Base t s' c y × AfterExchange t s' c y (k + 1) (nat_lt (k + 1) (length (list_of (instr_in t.target x.entry))))
 enters t s s' c x m k n entry cradles routine w = (
   (ap (λ caller. is_enabled_for t.text (events.Access c 0) (Some caller) s.source) w.source ∙ list.enabled, (sym (ap (λ turn. turn.memory) turned), refl, refl)),
   base',
@@ -213,6 +213,6 @@ enters t s s' c x m k n entry cradles routine w = (
     };
   }
 
-  behind : (b : Bool) → nat_lt (k + 1) (length (list_of (instr_in t.target x.entry))) ≡ b → BehindEntry t s' c (entered t c s s' x cradles routine) (k + 1) b
+  behind : (b : Bool) → nat_lt (k + 1) (length (list_of (instr_in t.target x.entry))) ≡ b → AfterExchange t s' c (entered t c s s' x cradles routine) (k + 1) b
   behind true is = (m, walks', w.guards, w.generator, ap (λ turn. turn.caller) turned ∙ rw is refl, (λ r is. shown_still (node_in m.mirror r) (w.shown r is)))
   behind false is = (m, walks', w.guards, w.generator, ap (λ turn. turn.caller) turned ∙ rw is refl, begun, refl, (λ r is. shown_still (node_in m.mirror r) (w.shown r is)))

@@ -23,7 +23,7 @@ use Rattle.caller_steps.specs.Wants.{place_exchange, object_exchange, exchange_w
 use Rattle.caller_steps.specs.After.{succeeds, has_object}
 use Rattle.run_ahead.specs.Agreeing.{Agree, StandsFor}
 use Rattle.sim_relation.specs.Views.{Plan, IsPlan, Shared, word_for, name_of, link, top, Resident, Apart}
-use Rattle.sim_relation.specs.Shared.{Fine}
+use Rattle.sim_relation.specs.Shared.{SharedHolds}
 use Rattle.sim_relation.proofs.Names.{residents_apart, null_resident, has_slot_of}
 
 -- both are numbers, or both are nodes
@@ -71,12 +71,12 @@ pub data IsUnder (s : Shared) (c : ℕ) (own : ℕ → Bool) (n : ℕ) : Type 0 
   null : n ≡ 0 → IsUnder s c own n
   under : (r : ℕ) → own r ≡ false → s.protects c r ≡ n → n ≢ 0 → IsUnder s c own n
 
-pub under_resident : (t : Plan) (s : Shared) (c : ℕ) (own : ℕ → Bool) (n : ℕ) → IsPlan t → Fine t s → IsUnder s c own n → Resident t s n
+pub under_resident : (t : Plan) (s : Shared) (c : ℕ) (own : ℕ → Bool) (n : ℕ) → IsPlan t → SharedHolds t s → IsUnder s c own n → Resident t s n
 under_resident t s c own n plan f (null z) = null_resident t s n plan f z
 under_resident t s c own n plan f (under r free is some) = subst (λ (i : ℕ). Resident t s i) is (f.guard c r (λ z. some (sym is ∙ z))).resident
 
 -- what is in a root is resident, since no name that a root reaches is retired
-pub root_resident : (t : Plan) (s : Shared) (z : ℕ) → IsPlan t → Fine t s → has (top s z) s.source.retired ≡ false → Resident t s (top s z)
+pub root_resident : (t : Plan) (s : Shared) (z : ℕ) → IsPlan t → SharedHolds t s → has (top s z) s.source.retired ≡ false → Resident t s (top s z)
 root_resident t s z plan f live = of (cases_eq (s.present (t.home (top s z))) (top s z)) (f.store.top z) where
   of : (s.present (t.home (top s z)) ≡ top s z) ⊎ (s.present (t.home (top s z)) ≢ top s z) → (top s z ≡ 0) ⊎ (s.public (top s z) ≡ true) → Resident t s (top s z)
   of (inl here) known = here
@@ -101,7 +101,7 @@ pub record Offers (t : Plan) (s : Shared) (c : ℕ) (own : ℕ → Bool) (core m
   pub pairs : (o e g : ℕ) → own o ≡ false → s.protects c o ≢ 0 → s.protects c e ≢ 0 → Apart t (link s (s.protects c o) g) (s.protects c e)
 
 -- the content of a guarded object is apart from what is guarded
-pub content_apart : (t : Plan) (s : Shared) (c : ℕ) (own : ℕ → Bool) (core mirror : Registers) (entry : CasEntry) (o e g : ℕ) → IsPlan t → Fine t s → Offers t s c own core mirror entry
+pub content_apart : (t : Plan) (s : Shared) (c : ℕ) (own : ℕ → Bool) (core mirror : Registers) (entry : CasEntry) (o e g : ℕ) → IsPlan t → SharedHolds t s → Offers t s c own core mirror entry
     → IsUnder s c own o → o ≢ 0 → IsUnder s c own e → Apart t (link s o g) e
 content_apart t s c own core mirror entry o e g plan f w (null z) some ue = absurd (some z)
 content_apart t s c own core mirror entry o e g plan f w (under r free is _) some (null z) = λ same. ⊎_elim
@@ -120,7 +120,7 @@ word_there zero f e r = refl
 word_there (suc j) f e r = refl
 
 -- so the test of an exchange agrees with the source's
-pub tests_agree : (t : Plan) (s : Shared) (c : ℕ) (own : ℕ → Bool) (core mirror : Registers) (entry : CasEntry) → IsPlan t → Fine t s → Offers t s c own core mirror entry
+pub tests_agree : (t : Plan) (s : Shared) (c : ℕ) (own : ℕ → Bool) (core mirror : Registers) (entry : CasEntry) → IsPlan t → SharedHolds t s → Offers t s c own core mirror entry
     → succeeds entry core (s.memory (word_of (exchange_wanted entry core))) ≡ is_some (exchange entry mirror s.source)
 tests_agree t s c own core mirror entry plan f w = by_place entry.place refl where
   expected_word : word_in core entry.expected ≡ word_for t.home (value_in mirror entry.expected)

@@ -16,18 +16,18 @@ use Rattle.source_machine.specs.MethodRuns.{put}
 use Rattle.source_machine.proofs.Places.{each_put, put_other, fields_new, fields_new_other}
 use Rattle.run_ahead.specs.Typed.{IsTyped}
 use Rattle.sim_relation.specs.Views.{Plan, IsPlan, Owner, Null, Held, Retiring, Shared, word_for, name_of, link, Resident}
-use Rattle.sim_relation.specs.Shared.{Slot, Fine}
-use Rattle.sim_relation.specs.Goes.{Goes}
+use Rattle.sim_relation.specs.Shared.{Slot, SharedHolds}
+use Rattle.sim_relation.specs.MayChange.{MayChange}
 use Rattle.sim_relation.proofs.Names.{slot_by, own_private, null_private}
 use Rattle.sim_pools.proofs.Slots.{apart}
 use Rattle.sim_exchanges.proofs.Writing.{linked, Links, each_written}
 
 -- a slot in a cradle isn't slot 0
-held_some : (t : Plan) (s : Shared) (c k j : ℕ) → Fine t s → s.owner j ≡ Held c k → j ≢ 0
+held_some : (t : Plan) (s : Shared) (c k j : ℕ) → SharedHolds t s → s.owner j ≡ Held c k → j ≢ 0
 held_some t s c k j f own z = let e : Null ≡ Held c k = sym f.none_there ∙ (ap s.owner (sym z) ∙ own) in cc
 
 -- the slot's name, if it has one, is neither published nor retired
-held_name : (t : Plan) (s : Shared) (c k j : ℕ) → Fine t s → s.owner j ≡ Held c k → (has (s.present j) s.source.retired ≡ false) × (s.public (s.present j) ≡ false)
+held_name : (t : Plan) (s : Shared) (c k j : ℕ) → SharedHolds t s → s.owner j ≡ Held c k → (has (s.present j) s.source.retired ≡ false) × (s.public (s.present j) ≡ false)
 held_name t s c k j f own = let slot = slot_by s j (Held c k) own (f.slot j) in (slot.1, slot.2)
 
 -- ---- a field of it is zeroed, and it has no name any more
@@ -35,7 +35,7 @@ held_name t s c k j f own = let slot = slot_by s j (Held c k) own (f.slot j) in 
 abbrev pub zeroed : Shared → ℕ → ℕ → Shared
 zeroed s j g = record s { memory = store s.memory (FieldOf j g) 0; present = put s.present j 0 }
 
-pub fine_zeroed : (t : Plan) (s : Shared) (c k j g : ℕ) → IsPlan t → Fine t s → s.owner j ≡ Held c k → ((r : ℕ) → s.protects c r ≡ 0) → Fine t (zeroed s j g)
+pub fine_zeroed : (t : Plan) (s : Shared) (c k j g : ℕ) → IsPlan t → SharedHolds t s → s.owner j ≡ Held c k → ((r : ℕ) → s.protects c r ≡ 0) → SharedHolds t (zeroed s j g)
 fine_zeroed t s c k j g plan f own bare = record {
   warning = f.warning;
   tag = f.tag;
@@ -82,7 +82,7 @@ fine_zeroed t s c k j g plan f own bare = record {
       some (ap (λ (i : ℕ). s.protects i r) (sym same) ∙ bare r))
       (f.mine d r some)
 
-pub goes_zeroed : (t : Plan) (s : Shared) (c k j g : ℕ) → s.owner j ≡ Held c k → Goes t c s (zeroed s j g)
+pub goes_zeroed : (t : Plan) (s : Shared) (c k j g : ℕ) → s.owner j ≡ Held c k → MayChange t c s (zeroed s j g)
 goes_zeroed t s c k j g own = record {
   phase = omega arith;
   warning = λ d. omega arith;
@@ -133,7 +133,7 @@ pub record Draws (t : Plan) (s : Shared) (c k j g : ℕ) : Type 0 where
   pub zeros : (i : ℕ) → i ≢ g → s.memory (FieldOf j i) ≡ 0
   pub typed : IsTyped t.text (drawn t s j g).source
 
-pub fine_drawn : (t : Plan) (s : Shared) (c k j g : ℕ) → IsPlan t → Fine t s → Draws t s c k j g → Fine t (drawn t s j g)
+pub fine_drawn : (t : Plan) (s : Shared) (c k j g : ℕ) → IsPlan t → SharedHolds t s → Draws t s c k j g → SharedHolds t (drawn t s j g)
 fine_drawn t s c k j g plan f w = record {
   warning = f.warning;
   tag = f.tag;
@@ -203,7 +203,7 @@ fine_drawn t s c k j g plan f w = record {
       word ∙ (f.store.field i h (λ z. some (name ∙ z)) ∙ sym (ap (λ (n : ℕ). word_for t.home (field_of (drawn t s j g).source n h)) name
       ∙ ap (λ (x : Option (List Value)). word_for t.home (value_at (unwrap_or x []) h)) (fields_new_other s.unused (s.present i) (blank_fields t.text) s.source.nodes (old i))))
 
-pub goes_drawn : (t : Plan) (s : Shared) (c k j g : ℕ) → IsPlan t → Fine t s → Draws t s c k j g → Goes t c s (drawn t s j g)
+pub goes_drawn : (t : Plan) (s : Shared) (c k j g : ℕ) → IsPlan t → SharedHolds t s → Draws t s c k j g → MayChange t c s (drawn t s j g)
 goes_drawn t s c k j g plan f w = record {
   phase = omega arith;
   warning = λ d. omega arith;
@@ -224,7 +224,7 @@ goes_drawn t s c k j g plan f w = record {
 
 -- ---- a put into an own node that isn't published
 
-pub goes_put : (t : Plan) (c k : ℕ) (s : Shared) (o f : ℕ) (v : Value) → Links t s o f v → s.owner (t.home o) ≡ Held c k → s.public o ≡ false → Goes t c s (linked t s o f v)
+pub goes_put : (t : Plan) (c k : ℕ) (s : Shared) (o f : ℕ) (v : Value) → Links t s o f v → s.owner (t.home o) ≡ Held c k → s.public o ≡ false → MayChange t c s (linked t s o f v)
 goes_put t c k s o f v w own private = record {
   phase = omega arith;
   warning = λ d. omega arith;

@@ -47,7 +47,7 @@ use Rattle.run_ahead.proofs.Mirroring.{same_itself}
 use Rattle.run_ahead.proofs.Plain.{agrees_at, at_place}
 use Rattle.run_ahead.proofs.TypedMemory.{behind_typed, register_for, field_at, root_at, value_of_kind}
 use Rattle.sim_relation.specs.Views.{Plan, IsPlan, Shared, Caller, name_of, top}
-use Rattle.sim_relation.specs.Shared.{Fine}
+use Rattle.sim_relation.specs.Shared.{SharedHolds}
 use Rattle.sim_relation.specs.Callers.{Calm, Base, Trail, Walks, Guards, spared, counts, spot_of}
 use Rattle.sim_relation.specs.Points.{IsProperPoint, point}
 use Rattle.sim_exchanges.proofs.Exchanging.{AreAlike, IsUnder, null, under, PlaceUnder, Offers}
@@ -115,7 +115,7 @@ operand_is_own t m at entry l r plan leads is operand = by_method m.walk.method.
 
 -- ---- what roots hold isn't retired
 
-pub roots_live : (t : Plan) (s : Shared) (x : Caller) (z : ℕ) → Fine t s → IsProperPoint (point s x) → has (top s z) s.source.retired ≡ false
+pub roots_live : (t : Plan) (s : Shared) (x : Caller) (z : ℕ) → SharedHolds t s → IsProperPoint (point s x) → has (top s z) s.source.retired ≡ false
 roots_live t s x z f proper = of (value_at s.source.roots z) refl where
   of : (v : Value) → value_at s.source.roots z ≡ v → has (name_of (value_at s.source.roots z)) s.source.retired ≡ false
   of (Number n) is = ap (λ (v : Value). has (name_of v) s.source.retired) is ∙ f.null_stays
@@ -150,7 +150,7 @@ found_right text memory mirror (places.Field a f) kind v typed is found = of (fi
 -- a caller stands before one of an instruction's exchanges
 pub record Before (t : Plan) (s : Shared) (c : ℕ) (x : Caller) (m : Trail t) (i : Instr) (k : ℕ) (entry : CasEntry) : Type 0 where
   pub plan : IsPlan t
-  pub fine : Fine t s
+  pub fine : SharedHolds t s
   pub base : Base t s c x
   pub walks : Walks t s c x (spot_of x.entry.hand) m
   pub guards : Guards t x m

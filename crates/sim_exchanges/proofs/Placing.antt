@@ -26,7 +26,7 @@ use Rattle.caller_steps.specs.After.{succeeds, has_object}
 use Rattle.run_ahead.specs.Typed.{AreOfKinds, IsTyped, field_kinds, root_kinds}
 use Rattle.run_ahead.proofs.TypedMemory.{behind_typed, field_at, root_at}
 use Rattle.sim_relation.specs.Views.{Plan, IsPlan, Held, Shared, word_for, name_of, Resident}
-use Rattle.sim_relation.specs.Shared.{Fine}
+use Rattle.sim_relation.specs.Shared.{SharedHolds}
 use Rattle.sim_relation.specs.Steps.{after_access}
 use Rattle.sim_relation.proofs.Names.{own_private}
 use Rattle.sim_exchanges.proofs.Exchanging.{IsUnder, null, under, under_resident, PlaceUnder, Offers, word_agrees}
@@ -51,7 +51,7 @@ PlaceThere t s c own mirror (places.Field a f) =
     IsUnder s c own (reference_in mirror a).node × ((reference_in mirror a).node ≢ 0) × ((values : List Value) × (fields_named (reference_in mirror a).node s.source.nodes ≡ Some values) × (f < length values))
 
 -- what is under a guard of the caller is in no cradle of another
-no_other : (t : Plan) (s : Shared) (c : ℕ) (own : ℕ → Bool) (o : ℕ) → Fine t s → IsUnder s c own o → o ≢ 0 → (d k : ℕ) → d ≢ c → s.owner (t.home o) ≡ Held d k → ⊥
+no_other : (t : Plan) (s : Shared) (c : ℕ) (own : ℕ → Bool) (o : ℕ) → SharedHolds t s → IsUnder s c own o → o ≢ 0 → (d k : ℕ) → d ≢ c → s.owner (t.home o) ≡ Held d k → ⊥
 no_other t s c own o f (null z) some d k ne held = some z
 no_other t s c own o f (under r free is _) some d k ne held = of (f.mine c r (λ z. some (sym is ∙ z))) where
   of : (s.public (s.protects c r) ≡ true) ⊎ ((i : ℕ) × (s.owner (t.home (s.protects c r)) ≡ Held c i)) → ⊥
@@ -60,7 +60,7 @@ no_other t s c own o f (under r free is _) some d k ne held = of (f.mine c r (λ
       (let z : true ≡ false = sym public ∙ private in cc)
   of (inr mine) = ne (let z : Held d k ≡ Held c mine.0 = sym held ∙ (ap (λ (n : ℕ). s.owner (t.home n)) (sym is) ∙ mine.1) in cc)
 
-pub place_writes : (t : Plan) (s : Shared) (c : ℕ) (own : ℕ → Bool) (mirror : Registers) (p : Place) (v : Value) → IsPlan t → Fine t s → PlaceThere t s c own mirror p → Resident t s (name_of v)
+pub place_writes : (t : Plan) (s : Shared) (c : ℕ) (own : ℕ → Bool) (mirror : Registers) (p : Place) (v : Value) → IsPlan t → SharedHolds t s → PlaceThere t s c own mirror p → Resident t s (name_of v)
     → (name_of v ≡ 0) ⊎ (s.public (name_of v) ≡ true) → IsTyped t.text (placed t s mirror p v).source
     → Writes t c s (place_memory t s.memory mirror p v) (with_place p mirror v s.source).nodes (with_place p mirror v s.source).roots
 place_writes t s c own mirror (places.Root z) v plan f there here known typed = record {
@@ -136,7 +136,7 @@ makes t s mirror entry after is = by_found (found_at entry.place mirror s.source
   by_found (Some found) finds made = by_test found finds (same_value found (value_in mirror entry.expected)) refl made
 
 -- where a value is found the place is there
-pub place_there : (t : Plan) (s : Shared) (c : ℕ) (own : ℕ → Bool) (core mirror : Registers) (p : Place) (kind : FieldKind) (found : Value) → Fine t s → PlaceUnder t s c own core mirror p
+pub place_there : (t : Plan) (s : Shared) (c : ℕ) (own : ℕ → Bool) (core mirror : Registers) (p : Place) (kind : FieldKind) (found : Value) → SharedHolds t s → PlaceUnder t s c own core mirror p
     → place_kind t.text.fields t.text.roots p ≡ Some kind → found_at p mirror s.source ≡ Some found → PlaceThere t s c own mirror p
 place_there t s c own core mirror (places.Root z) kind found f place is finds = is_within (root_kinds t.text) s.source.roots z kind f.typed.roots (root_at t.text z kind is)
 place_there t s c own core mirror (places.Field a g) kind found f place is finds =
@@ -149,7 +149,7 @@ place_there t s c own core mirror (places.Field a g) kind found f place is finds
         (place.1, (λ z. (let e : None ≡ Some values = sym f.store.null_node ∙ (ap (λ (n : ℕ). fields_named n s.source.nodes) (sym z) ∙ fields) in cc)), (values, fields, is_within (field_kinds t.text) values g kind typed (field_at t.text g kind is)))
 
 -- what is found is null or was published
-pub found_shown : (t : Plan) (s : Shared) (mirror : Registers) (p : Place) (found : Value) → Fine t s → found_at p mirror s.source ≡ Some found → (name_of found ≡ 0) ⊎ (s.public (name_of found) ≡ true)
+pub found_shown : (t : Plan) (s : Shared) (mirror : Registers) (p : Place) (found : Value) → SharedHolds t s → found_at p mirror s.source ≡ Some found → (name_of found ≡ 0) ⊎ (s.public (name_of found) ≡ true)
 found_shown t s mirror (places.Root z) found f finds =
     let same : value_at s.source.roots z ≡ found = cc in subst (λ (v : Value). (name_of v ≡ 0) ⊎ (s.public (name_of v) ≡ true)) same (f.store.top z)
 found_shown t s mirror (places.Field a g) found f finds = of (fields_named (reference_in mirror a).node s.source.nodes) refl finds where

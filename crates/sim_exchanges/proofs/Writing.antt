@@ -14,16 +14,16 @@ use Rattle.source_machine.proofs.Places.{each_put, put_same, put_other, fields_s
 use Rattle.source_machine.proofs.Names.{has_push, has_old, has_new}
 use Rattle.run_ahead.specs.Typed.{IsTyped}
 use Rattle.sim_relation.specs.Views.{Plan, Owner, Null, Pool, Held, Living, Retiring, Dead, Shared, word_for, name_of, link, top, Resident}
-use Rattle.sim_relation.specs.Shared.{Slot, Fine}
-use Rattle.sim_relation.specs.Goes.{Goes}
+use Rattle.sim_relation.specs.Shared.{Slot, SharedHolds}
+use Rattle.sim_relation.specs.MayChange.{MayChange}
 use Rattle.sim_relation.proofs.Names.{slot_by, has_slot_of, residents_apart, own_private}
 use Rattle.sim_relation.proofs.Lists.{value_set, value_set_other}
 use Rattle.sim_pools.proofs.Slots.{apart}
 
 -- two steps of a caller, where the second's new links and guards are given
-pub goes_compose : (t : Plan) (c : ℕ) (s s' s'' : Shared) → Goes t c s s' → Goes t c s' s''
+pub goes_compose : (t : Plan) (c : ℕ) (s s' s'' : Shared) → MayChange t c s s' → MayChange t c s' s''
     → ((n g : ℕ) → (link s'' n g ≡ link s n g) ⊎ Resident t s'' (link s'' n g))
-    → ((r : ℕ) → s''.protects c r ≡ s.protects c r) → Goes t c s s''
+    → ((r : ℕ) → s''.protects c r ≡ s.protects c r) → MayChange t c s s''
 goes_compose t c s s' s'' g h links guards = record {
   phase = omega (arith, g.phase, h.phase);
   warning = λ d. omega (arith, g.warning d, h.warning d);
@@ -58,7 +58,7 @@ slot_published Dead word n tag rt pb some slot = slot
 abbrev pub published : Plan → Shared → ℕ → Shared
 published t s n = record s { public = put s.public n true; owner = put s.owner (t.home n) (publish (s.owner (t.home n))) }
 
-pub fine_published : (t : Plan) (s : Shared) (n : ℕ) → Fine t s → n ≢ 0 → Resident t s n → Fine t (published t s n)
+pub fine_published : (t : Plan) (s : Shared) (n : ℕ) → SharedHolds t s → n ≢ 0 → Resident t s n → SharedHolds t (published t s n)
 fine_published t s n f some here = record {
   warning = f.warning;
   tag = f.tag;
@@ -122,7 +122,7 @@ still_retiring : (o : Owner) (d : ℕ) → o ≡ Retiring d → publish o ≡ Re
 still_retiring o d is = ap publish is
 
 -- the published name is the caller's own, or was published
-pub goes_published : (t : Plan) (c : ℕ) (s : Shared) (n : ℕ) → Fine t s → Resident t s n → (s.public n ≡ true) ⊎ ((k : ℕ) × (s.owner (t.home n) ≡ Held c k)) → Goes t c s (published t s n)
+pub goes_published : (t : Plan) (c : ℕ) (s : Shared) (n : ℕ) → SharedHolds t s → Resident t s n → (s.public n ≡ true) ⊎ ((k : ℕ) × (s.owner (t.home n) ≡ Held c k)) → MayChange t c s (published t s n)
 goes_published t c s n f here known = record {
   phase = omega arith;
   warning = λ d. omega arith;
@@ -180,7 +180,7 @@ pub record Links (t : Plan) (s : Shared) (o f : ℕ) (v : Value) : Type 0 where
   pub known : (name_of v ≡ 0) ⊎ (s.public (name_of v) ≡ true)
   pub typed : IsTyped t.text (linked t s o f v).source
 
-pub fine_linked : (t : Plan) (s : Shared) (o f : ℕ) (v : Value) → Fine t s → Links t s o f v → Fine t (linked t s o f v)
+pub fine_linked : (t : Plan) (s : Shared) (o f : ℕ) (v : Value) → SharedHolds t s → Links t s o f v → SharedHolds t (linked t s o f v)
 fine_linked t s o f v fine w = record {
   warning = fine.warning;
   tag = fine.tag;
@@ -229,7 +229,7 @@ fine_linked t s o f v fine w = record {
 }
 
 pub goes_linked : (t : Plan) (c : ℕ) (s : Shared) (o f : ℕ) (v : Value) → Links t s o f v → Resident t s (name_of v) → ((d k : ℕ) → d ≢ c → s.owner (t.home o) ≡ Held d k → ⊥)
-    → Goes t c s (linked t s o f v) × ((n g : ℕ) → (link (linked t s o f v) n g ≡ link s n g) ⊎ Resident t s (link (linked t s o f v) n g))
+    → MayChange t c s (linked t s o f v) × ((n g : ℕ) → (link (linked t s o f v) n g ≡ link s n g) ⊎ Resident t s (link (linked t s o f v) n g))
 goes_linked t c s o f v w new others = (
   record {
     phase = omega arith;
@@ -253,7 +253,7 @@ goes_linked t c s o f v w new others = (
 abbrev pub dropped : Plan → Shared → ℕ → ℕ → Shared
 dropped t s c e = record s { source = record s.source { retired = s.source.retired ++ e ∷ [] }; owner = put s.owner (t.home e) (Retiring c) }
 
-pub fine_dropped : (t : Plan) (s : Shared) (c e : ℕ) → Fine t s → e ≢ 0 → Resident t s e → s.owner (t.home e) ≡ Living → s.public e ≡ true → IsTyped t.text (dropped t s c e).source → Fine t (dropped t s c e)
+pub fine_dropped : (t : Plan) (s : Shared) (c e : ℕ) → SharedHolds t s → e ≢ 0 → Resident t s e → s.owner (t.home e) ≡ Living → s.public e ≡ true → IsTyped t.text (dropped t s c e).source → SharedHolds t (dropped t s c e)
 fine_dropped t s c e f some here own public typed = record {
   warning = f.warning;
   tag = f.tag;
@@ -294,7 +294,7 @@ fine_dropped t s c e f some here own public typed = record {
   not_new : (n : ℕ) → n ≢ e → has n s.source.retired ≡ false → has n (s.source.retired ++ e ∷ []) ≡ false
   not_new n ne was = same_has n ne ∙ was
 
-pub goes_dropped : (t : Plan) (s : Shared) (c e : ℕ) → s.owner (t.home e) ≡ Living → Goes t c s (dropped t s c e)
+pub goes_dropped : (t : Plan) (s : Shared) (c e : ℕ) → s.owner (t.home e) ≡ Living → MayChange t c s (dropped t s c e)
 goes_dropped t s c e own = record {
   phase = omega arith;
   warning = λ d. omega arith;
@@ -324,7 +324,7 @@ pub record LinksRoot (t : Plan) (s : Shared) (z : ℕ) (v : Value) : Type 0 wher
   pub known : (name_of v ≡ 0) ⊎ (s.public (name_of v) ≡ true)
   pub typed : IsTyped t.text (linked_root t s z v).source
 
-pub fine_linked_root : (t : Plan) (s : Shared) (z : ℕ) (v : Value) → Fine t s → LinksRoot t s z v → Fine t (linked_root t s z v)
+pub fine_linked_root : (t : Plan) (s : Shared) (z : ℕ) (v : Value) → SharedHolds t s → LinksRoot t s z v → SharedHolds t (linked_root t s z v)
 fine_linked_root t s z v f w = record {
   warning = f.warning;
   tag = f.tag;
@@ -355,7 +355,7 @@ fine_linked_root t s z v f w = record {
   };
 }
 
-pub goes_linked_root : (t : Plan) (c : ℕ) (s : Shared) (z : ℕ) (v : Value) → Goes t c s (linked_root t s z v)
+pub goes_linked_root : (t : Plan) (c : ℕ) (s : Shared) (z : ℕ) (v : Value) → MayChange t c s (linked_root t s z v)
 goes_linked_root t c s z v = record {
   phase = omega arith;
   warning = λ d. omega arith;

@@ -28,9 +28,9 @@ use Rattle.run_ahead.proofs.GuardRows.{guards_keep}
 use Rattle.norm_lang.specs.Freshness.{fresh_after}
 use Rattle.norm_lang.specs.RegisterUse.{set_after}
 use Rattle.sim_relation.specs.Views.{Plan, IsPlan, Held, Shared, Caller, link, name_of, Resident}
-use Rattle.sim_relation.specs.Shared.{Fine, Guarded}
+use Rattle.sim_relation.specs.Shared.{SharedHolds, Guarded}
 use Rattle.sim_relation.specs.Callers.{Known, Calm, Base, Trail, Walks, Gets, Guards, Running, guard_state, spared, spot_of}
-use Rattle.sim_relation.specs.Goes.{Goes}
+use Rattle.sim_relation.specs.MayChange.{MayChange}
 use Rattle.sim_relation.specs.Allowing.{IsProperFor}
 use Rattle.sim_relation.proofs.Names.{residents_apart, null_resident, has_slot_of}
 use Rattle.sim_walks.proofs.Along.{made_before}
@@ -49,7 +49,7 @@ checked_shared s c x = record s { protects = put s.protects c x.names.name }
 -- what a passing check needs
 pub record Passing (t : Plan) (s : Shared) (c : ℕ) (x : Caller) (m : Trail t) : Type 0 where
   pub plan : IsPlan t
-  pub fine : Fine t s
+  pub fine : SharedHolds t s
   pub base : Base t s c x
   pub walks : Walks t s c x (spot_of x.entry.hand) m
   pub gets : Gets t s c x m
@@ -90,7 +90,7 @@ named_holds t s c x m r w some = ⊎_elim
     mine (inr (inl p)) = inl p
     mine (inr (inr own)) = inr (own.0, own.1)
 
-pub fine_passed : (t : Plan) (s : Shared) (c : ℕ) (x : Caller) (m : Trail t) → Passing t s c x m → Fine t (checked_shared s c x)
+pub fine_passed : (t : Plan) (s : Shared) (c : ℕ) (x : Caller) (m : Trail t) → Passing t s c x m → SharedHolds t (checked_shared s c x)
 fine_passed t s c x m w = record {
   warning = f.warning;
   tag = f.tag;
@@ -109,7 +109,7 @@ fine_passed t s c x m w = record {
   guard = λ d r. by_caller d r (cases_eq d c);
   mine = λ d r. mine_by d r (cases_eq d c);
 } where
-  f : Fine t s
+  f : SharedHolds t s
   f = w.fine
 
   at_own : (d r : ℕ) → d ≡ c → put s.protects c x.names.name d r ≡ x.names.name r
@@ -135,7 +135,7 @@ fine_passed t s c x m w = record {
       rw at (subst (λ (i : ℕ). (s.public (x.names.name r) ≡ true) ⊎ ((k : ℕ) × (s.owner (t.home (x.names.name r)) ≡ Held i k))) (sym e) (named_holds t s c x m r w (λ z. some (at ∙ z))).3)
   mine_by d r (inr ne) some = let at = at_other d r ne in rw at (f.mine d r (λ z. some (at ∙ z)))
 
-pub goes_passed : (t : Plan) (s : Shared) (c : ℕ) (x : Caller) (m : Trail t) → Passing t s c x m → Goes t c s (checked_shared s c x)
+pub goes_passed : (t : Plan) (s : Shared) (c : ℕ) (x : Caller) (m : Trail t) → Passing t s c x m → MayChange t c s (checked_shared s c x)
 goes_passed t s c x m w = record {
   phase = omega arith;
   warning = λ d. omega arith;
@@ -211,7 +211,7 @@ walks_passed t s c x m w is = record {
   k : Walks t s c x (spot_of x.entry.hand) m
   k = w.walks
 
-  fine' : Fine t (checked_shared s c x)
+  fine' : SharedHolds t (checked_shared s c x)
   fine' = fine_passed t s c x m w
 
   hoped : (n : ℕ) → IsHoped (trust_along m.walk.method m.path) m.mirror n → Resident t s n

@@ -8,9 +8,9 @@ use Rattle.source_machine.specs.MethodRuns.{put}
 use Rattle.source_machine.proofs.Places.{put_same, put_other}
 use Rattle.run_ahead.specs.Following.{Walk}
 use Rattle.sim_relation.specs.Views.{Plan, Shared, Caller}
-use Rattle.sim_relation.specs.Shared.{Fine}
+use Rattle.sim_relation.specs.Shared.{SharedHolds}
 use Rattle.sim_relation.specs.Callers.{Base, spared, KeepsGuards}
-use Rattle.sim_relation.specs.Goes.{Goes}
+use Rattle.sim_relation.specs.MayChange.{MayChange}
 use Rattle.sim_relation.specs.Steps.{hazarded, regarded}
 
 pub guard_here : (guards : Guards) (r slot : ℕ) → r < length guards.slots → guard_at (with_guard guards r slot) r ≡ slot
@@ -26,7 +26,7 @@ protects_more s c r x d k some = grind (arith, nat_tests)
 pub protects_other : (s : Shared) (c r x k : ℕ) → k ≢ r → (hazarded s c r x).protects c k ≡ s.protects c k
 protects_other s c r x k ne = grind (arith, nat_tests)
 
-pub fine_hazarded : (t : Plan) (c : ℕ) (s : Shared) (r x : ℕ) → Fine t s → Fine t (hazarded s c r x)
+pub fine_hazarded : (t : Plan) (c : ℕ) (s : Shared) (r x : ℕ) → SharedHolds t s → SharedHolds t (hazarded s c r x)
 fine_hazarded t c s r x f = record {
   warning = f.warning;
   tag = f.tag;
@@ -49,7 +49,7 @@ fine_hazarded t c s r x f = record {
       record { resident = rw p.0 g.resident; word = rw (p.0, p.1) g.word; caller = g.caller; register = g.register };
 }
 
-pub goes_hazarded : (t : Plan) (c : ℕ) (s : Shared) (r x : ℕ) → Goes t c s (hazarded s c r x)
+pub goes_hazarded : (t : Plan) (c : ℕ) (s : Shared) (r x : ℕ) → MayChange t c s (hazarded s c r x)
 goes_hazarded t c s r x = record {
   phase = omega arith;
   warning = λ d. omega arith;

@@ -23,7 +23,7 @@ use Rattle.run_ahead.specs.Agreeing.{Agree, node_in}
 use Rattle.target_laws.specs.Trusted.{Trust, Trusted, Unchecked, Spoilt, carried_in, carried_by, trust_along, trust_after, trust_in_set, trust_at_start, confirmed}
 use Rattle.run_ahead.specs.Ahead.{Told}
 use Rattle.target_laws.specs.Methods.{Method, code_in}
-use Rattle.target_code.specs.PathStates.{over_plain, is_fresh_along}
+use Rattle.target_code.specs.PathStates.{over_plain, is_fresh_along, is_set_along}
 use Rattle.run_ahead.specs.Guards.{GuardStands}
 use Rattle.run_ahead.specs.Known.{IsGot, is_set_in}
 use Rattle.run_ahead.proofs.Quiet.{guard_keeps}
@@ -32,13 +32,14 @@ use Rattle.target_laws.proofs.Used.{has_none}
 use Rattle.norm_lang.specs.Freshness.{fresh_after}
 use Rattle.norm_lang.specs.RegisterUse.{set_after}
 use Rattle.sim_relation.specs.Views.{Plan, IsPlan, Shared, Caller}
-use Rattle.sim_relation.specs.Shared.{Fine}
+use Rattle.sim_relation.specs.Shared.{SharedHolds}
 use Rattle.sim_relation.specs.Callers.{Calm, Trail, Walks, Running, counts, guard_state, spared, spot_of}
-use Rattle.sim_relation.specs.Steps.{hazarded, regarded, with_names}
+use Rattle.sim_relation.specs.Steps.{hazarded, regarded, with_names, IsCounted, place_of}
 use Rattle.sim_walks.proofs.Along.{made_before}
-use Rattle.sim_relation.proofs.Codes.{blank}
+use Rattle.sim_relation.proofs.Codes.{blank, code_is}
 use Rattle.sim_guards.proofs.Guarding.{kept_hazarded, guard_here, guard_other, protects_more}
 use Rattle.sim_walks.proofs.Local.{at_spot}
+use Rattle.target_code.specs.Paths.{TargetPath}
 
 -- a register that was carried over or set isn't spoilt
 unspoilt_set : (i : Instr) → trust_in_set i ≡ Spoilt → ⊥
@@ -79,6 +80,41 @@ told_calm calm Spoilt A now live told = absurd (live refl)
 abbrev pub guard_name : (t : Plan) → Trail t → ℕ → ℕ
 guard_name t m k = if counts t m.walk m.path k then node_in m.mirror k else 0
 
+live_register : (a b c' : Bool) → (not a || b) ≡ true → (a ≡ false → c' ≡ true) → (c' || b) ≡ true
+live_register false b c' counted carried = rw (carried refl) refl
+live_register true true true counted carried = refl
+live_register true true false counted carried = refl
+live_register true false c' counted carried = absurd (let z : false ≡ true = counted in cc)
+
+-- while the caller isn't warned, a register whose guard counts has its name's slot
+pub guard_agrees : (t : Plan) (s : Shared) (c : ℕ) (x : Caller) (k : ℕ) (m : Trail t) → Walks t s c x (spot_of x.entry.hand) m → Calm s c x → counts t m.walk m.path k ≡ true → Agree t.home x.entry.hand.registers m.mirror (Ref k)
+guard_agrees t s c x k m w calm counted = told_calm (Calm s c x) (trust_along m.walk.method m.path (Ref k)) (Agree t.home x.entry.hand.registers m.mirror (Ref k)) calm
+    (unspoilt m.walk.method k m.path (live_register m.walk.method.wrapup (is_set_in m.walk.method m.path k) (carried_in m.walk.method (Ref k)) counted (carried m.walk.method.wrapup refl))) (w.ahead.agree (Ref k))
+  where
+    carried : (a : Bool) → m.walk.method.wrapup ≡ a → a ≡ false → carried_in m.walk.method (Ref k) ≡ true
+    carried true is gen = absurd (let z : true ≡ false = gen in cc)
+    carried false is gen = ap (λ (b : Bool). carried_by b m.walk.method.op (Ref k)) is
+
+-- a `grd` that counts, by what the target says of its place
+place_counts : (t : Plan) (s : Shared) (c : ℕ) (x : Caller) (k : ℕ) (m : Trail t) → Walks t s c x (spot_of x.entry.hand) m → IsCounted t.target (place_of x.entry) k → counts t m.walk m.path k ≡ true
+place_counts t s c x k m w (inl gen) = ap (λ (b : Bool). not b || is_set_in m.walk.method m.path k) (sym w.wrapup ∙ gen)
+place_counts t s c x k m w (inr all) =
+    let code = code_is t s c x (spot_of x.entry.hand) m w in
+    let set : is_set_in m.walk.method m.path k ≡ true =
+    subst (λ (code : List TargetInstr). is_set_along code m.path (Ref k) false ≡ true) code (all m.path (subst (λ (code : List TargetInstr). TargetPath code m.path x.entry.hand.at) (sym code) w.ahead.path_is)) in
+    rw set (or_true (not m.walk.method.wrapup))
+  where
+    or_true : (a : Bool) → (a || true) ≡ true
+    or_true true = refl
+    or_true false = refl
+
+-- so it gets a name, if the register isn't null
+pub guard_named : (t : Plan) (s : Shared) (c : ℕ) (x : Caller) (k : ℕ) (m : Trail t) → IsPlan t → Walks t s c x (spot_of x.entry.hand) m → IsCounted t.target (place_of x.entry) k → Calm s c x → node_in x.entry.hand.registers k ≢ 0 → guard_name t m k ≢ 0
+guard_named t s c x k m plan w place calm some none =
+    let counted = place_counts t s c x k m w place in
+    let name : guard_name t m k ≡ node_in m.mirror k = rw counted refl in
+    some ((guard_agrees t s c x k m w calm counted).0 ∙ (ap t.home (sym name ∙ none) ∙ plan.null))
+
 -- a wrap-up publishes no guard of a kept register
 unkept : (t : Plan) (m : Trail t) (at k : ℕ) → IsPlan t → slice_get (code_in m.walk.method) at ≡ Some (Guard (Ref k)) → spared t m.walk k ≡ false
 unkept t m at k plan is = of m.walk.method.wrapup refl (keeps m.walk.method.op (Ref k)) refl where
@@ -88,7 +124,7 @@ unkept t m at k plan is = of m.walk.method.wrapup refl (keeps m.walk.method.op (
   of true wrap true kept = absurd (has_none m.walk.method plan.compiled.barred.flawless GuardDropped at (Guard (Ref k)) is
       (inr (wrap, (Ref k, (let same : (k == k) ≡ true = grind (arith, nat_tests) in same), (keeps_is_kept m.walk.method.op (Ref k)).0 kept))))
 
-pub running_guarded : (t : Plan) (s : Shared) (c : ℕ) (x : Caller) (k : ℕ) → IsPlan t → Fine t s → (walk : Running t s c x (spot_of x.entry.hand)) → k < length x.entry.hand.guards.slots
+pub running_guarded : (t : Plan) (s : Shared) (c : ℕ) (x : Caller) (k : ℕ) → IsPlan t → SharedHolds t s → (walk : Running t s c x (spot_of x.entry.hand)) → k < length x.entry.hand.guards.slots
     → slice_get (code_in walk.0.walk.method) x.entry.hand.at ≡ Some (Guard (Ref k))
     → let next : Spot = record { at = x.entry.hand.at + 1; registers = x.entry.hand.registers } in
     Running t (hazarded s c k (node_in x.entry.hand.registers k)) c (at_spot (regarded x k (node_in x.entry.hand.registers k) (guard_name t walk.0 k)) next) next
@@ -136,19 +172,8 @@ running_guarded t s c x k plan f walk lt is = (
   name_counts true n some = refl
   name_counts false n some = absurd (some refl)
 
-  live : (a b c' : Bool) → (not a || b) ≡ true → (a ≡ false → c' ≡ true) → (c' || b) ≡ true
-  live false b c' counted carried = rw (carried refl) refl
-  live true true true counted carried = refl
-  live true true false counted carried = refl
-  live true false c' counted carried = absurd (let z : false ≡ true = counted in cc)
-
-  carried : (a : Bool) → walk.0.walk.method.wrapup ≡ a → a ≡ false → carried_in walk.0.walk.method (Ref k) ≡ true
-  carried true is gen = absurd (let z : true ≡ false = gen in cc)
-  carried false is gen = ap (λ (b : Bool). carried_by b walk.0.walk.method.op (Ref k)) is
-
   agrees : Calm s c x → counts t walk.0.walk walk.0.path k ≡ true → Agree t.home x.entry.hand.registers walk.0.mirror (Ref k)
-  agrees calm counted = told_calm (Calm s c x) (trust_along walk.0.walk.method walk.0.path (Ref k)) (Agree t.home x.entry.hand.registers walk.0.mirror (Ref k)) calm
-      (unspoilt walk.0.walk.method k walk.0.path (live walk.0.walk.method.wrapup (is_set_in walk.0.walk.method walk.0.path k) (carried_in walk.0.walk.method (Ref k)) counted (carried walk.0.walk.method.wrapup refl))) (w.ahead.agree (Ref k))
+  agrees calm counted = guard_agrees t s c x k walk.0 w calm counted
 
   word : Calm s c x → (r : ℕ) → (((r == k) ≡ true) × (r ≡ k)) ⊎ (((r == k) ≡ false) × (r ≢ k)) → put x.names.name k (guard_name t walk.0 k) r ≢ 0 → put x.names.valid k false r ≡ false
       → guard_at (with_guard x.entry.hand.guards k (node_in x.entry.hand.registers k)) r ≡ t.home (put x.names.name k (guard_name t walk.0 k) r)

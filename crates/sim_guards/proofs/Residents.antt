@@ -14,19 +14,19 @@ use Rattle.run_ahead.specs.Known.{IsGot, IsNameKept}
 use Rattle.run_ahead.specs.Following.{Walk}
 use Rattle.run_ahead.proofs.Names.{hoped_are_known}
 use Rattle.sim_relation.specs.Views.{Plan, IsPlan, Shared, Caller, link, name_of, Resident}
-use Rattle.sim_relation.specs.Shared.{Fine}
+use Rattle.sim_relation.specs.Shared.{SharedHolds}
 use Rattle.sim_relation.specs.Callers.{Known, Calm, Base, Trail, Gets, KeepsGuards, spared}
 use Rattle.sim_relation.specs.Allowing.{IsProperFor}
 use Rattle.sim_relation.proofs.Names.{null_resident}
 
 -- all that is reachable is null, published, or the caller's own
-pub reach_known : (t : Plan) (s : Shared) (c : ℕ) → Fine t s → (n other : ℕ) → Known t s c n → Reaches s.source n other → Known t s c other
+pub reach_known : (t : Plan) (s : Shared) (c : ℕ) → SharedHolds t s → (n other : ℕ) → Known t s c n → Reaches s.source n other → Known t s c other
 reach_known t s c f n other known (itself _) = known
 reach_known t s c f n other known (onward _ next _ points rest) =
     let is : link s n points.0 ≡ next = ap name_of points.2 in
     reach_known t s c f next other (⊎_elim (λ (z : link s n points.0 ≡ 0). inl (sym is ∙ z)) (λ (p : s.public (link s n points.0) ≡ true). inr (inl (ap s.public (sym is) ∙ p))) (f.store.link n points.0)) rest
 
-pub resident : (t : Plan) (s : Shared) (c : ℕ) (x : Caller) → IsPlan t → Fine t s → Base t s c x → c < t.setting.sizes.callers → Calm s c x → IsProperFor s x
+pub resident : (t : Plan) (s : Shared) (c : ℕ) (x : Caller) → IsPlan t → SharedHolds t s → Base t s c x → c < t.setting.sizes.callers → Calm s c x → IsProperFor s x
     → (n other : ℕ) → has n x.held.got ≡ true → Reaches s.source n other → Resident t s other
 resident t s c x plan f b lt calm proper n other got reach = of (cases_eq (s.present (t.home other)) other) (reach_known t s c f n other (b.known n got) reach) where
   of : (s.present (t.home other) ≡ other) ⊎ (s.present (t.home other) ≢ other) → Known t s c other → Resident t s other
@@ -43,7 +43,7 @@ resident t s c x plan f b lt calm proper n other got reach = of (cases_eq (s.pre
 pub protects_name : (t : Plan) (s : Shared) (c : ℕ) (x : Caller) (r : ℕ) → Base t s c x → x.names.valid r ≡ true → s.protects c r ≡ x.names.name r
 protects_name t s c x r b valid = b.protects r ∙ rw valid refl
 
-pub kept_resident : (t : Plan) (s : Shared) (c : ℕ) (x : Caller) (walk : Walk t.target t.text) (r : ℕ) → IsPlan t → Fine t s → Base t s c x → KeepsGuards t x walk → spared t walk r ≡ true → Resident t s (node_in walk.started r)
+pub kept_resident : (t : Plan) (s : Shared) (c : ℕ) (x : Caller) (walk : Walk t.target t.text) (r : ℕ) → IsPlan t → SharedHolds t s → Base t s c x → KeepsGuards t x walk → spared t walk r ≡ true → Resident t s (node_in walk.started r)
 kept_resident t s c x walk r plan f b kept is = let k = kept r is in subst (λ (n : ℕ). Resident t s n) k.0 (⊎_elim
     (λ (v : x.names.valid r ≡ true). named (protects_name t s c x r b v) (cases_eq (x.names.name r) 0))
     (λ (z : x.names.name r ≡ 0). null_resident t s (x.names.name r) plan f z)
@@ -54,7 +54,7 @@ kept_resident t s c x walk r plan f b kept is = let k = kept r is in subst (λ (
     named p (inr some) = subst (λ (n : ℕ). Resident t s n) p (f.guard c r (λ z. some (sym p ∙ z))).resident
 
 -- what a passed check speaks of is resident
-pub hoped_resident : (t : Plan) (s : Shared) (c : ℕ) (x : Caller) (m : Trail t) → IsPlan t → Fine t s → Base t s c x → c < t.setting.sizes.callers → Calm s c x → IsProperFor s x
+pub hoped_resident : (t : Plan) (s : Shared) (c : ℕ) (x : Caller) (m : Trail t) → IsPlan t → SharedHolds t s → Base t s c x → c < t.setting.sizes.callers → Calm s c x → IsProperFor s x
     → (m.walk.method.wrapup ≡ false → (r : ℕ) → node_in m.walk.started r ≡ 0) → KeepsGuards t x m.walk → Gets t s c x m
     → (n : ℕ) → IsHoped (trust_along m.walk.method m.path) m.mirror n → Resident t s n
 hoped_resident t s c x m plan f b lt calm proper blank kept gets n hoped = of (hoped_are_known t.target t.text m.walk.method m.path m.walk.started m.mirror x.held.got blank gets.got n hoped) where

@@ -26,13 +26,13 @@ use Rattle.sim_walks.proofs.Local.{at_spot}
 use Rattle.sim_relation.specs.Callers.{Running}
 use Rattle.sim_walks.proofs.Stopping.{settles_ends}
 use Rattle.sim_relation.specs.Views.{Plan, IsPlan, Held, Retiring, Dead, Shared, Caller}
-use Rattle.sim_relation.specs.Shared.{Fine}
-use Rattle.sim_relation.specs.Callers.{Own, Known, Base, Trail, Walks, Gets, BehindEntry, GoesOn, IsRetiring, spot_of}
+use Rattle.sim_relation.specs.Shared.{SharedHolds}
+use Rattle.sim_relation.specs.Callers.{Own, Known, Base, Trail, Walks, Gets, AfterExchange, GoesOn, IsRetiring, spot_of}
 use Rattle.caller_steps.specs.Signs.{quiet}
 use Rattle.sim_relation.specs.Points.{done}
 use Rattle.sim_relation.specs.Steps.{Kept, Ends, moved}
 use Rattle.sim_relation.proofs.Words.{store_idle}
-use Rattle.sim_relation.proofs.Moving.{base_moved, walks_moved, running_moved}
+use Rattle.sim_relation.proofs.Moving.{base_moved, walks_moved, running_moved, same_names}
 use Rattle.sim_pools.proofs.Slots.{with_tag, with_status, tagged, marked}
 use Rattle.sim_walks.proofs.Quieting.{ends_quiet}
 use Rattle.sim_guards.proofs.Unguarding.{kept_ends}
@@ -44,7 +44,7 @@ use Rattle.sim_walks.proofs.Committing.{list_ends}
 walks_tagged : (t : Plan) (s : Shared) (c n : ℕ) (x : Caller) (core : Spot) (m : Trail t) → Walks t s c x core m → Walks t (with_tag s n) c x core m
 walks_tagged t s c n x core m w = record { call = w.call; wrapup = w.wrapup; first = w.first; number = w.number; start = w.start; generator = w.generator; ahead = w.ahead; kept = w.kept; shown = w.shown; sound = w.sound }
 
-behind_tagged : (t : Plan) (s : Shared) (c n : ℕ) (x : Caller) (made : ℕ) (b : Bool) → BehindEntry t s c x made b → BehindEntry t (with_tag s n) c x made b
+behind_tagged : (t : Plan) (s : Shared) (c n : ℕ) (x : Caller) (made : ℕ) (b : Bool) → AfterExchange t s c x made b → AfterExchange t (with_tag s n) c x made b
 behind_tagged t s c n x made true w = (w.0, walks_tagged t s c n x (spot_of x.entry.hand) w.0 w.1, w.2, w.3, w.4, w.5)
 behind_tagged t s c n x made false w = (w.0, walks_tagged t s c n x (spot_of x.entry.hand) w.0 w.1, w.2, w.3, w.4, w.5, w.6, w.7)
 
@@ -52,7 +52,7 @@ goes_tagged : (t : Plan) (s : Shared) (c n : ℕ) (x : Caller) (go : AfterRetire
 goes_tagged t s c n x onward.Next w = (w.0, walks_tagged t s c n x (record { at = x.entry.hand.at + 1; registers = x.entry.hand.registers }) w.0 w.1, w.2, w.3, w.4)
 goes_tagged t s c n x (onward.List k) w = behind_tagged t s c n x (k + 1) (nat_lt (k + 1) (length (list_of (instr_in t.target x.entry)))) w
 
-behind_moved : (t : Plan) (s : Shared) (c : ℕ) (x : Caller) (made : ℕ) (b : Bool) (p : ℕ) (q : Counts) (r : Routine) → BehindEntry t s c x made b → BehindEntry t s c (moved x p q r) made b
+behind_moved : (t : Plan) (s : Shared) (c : ℕ) (x : Caller) (made : ℕ) (b : Bool) (p : ℕ) (q : Counts) (r : Routine) → AfterExchange t s c x made b → AfterExchange t s c (moved x p q r) made b
 behind_moved t s c x made true p q r w = (w.0, walks_moved t s c x (spot_of x.entry.hand) w.0 p q r w.1, w.2, w.3, w.4, w.5)
 behind_moved t s c x made false p q r w = (w.0, walks_moved t s c x (spot_of x.entry.hand) w.0 p q r w.1, w.2, w.3, w.4, w.5, w.6, w.7)
 
@@ -60,7 +60,7 @@ goes_moved : (t : Plan) (s : Shared) (c : ℕ) (x : Caller) (go : AfterRetire) (
 goes_moved t s c x onward.Next p q r w = running_moved t s c x (record { at = x.entry.hand.at + 1; registers = x.entry.hand.registers }) p q r w
 goes_moved t s c x (onward.List i) p q r w = behind_moved t s c x (i + 1) (nat_lt (i + 1) (length (list_of (instr_in t.target x.entry)))) p q r w
 
-base_tagged : (t : Plan) (s : Shared) (c n : ℕ) (x : Caller) → Fine t s → Base t s c x → Base t (with_tag s n) c x
+base_tagged : (t : Plan) (s : Shared) (c n : ℕ) (x : Caller) → SharedHolds t s → Base t s c x → Base t (with_tag s n) c x
 base_tagged t s c n x f b = record {
   number = b.number;
   seen = b.seen;
@@ -72,7 +72,7 @@ base_tagged t s c n x f b = record {
       (λ p is lt. let e : s.memory Phase ≡ p = cc in absurd (omega (arith, e, lt, b.seen, f.warning c))) (λ i ne. b.old i);
 }
 
-pub retire_loads : (t : Plan) (c : ℕ) (s : Shared) (x : Caller) (slot n : ℕ) (go : AfterRetire) → Fine t s → Base t s c x → IsRetiring s c slot n None → GoesOn t s c x go
+pub retire_loads : (t : Plan) (c : ℕ) (s : Shared) (x : Caller) (slot n : ℕ) (go : AfterRetire) → SharedHolds t s → Base t s c x → IsRetiring s c slot n None → GoesOn t s c x go
     → Kept t c s x (store s.memory Phase (s.memory Phase)) (retired_on t.target t.setting.sizes go (Some (record { slot = slot; stage = retires.StoreStatus (s.memory Phase) })) (counted x.entry))
 retire_loads t c s x slot n go f b r w =
     let step = tagged t s c slot n f r in
@@ -81,7 +81,9 @@ retire_loads t c s x slot n go f b r w =
       s' = with_tag s n;
       x' = moved x (one_more x.entry.running.steps) x.entry.counts next;
       memory = store_idle s.memory Phase;
+      present = refl;
       entry = refl;
+      names = same_names x.names false;
       plays = done _;
       fine = step.0;
       goes = step.1;
@@ -137,18 +139,18 @@ gets_status t s c j word x m retiring g = record {
   made = λ n k got own here. g.made n k got (held_before s c j k (t.home n) word own) here;
 }
 
-behind_status : (t : Plan) (s : Shared) (c j : ℕ) (word : ℕ) (x : Caller) (made : ℕ) (b : Bool) → BehindEntry t s c x made b → BehindEntry t (with_status s j Dead word) c x made b
+behind_status : (t : Plan) (s : Shared) (c j : ℕ) (word : ℕ) (x : Caller) (made : ℕ) (b : Bool) → AfterExchange t s c x made b → AfterExchange t (with_status s j Dead word) c x made b
 behind_status t s c j word x made true w = (w.0, walks_status t s c j word x (spot_of x.entry.hand) w.0 w.1, w.2, w.3, w.4, w.5)
 behind_status t s c j word x made false w = (w.0, walks_status t s c j word x (spot_of x.entry.hand) w.0 w.1, w.2, w.3, w.4, w.5, w.6, w.7)
 
 -- the store, and the list's next exchange, or the wrap-up's start
-pub retire_stores_in_list : (t : Plan) (c : ℕ) (s : Shared) (x : Caller) (slot n p k : ℕ) (entries : List CasEntry) → IsPlan t → Fine t s → Base t s c x → IsRetiring s c slot n (Some p) → GoesOn t s c x (onward.List k)
+pub retire_stores_in_list : (t : Plan) (c : ℕ) (s : Shared) (x : Caller) (slot n p k : ℕ) (entries : List CasEntry) → IsPlan t → SharedHolds t s → Base t s c x → IsRetiring s c slot n (Some p) → GoesOn t s c x (onward.List k)
     → instr_in t.target x.entry ≡ Some (Plain (instr.Commit entries))
     → Kept t c s x (store s.memory (Status slot) (status_word p kinds.Retired)) (retired_on t.target t.setting.sizes (onward.List k) None (counted x.entry))
 unfolding behind_moved behind_status
 retire_stores_in_list t c s x slot n p k entries plan f b r w commit =
     let step = marked t s c slot n p f r in
-    kept_ends t c s (with_status s slot Dead (status_word p kinds.Retired)) x y (retired_on t.target t.setting.sizes (onward.List k) None (counted x.entry)) _ step.0 step.1 refl refl
+    kept_ends t c s (with_status s slot Dead (status_word p kinds.Retired)) x y (retired_on t.target t.setting.sizes (onward.List k) None (counted x.entry)) _ step.0 step.1 refl refl refl
     (ends (nat_lt (k + 1) (length (list_of (instr_in t.target x.entry)))) w)
   where
     y : Caller
@@ -157,10 +159,10 @@ retire_stores_in_list t c s x slot n p k entries plan f b r w commit =
     b' : Base t (with_status s slot Dead (status_word p kinds.Retired)) c (moved x (one_more x.entry.running.steps) x.entry.counts At)
     b' = base_moved t _ c x (one_more x.entry.running.steps) x.entry.counts At (base_status t s c slot (status_word p kinds.Retired) x r.owner b)
 
-    next : (more : Bool) → BehindEntry t s c x (k + 1) more → BehindEntry t (with_status s slot Dead (status_word p kinds.Retired)) c (moved x (one_more x.entry.running.steps) x.entry.counts At) (k + 1) more
+    next : (more : Bool) → AfterExchange t s c x (k + 1) more → AfterExchange t (with_status s slot Dead (status_word p kinds.Retired)) c (moved x (one_more x.entry.running.steps) x.entry.counts At) (k + 1) more
     next more w = behind_moved t _ c x (k + 1) more (one_more x.entry.running.steps) x.entry.counts At (behind_status t s c slot (status_word p kinds.Retired) x (k + 1) more w)
 
-    ends : (more : Bool) → BehindEntry t s c x (k + 1) more
+    ends : (more : Bool) → AfterExchange t s c x (k + 1) more
         → Ends t (with_status s slot Dead (status_word p kinds.Retired)) c (moved x (one_more x.entry.running.steps) x.entry.counts At)
         (quiet (if more then with_routine (moved x (one_more x.entry.running.steps) x.entry.counts At).entry (InList (k + 1)) else list_ended t.target t.setting.sizes (k + 1) (moved x (one_more x.entry.running.steps) x.entry.counts At).entry))
     ends true w = ends_quiet t _ c (moved x (one_more x.entry.running.steps) x.entry.counts At) (InList (k + 1)) b'
@@ -170,7 +172,7 @@ retire_stores_in_list t c s x slot n p k entries plan f b r w commit =
         list_ends t _ c (moved x (one_more x.entry.running.steps) x.entry.counts At) (k + 1) entries plan b' v (sym (instr_is t s c x (spot_of x.entry.hand) w.0 w.1) ∙ commit)
 
 -- the store after an auxiliary exchange, and the local code after it
-pub retire_stores_next : (t : Plan) (c : ℕ) (s : Shared) (x : Caller) (slot n p : ℕ) → IsPlan t → Fine t s → Base t s c x → IsRetiring s c slot n (Some p) → GoesOn t s c x onward.Next
+pub retire_stores_next : (t : Plan) (c : ℕ) (s : Shared) (x : Caller) (slot n p : ℕ) → IsPlan t → SharedHolds t s → Base t s c x → IsRetiring s c slot n (Some p) → GoesOn t s c x onward.Next
     → Kept t c s x (store s.memory (Status slot) (status_word p kinds.Retired)) (retired_on t.target t.setting.sizes onward.Next None (counted x.entry))
 retire_stores_next t c s x slot n p plan f b r w =
     let step = marked t s c slot n p f r in
@@ -182,7 +184,7 @@ retire_stores_next t c s x slot n p plan f b r w =
     let b' = base_moved t s' c x (one_more x.entry.running.steps) x.entry.counts At (base_status t s c slot (status_word p kinds.Retired) x r.owner b) in
     let ended = settles_ends t s' c y next plan step.0 (record { number = b'.number; seen = b'.seen; old = b'.old; hazard = b'.hazard; protects = b'.protects; known = b'.known; cradle = b'.cradle })
     (there.0, walks_at t s' c y next there.0 there.1, there.2, there.3, there.4) in
-    kept_ends t c s s' x _ (retired_on t.target t.setting.sizes onward.Next None (counted x.entry)) _ step.0 step.1 refl refl ended
+    kept_ends t c s s' x _ (retired_on t.target t.setting.sizes onward.Next None (counted x.entry)) _ step.0 step.1 refl refl refl ended
   where
     walks_at : (t : Plan) (s : Shared) (c : ℕ) (y : Caller) (next : Spot) (m : Trail t) → Walks t s c y next m → Walks t s c (at_spot y next) next m
     walks_at t s c y next m w = record { call = w.call; wrapup = w.wrapup; first = w.first; number = w.number; start = w.start; generator = w.generator; ahead = w.ahead; kept = w.kept; shown = w.shown; sound = w.sound }

@@ -22,10 +22,10 @@ use Rattle.caller_steps.specs.Signs.{Moved, quiet}
 use Rattle.sim_relation.specs.Points.{point}
 use Rattle.sim_relation.proofs.Playing.{plays_from}
 use Rattle.sim_relation.specs.Views.{Plan, IsPlan, Shared, Caller}
-use Rattle.sim_relation.specs.Shared.{Fine}
+use Rattle.sim_relation.specs.Shared.{SharedHolds}
 use Rattle.sim_relation.specs.Callers.{Base, Begins, Settled, ClearsAt, spared, call_of}
-use Rattle.sim_relation.specs.Goes.{Goes}
-use Rattle.sim_relation.specs.Steps.{Kept, Ends, hazarded, regarded, moved}
+use Rattle.sim_relation.specs.MayChange.{MayChange}
+use Rattle.sim_relation.specs.Steps.{KeptBy, Ends, with_names, hazarded, regarded, moved}
 use Rattle.sim_relation.proofs.Moving.{base_moved}
 use Rattle.sim_guards.proofs.Guarding.{fine_hazarded, goes_hazarded, base_hazarded, kept_hazarded}
 use Rattle.sim_relation.proofs.Clearing.{clear_some, kept_bit}
@@ -33,12 +33,14 @@ use Rattle.sim_walks.proofs.Beginning.{cleared_wrap_up, cleared_again, cleared_r
 use Rattle.sim_walks.proofs.Stopping.{restarted_ends}
 
 -- a step whose access is made, and after which the entry comes to stand elsewhere
-pub kept_ends : (t : Plan) (c : ℕ) (s s' : Shared) (x y : Caller) (m : Moved) (memory' : Word → ℕ) → Fine t s' → Goes t c s s' → s'.memory ≡ memory' → point s' y ≡ point s x → Ends t s' c y m → Kept t c s x memory' m
-kept_ends t c s s' x y m memory' f g memory from w = record {
+pub kept_ends : (t : Plan) (c : ℕ) (s s' : Shared) (x y : Caller) (m : Moved) (memory' : Word → ℕ) → SharedHolds t s' → MayChange t c s s' → s'.memory ≡ memory' → s'.present ≡ s.present → point s' y ≡ point s x → Ends t s' c y m → KeptBy t c s x y.names memory' m
+kept_ends t c s s' x y m memory' f g memory present from w = record {
   s' = s';
   x' = w.x';
   memory = memory;
+  present = present;
   entry = w.entry;
+  names = w.names;
   fine = f;
   goes = g;
   told = w.told;
@@ -85,21 +87,21 @@ base_cleared : (t : Plan) (s : Shared) (c : ℕ) (x : Caller) (r : ℕ) → r < 
 base_cleared t s c x r lt b = base_hazarded t c s (counted_caller x) r 0 0 lt (base_moved t s c x (one_more x.entry.running.steps) x.entry.counts x.entry.routine b)
 
 -- a clear after a failed check
-pub restart_clears : (t : Plan) (c : ℕ) (s : Shared) (x : Caller) (r : ℕ) → IsPlan t → Fine t s → Base t s c x → length x.entry.hand.guards.slots ≡ 8 → restart_next t.target x.entry ≡ Some r
+pub restart_clears : (t : Plan) (c : ℕ) (s : Shared) (x : Caller) (r : ℕ) → IsPlan t → SharedHolds t s → Base t s c x → length x.entry.hand.guards.slots ≡ 8 → restart_next t.target x.entry ≡ Some r
     → (walk : Walk t.target t.text) → Begins t s c x walk → walk.method.wrapup ≡ x.entry.hand.wrapup
-    → Kept t c s x (store s.memory (Hazard c r) 0) (restart_cleared t.target t.setting.sizes (counted x.entry))
+    → KeptBy t c s x (with_names x.names r 0) (store s.memory (Hazard c r) 0) (restart_cleared t.target t.setting.sizes (counted x.entry))
 restart_clears t c s x r plan f b count next walk begins is =
     let found = clear_some x.entry.hand.guards (restart_spares x.entry.hand.wrapup (op_of t.target x.entry)) r next in
     let free : spared t walk r ≡ false = free_of t x walk r x.entry.hand.wrapup plan begins.call begins.number is (omega (arith, found.1, count)) found.0 in
     let ended = restarted_ends t (hazarded s c r 0) c (regarded (counted_caller x) r 0 0) walk plan (fine_hazarded t c s r 0 f) (base_cleared t s c x r found.1 b) is (begins_regarded t s c x r walk free begins) in
-    kept_ends t c s (hazarded s c r 0) x (regarded (counted_caller x) r 0 0) (restart_cleared t.target t.setting.sizes (counted x.entry)) (store s.memory (Hazard c r) 0) (fine_hazarded t c s r 0 f) (goes_hazarded t c s r 0) refl refl
+    kept_ends t c s (hazarded s c r 0) x (regarded (counted_caller x) r 0 0) (restart_cleared t.target t.setting.sizes (counted x.entry)) (store s.memory (Hazard c r) 0) (fine_hazarded t c s r 0 f) (goes_hazarded t c s r 0) refl refl refl
     (subst (λ (o : Option ℕ). Ends t (hazarded s c r 0) c (regarded (counted_caller x) r 0 0) (restarted t.target t.setting.sizes (with_hand (counted x.entry) (unguarded o x.entry.hand)))) (sym next) ended)
 
 -- a clear at a wrap-up's start, after `again`, or at the reply
-pub then_clears : (t : Plan) (c : ℕ) (s : Shared) (x : Caller) (r : ℕ) (next : AfterClear) → (next ≡ clears.New → ⊥) → IsPlan t → Fine t s → Base t s c x → length x.entry.hand.guards.slots ≡ 8 → clear_next t.target next x.entry ≡ Some r
-    → ClearsAt t s c x next → Kept t c s x (store s.memory (Hazard c r) 0) (quiet (then_cleared t.target t.setting.sizes next (counted x.entry)))
+pub then_clears : (t : Plan) (c : ℕ) (s : Shared) (x : Caller) (r : ℕ) (next : AfterClear) → (next ≡ clears.New → ⊥) → IsPlan t → SharedHolds t s → Base t s c x → length x.entry.hand.guards.slots ≡ 8 → clear_next t.target next x.entry ≡ Some r
+    → ClearsAt t s c x next → KeptBy t c s x (with_names x.names r 0) (store s.memory (Hazard c r) 0) (quiet (then_cleared t.target t.setting.sizes next (counted x.entry)))
 then_clears t c s x r next old plan f b count is at =
-    kept_ends t c s (hazarded s c r 0) x (regarded (counted_caller x) r 0 0) (quiet (then_cleared t.target t.setting.sizes next (counted x.entry))) (store s.memory (Hazard c r) 0) (fine_hazarded t c s r 0 f) (goes_hazarded t c s r 0) refl refl
+    kept_ends t c s (hazarded s c r 0) x (regarded (counted_caller x) r 0 0) (quiet (then_cleared t.target t.setting.sizes next (counted x.entry))) (store s.memory (Hazard c r) 0) (fine_hazarded t c s r 0 f) (goes_hazarded t c s r 0) refl refl refl
     (subst (λ (o : Option ℕ). Ends t (hazarded s c r 0) c (regarded (counted_caller x) r 0 0) (quiet (cleared t.target t.setting.sizes next (with_hand (counted x.entry) (unguarded o x.entry.hand))))) (sym is) (by_then next old is at))
   where
     by_then : (next : AfterClear) → (next ≡ clears.New → ⊥) → clear_next t.target next x.entry ≡ Some r → ClearsAt t s c x next → Ends t (hazarded s c r 0) c (regarded (counted_caller x) r 0 0) (quiet (cleared t.target t.setting.sizes next (regarded (counted_caller x) r 0 0).entry))

@@ -37,14 +37,15 @@ use Rattle.caller_steps.specs.Signs.{GivesUp, quiet, told}
 use Rattle.caller_steps.specs.Pairing.{replied_by}
 use Rattle.caller_steps.specs.declared.entry.Counts.{Counts}
 use Rattle.sim_relation.specs.Views.{Plan, IsPlan, Pool, Held, Shared, Caller, settled_names}
-use Rattle.sim_relation.specs.Shared.{Fine}
+use Rattle.sim_relation.specs.Shared.{SharedHolds}
 use Rattle.sim_relation.specs.Points.{done, point}
 use Rattle.sim_relation.proofs.Playing.{plays_none, plays_one, points_same}
 use Rattle.sim_walks.proofs.Replying.{follows_of}
 use Rattle.sim_relation.specs.Callers.{Calm, Base, Trail, AtNew, Empty, ClaimAt, spot_of, source_reply, replies_of, call_of}
-use Rattle.sim_relation.specs.Steps.{Kept, GoesForAll, after_access, moved, cradled}
+use Rattle.sim_relation.specs.Naming.{freed_in}
+use Rattle.sim_relation.specs.Steps.{KeptNaming, Kept, GoesForAll, after_access, moved, cradled}
 use Rattle.sim_relation.proofs.Words.{store_idle}
-use Rattle.sim_relation.proofs.Moving.{base_moved, new_moved, own_base, own_new, goes_same, new_cradled, base_cradled, base_settled, settled_is}
+use Rattle.sim_relation.proofs.Moving.{base_moved, new_moved, own_base, own_new, goes_same, new_cradled, base_cradled, base_settled, settled_is, names_settle, same_names}
 use Rattle.sim_pools.proofs.Slots.{in_pool, taken, apart, with_status}
 use Rattle.source_machine.specs.Proper.{has}
 use Rattle.source_machine.proofs.Places.{put_same, put_other}
@@ -61,7 +62,7 @@ pub record Claiming (t : Plan) (s : Shared) (c : ℕ) (x : Caller) : Type 0 wher
   pub at_new : is_new_at (instr_in t.target x.entry) ≡ true
   pub generator : x.entry.hand.wrapup ≡ false
 
-own_claiming : (t : Plan) (c : ℕ) (s s' : Shared) (x : Caller) → IsPlan t → GoesForAll t s s' → Fine t s → Fine t s' → Claiming t s c x → Claiming t s' c x
+own_claiming : (t : Plan) (c : ℕ) (s s' : Shared) (x : Caller) → IsPlan t → GoesForAll t s s' → SharedHolds t s → SharedHolds t s' → Claiming t s c x → Claiming t s' c x
 own_claiming t c s s' x plan g f f' w = record {
   base = own_base t c s s' x g f w.base;
   running = own_new t c s s' x (spot_of x.entry.hand) plan g f f' w.base w.running;
@@ -81,9 +82,9 @@ same_reply : (phase : Option ℕ) → source_reply (given_up phase) ≡ give_up_
 same_reply None = refl
 same_reply (Some p) = refl
 
-pub gave_up : (t : Plan) (c : ℕ) (s s' : Shared) (x : Caller) (phase : Option ℕ) (memory' : Word → ℕ) → IsPlan t → Fine t s → Fine t s' → GoesForAll t s s' → s'.source ≡ s.source → s'.unused ≡ s.unused → s'.memory ≡ memory' → Claiming t s c x
-    → Kept t c s x memory' (told (GivesUp phase ∷ []) (quiet (entry_replied (given_up phase) (with_routine (counted x.entry) At))))
-gave_up t c s s' x phase memory' plan f f' g source unused memory w =
+pub gave_up : (t : Plan) (c : ℕ) (s s' : Shared) (x : Caller) (phase : Option ℕ) (memory' : Word → ℕ) (present' : ℕ → ℕ) → IsPlan t → SharedHolds t s → SharedHolds t s' → GoesForAll t s s' → s'.source ≡ s.source → s'.unused ≡ s.unused → s'.memory ≡ memory' → s'.present ≡ present' → Claiming t s c x
+    → KeptNaming t c s x memory' (told (GivesUp phase ∷ []) (quiet (entry_replied (given_up phase) (with_routine (counted x.entry) At)))) present'
+gave_up t c s s' x phase memory' present' plan f f' g source unused memory present w =
     let m : Trail t = w.running.0 in
     let walks = w.running.1 in
     let new = new_there (instr_in t.target x.entry) w.at_new in
@@ -100,7 +101,9 @@ gave_up t c s s' x phase memory' plan f f' g source unused memory w =
       s' = s';
       x' = x';
       memory = memory;
+      present = present;
       entry = refl;
+      names = names_settle x.names true refl;
       plays = plays_one t.text c (GivesUp phase) (point s x) (point s' x') (turns.enabled, (source ∙ sym (ap (λ turn. turn.memory) turns.turns), refl, refl)) unused;
       fine = f';
       goes = g c;
@@ -124,15 +127,17 @@ ClaimGoes t s claim (Some (ends.Claimed j)) = ⊥
 ClaimGoes t s claim (Some ends.Full) = Unit {0}
 ClaimGoes t s claim (Some (ends.PhasesOver p)) = Unit {0}
 
-pub claim_kept : (t : Plan) (c : ℕ) (s s' : Shared) (x : Caller) (claim : Claim) (end : Option ClaimEnd) (memory' : Word → ℕ) → IsPlan t → Fine t s → Fine t s' → GoesForAll t s s' → s'.source ≡ s.source → s'.unused ≡ s.unused → s'.memory ≡ memory' → Claiming t s c x
-    → ClaimGoes t s' claim end → Kept t c s x memory' (claim_on t.target claim end (counted x.entry))
-claim_kept t c s s' x claim None memory' plan f f' g source unused memory w goes =
+pub claim_kept : (t : Plan) (c : ℕ) (s s' : Shared) (x : Caller) (claim : Claim) (end : Option ClaimEnd) (memory' : Word → ℕ) (present' : ℕ → ℕ) → IsPlan t → SharedHolds t s → SharedHolds t s' → GoesForAll t s s' → s'.source ≡ s.source → s'.unused ≡ s.unused → s'.memory ≡ memory' → s'.present ≡ present' → Claiming t s c x
+    → ClaimGoes t s' claim end → KeptNaming t c s x memory' (claim_on t.target claim end (counted x.entry)) present'
+claim_kept t c s s' x claim None memory' present' plan f f' g source unused memory present w goes =
     let w' = own_claiming t c s s' x plan g f f' w in
     record {
       s' = s';
       x' = moved x (one_more x.entry.running.steps) x.entry.counts (Claims claim);
       memory = memory;
+      present = present;
       entry = refl;
+      names = same_names x.names false;
       plays = plays_none t.text c (point s x) (point s' (moved x (one_more x.entry.running.steps) x.entry.counts (Claims claim))) (points_same (point s x) (point s' (moved x (one_more x.entry.running.steps) x.entry.counts (Claims claim))) unused source refl refl);
       fine = f';
       goes = g c;
@@ -141,9 +146,9 @@ claim_kept t c s s' x claim None memory' plan f f' g source unused memory w goes
         spot = (goes, new_moved t s' c x (spot_of x.entry.hand) (one_more x.entry.running.steps) x.entry.counts (Claims claim) w'.running, w.empty);
       };
     }
-claim_kept t c s s' x claim (Some (ends.Claimed j)) memory' plan f f' g source unused memory w goes = absurd goes
-claim_kept t c s s' x claim (Some ends.Full) memory' plan f f' g source unused memory w goes = gave_up t c s s' x None memory' plan f f' g source unused memory w
-claim_kept t c s s' x claim (Some (ends.PhasesOver p)) memory' plan f f' g source unused memory w goes = gave_up t c s s' x (Some p) memory' plan f f' g source unused memory w
+claim_kept t c s s' x claim (Some (ends.Claimed j)) memory' present' plan f f' g source unused memory present w goes = absurd goes
+claim_kept t c s s' x claim (Some ends.Full) memory' present' plan f f' g source unused memory present w goes = gave_up t c s s' x None memory' present' plan f f' g source unused memory present w
+claim_kept t c s s' x claim (Some (ends.PhasesOver p)) memory' present' plan f f' g source unused memory present w goes = gave_up t c s s' x (Some p) memory' present' plan f f' g source unused memory present w
 
 look_ends : (t : Plan) (s : Shared) (claim : Claim) → ClaimGoes t s (look_ended claim).claim (look_ended claim).ended
 look_ends t s claim = of (claim.sweeps == 2) where
@@ -177,7 +182,7 @@ sweep_goes_on t s claim sweep (Some (swept.PhasesOver p)) is next = tt
 abbrev pub one_claim : Counts → Counts
 one_claim counts = record counts { claims = one_more counts.claims }
 
-took : (t : Plan) (c : ℕ) (s : Shared) (x : Caller) (claim : Claim) (j q : ℕ) → IsPlan t → Fine t s → Claiming t s c x → 1 ≤ j → new_number t.target x.entry < length x.entry.cradles → s.memory (Status j) ≡ status_word q kinds.Ready
+took : (t : Plan) (c : ℕ) (s : Shared) (x : Caller) (claim : Claim) (j q : ℕ) → IsPlan t → SharedHolds t s → Claiming t s c x → 1 ≤ j → new_number t.target x.entry < length x.entry.cradles → s.memory (Status j) ≡ status_word q kinds.Ready
     → Kept t c s x (store s.memory (Status j) (status_word q kinds.Used)) (claim_ended t.target (ends.Claimed j) (with_routine (counted x.entry) At))
 took t c s x claim j q plan f w some lt is =
     let k : ℕ = new_number t.target x.entry in
@@ -190,7 +195,9 @@ took t c s x claim j q plan f w some lt is =
       s' = with_status s j (Held c k) (status_word q kinds.Used);
       x' = moved (cradled x cradles) (one_more x.entry.running.steps) (one_claim x.entry.counts) (Zeroes k 0);
       memory = refl;
+      present = refl;
       entry = refl;
+      names = same_names x.names false;
       plays = done _;
       fine = take.0;
       goes = take.1 c;
@@ -217,23 +224,23 @@ took t c s x claim j q plan f w some lt is =
         ap (λ (n : ℕ). put s.owner j (Held c k) n) same ∙ (put_other s.owner j (slice_index x.entry.cradles i) (Held c k) (apart s (slice_index x.entry.cradles i) j (Held c i) Pool own pool.0 (λ e. cc)) ∙ own))
         (cases_eq i k)
 
-takes : (t : Plan) (c : ℕ) (s : Shared) (x : Caller) (claim : Claim) (j q : ℕ) → IsPlan t → Fine t s → Claiming t s c x → 1 ≤ j → new_number t.target x.entry < length x.entry.cradles
+takes : (t : Plan) (c : ℕ) (s : Shared) (x : Caller) (claim : Claim) (j q : ℕ) → IsPlan t → SharedHolds t s → Claiming t s c x → 1 ≤ j → new_number t.target x.entry < length x.entry.cradles
     → Kept t c s x (after_access s.memory (claim_wants_at claim.sweep (claims.Take j q))) (claimed t.target (look_took t.setting.sizes claim j q (s.memory (Status j))) (counted x.entry))
 takes t c s x claim j q plan f w some lt = of (s.memory (Status j) == status_word q kinds.Ready) refl where
   of : (b : Bool) → (s.memory (Status j) == status_word q kinds.Ready) ≡ b
       → Kept t c s x (store s.memory (Status j) (if b then status_word q kinds.Used else s.memory (Status j))) (claimed t.target (if b then claim_ends claim (ends.Claimed j) else look_on t.setting.sizes claim j) (counted x.entry))
   of true is = took t c s x claim j q plan f w some lt (grind (arith, nat_tests))
-  of false is = claim_kept t c s s x (look_on t.setting.sizes claim j).claim (look_on t.setting.sizes claim j).ended _ plan f f (goes_same t s) refl refl (store_idle s.memory (Status j)) w (look_next t s claim j)
+  of false is = claim_kept t c s s x (look_on t.setting.sizes claim j).claim (look_on t.setting.sizes claim j).ended _ s.present plan f f (goes_same t s) refl refl (store_idle s.memory (Status j)) refl w (look_next t s claim j)
 
 -- each step of a claim
-pub claims_keep : (t : Plan) (c : ℕ) (s : Shared) (x : Caller) (claim : Claim) (stage : ClaimStage) → claim.stage ≡ stage → IsPlan t → Fine t s → Claiming t s c x → new_number t.target x.entry < length x.entry.cradles → ClaimAt t s claim.sweep stage
-    → Kept t c s x (after_access s.memory (claim_wants_at claim.sweep stage)) (claimed t.target (claim_accepts_at t.setting.sizes t.setting.last claim (s.memory (word_of (claim_wants_at claim.sweep stage))) stage) (counted x.entry))
+pub claims_keep : (t : Plan) (c : ℕ) (s : Shared) (x : Caller) (claim : Claim) (stage : ClaimStage) → claim.stage ≡ stage → IsPlan t → SharedHolds t s → Claiming t s c x → new_number t.target x.entry < length x.entry.cradles → ClaimAt t s claim.sweep stage
+    → KeptNaming t c s x (after_access s.memory (claim_wants_at claim.sweep stage)) (claimed t.target (claim_accepts_at t.setting.sizes t.setting.last claim (s.memory (word_of (claim_wants_at claim.sweep stage))) stage) (counted x.entry)) (freed_in stage claim.sweep.stage s.memory s.present)
 claims_keep t c s x claim (claims.ReadStatus j) is plan f w lt at =
     let turn = look_read t.setting.sizes claim j (status_parts (s.memory (Status j))) in
-    claim_kept t c s s x turn.claim turn.ended _ plan f f (goes_same t s) refl refl (store_idle s.memory (Status j)) w (read_next t s claim j (status_parts (s.memory (Status j))) at)
+    claim_kept t c s s x turn.claim turn.ended _ s.present plan f f (goes_same t s) refl refl (store_idle s.memory (Status j)) refl w (read_next t s claim j (status_parts (s.memory (Status j))) at)
 claims_keep t c s x claim (claims.Take j q) is plan f w lt at = takes t c s x claim j q plan f w at lt
 claims_keep t c s x claim claims.Sweeps is plan f w lt at =
     let turn = sweep_accepts_at t.setting.sizes t.setting.last claim.sweep (s.memory (word_of (sweep_wants_at claim.sweep.stage claim.sweep.bound))) claim.sweep.stage in
     let swept = sweep_step t s claim.sweep claim.sweep.stage plan f at in
-    claim_kept t c s swept.s' x (sweep_ended t.setting.sizes claim turn.sweep turn.ended).claim (sweep_ended t.setting.sizes claim turn.sweep turn.ended).ended _ plan f swept.fine swept.goes swept.source swept.unused swept.memory w
+    claim_kept t c s swept.s' x (sweep_ended t.setting.sizes claim turn.sweep turn.ended).claim (sweep_ended t.setting.sizes claim turn.sweep turn.ended).ended _ _ plan f swept.fine swept.goes swept.source swept.unused swept.memory swept.present w
     (sweep_goes_on t swept.s' claim turn.sweep turn.ended is swept.next)

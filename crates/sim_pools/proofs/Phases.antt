@@ -3,14 +3,14 @@ use Rattle.std.proofs.Common.{ℕ, ◌≤◌, arith, inl, refl, max}
 use Rattle.oa_words.specs.Words.{Phase, Warning}
 use Rattle.core_runs.specs.Memories.{store}
 use Rattle.sim_relation.specs.Views.{Plan, Shared}
-use Rattle.sim_relation.specs.Shared.{Fine}
+use Rattle.sim_relation.specs.Shared.{SharedHolds}
 use Rattle.sim_relation.specs.Steps.{GoesForAll}
 use Rattle.sim_relation.proofs.Words.{each_warning}
 
 abbrev pub with_phase : Shared → ℕ → Shared
 with_phase s p = record s { memory = store s.memory Phase p }
 
-pub fine_phase : (t : Plan) (s : Shared) (p : ℕ) → s.memory Phase ≤ p → Fine t s → Fine t (with_phase s p)
+pub fine_phase : (t : Plan) (s : Shared) (p : ℕ) → s.memory Phase ≤ p → SharedHolds t s → SharedHolds t (with_phase s p)
 fine_phase t s p up f = record {
   warning = λ d. omega (arith, f.warning d, up);
   tag = λ n q is. omega (arith, f.tag n q is, up);
@@ -50,7 +50,7 @@ with_warning s d p = record s { memory = store s.memory (Warning d) (max (s.memo
 pub warning_up : (t : Plan) (s : Shared) (x p : ℕ) → (d : ℕ) → s.memory (Warning d) ≤ (with_warning s x p).memory (Warning d)
 warning_up t s x p = each_warning (λ d n. s.memory (Warning d) ≤ n) s.memory x (max (s.memory (Warning x)) p) (omega arith) (λ d ne. omega arith)
 
-pub fine_warning : (t : Plan) (s : Shared) (x p : ℕ) → p ≤ s.memory Phase → Fine t s → Fine t (with_warning s x p)
+pub fine_warning : (t : Plan) (s : Shared) (x p : ℕ) → p ≤ s.memory Phase → SharedHolds t s → SharedHolds t (with_warning s x p)
 fine_warning t s x p le f = record {
   warning = each_warning (λ d n. n ≤ s.memory Phase) s.memory x (max (s.memory (Warning x)) p) (omega (arith, f.warning x, le)) (λ d ne. f.warning d);
   gone = λ n q d is away lt. omega (arith, f.gone n q d is away lt, warning_up t s x p d);

@@ -15,9 +15,9 @@ use Rattle.source_machine.specs.Memory.{fields_named}
 use Rattle.source_machine.specs.MethodRuns.{put}
 use Rattle.source_machine.proofs.Places.{each_put, put_other}
 use Rattle.sim_relation.specs.Views.{Plan, IsPlan, Owner, Null, Pool, Held, Living, Retiring, Dead, Shared, Resident, word_for}
-use Rattle.sim_relation.specs.Shared.{Slot, Fine}
+use Rattle.sim_relation.specs.Shared.{Slot, SharedHolds}
 use Rattle.sim_relation.specs.Callers.{IsRetiring, Sweeps}
-use Rattle.sim_relation.specs.Goes.{Goes}
+use Rattle.sim_relation.specs.MayChange.{MayChange}
 use Rattle.sim_relation.specs.Steps.{GoesForAll}
 use Rattle.sim_relation.proofs.Names.{slot_by, null_private}
 
@@ -69,7 +69,7 @@ abbrev pub with_status : Shared → ℕ → Owner → ℕ → Shared
 with_status s j o word = record s { memory = store s.memory (Status j) word; owner = put s.owner j o }
 
 -- a name that a guard protects stays the guard's caller's, or published
-mine_put : (t : Plan) (s : Shared) (j : ℕ) (o : Owner) → Fine t s → ((d k : ℕ) → s.owner j ≡ Held d k → ⊥) → (c r : ℕ) → s.protects c r ≢ 0
+mine_put : (t : Plan) (s : Shared) (j : ℕ) (o : Owner) → SharedHolds t s → ((d k : ℕ) → s.owner j ≡ Held d k → ⊥) → (c r : ℕ) → s.protects c r ≢ 0
     → (s.public (s.protects c r) ≡ true) ⊎ ((k : ℕ) × (put s.owner j o (t.home (s.protects c r)) ≡ Held c k))
 mine_put t s j o f un c r some = ⊎_elim
     (λ (p : s.public (s.protects c r) ≡ true). inl p)
@@ -78,8 +78,8 @@ mine_put t s j o f un c r some = ⊎_elim
     (f.mine c r some)
 
 -- a change of status and owner of a slot that isn't in a cradle, and not slot 0
-pub fine_status : (t : Plan) (s : Shared) (j : ℕ) (o : Owner) (word : ℕ) → Fine t s → ((d k : ℕ) → s.owner j ≡ Held d k → ⊥) → (s.owner j ≡ Null → ⊥)
-    → Slot o word (s.present j) (s.tag (s.present j)) (has (s.present j) s.source.retired) (s.public (s.present j)) → Fine t (with_status s j o word)
+pub fine_status : (t : Plan) (s : Shared) (j : ℕ) (o : Owner) (word : ℕ) → SharedHolds t s → ((d k : ℕ) → s.owner j ≡ Held d k → ⊥) → (s.owner j ≡ Null → ⊥)
+    → Slot o word (s.present j) (s.tag (s.present j)) (has (s.present j) s.source.retired) (s.public (s.present j)) → SharedHolds t (with_status s j o word)
 fine_status t s j o word f un some here = record {
   warning = f.warning;
   tag = f.tag;
@@ -103,8 +103,8 @@ fine_status t s j o word f un some here = record {
 }
 
 -- a claim takes a ready slot
-pub taken : (t : Plan) (s : Shared) (c k j q : ℕ) → IsPlan t → Fine t s → s.memory (Status j) ≡ status_word q kinds.Ready
-    → Fine t (with_status s j (Held c k) (status_word q kinds.Used)) × GoesForAll t s (with_status s j (Held c k) (status_word q kinds.Used))
+pub taken : (t : Plan) (s : Shared) (c k j q : ℕ) → IsPlan t → SharedHolds t s → s.memory (Status j) ≡ status_word q kinds.Ready
+    → SharedHolds t (with_status s j (Held c k) (status_word q kinds.Used)) × GoesForAll t s (with_status s j (Held c k) (status_word q kinds.Used))
 taken t s c k j q plan f is =
     let pool = in_pool (s.owner j) q (s.memory (Status j)) (s.present j) (s.tag (s.present j)) (has (s.present j) s.source.retired) (s.public (s.present j)) is (f.slot j) in (
       fine_status t s j (Held c k) (status_word q kinds.Used) f (λ d i own. let z : Pool ≡ Held d i = sym pool.0 ∙ own in cc) (λ own. let z : Pool ≡ Null = sym pool.0 ∙ own in cc)
@@ -124,12 +124,12 @@ taken t s c k j q plan f is =
     )
 
 -- what the owner of a retiring slot knows
-pub slot_retiring : (t : Plan) (s : Shared) (c j : ℕ) → Fine t s → s.owner j ≡ Retiring c → (s.present j ≢ 0) × (has (s.present j) s.source.retired ≡ true)
+pub slot_retiring : (t : Plan) (s : Shared) (c j : ℕ) → SharedHolds t s → s.owner j ≡ Retiring c → (s.present j ≢ 0) × (has (s.present j) s.source.retired ≡ true)
 slot_retiring t s c j f own = let k = slot_by s j (Retiring c) own (f.slot j) in (k.1, k.2)
 
 -- the store of the retire routine
-pub marked : (t : Plan) (s : Shared) (c j n p : ℕ) → Fine t s → IsRetiring s c j n (Some p)
-    → Fine t (with_status s j Dead (status_word p kinds.Retired)) × Goes t c s (with_status s j Dead (status_word p kinds.Retired))
+pub marked : (t : Plan) (s : Shared) (c j n p : ℕ) → SharedHolds t s → IsRetiring s c j n (Some p)
+    → SharedHolds t (with_status s j Dead (status_word p kinds.Retired)) × MayChange t c s (with_status s j Dead (status_word p kinds.Retired))
 marked t s c j n p f r = (
   fine_status t s j Dead (status_word p kinds.Retired) f (λ d i own. let z : Retiring c ≡ Held d i = sym r.owner ∙ own in cc) (λ own. let z : Retiring c ≡ Null = sym r.owner ∙ own in cc)
       (p, refl, ap s.tag r.present ∙ r.tag_is, (slot_retiring t s c j f r.owner).0),
@@ -151,7 +151,7 @@ abbrev pub with_tag : Shared → ℕ → Shared
 with_tag s n = record s { tag = put s.tag n (Some (s.memory Phase)) }
 
 -- the load of the retire routine: the phase becomes the tag
-pub tagged : (t : Plan) (s : Shared) (c j n : ℕ) → Fine t s → IsRetiring s c j n None → Fine t (with_tag s n) × Goes t c s (with_tag s n)
+pub tagged : (t : Plan) (s : Shared) (c j n : ℕ) → SharedHolds t s → IsRetiring s c j n None → SharedHolds t (with_tag s n) × MayChange t c s (with_tag s n)
 tagged t s c j n f r = (
   record {
     warning = f.warning;
@@ -221,11 +221,11 @@ pub record Freed (t : Plan) (s : Shared) (p j q : ℕ) (g : List ℕ) : Type 0 w
 abbrev pub freed : Shared → ℕ → ℕ → Shared
 freed s j p = with_slot_at s j Pool (status_word p kinds.Ready) 0
 
-dead_slot : (t : Plan) (s : Shared) (p j q : ℕ) (g : List ℕ) → Fine t s → Freed t s p j q g → (s.owner j ≡ Dead) × (s.tag (s.present j) ≡ Some q) × (s.present j ≢ 0)
+dead_slot : (t : Plan) (s : Shared) (p j q : ℕ) (g : List ℕ) → SharedHolds t s → Freed t s p j q g → (s.owner j ≡ Dead) × (s.tag (s.present j) ≡ Some q) × (s.present j ≢ 0)
 dead_slot t s p j q g f w = is_dead (s.owner j) q (s.memory (Status j)) (s.present j) (s.tag (s.present j)) (has (s.present j) s.source.retired) (s.public (s.present j)) w.word (f.slot j)
 
 -- no validated guard names it
-pub unguarded : (t : Plan) (s : Shared) (p j q : ℕ) (g : List ℕ) → Fine t s → Freed t s p j q g → (d r : ℕ) → s.protects d r ≢ 0 → t.home (s.protects d r) ≢ j
+pub unguarded : (t : Plan) (s : Shared) (p j q : ℕ) (g : List ℕ) → SharedHolds t s → Freed t s p j q g → (d r : ℕ) → s.protects d r ≢ 0 → t.home (s.protects d r) ≢ j
 unguarded t s p j q g f w d r some at =
     let gd = f.guard d r some in
     let named : s.present j ≡ s.protects d r = ap s.present (sym at) ∙ gd.resident in
@@ -235,7 +235,7 @@ unguarded t s p j q g f w d r some at =
     let clash : true ≡ false = sym is ∙ (ap (λ (n : ℕ). has_slot g n) at ∙ w.away) in
     cc
 
-pub fine_freed : (t : Plan) (s : Shared) (p j q : ℕ) (g : List ℕ) → Fine t s → Freed t s p j q g → Fine t (freed s j p)
+pub fine_freed : (t : Plan) (s : Shared) (p j q : ℕ) (g : List ℕ) → SharedHolds t s → Freed t s p j q g → SharedHolds t (freed s j p)
 fine_freed t s p j q g f w = record {
   warning = f.warning;
   tag = f.tag;
@@ -283,7 +283,7 @@ fine_freed t s p j q g f w = record {
   dead : (s.owner j ≡ Dead) × (s.tag (s.present j) ≡ Some q) × (s.present j ≢ 0)
   dead = dead_slot t s p j q g f w
 
-pub goes_freed : (t : Plan) (s : Shared) (p j q : ℕ) (g : List ℕ) → Fine t s → Freed t s p j q g → GoesForAll t s (freed s j p)
+pub goes_freed : (t : Plan) (s : Shared) (p j q : ℕ) (g : List ℕ) → SharedHolds t s → Freed t s p j q g → GoesForAll t s (freed s j p)
 goes_freed t s p j q g f w y = record {
   phase = omega arith;
   warning = λ d. omega arith;

@@ -16,9 +16,11 @@ use Rattle.phase_pools.specs.declared.stages.SweepStage.{SweepStage}
 use Rattle.phase_pools.specs.declared.stages.SweepStage.TheVariants as sweeps
 use Rattle.phase_pools.specs.Accesses.{word_of}
 use Rattle.phase_pools.specs.Pools.{Sweep, SweepTurn, sweep_wants_at, sweep_accepts_at, sweep_goes, sweep_ends, sweep_on, phase_read, hazard_next, hazard_read, freeing, status_read}
+use Rattle.source_machine.specs.MethodRuns.{put}
 use Rattle.sim_relation.specs.Views.{Plan, IsPlan, Shared}
-use Rattle.sim_relation.specs.Shared.{Fine}
+use Rattle.sim_relation.specs.Shared.{SharedHolds}
 use Rattle.sim_relation.specs.Callers.{Sweeps, SweepAt}
+use Rattle.sim_relation.specs.Naming.{freed_at}
 use Rattle.sim_relation.specs.Steps.{GoesForAll, after_access}
 use Rattle.sim_relation.proofs.Names.{has_slot_of}
 use Rattle.sim_relation.proofs.Words.{store_idle, each_warning}
@@ -31,17 +33,18 @@ abbrev pub SweepNext : Plan → Shared → Sweep → Option SweepEnd → Type 0
 SweepNext t s sweep None = SweepAt t s sweep.bound sweep.gathered sweep.stage
 SweepNext t s sweep (Some end) = Unit {0}
 
-pub record Swept (t : Plan) (s : Shared) (memory' : Word → ℕ) (turn : SweepTurn) : Type 0 where
+pub record Swept (t : Plan) (s : Shared) (memory' : Word → ℕ) (turn : SweepTurn) (present' : ℕ → ℕ) : Type 0 where
   pub s' : Shared
   pub memory : s'.memory ≡ memory'
+  pub present : s'.present ≡ present'
   pub source : s'.source ≡ s.source
   pub unused : s'.unused ≡ s.unused
-  pub fine : Fine t s'
+  pub fine : SharedHolds t s'
   pub goes : GoesForAll t s s'
   pub next : SweepNext t s' turn.sweep turn.ended
 
-unchanged : (t : Plan) (s : Shared) (w : Word) (turn : SweepTurn) → Fine t s → SweepNext t s turn.sweep turn.ended → Swept t s (store s.memory w (s.memory w)) turn
-unchanged t s w turn f next = record { s' = s; memory = store_idle s.memory w; source = refl; unused = refl; fine = f; goes = goes_same t s; next = next }
+unchanged : (t : Plan) (s : Shared) (w : Word) (turn : SweepTurn) → SharedHolds t s → SweepNext t s turn.sweep turn.ended → Swept t s (store s.memory w (s.memory w)) turn s.present
+unchanged t s w turn f next = record { s' = s; memory = store_idle s.memory w; present = refl; source = refl; unused = refl; fine = f; goes = goes_same t s; next = next }
 
 on_next : (t : Plan) (s : Shared) (sweep : Sweep) (j : ℕ) → Sweeps t s sweep.bound t.setting.sizes.callers (8 * t.setting.sizes.callers) sweep.gathered
     → SweepNext t s (sweep_on t.setting.sizes sweep j).sweep (sweep_on t.setting.sizes sweep j).ended
@@ -83,7 +86,7 @@ has_now g (suc w) j some is = list_any-append (λ slot. slot == j) g (suc w ∷ 
 pub here_or_before : (d r x k : ℕ) → 8 * d + r < 8 * x + k + 1 → r < 8 → k < 8 → (8 * d + r < 8 * x + k) ⊎ ((d ≡ x) × (r ≡ k))
 here_or_before d r x k lt r8 k8 = ⊎_elim (λ (l : 8 * d + r < 8 * x + k). inl l) (λ (ge : 8 * x + k ≤ 8 * d + r). inr (omega arith, omega arith)) (cases_lt (8 * d + r) (8 * x + k))
 
-gathers : (t : Plan) (s : Shared) (p y x k : ℕ) (g : List ℕ) → Fine t s → k < 8 → Sweeps t s p y (8 * x + k) g → Sweeps t s p y (8 * x + k + 1) (with_slot g (s.memory (Hazard x k)))
+gathers : (t : Plan) (s : Shared) (p y x k : ℕ) (g : List ℕ) → SharedHolds t s → k < 8 → Sweeps t s p y (8 * x + k) g → Sweeps t s p y (8 * x + k + 1) (with_slot g (s.memory (Hazard x k)))
 gathers t s p y x k g f lt w = record {
   raised = w.raised;
   warned = w.warned;
@@ -125,17 +128,18 @@ warned_next t s p x g lx w = of (nat_lt (x + 1) t.setting.sizes.callers) refl wh
 
 -- ---- each stage
 
-frees : (t : Plan) (s : Shared) (sweep : Sweep) (j q : ℕ) → Fine t s → SweepAt t s sweep.bound sweep.gathered (sweeps.MakeReady j q)
-    → Swept t s (after_access s.memory (sweep_wants_at (sweeps.MakeReady j q) sweep.bound)) (sweep_on t.setting.sizes sweep j)
+frees : (t : Plan) (s : Shared) (sweep : Sweep) (j q : ℕ) → SharedHolds t s → SweepAt t s sweep.bound sweep.gathered (sweeps.MakeReady j q)
+    → Swept t s (after_access s.memory (sweep_wants_at (sweeps.MakeReady j q) sweep.bound)) (sweep_on t.setting.sizes sweep j) (freed_at (sweeps.MakeReady j q) s.memory s.present)
 frees t s sweep j q f w = of (s.memory (Status j) == status_word q kinds.Retired) refl where
   of : (b : Bool) → (s.memory (Status j) == status_word q kinds.Retired) ≡ b
-      → Swept t s (store s.memory (Status j) (if b then status_word sweep.bound kinds.Ready else s.memory (Status j))) (sweep_on t.setting.sizes sweep j)
+      → Swept t s (store s.memory (Status j) (if b then status_word sweep.bound kinds.Ready else s.memory (Status j))) (sweep_on t.setting.sizes sweep j) (if b then put s.present j 0 else s.present)
   of false is = unchanged t s (Status j) (sweep_on t.setting.sizes sweep j) f (on_next t s sweep j w.0)
   of true is =
       let k : Freed t s sweep.bound j q sweep.gathered = record { word = grind (arith, nat_tests); below = w.1; away = w.2; sweeps = w.0 } in
       record {
         s' = freed s j sweep.bound;
         memory = refl;
+        present = refl;
         source = refl;
         unused = refl;
         fine = fine_freed t s sweep.bound j q sweep.gathered f k;
@@ -143,8 +147,8 @@ frees t s sweep j q f w = of (s.memory (Status j) == status_word q kinds.Retired
         next = on_next t (freed s j sweep.bound) sweep j w.0;
       }
 
-pub sweep_step : (t : Plan) (s : Shared) (sweep : Sweep) (stage : SweepStage) → IsPlan t → Fine t s → SweepAt t s sweep.bound sweep.gathered stage
-    → Swept t s (after_access s.memory (sweep_wants_at stage sweep.bound)) (sweep_accepts_at t.setting.sizes t.setting.last sweep (s.memory (word_of (sweep_wants_at stage sweep.bound))) stage)
+pub sweep_step : (t : Plan) (s : Shared) (sweep : Sweep) (stage : SweepStage) → IsPlan t → SharedHolds t s → SweepAt t s sweep.bound sweep.gathered stage
+    → Swept t s (after_access s.memory (sweep_wants_at stage sweep.bound)) (sweep_accepts_at t.setting.sizes t.setting.last sweep (s.memory (word_of (sweep_wants_at stage sweep.bound))) stage) (freed_at stage s.memory s.present)
 sweep_step t s sweep sweeps.ReadPhase plan f w = unchanged t s Phase (phase_read t.setting.last sweep (s.memory Phase)) f (of (s.memory Phase == t.setting.last)) where
   of : (b : Bool) → SweepNext t s (if b then sweep_ends sweep (swept.PhasesOver (s.memory Phase)) else sweep_goes sweep (sweeps.RaisePhase (s.memory Phase))).sweep
       (if b then sweep_ends sweep (swept.PhasesOver (s.memory Phase)) else sweep_goes sweep (sweeps.RaisePhase (s.memory Phase))).ended
@@ -157,6 +161,7 @@ sweep_step t s sweep (sweeps.RaisePhase p) plan f w =
     record {
       s' = with_phase s (if s.memory Phase == p then p + 1 else s.memory Phase);
       memory = refl;
+      present = refl;
       source = refl;
       unused = refl;
       fine = fine_phase t s _ up f;
@@ -166,6 +171,7 @@ sweep_step t s sweep (sweeps.RaisePhase p) plan f w =
 sweep_step t s sweep (sweeps.Warn c) plan f w = record {
   s' = with_warning s c sweep.bound;
   memory = refl;
+  present = refl;
   source = refl;
   unused = refl;
   fine = fine_warning t s c sweep.bound w.0.raised f;

@@ -8,9 +8,10 @@ use Rattle.caller_steps.specs.declared.routine.Routine.{Routine}
 use Rattle.source_machine.specs.declared.state.SourceCaller.{SourceCaller}
 use Rattle.source_machine.specs.MethodRuns.{MethodRun, run_begun}
 use Rattle.sim_relation.specs.Views.{Plan, IsPlan, Held, Shared, Caller, protected, settled_names}
-use Rattle.sim_relation.specs.Shared.{Fine}
-use Rattle.sim_relation.specs.Callers.{Base, Trail, Walks, Running, AtNew, Begins, Told}
-use Rattle.sim_relation.specs.Steps.{moved, cradled, GoesForAll}
+use Rattle.sim_relation.specs.Shared.{SharedHolds}
+use Rattle.sim_relation.specs.Callers.{Base, Trail, Walks, Running, AtNew, Begins, CallerHolds}
+use Rattle.run_ahead.specs.Guards.{GuardRow}
+use Rattle.sim_relation.specs.Steps.{moved, cradled, GoesForAll, NamesStay}
 use Rattle.sim_relation.proofs.Stable.{stable, stable_base, stable_running, stable_new}
 
 pub base_moved : (t : Plan) (s : Shared) (d : ℕ) (x : Caller) (a : ℕ) (k : Counts) (r : Routine) → Base t s d x → Base t s d (moved x a k r)
@@ -40,16 +41,16 @@ pub begins_moved : (t : Plan) (s : Shared) (d : ℕ) (x : Caller) (walk : Walk t
 begins_moved t s d x walk a k r w = record { call = w.call; first = w.first; number = w.number; start = w.start; generator = w.generator; kept = w.kept; shown = w.shown; stands = w.stands; got = w.got; tied = w.tied; settled = w.settled }
 
 -- the mover's own facts, by a caller that there isn't
-pub own_stable : (t : Plan) (c : ℕ) (s s' : Shared) (x : Caller) → IsPlan t → GoesForAll t s s' → Fine t s → Fine t s' → Told t s c x → Told t s' c x
+pub own_stable : (t : Plan) (c : ℕ) (s s' : Shared) (x : Caller) → IsPlan t → GoesForAll t s s' → SharedHolds t s → SharedHolds t s' → CallerHolds t s c x → CallerHolds t s' c x
 own_stable t c s s' x plan g f f' w = stable t (suc c) c s s' x plan (g (suc c)) f f' (λ e. omega (arith, e)) w
 
-pub own_base : (t : Plan) (c : ℕ) (s s' : Shared) (x : Caller) → GoesForAll t s s' → Fine t s → Base t s c x → Base t s' c x
+pub own_base : (t : Plan) (c : ℕ) (s s' : Shared) (x : Caller) → GoesForAll t s s' → SharedHolds t s → Base t s c x → Base t s' c x
 own_base t c s s' x g f w = stable_base t (suc c) c s s' x (g (suc c)) f (λ e. omega (arith, e)) w
 
-pub own_running : (t : Plan) (c : ℕ) (s s' : Shared) (x : Caller) (core : Spot) → IsPlan t → GoesForAll t s s' → Fine t s → Fine t s' → Base t s c x → Running t s c x core → Running t s' c x core
+pub own_running : (t : Plan) (c : ℕ) (s s' : Shared) (x : Caller) (core : Spot) → IsPlan t → GoesForAll t s s' → SharedHolds t s → SharedHolds t s' → Base t s c x → Running t s c x core → Running t s' c x core
 own_running t c s s' x core plan g f f' b w = stable_running t (suc c) c s s' x core plan (g (suc c)) f f' (λ e. omega (arith, e)) b w
 
-pub own_new : (t : Plan) (c : ℕ) (s s' : Shared) (x : Caller) (core : Spot) → IsPlan t → GoesForAll t s s' → Fine t s → Fine t s' → Base t s c x → AtNew t s c x core → AtNew t s' c x core
+pub own_new : (t : Plan) (c : ℕ) (s s' : Shared) (x : Caller) (core : Spot) → IsPlan t → GoesForAll t s s' → SharedHolds t s → SharedHolds t s' → Base t s c x → AtNew t s c x core → AtNew t s' c x core
 own_new t c s s' x core plan g f f' b w = stable_new t (suc c) c s s' x core plan (g (suc c)) f f' (λ e. omega (arith, e)) b w
 
 pub goes_same : (t : Plan) (s : Shared) → GoesForAll t s s
@@ -100,8 +101,24 @@ base_settled t s d x w = record { number = w.number; seen = w.seen; old = w.old;
 pub settled_is : (x : Caller) (r : ℕ) → x.names.valid r ≡ false → protected x.names r ≡ 0
 settled_is x r is = rw is refl
 
+-- names that stay as they are, those that settle where a method run is over, and two changes in turn
+pub same_names : (row : GuardRow) (between : Bool) → NamesStay row row between
+same_names row between = record { guarded = λ r some. some; named = λ on r some. some }
+
+pub names_settle : (row : GuardRow) (between : Bool) → between ≡ true → NamesStay row (settled_names row) between
+names_settle row between over = record {
+  guarded = λ r some none. some (sym (same_protected (row.valid r) (row.name r)) ∙ none);
+  named = λ on. absurd (let z : true ≡ false = sym over ∙ on in cc);
+}
+
+pub names_stay_on : (row row' later : GuardRow) (between : Bool) → NamesStay row row' between → NamesStay row' later between → NamesStay row later between
+names_stay_on row row' later between one two = record {
+  guarded = λ r some. two.guarded r (one.guarded r some);
+  named = λ on r some. two.named on r (one.named on r some);
+}
+
 -- a method run begins now
-pub base_begun : (t : Plan) (s : Shared) (d : ℕ) (x : Caller) (source : SourceCaller) (watch : MethodRun) → Fine t s → Base t s d x → Base t s d (record x { held = run_begun s.source; source = source; watch = watch })
+pub base_begun : (t : Plan) (s : Shared) (d : ℕ) (x : Caller) (source : SourceCaller) (watch : MethodRun) → SharedHolds t s → Base t s d x → Base t s d (record x { held = run_begun s.source; source = source; watch = watch })
 base_begun t s d x source watch f w = record {
   number = w.number;
   seen = w.seen;

@@ -4,7 +4,7 @@ use Rattle.std.proofs.lemmas.Bool.{cases_eq}
 use Rattle.oa_words.specs.Words.{Status, Hazard}
 use Rattle.source_machine.specs.Proper.{has}
 use Rattle.sim_relation.specs.Views.{Plan, IsPlan, Owner, Null, Held, Shared, Resident, Apart}
-use Rattle.sim_relation.specs.Shared.{Slot, SlotAt, Fine}
+use Rattle.sim_relation.specs.Shared.{Slot, SlotAt, SharedHolds}
 
 pub residents_apart : (t : Plan) (s : Shared) (x y : ℕ) → Resident t s x → Resident t s y → Apart t x y
 residents_apart t s x y p q e = sym p ∙ (ap s.present e ∙ q)
@@ -14,28 +14,28 @@ pub slot_by : (s : Shared) (j : ℕ) (o : Owner) → s.owner j ≡ o → SlotAt 
 slot_by s j o is slot = subst (λ (owner : Owner). Slot owner (s.memory (Status j)) (s.present j) (s.tag (s.present j)) (has (s.present j) s.source.retired) (s.public (s.present j))) is slot
 
 -- slot 0 has no name
-pub none_there : (t : Plan) (s : Shared) → Fine t s → s.present 0 ≡ 0
+pub none_there : (t : Plan) (s : Shared) → SharedHolds t s → s.present 0 ≡ 0
 none_there t s f = (slot_by s 0 Null f.none_there (f.slot 0)).1
 
-pub null_resident : (t : Plan) (s : Shared) (n : ℕ) → IsPlan t → Fine t s → n ≡ 0 → Resident t s n
+pub null_resident : (t : Plan) (s : Shared) (n : ℕ) → IsPlan t → SharedHolds t s → n ≡ 0 → Resident t s n
 null_resident t s n p f z = ap (λ (i : ℕ). s.present (t.home i)) z ∙ (ap s.present p.null ∙ (none_there t s f ∙ sym z))
 
 -- a resident name other than null has a slot other than 0
-pub has_slot_of : (t : Plan) (s : Shared) (n : ℕ) → Fine t s → Resident t s n → n ≢ 0 → t.home n ≢ 0
+pub has_slot_of : (t : Plan) (s : Shared) (n : ℕ) → SharedHolds t s → Resident t s n → n ≢ 0 → t.home n ≢ 0
 has_slot_of t s n f r some z = some (sym r ∙ (ap s.present z ∙ none_there t s f))
 
 -- where no guard is, none protects
-pub unprotected : (t : Plan) (s : Shared) (c r : ℕ) → Fine t s → s.memory (Hazard c r) ≡ 0 → s.protects c r ≡ 0
+pub unprotected : (t : Plan) (s : Shared) (c r : ℕ) → SharedHolds t s → s.memory (Hazard c r) ≡ 0 → s.protects c r ≡ 0
 unprotected t s c r f z = ⊎_elim
     (λ (is : s.protects c r ≡ 0). is)
     (λ (some : s.protects c r ≢ 0). let g = f.guard c r some in absurd (has_slot_of t s (s.protects c r) f g.resident some (sym g.word ∙ z)))
     (cases_eq (s.protects c r) 0)
 
 -- a name in a cradle isn't published
-pub own_private : (t : Plan) (s : Shared) (d k n : ℕ) → Fine t s → s.owner (t.home n) ≡ Held d k → Resident t s n → s.public n ≡ false
+pub own_private : (t : Plan) (s : Shared) (d k n : ℕ) → SharedHolds t s → s.owner (t.home n) ≡ Held d k → Resident t s n → s.public n ≡ false
 own_private t s d k n f held here = ap s.public (sym here) ∙ (slot_by s (t.home n) (Held d k) held (f.slot (t.home n))).2
 
-pub null_private : (t : Plan) (s : Shared) → IsPlan t → Fine t s → s.public 0 ≡ false
+pub null_private : (t : Plan) (s : Shared) → IsPlan t → SharedHolds t s → s.public 0 ≡ false
 null_private t s p f = of (s.public 0) refl where
   of : (b : Bool) → s.public 0 ≡ b → b ≡ false
   of true is = absurd (f.placed 0 is p.null)

@@ -26,24 +26,24 @@ use Rattle.target_laws.specs.Methods.{code_in}
 use Rattle.run_ahead.specs.Following.{Walk}
 use Rattle.run_ahead.proofs.Quiet.{less_calm}
 use Rattle.sim_relation.specs.Views.{Plan, IsPlan, Null, Held, Shared, Caller, link, Resident, Apart}
-use Rattle.sim_relation.specs.Shared.{Fine}
-use Rattle.sim_relation.specs.Callers.{Shown, spot_of, tag_at, Own, Known, Calm, Base, Sound, HasMade, Trail, Walks, Gets, Running, AtNew, Begins, BehindEntry, IsRetiring, Sweeps, SweepAt, ClaimAt, Zeroed, GoesOn, BeginsAt, ClearsAt, Spotted, Told}
-use Rattle.sim_relation.specs.Goes.{Goes}
+use Rattle.sim_relation.specs.Shared.{SharedHolds}
+use Rattle.sim_relation.specs.Callers.{Shown, spot_of, tag_at, Own, Known, Calm, Base, Sound, HasMade, Trail, Walks, Gets, Running, AtNew, Begins, AfterExchange, IsRetiring, Sweeps, SweepAt, ClaimAt, Zeroed, GoesOn, BeginsAt, ClearsAt, HoldsAt, CallerHolds}
+use Rattle.sim_relation.specs.MayChange.{MayChange}
 use Rattle.sim_relation.proofs.Names.{residents_apart, own_private}
 
-pub stable_own : (t : Plan) (c d : ℕ) (s s' : Shared) (n : ℕ) → Goes t c s s' → d ≢ c → Own t s d n → Own t s' d n
+pub stable_own : (t : Plan) (c d : ℕ) (s s' : Shared) (n : ℕ) → MayChange t c s s' → d ≢ c → Own t s d n → Own t s' d n
 stable_own t c d s s' n g ne own = let k = g.held (t.home n) d own.0 ne own.1 in (own.0, k.0, k.1 ∙ own.2)
 
-pub stable_known : (t : Plan) (c d : ℕ) (s s' : Shared) (n : ℕ) → Goes t c s s' → d ≢ c → Known t s d n → Known t s' d n
+pub stable_known : (t : Plan) (c d : ℕ) (s s' : Shared) (n : ℕ) → MayChange t c s s' → d ≢ c → Known t s d n → Known t s' d n
 stable_known t c d s s' n g ne (inl null) = inl null
 stable_known t c d s s' n g ne (inr (inl public)) = inr (inl (g.public n public))
 stable_known t c d s s' n g ne (inr (inr own)) = inr (inr (stable_own t c d s s' n g ne own))
 
 -- a step may warn the caller, and never calms it
-pub calm_before : (t : Plan) (c d : ℕ) (s s' : Shared) (x : Caller) → Goes t c s s' → Base t s d x → Calm s' d x → Calm s d x
+pub calm_before : (t : Plan) (c d : ℕ) (s s' : Shared) (x : Caller) → MayChange t c s s' → Base t s d x → Calm s' d x → Calm s d x
 calm_before t c d s s' x g b calm = let same : x.entry.hand.seen ≡ s'.memory (Warning d) = calm in omega (arith, b.seen, g.warning d, same)
 
-pub stable_base : (t : Plan) (c d : ℕ) (s s' : Shared) (x : Caller) → Goes t c s s' → Fine t s → d ≢ c → Base t s d x → Base t s' d x
+pub stable_base : (t : Plan) (c d : ℕ) (s s' : Shared) (x : Caller) → MayChange t c s s' → SharedHolds t s → d ≢ c → Base t s d x → Base t s' d x
 stable_base t c d s s' x g f ne b = record {
   number = b.number;
   seen = omega (arith, b.seen, g.warning d);
@@ -54,7 +54,7 @@ stable_base t c d s s' x g f ne b = record {
   cradle = λ k some. (g.held (cradle_of x.entry k) d k ne (b.cradle k some)).0;
 }
 
-pub stable_sound : (t : Plan) (c d : ℕ) (s s' : Shared) (x : Caller) (walk : Walk t.target t.text) (path : List ℕ) (mirror : Registers) → Goes t c s s' → Fine t s' → d ≢ c → Base t s d x
+pub stable_sound : (t : Plan) (c d : ℕ) (s s' : Shared) (x : Caller) (walk : Walk t.target t.text) (path : List ℕ) (mirror : Registers) → MayChange t c s s' → SharedHolds t s' → d ≢ c → Base t s d x
     → Sound t s d x walk path mirror → Sound t s' d x walk path mirror
 stable_sound t c d s s' x walk path mirror g f ne b w = record {
   word = λ calm. w.word (calm_before t c d s s' x g b calm);
@@ -79,7 +79,7 @@ stable_sound t c d s s' x walk path mirror g f ne b w = record {
 }
 
 -- an own name that was got came by its `new`
-stable_made : (t : Plan) (c d : ℕ) (s s' : Shared) (x : Caller) (P : ℕ → Type 0) → IsPlan t → Goes t c s s' → Fine t s → Fine t s' → d ≢ c → Base t s d x
+stable_made : (t : Plan) (c d : ℕ) (s s' : Shared) (x : Caller) (P : ℕ → Type 0) → IsPlan t → MayChange t c s s' → SharedHolds t s → SharedHolds t s' → d ≢ c → Base t s d x
     → ((n k : ℕ) → has n x.held.got ≡ true → s.owner (t.home n) ≡ Held d k → Resident t s n → P k)
     → (n k : ℕ) → has n x.held.got ≡ true → s'.owner (t.home n) ≡ Held d k → Resident t s' n → P k
 stable_made t c d s s' x P plan g f f' ne b made n k got held here = of (b.known n got) where
@@ -92,7 +92,7 @@ pub stable_shown : (s s' : Shared) (n : ℕ) → ((n : ℕ) → s.public n ≡ t
 stable_shown s s' n stays (inl z) = inl z
 stable_shown s s' n stays (inr public) = inr (stays n public)
 
-pub stable_walks : (t : Plan) (c d : ℕ) (s s' : Shared) (x : Caller) (core : Spot) (m : Trail t) → IsPlan t → Goes t c s s' → Fine t s → Fine t s' → d ≢ c → Base t s d x → Walks t s d x core m → Walks t s' d x core m
+pub stable_walks : (t : Plan) (c d : ℕ) (s s' : Shared) (x : Caller) (core : Spot) (m : Trail t) → IsPlan t → MayChange t c s s' → SharedHolds t s → SharedHolds t s' → d ≢ c → Base t s d x → Walks t s d x core m → Walks t s' d x core m
 stable_walks t c d s s' x core m plan g f f' ne b w = record {
   call = w.call;
   wrapup = w.wrapup;
@@ -106,10 +106,10 @@ stable_walks t c d s s' x core m plan g f f' ne b w = record {
   sound = stable_sound t c d s s' x m.walk m.path m.mirror g f' ne b w.sound;
 }
 
-pub stable_gets : (t : Plan) (c d : ℕ) (s s' : Shared) (x : Caller) (m : Trail t) → IsPlan t → Goes t c s s' → Fine t s → Fine t s' → d ≢ c → Base t s d x → Gets t s d x m → Gets t s' d x m
+pub stable_gets : (t : Plan) (c d : ℕ) (s s' : Shared) (x : Caller) (m : Trail t) → IsPlan t → MayChange t c s s' → SharedHolds t s → SharedHolds t s' → d ≢ c → Base t s d x → Gets t s d x m → Gets t s' d x m
 stable_gets t c d s s' x m plan g f f' ne b w = record { got = w.got; named = w.named; fresh = λ gen r is. stable_own t c d s s' (node_in m.mirror r) g ne (w.fresh gen r is); shown = λ gen r is. ⊎_elim (λ (z : node_in m.mirror r ≡ 0). inl z) (λ (p : s.public (node_in m.mirror r) ≡ true). inr (g.public (node_in m.mirror r) p)) (w.shown gen r is); made = stable_made t c d s s' x (λ k. HasMade (code_in m.walk.method) m.path k) plan g f f' ne b w.made }
 
-pub stable_begins : (t : Plan) (c d : ℕ) (s s' : Shared) (x : Caller) (walk : Walk t.target t.text) → Goes t c s s' → d ≢ c → Begins t s d x walk → Begins t s' d x walk
+pub stable_begins : (t : Plan) (c d : ℕ) (s s' : Shared) (x : Caller) (walk : Walk t.target t.text) → MayChange t c s s' → d ≢ c → Begins t s d x walk → Begins t s' d x walk
 stable_begins t c d s s' x walk g ne b = record {
   call = b.call;
   first = b.first;
@@ -124,20 +124,20 @@ stable_begins t c d s s' x walk g ne b = record {
   shown = λ r is. stable_shown s s' (node_in walk.started r) (λ n public. g.public n public) (b.shown r is);
 }
 
-pub stable_retires : (t : Plan) (c d : ℕ) (s s' : Shared) (j n : ℕ) (o : Option ℕ) → Goes t c s s' → d ≢ c → IsRetiring s d j n o → IsRetiring s' d j n o
+pub stable_retires : (t : Plan) (c d : ℕ) (s s' : Shared) (j n : ℕ) (o : Option ℕ) → MayChange t c s s' → d ≢ c → IsRetiring s d j n o → IsRetiring s' d j n o
 stable_retires t c d s s' j n o g ne r =
     let k = g.retiring j d ne r.owner in
     record { owner = k.0; present = k.1 ∙ r.present; tag_is = ap s'.tag (sym r.present) ∙ (k.2 ∙ (ap s.tag r.present ∙ r.tag_is)) }
 
 -- the guard (d, r) after the step, of which a sweep that has passed it knows
-stable_gathered : (t : Plan) (c : ℕ) (s s' : Shared) (p x m : ℕ) (l : List ℕ) → Goes t c s s' → Sweeps t s p x m l
+stable_gathered : (t : Plan) (c : ℕ) (s s' : Shared) (p x m : ℕ) (l : List ℕ) → MayChange t c s s' → Sweeps t s p x m l
     → (d r q : ℕ) → 8 * d + r < m → s'.protects d r ≢ 0 → s'.tag (s'.protects d r) ≡ Some q → q < p → s'.protects d r ≡ s.protects d r → has_slot l (t.home (s'.protects d r)) ≡ true
 stable_gathered t c s s' p x m l g w d r q lt some is below same =
     let there : s.protects d r ≢ 0 = λ z. some (same ∙ z) in
     let tagged : s.tag (s.protects d r) ≡ Some q = ⊎_elim (λ (was : s.tag (s'.protects d r) ≡ Some q). ap s.tag (sym same) ∙ was) (λ (le : s.memory Phase ≤ q). absurd (omega (arith, w.raised, le, below))) (g.tag (s'.protects d r) q is) in
     ap (λ (k : ℕ). has_slot l k) (ap t.home same) ∙ w.gathered d r q lt there tagged below
 
-pub stable_sweeps : (t : Plan) (c : ℕ) (s s' : Shared) (p x m : ℕ) (l : List ℕ) → Goes t c s s' → Fine t s' → m ≤ 8 * x → Sweeps t s p x m l → Sweeps t s' p x m l
+pub stable_sweeps : (t : Plan) (c : ℕ) (s s' : Shared) (p x m : ℕ) (l : List ℕ) → MayChange t c s s' → SharedHolds t s' → m ≤ 8 * x → Sweeps t s p x m l → Sweeps t s' p x m l
 stable_sweeps t c s s' p x m l g f all w = record {
   raised = omega (arith, w.raised, g.phase);
   warned = λ d lt. omega (arith, w.warned d lt, g.warning d);
@@ -153,7 +153,7 @@ stable_sweeps t c s s' p x m l g f all w = record {
       (cases_eq d c);
 }
 
-pub stable_sweep : (t : Plan) (c : ℕ) (s s' : Shared) (p : ℕ) (l : List ℕ) (stage : SweepStage) → Goes t c s s' → Fine t s' → SweepAt t s p l stage → SweepAt t s' p l stage
+pub stable_sweep : (t : Plan) (c : ℕ) (s s' : Shared) (p : ℕ) (l : List ℕ) (stage : SweepStage) → MayChange t c s s' → SharedHolds t s' → SweepAt t s p l stage → SweepAt t s' p l stage
 stable_sweep t c s s' p l sweeps.ReadPhase g f w = tt
 stable_sweep t c s s' p l (sweeps.RaisePhase q) g f w = let le : q ≤ s.memory Phase = w in omega (arith, le, g.phase)
 stable_sweep t c s s' p l (sweeps.Warn x) g f w = (stable_sweeps t c s s' p x 0 l g f (omega arith) w.0, w.1)
@@ -161,40 +161,40 @@ stable_sweep t c s s' p l (sweeps.ReadHazard x r) g f w = (stable_sweeps t c s s
 stable_sweep t c s s' p l (sweeps.ReadStatus j) g f w = stable_sweeps t c s s' p t.setting.sizes.callers (8 * t.setting.sizes.callers) l g f (omega arith) w
 stable_sweep t c s s' p l (sweeps.MakeReady j q) g f w = (stable_sweeps t c s s' p t.setting.sizes.callers (8 * t.setting.sizes.callers) l g f (omega arith) w.0, w.1, w.2)
 
-pub stable_claim : (t : Plan) (c : ℕ) (s s' : Shared) (sweep : Sweep) (stage : ClaimStage) → Goes t c s s' → Fine t s' → ClaimAt t s sweep stage → ClaimAt t s' sweep stage
+pub stable_claim : (t : Plan) (c : ℕ) (s s' : Shared) (sweep : Sweep) (stage : ClaimStage) → MayChange t c s s' → SharedHolds t s' → ClaimAt t s sweep stage → ClaimAt t s' sweep stage
 stable_claim t c s s' sweep (claims.ReadStatus j) g f w = w
 stable_claim t c s s' sweep (claims.Take j q) g f w = w
 stable_claim t c s s' sweep claims.Sweeps g f w = stable_sweep t c s s' sweep.bound sweep.gathered sweep.stage g f w
 
-pub stable_running : (t : Plan) (c d : ℕ) (s s' : Shared) (x : Caller) (core : Spot) → IsPlan t → Goes t c s s' → Fine t s → Fine t s' → d ≢ c → Base t s d x → Running t s d x core → Running t s' d x core
+pub stable_running : (t : Plan) (c d : ℕ) (s s' : Shared) (x : Caller) (core : Spot) → IsPlan t → MayChange t c s s' → SharedHolds t s → SharedHolds t s' → d ≢ c → Base t s d x → Running t s d x core → Running t s' d x core
 stable_running t c d s s' x core plan g f f' ne b w = (w.0, stable_walks t c d s s' x core w.0 plan g f f' ne b w.1, w.2, stable_gets t c d s s' x w.0 plan g f f' ne b w.3, w.4)
 
-pub stable_new : (t : Plan) (c d : ℕ) (s s' : Shared) (x : Caller) (core : Spot) → IsPlan t → Goes t c s s' → Fine t s → Fine t s' → d ≢ c → Base t s d x → AtNew t s d x core → AtNew t s' d x core
+pub stable_new : (t : Plan) (c d : ℕ) (s s' : Shared) (x : Caller) (core : Spot) → IsPlan t → MayChange t c s s' → SharedHolds t s → SharedHolds t s' → d ≢ c → Base t s d x → AtNew t s d x core → AtNew t s' d x core
 stable_new t c d s s' x core plan g f f' ne b w = (w.0, stable_walks t c d s s' x core w.0 plan g f f' ne b w.1, w.2, stable_gets t c d s s' x w.0 plan g f f' ne b w.3)
 
-pub stable_behind : (t : Plan) (c d : ℕ) (s s' : Shared) (x : Caller) (made : ℕ) (more : Bool) → IsPlan t → Goes t c s s' → Fine t s → Fine t s' → d ≢ c → Base t s d x → BehindEntry t s d x made more → BehindEntry t s' d x made more
+pub stable_behind : (t : Plan) (c d : ℕ) (s s' : Shared) (x : Caller) (made : ℕ) (more : Bool) → IsPlan t → MayChange t c s s' → SharedHolds t s → SharedHolds t s' → d ≢ c → Base t s d x → AfterExchange t s d x made more → AfterExchange t s' d x made more
 stable_behind t c d s s' x made true plan g f f' ne b w = (w.0, stable_walks t c d s s' x (spot_of x.entry.hand) w.0 plan g f f' ne b w.1, w.2, w.3, w.4, (λ r is. stable_shown s s' (node_in w.0.mirror r) (λ n public. g.public n public) (w.5 r is)))
 stable_behind t c d s s' x made false plan g f f' ne b w = (w.0, stable_walks t c d s s' x (spot_of x.entry.hand) w.0 plan g f f' ne b w.1, w.2, w.3, w.4, w.5, w.6, (λ r is. stable_shown s s' (node_in w.0.mirror r) (λ n public. g.public n public) (w.7 r is)))
 
-stable_onward : (t : Plan) (c d : ℕ) (s s' : Shared) (x : Caller) (go : AfterRetire) → IsPlan t → Goes t c s s' → Fine t s → Fine t s' → d ≢ c → Base t s d x → GoesOn t s d x go → GoesOn t s' d x go
+stable_onward : (t : Plan) (c d : ℕ) (s s' : Shared) (x : Caller) (go : AfterRetire) → IsPlan t → MayChange t c s s' → SharedHolds t s → SharedHolds t s' → d ≢ c → Base t s d x → GoesOn t s d x go → GoesOn t s' d x go
 stable_onward t c d s s' x onward.Next plan g f f' ne b w = stable_running t c d s s' x (record { at = x.entry.hand.at + 1; registers = x.entry.hand.registers }) plan g f f' ne b w
 stable_onward t c d s s' x (onward.List k) plan g f f' ne b w = stable_behind t c d s s' x (k + 1) (nat_lt (k + 1) (length (list_of (instr_in t.target x.entry)))) plan g f f' ne b w
 
-stable_beginning : (t : Plan) (c d : ℕ) (s s' : Shared) (x : Caller) (why : MethodStart) → Goes t c s s' → d ≢ c → BeginsAt t s d x why → BeginsAt t s' d x why
+stable_beginning : (t : Plan) (c d : ℕ) (s s' : Shared) (x : Caller) (why : MethodStart) → MayChange t c s s' → d ≢ c → BeginsAt t s d x why → BeginsAt t s' d x why
 stable_beginning t c d s s' x starts.Begin g ne w = w
 stable_beginning t c d s s' x starts.WrapUp g ne w = (w.0, stable_begins t c d s s' x w.0 g ne w.1, w.2, w.3)
 stable_beginning t c d s s' x starts.Again g ne w = (w.0, stable_begins t c d s s' x w.0 g ne w.1, w.2, w.3)
 
-stable_then : (t : Plan) (c d : ℕ) (s s' : Shared) (x : Caller) (next : AfterClear) → IsPlan t → Goes t c s s' → Fine t s → Fine t s' → d ≢ c → Base t s d x → ClearsAt t s d x next → ClearsAt t s' d x next
+stable_then : (t : Plan) (c d : ℕ) (s s' : Shared) (x : Caller) (next : AfterClear) → IsPlan t → MayChange t c s s' → SharedHolds t s → SharedHolds t s' → d ≢ c → Base t s d x → ClearsAt t s d x next → ClearsAt t s' d x next
 stable_then t c d s s' x clears.New plan g f f' ne b w = stable_new t c d s s' x (spot_of x.entry.hand) plan g f f' ne b w
 stable_then t c d s s' x clears.WrapUp plan g f f' ne b w = (w.0, stable_begins t c d s s' x w.0 g ne w.1, w.2)
 stable_then t c d s s' x (clears.Reply reply) plan g f f' ne b w = w
 stable_then t c d s s' x clears.Again plan g f f' ne b w = (w.0, stable_begins t c d s s' x w.0 g ne w.1, w.2)
 
-stable_zeroed : (t : Plan) (c d k : ℕ) (s s' : Shared) (j field : ℕ) → Goes t c s s' → d ≢ c → s.owner j ≡ Held d k → Zeroed s j field → Zeroed s' j field
+stable_zeroed : (t : Plan) (c d k : ℕ) (s s' : Shared) (j field : ℕ) → MayChange t c s s' → d ≢ c → s.owner j ≡ Held d k → Zeroed s j field → Zeroed s' j field
 stable_zeroed t c d k s s' j field g ne own z = let h = g.held j d k ne own in ((λ some. h.1 ∙ z.0 some), (λ i lt. h.2 i ∙ z.1 i lt))
 
-pub stable_spot : (t : Plan) (c d : ℕ) (s s' : Shared) (x : Caller) (r : Routine) → IsPlan t → Goes t c s s' → Fine t s → Fine t s' → d ≢ c → Base t s d x → Spotted t s d x r → Spotted t s' d x r
+pub stable_spot : (t : Plan) (c d : ℕ) (s s' : Shared) (x : Caller) (r : Routine) → IsPlan t → MayChange t c s s' → SharedHolds t s → SharedHolds t s' → d ≢ c → Base t s d x → HoldsAt t s d x r → HoldsAt t s' d x r
 stable_spot t c d s s' x Idle plan g f f' ne b w = w
 stable_spot t c d s s' x (LoadSeen why) plan g f f' ne b w = stable_beginning t c d s s' x why g ne w
 stable_spot t c d s s' x At plan g f f' ne b w = stable_running t c d s s' x (spot_of x.entry.hand) plan g f f' ne b w
@@ -209,5 +209,5 @@ stable_spot t c d s s' x (Zeroes k field) plan g f f' ne b w =
     (w.0, stable_zeroed t c d k s s' (cradle_of x.entry k) field g ne (b.cradle k w.0) w.1, stable_new t c d s s' x (spot_of x.entry.hand) plan g f f' ne b w.2, w.3)
 
 -- all that is known of another caller stays
-pub stable : (t : Plan) (c d : ℕ) (s s' : Shared) (x : Caller) → IsPlan t → Goes t c s s' → Fine t s → Fine t s' → d ≢ c → Told t s d x → Told t s' d x
+pub stable : (t : Plan) (c d : ℕ) (s s' : Shared) (x : Caller) → IsPlan t → MayChange t c s s' → SharedHolds t s → SharedHolds t s' → d ≢ c → CallerHolds t s d x → CallerHolds t s' d x
 stable t c d s s' x plan g f f' ne w = record { base = stable_base t c d s s' x g f ne w.base; spot = stable_spot t c d s s' x x.entry.routine plan g f f' ne w.base w.spot }

@@ -240,9 +240,9 @@ Committed t s d x made = (m : Trail t) × Walks t s d x (spot_of x.entry.hand) m
     × (x.held ≡ x.watch) × (x.held.got ≡ []) × CommitsShown t s m
 
 -- so many exchanges of the list have succeeded
-abbrev pub BehindEntry : (t : Plan) (s : Shared) (d : ℕ) (x : Caller) → ℕ → Bool → Type 0
-BehindEntry t s d x made true = InExecutor t s d x made
-BehindEntry t s d x made false = Committed t s d x made
+abbrev pub AfterExchange : (t : Plan) (s : Shared) (d : ℕ) (x : Caller) → ℕ → Bool → Type 0
+AfterExchange t s d x made true = InExecutor t s d x made
+AfterExchange t s d x made false = Committed t s d x made
 
 -- a slot in the retire routine: its name, and the tag so far
 abbrev pub IsRetiring : Shared → ℕ → ℕ → ℕ → Option ℕ → Type 0
@@ -283,7 +283,7 @@ Zeroed s j field = (0 < field → s.present j ≡ 0) × ((g : ℕ) → g < field
 -- where a retirement goes on
 abbrev pub GoesOn : (t : Plan) (s : Shared) (d : ℕ) (x : Caller) → AfterRetire → Type 0
 GoesOn t s d x onward.Next = Running t s d x (record { at = x.entry.hand.at + 1; registers = x.entry.hand.registers })
-GoesOn t s d x (onward.List k) = BehindEntry t s d x (k + 1) (nat_lt (k + 1) (length (list_of (instr_in t.target x.entry))))
+GoesOn t s d x (onward.List k) = AfterExchange t s d x (k + 1) (nat_lt (k + 1) (length (list_of (instr_in t.target x.entry))))
 
 abbrev pub BeginsAt : (t : Plan) (s : Shared) (d : ℕ) (x : Caller) → MethodStart → Type 0
 BeginsAt t s d x starts.Begin = Empty x × Settled x × IsIdle x
@@ -297,17 +297,17 @@ ClearsAt t s d x (clears.Reply reply) = HasReplied x (source_reply reply) × Set
 ClearsAt t s d x clears.Again = (walk : Walk t.target t.text) × Begins t s d x walk × (walk.method.wrapup ≡ false)
 
 -- where the caller stands
-abbrev pub Spotted : (t : Plan) (s : Shared) (d : ℕ) (x : Caller) → Routine → Type 0
-Spotted t s d x Idle = Empty x × Settled x × IsIdle x
-Spotted t s d x (LoadSeen why) = BeginsAt t s d x why
-Spotted t s d x At = Running t s d x (spot_of x.entry.hand)
-Spotted t s d x (InList k) = InExecutor t s d x k
-Spotted t s d x (Retires retirement go) = RetiresAt s d retirement × GoesOn t s d x go
-Spotted t s d x Restarts = (walk : Walk t.target t.text) × Begins t s d x walk × (walk.method.wrapup ≡ x.entry.hand.wrapup)
-Spotted t s d x (Clears next) = ClearsAt t s d x next
-Spotted t s d x (Claims claim) = ClaimAt t s claim.sweep claim.stage × AtNew t s d x (spot_of x.entry.hand) × Empty x
-Spotted t s d x (Zeroes k field) = (cradle_of x.entry k ≢ 0) × Zeroed s (cradle_of x.entry k) field × AtNew t s d x (spot_of x.entry.hand) × Empty x
+abbrev pub HoldsAt : (t : Plan) (s : Shared) (d : ℕ) (x : Caller) → Routine → Type 0
+HoldsAt t s d x Idle = Empty x × Settled x × IsIdle x
+HoldsAt t s d x (LoadSeen why) = BeginsAt t s d x why
+HoldsAt t s d x At = Running t s d x (spot_of x.entry.hand)
+HoldsAt t s d x (InList k) = InExecutor t s d x k
+HoldsAt t s d x (Retires retirement go) = RetiresAt s d retirement × GoesOn t s d x go
+HoldsAt t s d x Restarts = (walk : Walk t.target t.text) × Begins t s d x walk × (walk.method.wrapup ≡ x.entry.hand.wrapup)
+HoldsAt t s d x (Clears next) = ClearsAt t s d x next
+HoldsAt t s d x (Claims claim) = ClaimAt t s claim.sweep claim.stage × AtNew t s d x (spot_of x.entry.hand) × Empty x
+HoldsAt t s d x (Zeroes k field) = (cradle_of x.entry k ≢ 0) × Zeroed s (cradle_of x.entry k) field × AtNew t s d x (spot_of x.entry.hand) × Empty x
 
-pub record Told (t : Plan) (s : Shared) (d : ℕ) (x : Caller) : Type 0 where
+pub record CallerHolds (t : Plan) (s : Shared) (d : ℕ) (x : Caller) : Type 0 where
   pub base : Base t s d x
-  pub spot : Spotted t s d x x.entry.routine
+  pub spot : HoldsAt t s d x x.entry.routine

@@ -1,8 +1,9 @@
 pub mod Views
 pub mod Shared
 pub mod Callers
-pub mod Goes
+pub mod MayChange
 pub mod Points
+pub mod Naming
 pub mod Steps
 pub mod Allowing
 pub mod Worlds

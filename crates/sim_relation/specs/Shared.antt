@@ -52,7 +52,7 @@ Guarded t s c r = record {
   register : r < 8;
 }
 
-pub record Fine (t : Plan) (s : Shared) : Type 0 where
+pub record SharedHolds (t : Plan) (s : Shared) : Type 0 where
   -- warnings don't pass the phase
   pub warning : (c : ℕ) → s.memory (Warning c) ≤ s.memory Phase
   pub tag : (n p : ℕ) → s.tag n ≡ Some p → p ≤ s.memory Phase

@@ -1,14 +1,26 @@
 -- What a step keeps.
-use Rattle.std.specs.Prelude.{Some, true, false, ℕ, ◌≡◌, ◌<◌, length, Bool, false, List}
+use Rattle.std.specs.Prelude.{ℕ, ◌≡◌, ◌≢◌, ◌<◌, ◌⊎◌, ◌==◌, Bool, true, false, List, length, Option, Some, None}
+use Rattle.norm_lang.specs.declared.text.Reg.TheVariants.{Ref}
 use Rattle.norm_lang.specs.Local.{Spot}
-use Rattle.oa_words.specs.Words.{Word, Hazard}
+use Rattle.target_code.specs.declared.target.Target.{Target}
+use Rattle.target_code.specs.declared.target.TargetInstr.{TargetInstr}
+use Rattle.target_code.specs.declared.target.TargetInstr.TheVariants.{Plain, Check, Guard}
+use Rattle.target_code.specs.Paths.{TargetPath}
+use Rattle.target_code.specs.PathStates.{is_set_along}
+use Rattle.oa_words.specs.Words.{Word, Warning, Hazard}
 use Rattle.core_runs.specs.Memories.{store}
 use Rattle.guard_words.specs.Guards.{with_guard}
-use Rattle.run_ahead.specs.Guards.{GuardRow}
+use Rattle.run_ahead.specs.Agreeing.{node_in}
+use Rattle.run_ahead.specs.Guards.{GuardRow, validated}
 use Rattle.phase_pools.specs.Accesses.{WordAccess, word_of, word_after}
 use Rattle.source_machine.specs.MethodRuns.{MethodRun, put}
 use Rattle.caller_steps.specs.declared.entry.Counts.{Counts}
+use Rattle.caller_steps.specs.declared.routine.AfterClear.{AfterClear}
+use Rattle.caller_steps.specs.declared.routine.AfterClear.TheVariants as clears
 use Rattle.caller_steps.specs.declared.routine.Routine.{Routine}
+use Rattle.caller_steps.specs.declared.routine.Routine.TheVariants.{Idle, LoadSeen, At, InList, Retires, Restarts, Clears, Claims, Zeroes}
+use Rattle.caller_steps.specs.Clearing.{restart_next, clear_next}
+use Rattle.caller_steps.specs.Operands.{code_at, instr_in}
 use Rattle.caller_steps.specs.Signs.{Moved}
 use Rattle.caller_steps.specs.Entries.{Entry}
 use Rattle.caller_steps.specs.Belongs.{HandBelongs, HoldsSlots, RunsAt as CoreRunsAt, Stands as CoreStands}
@@ -20,31 +32,70 @@ use Rattle.caller_steps.specs.After.{taken}
 use Rattle.caller_steps.specs.After.{moved as after_moves}
 use Rattle.caller_steps.specs.Belongs.{Belongs}
 use Rattle.sim_relation.specs.Points.{StaysProper, DrawsHome}
-use Rattle.sim_relation.specs.Views.{Plan, Shared, Caller}
-use Rattle.sim_relation.specs.Shared.{Fine}
-use Rattle.sim_relation.specs.Callers.{Told}
-use Rattle.sim_relation.specs.Goes.{Goes}
+use Rattle.sim_relation.specs.Views.{Plan, Shared, Caller, protected, settled_names}
+use Rattle.sim_relation.specs.Shared.{SharedHolds}
+use Rattle.sim_relation.specs.Callers.{Calm, CallerHolds}
+use Rattle.sim_relation.specs.MayChange.{MayChange}
+use Rattle.sim_relation.specs.Naming.{present_at}
 use Rattle.sim_relation.specs.Points.{Plays, point}
 
 -- the words after an access
 abbrev pub after_access : (Word → ℕ) → WordAccess → Word → ℕ
 after_access memory a = store memory (word_of a) (word_after a (memory (word_of a)))
 
+-- between two method runs, at a clear
+abbrev pub is_over : AfterClear → Bool
+is_over clears.New = false
+is_over clears.WrapUp = true
+is_over (clears.Reply reply) = true
+is_over clears.Again = true
+
+-- between two method runs, where no guard has a name but one that a check validated
+abbrev pub is_between : Routine → Bool
+is_between Idle = true
+is_between (LoadSeen why) = true
+is_between At = false
+is_between (InList k) = false
+is_between (Retires retirement go) = false
+is_between Restarts = false
+is_between (Clears next) = is_over next
+is_between (Claims claim) = false
+is_between (Zeroes k field) = false
+
+-- what is under a validated guard stays so, and while a method run goes on each guard that has a name keeps one
+pub record NamesStay (row row' : GuardRow) (between : Bool) : Type 0 where
+  pub guarded : (r : ℕ) → protected row r ≢ 0 → protected row' r ≢ 0
+  pub named : between ≡ false → (r : ℕ) → row.name r ≢ 0 → row'.name r ≢ 0
+
 -- names can be put beside the words and what a step has made of the entry, so that all facts hold again, and the source plays the
--- step's signs
-pub record Kept (t : Plan) (c : ℕ) (s : Shared) (x : Caller) (memory' : Word → ℕ) (m : Moved) : Type 0 where
+-- step's signs. `row` is what the step's access has made of the names of the caller's guards, and each slot then has the name that
+-- is given
+pub record KeptWith (t : Plan) (c : ℕ) (s : Shared) (x : Caller) (row : GuardRow) (memory' : Word → ℕ) (m : Moved) (present' : ℕ → ℕ) : Type 0 where
   pub s' : Shared
   pub x' : Caller
   pub memory : s'.memory ≡ memory'
+  pub present : s'.present ≡ present'
   pub entry : x'.entry ≡ m.entry
+  pub names : NamesStay row x'.names (is_between m.entry.routine)
   pub plays : Plays t.text c m.signs (point s x) (point s' x')
-  pub fine : Fine t s'
-  pub goes : Goes t c s s'
-  pub told : Told t s' c x'
+  pub fine : SharedHolds t s'
+  pub goes : MayChange t c s s'
+  pub told : CallerHolds t s' c x'
+
+-- each slot keeps its name
+abbrev pub KeptBy : (t : Plan) (c : ℕ) (s : Shared) (x : Caller) → GuardRow → (Word → ℕ) → Moved → Type 0
+KeptBy t c s x row memory' m = KeptWith t c s x row memory' m s.present
+
+-- of a step that stores no hazard word and is no check
+abbrev pub KeptNaming : (t : Plan) (c : ℕ) (s : Shared) (x : Caller) → (Word → ℕ) → Moved → (ℕ → ℕ) → Type 0
+KeptNaming t c s x memory' m present' = KeptWith t c s x x.names memory' m present'
+
+abbrev pub Kept : (t : Plan) (c : ℕ) (s : Shared) (x : Caller) → (Word → ℕ) → Moved → Type 0
+Kept t c s x memory' m = KeptWith t c s x x.names memory' m s.present
 
 -- a change that any caller might make
 abbrev pub GoesForAll : Plan → Shared → Shared → Type 0
-GoesForAll t s s' = (y : ℕ) → Goes t y s s'
+GoesForAll t s s' = (y : ℕ) → MayChange t y s s'
 
 -- the entry moves on, and its hand stays
 abbrev pub moved : Caller → ℕ → Counts → Routine → Caller
@@ -81,25 +132,74 @@ hazarded s c r slot = record s { memory = store s.memory (Hazard c r) slot; prot
 pub record Ends (t : Plan) (s : Shared) (c : ℕ) (x : Caller) (m : Moved) : Type 0 where
   pub x' : Caller
   pub entry : x'.entry ≡ m.entry
+  pub names : NamesStay x.names x'.names (is_between m.entry.routine)
   pub plays : Plays t.text c m.signs (point s x) (point s x')
-  pub told : Told t s c x'
+  pub told : CallerHolds t s c x'
+
+-- where a `grd` stands in a target
+pub record GuardPlace : Type 0 where
+  pub op : ℕ
+  pub wrapup : Bool
+  pub at : ℕ
+
+abbrev pub place_of : Entry → GuardPlace
+place_of e = record { op = e.running.call.op; wrapup = e.hand.wrapup; at = e.hand.at }
+
+-- a `grd` that counts: each of a generator, and of a wrap-up that of a register which each way from the wrap-up's start to it sets.
+-- Any other register of a wrap-up may hold what was recycled since the commit
+abbrev pub IsCounted : Target → GuardPlace → ℕ → Type 0
+IsCounted target p r = (p.wrapup ≡ false) ⊎ ((path : List ℕ) → TargetPath (code_at target p.op p.wrapup) path p.at → is_set_along (code_at target p.op p.wrapup) path (Ref r) false ≡ true)
+
+-- what a step's access makes of the names of the caller's guards. A check that passes validates those that have a name, and one that
+-- fails leaves those that were validated; a guard that counts gets a name, if the caller wasn't warned and the register isn't null
+abbrev pub checked_names : Bool → GuardRow → GuardRow
+checked_names true names = validated names
+checked_names false names = settled_names names
+
+abbrev pub NamesAt : (t : Plan) → Shared → ℕ → Caller → Option TargetInstr → GuardRow → Type 0
+NamesAt t s c x None row = row ≡ x.names
+NamesAt t s c x (Some (Plain i)) row = row ≡ x.names
+NamesAt t s c x (Some Check) row = row ≡ checked_names (s.memory (Warning c) == x.entry.hand.seen) x.names
+NamesAt t s c x (Some (Guard r)) row = (k n : ℕ) × (r ≡ Ref k) × (row ≡ with_names x.names k n) × (IsCounted t.target (place_of x.entry) k → Calm s c x → node_in x.entry.hand.registers k ≢ 0 → n ≢ 0)
+
+abbrev pub NamesCleared : Caller → Option ℕ → GuardRow → Type 0
+NamesCleared x None row = row ≡ x.names
+NamesCleared x (Some r) row = row ≡ with_names x.names r 0
+
+abbrev pub NamesAfter : (t : Plan) → Shared → ℕ → Caller → Routine → GuardRow → Type 0
+NamesAfter t s c x Idle row = row ≡ x.names
+NamesAfter t s c x (LoadSeen why) row = row ≡ x.names
+NamesAfter t s c x At row = NamesAt t s c x (instr_in t.target x.entry) row
+NamesAfter t s c x (InList k) row = row ≡ x.names
+NamesAfter t s c x (Retires retirement go) row = row ≡ x.names
+NamesAfter t s c x Restarts row = NamesCleared x (restart_next t.target x.entry) row
+NamesAfter t s c x (Clears next) row = NamesCleared x (clear_next t.target next x.entry) row
+NamesAfter t s c x (Claims claim) row = row ≡ x.names
+NamesAfter t s c x (Zeroes k field) row = row ≡ x.names
+
+-- a step that is kept, and what its access has made of the names of the guards
+pub record Stepped (t : Plan) (c : ℕ) (s : Shared) (x : Caller) (Names : GuardRow → Type 0) (memory' : Word → ℕ) (m : Moved) (present' : ℕ → ℕ) : Type 0 where
+  pub row : GuardRow
+  pub names : Names row
+  pub kept : KeptWith t c s x row memory' m present'
 
 -- a caller that takes a call stands at its generator's start, and the source doesn't move
 pub record TakeKept (t : Plan) (c : ℕ) (s : Shared) (x : Caller) (call : Call) : Type 0 where
   pub x' : Caller
   pub entry : x'.entry ≡ taken call x.entry
+  pub names : x'.names ≡ x.names
   pub source : x'.source ≡ x.source
   pub watch : x'.watch ≡ x.watch
-  pub told : Told t s c x'
+  pub told : CallerHolds t s c x'
 
 -- each step of each caller whose entry passes a test is kept, where its source's text owes what a proper one does at each point to
 -- which the step leads
 pub record StepsKeep (t : Plan) (test : Entry → Bool) : Type 0 where
-  pub step : (c : ℕ) (s : Shared) (x : Caller) (a : WordAccess) → test x.entry ≡ true → c < t.setting.sizes.callers → Fine t s → Told t s c x → Belongs t.target t.setting x.entry
+  pub step : (c : ℕ) (s : Shared) (x : Caller) (a : WordAccess) → test x.entry ≡ true → c < t.setting.sizes.callers → SharedHolds t s → CallerHolds t s c x → Belongs t.target t.setting x.entry
       → is_call t.target x.entry.running.call ≡ true → StaysProper t.text c (point s x) → wants t.target x.entry ≡ Some a → in_row t.setting.sizes (word_of a) ≡ true
       → ((w : Word) → in_row t.setting.sizes w ≡ false → s.memory w ≡ 0)
       → DrawsHome t.home (after_moves t.target t.setting x.entry (s.memory (word_of a))).signs s.unused
-      → Kept t c s x (after_access s.memory a) (after_moves t.target t.setting x.entry (s.memory (word_of a)))
+      → Stepped t c s x (NamesAfter t s c x x.entry.routine) (after_access s.memory a) (after_moves t.target t.setting x.entry (s.memory (word_of a))) (present_at t.setting.sizes s.memory s.unused x.entry x.entry.routine s.present)
 
 -- every step of each caller is kept
 abbrev pub StepKeeps : Plan → Type 0

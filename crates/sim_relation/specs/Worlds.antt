@@ -1,13 +1,13 @@
 -- All callers beside what they share.
 use Rattle.std.specs.Prelude.{ℕ, ◌<◌}
 use Rattle.sim_relation.specs.Views.{Plan, Shared, Caller}
-use Rattle.sim_relation.specs.Shared.{Fine}
-use Rattle.sim_relation.specs.Callers.{Told}
+use Rattle.sim_relation.specs.Shared.{SharedHolds}
+use Rattle.sim_relation.specs.Callers.{CallerHolds}
 
 pub record World : Type 0 where
   pub shared : Shared
   pub who : ℕ → Caller
 
 pub record Holds (t : Plan) (w : World) : Type 0 where
-  pub fine : Fine t w.shared
-  pub told : (d : ℕ) → d < t.setting.sizes.callers → Told t w.shared d (w.who d)
+  pub fine : SharedHolds t w.shared
+  pub told : (d : ℕ) → d < t.setting.sizes.callers → CallerHolds t w.shared d (w.who d)

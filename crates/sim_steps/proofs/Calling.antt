@@ -26,7 +26,7 @@ use Rattle.run_ahead.specs.MethodLaws.{Turns}
 use Rattle.run_ahead.proofs.Starting.{generator_start}
 use Rattle.run_ahead.proofs.Begins.{begins_are_followed}
 use Rattle.sim_relation.specs.Views.{Plan, IsPlan, Shared, Caller}
-use Rattle.sim_relation.specs.Shared.{Fine}
+use Rattle.sim_relation.specs.Shared.{SharedHolds}
 use Rattle.sim_relation.specs.Callers.{Base, Begins, Empty, Settled, IsIdle, call_of}
 use Rattle.sim_relation.specs.Points.{point}
 use Rattle.sim_relation.specs.Steps.{Kept}
@@ -60,7 +60,7 @@ called t x plan is = of (slice_get t.target.ops x.entry.running.call.op) refl wh
       }
 
 -- the load of what was seen, where a call begins
-pub begin_kept : (t : Plan) (c : ℕ) (s : Shared) (x : Caller) → IsPlan t → Fine t s → Base t s c x → Empty x → Settled x → IsIdle x → is_call t.target x.entry.running.call ≡ true
+pub begin_kept : (t : Plan) (c : ℕ) (s : Shared) (x : Caller) → IsPlan t → SharedHolds t s → Base t s c x → Empty x → Settled x → IsIdle x → is_call t.target x.entry.running.call ≡ true
     → Kept t c s x (store s.memory (Warning c) (s.memory (Warning c))) (seen_loaded t.target t.setting.sizes starts.Begin (s.memory (Warning c)) (counted x.entry))
 begin_kept t c s x plan f b empty settled idle is =
     let call : Call = call_of x.entry in
@@ -92,7 +92,9 @@ begin_kept t c s x plan f b empty settled idle is =
       s' = s;
       x' = ended.x';
       memory = store_idle s.memory (Warning c);
+      present = refl;
       entry = ended.entry;
+      names = ended.names;
       fine = f;
       goes = goes_same t s c;
       told = ended.told;

@@ -1,5 +1,5 @@
 -- Each step of each caller, by where the caller stands.
-use Rattle.std.proofs.Common.{ℕ, zero, suc, ◌≡◌, ◌<◌, ◌∙◌, ◌&&◌, Bool, true, false, List, length, Option, Some, None, sym, ap, subst, refl, arith}
+use Rattle.std.proofs.Common.{ℕ, zero, suc, ◌≡◌, ◌==◌, ◌<◌, ◌∙◌, ◌&&◌, Bool, true, false, List, length, Option, Some, None, sym, ap, subst, refl, arith}
 use Rattle.std.specs.Prelude.{slice_get, nat_lt, option_map, IsTrue}
 use Rattle.std.proofs.lemmas.Bool.Decides.{nat_tests}
 use Rattle.norm_lang.specs.declared.text.Reg.{Reg}
@@ -15,6 +15,7 @@ use Rattle.phase_pools.specs.declared.stages.RetireStage.{RetireStage}
 use Rattle.phase_pools.specs.declared.stages.RetireStage.TheVariants as retires
 use Rattle.phase_pools.specs.Pools.{Claim}
 use Rattle.phase_pools.specs.Accesses.{WordAccess, Loads, Stores, word_of}
+use Rattle.run_ahead.specs.Guards.{GuardRow}
 use Rattle.caller_steps.specs.declared.routine.MethodStart.{MethodStart}
 use Rattle.caller_steps.specs.declared.routine.MethodStart.TheVariants as starts
 use Rattle.caller_steps.specs.declared.routine.AfterClear.{AfterClear}
@@ -38,16 +39,18 @@ use Rattle.caller_laws.proofs.Going.{new_below}
 use Rattle.caller_laws.proofs.Safety.{list_there}
 use Rattle.target_laws.specs.Methods.{code_in as method_code}
 use Rattle.sim_relation.specs.Views.{Plan, IsPlan, Shared, Caller}
-use Rattle.sim_relation.specs.Shared.{Fine}
-use Rattle.sim_relation.specs.Callers.{Told, Spotted, Trail, Walks, Running, AtNew, RetiresAt, GoesOn, spot_of}
+use Rattle.sim_relation.specs.Shared.{SharedHolds}
+use Rattle.sim_relation.specs.Callers.{CallerHolds, HoldsAt, Trail, Walks, Running, AtNew, RetiresAt, GoesOn, spot_of}
 use Rattle.sim_relation.specs.Points.{StaysProper, DrawsHome, point}
-use Rattle.sim_relation.specs.Steps.{Kept, StepsKeep, StepKeeps, after_access}
+use Rattle.sim_relation.specs.Naming.{present_at}
+use Rattle.sim_relation.specs.Steps.{Kept, KeptBy, KeptNaming, Stepped, StepsKeep, StepKeeps, NamesAt, NamesCleared, NamesAfter, checked_names, with_names, after_access}
 use Rattle.sim_relation.proofs.Codes.{instr_is, new_there}
 use Rattle.sim_walks.proofs.Quieting.{sane_here}
 use Rattle.sim_walks.proofs.Restarting.{seen_kept, begins_restart}
 use Rattle.sim_pools.proofs.Core.{after_is, wants_is}
 use Rattle.sim_pools.proofs.Claiming.{claims_keep}
 use Rattle.sim_guards.proofs.Quiet.{check_kept, guard_kept}
+use Rattle.sim_guards.proofs.Publishing.{guard_name, guard_named}
 use Rattle.sim_guards.proofs.Unguarding.{restart_clears, then_clears}
 use Rattle.sim_guards.proofs.Retiring.{retire_loads, retire_stores_in_list, retire_stores_next}
 use Rattle.sim_accesses.proofs.Newing.{new_clears}
@@ -62,22 +65,43 @@ use Rattle.sim_steps.proofs.Calling.{begin_kept}
 pub record Stepping (t : Plan) (c : ℕ) (s : Shared) (x : Caller) : Type 0 where
   pub plan : IsPlan t
   pub below : c < t.setting.sizes.callers
-  pub fine : Fine t s
-  pub told : Told t s c x
+  pub fine : SharedHolds t s
+  pub told : CallerHolds t s c x
   pub belongs : Belongs t.target t.setting x.entry
   pub called : is_call t.target x.entry.running.call ≡ true
   pub proper : StaysProper t.text c (point s x)
   pub beyond : (w : Word) → in_row t.setting.sizes w ≡ false → s.memory w ≡ 0
 
 -- a step that makes an access of the row and draws the plan's slots is kept
+abbrev pub KeptNamingAs : (t : Plan) → ℕ → Shared → Caller → Option WordAccess → (ℕ → Moved) → (ℕ → ℕ) → Type 0
+KeptNamingAs t c s x None made present' = Unit {0}
+KeptNamingAs t c s x (Some a) made present' =
+    in_row t.setting.sizes (word_of a) ≡ true → DrawsHome t.home (made (s.memory (word_of a))).signs s.unused → KeptNaming t c s x (after_access s.memory a) (made (s.memory (word_of a))) present'
+
+-- and each slot keeps its name
 abbrev pub KeptAs : (t : Plan) → ℕ → Shared → Caller → Option WordAccess → (ℕ → Moved) → Type 0
-KeptAs t c s x None made = Unit {0}
-KeptAs t c s x (Some a) made =
-    in_row t.setting.sizes (word_of a) ≡ true → DrawsHome t.home (made (s.memory (word_of a))).signs s.unused → Kept t c s x (after_access s.memory a) (made (s.memory (word_of a)))
+KeptAs t c s x o made = KeptNamingAs t c s x o made s.present
+
+-- and so is one that changes the names of guards so
+abbrev pub SteppedAs : (t : Plan) → ℕ → Shared → Caller → (GuardRow → Type 0) → Option WordAccess → (ℕ → Moved) → (ℕ → ℕ) → Type 0
+SteppedAs t c s x Names None made present' = Unit {0}
+SteppedAs t c s x Names (Some a) made present' =
+    in_row t.setting.sizes (word_of a) ≡ true → DrawsHome t.home (made (s.memory (word_of a))).signs s.unused → Stepped t c s x Names (after_access s.memory a) (made (s.memory (word_of a))) present'
+
+-- where it changes none
+same_row : (t : Plan) (c : ℕ) (s : Shared) (x : Caller) (Names : GuardRow → Type 0) (o : Option WordAccess) (made : ℕ → Moved) (present' : ℕ → ℕ) → Names x.names → KeptNamingAs t c s x o made present' → SteppedAs t c s x Names o made present'
+same_row t c s x Names None made present' same kept = tt
+same_row t c s x Names (Some a) made present' same kept = λ row draws. record { row = x.names; names = same; kept = kept row draws }
 
 -- at a routine
 abbrev pub KeptAt : (t : Plan) → ℕ → Shared → Caller → Routine → Type 0
-KeptAt t c s x r = KeptAs t c s x (wanted t.target x.entry r) (λ word. accepted t.target t.setting word (counted x.entry) r)
+KeptAt t c s x r = KeptNamingAs t c s x (wanted t.target x.entry r) (λ word. accepted t.target t.setting word (counted x.entry) r) (present_at t.setting.sizes s.memory s.unused x.entry r s.present)
+
+abbrev pub SteppedAt : (t : Plan) → ℕ → Shared → Caller → Routine → Type 0
+SteppedAt t c s x r = SteppedAs t c s x (NamesAfter t s c x r) (wanted t.target x.entry r) (λ word. accepted t.target t.setting word (counted x.entry) r) (present_at t.setting.sizes s.memory s.unused x.entry r s.present)
+
+at_routine : (t : Plan) (c : ℕ) (s : Shared) (x : Caller) (r : Routine) → NamesAfter t s c x r x.names → KeptAt t c s x r → SteppedAt t c s x r
+at_routine t c s x r same kept = same_row t c s x (NamesAfter t s c x r) (wanted t.target x.entry r) (λ word. accepted t.target t.setting word (counted x.entry) r) (present_at t.setting.sizes s.memory s.unused x.entry r s.present) same kept
 
 -- the accesses of the text: of an instruction of a method, and the exchanges of a list
 abbrev pub PlainKeeps : (t : Plan) → ℕ → Shared → Caller → Type 0
@@ -101,8 +125,8 @@ module _ (t : Plan) (c : ℕ) (s : Shared) (x : Caller) (w : Stepping t c s x) w
   number : x.entry.number ≡ c
   number = w.told.base.number
 
-  spot_at : (r : Routine) → x.entry.routine ≡ r → Spotted t s c x r
-  spot_at r is = subst (λ (r : Routine). Spotted t s c x r) is w.told.spot
+  spot_at : (r : Routine) → x.entry.routine ≡ r → HoldsAt t s c x r
+  spot_at r is = subst (λ (r : Routine). HoldsAt t s c x r) is w.told.spot
 
   stands_at : (r : Routine) → x.entry.routine ≡ r → CoreStands t.target t.setting x.entry r
   stands_at r is = subst (λ (r : Routine). CoreStands t.target t.setting x.entry r) is w.belongs.stands
@@ -110,13 +134,13 @@ module _ (t : Plan) (c : ℕ) (s : Shared) (x : Caller) (w : Stepping t c s x) w
   -- the own warning is loaded
   by_start : (why : MethodStart) → x.entry.routine ≡ LoadSeen why → KeptAt t c s x (LoadSeen why)
   by_start why is = subst (λ (n : ℕ). KeptAs t c s x (Some (Loads (Warning n))) (λ word. accepted t.target t.setting word (counted x.entry) (LoadSeen why))) (sym number) (λ row draws. of why (spot_at (LoadSeen why) is)) where
-    of : (why : MethodStart) → Spotted t s c x (LoadSeen why) → Kept t c s x (after_access s.memory (Loads (Warning c))) (accepted t.target t.setting (s.memory (Warning c)) (counted x.entry) (LoadSeen why))
+    of : (why : MethodStart) → HoldsAt t s c x (LoadSeen why) → Kept t c s x (after_access s.memory (Loads (Warning c))) (accepted t.target t.setting (s.memory (Warning c)) (counted x.entry) (LoadSeen why))
     of starts.Begin spot = begin_kept t c s x w.plan w.fine w.told.base spot.0 spot.1 spot.2 w.called
     of starts.WrapUp spot = seen_kept t s c x spot.0 starts.WrapUp w.plan w.fine w.told.base spot.1 spot.2 spot.3 refl (begins_restart t s c x spot.0 w.plan spot.1)
     of starts.Again spot = seen_kept t s c x spot.0 starts.Again w.plan w.fine w.told.base spot.1 spot.2 spot.3 refl (begins_restart t s c x spot.0 w.plan spot.1)
 
   -- an instruction of the text, a check or a guard
-  by_instr : PlainKeeps t c s x → x.entry.routine ≡ At → KeptAt t c s x At
+  by_instr : PlainKeeps t c s x → x.entry.routine ≡ At → SteppedAt t c s x At
   by_instr plain is = of (instr_in t.target x.entry) refl where
     walk : Running t s c x (spot_of x.entry.hand)
     walk = spot_at At is
@@ -124,18 +148,29 @@ module _ (t : Plan) (c : ℕ) (s : Shared) (x : Caller) (w : Stepping t c s x) w
     here : (o : Option TargetInstr) → instr_in t.target x.entry ≡ o → slice_get (method_code walk.0.walk.method) x.entry.hand.at ≡ o
     here o there = sym (instr_is t s c x (spot_of x.entry.hand) walk.0 walk.1) ∙ there
 
-    guards : (r : Reg) → instr_in t.target x.entry ≡ Some (Guard r) → (k : ℕ) × (r ≡ Ref k) → KeptAs t c s x (instr_wanted c (Some (Guard r)) x.entry.hand.registers) (λ word. instr_accepted t.target t.setting.sizes (Some (Guard r)) word (counted x.entry))
-    guards r there (k, same) = subst
-        (λ (r : Reg). KeptAs t c s x (instr_wanted c (Some (Guard r)) x.entry.hand.registers) (λ word. instr_accepted t.target t.setting.sizes (Some (Guard r)) word (counted x.entry))) (sym same)
-        (λ row draws. guard_kept t c s x k w.plan w.fine w.told.base walk (here (Some (Guard (Ref k))) (there ∙ ap (λ (r : Reg). Some (Guard r)) same))
-        (let slots = w.belongs.hand.guards.row.slots in let lt : nat_lt k 8 ≡ true = both_true (nat_lt c t.setting.sizes.callers) (nat_lt k 8) row in let less : k < 8 = grind (arith, nat_tests) in omega (arith, less, slots)))
+    -- what a guard, a check or an instruction of the text makes of the names
+    Steps : Option TargetInstr → ℕ → Type 0
+    Steps o n = SteppedAs t c s x (NamesAt t s c x o) (instr_wanted n o x.entry.hand.registers) (λ word. instr_accepted t.target t.setting.sizes o word (counted x.entry)) s.present
 
-    of : (o : Option TargetInstr) → instr_in t.target x.entry ≡ o → KeptAs t c s x (instr_wanted x.entry.number o x.entry.hand.registers) (λ word. instr_accepted t.target t.setting.sizes o word (counted x.entry))
+    guards : (r : Reg) → instr_in t.target x.entry ≡ Some (Guard r) → (k : ℕ) × (r ≡ Ref k) → Steps (Some (Guard r)) c
+    guards r there (k, same) = subst (λ (r : Reg). Steps (Some (Guard r)) c) (sym same)
+        (λ row draws. record {
+          row = with_names x.names k (guard_name t walk.0 k);
+          names = (k, guard_name t walk.0 k, refl, refl, λ place calm some. guard_named t s c x k walk.0 w.plan walk.1 place calm some);
+          kept = guard_kept t c s x k w.plan w.fine w.told.base walk (here (Some (Guard (Ref k))) (there ∙ ap (λ (r : Reg). Some (Guard r)) same))
+              (let slots = w.belongs.hand.guards.row.slots in let lt : nat_lt k 8 ≡ true = both_true (nat_lt c t.setting.sizes.callers) (nat_lt k 8) row in let less : k < 8 = grind (arith, nat_tests) in omega (arith, less, slots));
+        })
+
+    of : (o : Option TargetInstr) → instr_in t.target x.entry ≡ o → Steps o x.entry.number
     of None there = tt
-    of (Some (Plain i)) there = plain i is there
-    of (Some Check) there = subst (λ (n : ℕ). KeptAs t c s x (Some (Loads (Warning n))) (λ word. instr_accepted t.target t.setting.sizes (Some Check) word (counted x.entry))) (sym number)
-        (λ row draws. check_kept t c s x w.plan w.fine w.told.base walk (here (Some Check) there) w.below (proper_here t c s x w.proper walk.2.tied) w.belongs.hand.guards.row.slots)
-    of (Some (Guard r)) there = subst (λ (n : ℕ). KeptAs t c s x (instr_wanted n (Some (Guard r)) x.entry.hand.registers) (λ word. instr_accepted t.target t.setting.sizes (Some (Guard r)) word (counted x.entry))) (sym number)
+    of (Some (Plain i)) there = same_row t c s x (NamesAt t s c x (Some (Plain i))) (plain_wanted i x.entry.hand.registers) (λ word. instr_accepted t.target t.setting.sizes (Some (Plain i)) word (counted x.entry)) s.present refl (plain i is there)
+    of (Some Check) there = subst (Steps (Some Check)) (sym number)
+        (λ row draws. record {
+          row = checked_names (s.memory (Warning c) == x.entry.hand.seen) x.names;
+          names = refl;
+          kept = check_kept t c s x w.plan w.fine w.told.base walk (here (Some Check) there) w.below (proper_here t c s x w.proper walk.2.tied) w.belongs.hand.guards.row.slots;
+        })
+    of (Some (Guard r)) there = subst (Steps (Some (Guard r))) (sym number)
         (guards r there (guard_register r (sane_here t s c x (spot_of x.entry.hand) walk.0 (Guard r) w.plan walk.1 (here (Some (Guard r)) there)).limits))
 
   -- an exchange of the list
@@ -160,14 +195,14 @@ module _ (t : Plan) (c : ℕ) (s : Shared) (x : Caller) (w : Stepping t c s x) w
       λ row draws. retire_stores_in_list t c s x slot spot.0.0 p k there.0 w.plan w.fine w.told.base spot.0.1 spot.1 there.1
 
   -- a clear after a failed check
-  by_restart : x.entry.routine ≡ Restarts → KeptAt t c s x Restarts
-  by_restart is = subst (λ (n : ℕ). KeptAs t c s x (clear_wanted n (restart_next t.target x.entry)) (λ word. accepted t.target t.setting word (counted x.entry) Restarts)) (sym number) (of (restart_next t.target x.entry) refl) where
-    spot : Spotted t s c x Restarts
+  by_restart : x.entry.routine ≡ Restarts → SteppedAt t c s x Restarts
+  by_restart is = subst (λ (n : ℕ). SteppedAs t c s x (NamesCleared x (restart_next t.target x.entry)) (clear_wanted n (restart_next t.target x.entry)) (λ word. accepted t.target t.setting word (counted x.entry) Restarts) s.present) (sym number) (of (restart_next t.target x.entry) refl) where
+    spot : HoldsAt t s c x Restarts
     spot = spot_at Restarts is
 
-    of : (o : Option ℕ) → restart_next t.target x.entry ≡ o → KeptAs t c s x (clear_wanted c o) (λ word. accepted t.target t.setting word (counted x.entry) Restarts)
+    of : (o : Option ℕ) → restart_next t.target x.entry ≡ o → SteppedAs t c s x (NamesCleared x o) (clear_wanted c o) (λ word. accepted t.target t.setting word (counted x.entry) Restarts) s.present
     of None none = tt
-    of (Some r) next = λ row draws. restart_clears t c s x r w.plan w.fine w.told.base w.belongs.hand.guards.row.slots next spot.0 spot.1 spot.2
+    of (Some r) next = λ row draws. record { row = with_names x.names r 0; names = refl; kept = restart_clears t c s x r w.plan w.fine w.told.base w.belongs.hand.guards.row.slots next spot.0 spot.1 spot.2 }
 
   -- a `new` stands in a generator
   new_in_generator : (m : Trail t) → Walks t s c x (spot_of x.entry.hand) m → is_new_at (instr_in t.target x.entry) ≡ true → m.walk.method.wrapup ≡ false
@@ -177,9 +212,9 @@ module _ (t : Plan) (c : ℕ) (s : Shared) (x : Caller) (w : Stepping t c s x) w
       (sane_here t s c x (spot_of x.entry.hand) m (Plain (instr.New there.0)) w.plan walks here).own.news refl
 
   -- a clear at another moment
-  by_clear : (next : AfterClear) → x.entry.routine ≡ Clears next → KeptAt t c s x (Clears next)
-  by_clear next is = subst (λ (n : ℕ). KeptAs t c s x (clear_wanted n (clear_next t.target next x.entry)) (λ word. accepted t.target t.setting word (counted x.entry) (Clears next))) (sym number) (of (clear_next t.target next x.entry) refl) where
-    clear : (next : AfterClear) (r : ℕ) → x.entry.routine ≡ Clears next → clear_next t.target next x.entry ≡ Some r → Kept t c s x (after_access s.memory (Stores (Hazard c r) 0)) (accepted t.target t.setting (s.memory (Hazard c r)) (counted x.entry) (Clears next))
+  by_clear : (next : AfterClear) → x.entry.routine ≡ Clears next → SteppedAt t c s x (Clears next)
+  by_clear next is = subst (λ (n : ℕ). SteppedAs t c s x (NamesCleared x (clear_next t.target next x.entry)) (clear_wanted n (clear_next t.target next x.entry)) (λ word. accepted t.target t.setting word (counted x.entry) (Clears next)) s.present) (sym number) (of (clear_next t.target next x.entry) refl) where
+    clear : (next : AfterClear) (r : ℕ) → x.entry.routine ≡ Clears next → clear_next t.target next x.entry ≡ Some r → KeptBy t c s x (with_names x.names r 0) (after_access s.memory (Stores (Hazard c r) 0)) (accepted t.target t.setting (s.memory (Hazard c r)) (counted x.entry) (Clears next))
     clear clears.New r is some =
         let spot = spot_at (Clears clears.New) is in
         new_clears t c s x r w.fine w.told.base some spot (new_in_generator spot.0 spot.1 (stands_at (Clears clears.New) is).0)
@@ -187,9 +222,9 @@ module _ (t : Plan) (c : ℕ) (s : Shared) (x : Caller) (w : Stepping t c s x) w
     clear (clears.Reply reply) r is some = then_clears t c s x r (clears.Reply reply) (λ e. cc) w.plan w.fine w.told.base w.belongs.hand.guards.row.slots some (spot_at (Clears (clears.Reply reply)) is)
     clear clears.Again r is some = then_clears t c s x r clears.Again (λ e. cc) w.plan w.fine w.told.base w.belongs.hand.guards.row.slots some (spot_at (Clears clears.Again) is)
 
-    of : (o : Option ℕ) → clear_next t.target next x.entry ≡ o → KeptAs t c s x (clear_wanted c o) (λ word. accepted t.target t.setting word (counted x.entry) (Clears next))
+    of : (o : Option ℕ) → clear_next t.target next x.entry ≡ o → SteppedAs t c s x (NamesCleared x o) (clear_wanted c o) (λ word. accepted t.target t.setting word (counted x.entry) (Clears next)) s.present
     of None none = tt
-    of (Some r) some = λ row draws. clear next r is some
+    of (Some r) some = λ row draws. record { row = with_names x.names r 0; names = refl; kept = clear next r is some }
 
   -- a claim
   by_claim : (claim : Claim) → x.entry.routine ≡ Claims claim → KeptAt t c s x (Claims claim)
@@ -208,16 +243,16 @@ module _ (t : Plan) (c : ℕ) (s : Shared) (x : Caller) (w : Stepping t c s x) w
   by_zero : (k field : ℕ) → x.entry.routine ≡ Zeroes k field → KeptAt t c s x (Zeroes k field)
   by_zero k field is = λ row draws. zero_step t c s x k field (record { plan = w.plan; fine = w.fine; told = w.told; belongs = w.belongs; at = is; beyond = w.beyond; home = draws })
 
-  by_routine : PlainKeeps t c s x → EntryKeeps t c s x → (r : Routine) → x.entry.routine ≡ r → KeptAt t c s x r
+  by_routine : PlainKeeps t c s x → EntryKeeps t c s x → (r : Routine) → x.entry.routine ≡ r → SteppedAt t c s x r
   by_routine plain entry Idle is = tt
-  by_routine plain entry (LoadSeen why) is = by_start why is
+  by_routine plain entry (LoadSeen why) is = at_routine t c s x (LoadSeen why) refl (by_start why is)
   by_routine plain entry At is = by_instr plain is
-  by_routine plain entry (InList k) is = by_entry entry k is
-  by_routine plain entry (Retires retirement go) is = by_retirement retirement.slot retirement.stage go is
+  by_routine plain entry (InList k) is = at_routine t c s x (InList k) refl (by_entry entry k is)
+  by_routine plain entry (Retires retirement go) is = at_routine t c s x (Retires retirement go) refl (by_retirement retirement.slot retirement.stage go is)
   by_routine plain entry Restarts is = by_restart is
   by_routine plain entry (Clears next) is = by_clear next is
-  by_routine plain entry (Claims claim) is = by_claim claim is
-  by_routine plain entry (Zeroes k field) is = by_zero k field is
+  by_routine plain entry (Claims claim) is = at_routine t c s x (Claims claim) refl (by_claim claim is)
+  by_routine plain entry (Zeroes k field) is = at_routine t c s x (Zeroes k field) refl (by_zero k field is)
 
   -- none of them is quiet
   no_plain : is_quiet t.target t.setting x.entry ≡ true → PlainKeeps t c s x
@@ -232,7 +267,7 @@ unfolding wants
 quiet_steps t plan = record {
   step = λ c s x a quiet below f told belongs called proper want row beyond draws.
       (let w : Stepping t c s x = record { plan = plan; below = below; fine = f; told = told; belongs = belongs; called = called; proper = proper; beyond = beyond } in
-      subst (λ (o : Option WordAccess). KeptAs t c s x o (λ word. after_moves t.target t.setting x.entry word)) want
+      subst (λ (o : Option WordAccess). SteppedAs t c s x (NamesAfter t s c x x.entry.routine) o (λ word. after_moves t.target t.setting x.entry word) (present_at t.setting.sizes s.memory s.unused x.entry x.entry.routine s.present)) want
       (by_routine t c s x w (no_plain t c s x w quiet) (no_entry t c s x w quiet) x.entry.routine refl) row draws);
 }
 
@@ -254,6 +289,6 @@ unfolding wants
 steps_keep t plan = record {
   step = λ c s x a all below f told belongs called proper want row beyond draws.
       (let w : Stepping t c s x = record { plan = plan; below = below; fine = f; told = told; belongs = belongs; called = called; proper = proper; beyond = beyond } in
-      subst (λ (o : Option WordAccess). KeptAs t c s x o (λ word. after_moves t.target t.setting x.entry word)) want
+      subst (λ (o : Option WordAccess). SteppedAs t c s x (NamesAfter t s c x x.entry.routine) o (λ word. after_moves t.target t.setting x.entry word) (present_at t.setting.sizes s.memory s.unused x.entry x.entry.routine s.present)) want
       (by_routine t c s x w (plain_keeps t c s x w) (entry_keeps t c s x w) x.entry.routine refl) row draws);
 }

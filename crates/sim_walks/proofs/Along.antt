@@ -23,13 +23,13 @@ use Rattle.run_ahead.specs.Known.{AreGot, is_set_in}
 use Rattle.norm_lang.specs.Freshness.{fresh_after}
 use Rattle.norm_lang.specs.RegisterUse.{set_after}
 use Rattle.sim_relation.specs.Views.{Plan, IsPlan, Held, Shared, Caller, Resident, Apart}
-use Rattle.sim_relation.specs.Shared.{Fine}
+use Rattle.sim_relation.specs.Shared.{SharedHolds}
 use Rattle.sim_relation.specs.Callers.{Own, Known, Shown, Calm, Base, Trail, Walks, Gets, Guards, counts, guard_state, HasMade}
 use Rattle.sim_relation.specs.Steps.{walked}
 use Rattle.sim_relation.proofs.Names.{has_slot_of}
 
 -- null is apart from what is protected
-pub null_apart : (t : Plan) (s : Shared) (c e n : ℕ) → IsPlan t → Fine t s → s.protects c e ≢ 0 → n ≡ 0 → Apart t n (s.protects c e)
+pub null_apart : (t : Plan) (s : Shared) (c e n : ℕ) → IsPlan t → SharedHolds t s → s.protects c e ≢ 0 → n ≡ 0 → Apart t n (s.protects c e)
 null_apart t s c e n plan f some z same = absurd (has_slot_of t s (s.protects c e) f (f.guard c e some).resident some (sym same ∙ (ap t.home z ∙ plan.null)))
 
 pub undone : (was : GuardState) (mirror : Registers) (row : GuardRow) (r : ℕ) → GuardStands (dropped was) mirror row r
@@ -65,7 +65,7 @@ base_walked t s c x next accessed held same known b = record {
 }
 
 pub walks_along : (t : Plan) (s : Shared) (c : ℕ) (x : Caller) (core next : Spot) (m : Trail t) (i : Instr) (given : ℕ) (Set : Type 0 → Type 0) (mirror' : Registers) (there' : Spot) (accessed : Bool) (held : MethodRun)
-    → IsPlan t → Fine t s → slice_get (code_in m.walk.method) core.at ≡ Some (Plain i) → is_new i ≡ false
+    → IsPlan t → SharedHolds t s → slice_get (code_in m.walk.method) core.at ≡ Some (Plain i) → is_new i ≡ false
     → Changes t.home Set (destination i) given core.registers m.mirror next.registers mirror'
     → (trust_in_set i ≡ Trusted → IsHeld (trust_along m.walk.method m.path) m.mirror given)
     → Ahead m.walk.method t.home (Calm s c x) (core.at ∷ m.path) next mirror' there'

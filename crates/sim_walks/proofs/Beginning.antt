@@ -28,19 +28,22 @@ use Rattle.run_ahead.proofs.Starting.{start_keeps}
 use Rattle.run_ahead.proofs.Getting.{start_got}
 use Rattle.target_laws.proofs.ErasedPlaces.{erased_is}
 use Rattle.sim_relation.specs.Views.{Plan, IsPlan, Shared, Caller}
-use Rattle.sim_relation.specs.Shared.{Fine}
+use Rattle.sim_relation.specs.Shared.{SharedHolds}
 use Rattle.sim_relation.specs.Callers.{Calm, Base, Running, Begins, EmptyBut, Settled, HasReplied, spared, first_of, source_reply, call_of}
 use Rattle.caller_steps.specs.Signs.{Moved, quiet}
 use Rattle.caller_steps.specs.Pairing.{replied_by}
 use Rattle.sim_relation.specs.Points.{done, point}
 use Rattle.sim_relation.proofs.Playing.{plays_from, points_same}
-use Rattle.sim_relation.specs.Steps.{Ends}
+use Rattle.sim_relation.specs.Steps.{Ends, NamesStay, is_between, is_over}
 use Rattle.sim_relation.proofs.Names.{unprotected}
-use Rattle.sim_relation.proofs.Moving.{begins_moved}
+use Rattle.sim_relation.proofs.Moving.{begins_moved, same_names, names_stay_on}
 use Rattle.sim_relation.proofs.Codes.{blank}
 use Rattle.sim_walks.proofs.Local.{at_spot}
 use Rattle.sim_relation.proofs.Clearing.{clear_none, none_out, kept_bit}
 use Rattle.sim_walks.proofs.Quieting.{ends_quiet}
+use Rattle.caller_steps.specs.declared.routine.AfterClear.{AfterClear}
+use Rattle.oa_words.specs.Words.{Sizes}
+use Rattle.target_code.specs.declared.target.Target.{Target}
 
 -- the method's flag is set, and no access was made
 abbrev pub restarting : Caller → Bool → Caller
@@ -55,7 +58,7 @@ first_is true e = refl
 first_is false e = refl
 
 -- no guard but the kept ones has a name
-names_gone : (t : Plan) (s : Shared) (c : ℕ) (x : Caller) (walk : Walk t.target t.text) (r : ℕ) → Fine t s → Base t s c x → Settled x → EmptyBut t walk x → spared t walk r ≡ false → (s.protects c r ≡ 0) × (x.names.name r ≡ 0)
+names_gone : (t : Plan) (s : Shared) (c : ℕ) (x : Caller) (walk : Walk t.target t.text) (r : ℕ) → SharedHolds t s → Base t s c x → Settled x → EmptyBut t walk x → spared t walk r ≡ false → (s.protects c r ≡ 0) × (x.names.name r ≡ 0)
 names_gone t s c x walk r f b settled empty free = (gone, of (x.names.valid r) refl) where
   gone : s.protects c r ≡ 0
   gone = unprotected t s c r f (b.hazard r ∙ empty r free)
@@ -65,7 +68,7 @@ names_gone t s c x walk r f b settled empty free = (gone, of (x.names.valid r) r
   of false is = settled r is
 
 -- a method run begins
-pub begins_running : (t : Plan) (s : Shared) (c : ℕ) (x : Caller) (walk : Walk t.target t.text) (wrapup : Bool) → IsPlan t → Fine t s → Base t s c x → walk.method.wrapup ≡ wrapup → Begins t s c x walk → EmptyBut t walk x
+pub begins_running : (t : Plan) (s : Shared) (c : ℕ) (x : Caller) (walk : Walk t.target t.text) (wrapup : Bool) → IsPlan t → SharedHolds t s → Base t s c x → walk.method.wrapup ≡ wrapup → Begins t s c x walk → EmptyBut t walk x
     → Running t s c (at_spot (restarting x wrapup) (begun_spot wrapup x.entry)) (begun_spot wrapup x.entry)
 begins_running t s c x walk wrapup plan f b is begins empty = (
   record { walk = walk; path = []; mirror = walk.started; there = run_from walk.method.op walk.method.wrapup (record { at = 0; registers = walk.started }) },
@@ -117,13 +120,26 @@ restart_empty t s c x walk true plan is begins none r free = clear_none x.entry.
 restart_empty t s c x walk false plan is begins none r free = none_out x.entry.hand.guards none r
 
 -- from where the source stands
-pub ends_from : (t : Plan) (s : Shared) (c : ℕ) (x y : Caller) (m : Moved) → y.source ≡ x.source → y.watch ≡ x.watch → Ends t s c y m → Ends t s c x m
-ends_from t s c x y m source watch w = record {
+pub ends_from : (t : Plan) (s : Shared) (c : ℕ) (x y : Caller) (m : Moved) → y.source ≡ x.source → y.watch ≡ x.watch → NamesStay x.names y.names (is_between m.entry.routine) → Ends t s c y m → Ends t s c x m
+ends_from t s c x y m source watch names w = record {
   x' = w.x';
   entry = w.entry;
+  names = names_stay_on x.names y.names w.x'.names (is_between m.entry.routine) names w.names;
   told = w.told;
   plays = plays_from t.text c m.signs (point s x) (point s y) (point s w.x') (points_same (point s x) (point s y) refl refl source watch) w.plays;
 }
+
+-- past a clear that ends a method run no run goes on
+pub over_after : (target : Target) (sizes : Sizes) (next : AfterClear) (e : Entry) → is_over next ≡ true → is_between (cleared target sizes next e).routine ≡ true
+over_after target sizes next e over = of next over (clear_next target next e) where
+  of : (next : AfterClear) → is_over next ≡ true → (o : Option ℕ) → is_between (clear_on target sizes next o e).routine ≡ true
+  of clears.New over o = absurd (let z : false ≡ true = over in cc)
+  of clears.WrapUp over None = refl
+  of clears.WrapUp over (Some r) = refl
+  of (clears.Reply reply) over None = refl
+  of (clears.Reply reply) over (Some r) = refl
+  of clears.Again over None = refl
+  of clears.Again over (Some r) = refl
 
 -- at a wrap-up's start
 pub cleared_wrap_up : (t : Plan) (s : Shared) (c : ℕ) (x : Caller) (walk : Walk t.target t.text) → IsPlan t → Base t s c x → walk.method.wrapup ≡ true → Begins t s c x walk → Ends t s c x (quiet (cleared t.target t.setting.sizes clears.WrapUp x.entry))
@@ -146,6 +162,7 @@ cleared_reply t s c x reply b replied settled = of (clear_next t.target (clears.
   of None none = record {
     x' = record x { entry = entry_replied reply x.entry };
     entry = refl;
+    names = same_names x.names true;
     plays = done _;
     told = record {
       base = record { number = b.number; seen = b.seen; old = b.old; hazard = b.hazard; protects = b.protects; known = b.known; cradle = b.cradle };

@@ -27,16 +27,17 @@ use Rattle.source_machine.specs.MethodRuns.{run_begun, run_after}
 use Rattle.run_ahead.specs.MethodLaws.{Turns}
 use Rattle.run_ahead.specs.Standing.{stands_in_list, wrap_up_after}
 use Rattle.run_ahead.proofs.Lists.{lists_are_made}
-use Rattle.sim_relation.specs.Shared.{Fine}
+use Rattle.sim_relation.specs.Shared.{SharedHolds}
 use Rattle.sim_relation.specs.Points.{point}
 use Rattle.sim_relation.proofs.Playing.{plays_first}
-use Rattle.sim_relation.proofs.Moving.{base_begun}
+use Rattle.sim_relation.proofs.Moving.{base_begun, names_settle}
 use Rattle.sim_walks.proofs.Quieting.{sane_here, commits_in_generator, commit_source}
+use Rattle.caller_steps.specs.declared.routine.AfterClear.TheVariants as clears
 use Rattle.sim_relation.specs.Views.{Plan, IsPlan, Shared, Caller, settled_names}
 use Rattle.sim_relation.specs.Callers.{Calm, Base, Trail, Walks, Stands, Gets, Guards, Begins, Committed, Tied, spot_of}
 use Rattle.sim_relation.specs.Steps.{Ends}
 use Rattle.sim_relation.proofs.Moving.{base_settled, settled_is}
-use Rattle.sim_walks.proofs.Beginning.{cleared_wrap_up, ends_from}
+use Rattle.sim_walks.proofs.Beginning.{cleared_wrap_up, ends_from, over_after}
 
 -- guards that no check validated lose their names, and kept ones stay
 pub kept_settled : (t : Plan) (x : Caller) (walk : Walk t.target t.text) (r n : ℕ) → (x.names.name r ≡ n) × ((x.names.valid r ≡ true) ⊎ (x.names.name r ≡ 0))
@@ -89,17 +90,18 @@ pub list_ends : (t : Plan) (s : Shared) (c : ℕ) (x : Caller) (made : ℕ) (ent
     → slice_get (code_in w.0.walk.method) x.entry.hand.at ≡ Some (Plain (instr.Commit entries)) → Ends t s c x (quiet (list_ended t.target t.setting.sizes made x.entry))
 list_ends t s c x made entries plan b w is =
     let b' = base_settled t s c x b in
-    ends_from t s c x (wrapped x made) _ refl refl
+    ends_from t s c x (wrapped x made) _ refl refl (names_settle x.names _ (over_after t.target t.setting.sizes clears.WrapUp (wrapped x made).entry refl))
     (cleared_wrap_up t s c (wrapped x made) (wrapup_walk w.0.walk.method w.0.walk.call (with_count x.entry.hand.registers made) (with_count w.0.mirror made)) plan
     (record { number = b'.number; seen = b'.seen; old = b'.old; hazard = b'.hazard; protects = b'.protects; known = b'.known; cradle = b'.cradle })
     refl (committed_begins t s c x made entries plan w is))
 
 -- an empty list ends with an access of the source's own
-pub empty_list_ends : (t : Plan) (s : Shared) (c : ℕ) (x : Caller) (m : Trail t) → IsPlan t → Fine t s → Base t s c x → Walks t s c x (spot_of x.entry.hand) m → Stands t x m → Gets t s c x m → Guards t x m
+pub empty_list_ends : (t : Plan) (s : Shared) (c : ℕ) (x : Caller) (m : Trail t) → IsPlan t → SharedHolds t s → Base t s c x → Walks t s c x (spot_of x.entry.hand) m → Stands t x m → Gets t s c x m → Guards t x m
     → slice_get (code_in m.walk.method) x.entry.hand.at ≡ Some (Plain (instr.Commit [])) → Ends t s c x (told (Accesses ∷ []) (quiet (list_ended t.target t.setting.sizes 0 x.entry)))
 empty_list_ends t s c x m plan f b w stands gets guards is = record {
   x' = ended.x';
   entry = ended.entry;
+  names = ended.names;
   told = ended.told;
   plays = plays_first t.text c Accesses [] (point s x) (point s y) (point s ended.x')
       (ap (λ caller. is_enabled_for t.text (events.Access c 0) (Some caller) s.source) source ∙ turns.enabled, (sym (ap (λ turn. turn.memory) turned), refl, refl)) refl ended.plays;

@@ -22,7 +22,7 @@ use Rattle.target_laws.specs.Methods.{code_in}
 use Rattle.run_ahead.proofs.Local.{local_mirrors, local_held, mirrored_keeps}
 use Rattle.run_ahead.proofs.Getting.{local_got}
 use Rattle.sim_relation.specs.Views.{Plan, IsPlan, Shared, Caller}
-use Rattle.sim_relation.specs.Shared.{Fine}
+use Rattle.sim_relation.specs.Shared.{SharedHolds}
 use Rattle.sim_relation.specs.Callers.{Shown, Calm, Trail, Walks, Running}
 use Rattle.sim_relation.specs.Steps.{walked}
 use Rattle.sim_walks.proofs.Along.{walks_along, gets_along, guards_along}
@@ -49,7 +49,7 @@ local_shown t s c x m i core next given plan is step leads shown (inl z) = inl z
 local_shown t s c x m i core next given plan is step leads shown (inr read) = subst (λ (n : ℕ). Shown s n) read.2
     (shown read.0 (open_reads_are_not_fresh t.target t.text plan.compiled.normal plan.compiled.barred.erases m.walk.method m.path core.at i (Ref read.0) (record { leads = leads; stands = is }) (local_opens i core.at core.registers next (Ref read.0) step read.1)))
 
-pub local_goes : (t : Plan) (s : Shared) (c : ℕ) (x : Caller) (core next : Spot) → IsPlan t → Fine t s → core_local_at (slice_get (core_code t.target x.entry) core.at) core.at core.registers ≡ Some next
+pub local_goes : (t : Plan) (s : Shared) (c : ℕ) (x : Caller) (core next : Spot) → IsPlan t → SharedHolds t s → core_local_at (slice_get (core_code t.target x.entry) core.at) core.at core.registers ≡ Some next
     → Running t s c x core → Running t s c (at_spot x next) next
 local_goes t s c x core next plan f goes walk = of (slice_get (core_code t.target x.entry) core.at) refl goes where
   m : Trail t
@@ -75,7 +75,7 @@ local_goes t s c x core next plan f goes walk = of (slice_get (core_code t.targe
         guards_along t s c x core next walk.0 i made.given (λ A. A) made.mirror' walk.0.there x.entry.hand.accessed x.held is (local_is_old i core.at core.registers next step) made.changes walk.4,
       )
 
-pub local_runs : (t : Plan) (s : Shared) (c : ℕ) (x : Caller) (n : ℕ) (spot : Spot) → IsPlan t → Fine t s → Running t s c (at_spot x spot) spot
+pub local_runs : (t : Plan) (s : Shared) (c : ℕ) (x : Caller) (n : ℕ) (spot : Spot) → IsPlan t → SharedHolds t s → Running t s c (at_spot x spot) spot
     → Running t s c (at_spot x (target_run (core_code t.target x.entry) n spot)) (target_run (core_code t.target x.entry) n spot)
 local_runs t s c x zero spot plan f walk = walk
 local_runs t s c x (suc n) spot plan f walk = by_next (core_local_at (slice_get (core_code t.target x.entry) spot.at) spot.at spot.registers) refl (λ next go. local_runs t s c x n next plan f go) where

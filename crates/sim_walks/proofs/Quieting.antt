@@ -24,21 +24,22 @@ use Rattle.run_ahead.specs.Standing.{stands_at, stands_in_list, running_at, call
 use Rattle.run_ahead.proofs.Plain.{at_place}
 use Rattle.run_ahead.proofs.Quiet.{stands_there}
 use Rattle.sim_relation.specs.Views.{Plan, IsPlan, Shared, Caller}
-use Rattle.sim_relation.specs.Callers.{Calm, Base, Trail, Walks, Stands, AtNew, Empty, spot_of, Spotted}
-use Rattle.sim_relation.specs.Steps.{Ends, moved}
+use Rattle.sim_relation.specs.Callers.{Calm, Base, Trail, Walks, Stands, AtNew, Empty, spot_of, HoldsAt}
+use Rattle.sim_relation.specs.Steps.{Ends, moved, is_between}
 use Rattle.sim_relation.specs.Points.{done}
 use Rattle.caller_steps.specs.Signs.{quiet}
-use Rattle.sim_relation.proofs.Moving.{base_moved, new_moved}
+use Rattle.sim_relation.proofs.Moving.{base_moved, new_moved, same_names}
 use Rattle.sim_relation.proofs.Clearing.{none_out}
 
 abbrev pub routed : Caller → Routine → Caller
 routed x r = moved x x.entry.running.steps x.entry.counts r
 
 -- the source stays, and the entry stands elsewhere
-pub ends_quiet : (t : Plan) (s : Shared) (c : ℕ) (x : Caller) (r : Routine) → Base t s c x → Spotted t s c (routed x r) r → Ends t s c x (quiet (with_routine x.entry r))
+pub ends_quiet : (t : Plan) (s : Shared) (c : ℕ) (x : Caller) (r : Routine) → Base t s c x → HoldsAt t s c (routed x r) r → Ends t s c x (quiet (with_routine x.entry r))
 ends_quiet t s c x r b spot = record {
   x' = routed x r;
   entry = refl;
+  names = same_names x.names (is_between r);
   plays = done _;
   told = record { base = base_moved t s c x x.entry.running.steps x.entry.counts r b; spot = spot };
 }

@@ -25,14 +25,14 @@ use Rattle.run_ahead.specs.MethodLaws.{Ends as WalkEnds}
 use Rattle.run_ahead.proofs.Ends.{ends_are_followed}
 use Rattle.run_ahead.proofs.Starting.{generator_start}
 use Rattle.sim_relation.specs.Views.{Plan, IsPlan, Shared, Caller, settled_names}
-use Rattle.sim_relation.specs.Shared.{Fine}
+use Rattle.sim_relation.specs.Shared.{SharedHolds}
 use Rattle.sim_relation.specs.Callers.{Calm, Base, Trail, Walks, Stands, Gets, Begins, source_reply, call_of, spot_of, first_of}
 use Rattle.sim_relation.specs.Points.{point}
 use Rattle.sim_relation.specs.Steps.{Ends}
 use Rattle.sim_relation.proofs.Playing.{plays_first}
-use Rattle.sim_relation.proofs.Moving.{base_settled, base_begun, settled_is}
+use Rattle.sim_relation.proofs.Moving.{base_settled, base_begun, settled_is, names_settle, names_stay_on}
 use Rattle.sim_walks.proofs.Accessing.{accessed_in_method}
-use Rattle.sim_walks.proofs.Beginning.{ends_from, cleared_reply, cleared_again}
+use Rattle.sim_walks.proofs.Beginning.{ends_from, cleared_reply, cleared_again, over_after}
 use Rattle.sim_walks.proofs.Quieting.{sane_here}
 
 -- a caller that walks is followed by the source's
@@ -79,7 +79,7 @@ ended_caller t s c x =
 abbrev settled_caller : Caller → Caller
 settled_caller x = record x { names = settled_names x.names }
 
-base_ended : (t : Plan) (s : Shared) (c : ℕ) (x : Caller) → Fine t s → Base t s c x → Base t s c (ended_caller t s c x)
+base_ended : (t : Plan) (s : Shared) (c : ℕ) (x : Caller) → SharedHolds t s → Base t s c x → Base t s c (ended_caller t s c x)
 base_ended t s c x f b =
     let b' = base_settled t s c x b in
     base_begun t s c (settled_caller x) (caller_turn t.text (events.Access c 0) s.source x.source).caller (run_after t.text (events.Access c 0) s.source x.source x.watch) f
@@ -92,7 +92,7 @@ owes : (t : Plan) (s : Shared) (c : ℕ) (x : Caller) (next : _) → x.entry.han
 owes t s c x next wrap by = subst (λ (b : Bool). Ends t s c x (told (if b && x.entry.hand.accessed then Accesses ∷ [] else []) (quiet (cleared t.target t.setting.sizes next x.entry)))) (sym wrap) (by x.entry.hand.accessed refl)
 
 -- the call ends with a reply
-pub reply_ends : (t : Plan) (s : Shared) (c : ℕ) (x : Caller) (m : Trail t) (i : Instr) (reply : Reply) → IsPlan t → Fine t s → Base t s c x → Walks t s c x (spot_of x.entry.hand) m → Stands t x m → Gets t s c x m
+pub reply_ends : (t : Plan) (s : Shared) (c : ℕ) (x : Caller) (m : Trail t) (i : Instr) (reply : Reply) → IsPlan t → SharedHolds t s → Base t s c x → Walks t s c x (spot_of x.entry.hand) m → Stands t x m → Gets t s c x m
     → slice_get (code_in m.walk.method) x.entry.hand.at ≡ Some (Plain i) → IsTrue (is_end i) → ended_at m.walk.method.op i x.entry.hand.registers m.walk.call ≡ replied (source_reply reply) (caller_of m.walk.call)
     → Ends t s c x (told (owed x.entry.hand) (quiet (cleared t.target t.setting.sizes (clears.Reply reply) x.entry)))
 reply_ends t s c x m i reply plan f b w stands gets is ends leaves = owes t s c x (clears.Reply reply) (w.wrapup ∙ wrapup_is t s c x m i plan w is ends) by where
@@ -103,19 +103,20 @@ reply_ends t s c x m i reply plan f b w stands gets is ends leaves = owes t s c 
   replies = leaves ∙ ap (λ (call : Call). replied (source_reply reply) (caller_of call)) w.call
 
   by : (accessed : Bool) → x.entry.hand.accessed ≡ accessed → Ends t s c x (told (if accessed then Accesses ∷ [] else []) (quiet (cleared t.target t.setting.sizes (clears.Reply reply) x.entry)))
-  by false none = ends_from t s c x (settled_caller x) _ refl refl (cleared_reply t s c (settled_caller x) reply (base_settled t s c x b) (e.ended none ∙ replies) (λ r invalid. settled_is x r invalid))
+  by false none = ends_from t s c x (settled_caller x) _ refl refl (names_settle x.names _ (over_after t.target t.setting.sizes (clears.Reply reply) x.entry refl)) (cleared_reply t s c (settled_caller x) reply (base_settled t s c x b) (e.ended none ∙ replies) (λ r invalid. settled_is x r invalid))
   by true made =
       let turns = e.ends made c s.source in
       let ended = cleared_reply t s c (ended_caller t s c x) reply (base_ended t s c x f b) (ap (λ turn. turn.caller) turns.turns ∙ replies) (λ r invalid. settled_is x r invalid) in
       record {
         x' = ended.x';
         entry = ended.entry;
+        names = names_stay_on x.names (settled_names x.names) ended.x'.names _ (names_settle x.names _ (over_after t.target t.setting.sizes (clears.Reply reply) x.entry refl)) ended.names;
         told = ended.told;
         plays = plays_first t.text c Accesses [] (point s x) (point s (ended_caller t s c x)) (point s ended.x') (turns.enabled, (sym (ap (λ turn. turn.memory) turns.turns), refl, refl)) refl ended.plays;
       }
 
 -- the operation begins again
-pub again_ends : (t : Plan) (s : Shared) (c : ℕ) (x : Caller) (m : Trail t) → IsPlan t → Fine t s → Base t s c x → Walks t s c x (spot_of x.entry.hand) m → Stands t x m → Gets t s c x m
+pub again_ends : (t : Plan) (s : Shared) (c : ℕ) (x : Caller) (m : Trail t) → IsPlan t → SharedHolds t s → Base t s c x → Walks t s c x (spot_of x.entry.hand) m → Stands t x m → Gets t s c x m
     → slice_get (code_in m.walk.method) x.entry.hand.at ≡ Some (Plain instr.Again) → Ends t s c x (told (owed x.entry.hand) (quiet (cleared t.target t.setting.sizes clears.Again x.entry)))
 again_ends t s c x m plan f b w stands gets is = owes t s c x clears.Again (w.wrapup ∙ wrap) by where
   wrap : m.walk.method.wrapup ≡ true
@@ -142,7 +143,7 @@ again_ends t s c x m plan f b w stands gets is = owes t s c x clears.Again (w.wr
         tied = inl (runs x.source (e.ended none), ⊎_elim (λ both. both.1) (λ ended. absurd (let z : true ≡ false = sym (runs x.source (e.ended none)) ∙ ended.0 in cc)) stands.tied);
         settled = λ r invalid. settled_is x r invalid;
       } in
-      ends_from t s c x (settled_caller x) _ refl refl (cleared_again t s c (settled_caller x) (generator_walk m.walk.method m.walk.call) (base_settled t s c x b) refl begins)
+      ends_from t s c x (settled_caller x) _ refl refl (names_settle x.names _ (over_after t.target t.setting.sizes clears.Again x.entry refl)) (cleared_again t s c (settled_caller x) (generator_walk m.walk.method m.walk.call) (base_settled t s c x b) refl begins)
   by true made =
       let turns = e.ends made c s.source in
       let begins : Begins t s c (ended_caller t s c x) (generator_walk m.walk.method m.walk.call) = record {
@@ -162,6 +163,7 @@ again_ends t s c x m plan f b w stands gets is = owes t s c x clears.Again (w.wr
       record {
         x' = ended.x';
         entry = ended.entry;
+        names = names_stay_on x.names (settled_names x.names) ended.x'.names _ (names_settle x.names _ (over_after t.target t.setting.sizes clears.Again x.entry refl)) ended.names;
         told = ended.told;
         plays = plays_first t.text c Accesses [] (point s x) (point s (ended_caller t s c x)) (point s ended.x') (turns.enabled, (sym (ap (λ turn. turn.memory) turns.turns), refl, refl)) refl ended.plays;
       }

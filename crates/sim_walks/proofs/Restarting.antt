@@ -40,9 +40,9 @@ use Rattle.sim_walks.proofs.Beginning.{begun_spot}
 use Rattle.sim_walks.proofs.Committing.{kept_settled}
 use Rattle.sim_relation.specs.Callers.{first_of}
 use Rattle.sim_relation.specs.Views.{Plan, IsPlan, Shared, Caller, settled_names}
-use Rattle.sim_relation.specs.Shared.{Fine}
+use Rattle.sim_relation.specs.Shared.{SharedHolds}
 use Rattle.sim_relation.specs.Callers.{Calm, Base, Trail, Walks, Stands, Begins, EmptyBut, spot_of}
-use Rattle.sim_relation.specs.Steps.{Kept}
+use Rattle.sim_relation.specs.Steps.{Kept, KeptBy}
 use Rattle.sim_relation.proofs.Words.{store_idle}
 use Rattle.sim_relation.proofs.Moving.{goes_same, settled_is, base_settled}
 use Rattle.sim_walks.proofs.Stopping.{settles_ends, restarted_ends}
@@ -150,7 +150,7 @@ rerun x s word source watch counts accessed = record x {
   entry = record x.entry { running = record x.entry.running { steps = one_more x.entry.running.steps }; counts = counts; hand = record x.entry.hand { seen = word; accessed = accessed } };
 }
 
-pub base_rerun : (t : Plan) (s : Shared) (c : ℕ) (x : Caller) (source : SourceCaller) (watch : MethodRun) (counts : Counts) (accessed : Bool) → Fine t s → Base t s c x → Base t s c (rerun x s (s.memory (Warning c)) source watch counts accessed)
+pub base_rerun : (t : Plan) (s : Shared) (c : ℕ) (x : Caller) (source : SourceCaller) (watch : MethodRun) (counts : Counts) (accessed : Bool) → SharedHolds t s → Base t s c x → Base t s c (rerun x s (s.memory (Warning c)) source watch counts accessed)
 base_rerun t s c x source watch counts accessed f b = record {
   number = b.number;
   hazard = b.hazard;
@@ -162,7 +162,7 @@ base_rerun t s c x source watch counts accessed f b = record {
 }
 
 -- the load of what was seen, at a wrap-up's start and after `again`
-pub seen_kept : (t : Plan) (s : Shared) (c : ℕ) (x : Caller) (walk : Walk t.target t.text) (why : MethodStart) → IsPlan t → Fine t s → Base t s c x → Begins t s c x walk → walk.method.wrapup ≡ is_wrap_up why → EmptyBut t walk x
+pub seen_kept : (t : Plan) (s : Shared) (c : ℕ) (x : Caller) (walk : Walk t.target t.text) (why : MethodStart) → IsPlan t → SharedHolds t s → Base t s c x → Begins t s c x walk → walk.method.wrapup ≡ is_wrap_up why → EmptyBut t walk x
     → seen_sign why (counted x.entry) ≡ Renews → (r : Restarted t s c x walk)
     → Kept t c s x (store s.memory (Warning c) (s.memory (Warning c))) (seen_loaded t.target t.setting.sizes why (s.memory (Warning c)) (counted x.entry))
 seen_kept t s c x walk why plan f b begins is empty sign r =
@@ -177,7 +177,9 @@ seen_kept t s c x walk why plan f b begins is empty sign r =
       s' = s;
       x' = ended.x';
       memory = store_idle s.memory (Warning c);
+      present = refl;
       entry = ended.entry;
+      names = ended.names;
       fine = f;
       goes = goes_same t s c;
       told = ended.told;
@@ -204,8 +206,8 @@ pub walks_restart : (t : Plan) (s : Shared) (c : ℕ) (x : Caller) (m : Trail t)
 walks_restart t s c x m plan w stands = restarts t s c x m.walk (Calm s c x) m.path (spot_of x.entry.hand) m.mirror x.entry.hand.accessed plan (follows_of t s c x m w stands)
 
 -- a check that fails
-pub check_fails : (t : Plan) (s : Shared) (c : ℕ) (x : Caller) (m : Trail t) → IsPlan t → Fine t s → Base t s c x → Walks t s c x (spot_of x.entry.hand) m → (r : Restarted t s c x m.walk)
-    → Kept t c s x (store s.memory (Warning c) (s.memory (Warning c))) (check_failed t.target t.setting.sizes (s.memory (Warning c)) (counted x.entry))
+pub check_fails : (t : Plan) (s : Shared) (c : ℕ) (x : Caller) (m : Trail t) → IsPlan t → SharedHolds t s → Base t s c x → Walks t s c x (spot_of x.entry.hand) m → (r : Restarted t s c x m.walk)
+    → KeptBy t c s x (settled_names x.names) (store s.memory (Warning c) (s.memory (Warning c))) (check_failed t.target t.setting.sizes (s.memory (Warning c)) (counted x.entry))
 check_fails t s c x m plan f b w r =
     let word = s.memory (Warning c) in
     let settled : Caller = record x { names = settled_names x.names } in
@@ -229,7 +231,9 @@ check_fails t s c x m plan f b w r =
       s' = s;
       x' = ended.x';
       memory = store_idle s.memory (Warning c);
+      present = refl;
       entry = ended.entry;
+      names = ended.names;
       fine = f;
       goes = goes_same t s c;
       told = ended.told;

@@ -20,13 +20,13 @@ use Rattle.caller_steps.specs.Clearing.{restart_next}
 use Rattle.caller_steps.specs.After.{restart_on, restarted}
 use Rattle.run_ahead.specs.Following.{Walk}
 use Rattle.sim_relation.specs.Callers.{Begins}
-use Rattle.sim_relation.proofs.Moving.{begins_moved}
+use Rattle.sim_relation.proofs.Moving.{begins_moved, same_names}
 use Rattle.sim_walks.proofs.Beginning.{restarting, begun_spot, begins_running, restart_empty, ends_from}
 use Rattle.sim_walks.proofs.Quieting.{ends_quiet, cleared_new, sane_here, commits_in_generator, commit_source}
 use Rattle.sim_walks.proofs.Committing.{empty_list_ends}
 use Rattle.sim_walks.proofs.Replying.{reply_ends, again_ends}
 use Rattle.sim_relation.specs.Views.{Plan, IsPlan, Shared, Caller}
-use Rattle.sim_relation.specs.Shared.{Fine}
+use Rattle.sim_relation.specs.Shared.{SharedHolds}
 use Rattle.sim_relation.specs.Callers.{Base, Running, spot_of}
 use Rattle.sim_relation.specs.Steps.{Ends}
 use Rattle.caller_steps.specs.Signs.{quiet}
@@ -35,7 +35,7 @@ use Rattle.sim_walks.proofs.Local.{at_spot, local_runs}
 use Rattle.sim_relation.proofs.Codes.{instr_is}
 
 -- at an instruction that isn't local
-pub stopped_ends : (t : Plan) (s : Shared) (c : ℕ) (x : Caller) → IsPlan t → Fine t s → Base t s c x → Running t s c x (spot_of x.entry.hand)
+pub stopped_ends : (t : Plan) (s : Shared) (c : ℕ) (x : Caller) → IsPlan t → SharedHolds t s → Base t s c x → Running t s c x (spot_of x.entry.hand)
     → Ends t s c x (stopped t.target t.setting.sizes x.entry)
 stopped_ends t s c x plan f b walk = by_instr (instr_in t.target x.entry) refl where
   here : Ends t s c x (quiet (with_routine x.entry At))
@@ -69,7 +69,7 @@ stopped_ends t s c x plan f b walk = by_instr (instr_in t.target x.entry) refl w
   by_instr (Some (Plain i)) is = by_plain i is
 
 -- local code from a spot, to where it stops
-pub settles_ends : (t : Plan) (s : Shared) (c : ℕ) (x : Caller) (spot : Spot) → IsPlan t → Fine t s → Base t s c (at_spot x spot) → Running t s c (at_spot x spot) spot
+pub settles_ends : (t : Plan) (s : Shared) (c : ℕ) (x : Caller) (spot : Spot) → IsPlan t → SharedHolds t s → Base t s c (at_spot x spot) → Running t s c (at_spot x spot) spot
     → Ends t s c (at_spot x (target_run (core_code t.target x.entry) (length (core_code t.target x.entry)) spot)) (settles t.target t.setting.sizes spot x.entry)
 settles_ends t s c x spot plan f b walk =
     let there = target_run (core_code t.target x.entry) (length (core_code t.target x.entry)) spot in
@@ -77,14 +77,14 @@ settles_ends t s c x spot plan f b walk =
     (local_runs t s c x (length (core_code t.target x.entry)) spot plan f walk)
 
 -- after a failed check: guards are cleared, then the method begins again
-pub restarted_ends : (t : Plan) (s : Shared) (c : ℕ) (x : Caller) (walk : Walk t.target t.text) → IsPlan t → Fine t s → Base t s c x → walk.method.wrapup ≡ x.entry.hand.wrapup → Begins t s c x walk
+pub restarted_ends : (t : Plan) (s : Shared) (c : ℕ) (x : Caller) (walk : Walk t.target t.text) → IsPlan t → SharedHolds t s → Base t s c x → walk.method.wrapup ≡ x.entry.hand.wrapup → Begins t s c x walk
     → Ends t s c x (restarted t.target t.setting.sizes x.entry)
 restarted_ends t s c x walk plan f b is begins = of (restart_next t.target x.entry) refl where
   of : (o : Option ℕ) → restart_next t.target x.entry ≡ o → Ends t s c x (restart_on t.target t.setting.sizes o x.entry)
   of None none =
       let spot = begun_spot x.entry.hand.wrapup x.entry in
       let there = target_run (core_code t.target (restarting x x.entry.hand.wrapup).entry) (length (core_code t.target (restarting x x.entry.hand.wrapup).entry)) spot in
-      ends_from t s c x (at_spot (restarting x x.entry.hand.wrapup) there) _ refl refl
+      ends_from t s c x (at_spot (restarting x x.entry.hand.wrapup) there) _ refl refl (same_names x.names _)
       (settles_ends t s c (restarting x x.entry.hand.wrapup) spot plan f
       (record { number = b.number; seen = b.seen; old = b.old; hazard = b.hazard; protects = b.protects; known = b.known; cradle = b.cradle })
       (begins_running t s c x walk x.entry.hand.wrapup plan f b is begins (restart_empty t s c x walk x.entry.hand.wrapup plan is begins none)))

@@ -1,6 +1,8 @@
 use Rattle.std.proofs.Common.{map, string_bytes}
 use Rattle.oa_cli.specs.Verdicts.{text_for, status_for}
+use Rattle.oa_cli.specs.Commands.{request_of}
 use Rattle.oa_cli.proofs.Telling.{said_finished, told}
+use Rattle.oa_cli.proofs.Completing.{complete}
 use Rattle.oa_cli.proofs.program.serve.Goals as goal
 
 pub returns-clause-judged : goal.returns-clause-judged
@@ -18,6 +20,17 @@ returns-clause-told g c =
     let middle = c.oa_main-status.new.out in
     let start = c.args.out.now in
     told (map string_bytes c.args.words.now) (g.S.Source.left c.args.input.now) (g.S.Source.left c.oa_main-status.new.input)
+    (g.S.Source.faults c.args.input.now) (g.S.Source.faults c.oa_main-status.new.input) first.0
+    start.written end.written start.faults end.faults c.finish.result first.1
+    (said_finished start.written middle.written end.written start.faults middle.faults end.faults (text_for first.0) (status_for first.0) c.oa_main-status.result c.finish.result first.2 c.finish.ensures.bytes c.finish.ensures.status)
+
+pub returns-clause-complete : goal.returns-clause-complete
+returns-clause-complete g c =
+    let first = c.oa_main-status.ensures.judged in
+    let end = c.finish.new.out in
+    let middle = c.oa_main-status.new.out in
+    let start = c.args.out.now in
+    complete (request_of (map string_bytes c.args.words.now)) (g.S.Source.left c.args.input.now) (g.S.Source.left c.oa_main-status.new.input)
     (g.S.Source.faults c.args.input.now) (g.S.Source.faults c.oa_main-status.new.input) first.0
     start.written end.written start.faults end.faults c.finish.result first.1
     (said_finished start.written middle.written end.written start.faults middle.faults end.faults (text_for first.0) (status_for first.0) c.oa_main-status.result c.finish.result first.2 c.finish.ensures.bytes c.finish.ensures.status)

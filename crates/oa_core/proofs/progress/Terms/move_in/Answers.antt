@@ -16,8 +16,3 @@ returns-clause-under_way c =
     moves_under_way c.args.self.now c.args.now.now _ c.args.next c.args.caller c.requires.under_way
     (subst (λ (n : Progress). MovesAt c.args.self.now.pair.target c.args.self.now.setting n.words c.move_caller.new.words c.args.next c.args.caller n.entries c.move_caller.new.entries.items (slice_get n.entries c.args.caller))
     c.now.view_is c.move_caller.ensures.moved) c.move_caller.ensures.belong c.move_caller.ensures.lawful
-
-pub returns-clause-moved : goal.returns-clause-moved
-returns-clause-moved c =
-    subst (λ (n : Progress). MovesAt c.args.self.now.pair.target c.args.self.now.setting n.words c.move_caller.new.words c.args.next c.args.caller n.entries c.move_caller.new.entries.items (slice_get n.entries c.args.caller))
-    c.now.view_is c.move_caller.ensures.moved

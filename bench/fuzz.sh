@@ -1,0 +1,26 @@
+#!/usr/bin/env bash
+# Runs the program on documents that are made from the examples and from the texts and documents of reader_rows' rows by one to four small changes
+# each, with one of `run`, `replay`, `check`, `show` and `compile`, and looks whether it ends with a status of README's table, with the line on
+# standard output and a sentence on standard error as that status has them. `bench/fuzz.sh COUNT SEED` makes COUNT documents, a million if there is
+# no number; a seed gives the same documents again. It writes how often which status came, and keeps a document that shows anything else as
+# fuzz-NUMBER.oa where it is called. It needs gcc and the proved program (`./prove`).
+set -eu
+top=$(cd "$(dirname "$0")/.." && pwd)
+"$top/prove" --is-ready || { echo "the proved program isn't there: run ./prove first" >&2; exit 2; }
+work=$(mktemp -d)
+trap 'rm -rf "$work"' EXIT
+gcc -O2 -Wall -Wextra -o "$work/fuzz" "$top/bench/fuzz.c"
+
+# The rows spell a newline as `|`, and the lines that they share as a name in braces.
+awk -v into="$work" '
+  $1 == "lines" { name = $2; sub(/^lines [^ ]* /, ""); shared[name] = $0; next }
+  $1 == "text" || $1 == "document" {
+    sub(/^[a-z]* ?/, "")
+    while (match($0, /\{[a-z_]*\}/)) $0 = substr($0, 1, RSTART - 1) shared[substr($0, RSTART + 1, RLENGTH - 2)] substr($0, RSTART + RLENGTH)
+    gsub(/\|/, "\n")
+    printf "%s", $0 > (into "/row" ++rows)
+    close(into "/row" rows)
+  }' "$top/crates/reader_rows/stdin"
+
+good=("$top"/examples/*.oa)
+"$work/fuzz" "$top/crates/oa/out/oa" "${1-1000000}" "${2-1}" ${#good[@]} "${good[@]}" "$work"/row*

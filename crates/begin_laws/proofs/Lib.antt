@@ -1,0 +1,5 @@
+pub mod SignsBegun
+pub mod StepsBegun
+pub mod RunsBegun
+pub mod ScriptsBegun
+mod Worked

@@ -1,0 +1,42 @@
+//! What the source gives and the sink takes.
+
+/// How many bytes the source gives and the sink takes a call, and the numbers of the calls that fail, from 1; 0 is none.
+#[derive(Clone, Copy, Debug)]
+pub struct World {
+    pub most: usize,
+    pub failing_read: u64,
+    pub failing_write: u64,
+}
+
+/// What stands before the first space, and what stands after it.
+fn cut(line: &str) -> (&str, &str) {
+    match line.split_once(' ') {
+        Some(parts) => parts,
+        None => (line, ""),
+    }
+}
+
+/// The number that digits are; 0 where they are none.
+fn number(digits: &str) -> u64 {
+    digits.parse::<u64>().unwrap_or(0)
+}
+
+impl World {
+    /// Nothing fails.
+    pub const KIND: World = World {
+        most: 4096,
+        failing_read: 0,
+        failing_write: 0,
+    };
+
+    /// The world that a line's three numbers say.
+    pub fn of_line(line: &str) -> World {
+        let (most, calls) = cut(line);
+        let (read, write) = cut(calls);
+        World {
+            most: number(most) as usize,
+            failing_read: number(read),
+            failing_write: number(write),
+        }
+    }
+}

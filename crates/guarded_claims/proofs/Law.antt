@@ -1,0 +1,77 @@
+-- No claim takes a slot that a validated guard names.
+use Rattle.std.proofs.Common.{ℕ, ◌≡◌, ◌<◌, ◌∙◌, List, Some, arith, sym, ap, subst, refl}
+use Rattle.std.specs.Prelude.{nat_le}
+use Rattle.norm_lang.specs.declared.text.Text.{Text}
+use Rattle.target_code.specs.declared.target.Target.{Target}
+use Rattle.barrier_check.specs.Paired.{Paired, IsSound}
+use Rattle.oa_words.specs.Words.{Word, Hazard, Status}
+use Rattle.oa_words.specs.declared.packed.Kind.TheVariants as kinds
+use Rattle.oa_words.specs.Packed.{status_word}
+use Rattle.caller_laws.proofs.Methods.{setting_sane}
+use Rattle.caller_laws.proofs.Together.{methods}
+use Rattle.caller_steps.specs.Settings.{Setting, Fits, IsSetting}
+use Rattle.core_runs.specs.Machine.{CoreState, CoreEvent, core_run, core_start}
+use Rattle.core_runs.specs.RunSigns.{run_signs}
+use Rattle.core_runs.specs.Views.{view}
+use Rattle.core_runs.proofs.Seeing.{events_are_seen}
+use Rattle.core_runs.proofs.Starting.{start_is_seen}
+use Rattle.core_sound.proofs.Machine.{event_sound}
+use Rattle.core_sound.proofs.StartSound.{start_sound}
+use Rattle.core_sound.proofs.Reached.{sound_is_shaped, start_suits}
+use Rattle.source_machine.specs.Proper.{IsProper}
+use Rattle.target_runs.specs.Runnable.{IsRunnable}
+use Rattle.target_runs.proofs.SaneTargets.{runnable_is_sane}
+use Rattle.sim_relation.specs.Views.{Plan, IsPlan}
+use Rattle.oa_simulation.specs.Shadow.{Shadow, shadow_run, shadow_start}
+use Rattle.oa_simulation.specs.Relation.{HomeIs}
+use Rattle.sim_starts.proofs.FirstWords.{first_words}
+use Rattle.oa_simulation.proofs.Homes.{home_stays}
+use Rattle.oa_simulation.proofs.Refining.{either, plan_of, start_beside}
+use Rattle.oa_simulation.proofs.Worlds.{no_guarded_ready}
+use Rattle.guarded_claims.specs.Marks.{IsValidated, Absent, Published, Validated, no_marks, run_marks}
+use Rattle.guarded_claims.specs.Guarded.{GuardsAreSpared}
+use Rattle.guarded_claims.proofs.Runs.{MarkedBeside, run_marked}
+
+-- every state that a run comes to, with the run's marks
+marked : (target : Target) (text : Text) (setting : Setting) → IsRunnable target text → IsSetting setting → Fits target setting → IsProper text → (events : List CoreEvent) (state : CoreState) → core_run target setting events (core_start target setting) ≡ Some state
+    → MarkedBeside (plan_of target text setting events) state (shadow_run text (run_signs target setting events (core_start target setting)) (shadow_start text setting)) (run_marks target setting events (core_start target setting) no_marks)
+marked target text setting runs own fits proper events state is =
+    let t : Plan = plan_of target text setting events in
+    let z0 : Shadow = shadow_start text setting in
+    let homes : HomeIs t.home z0 = λ n lt. home_stays text (run_signs target setting events (core_start target setting)) z0 n lt in
+    let plan : IsPlan t = record {
+      compiled = record { normal = runs.normal; within = runs.small; barred = runs.barred };
+      sane = runnable_is_sane target text runs;
+      some = own;
+      fits = fits;
+      callers = own.sizes.0;
+      null = homes 0 (omega arith) ∙ either (nat_le 0 setting.nodes);
+    } in
+    let first = (start_beside t plan own (start_is_seen target setting) (start_suits target text setting runs own fits).suits (first_words t runs own fits homes)).0 in
+    run_marked t plan proper (events_are_seen target setting)
+    (λ s sound. sound_is_shaped target setting s (methods target text runs) (setting_sane setting own) fits sound)
+    (λ s next event sound at. event_sound target setting s next event (methods target text runs) (setting_sane setting own) fits sound at)
+    events (core_start target setting) state z0 no_marks (start_sound target setting (methods target text runs) runs.within own fits)
+    (record {
+      beside = first;
+      marked = λ c lt. record {
+        validated = λ r p mark. absurd (let z : Absent ≡ Validated p = mark in cc);
+        published = λ r p mark. absurd (let z : Absent ≡ Published p = mark in cc);
+      };
+    }) is (λ n lt. refl)
+
+spares : (target : Target) (text : Text) (setting : Setting) → IsRunnable target text → IsSetting setting → Fits target setting → GuardsAreSpared target text setting
+spares target text setting runs own fits proper events state is =
+    let t : Plan = plan_of target text setting events in
+    let k = marked target text setting runs own fits proper events state is in
+    let b = k.beside in
+    let not_ready : (c r q : ℕ) → c < setting.sizes.callers → IsValidated target setting events c r → (view setting state).memory (Status ((view setting state).memory (Hazard c r))) ≡ status_word q kinds.Ready → ⊥ = λ c r q lt valid ready.
+    (let some = (k.marked c lt).validated r valid.0 valid.1 valid.2 in
+    no_guarded_ready t b.w.shared b.holds.fine c r q (λ none. some (sym ((b.holds.told c lt).base.protects r) ∙ none)) (ap (λ (m : Word → ℕ). m (Status (m (Hazard c r)))) b.memory ∙ ready)) in
+    record {
+      not_ready = not_ready;
+      not_taken = λ c r d j lt valid takes named. not_ready c r takes.phase lt valid (ap (λ (j : ℕ). (view setting state).memory (Status j)) named ∙ takes.ready);
+    }
+
+pub no_guarded_claim : (pair : Paired) (setting : Setting) → IsSound pair → IsSetting setting → Fits pair.target setting → GuardsAreSpared pair.target pair.source setting
+no_guarded_claim pair setting sound own fits = spares pair.target pair.source setting (record { small = sound.small; normal = sound.normal; within = sound.within; barred = sound.barred }) own fits

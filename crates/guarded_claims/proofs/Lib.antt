@@ -1,0 +1,4 @@
+pub mod Seen
+pub mod Marked
+pub mod Runs
+pub mod Law

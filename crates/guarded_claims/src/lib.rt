@@ -1,0 +1,4 @@
+//! No claim takes a slot that a validated guard names.
+#![tactic(auto)]
+
+pub mod laws;

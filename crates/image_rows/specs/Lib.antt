@@ -1,0 +1,2 @@
+pub mod ListImages
+pub mod GuardMarks

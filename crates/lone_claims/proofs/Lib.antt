@@ -1,0 +1,4 @@
+pub mod Pools
+pub mod Freeing
+pub mod Claims
+pub mod Together

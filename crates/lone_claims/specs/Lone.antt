@@ -1,0 +1,67 @@
+-- The claim of a lone caller, from its begin to its end.
+use Rattle.std.specs.Prelude.{ℕ, ◌≡◌, ◌≢◌, ◌≤◌, ◌↔◌, Bool, true, false, ◌&&◌, List, [], ◌∷◌, Option, Some, None}
+use Rattle.norm_lang.specs.declared.text.Text.{Text}
+use Rattle.target_code.specs.declared.target.Target.{Target}
+use Rattle.oa_words.specs.declared.packed.Kind.TheVariants as kinds
+use Rattle.oa_words.specs.Words.{Sizes, Word, Status}
+use Rattle.oa_words.specs.Packed.{status_word}
+use Rattle.phase_pools.specs.declared.access.ClaimEnd.{ClaimEnd}
+use Rattle.phase_pools.specs.declared.access.ClaimEnd.TheVariants as ends
+use Rattle.phase_pools.specs.Accesses.{word_of}
+use Rattle.phase_pools.specs.Pools.{Claim, claim_begun, claim_wants, claim_accepts}
+use Rattle.source_machine.specs.Proper.{IsProper, has}
+use Rattle.caller_steps.specs.declared.routine.Routine.{Routine}
+use Rattle.caller_steps.specs.declared.routine.Routine.TheVariants.{Idle, LoadSeen, At, InList, Retires, Restarts, Clears, Claims, Zeroes}
+use Rattle.caller_steps.specs.Settings.{Setting}
+use Rattle.core_runs.specs.Machine.{CoreState, CoreEvent, core_event, core_run, core_start}
+use Rattle.core_runs.specs.Views.{view}
+use Rattle.oa_simulation.specs.Shadow.{shadow}
+use Rattle.oa_simulation.specs.Present.{present_in}
+
+abbrev pub is_claiming : Routine → Bool
+is_claiming (Claims claim) = true
+is_claiming Idle = false
+is_claiming (LoadSeen why) = false
+is_claiming At = false
+is_claiming (InList k) = false
+is_claiming (Retires retirement go) = false
+is_claiming Restarts = false
+is_claiming (Clears next) = false
+is_claiming (Zeroes k field) = false
+
+abbrev pub on_state : Option CoreState → (CoreState → Bool) → Bool
+on_state None next = true
+on_state (Some state) next = next state
+
+-- caller 0 is in a claim before each of the events
+abbrev pub stays_in_claim : Target → Setting → List CoreEvent → CoreState → Bool
+stays_in_claim target setting [] state = true
+stays_in_claim target setting (event ∷ events) state =
+    is_claiming ((view setting state).who 0).routine && on_state (core_event target setting state event) (stays_in_claim target setting events)
+
+-- each slot's status is used
+abbrev pub AreUsed : Sizes → (Word → ℕ) → Type 0
+AreUsed n memory = (j : ℕ) → 1 ≤ j → j ≤ n.slots → (q : ℕ) × (memory (Status j) ≡ status_word q kinds.Used)
+
+-- a claim of caller 0 that was at its begin ends in this way with the caller's next step, events of the claim alone lying between
+pub record EndsIn (target : Target) (setting : Setting) (state : CoreState) (end : ClaimEnd) : Type 0 where
+  pub begun : ((view setting state).who 0).routine ≡ Claims (claim_begun setting.sizes)
+  pub more : List CoreEvent
+  pub later : CoreState
+  pub runs : core_run target setting more state ≡ Some later
+  pub stays : stays_in_claim target setting more state ≡ true
+  pub claim : Claim
+  pub at : ((view setting later).who 0).routine ≡ Claims claim
+  pub ends : (claim_accepts setting.sizes setting.last claim ((view setting later).memory (word_of (claim_wants claim)))).ended ≡ Some end
+
+pub record LoneClaim (target : Target) (text : Text) (setting : Setting) (events : List CoreEvent) (state : CoreState) : Type 0 where
+  -- it ends with Full exactly where each status was used at its begin, if no sweep of it found the last phase
+  pub full : (end : ClaimEnd) → EndsIn target setting state end → ((p : ℕ) → end ≢ ends.PhasesOver p) → (end ≡ ends.Full) ↔ AreUsed setting.sizes (view setting state).memory
+  -- a slot that holds a name that isn't retired has a used status
+  pub used : (j : ℕ) → present_in target text setting events j ≢ 0 → has (present_in target text setting events j) (shadow target text setting events).machine.memory.retired ≡ false
+      → (q : ℕ) × ((view setting state).memory (Status j) ≡ status_word q kinds.Used)
+
+-- of a proper text, with one caller
+abbrev pub LoneClaimsAreFull : Target → Text → Setting → Type 0
+LoneClaimsAreFull target text setting = IsProper text → setting.sizes.callers ≡ 1 → (events : List CoreEvent) (state : CoreState) → core_run target setting events (core_start target setting) ≡ Some state
+    → LoneClaim target text setting events state

@@ -1,0 +1,4 @@
+//! A pool with one caller: when a claim finds it full.
+#![tactic(auto)]
+
+pub mod laws;

@@ -1,0 +1,367 @@
+-- Once a call has published a node it doesn't begin again, where no way through the wrap-up leads to `again` after an exchange has
+-- succeeded.
+--
+-- One lemma for each small definition of `after`.
+use Rattle.std.proofs.Common.{◌≡◌, ◌⊎◌, inl, inr, ⊎_elim, ℕ, zero, suc, ◌+◌, ◌≤◌, ◌<◌, ◌==◌, Bool, true, false, List, length, Option, Some, None, refl, sym, ◌∙◌, ap, subst, arith, if◌then◌else◌, get_or-set_same}
+use Rattle.std.specs.Prelude.{slice_get, nat_lt}
+use Rattle.norm_lang.specs.declared.text.Reg.{Reg}
+use Rattle.norm_lang.specs.declared.text.Reg.TheVariants.{Num, Ref}
+use Rattle.norm_lang.specs.declared.text.CasEntry.{CasEntry}
+use Rattle.norm_lang.specs.declared.text.Instr.{Instr}
+use Rattle.norm_lang.specs.declared.text.Instr.TheVariants as instr
+use Rattle.norm_lang.specs.declared.registers.Registers.{Registers}
+use Rattle.norm_lang.specs.Registers.{number_in, with_count}
+use Rattle.norm_lang.specs.Local.{Spot, local_step, go_on}
+use Rattle.target_code.specs.declared.target.TargetInstr.{TargetInstr}
+use Rattle.target_code.specs.declared.target.TargetInstr.TheVariants.{Plain, Check, Guard}
+use Rattle.target_code.specs.declared.target.Target.{Target}
+use Rattle.target_code.specs.LocalCode.{target_local_at, target_next_spot, target_run}
+use Rattle.guard_words.specs.Guards.{pass_check, with_guard}
+use Rattle.oa_words.specs.Words.{Sizes}
+use Rattle.phase_pools.specs.Pools.{Retirement, retire_accepts}
+use Rattle.caller_steps.specs.declared.call.Reply.TheVariants as replies
+use Rattle.caller_steps.specs.declared.entry.Hand.{Hand}
+use Rattle.caller_steps.specs.declared.routine.MethodStart.{MethodStart}
+use Rattle.caller_steps.specs.declared.routine.MethodStart.TheVariants as starts
+use Rattle.caller_steps.specs.declared.routine.AfterClear.{AfterClear}
+use Rattle.caller_steps.specs.declared.routine.AfterClear.TheVariants as clears
+use Rattle.caller_steps.specs.declared.routine.AfterRetire.{AfterRetire}
+use Rattle.caller_steps.specs.declared.routine.AfterRetire.TheVariants as retires
+use Rattle.caller_steps.specs.declared.routine.Routine.{Routine}
+use Rattle.caller_steps.specs.declared.routine.Routine.TheVariants.{Idle, LoadSeen, At, InList, Retires, Restarts, Clears, Claims, Zeroes}
+use Rattle.caller_steps.specs.Settings.{Setting}
+use Rattle.caller_steps.specs.Entries.{Entry}
+use Rattle.caller_steps.specs.Operands.{with_word, slot_in, register_number, code_at, instr_at, code_in, instr_in, list_of}
+use Rattle.caller_steps.specs.Clearing.{restart_next, clear_next, unguarded}
+use Rattle.caller_steps.specs.Signs.{quiet}
+use Rattle.caller_steps.specs.After.{with_routine, with_hand, hand_at, then_goes, clear_on, cleared, wrap_up_hand, list_ended, plain_stop, stops, stopped, settles, goes_on, first_spot, method_begun, seen_loaded, restart_on, restarted, check_passed, check_failed, checked, with_restart, with_access, succeeds, to_retire, list_on, onward_goes, retires_then, cas_failed, cas_ended, plain_accepted, instr_accepted, with_published, entry_ended, list_accepted, retired_on, accepted, counted, after}
+use Rattle.claim_laws.proofs.Onward.{ended_moves}
+
+-- ---- a sentence about places and registers of a wrap-up
+
+-- an instruction carries it on to wherever it leads, and isn't `again`
+abbrev pub PlainCarries : (ℕ → Registers → Type 0) → ℕ → Registers → Instr → Type 0
+PlainCarries Holds at registers (instr.LoadRoot d x) = (word : ℕ) → Holds (at + 1) (with_word registers d word)
+PlainCarries Holds at registers (instr.LoadPick d x n a) = (word : ℕ) → Holds (at + 1) (with_word registers d word)
+PlainCarries Holds at registers (instr.LoadField d a f) = (word : ℕ) → Holds (at + 1) (with_word registers d word)
+PlainCarries Holds at registers (instr.Put a f b) = Holds (at + 1) registers
+PlainCarries Holds at registers (instr.Cas exchange l) = Holds (at + 1) registers × Holds l registers
+PlainCarries Holds at registers (instr.New d) = ⊥
+PlainCarries Holds at registers (instr.Commit exchanges) = ⊥
+PlainCarries Holds at registers instr.Again = ⊥
+PlainCarries Holds at registers i = (next : Spot) → local_step i at registers ≡ Some next → Holds next.at next.registers
+
+abbrev pub InstrCarries : (ℕ → Registers → Type 0) → ℕ → Registers → Option TargetInstr → Type 0
+InstrCarries Holds at registers None = Unit {0}
+InstrCarries Holds at registers (Some (Plain i)) = PlainCarries Holds at registers i
+InstrCarries Holds at registers (Some Check) = Holds (at + 1) registers
+InstrCarries Holds at registers (Some (Guard r)) = Holds (at + 1) registers
+
+-- so does the whole code
+abbrev pub CodeCarries : (ℕ → Registers → Type 0) → List TargetInstr → Type 0
+CodeCarries Holds code = (at : ℕ) (registers : Registers) → Holds at registers → InstrCarries Holds at registers (slice_get code at)
+
+-- and it holds at the start, where an exchange has succeeded
+abbrev pub Begins : (ℕ → Registers → Type 0) → Type 0
+Begins Holds = (registers : Registers) → 1 ≤ number_in registers (Num 7) → Holds 0 registers
+
+-- ---- where a caller stands that won't begin again
+
+-- in a wrap-up that started after an exchange had succeeded
+abbrev pub InWrapUp : Hand → Type 0
+InWrapUp hand = (hand.wrapup ≡ true) × (1 ≤ number_in hand.started (Num 7))
+
+abbrev pub ClearSettles : Hand → AfterClear → Type 0
+ClearSettles hand clears.New = ⊥
+ClearSettles hand clears.WrapUp = InWrapUp hand
+ClearSettles hand (clears.Reply reply) = Unit {0}
+ClearSettles hand clears.Again = ⊥
+
+abbrev pub RetireSettles : (ℕ → Registers → Type 0) → Hand → AfterRetire → Type 0
+RetireSettles Holds hand retires.Next = InWrapUp hand × Holds (hand.at + 1) hand.registers
+RetireSettles Holds hand (retires.List k) = Unit {0}
+
+abbrev pub StartSettles : Hand → MethodStart → Type 0
+StartSettles hand starts.Begin = ⊥
+StartSettles hand starts.WrapUp = InWrapUp hand
+StartSettles hand starts.Again = ⊥
+
+abbrev pub SettledAt : (ℕ → Registers → Type 0) → Hand → Routine → Type 0
+SettledAt Holds hand Idle = Unit {0}
+SettledAt Holds hand (LoadSeen why) = StartSettles hand why
+SettledAt Holds hand At = InWrapUp hand × Holds hand.at hand.registers
+SettledAt Holds hand (InList k) = 1 ≤ k
+SettledAt Holds hand (Retires retirement go) = RetireSettles Holds hand go
+SettledAt Holds hand Restarts = InWrapUp hand
+SettledAt Holds hand (Clears next) = ClearSettles hand next
+SettledAt Holds hand (Claims claim) = ⊥
+SettledAt Holds hand (Zeroes k field) = ⊥
+
+abbrev HasEight : Entry → Type 0
+HasEight e = length e.hand.registers.numbers ≡ 8
+
+count_in : (registers : Registers) (made : ℕ) → length registers.numbers ≡ 8 → 1 ≤ made → 1 ≤ number_in (with_count registers made) (Num 7)
+count_in registers made eight some =
+    let inside : 7 < length registers.numbers = omega (arith, eight) in
+    subst (λ (n : ℕ). 1 ≤ n) (sym (get_or-set_same registers.numbers 7 made 0 inside)) some
+
+unguarded_wraps : (o : Option ℕ) (hand : Hand) → InWrapUp hand → InWrapUp (unguarded o hand)
+unguarded_wraps None hand wraps = wraps
+unguarded_wraps (Some r) hand wraps = wraps
+
+unguarded_clears : (o : Option ℕ) (hand : Hand) (next : AfterClear) → ClearSettles hand next → ClearSettles (unguarded o hand) next
+unguarded_clears None hand next settled = settled
+unguarded_clears (Some r) hand clears.New settled = settled
+unguarded_clears (Some r) hand clears.WrapUp settled = settled
+unguarded_clears (Some r) hand (clears.Reply reply) settled = settled
+unguarded_clears (Some r) hand clears.Again settled = settled
+
+-- ---- code
+
+module _ (Holds : ℕ → Registers → Type 0) where
+  plain_carries : (i : Instr) (at : ℕ) (registers : Registers) (next : Spot) → PlainCarries Holds at registers i → local_step i at registers ≡ Some next → Holds next.at next.registers
+  plain_carries (instr.Set d n) at registers next carries is = carries next is
+  plain_carries (instr.Mov d a) at registers next carries is = carries next is
+  plain_carries (instr.Add d a b) at registers next carries is = carries next is
+  plain_carries (instr.Sub d a b) at registers next carries is = carries next is
+  plain_carries (instr.Rem d a n) at registers next carries is = carries next is
+  plain_carries (instr.Mark d a) at registers next carries is = carries next is
+  plain_carries (instr.Unmark d a) at registers next carries is = carries next is
+  plain_carries (instr.Null d) at registers next carries is = carries next is
+  plain_carries (instr.Jump l) at registers next carries is = carries next is
+  plain_carries (instr.IfEq a b l) at registers next carries is = carries next is
+  plain_carries (instr.IfLess a b l) at registers next carries is = carries next is
+  plain_carries (instr.IfMarked a l) at registers next carries is = carries next is
+  plain_carries (instr.Return a) at registers next carries is = carries next is
+  plain_carries instr.ReturnNone at registers next carries is = carries next is
+  plain_carries (instr.LoadRoot d x) at registers next carries is = absurd (let z : None ≡ Some next = is in cc)
+  plain_carries (instr.LoadPick d x n a) at registers next carries is = absurd (let z : None ≡ Some next = is in cc)
+  plain_carries (instr.LoadField d a f) at registers next carries is = absurd (let z : None ≡ Some next = is in cc)
+  plain_carries (instr.Put a f b) at registers next carries is = absurd (let z : None ≡ Some next = is in cc)
+  plain_carries (instr.Cas exchange l) at registers next carries is = absurd (let z : None ≡ Some next = is in cc)
+  plain_carries (instr.New d) at registers next carries is = absurd carries
+  plain_carries (instr.Commit exchanges) at registers next carries is = absurd carries
+  plain_carries instr.Again at registers next carries is = absurd carries
+
+  instr_carries : (o : Option TargetInstr) (at : ℕ) (registers : Registers) (next : Spot) → InstrCarries Holds at registers o → target_local_at o at registers ≡ Some next → Holds next.at next.registers
+  instr_carries None at registers next carries is = absurd (let z : None ≡ Some next = is in cc)
+  instr_carries (Some (Plain i)) at registers next carries is = plain_carries i at registers next carries is
+  instr_carries (Some Check) at registers next carries is = absurd (let z : None ≡ Some next = is in cc)
+  instr_carries (Some (Guard r)) at registers next carries is = absurd (let z : None ≡ Some next = is in cc)
+
+  run_carries : (code : List TargetInstr) → CodeCarries Holds code → (n : ℕ) (spot : Spot) → Holds spot.at spot.registers → (let end = target_run code n spot in Holds end.at end.registers)
+  run_carries code carries zero spot holds = holds
+  run_carries code carries (suc n) spot holds = of (λ next h. run_carries code carries n next h) (target_next_spot code spot) refl where
+    of : ((next : Spot) → Holds next.at next.registers → (let end = target_run code n next in Holds end.at end.registers)) → (o : Option Spot) → target_next_spot code spot ≡ o
+        → (let end = go_on o spot (target_run code n) in Holds end.at end.registers)
+    of further None is = holds
+    of further (Some next) is = further next (instr_carries (slice_get code spot.at) spot.at spot.registers next (carries spot.at spot.registers holds) is)
+
+-- ---- a caller
+
+module _ (target : Target) (sizes : Sizes) (Holds : ℕ → ℕ → Registers → Type 0) (begins : (op : ℕ) → Begins (Holds op)) (carries : (op : ℕ) → CodeCarries (Holds op) (code_at target op true)) where
+  abbrev pub Settled : Entry → Type 0
+  Settled e = SettledAt (Holds e.running.call.op) e.hand e.routine
+
+  abbrev HoldsIn : Entry → ℕ → Registers → Type 0
+  HoldsIn e = Holds e.running.call.op
+
+  -- nothing happened
+  same : (e : Entry) (routine : Routine) → e.routine ≡ routine → SettledAt (HoldsIn e) e.hand routine → Settled e
+  same e routine is settled = subst (SettledAt (HoldsIn e) e.hand) (sym is) settled
+
+  then_settles : (next : AfterClear) (e : Entry) → ClearSettles e.hand next → Settled (then_goes target sizes next e)
+  then_settles clears.New e settled = absurd settled
+  then_settles clears.WrapUp e settled = settled
+  then_settles (clears.Reply reply) e settled = tt
+  then_settles clears.Again e settled = absurd settled
+
+  cleared_settles : (next : AfterClear) (e : Entry) → ClearSettles e.hand next → Settled (cleared target sizes next e)
+  cleared_settles next e settled = of (clear_next target next e) where
+    of : (o : Option ℕ) → Settled (clear_on target sizes next o e)
+    of None = then_settles next e settled
+    of (Some r) = settled
+
+  ended_settles : (made : ℕ) (e : Entry) → HasEight e → 1 ≤ made → Settled (list_ended target sizes made e)
+  ended_settles made e eight some = cleared_settles clears.WrapUp (with_hand e (wrap_up_hand made e.hand)) (refl, count_in e.hand.registers made eight some)
+
+  plain_settles : (i : Instr) (e : Entry) → InWrapUp e.hand → HoldsIn e e.hand.at e.hand.registers → PlainCarries (HoldsIn e) e.hand.at e.hand.registers i → Settled (plain_stop target sizes i e).entry
+  plain_settles (instr.New d) e wraps holds carried = absurd carried
+  plain_settles (instr.Commit exchanges) e wraps holds carried = absurd carried
+  plain_settles (instr.Return a) e wraps holds carried = cleared_settles (clears.Reply (replies.Number (number_in e.hand.registers a))) e tt
+  plain_settles instr.ReturnNone e wraps holds carried = cleared_settles (clears.Reply replies.Nothing) e tt
+  plain_settles instr.Again e wraps holds carried = absurd carried
+  plain_settles (instr.Set d n) e wraps holds carried = (wraps, holds)
+  plain_settles (instr.Mov d a) e wraps holds carried = (wraps, holds)
+  plain_settles (instr.Add d a b) e wraps holds carried = (wraps, holds)
+  plain_settles (instr.Sub d a b) e wraps holds carried = (wraps, holds)
+  plain_settles (instr.Rem d a n) e wraps holds carried = (wraps, holds)
+  plain_settles (instr.Mark d a) e wraps holds carried = (wraps, holds)
+  plain_settles (instr.Unmark d a) e wraps holds carried = (wraps, holds)
+  plain_settles (instr.Null d) e wraps holds carried = (wraps, holds)
+  plain_settles (instr.Jump l) e wraps holds carried = (wraps, holds)
+  plain_settles (instr.IfEq a b l) e wraps holds carried = (wraps, holds)
+  plain_settles (instr.IfLess a b l) e wraps holds carried = (wraps, holds)
+  plain_settles (instr.IfMarked a l) e wraps holds carried = (wraps, holds)
+  plain_settles (instr.LoadRoot d x) e wraps holds carried = (wraps, holds)
+  plain_settles (instr.LoadPick d x n a) e wraps holds carried = (wraps, holds)
+  plain_settles (instr.LoadField d a f) e wraps holds carried = (wraps, holds)
+  plain_settles (instr.Put a f b) e wraps holds carried = (wraps, holds)
+  plain_settles (instr.Cas exchange l) e wraps holds carried = (wraps, holds)
+
+  -- what the instruction at which a wrap-up stands does
+  carried_here : (e : Entry) → InWrapUp e.hand → HoldsIn e e.hand.at e.hand.registers → InstrCarries (HoldsIn e) e.hand.at e.hand.registers (instr_in target e)
+  carried_here e wraps holds =
+      subst (λ (w : Bool). InstrCarries (HoldsIn e) e.hand.at e.hand.registers (instr_at target e.running.call.op w e.hand.at)) (sym wraps.0) (carries e.running.call.op e.hand.at e.hand.registers holds)
+
+  stopped_settles : (e : Entry) → InWrapUp e.hand → HoldsIn e e.hand.at e.hand.registers → Settled (stopped target sizes e).entry
+  stopped_settles e wraps holds = of (instr_in target e) (carried_here e wraps holds) where
+    of : (o : Option TargetInstr) → InstrCarries (HoldsIn e) e.hand.at e.hand.registers o → Settled (stops target sizes o e).entry
+    of None carried = (wraps, holds)
+    of (Some Check) carried = (wraps, holds)
+    of (Some (Guard r)) carried = (wraps, holds)
+    of (Some (Plain i)) carried = plain_settles i e wraps holds carried
+
+  settles_on : (spot : Spot) (e : Entry) → InWrapUp e.hand → HoldsIn e spot.at spot.registers → Settled (settles target sizes spot e).entry
+  settles_on spot e wraps holds = stopped_settles (with_hand e (hand_at e.hand (target_run (code_in target e) (length (code_in target e)) spot))) wraps
+      (subst (λ (w : Bool). let code = code_at target e.running.call.op w in let end = target_run code (length code) spot in HoldsIn e end.at end.registers) (sym wraps.0)
+      (run_carries (HoldsIn e) (code_at target e.running.call.op true) (carries e.running.call.op) (length (code_at target e.running.call.op true)) spot holds))
+
+  begun_settles : (e : Entry) → 1 ≤ number_in e.hand.started (Num 7) → Settled (method_begun target sizes true e).entry
+  begun_settles e some =
+      settles_on (first_spot true e.running.call.args e.hand.started) (with_hand e (record e.hand { wrapup = true; accessed = false })) (refl, some) (begins e.running.call.op e.hand.started some)
+
+  restarted_settles : (e : Entry) → InWrapUp e.hand → Settled (restarted target sizes e).entry
+  restarted_settles e wraps = of (restart_next target e) where
+    of : (o : Option ℕ) → Settled (restart_on target sizes o e).entry
+    of None = subst (λ (w : Bool). Settled (method_begun target sizes w e).entry) (sym wraps.0) (begun_settles e wraps.1)
+    of (Some r) = wraps
+
+  on_settles : (registers : Registers) (e : Entry) → InWrapUp e.hand → HoldsIn e (e.hand.at + 1) registers → Settled (goes_on target sizes registers e).entry
+  on_settles registers e wraps holds = settles_on (record { at = e.hand.at + 1; registers = registers }) e wraps holds
+
+  list_settles : (k : ℕ) (e : Entry) → HasEight e → Settled (list_on target sizes k e)
+  list_settles k e eight = of (nat_lt (k + 1) (length (list_of (instr_in target e)))) where
+    of : (b : Bool) → Settled (if b then with_routine e (InList (k + 1)) else list_ended target sizes (k + 1) e)
+    of true = omega arith
+    of false = ended_settles (k + 1) e eight (omega arith)
+
+  onward_settles : (go : AfterRetire) (e : Entry) → HasEight e → RetireSettles (HoldsIn e) e.hand go → Settled (onward_goes target sizes go e).entry
+  onward_settles retires.Next e eight settled = on_settles e.hand.registers e settled.0 settled.1
+  onward_settles (retires.List k) e eight settled = list_settles k e eight
+
+  retires_settles : (go : AfterRetire) (slot : ℕ) (e : Entry) → HasEight e → RetireSettles (HoldsIn e) e.hand go → Settled (retires_then target sizes go slot e).entry
+  retires_settles go zero e eight settled = onward_settles go e eight settled
+  retires_settles go (suc j) e eight settled = settled
+
+  cas_settles : (exchange : CasEntry) (l word : ℕ) (e : Entry) → HasEight e → InWrapUp e.hand → HoldsIn e (e.hand.at + 1) e.hand.registers × HoldsIn e l e.hand.registers → Settled (cas_ended target sizes exchange l word e).entry
+  cas_settles exchange l word e eight wraps both = of (succeeds exchange e.hand.registers word) where
+    of : (b : Bool) → Settled (if b then retires_then target sizes retires.Next (to_retire exchange.retire e.hand.registers) e else cas_failed target sizes l e).entry
+    of true = retires_settles retires.Next (to_retire exchange.retire e.hand.registers) e eight (wraps, both.0)
+    of false = settles_on (record { at = l; registers = e.hand.registers }) e wraps both.1
+
+  checked_settles : (word : ℕ) (e : Entry) → InWrapUp e.hand → HoldsIn e (e.hand.at + 1) e.hand.registers → Settled (checked target sizes word e).entry
+  checked_settles word e wraps holds = of (word == e.hand.seen) where
+    of : (b : Bool) → Settled (if b then check_passed target sizes e else check_failed target sizes word e).entry
+    of true = on_settles e.hand.registers (with_hand e (record e.hand { guards = pass_check e.hand.guards })) wraps holds
+    of false = restarted_settles (with_hand (with_restart e) (record e.hand { seen = word; accessed = false })) wraps
+
+  accepted_plain : (i : Instr) (word : ℕ) (e : Entry) → HasEight e → e.routine ≡ At → InWrapUp e.hand → HoldsIn e e.hand.at e.hand.registers → PlainCarries (HoldsIn e) e.hand.at e.hand.registers i
+      → Settled (plain_accepted target sizes i word e).entry
+  accepted_plain (instr.LoadRoot d x) word e eight is wraps holds carried = on_settles (with_word e.hand.registers d word) (with_access e) wraps (carried word)
+  accepted_plain (instr.LoadPick d x n a) word e eight is wraps holds carried = on_settles (with_word e.hand.registers d word) (with_access e) wraps (carried word)
+  accepted_plain (instr.LoadField d a f) word e eight is wraps holds carried = on_settles (with_word e.hand.registers d word) (with_access e) wraps (carried word)
+  accepted_plain (instr.Put a f b) word e eight is wraps holds carried = on_settles e.hand.registers e wraps carried
+  accepted_plain (instr.Cas exchange l) word e eight is wraps holds carried = cas_settles exchange l word (with_access e) eight wraps carried
+  accepted_plain (instr.Set d n) word e eight is wraps holds carried = same e At is (wraps, holds)
+  accepted_plain (instr.Mov d a) word e eight is wraps holds carried = same e At is (wraps, holds)
+  accepted_plain (instr.Add d a b) word e eight is wraps holds carried = same e At is (wraps, holds)
+  accepted_plain (instr.Sub d a b) word e eight is wraps holds carried = same e At is (wraps, holds)
+  accepted_plain (instr.Rem d a n) word e eight is wraps holds carried = same e At is (wraps, holds)
+  accepted_plain (instr.Mark d a) word e eight is wraps holds carried = same e At is (wraps, holds)
+  accepted_plain (instr.Unmark d a) word e eight is wraps holds carried = same e At is (wraps, holds)
+  accepted_plain (instr.Null d) word e eight is wraps holds carried = same e At is (wraps, holds)
+  accepted_plain (instr.Jump l) word e eight is wraps holds carried = same e At is (wraps, holds)
+  accepted_plain (instr.IfEq a b l) word e eight is wraps holds carried = same e At is (wraps, holds)
+  accepted_plain (instr.IfLess a b l) word e eight is wraps holds carried = same e At is (wraps, holds)
+  accepted_plain (instr.IfMarked a l) word e eight is wraps holds carried = same e At is (wraps, holds)
+  accepted_plain (instr.New d) word e eight is wraps holds carried = same e At is (wraps, holds)
+  accepted_plain (instr.Commit exchanges) word e eight is wraps holds carried = same e At is (wraps, holds)
+  accepted_plain (instr.Return a) word e eight is wraps holds carried = same e At is (wraps, holds)
+  accepted_plain instr.ReturnNone word e eight is wraps holds carried = same e At is (wraps, holds)
+  accepted_plain instr.Again word e eight is wraps holds carried = same e At is (wraps, holds)
+
+  accepted_instr : (o : Option TargetInstr) (word : ℕ) (e : Entry) → HasEight e → e.routine ≡ At → InWrapUp e.hand → HoldsIn e e.hand.at e.hand.registers → InstrCarries (HoldsIn e) e.hand.at e.hand.registers o
+      → Settled (instr_accepted target sizes o word e).entry
+  accepted_instr None word e eight is wraps holds carried = same e At is (wraps, holds)
+  accepted_instr (Some (Plain i)) word e eight is wraps holds carried = accepted_plain i word e eight is wraps holds carried
+  accepted_instr (Some Check) word e eight is wraps holds carried = checked_settles word e wraps carried
+  accepted_instr (Some (Guard r)) word e eight is wraps holds carried =
+      on_settles e.hand.registers (with_hand e (record e.hand { guards = with_guard e.hand.guards (register_number r) (slot_in e.hand.registers r) })) wraps carried
+
+  published_eight : (r : Reg) (e : Entry) → HasEight e → HasEight (with_published r e)
+  published_eight (Num r) e eight = eight
+  published_eight (Ref r) e eight = eight
+
+  -- an exchange of a list leaves it so where it succeeds, and else leaves the cradles
+  entry_settles : (k : ℕ) (exchange : CasEntry) (word : ℕ) (e : Entry) → HasEight e → Settled (entry_ended target sizes k exchange word e).entry ⊎ ((entry_ended target sizes k exchange word e).entry ≡ list_ended target sizes k e)
+  entry_settles k exchange word e eight = of (succeeds exchange e.hand.registers word) where
+    of : (b : Bool) → (let later = (if b then retires_then target sizes (retires.List k) (to_retire exchange.retire e.hand.registers) (with_published exchange.replacement e) else quiet (list_ended target sizes k e)).entry in
+        Settled later ⊎ (later ≡ list_ended target sizes k e))
+    of true = inl (retires_settles (retires.List k) (to_retire exchange.retire e.hand.registers) (with_published exchange.replacement e) (published_eight exchange.replacement e eight) tt)
+    of false = inr refl
+
+  list_goes : (k : ℕ) (o : Option CasEntry) (word : ℕ) (e : Entry) → HasEight e → e.routine ≡ InList k → 1 ≤ k → Settled (list_accepted target sizes k o word e).entry
+  list_goes k None word e eight is some = same e (InList k) is some
+  list_goes k (Some exchange) word e eight is some = ⊎_elim
+      (λ (t : Settled (entry_ended target sizes k exchange word e).entry). t)
+      (λ (t : (entry_ended target sizes k exchange word e).entry ≡ list_ended target sizes k e). subst Settled (sym t) (ended_settles k e eight some))
+      (entry_settles k exchange word e eight)
+
+  list_publishes : (k : ℕ) (o : Option CasEntry) (word : ℕ) (e : Entry) → HasEight e → Settled (list_accepted target sizes k o word e).entry ⊎ ((list_accepted target sizes k o word e).entry.cradles ≡ e.cradles)
+  list_publishes k None word e eight = inr refl
+  list_publishes k (Some exchange) word e eight = ⊎_elim
+      (λ (t : Settled (entry_ended target sizes k exchange word e).entry). inl t)
+      (λ (t : (entry_ended target sizes k exchange word e).entry ≡ list_ended target sizes k e). inr (ap (λ (x : Entry). x.cradles) t ∙ (ended_moves target sizes k e).0.0))
+      (entry_settles k exchange word e eight)
+
+  retired_settles : (go : AfterRetire) (o : Option Retirement) (e : Entry) → HasEight e → RetireSettles (HoldsIn e) e.hand go → Settled (retired_on target sizes go o e).entry
+  retired_settles go None e eight settled = onward_settles go (with_routine e At) eight settled
+  retired_settles go (Some retirement) e eight settled = settled
+
+  start_settles : (why : MethodStart) (word : ℕ) (e : Entry) → StartSettles e.hand why → Settled (seen_loaded target sizes why word e).entry
+  start_settles starts.Begin word e settled = absurd settled
+  start_settles starts.WrapUp word e settled = begun_settles (with_hand e (record e.hand { seen = word })) settled.1
+  start_settles starts.Again word e settled = absurd settled
+
+-- ---- each step
+
+module _ (target : Target) (setting : Setting) (Holds : ℕ → ℕ → Registers → Type 0) (begins : (op : ℕ) → Begins (Holds op)) (carries : (op : ℕ) → CodeCarries (Holds op) (code_at target op true)) where
+  abbrev Stays : Entry → Type 0
+  Stays e = Settled target setting.sizes Holds begins carries e
+
+  step_settles : (word : ℕ) (e : Entry) (routine : Routine) → HasEight e → e.routine ≡ routine → SettledAt (Holds e.running.call.op) e.hand routine → Stays (accepted target setting word e routine).entry
+  step_settles word e Idle eight is settled = same target setting.sizes Holds begins carries e Idle is tt
+  step_settles word e (LoadSeen why) eight is settled = start_settles target setting.sizes Holds begins carries why word e settled
+  step_settles word e At eight is settled = accepted_instr target setting.sizes Holds begins carries (instr_in target e) word e eight is settled.0 settled.1 (carried_here target setting.sizes Holds begins carries e settled.0 settled.1)
+  step_settles word e (InList k) eight is settled = list_goes target setting.sizes Holds begins carries k (slice_get (list_of (instr_in target e)) k) word e eight is settled
+  step_settles word e (Retires retirement go) eight is settled = retired_settles target setting.sizes Holds begins carries go (retire_accepts retirement word) e eight settled
+  step_settles word e Restarts eight is settled =
+      restarted_settles target setting.sizes Holds begins carries (with_hand e (unguarded (restart_next target e) e.hand)) (unguarded_wraps (restart_next target e) e.hand settled)
+  step_settles word e (Clears next) eight is settled =
+      cleared_settles target setting.sizes Holds begins carries next (with_hand e (unguarded (clear_next target next e) e.hand)) (unguarded_clears (clear_next target next e) e.hand next settled)
+  step_settles word e (Claims claim) eight is settled = absurd settled
+  step_settles word e (Zeroes k field) eight is settled = absurd settled
+
+  -- such a caller stays one
+  pub after_settles : (e : Entry) (word : ℕ) → length e.hand.registers.numbers ≡ 8 → Stays e → Stays (after target setting e word)
+  unfolding after
+  after_settles e word eight settled = step_settles word (counted e) e.routine eight refl settled
+
+  -- and a list's step makes one, or leaves the cradles
+  pub after_publishes : (e : Entry) (word k : ℕ) → length e.hand.registers.numbers ≡ 8 → e.routine ≡ InList k → Stays (after target setting e word) ⊎ ((after target setting e word).cradles ≡ e.cradles)
+  unfolding after
+  after_publishes e word k eight is = of e.routine is where
+    of : (routine : Routine) → routine ≡ InList k → Stays (accepted target setting word (counted e) routine).entry ⊎ ((accepted target setting word (counted e) routine).entry.cradles ≡ e.cradles)
+    of routine same = subst (λ (r : Routine). Stays (accepted target setting word (counted e) r).entry ⊎ ((accepted target setting word (counted e) r).entry.cradles ≡ e.cradles)) (sym same)
+        (list_publishes target setting.sizes Holds begins carries k (slice_get (list_of (instr_in target (counted e))) k) word (counted e) eight)

@@ -1,0 +1,29 @@
+//! Laws over every run of the shipped texts, compiled by combined checks.
+
+ghost use Rattle.shipped_claims.specs.NeverFull.{SetsAreNeverFull, QueueIsNeverFull};
+
+use barrier_compiler::laws::{second_scheme_is_barred, second_scheme_is_within};
+use queue_source::laws::queue_is_normal;
+use set_source::laws::set_is_normal;
+use text_laws::laws::shipped_are_within;
+
+/// Of a set of 1 to 64 buckets, with each setting that fits it: where the slots are at least the initial nodes and the calls of
+/// `insert` of all callers together, no caller is told that the pool is full.
+pub fn sets_are_never_full()
+    ensures { SetsAreNeverFull }
+{
+    second_scheme_is_barred();
+    second_scheme_is_within();
+    shipped_are_within();
+    set_is_normal();
+}
+
+/// Of the queue the same, with its calls of `enqueue`.
+pub fn queue_is_never_full()
+    ensures { QueueIsNeverFull }
+{
+    second_scheme_is_barred();
+    second_scheme_is_within();
+    shipped_are_within();
+    queue_is_normal();
+}

@@ -1,0 +1,5 @@
+pub mod Rising
+pub mod Staying
+pub mod Warnings
+pub mod Loading
+pub mod Passing

@@ -1,0 +1,122 @@
+-- No access lowers a warning word.
+use Rattle.std.proofs.Common.{ℕ, zero, suc, ◌≡◌, ◌≤◌, ◌+◌, max, Option, Some, None, arith, subst}
+use Rattle.std.specs.Prelude.{slice_get}
+use Rattle.norm_lang.specs.declared.text.Place.{Place}
+use Rattle.norm_lang.specs.declared.text.Place.TheVariants as places
+use Rattle.norm_lang.specs.declared.text.CasEntry.{CasEntry}
+use Rattle.norm_lang.specs.declared.text.Instr.{Instr}
+use Rattle.norm_lang.specs.declared.text.Instr.TheVariants as instr
+use Rattle.norm_lang.specs.declared.registers.Registers.{Registers}
+use Rattle.target_code.specs.declared.target.TargetInstr.{TargetInstr}
+use Rattle.target_code.specs.declared.target.TargetInstr.TheVariants.{Plain, Check, Guard}
+use Rattle.target_code.specs.declared.target.Target.{Target}
+use Rattle.norm_lang.specs.Registers.{number_in}
+use Rattle.norm_lang.specs.Local.{remainder}
+use Rattle.oa_words.specs.Words.{Word, Phase, Warning, Hazard, Status, FieldOf, Cell}
+use Rattle.core_runs.specs.Memories.{store}
+use Rattle.phase_pools.specs.declared.stages.SweepStage.{SweepStage}
+use Rattle.phase_pools.specs.declared.stages.SweepStage.TheVariants as sweeps
+use Rattle.phase_pools.specs.declared.stages.ClaimStage.{ClaimStage}
+use Rattle.phase_pools.specs.declared.stages.ClaimStage.TheVariants as claims
+use Rattle.phase_pools.specs.declared.stages.RetireStage.{RetireStage}
+use Rattle.phase_pools.specs.declared.stages.RetireStage.TheVariants as retires
+use Rattle.phase_pools.specs.Accesses.{WordAccess, Loads, word_of, word_after}
+use Rattle.phase_pools.specs.Pools.{Sweep, sweep_wants_at, claim_wants_at, retire_wants_at}
+use Rattle.caller_steps.specs.declared.routine.Routine.{Routine}
+use Rattle.caller_steps.specs.declared.routine.Routine.TheVariants.{Idle, LoadSeen, At, InList, Retires, Restarts, Clears, Claims, Zeroes}
+use Rattle.caller_steps.specs.Entries.{Entry}
+use Rattle.caller_steps.specs.Operands.{instr_in, list_of, slot_in, word_in}
+use Rattle.caller_steps.specs.Clearing.{restart_next, clear_next}
+use Rattle.caller_steps.specs.Wants.{wants, wanted, instr_wanted, plain_wanted, list_wanted, clear_wanted, exchange_wanted, place_exchange, object_exchange}
+use Rattle.sim_relation.proofs.Words.{store_idle, each_warning}
+
+abbrev Rises : WordAccess → Type 0
+Rises a = (m : Word → ℕ) (d : ℕ) → m (Warning d) ≤ store m (word_of a) (word_after a (m (word_of a))) (Warning d)
+
+abbrev AllRise : Option WordAccess → Type 0
+AllRise None = Unit {0}
+AllRise (Some a) = Rises a
+
+loads : (w : Word) → Rises (Loads w)
+loads w m d = subst (λ (k : Word → ℕ). m (Warning d) ≤ k (Warning d)) (store_idle m w) (omega arith)
+
+object : (slot f expected replacement : ℕ) → Rises (object_exchange slot f expected replacement)
+object zero f expected replacement = loads (FieldOf 0 f)
+object (suc j) f expected replacement = λ m d. omega arith
+
+place : (p : Place) (registers : Registers) (expected replacement : ℕ) → Rises (place_exchange p registers expected replacement)
+place (places.Root x) registers expected replacement = λ m d. omega arith
+place (places.Field a f) registers expected replacement = object (slot_in registers a) f expected replacement
+
+exchanges : (entry : CasEntry) (registers : Registers) → Rises (exchange_wanted entry registers)
+exchanges entry registers = place entry.place registers (word_in registers entry.expected) (word_in registers entry.replacement)
+
+plain : (i : Instr) (registers : Registers) → AllRise (plain_wanted i registers)
+plain (instr.LoadRoot d x) registers = loads (Cell x)
+plain (instr.LoadPick d x count a) registers = loads (Cell (x + remainder (number_in registers a) count))
+plain (instr.LoadField d a f) registers = loads (FieldOf (slot_in registers a) f)
+plain (instr.Put a f b) registers = λ m d. omega arith
+plain (instr.Cas exchange l) registers = exchanges exchange registers
+plain (instr.Set d n) registers = tt
+plain (instr.Mov d a) registers = tt
+plain (instr.Add d a b) registers = tt
+plain (instr.Sub d a b) registers = tt
+plain (instr.Rem d a n) registers = tt
+plain (instr.Mark d a) registers = tt
+plain (instr.Unmark d a) registers = tt
+plain (instr.Null d) registers = tt
+plain (instr.Jump l) registers = tt
+plain (instr.IfEq a b l) registers = tt
+plain (instr.IfLess a b l) registers = tt
+plain (instr.IfMarked a l) registers = tt
+plain (instr.New d) registers = tt
+plain (instr.Commit entries) registers = tt
+plain (instr.Return a) registers = tt
+plain instr.ReturnNone registers = tt
+plain instr.Again registers = tt
+
+by_instr : (c : ℕ) (o : Option TargetInstr) (registers : Registers) → AllRise (instr_wanted c o registers)
+by_instr c None registers = tt
+by_instr c (Some (Plain i)) registers = plain i registers
+by_instr c (Some Check) registers = loads (Warning c)
+by_instr c (Some (Guard r)) registers = λ m d. omega arith
+
+by_entry : (o : Option CasEntry) (registers : Registers) → AllRise (list_wanted o registers)
+by_entry None registers = tt
+by_entry (Some entry) registers = exchanges entry registers
+
+clears : (c : ℕ) (o : Option ℕ) → AllRise (clear_wanted c o)
+clears c None = tt
+clears c (Some r) = λ m d. omega arith
+
+by_sweep : (stage : SweepStage) (bound : ℕ) → Rises (sweep_wants_at stage bound)
+by_sweep sweeps.ReadPhase bound = loads Phase
+by_sweep (sweeps.RaisePhase p) bound = λ m d. omega arith
+by_sweep (sweeps.Warn c) bound = λ m d. each_warning (λ i n. m (Warning i) ≤ n) m c (max (m (Warning c)) bound) (omega arith) (λ i ne. omega arith) d
+by_sweep (sweeps.ReadHazard c r) bound = loads (Hazard c r)
+by_sweep (sweeps.ReadStatus j) bound = loads (Status j)
+by_sweep (sweeps.MakeReady j q) bound = λ m d. omega arith
+
+by_claim : (sweep : Sweep) (stage : ClaimStage) → Rises (claim_wants_at sweep stage)
+by_claim sweep (claims.ReadStatus j) = loads (Status j)
+by_claim sweep (claims.Take j q) = λ m d. omega arith
+by_claim sweep claims.Sweeps = by_sweep sweep.stage sweep.bound
+
+by_retirement : (slot : ℕ) (stage : RetireStage) → Rises (retire_wants_at slot stage)
+by_retirement slot retires.ReadPhase = loads Phase
+by_retirement slot (retires.StoreStatus p) = λ m d. omega arith
+
+by_routine : (target : Target) (e : Entry) (r : Routine) → AllRise (wanted target e r)
+by_routine target e Idle = tt
+by_routine target e (LoadSeen why) = loads (Warning e.number)
+by_routine target e At = by_instr e.number (instr_in target e) e.hand.registers
+by_routine target e (InList k) = by_entry (slice_get (list_of (instr_in target e)) k) e.hand.registers
+by_routine target e (Retires retirement go) = by_retirement retirement.slot retirement.stage
+by_routine target e Restarts = clears e.number (restart_next target e)
+by_routine target e (Clears next) = clears e.number (clear_next target next e)
+by_routine target e (Claims claim) = by_claim claim.sweep claim.stage
+by_routine target e (Zeroes k field) = λ m d. omega arith
+
+pub warnings_rise : (target : Target) (e : Entry) (a : WordAccess) → wants target e ≡ Some a → (m : Word → ℕ) (d : ℕ) → m (Warning d) ≤ store m (word_of a) (word_after a (m (word_of a))) (Warning d)
+unfolding wants
+warnings_rise target e a is = subst AllRise is (by_routine target e e.routine)

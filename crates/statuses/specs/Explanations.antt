@@ -1,0 +1,103 @@
+-- What the program says on standard error, for a person, beside the line that it writes on standard output.
+use Rattle.std.specs.Prelude.{ℕ, Bool, true, false, List, [], ◌++◌, codes, decimal, nat_lt, ◌==◌, if◌then◌else◌}
+use Rattle.norm_check.specs.declared.refusal.Refusal.{Refusal}
+use Rattle.statuses.specs.declared.status.Status.{Status}
+use Rattle.statuses.specs.declared.status.Status.TheVariants.{Done, Partial, Usage, ReadFault, LongInput, BadDocument, Refused, BadShape, WriteFault, Memory}
+
+-- what is wrong with a line, by the number of its fault
+unfoldable pub fault_words : ℕ → List ℕ
+fault_words fault =
+    if fault == 1 then codes "it has a byte other than a tab and those from space to ~"
+    else (if fault == 2 then codes "a number in it is greater than 18446744073709551615"
+    else (if fault == 3 then codes "it has more than 200 bytes"
+    else (if fault == 4 then codes "its words make no line that may stand there, or a further line must follow"
+    else (if fault == 5 then codes "it names a field, a root or an initial node that is not declared"
+    else (if fault == 6 then codes "it declares a name that is declared already"
+    else (if fault == 7 then codes "it passes a limit, such as how many lines of its kind there may be"
+    else codes "it is not as the language has it"))))))
+
+-- a rule of the normal form, by its number
+unfoldable pub rule_words : ℕ → List ℕ
+rule_words rule =
+    if rule == 1 then codes "each register has the kind that its place needs"
+    else (if rule == 2 then codes "references are not computed with"
+    else (if rule == 3 then codes "each new is made once"
+    else (if rule == 4 then codes "a put writes into a fresh node"
+    else (if rule == 5 then codes "an auxiliary exchange shows no fresh node"
+    else (if rule == 6 then codes "a fresh node has one register and one way out"
+    else (if rule == 7 then codes "each cycle looks at shared memory"
+    else (if rule == 8 then codes "each method ends as it must"
+    else (if rule == 9 then codes "a wrap-up leaves kept registers as they are"
+    else (if rule == 10 then codes "no way leads on from a kept register"
+    else (if rule == 11 then codes "a wrap-up exchanges no kept register"
+    else (if rule == 12 then codes "an exchange retires what it cut off"
+    else (if rule == 13 then codes "jumps and picks stay inside"
+    else (if rule == 14 then codes "a register is set before it is read"
+    else codes "it is not in normal form")))))))))))))
+
+-- what is wrong with a document's shape, by its number
+unfoldable pub shape_words : ℕ → List ℕ
+shape_words number =
+    if number == 1 then codes "it needs 1 to 8 scripts"
+    else (if number == 2 then codes "its slots are not 1 to 4096"
+    else (if number == 3 then codes "its nodes do not have 1 to 4 fields"
+    else (if number == 4 then codes "it does not have 1 to 256 roots"
+    else (if number == 5 then codes "it has more initial nodes than slots"
+    else (if number == 6 then codes "its phases do not begin at 1 or later and end no earlier, at 2305843009213693952 or before"
+    else (if number == 7 then codes "its fuel is not 1 to 1000000000"
+    else (if number == 8 then codes "its text has no operation of that name"
+    else (if number == 9 then codes "the operation has another count of arguments"
+    else (if number == 10 then codes "a turn of the schedule needs a step of a caller that has none to make"
+    else (if number == 11 then codes "a replay has no more steps than these"
+    else codes "its shape is not as the language has it"))))))))))
+
+-- the methods of an operation
+abbrev pub method_words : Bool → List ℕ
+method_words false = codes " of the generator"
+method_words true = codes " of the wrap-up"
+
+-- the line that is at fault, what is wrong with it, and where to read on
+abbrev pub fault_sentence : ℕ → ℕ → List ℕ
+fault_sentence line fault =
+    codes "oa: line " ++ (decimal line ++ (codes " is at fault: " ++ (fault_words fault ++ codes ". See 'Faults' in docs/language.md.\n")))
+
+-- the rule that is broken, where, and where to read on
+abbrev pub refusal_sentence : Refusal → List ℕ
+refusal_sentence refusal =
+    codes "oa: the text breaks rule N" ++ (decimal refusal.rule ++ (codes ": " ++ (rule_words refusal.rule
+    ++ (codes ". It does so at instruction " ++ (decimal refusal.at ++ (method_words refusal.wrapup
+    ++ (codes ", counted from 0. See 'N" ++ (decimal refusal.rule ++ codes "' in docs/language.md.\n"))))))))
+
+-- how the place of a fault of shape is told: the document as a whole, a call's line, or how many steps were made
+unfoldable pub place_before : ℕ → List ℕ
+place_before number =
+    if nat_lt number 8 then codes "oa: the document cannot be run: "
+    else (if nat_lt number 10 then codes "oa: line "
+    else codes "oa: the replay stopped after ")
+
+unfoldable pub place_number : ℕ → ℕ → List ℕ
+place_number number at = if nat_lt number 8 then [] else decimal at
+
+unfoldable pub place_after : ℕ → List ℕ
+place_after number =
+    if nat_lt number 8 then []
+    else (if nat_lt number 10 then codes " calls what cannot be called: "
+    else codes " steps: ")
+
+-- where, what is wrong there, and where to read on
+abbrev pub shape_sentence : ℕ → ℕ → List ℕ
+shape_sentence number at =
+    place_before number ++ (place_number number at ++ (place_after number ++ (shape_words number ++ codes ". See 'What can be run' in docs/language.md.\n")))
+
+-- the sentence on a status; where all went well there is none
+abbrev pub explanation : Status → List ℕ
+explanation Done = []
+explanation Partial = codes "oa: a call has no answer. It is full where it swept twice and found no slot for a new node, phases where the last phase was over, and spent where it ran out of fuel, which is how many steps may be made for one call, so that the calls after it were not reached. See 'The answers' in docs/language.md.\n"
+explanation Usage = codes "oa: usage: oa COMMAND < DOCUMENT, where the command is one of run (make the document's calls, and write their answers), replay (make them with the steps in the order of the document's schedule), check (say whether its text is in normal form), show (write its text in the canonical spelling) and compile (write what its text compiles to); or oa workload N C, which reads nothing (make N calls on a hash set, 1 to 100000, and before that up to 2000 of them by each of C callers, 1 to 8, and count the answers). The language of documents is in docs/language.md.\n"
+explanation ReadFault = codes "oa: standard input could not be read to its end, so there is no document to judge.\n"
+explanation LongInput = codes "oa: the input is longer than 1048576 bytes, which is the most that a document may have.\n"
+explanation (BadDocument line fault) = fault_sentence line fault
+explanation (Refused refusal) = refusal_sentence refusal
+explanation (BadShape number at) = shape_sentence number at
+explanation WriteFault = codes "oa: standard output could not be written to its end, so what stands there may be cut short.\n"
+explanation Memory = codes "oa: memory ran out before there was an answer. A shorter document or a smaller workload needs less.\n"

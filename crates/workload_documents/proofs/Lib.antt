@@ -1,0 +1,2 @@
+mod Sequence
+mod Runnable

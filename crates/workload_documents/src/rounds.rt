@@ -1,0 +1,70 @@
+//! The keys of a caller, round by round.
+
+ghost use Rattle.std.specs.Prelude.{◌≡◌, ◌<◌, ◌+◌, ◌/◌};
+ghost use Rattle.workload_documents.specs.Workload.{next_seed, seed_at, key_from};
+ghost use Rattle.workload_documents.specs.Rounds.{round_at};
+
+/// A round of a caller: its number of the sequence, its key, and the key of the round before.
+#[derive(Clone, Copy, Debug, PartialEq, Eq)]
+pub(crate) struct Round {
+    seed: u64,
+    pub(crate) key: u64,
+    pub(crate) before: u64,
+}
+
+/// The number after a number of the sequence.
+fn next_seed(seed: u64) -> u64
+    requires { seed < 65537 }
+    ensures { result ≡ next_seed seed }
+{
+    (75 * seed + 74) % 65537
+}
+
+/// The key that a number of the sequence gives a caller.
+fn key_from(caller: u32, seed: u64) -> u64
+    ensures { result ≡ key_from caller seed }
+{
+    1000 * (caller as u64) + seed % 50
+}
+
+/// The first round, whose own key stands for the one before.
+pub(crate) fn first_round(caller: u32) -> Round
+    ensures { result ≡ round_at caller 0 }
+{
+    let seed = caller as u64 + 1;
+    let key = key_from(caller, seed);
+    Round {
+        seed,
+        key,
+        before: key,
+    }
+}
+
+/// The round after a round.
+#[tactic(auto, using(crate::proofs::Sequence::seed_below, crate::proofs::Sequence::round_next))]
+fn next_round(caller: u32, j: u32, round: Round) -> Round
+    requires caller { caller < 8 }
+    requires round { round ≡ round_at caller j }
+    ensures { result ≡ round_at caller (j + 1) }
+{
+    let seed = next_seed(round.seed);
+    Round {
+        seed,
+        key: key_from(caller, seed),
+        before: round.key,
+    }
+}
+
+/// The round of the call after call `i`, whose own round is given.
+#[tactic(auto, using(crate::proofs::Sequence::next_in_round))]
+pub(crate) fn round_after(caller: u32, i: u32, round: Round) -> Round
+    requires caller { caller < 8 }
+    requires round { round ≡ round_at caller (i / 4) }
+    ensures { result ≡ round_at caller ((i + 1) / 4) }
+{
+    if i % 4 == 3 {
+        next_round(caller, i / 4, round)
+    } else {
+        round
+    }
+}
