@@ -147,8 +147,24 @@ static void change(void) {
   }
 }
 
-enum { RUN, REPLAY, CHECK, SHOW, COMPILE, COMMANDS };
-static const char *const commands[] = {"run", "replay", "check", "show", "compile"};
+enum { RUN, REPLAY, CHECK, SHOW, COMPILE, WORKLOAD, COMMANDS };
+static const char *const commands[] = {"run", "replay", "check", "show", "compile", "workload"};
+
+/* Words that may stand after `workload`, those that its grammar has first. */
+enum { GOOD_COUNTS = 5, GOOD_CALLERS = 4, WORDS = 10 };
+static const char *const counts[WORDS] = {"1", "2", "8", "40", "101", "0", "100001", "008", "18446744073709551617", ""};
+static const char *const callers[WORDS] = {"1", "2", "3", "8", "0", "9", "02", "-1", "18446744073709551617", "2 "};
+
+/* The words of the call, with a null after the last; answers whether they are in the grammar. */
+static int draw_words(int command, char **call) {
+  call[1] = (char *)commands[command];
+  call[2] = NULL;
+  if (command != WORKLOAD) return 1;
+  size_t count = drawn(2) ? drawn(GOOD_COUNTS) : drawn(WORDS), caller = drawn(2) ? drawn(GOOD_CALLERS) : drawn(WORDS), size = drawn(8) ? 4 : 1 + drawn(5);
+  call[2] = (char *)counts[count], call[3] = (char *)callers[caller], call[4] = (char *)counts[0];
+  call[size] = NULL;
+  return size == 4 && count < GOOD_COUNTS && caller < GOOD_CALLERS;
+}
 
 static int begins(const char *said, const char *with) { return strncmp(said, with, strlen(with)) == 0; }
 static const char *last_line(const char *said) {
@@ -158,13 +174,15 @@ static const char *last_line(const char *said) {
   return said + size;
 }
 
-static regex_t fault_line, refusal_line, shape_line, done_line, partial_line;
+static regex_t fault_line, refusal_line, shape_line, done_line, partial_line, workload_lines;
 static int matches(const regex_t *form, const char *line) { return regexec(form, line, 0, NULL, 0) == 0; }
 
 /* whether a status may come of the command, with what was written beside it */
-static int is_in_table(int command, int status, const char *said, int explained) {
+static int is_in_table(int command, int is_right, int status, const char *said, int explained) {
   int runs = command == RUN || command == REPLAY;
   if (explained != (status != 0)) return 0;
+  if (!is_right) return status == 2 && strcmp(said, "usage\n") == 0;
+  if (command == WORKLOAD) return status == 0 && matches(&workload_lines, said); /* the document is left unread */
   switch (status) {
   case 0:
     return runs ? matches(&done_line, last_line(said)) : command == CHECK ? strcmp(said, "accepted\n") == 0
@@ -173,7 +191,7 @@ static int is_in_table(int command, int status, const char *said, int explained)
   case 5: return matches(&fault_line, said);
   case 6: return command != SHOW && matches(&refusal_line, said);
   case 7: return runs && matches(&shape_line, said);
-  default: return 0; /* the words are right, the input is short and whole, and there is memory */
+  default: return 0; /* the input is short and whole, and there is memory */
   }
 }
 
@@ -223,6 +241,8 @@ int main(int argc, char **argv) {
   compiled(&shape_line, "^shape ([1-9]|1[01]) at (0|[1-9][0-9]*)\n$");
   compiled(&done_line, "^replies [0-9]+ short 0 phase [0-9]+ claims [0-9]+ restarts [0-9]+\n$");
   compiled(&partial_line, "^replies [0-9]+ short [1-9][0-9]* phase [0-9]+ claims [0-9]+ restarts [0-9]+\n$");
+  compiled(&workload_lines, "^part 1 callers [1-8] operations [0-9]+ ones [0-9]+ zeros [0-9]+ short 0\n"
+                            "part 2 operations [0-9]+ ones [0-9]+ zeros [0-9]+ short 0 phase [0-9]+ claims [0-9]+ restarts [0-9]+\n$");
   int in = memory_file("in"), out = memory_file("out"), err = memory_file("err");
   posix_spawn_file_actions_t files;
   posix_spawn_file_actions_init(&files);
@@ -242,10 +262,11 @@ int main(int argc, char **argv) {
     size_t base = drawn(drawn(4) ? count_of_good : count_of_documents);
     memcpy(text, documents[base], length = lengths[base]);
     for (uint64_t changes = drawn(2) ? 1 : 1 + drawn(4); changes > 0; changes--) change();
-    int command = (int)drawn(COMMANDS), raw;
+    int command = drawn(16) ? (int)drawn(WORKLOAD) : WORKLOAD, raw;
     if (ftruncate(in, 0) || ftruncate(out, 0) || ftruncate(err, 0) || pwrite(in, text, length, 0) != (ssize_t)length) return perror("memfd"), 2;
     lseek(in, 0, SEEK_SET), lseek(out, 0, SEEK_SET), lseek(err, 0, SEEK_SET);
-    char *call[] = {program, (char *)commands[command], NULL};
+    char *call[6] = {program};
+    int is_right = draw_words(command, call);
     pid_t id;
     if (posix_spawn(&id, program, &files, &how, call, environ) != 0) return perror(program), 2;
     struct timespec patience = {PATIENCE, 0};
@@ -262,7 +283,7 @@ int main(int argc, char **argv) {
     tally[status < 15 ? status : 15][command]++;
     struct stat told;
     fstat(err, &told);
-    if (status > 9 || (size_t)size != strlen(said) || !is_in_table(command, status, said, told.st_size > 0)) bad++, tell_failure(number, commands[command], raw, said);
+    if (status > 9 || (size_t)size != strlen(said) || !is_in_table(command, is_right, status, said, told.st_size > 0)) bad++, tell_failure(number, commands[command], raw, said);
   }
   printf("%llu documents, seed %s, %zu to begin with\nstatus", (unsigned long long)wanted, argv[3], count_of_documents);
   for (int command = 0; command < COMMANDS; command++) printf(" %s", commands[command]);

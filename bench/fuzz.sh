@@ -1,9 +1,10 @@
 #!/usr/bin/env bash
 # Runs the program on documents that are made from the examples and from the texts and documents of reader_rows' rows by one to four small changes
 # each, with one of `run`, `replay`, `check`, `show` and `compile`, and looks whether it ends with a status of README's table, with the line on
-# standard output and a sentence on standard error as that status has them. `bench/fuzz.sh COUNT SEED` makes COUNT documents, a million if there is
-# no number; a seed gives the same documents again. It writes how often which status came, and keeps a document that shows anything else as
-# fuzz-NUMBER.oa where it is called. It needs gcc and the proved program (`./prove`).
+# standard output and a sentence on standard error as that status has them. One call in sixteen is a `workload`, with numbers and words that may be
+# wrong; it leaves its document unread. `bench/fuzz.sh COUNT SEED` makes COUNT documents, a million if there is no number; a seed gives the same
+# documents again. It writes how often which status came, and keeps a document that shows anything else as fuzz-NUMBER.oa where it is called. It needs
+# gcc and the proved program (`./prove`).
 set -eu
 top=$(cd "$(dirname "$0")/.." && pwd)
 "$top/prove" --is-ready || { echo "the proved program isn't there: run ./prove first" >&2; exit 2; }

@@ -1,20 +1,27 @@
 #!/usr/bin/env python3
 """Runs small random documents of the set and the queue on threads, and looks for one legal order of their calls.
 
-usage: bench/histories.py [SECONDS [PROGRAM [SEED]]]
+usage: bench/histories.py [SECONDS [PROGRAM [SEED [JUDGE]]]]
 
-Eight callers share a row with few slots to spare. In a third of the documents calls have little fuel, so that callers stop in the middle
-of a call and stand still, with the guards and cradles that they have, while the others go on. A run is legal where the calls can be put in one
-order, each caller's in its own, in which each reply is that of a set or of a queue. A call that is printed as `spent` may have had its
-effect or not; one that is `full`, `phases` or `unreached` has none. The status is 1 where a run has no such order, or answers anything else. Where too many
-orders would have to be looked at, the run is left open, and counted.
+Eight callers share a row with few slots to spare, three in most documents. In a third of them calls have little fuel, so that callers stop in the
+middle of a call and stand still, with the guards and cradles that they have, while the others go on. A run is legal where the calls can be put in one
+order, each caller's in its own, in which each reply is that of a set or of a queue. A call that is printed as `spent` may have had its effect or
+not; one that is `full`, `phases` or `unreached` has none.
+
+Half of the documents have ten calls at most. Their runs are judged by the proved program `history_rows` (JUDGE), and by the search of this script as
+well; larger ones by that search alone. The status is 1 where a run has no legal order, answers anything else, or is judged otherwise by the one than by the
+other. Where too many orders would have to be looked at, the run is left open, and counted.
 """
+import os
 import random
 import subprocess
 import sys
 import time
 
 CALLERS = 8
+
+# The proved program judges no history of more calls.
+MOST_JUDGED = 10
 
 # A search that comes to more states is left open, and counted.
 MOST_STATES = 200_000
@@ -23,27 +30,38 @@ MOST_STATES = 200_000
 def a_set(random):
     buckets = random.choice([1, 1, 2])
     keys = [random.randrange(1, 5) for _ in range(3)]
-    calls = lambda: [(random.choice(["insert", "insert", "remove", "contains"]), random.choice(keys)) for _ in range(random.randrange(1, 4))]
-    return "list" if buckets == 1 else f"set {buckets}", buckets, calls
+    call = lambda: (random.choice(["insert", "insert", "remove", "contains"]), random.choice(keys))
+    return "list" if buckets == 1 else f"set {buckets}", buckets, 3, call
 
 
 def a_queue(random):
     number = iter(range(1, 1000))
-    calls = lambda: [("enqueue", next(number)) if random.random() < 0.55 else ("dequeue", None) for _ in range(random.randrange(1, 3))]
-    return "queue", 1, calls
+    call = lambda: ("enqueue", next(number)) if random.random() < 0.55 else ("dequeue", None)
+    return "queue", 1, 2, call
+
+
+def counts(random, most):
+    """Returns how many calls each caller makes: in half of the documents ten together at most."""
+    if random.random() < 0.5:
+        found = [1] * CALLERS
+        for _ in range(random.randrange(MOST_JUDGED - CALLERS + 1)):
+            found[random.randrange(CALLERS)] += 1
+        return found
+    return [random.randrange(1, most + 1) for _ in range(CALLERS)]
 
 
 def document(random):
     kind = random.choice([a_set, a_queue])
-    text, nodes, calls = kind(random)
-    scripts = [calls() for _ in range(CALLERS)]
+    text, nodes, most, call = kind(random)
+    scripts = [[call() for _ in range(count)] for count in counts(random, most)]
     adds = sum(name in ("insert", "enqueue") for script in scripts for name, _ in script)
-    lines = ["oa 1", f"use {text}", f"slots {nodes + random.choice([1, 3, 3, adds])}"]
+    slots = random.choice([3, 3, 3, nodes + 1, nodes + adds])
+    lines = ["oa 1", f"use {text}", f"slots {slots}"]
     if random.random() < 0.33:
         lines.append(f"fuel {random.randrange(4, 60)}")
     for number, script in enumerate(scripts):
         lines.append(f"script {number}")
-        lines += [name if key is None else f"{name} {key}" for name, key in script]
+        lines += [spelled(*call) for call in script]
     return text == "queue", scripts, "\n".join(lines) + "\n"
 
 
@@ -97,6 +115,19 @@ def is_legal(is_queue, scripts, answers):
     return False
 
 
+def spelled(name, key):
+    return name if key is None else f"{name} {key}"
+
+
+def is_legal_by(judge, is_queue, scripts, answers):
+    """Returns what the proved program says of a small history."""
+    parts = (", ".join(f"{spelled(*call)}: {answer}" for call, answer in zip(*both)) for both in zip(scripts, answers))
+    row = " | ".join(["queue" if is_queue else "set", *parts])
+    said = subprocess.run([judge], input=row.encode() + b"\n", capture_output=True, timeout=600).stdout.decode().splitlines()
+    assert said[:1] == [row] and said[1:] in (["legal"], ["no legal order"]), said
+    return said[1] == "legal"
+
+
 def answers_in(output, scripts):
     """Returns the answers by caller and call, or None where the lines aren't those of the scripts."""
     lines = iter(output.splitlines())
@@ -104,7 +135,7 @@ def answers_in(output, scripts):
     for caller, script in enumerate(scripts):
         found.append([])
         for index, (name, key) in enumerate(script):
-            called = f"{caller} {index} {name}" + ("" if key is None else f" {key}") + ": "
+            called = f"{caller} {index} {spelled(name, key)}: "
             line = next(lines, "")
             if not line.startswith(called):
                 return None
@@ -116,21 +147,33 @@ def main():
     seconds = float(sys.argv[1]) if len(sys.argv) > 1 else 60
     program = sys.argv[2] if len(sys.argv) > 2 else "crates/oa/out/oa"
     seed = int(sys.argv[3]) if len(sys.argv) > 3 else time.time_ns()
-    source, end, runs, stopped, full, unsettled = random.Random(seed), time.monotonic() + seconds, 0, 0, 0, 0
+    judge = sys.argv[4] if len(sys.argv) > 4 else "crates/history_rows/out/history_rows"
+    for needed in (program, judge):
+        if not os.access(needed, os.X_OK):
+            print(f"{needed} isn't there: the gate makes it, or `rt run` in its crate's folder", file=sys.stderr)
+            return 2
+    source, end, runs, three, judged, stopped, full, unsettled = random.Random(seed), time.monotonic() + seconds, 0, 0, 0, 0, 0, 0
     while time.monotonic() < end:
         is_queue, scripts, text = document(source)
-        run = subprocess.run([program, "run"], input=text.encode(), capture_output=True, timeout=60)
+        run = subprocess.run([program, "run"], input=text.encode(), capture_output=True, timeout=600)
         answers = answers_in(run.stdout.decode(), scripts)
         legal = answers is not None and is_legal(is_queue, scripts, answers)
-        if run.returncode not in (0, 1) or legal is False:
-            print(f"no legal order (seed {seed}, run {runs}, status {run.returncode}):\n{text}{run.stdout.decode()}", end="")
+        is_small = answers is not None and sum(map(len, scripts)) <= MOST_JUDGED
+        agreed = not is_small or is_legal_by(judge, is_queue, scripts, answers) == legal
+        if run.returncode not in (0, 1) or legal is False or not agreed:
+            why = "no legal order" if agreed else "judged otherwise by the proved program"
+            print(f"{why} (seed {seed}, run {runs}, status {run.returncode}):\n{text}{run.stdout.decode()}", end="")
             return 1
         runs += 1
+        three += "\nslots 3\n" in text
+        judged += is_small
         unsettled += legal is None
         stopped += any(it == "spent" for own in answers for it in own)
         full += any(it == "full" for own in answers for it in own)
-    print(f"{runs} runs, {unsettled} of them not settled, and each other with a legal order; in {stopped} a caller stopped in a call, in {full} one found the row full (seed {seed})")
+    print(f"{runs} runs, {three} of them with three slots; {unsettled} not settled, and each other with a legal order, {judged} by the proved program;"
+          f" in {stopped} a caller stopped in a call, in {full} one found the row full (seed {seed})")
     return 0
 
 
-sys.exit(main())
+if __name__ == "__main__":
+    sys.exit(main())

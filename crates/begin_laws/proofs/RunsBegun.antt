@@ -7,8 +7,8 @@ use Rattle.target_code.specs.declared.target.Target.{Target}
 use Rattle.source_machine.specs.declared.event.SourceEvent.{SourceEvent}
 use Rattle.source_machine.specs.declared.event.SourceEvent.TheVariants as events
 use Rattle.source_machine.specs.Run.{is_enabled}
-use Rattle.caller_steps.specs.declared.call.Call.{Call}
-use Rattle.caller_steps.specs.Settings.{Setting}
+use Rattle.caller_parts.specs.declared.call.Call.{Call}
+use Rattle.caller_parts.specs.Settings.{Setting}
 use Rattle.caller_steps.specs.Entries.{Entry, idle_entry, is_idle}
 use Rattle.caller_steps.specs.Signs.{Sign, Begins, Accesses, Draws, Renews, GivesUp}
 use Rattle.core_runs.specs.Machine.{CoreState, CoreEvent, core_event, core_run, core_start, run_on, idle_from, OfAll}

@@ -5,15 +5,15 @@ use Rattle.std.proofs.lemmas.List.{append-nil, map-append, take_all}
 use Rattle.std.specs.Prelude.{slice_get}
 use Rattle.norm_lang.specs.declared.text.Text.{Text}
 use Rattle.target_code.specs.declared.target.Target.{Target}
-use Rattle.caller_steps.specs.declared.call.Call.{Call}
-use Rattle.caller_steps.specs.declared.call.Replied.{Replied}
-use Rattle.caller_steps.specs.declared.call.Running.{Running}
-use Rattle.caller_steps.specs.Pairing.{run_of}
-use Rattle.caller_steps.specs.Settings.{Setting}
+use Rattle.caller_parts.specs.declared.call.Call.{Call}
+use Rattle.caller_parts.specs.declared.call.Replied.{Replied}
+use Rattle.caller_parts.specs.declared.call.Running.{Running}
+use Rattle.caller_parts.specs.Pairing.{run_of}
+use Rattle.caller_parts.specs.Settings.{Setting}
 use Rattle.caller_steps.specs.Entries.{Entry, is_idle}
 use Rattle.core_runs.specs.Machine.{CoreState, CoreEvent, core_start, OfAll}
 use Rattle.core_runs.specs.Histories.{running_of, calls_of, calls_in}
-use Rattle.core_runs.specs.Scripts.{IsComplete, script_of, AreOfScript, last_steps, HasEnded}
+use Rattle.core_runs.specs.Scripts.{IsCompleteRun, script_of, AreOfScript, last_steps, HasEnded}
 use Rattle.core_runs.proofs.Keeping.{kept_calls, run_count, idle_within}
 use Rattle.oa_simulation.specs.Shadow.{image}
 use Rattle.begin_laws.specs.Begins.{begun_in, call_replied, started_of, started, BeginsScript, ScriptsBegin}
@@ -42,7 +42,7 @@ count_of [] r = refl
 count_of (x ∷ xs) r = let more = count_of xs r in omega (arith, more)
 
 module _ (target : Target) (text : Text) (setting : Setting) (scripts : List (List Call)) (fuel : ℕ) (events : List CoreEvent) (state : CoreState) (some : 1 ≤ fuel)
-    (complete : IsComplete target setting scripts fuel events state) (c : ℕ) (e : Entry) (there : slice_get state.entries c ≡ Some e) where
+    (complete : IsCompleteRun target setting scripts fuel events state) (c : ℕ) (e : Entry) (there : slice_get state.entries c ≡ Some e) where
   kept : calls_of e ≡ calls_in c events
   kept = kept_calls target setting events state c e complete.run.runs there
 

@@ -14,13 +14,13 @@ use Rattle.source_machine.specs.declared.event.SourceEvent.{SourceEvent}
 use Rattle.source_machine.specs.declared.event.SourceEvent.TheVariants.{Begin, Access, Restart}
 use Rattle.source_machine.specs.declared.event.SourceReply.TheVariants as source_reply
 use Rattle.source_machine.specs.Run.{source_replies as replies_there}
-use Rattle.caller_steps.specs.declared.call.Reply.{Reply}
-use Rattle.caller_steps.specs.declared.call.Reply.TheVariants as replies
-use Rattle.caller_steps.specs.declared.routine.Routine.{Routine}
-use Rattle.caller_steps.specs.declared.routine.Routine.TheVariants.{Clears}
-use Rattle.caller_steps.specs.declared.routine.AfterClear.TheVariants as clears
-use Rattle.caller_steps.specs.Pairing.{reply_of}
-use Rattle.caller_steps.specs.Settings.{Setting}
+use Rattle.caller_parts.specs.declared.call.Reply.{Reply}
+use Rattle.caller_parts.specs.declared.call.Reply.TheVariants as replies
+use Rattle.caller_parts.specs.declared.routine.Routine.{Routine}
+use Rattle.caller_parts.specs.declared.routine.Routine.TheVariants.{Clears}
+use Rattle.caller_parts.specs.declared.routine.AfterClear.TheVariants as clears
+use Rattle.caller_parts.specs.Pairing.{reply_of}
+use Rattle.caller_parts.specs.Settings.{Setting}
 use Rattle.caller_steps.specs.Entries.{Entry}
 use Rattle.caller_steps.specs.Wants.{wants}
 use Rattle.caller_steps.specs.After.{after, signs}

@@ -4,13 +4,13 @@ use Rattle.norm_lang.specs.declared.text.Text.{Text}
 use Rattle.target_code.specs.declared.target.Target.{Target}
 use Rattle.source_machine.specs.declared.event.SourceEvent.{SourceEvent}
 use Rattle.source_machine.specs.declared.event.SourceEvent.TheVariants as events
-use Rattle.caller_steps.specs.declared.call.Call.{Call}
-use Rattle.caller_steps.specs.declared.call.Replied.{Replied}
-use Rattle.caller_steps.specs.declared.call.Running.{Running}
-use Rattle.caller_steps.specs.Settings.{Setting}
+use Rattle.caller_parts.specs.declared.call.Call.{Call}
+use Rattle.caller_parts.specs.declared.call.Replied.{Replied}
+use Rattle.caller_parts.specs.declared.call.Running.{Running}
+use Rattle.caller_parts.specs.Settings.{Setting}
 use Rattle.caller_steps.specs.Entries.{Entry, is_idle}
 use Rattle.core_runs.specs.Machine.{CoreState, CoreEvent, core_run, core_start}
-use Rattle.core_runs.specs.Scripts.{IsComplete, script_of}
+use Rattle.core_runs.specs.Scripts.{IsCompleteRun, script_of}
 use Rattle.oa_simulation.specs.Shadow.{image}
 
 -- the calls that events begin for a caller, in order
@@ -56,4 +56,4 @@ BeginsOfScripts target text setting scripts events state = (c : ℕ) (e : Entry)
 -- in the image of a complete run, with fuel for a step at least
 pub record ScriptsBegin (target : Target) (setting : Setting) : Type 0 where
   pub each : (text : Text) (scripts : List (List Call)) (fuel : ℕ) (events : List CoreEvent) (state : CoreState) → 1 ≤ fuel
-      → IsComplete target setting scripts fuel events state → BeginsOfScripts target text setting scripts events state
+      → IsCompleteRun target setting scripts fuel events state → BeginsOfScripts target text setting scripts events state

@@ -6,11 +6,10 @@ use Rattle.guard_words.specs.Guards.{no_guards, guard_at}
 use Rattle.guard_words.proofs.Rows.{guards_follow}
 use Rattle.target_code.specs.declared.target.TargetOp.{TargetOp}
 use Rattle.target_code.specs.declared.target.Target.{Target}
-use Rattle.caller_steps.specs.declared.call.Call.{Call}
-use Rattle.caller_steps.specs.Calls.{is_call, is_call_of}
-use Rattle.caller_steps.specs.Settings.{Setting}
-use Rattle.caller_steps.specs.Entries.{Entry, idle_entry}
-use Rattle.caller_steps.specs.Operands.{code_in}
+use Rattle.caller_parts.specs.declared.call.Call.{Call}
+use Rattle.caller_parts.specs.Calls.{is_call, is_call_of}
+use Rattle.caller_parts.specs.Settings.{Setting}
+use Rattle.caller_steps.specs.Entries.{Entry, idle_entry, code_in}
 use Rattle.caller_steps.specs.After.{taken}
 use Rattle.caller_steps.specs.Belongs.{Belongs}
 use Rattle.caller_laws.proofs.Methods.{Methods}

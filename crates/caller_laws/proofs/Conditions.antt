@@ -24,18 +24,18 @@ use Rattle.phase_pools.specs.declared.stages.RetireStage.{RetireStage}
 use Rattle.phase_pools.specs.declared.stages.RetireStage.TheVariants as retires
 use Rattle.phase_pools.specs.Pools.{Sweep, retire_wants_at}
 use Rattle.phase_pools.specs.Ranges.{ClaimInRange, RetireTold}
-use Rattle.caller_steps.specs.declared.routine.AfterRetire.{AfterRetire}
-use Rattle.caller_steps.specs.declared.routine.AfterRetire.TheVariants as onwards
-use Rattle.caller_steps.specs.declared.routine.Routine.{Routine}
-use Rattle.caller_steps.specs.declared.routine.Routine.TheVariants.{Idle, LoadSeen, At, InList, Retires, Restarts, Clears, Claims, Zeroes}
-use Rattle.caller_steps.specs.Settings.{Fits, IsSetting, Setting}
-use Rattle.caller_steps.specs.Entries.{Entry, is_idle}
-use Rattle.caller_steps.specs.Operands.{code_in, instr_in, list_of, op_of, slot_in, word_in}
-use Rattle.caller_steps.specs.Clearing.{restart_spares, then_spares}
+use Rattle.caller_parts.specs.declared.routine.AfterRetire.{AfterRetire}
+use Rattle.caller_parts.specs.declared.routine.AfterRetire.TheVariants as onwards
+use Rattle.caller_parts.specs.declared.routine.Routine.{Routine}
+use Rattle.caller_parts.specs.declared.routine.Routine.TheVariants.{Idle, LoadSeen, At, InList, Retires, Restarts, Clears, Claims, Zeroes}
+use Rattle.caller_parts.specs.Settings.{Fits, IsSetting, Setting}
+use Rattle.caller_steps.specs.Entries.{Entry, is_idle, code_in, instr_in, op_of}
+use Rattle.caller_parts.specs.Operands.{list_of, slot_in, word_in, AreSlots}
+use Rattle.caller_parts.specs.Spared.{restart_spares, then_spares}
 use Rattle.caller_steps.specs.Wants.{exchange_wanted, instr_wanted, list_wanted, object_exchange, place_exchange, plain_wanted, wanted, wants}
-use Rattle.caller_steps.specs.Lawful.{Accepts, AsksSafely, IsSafe, Told}
+use Rattle.caller_steps.specs.Lawful.{Accepts, AsksSafely, IsSafe, MayBeTold}
 use Rattle.caller_steps.specs.Belongs.{Belongs, NamesSlots, ClaimStands, RetireFits, RunsAt, Stands, SweepBelongs}
-use Rattle.caller_steps.specs.Asking.{AreSlots, CanAccept, CanAsk, CanAskInstr, CanAskList, CanAskPlain, CanExchange, HasField, InstrAccepts, IsNear}
+use Rattle.caller_steps.specs.Asking.{CanAccept, CanAsk, CanAskInstr, CanAskList, CanAskPlain, CanExchange, HasField, InstrAccepts, IsNear}
 use Rattle.caller_laws.proofs.Methods.{Methods, setting_sane}
 use Rattle.caller_laws.proofs.Stopping.{Here, site_of}
 use Rattle.caller_laws.proofs.Named.{named}
@@ -147,7 +147,7 @@ retire_told target setting slot word retires.ReadPhase own told = let most = tol
 retire_told target setting slot word (retires.StoreStatus p) own told = tt
 
 accept_step : (target : Target) (setting : Setting) (e : Entry) (word : ℕ) (routine : Routine) → Methods target → IsSetting setting → Fits target setting → Belongs target setting e
-    → RunsAt target e routine → Stands target setting e routine → Told target setting (wanted target e routine) word → CanAccept target setting e word routine
+    → RunsAt target e routine → Stands target setting e routine → MayBeTold target setting (wanted target e routine) word → CanAccept target setting e word routine
 accept_step target setting e word Idle sane own fits b reaches stands told = tt
 accept_step target setting e word (LoadSeen why) sane own fits b reaches stands told = tt
 accept_step target setting e word At sane own fits b reaches stands told = accept_instr target setting e (instr_in target e) sane (record { reached = reaches; names = b.hand.registers }) refl
@@ -162,7 +162,7 @@ accept_step target setting e word (Zeroes k field) sane own fits b reaches stand
 
 -- what `accept` needs
 pub can_accept : (target : Target) (setting : Setting) (e : Entry) (word : ℕ) → Methods target → IsSetting setting → Fits target setting → Belongs target setting e
-    → Told target setting (wants target e) word → CanAccept target setting e word e.routine
+    → MayBeTold target setting (wants target e) word → CanAccept target setting e word e.routine
 unfolding wants
 can_accept target setting e word sane own fits b told = accept_step target setting e word e.routine sane own fits b b.reaches b.stands told
 

@@ -6,13 +6,13 @@ use Rattle.target_code.specs.declared.target.Target.{Target}
 use Rattle.phase_pools.specs.Pools.{Claim, Retirement, claim_wants, claim_accepts, retire_wants, retire_accepts}
 use Rattle.phase_pools.specs.Accesses.{Loads, Stores}
 use Rattle.oa_words.specs.Words.{Warning, FieldOf}
-use Rattle.caller_steps.specs.declared.routine.MethodStart.{MethodStart}
-use Rattle.caller_steps.specs.declared.routine.AfterClear.{AfterClear}
-use Rattle.caller_steps.specs.declared.routine.AfterRetire.{AfterRetire}
-use Rattle.caller_steps.specs.declared.routine.Routine.TheVariants.{Idle, LoadSeen, At, InList, Retires, Restarts, Clears, Claims, Zeroes}
-use Rattle.caller_steps.specs.Settings.{Setting}
-use Rattle.caller_steps.specs.Entries.{Entry}
-use Rattle.caller_steps.specs.Operands.{cradle_of, instr_in, list_of}
+use Rattle.caller_parts.specs.declared.routine.MethodStart.{MethodStart}
+use Rattle.caller_parts.specs.declared.routine.AfterClear.{AfterClear}
+use Rattle.caller_parts.specs.declared.routine.AfterRetire.{AfterRetire}
+use Rattle.caller_parts.specs.declared.routine.Routine.TheVariants.{Idle, LoadSeen, At, InList, Retires, Restarts, Clears, Claims, Zeroes}
+use Rattle.caller_parts.specs.Settings.{Setting}
+use Rattle.caller_steps.specs.Entries.{Entry, cradle_of, instr_in}
+use Rattle.caller_parts.specs.Operands.{list_of}
 use Rattle.caller_steps.specs.Clearing.{clear_next, restart_next}
 use Rattle.caller_steps.specs.Wants.{clear_wanted, instr_wanted, list_wanted, wants}
 use Rattle.caller_steps.specs.Signs.{quiet}

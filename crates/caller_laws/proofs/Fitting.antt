@@ -9,7 +9,7 @@ use Rattle.phase_pools.specs.declared.stages.ClaimStage.TheVariants as claims
 use Rattle.target_code.specs.declared.target.Target.{Target}
 use Rattle.phase_pools.specs.Pools.{Sweep, sweep_wants_at, claim_wants_at}
 use Rattle.phase_pools.specs.Ranges.{SweepInRange, SweepTold, ClaimTold}
-use Rattle.caller_steps.specs.Settings.{Setting}
+use Rattle.caller_parts.specs.Settings.{Setting}
 use Rattle.caller_steps.specs.Lawful.{Accepts}
 use Rattle.caller_steps.specs.Belongs.{SweepStands}
 use Rattle.caller_steps.specs.Asking.{IsRegister}

@@ -21,10 +21,10 @@ use Rattle.target_code.specs.Paths.{target_goes_from}
 use Rattle.target_code.specs.TargetLimits.{is_target_new, target_news_in}
 use Rattle.guard_words.specs.Guards.{Guards, with_guard}
 use Rattle.guard_words.proofs.Rows.{guards_follow}
-use Rattle.caller_steps.specs.Settings.{Setting}
-use Rattle.caller_steps.specs.Entries.{Entry}
-use Rattle.caller_steps.specs.Operands.{code_in, instr_in, is_new_at, news_before, unpacked, with_word}
-use Rattle.caller_steps.specs.After.{emptied, settles}
+use Rattle.caller_parts.specs.Settings.{Setting}
+use Rattle.caller_steps.specs.Entries.{Entry, code_in, instr_in}
+use Rattle.caller_parts.specs.Operands.{is_new_at, news_before, unpacked, with_word, emptied}
+use Rattle.caller_steps.specs.After.{settles}
 use Rattle.caller_steps.specs.Belongs.{GuardsSlots, HoldsSlots, NamesSlots}
 use Rattle.target_runs.specs.Sane.{SaneAt}
 use Rattle.caller_laws.proofs.Methods.{Methods, SettingSane}

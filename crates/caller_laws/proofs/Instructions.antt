@@ -22,14 +22,14 @@ use Rattle.target_code.specs.Paths.{target_goes_from}
 use Rattle.target_code.specs.TargetLimits.{is_target_new}
 use Rattle.guard_words.specs.Guards.{with_guard, pass_check}
 use Rattle.guard_words.proofs.Rows.{guards_follow}
-use Rattle.caller_steps.specs.declared.routine.AfterRetire.{AfterRetire}
-use Rattle.caller_steps.specs.declared.routine.AfterRetire.TheVariants as onwards
-use Rattle.caller_steps.specs.Settings.{Setting}
-use Rattle.caller_steps.specs.Entries.{Entry}
-use Rattle.caller_steps.specs.Operands.{instr_in, register_number, slot_in, with_word}
+use Rattle.caller_parts.specs.declared.routine.AfterRetire.{AfterRetire}
+use Rattle.caller_parts.specs.declared.routine.AfterRetire.TheVariants as onwards
+use Rattle.caller_parts.specs.Settings.{Setting}
+use Rattle.caller_steps.specs.Entries.{Entry, instr_in}
+use Rattle.caller_parts.specs.Operands.{register_number, slot_in, with_word, succeeds, to_retire}
 use Rattle.caller_steps.specs.Wants.{instr_wanted, plain_wanted}
-use Rattle.caller_steps.specs.After.{cas_ended, cas_failed, check_failed, check_passed, checked, goes_on, guarded, instr_accepted, loaded, onward_goes, plain_accepted, retires_then, succeeds, to_retire, with_access, with_hand, with_restart}
-use Rattle.caller_steps.specs.Lawful.{LawfulValue, Told}
+use Rattle.caller_steps.specs.After.{cas_ended, cas_failed, check_failed, check_passed, checked, goes_on, guarded, instr_accepted, loaded, onward_goes, plain_accepted, retires_then, with_access, with_hand, with_restart}
+use Rattle.caller_steps.specs.Lawful.{LawfulValue, MayBeTold}
 use Rattle.caller_steps.specs.Belongs.{NamesSlots, RetireFits, cas_of, has_access, has_retire, is_retiring}
 use Rattle.caller_laws.proofs.Methods.{Methods, SettingSane}
 use Rattle.caller_laws.proofs.Named.{named, worded}
@@ -143,7 +143,7 @@ at_least : (a b : ℕ) → nat_le a b ≡ true → a ≤ b
 at_least a b e = grind (arith, nat_tests)
 
 plain_keeps : (target : Target) (setting : Setting) (e : Entry) (i : Instr) (word : ℕ) → Methods target → SettingSane setting → Stays target setting e (Plain i)
-    → has_access (Some (Plain i)) ≡ true → Told target setting (plain_wanted i e.hand.registers) word → BelongsIn target setting (plain_accepted target setting.sizes i word e)
+    → has_access (Some (Plain i)) ≡ true → MayBeTold target setting (plain_wanted i e.hand.registers) word → BelongsIn target setting (plain_accepted target setting.sizes i word e)
 plain_keeps target setting e (instr.LoadRoot d x) word sane some s has told =
     loads target setting e (instr.LoadRoot d x) d (root_kind target.roots x) word sane some s (one_way (e.hand.at + 1)) refl (λ r isnt. isnt) told
     (site_of target e setting.sizes.slots (Plain (instr.LoadRoot d x)) sane s.here s.is).own.form.kinds
@@ -183,7 +183,7 @@ plain_keeps target setting e instr.ReturnNone word sane some s has told = absurd
 plain_keeps target setting e instr.Again word sane some s has told = absurd cc
 
 pub instr_keeps : (target : Target) (setting : Setting) (e : Entry) (word : ℕ) (o : Option TargetInstr) → Methods target → SettingSane setting → Holds target setting e → Here setting.sizes.slots target e
-    → instr_in target e ≡ o → has_access o ≡ true → Told target setting (instr_wanted e.number o e.hand.registers) word → BelongsIn target setting (instr_accepted target setting.sizes o word e)
+    → instr_in target e ≡ o → has_access o ≡ true → MayBeTold target setting (instr_wanted e.number o e.hand.registers) word → BelongsIn target setting (instr_accepted target setting.sizes o word e)
 instr_keeps target setting e word None sane some h c is has told = absurd (let z : false ≡ true = has in cc)
 instr_keeps target setting e word (Some Check) sane some h c is has told = checks target setting e word sane some (record { holds = h; here = c; is = is }) told.1
 instr_keeps target setting e word (Some (Guard r)) sane some h c is has told = guards target setting e r sane some (record { holds = h; here = c; is = is })

@@ -3,8 +3,8 @@ use Rattle.std.proofs.Common.{◌≡◌, ℕ, zero, suc, ◌≤◌, ◌<◌, Boo
 use Rattle.std.specs.Prelude.{slice_get}
 use Rattle.target_code.specs.declared.target.TargetOp.{TargetOp}
 use Rattle.target_code.specs.declared.target.Target.{Target}
-use Rattle.caller_steps.specs.Settings.{Setting, IsSetting}
-use Rattle.caller_steps.specs.Operands.{method_code}
+use Rattle.caller_parts.specs.Settings.{Setting, IsSetting}
+use Rattle.caller_parts.specs.Operands.{method_code}
 use Rattle.target_runs.specs.Sane.{SaneCode, Sane}
 
 -- of each operation by its number; where the target has none with that number, its methods are empty

@@ -12,7 +12,7 @@ use Rattle.norm_lang.specs.declared.registers.Registers.{Registers}
 use Rattle.norm_lang.specs.Registers.{no_reference, number_in, reference_in, with_number, with_reference, moved}
 use Rattle.norm_lang.specs.InstructionRules.{is_unlike}
 use Rattle.norm_lang.specs.Local.{Spot, local_step}
-use Rattle.caller_steps.specs.Operands.{unpacked, with_word}
+use Rattle.caller_parts.specs.Operands.{unpacked, with_word}
 use Rattle.caller_steps.specs.Lawful.{LawfulValue}
 use Rattle.caller_steps.specs.Belongs.{NamesSlots}
 

@@ -18,7 +18,7 @@ use Rattle.phase_pools.specs.declared.stages.SweepStage.TheVariants as sweeps
 use Rattle.phase_pools.specs.declared.stages.ClaimStage.{ClaimStage}
 use Rattle.phase_pools.specs.declared.stages.ClaimStage.TheVariants as claims
 use Rattle.phase_pools.specs.Pools.{Sweep, SweepTurn, sweep_wants_at, sweep_goes, sweep_ends, sweep_on, sweep_accepts, sweep_accepts_at, freeing, status_read, Claim, ClaimTurn, claim_wants_at, claim_accepts_at, claim_goes, claim_ends, look_on, look_ended, look_kind, look_read, sweep_ended, Retirement, sweep_begun}
-use Rattle.caller_steps.specs.Settings.{Setting}
+use Rattle.caller_parts.specs.Settings.{Setting}
 use Rattle.caller_steps.specs.Lawful.{Accepts}
 use Rattle.caller_steps.specs.Belongs.{ClaimBelongs, ClaimStands, HasBound, RetireBelongs, SweepBelongs, SweepStands}
 use Rattle.caller_laws.proofs.Methods.{SettingSane}

@@ -22,10 +22,10 @@ use Rattle.target_code.specs.declared.target.TargetInstr.{TargetInstr}
 use Rattle.target_code.specs.declared.target.TargetInstr.TheVariants.{Plain, Check, Guard}
 use Rattle.target_code.specs.declared.target.Target.{Target}
 use Rattle.guard_words.specs.Guards.{Guards, next_to_clear, least_from, is_to_clear}
-use Rattle.caller_steps.specs.Settings.{Fits, Setting}
-use Rattle.caller_steps.specs.Entries.{Entry, is_idle}
-use Rattle.caller_steps.specs.Operands.{code_in, cradle_of, instr_in, list_of, op_of, register_number, slot_in, word_in}
-use Rattle.caller_steps.specs.Clearing.{restart_spares, then_spares}
+use Rattle.caller_parts.specs.Settings.{Fits, Setting}
+use Rattle.caller_steps.specs.Entries.{Entry, is_idle, code_in, cradle_of, instr_in, op_of}
+use Rattle.caller_parts.specs.Operands.{list_of, register_number, slot_in, word_in}
+use Rattle.caller_parts.specs.Spared.{restart_spares, then_spares}
 use Rattle.caller_steps.specs.Wants.{clear_wanted, exchange_wanted, instr_wanted, list_wanted, object_exchange, place_exchange, plain_wanted, wanted, wants}
 use Rattle.caller_steps.specs.Lawful.{AsksSafely, IsLawful, IsSafe, LawfulStatus, LawfulValue, is_place as is_place_word}
 use Rattle.caller_steps.specs.Belongs.{Belongs, ClaimStands, HasBound, IsSomeOf, NamesSlots, RetireStands, RunsAt, Stands, SweepBelongs, SweepStands, has_access}
@@ -42,8 +42,8 @@ use Rattle.phase_pools.specs.declared.stages.RetireStage.{RetireStage}
 use Rattle.phase_pools.specs.declared.stages.RetireStage.TheVariants as retires
 use Rattle.phase_pools.specs.Accesses.{Loads, Stores, Exchanges, Raises}
 use Rattle.phase_pools.specs.Pools.{Sweep, sweep_wants_at, claim_wants_at, retire_wants_at}
-use Rattle.caller_steps.specs.declared.routine.Routine.{Routine}
-use Rattle.caller_steps.specs.declared.routine.Routine.TheVariants.{Idle, LoadSeen, At, InList, Retires, Restarts, Clears, Claims, Zeroes}
+use Rattle.caller_parts.specs.declared.routine.Routine.{Routine}
+use Rattle.caller_parts.specs.declared.routine.Routine.TheVariants.{Idle, LoadSeen, At, InList, Retires, Restarts, Clears, Claims, Zeroes}
 use Rattle.target_runs.specs.Sane.{SaneAt}
 use Rattle.caller_laws.proofs.Methods.{Methods, SettingSane}
 use Rattle.caller_laws.proofs.Named.{named}

@@ -21,22 +21,22 @@ use Rattle.phase_pools.specs.declared.access.ClaimEnd.TheVariants as ends
 use Rattle.phase_pools.specs.declared.stages.RetireStage.{RetireStage}
 use Rattle.phase_pools.specs.declared.stages.RetireStage.TheVariants as retires
 use Rattle.phase_pools.specs.Pools.{Claim, claim_accepts, retire_accepts_at, retire_wants_at}
-use Rattle.caller_steps.specs.declared.routine.MethodStart.{MethodStart}
-use Rattle.caller_steps.specs.declared.routine.AfterClear.{AfterClear}
-use Rattle.caller_steps.specs.declared.routine.AfterClear.TheVariants as clears
-use Rattle.caller_steps.specs.declared.routine.AfterRetire.{AfterRetire}
-use Rattle.caller_steps.specs.declared.routine.AfterRetire.TheVariants as onwards
-use Rattle.caller_steps.specs.Settings.{Setting}
-use Rattle.caller_steps.specs.Entries.{Entry}
-use Rattle.caller_steps.specs.Operands.{code_in, cradle_of, instr_in, is_new_at, list_of, new_number, news_before, slot_in}
+use Rattle.caller_parts.specs.declared.routine.MethodStart.{MethodStart}
+use Rattle.caller_parts.specs.declared.routine.AfterClear.{AfterClear}
+use Rattle.caller_parts.specs.declared.routine.AfterClear.TheVariants as clears
+use Rattle.caller_parts.specs.declared.routine.AfterRetire.{AfterRetire}
+use Rattle.caller_parts.specs.declared.routine.AfterRetire.TheVariants as onwards
+use Rattle.caller_parts.specs.Settings.{Setting}
+use Rattle.caller_steps.specs.Entries.{Entry, code_in, cradle_of, instr_in, new_number}
+use Rattle.caller_parts.specs.Operands.{is_new_at, list_of, news_before, slot_in, succeeds, to_retire, with_new}
 use Rattle.caller_steps.specs.Clearing.{clear_next, restart_next, unguarded}
 use Rattle.caller_steps.specs.Wants.{wanted, wants}
-use Rattle.caller_steps.specs.After.{accepted, after, claim_on, cleared, counted, entry_made, goes_on, is_wrap_up, list_accepted, list_ended, list_on, node_made, onward_goes, restarted, retired_on, retires_then, seen_loaded, succeeds, to_retire, with_hand, with_new, with_published, with_routine, zeroed}
+use Rattle.caller_steps.specs.After.{accepted, after, claim_on, cleared, counted, entry_made, goes_on, is_wrap_up, list_accepted, list_ended, list_on, node_made, onward_goes, restarted, retired_on, retires_then, seen_loaded, with_hand, with_published, with_routine, zeroed}
 use Rattle.caller_steps.specs.Signs.{quiet}
-use Rattle.caller_steps.specs.Lawful.{Accepts, Told}
+use Rattle.caller_steps.specs.Lawful.{Accepts, MayBeTold}
 use Rattle.caller_steps.specs.Belongs.{Belongs, ClearStands, RetireFits, RetireStands, RunsAt, Stands, cas_of, is_check_at, is_retiring}
-use Rattle.caller_steps.specs.declared.routine.Routine.{Routine}
-use Rattle.caller_steps.specs.declared.routine.Routine.TheVariants.{Idle, LoadSeen, At, InList, Retires, Restarts, Clears, Claims, Zeroes}
+use Rattle.caller_parts.specs.declared.routine.Routine.{Routine}
+use Rattle.caller_parts.specs.declared.routine.Routine.TheVariants.{Idle, LoadSeen, At, InList, Retires, Restarts, Clears, Claims, Zeroes}
 use Rattle.target_runs.specs.Sane.{SaneAt}
 use Rattle.caller_laws.proofs.Methods.{Methods, SettingSane}
 use Rattle.caller_laws.proofs.Named.{referred, set_hits}
@@ -296,7 +296,7 @@ holds_of target setting e b = record { number = b.number; op = b.op; started = b
 
 -- an entry in a routine state, whatever its routine is said to be
 step_keeps : (target : Target) (setting : Setting) (e : Entry) (word : ℕ) (routine : Routine) → Methods target → SettingSane setting → Belongs target setting e
-    → RunsAt target e routine → Stands target setting e routine → Told target setting (wanted target e routine) word → BelongsIn target setting (accepted target setting word e routine)
+    → RunsAt target e routine → Stands target setting e routine → MayBeTold target setting (wanted target e routine) word → BelongsIn target setting (accepted target setting word e routine)
 step_keeps target setting e word Idle sane some b reaches stands told = b
 step_keeps target setting e word (LoadSeen why) sane some b reaches stands told = seen_keeps target setting e why word sane some (holds_of target setting e b) told.1
 step_keeps target setting e word At sane some b reaches stands told =
@@ -318,7 +318,7 @@ step_keeps target setting e word (Zeroes k field) sane some b reaches stands tol
 
 -- an entry that belongs does so after each step that finds a lawful word
 pub after_belongs : (target : Target) (setting : Setting) (e : Entry) (word : ℕ) → Methods target → SettingSane setting → Belongs target setting e
-    → Told target setting (wants target e) word → Belongs target setting (after target setting e word)
+    → MayBeTold target setting (wants target e) word → Belongs target setting (after target setting e word)
 unfolding wants after
 after_belongs target setting e word sane some b told =
     step_keeps target setting (counted e) word e.routine sane some (record { number = b.number; op = b.op; hand = b.hand; cradles = b.cradles; reaches = b.reaches; stands = b.stands }) b.reaches b.stands told

@@ -12,17 +12,17 @@ use Rattle.norm_lang.specs.Local.{Spot, local_step}
 use Rattle.target_code.specs.declared.target.TargetInstr.{TargetInstr}
 use Rattle.target_code.specs.declared.target.TargetInstr.TheVariants.{Plain, Check, Guard}
 use Rattle.target_code.specs.declared.target.Target.{Target}
-use Rattle.caller_steps.specs.declared.call.Reply.TheVariants as replies
-use Rattle.caller_steps.specs.declared.routine.AfterClear.{AfterClear}
-use Rattle.caller_steps.specs.declared.routine.AfterClear.TheVariants as clears
-use Rattle.caller_steps.specs.Settings.{Setting}
-use Rattle.caller_steps.specs.Entries.{Entry}
-use Rattle.caller_steps.specs.Operands.{code_in, cradle_of, instr_in, list_of, new_number}
+use Rattle.caller_parts.specs.declared.call.Reply.TheVariants as replies
+use Rattle.caller_parts.specs.declared.routine.AfterClear.{AfterClear}
+use Rattle.caller_parts.specs.declared.routine.AfterClear.TheVariants as clears
+use Rattle.caller_parts.specs.Settings.{Setting}
+use Rattle.caller_steps.specs.Entries.{Entry, code_in, cradle_of, instr_in, new_number}
+use Rattle.caller_parts.specs.Operands.{list_of}
 use Rattle.caller_steps.specs.Clearing.{clear_next, restart_next}
 use Rattle.caller_steps.specs.After.{clear_on, cleared, first_spot, hand_at, list_begun, list_ended, method_begun, new_on, plain_stop, restart_on, restarted, settles, stopped, stops, then_goes, with_hand, with_routine, wrap_up_hand}
 use Rattle.caller_steps.specs.Signs.{Moved}
 use Rattle.caller_steps.specs.Belongs.{Belongs, ClearStands, GuardsSlots, HandBelongs, HoldsSlots, IsSomeOf, NamesSlots, has_access, is_check_at}
-use Rattle.caller_steps.specs.declared.routine.Routine.TheVariants.{At}
+use Rattle.caller_parts.specs.declared.routine.Routine.TheVariants.{At}
 use Rattle.target_code.specs.LocalCode.{target_local_at, target_run}
 use Rattle.target_runs.specs.Sane.{SaneAt}
 use Rattle.caller_laws.proofs.Methods.{Methods, SettingSane}

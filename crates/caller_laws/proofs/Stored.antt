@@ -19,11 +19,11 @@ use Rattle.phase_pools.specs.declared.stages.ClaimStage.TheVariants as claims
 use Rattle.phase_pools.specs.declared.stages.RetireStage.{RetireStage}
 use Rattle.phase_pools.specs.declared.stages.RetireStage.TheVariants as retires
 use Rattle.phase_pools.specs.Pools.{Sweep, sweep_wants_at, claim_wants_at, Retirement, retire_wants_at, retire_accepts_at}
-use Rattle.caller_steps.specs.declared.routine.Routine.{Routine}
-use Rattle.caller_steps.specs.declared.routine.Routine.TheVariants.{Idle, LoadSeen, At, InList, Retires, Restarts, Clears, Claims, Zeroes}
-use Rattle.caller_steps.specs.Settings.{Setting}
-use Rattle.caller_steps.specs.Entries.{Entry}
-use Rattle.caller_steps.specs.Operands.{instr_in, list_of, slot_in, word_in}
+use Rattle.caller_parts.specs.declared.routine.Routine.{Routine}
+use Rattle.caller_parts.specs.declared.routine.Routine.TheVariants.{Idle, LoadSeen, At, InList, Retires, Restarts, Clears, Claims, Zeroes}
+use Rattle.caller_parts.specs.Settings.{Setting}
+use Rattle.caller_steps.specs.Entries.{Entry, instr_in}
+use Rattle.caller_parts.specs.Operands.{list_of, slot_in, word_in}
 use Rattle.caller_steps.specs.Wants.{exchange_wanted, instr_wanted, list_wanted, object_exchange, place_exchange, plain_wanted, wanted, wants}
 use Rattle.caller_steps.specs.Signs.{Moved}
 use Rattle.caller_steps.specs.After.{accepted, after, counted, instr_accepted, moved, plain_accepted, retired_on, signs}

@@ -8,17 +8,17 @@ use Rattle.target_code.specs.declared.target.Target.{Target}
 use Rattle.target_runs.specs.Runnable.{IsRunnable}
 use Rattle.oa_words.specs.Words.{Word}
 use Rattle.phase_pools.specs.Accesses.{Stores}
-use Rattle.caller_steps.specs.declared.call.Call.{Call}
-use Rattle.caller_steps.specs.declared.routine.Routine.TheVariants.{At}
-use Rattle.caller_steps.specs.Settings.{Setting, Fits, IsSetting}
-use Rattle.caller_steps.specs.Entries.{Entry, idle_entry, is_idle}
-use Rattle.caller_steps.specs.Calls.{is_call}
-use Rattle.caller_steps.specs.Operands.{instr_in, slot_in}
+use Rattle.caller_parts.specs.declared.call.Call.{Call}
+use Rattle.caller_parts.specs.declared.routine.Routine.TheVariants.{At}
+use Rattle.caller_parts.specs.Settings.{Setting, Fits, IsSetting}
+use Rattle.caller_steps.specs.Entries.{Entry, idle_entry, is_idle, instr_in}
+use Rattle.caller_parts.specs.Calls.{is_call}
+use Rattle.caller_parts.specs.Operands.{slot_in, AreSlots}
 use Rattle.caller_steps.specs.Wants.{wants}
 use Rattle.caller_steps.specs.After.{after, signs, taken}
-use Rattle.caller_steps.specs.Lawful.{Told, AsksSafely}
+use Rattle.caller_steps.specs.Lawful.{MayBeTold, AsksSafely}
 use Rattle.caller_steps.specs.Belongs.{Belongs}
-use Rattle.caller_steps.specs.Asking.{AreSlots, CanAsk, CanAccept}
+use Rattle.caller_steps.specs.Asking.{CanAsk, CanAccept}
 
 -- of each target that is barred for a text, with a setting that fits it; texts needn't be proper
 abbrev pub ForRuns : (Target → Setting → Type 0) → Type 0
@@ -28,7 +28,7 @@ ForRuns Holds = (target : Target) (text : Text) (setting : Setting) → IsRunnab
 pub record EntriesBelong (target : Target) (setting : Setting) : Type 0 where
   pub new : (c : ℕ) → c < setting.sizes.callers → Belongs target setting (idle_entry c)
   pub takes : (e : Entry) (call : Call) → is_call target call ≡ true → Belongs target setting e → Belongs target setting (taken call e)
-  pub steps : (e : Entry) (word : ℕ) → Belongs target setting e → Told target setting (wants target e) word → Belongs target setting (after target setting e word)
+  pub steps : (e : Entry) (word : ℕ) → Belongs target setting e → MayBeTold target setting (wants target e) word → Belongs target setting (after target setting e word)
 
 -- what it wants while a call runs is one access, to a word of the row that isn't a place word, which leaves a lawful word
 -- lawful; an idle one wants nothing
@@ -39,7 +39,7 @@ pub record EntriesAskSafely (target : Target) (setting : Setting) : Type 0 where
 -- where it stands the code may ask for its access, and take a lawful word
 pub record EntriesFitCode (target : Target) (setting : Setting) : Type 0 where
   pub asks : (e : Entry) → Belongs target setting e → CanAsk target setting e e.routine
-  pub accepts : (e : Entry) (word : ℕ) → Belongs target setting e → Told target setting (wants target e) word → CanAccept target setting e word e.routine
+  pub accepts : (e : Entry) (word : ℕ) → Belongs target setting e → MayBeTold target setting (wants target e) word → CanAccept target setting e word e.routine
   pub near : (e : Entry) → Belongs target setting e → e.hand.at < 2 ^ 62
   pub slots : (e : Entry) → Belongs target setting e → AreSlots e.hand.registers × AreSlots e.hand.started
 

@@ -2,16 +2,14 @@
 --
 -- Local instructions run together with the access before them: `settles` runs them up to the next access, and a method
 -- that begins runs them too. What gives no sign and runs no local code answers an entry, all else a `Moved`.
-use Rattle.std.specs.Prelude.{ℕ, zero, suc, ◌+◌, Bool, true, false, ◌&&◌, not, List, [], ◌∷◌, ◌++◌, map, length, Option, Some, None, nat_lt, ◌==◌, if◌then◌else◌, slice_get, slice_set}
+use Rattle.std.specs.Prelude.{ℕ, zero, suc, ◌+◌, Bool, true, false, ◌&&◌, List, [], ◌∷◌, ◌++◌, map, length, Option, Some, None, nat_lt, ◌==◌, if◌then◌else◌, slice_get, slice_set}
 use Rattle.norm_lang.specs.declared.text.Reg.{Reg}
 use Rattle.norm_lang.specs.declared.text.Reg.TheVariants.{Num, Ref}
-use Rattle.norm_lang.specs.declared.text.Place.{Place}
-use Rattle.norm_lang.specs.declared.text.Place.TheVariants as places
 use Rattle.norm_lang.specs.declared.text.CasEntry.{CasEntry}
 use Rattle.norm_lang.specs.declared.text.Instr.{Instr}
 use Rattle.norm_lang.specs.declared.text.Instr.TheVariants as instr
 use Rattle.norm_lang.specs.declared.registers.Registers.{Registers}
-use Rattle.norm_lang.specs.Registers.{first_registers, with_count, number_in, with_reference}
+use Rattle.norm_lang.specs.Registers.{first_registers, with_count, number_in}
 use Rattle.norm_lang.specs.Local.{Spot}
 use Rattle.target_code.specs.declared.target.TargetInstr.{TargetInstr}
 use Rattle.target_code.specs.declared.target.TargetInstr.TheVariants.{Plain, Check, Guard}
@@ -22,22 +20,22 @@ use Rattle.oa_words.specs.Words.{Sizes}
 use Rattle.phase_pools.specs.declared.access.ClaimEnd.{ClaimEnd}
 use Rattle.phase_pools.specs.declared.access.ClaimEnd.TheVariants as ends
 use Rattle.phase_pools.specs.Pools.{Claim, ClaimTurn, claim_begun, claim_accepts, Retirement, retire_begun, retire_accepts}
-use Rattle.caller_steps.specs.declared.call.Call.{Call}
-use Rattle.caller_steps.specs.declared.call.Reply.{Reply}
-use Rattle.caller_steps.specs.declared.call.Reply.TheVariants as replies
+use Rattle.caller_parts.specs.declared.call.Call.{Call}
+use Rattle.caller_parts.specs.declared.call.Reply.{Reply}
+use Rattle.caller_parts.specs.declared.call.Reply.TheVariants as replies
 use Rattle.caller_steps.specs.declared.entry.Hand.{Hand}
-use Rattle.caller_steps.specs.declared.routine.MethodStart.{MethodStart}
-use Rattle.caller_steps.specs.declared.routine.MethodStart.TheVariants as starts
-use Rattle.caller_steps.specs.declared.routine.AfterClear.{AfterClear}
-use Rattle.caller_steps.specs.declared.routine.AfterClear.TheVariants as clears
-use Rattle.caller_steps.specs.declared.routine.AfterRetire.{AfterRetire}
-use Rattle.caller_steps.specs.declared.routine.AfterRetire.TheVariants as retires
-use Rattle.caller_steps.specs.declared.routine.Routine.{Routine}
-use Rattle.caller_steps.specs.declared.routine.Routine.TheVariants.{Idle, LoadSeen, At, InList, Retires, Restarts, Clears, Claims, Zeroes}
-use Rattle.caller_steps.specs.Pairing.{replied_by}
-use Rattle.caller_steps.specs.Settings.{Setting}
-use Rattle.caller_steps.specs.Entries.{Entry, one_more}
-use Rattle.caller_steps.specs.Operands.{word_in, with_word, slot_in, register_number, code_in, instr_in, list_of, new_number, cradle_of}
+use Rattle.caller_parts.specs.declared.routine.MethodStart.{MethodStart}
+use Rattle.caller_parts.specs.declared.routine.MethodStart.TheVariants as starts
+use Rattle.caller_parts.specs.declared.routine.AfterClear.{AfterClear}
+use Rattle.caller_parts.specs.declared.routine.AfterClear.TheVariants as clears
+use Rattle.caller_parts.specs.declared.routine.AfterRetire.{AfterRetire}
+use Rattle.caller_parts.specs.declared.routine.AfterRetire.TheVariants as retires
+use Rattle.caller_parts.specs.declared.routine.Routine.{Routine}
+use Rattle.caller_parts.specs.declared.routine.Routine.TheVariants.{Idle, LoadSeen, At, InList, Retires, Restarts, Clears, Claims, Zeroes}
+use Rattle.caller_parts.specs.Pairing.{replied_by}
+use Rattle.caller_parts.specs.Settings.{Setting}
+use Rattle.caller_steps.specs.Entries.{Entry, one_more, code_in, instr_in, new_number, cradle_of}
+use Rattle.caller_parts.specs.Operands.{with_word, slot_in, register_number, list_of, succeeds, to_retire, emptied, with_new}
 use Rattle.caller_steps.specs.Clearing.{restart_next, clear_next, unguarded}
 use Rattle.caller_steps.specs.Signs.{Sign, Begins, Accesses, Draws, Renews, GivesUp, Moved, quiet, told}
 
@@ -204,19 +202,6 @@ loaded target sizes d word e = told (Accesses ∷ []) (goes_on target sizes (wit
 abbrev pub put_made : Target → Sizes → Entry → Moved
 put_made target sizes e = told (Accesses ∷ []) (goes_on target sizes e.hand.registers e)
 
--- an exchange succeeds where its object isn't null and the expected word was found
-abbrev pub has_object : Place → Registers → Bool
-has_object (places.Root x) registers = true
-has_object (places.Field a f) registers = not (slot_in registers a == 0)
-
-abbrev pub succeeds : CasEntry → Registers → ℕ → Bool
-succeeds exchange registers word = has_object exchange.place registers && (word == word_in registers exchange.expected)
-
--- the slot to retire, 0 for none
-abbrev pub to_retire : Option Reg → Registers → ℕ
-to_retire None registers = 0
-to_retire (Some r) registers = slot_in registers r
-
 abbrev pub list_on : Target → Sizes → ℕ → Entry → Entry
 list_on target sizes k e =
     if nat_lt (k + 1) (length (list_of (instr_in target e))) then with_routine e (InList (k + 1)) else list_ended target sizes (k + 1) e
@@ -258,10 +243,6 @@ instr_accepted target sizes (Some Check) word e = checked target sizes word e
 instr_accepted target sizes (Some (Guard r)) word e = guarded target sizes r e
 
 -- ---- exchanges of a list
-
--- each cradle that holds a slot is emptied; null empties none
-abbrev pub emptied : ℕ → ℕ → ℕ
-emptied slot cradle = if cradle == slot then 0 else cradle
 
 -- the new operand was published
 abbrev pub with_published : Reg → Entry → Entry
@@ -317,11 +298,6 @@ abbrev pub claimed : Target → ClaimTurn → Entry → Moved
 claimed target turn e = claim_on target turn.claim turn.ended e
 
 -- ---- the fields of a `new`
-
--- the register that a `new` sets gets the unmarked reference
-abbrev pub with_new : Option TargetInstr → ℕ → Registers → Registers
-with_new (Some (Plain (instr.New d))) slot registers = with_reference registers d (record { node = slot; marked = false })
-with_new _ slot registers = registers
 
 -- the last store of 0 makes the node
 abbrev pub node_made : Target → Sizes → ℕ → Entry → Moved

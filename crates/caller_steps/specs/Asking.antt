@@ -1,7 +1,6 @@
 -- What an entry needs of where it stands, for the access that it wants to be in the row, and of the word that it is told, for its
 -- step to fit its types. An entry that belongs, told a lawful word, has it.
 use Rattle.std.specs.Prelude.{ℕ, ◌+◌, ◌≤◌, ◌<◌, ◌^◌, Option, Some, None, option_map, slice_get}
-use Rattle.norm_lang.specs.declared.text.Reg.{Reg}
 use Rattle.norm_lang.specs.declared.text.Reg.TheVariants.{Num, Ref}
 use Rattle.norm_lang.specs.declared.text.Place.{Place}
 use Rattle.norm_lang.specs.declared.text.Place.TheVariants as places
@@ -18,22 +17,18 @@ use Rattle.oa_words.specs.Words.{Sizes}
 use Rattle.phase_pools.specs.declared.access.Access.{Access}
 use Rattle.phase_pools.specs.Accesses.{WordAccess, located}
 use Rattle.phase_pools.specs.Ranges.{ClaimInRange, ClaimTold, RetireTold}
-use Rattle.caller_steps.specs.declared.routine.AfterRetire.{AfterRetire}
-use Rattle.caller_steps.specs.declared.routine.AfterRetire.TheVariants as retires
-use Rattle.caller_steps.specs.declared.routine.Routine.{Routine}
-use Rattle.caller_steps.specs.declared.routine.Routine.TheVariants.{Idle, LoadSeen, At, InList, Retires, Restarts, Clears, Claims, Zeroes}
-use Rattle.caller_steps.specs.Settings.{Setting}
-use Rattle.caller_steps.specs.Entries.{Entry}
-use Rattle.caller_steps.specs.Operands.{slot_in, instr_in, list_of, cradle_of}
+use Rattle.caller_parts.specs.declared.routine.AfterRetire.{AfterRetire}
+use Rattle.caller_parts.specs.declared.routine.AfterRetire.TheVariants as retires
+use Rattle.caller_parts.specs.declared.routine.Routine.{Routine}
+use Rattle.caller_parts.specs.declared.routine.Routine.TheVariants.{Idle, LoadSeen, At, InList, Retires, Restarts, Clears, Claims, Zeroes}
+use Rattle.caller_parts.specs.Settings.{Setting}
+use Rattle.caller_steps.specs.Entries.{Entry, instr_in, cradle_of}
+use Rattle.caller_parts.specs.Operands.{slot_in, list_of}
 use Rattle.caller_steps.specs.Clearing.{restart_next, clear_next}
 
 -- an access as the code makes it
 abbrev pub located_option : Sizes → Option WordAccess → Option Access
 located_option n access = option_map (located n) access
-
--- each register's node is a slot, which fits its type
-pub record AreSlots (registers : Registers) : Type 0 where
-  pub each : (r : Reg) → slot_in registers r < 2 ^ 32
 
 -- ---- asking
 

@@ -1,14 +1,18 @@
--- A caller's entry.
-use Rattle.std.specs.Prelude.{ℕ, ◌+◌, ◌-◌, ◌^◌, min, Bool, true, false, List, [], replicate}
+-- A caller's entry, and what it says of the instruction at which the caller stands.
+use Rattle.std.specs.Prelude.{ℕ, ◌+◌, ◌-◌, ◌^◌, min, Bool, true, false, List, [], replicate, Option, slice_get, slice_index}
 use Rattle.norm_lang.specs.Registers.{first_registers}
+use Rattle.target_code.specs.declared.target.TargetInstr.{TargetInstr}
+use Rattle.target_code.specs.declared.target.TargetOp.{TargetOp}
+use Rattle.target_code.specs.declared.target.Target.{Target}
 use Rattle.guard_words.specs.Guards.{no_guards}
-use Rattle.caller_steps.specs.declared.call.Call.{Call}
-use Rattle.caller_steps.specs.declared.call.Running.{Running}
-use Rattle.caller_steps.specs.declared.call.Replied.{Replied}
+use Rattle.caller_parts.specs.declared.call.Call.{Call}
+use Rattle.caller_parts.specs.declared.call.Running.{Running}
+use Rattle.caller_parts.specs.declared.call.Replied.{Replied}
+use Rattle.caller_parts.specs.Operands.{code_at, instr_at, news_before}
 use Rattle.caller_steps.specs.declared.entry.Hand.{Hand}
 use Rattle.caller_steps.specs.declared.entry.Counts.{Counts}
-use Rattle.caller_steps.specs.declared.routine.Routine.{Routine}
-use Rattle.caller_steps.specs.declared.routine.Routine.TheVariants.{Idle}
+use Rattle.caller_parts.specs.declared.routine.Routine.{Routine}
+use Rattle.caller_parts.specs.declared.routine.Routine.TheVariants.{Idle}
 
 -- nested by what changes it
 pub record Entry : Type 0 where
@@ -62,3 +66,23 @@ is_idle _ = false
 pub record RoomyEntry : Type 0 where
   pub core : Entry
   pub room : ℕ
+
+-- ---- where it stands in its target
+
+-- the operation that a caller runs, the code of its method, and the instruction at which it stands
+abbrev pub op_of : Target → Entry → Option TargetOp
+op_of target e = slice_get target.ops e.running.call.op
+
+abbrev pub code_in : Target → Entry → List TargetInstr
+code_in target e = code_at target e.running.call.op e.hand.wrapup
+
+abbrev pub instr_in : Target → Entry → Option TargetInstr
+instr_in target e = instr_at target e.running.call.op e.hand.wrapup e.hand.at
+
+-- the number of the `new` at which a caller stands, by instruction order
+abbrev pub new_number : Target → Entry → ℕ
+new_number target e = news_before (code_in target e) e.hand.at
+
+-- the slot in a cradle, 0 for none
+abbrev pub cradle_of : Entry → ℕ → ℕ
+cradle_of e k = slice_index e.cradles k

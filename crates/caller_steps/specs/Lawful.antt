@@ -8,7 +8,7 @@ use Rattle.oa_words.specs.Words.{in_row, Word, Phase, Place, Warning, Hazard, St
 use Rattle.oa_words.specs.Packed.{slot_part}
 use Rattle.phase_pools.specs.Ranges.{IsStatus}
 use Rattle.phase_pools.specs.Accesses.{word_of, word_after, WordAccess, Loads, Stores, Exchanges, Raises}
-use Rattle.caller_steps.specs.Settings.{Setting}
+use Rattle.caller_parts.specs.Settings.{Setting}
 
 -- any number, or a reference to a slot of the row
 abbrev pub LawfulValue : ℕ → Option FieldKind → ℕ → Type 0
@@ -42,9 +42,9 @@ Accepts target setting (Exchanges w expected replacement) word = IsLawful target
 Accepts target setting (Raises w x) word = IsLawful target setting w word
 
 -- what an entry is told; an idle one is told nothing
-abbrev pub Told : Target → Setting → Option WordAccess → ℕ → Type 0
-Told target setting None word = Unit {0}
-Told target setting (Some a) word = Accepts target setting a word
+abbrev pub MayBeTold : Target → Setting → Option WordAccess → ℕ → Type 0
+MayBeTold target setting None word = Unit {0}
+MayBeTold target setting (Some a) word = Accepts target setting a word
 
 abbrev pub is_place : Word → Bool
 is_place (Place c) = true

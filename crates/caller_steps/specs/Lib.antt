@@ -1,8 +1,4 @@
-pub mod Pairing
-pub mod Settings
 pub mod Entries
-pub mod Calls
-pub mod Operands
 pub mod Clearing
 pub mod Wants
 pub mod Signs

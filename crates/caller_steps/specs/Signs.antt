@@ -1,7 +1,7 @@
 -- What a step of a caller gives to the source machine beside what it makes of the entry. No node has a name here: that a step
 -- makes a node is told by its slot.
 use Rattle.std.specs.Prelude.{ℕ, Option, List, [], ◌++◌}
-use Rattle.caller_steps.specs.declared.call.Call.{Call}
+use Rattle.caller_parts.specs.declared.call.Call.{Call}
 use Rattle.caller_steps.specs.Entries.{Entry}
 
 pub data Sign : Type 0 where

@@ -14,10 +14,10 @@ use Rattle.target_code.specs.declared.target.Target.{Target}
 use Rattle.oa_words.specs.Words.{Warning, Hazard, FieldOf, Cell}
 use Rattle.phase_pools.specs.Accesses.{WordAccess, Loads, Stores, Exchanges}
 use Rattle.phase_pools.specs.Pools.{claim_wants, retire_wants}
-use Rattle.caller_steps.specs.declared.routine.Routine.{Routine}
-use Rattle.caller_steps.specs.declared.routine.Routine.TheVariants.{Idle, LoadSeen, At, InList, Retires, Restarts, Clears, Claims, Zeroes}
-use Rattle.caller_steps.specs.Entries.{Entry}
-use Rattle.caller_steps.specs.Operands.{word_in, slot_in, register_number, instr_in, list_of, cradle_of}
+use Rattle.caller_parts.specs.declared.routine.Routine.{Routine}
+use Rattle.caller_parts.specs.declared.routine.Routine.TheVariants.{Idle, LoadSeen, At, InList, Retires, Restarts, Clears, Claims, Zeroes}
+use Rattle.caller_steps.specs.Entries.{Entry, instr_in, cradle_of}
+use Rattle.caller_parts.specs.Operands.{word_in, slot_in, register_number, list_of}
 use Rattle.caller_steps.specs.Clearing.{restart_next, clear_next}
 
 -- an exchange of a field of the node in a slot; where the object is null its field is loaded instead

@@ -2,20 +2,18 @@
 
 ghost use Rattle.std.specs.Prelude.{◌≡◌, ◌<◌, ◌≤◌, ◌^◌, length, option_copied, slice_get, Some, None};
 ghost use Rattle.phase_pools.specs.Ranges.{ClaimInRange, ClaimTold, RetireTold};
-ghost use Rattle.caller_steps.specs.Operands.{instr_in, list_of};
+ghost use Rattle.caller_steps.specs.Entries.{instr_in};
+ghost use Rattle.caller_parts.specs.Operands.{list_of, AreSlots};
 ghost use Rattle.caller_steps.specs.Clearing.{restart_next, clear_next, unguarded};
 ghost use Rattle.caller_steps.specs.After.{seen_loaded, check_passed, check_failed, checked, guarded, loaded, put_made, list_on, onward_goes, retires_then, cas_ended, cas_made, plain_accepted, instr_accepted, with_published, entry_ended, entry_made, list_accepted, restart_cleared, then_cleared, slot_claimed, claim_ended, node_made, zeroed, after};
-ghost use Rattle.caller_steps.specs.Asking.{AreSlots, IsNear, IsRegister, InstrAccepts, CanAccept};
+ghost use Rattle.caller_steps.specs.Asking.{IsNear, IsRegister, InstrAccepts, CanAccept};
 
-use crate::call::Reply;
 use crate::entry::{Entry, one_more};
-use crate::operands::{
+use caller_parts::operands::{
     empty_cradles, exchange_at, list_of, put_cradle, put_new, put_word, slot_in, succeeds,
     to_retire,
 };
-use crate::program::Program;
-use crate::routine::{AfterClear, AfterRetire, MethodStart, Routine};
-use crate::setting::Setting;
+use caller_parts::{AfterClear, AfterRetire, MethodStart, Program, Reply, Routine, Setting};
 use norm_lang::text::{CasEntry, Instr, Reg};
 use oa_words::shape::Shape;
 use phase_pools::access::ClaimEnd;

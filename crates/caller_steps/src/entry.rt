@@ -1,13 +1,11 @@
 //! A caller's entry.
 
 ghost use Rattle.std.specs.Prelude.{◌≡◌, ◌-◌, length, map, IfOk};
-ghost use Rattle.caller_steps.specs.Pairing.{reply_of, run_of};
+ghost use Rattle.caller_parts.specs.Pairing.{reply_of, run_of};
 ghost use Rattle.caller_steps.specs.Entries.{idle_entry, is_idle, one_more};
 ghost use Rattle.caller_steps.specs.After.{taken};
 
-use crate::call::{Call, Reply, Running};
-use crate::replies::Replies;
-use crate::routine::{MethodStart, Routine};
+use caller_parts::{Call, MethodStart, Replies, Reply, Routine, Running};
 use guard_words::row::GuardRow;
 use norm_lang::registers::{Registers, starting_registers};
 use std::alloc::{AllocError, Global};

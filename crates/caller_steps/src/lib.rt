@@ -2,20 +2,12 @@
 #![tactic(auto)]
 
 mod accepting;
-pub mod call;
 pub mod entry;
-mod local;
 mod moving;
-mod operands;
-pub mod program;
-pub mod replies;
-pub mod routine;
-pub mod setting;
 mod wanting;
 
-pub use call::{Call, Replied, Reply, Running};
+pub use caller_parts::{
+    AfterClear, AfterRetire, Call, MethodStart, Program, Replied, Replies, Reply, Routine, Running,
+    Setting, SettingFault,
+};
 pub use entry::{Counts, Entry, Hand};
-pub use program::Program;
-pub use replies::Replies;
-pub use routine::{AfterClear, AfterRetire, MethodStart, Routine};
-pub use setting::{Setting, SettingFault};

@@ -1,16 +1,14 @@
 //! What an entry becomes: clears, ends, local code and method runs, one small function for each definition.
 
 ghost use Rattle.std.specs.Prelude.{◌≡◌, ◌<◌, ◌≤◌, ◌+◌, ◌^◌, length, option_copied, slice_get, slice_index, Some, None};
-ghost use Rattle.caller_steps.specs.Operands.{code_in, instr_in, new_number, cradle_of};
+ghost use Rattle.caller_steps.specs.Entries.{code_in, instr_in, new_number, cradle_of};
 ghost use Rattle.caller_steps.specs.Clearing.{restart_next, clear_next};
 ghost use Rattle.caller_steps.specs.After.{replied, new_on, then_goes, clear_on, cleared, list_ended, list_begun, ended, plain_stop, stopped, settles, goes_on, first_spot, method_begun, restarted};
 
-use crate::call::Reply;
 use crate::entry::Entry;
-use crate::local::{instr_at, run_target};
-use crate::operands::news_before;
-use crate::program::Program;
-use crate::routine::{AfterClear, MethodStart, Routine};
+use caller_parts::local::{instr_at, run_target};
+use caller_parts::operands::news_before;
+use caller_parts::{AfterClear, MethodStart, Program, Reply, Routine};
 use norm_lang::registers::{Registers, number_at, put_count, starting_registers};
 use norm_lang::text::{CasEntry, Instr};
 use oa_words::shape::Shape;

@@ -2,15 +2,14 @@
 
 ghost use Rattle.std.specs.Prelude.{◌≡◌, ◌<◌, ◌≤◌, option_copied, slice_get, Some, None};
 ghost use Rattle.phase_pools.specs.Accesses.{located};
-ghost use Rattle.caller_steps.specs.Operands.{instr_in, list_of};
+ghost use Rattle.caller_steps.specs.Entries.{instr_in};
+ghost use Rattle.caller_parts.specs.Operands.{list_of, AreSlots};
 ghost use Rattle.caller_steps.specs.Wants.{exchange_wanted, object_exchange, plain_wanted, instr_wanted, list_wanted, clear_wanted, wants};
-ghost use Rattle.caller_steps.specs.Asking.{located_option, AreSlots, CanExchange, CanAsk, CanAskPlain, CanAskInstr, CanAskList, IsRegister};
+ghost use Rattle.caller_steps.specs.Asking.{located_option, CanExchange, CanAsk, CanAskPlain, CanAskInstr, CanAskList, IsRegister};
 
 use crate::entry::Entry;
-use crate::operands::{exchange_at, list_of, slot_in, word_in};
-use crate::program::Program;
-use crate::routine::Routine;
-use crate::setting::Setting;
+use caller_parts::operands::{exchange_at, list_of, slot_in, word_in};
+use caller_parts::{Program, Routine, Setting};
 use norm_lang::registers::{Registers, number_at};
 use norm_lang::text::{CasEntry, Instr, Place, Reg};
 use oa_words::shape::Shape;

@@ -20,22 +20,22 @@ use Rattle.oa_words.specs.Words.{Sizes}
 use Rattle.phase_pools.specs.declared.access.ClaimEnd.{ClaimEnd}
 use Rattle.phase_pools.specs.declared.access.ClaimEnd.TheVariants as ends
 use Rattle.phase_pools.specs.Pools.{Claim, claim_begun, claim_accepts, Retirement, retire_begun, retire_accepts, retire_accepts_at}
-use Rattle.caller_steps.specs.declared.call.Reply.TheVariants as replies
-use Rattle.caller_steps.specs.declared.routine.AfterClear.{AfterClear}
-use Rattle.caller_steps.specs.declared.routine.AfterClear.TheVariants as clears
-use Rattle.caller_steps.specs.declared.routine.AfterRetire.{AfterRetire}
-use Rattle.caller_steps.specs.declared.routine.AfterRetire.TheVariants as retires
-use Rattle.caller_steps.specs.declared.routine.MethodStart.TheVariants as starts
+use Rattle.caller_parts.specs.declared.call.Reply.TheVariants as replies
+use Rattle.caller_parts.specs.declared.routine.AfterClear.{AfterClear}
+use Rattle.caller_parts.specs.declared.routine.AfterClear.TheVariants as clears
+use Rattle.caller_parts.specs.declared.routine.AfterRetire.{AfterRetire}
+use Rattle.caller_parts.specs.declared.routine.AfterRetire.TheVariants as retires
+use Rattle.caller_parts.specs.declared.routine.MethodStart.TheVariants as starts
 use Rattle.phase_pools.specs.declared.stages.RetireStage.{RetireStage}
 use Rattle.phase_pools.specs.declared.stages.RetireStage.TheVariants as stages
-use Rattle.caller_steps.specs.declared.routine.Routine.{Routine}
-use Rattle.caller_steps.specs.declared.routine.Routine.TheVariants.{Idle, LoadSeen, At, InList, Retires, Restarts, Clears, Claims, Zeroes}
-use Rattle.caller_steps.specs.Settings.{Setting}
-use Rattle.caller_steps.specs.Entries.{Entry}
-use Rattle.caller_steps.specs.Operands.{with_word, slot_in, register_number, code_in, instr_in, list_of, new_number, cradle_of}
+use Rattle.caller_parts.specs.declared.routine.Routine.{Routine}
+use Rattle.caller_parts.specs.declared.routine.Routine.TheVariants.{Idle, LoadSeen, At, InList, Retires, Restarts, Clears, Claims, Zeroes}
+use Rattle.caller_parts.specs.Settings.{Setting}
+use Rattle.caller_steps.specs.Entries.{Entry, code_in, instr_in, new_number, cradle_of}
+use Rattle.caller_parts.specs.Operands.{with_word, slot_in, register_number, list_of, succeeds, to_retire, with_new}
 use Rattle.caller_steps.specs.Clearing.{restart_next, clear_next, unguarded}
 use Rattle.caller_steps.specs.Signs.{quiet}
-use Rattle.caller_steps.specs.After.{with_routine, with_hand, hand_at, new_on, then_goes, clear_on, cleared, wrap_up_hand, list_ended, list_begun, plain_stop, stops, stopped, settles, goes_on, first_spot, method_begun, restart_on, restarted, is_wrap_up, check_passed, check_failed, checked, with_restart, with_access, succeeds, to_retire, list_on, onward_goes, retires_then, cas_failed, cas_ended, plain_accepted, instr_accepted, with_published, entry_ended, list_accepted, retired_on, claim_on, with_new, node_made, zeroed, accepted, counted, after}
+use Rattle.caller_steps.specs.After.{with_routine, with_hand, hand_at, new_on, then_goes, clear_on, cleared, wrap_up_hand, list_ended, list_begun, plain_stop, stops, stopped, settles, goes_on, first_spot, method_begun, restart_on, restarted, is_wrap_up, check_passed, check_failed, checked, with_restart, with_access, list_on, onward_goes, retires_then, cas_failed, cas_ended, plain_accepted, instr_accepted, with_published, entry_ended, list_accepted, retired_on, claim_on, node_made, zeroed, accepted, counted, after}
 use Rattle.std.specs.Prelude.{slice_index}
 use Rattle.claim_laws.specs.Untouched.{RegistersAvoid, RoutineAvoids, EntryAvoids}
 use Rattle.claim_laws.proofs.Naming.{null, referred, names_other, first_avoid, run_avoids, retires_other, guard_put, cradle_put, cradle_emptied}

@@ -14,19 +14,19 @@ use Rattle.target_code.specs.TargetLimits.{target_news_in}
 use Rattle.phase_pools.specs.declared.access.ClaimEnd.{ClaimEnd}
 use Rattle.phase_pools.specs.declared.access.ClaimEnd.TheVariants as ends
 use Rattle.phase_pools.specs.Pools.{Claim, ClaimTurn, claim_accepts}
-use Rattle.caller_steps.specs.declared.call.Reply.{Reply}
-use Rattle.caller_steps.specs.declared.call.Reply.TheVariants as replies
-use Rattle.caller_steps.specs.declared.call.Replied.{Replied}
-use Rattle.caller_steps.specs.declared.call.Running.{Running}
-use Rattle.caller_steps.specs.declared.routine.MethodStart.{MethodStart}
-use Rattle.caller_steps.specs.declared.routine.MethodStart.TheVariants as starts
-use Rattle.caller_steps.specs.declared.routine.AfterRetire.TheVariants as retires
-use Rattle.caller_steps.specs.declared.routine.Routine.{Routine}
-use Rattle.caller_steps.specs.declared.routine.Routine.TheVariants.{Idle, LoadSeen, At, InList, Retires, Restarts, Clears, Claims, Zeroes}
-use Rattle.caller_steps.specs.Pairing.{replied_by}
-use Rattle.caller_steps.specs.Settings.{Setting}
-use Rattle.caller_steps.specs.Entries.{Entry, is_idle}
-use Rattle.caller_steps.specs.Operands.{code_in, cradle_of, instr_in, is_new_at, method_code, new_number, news_before}
+use Rattle.caller_parts.specs.declared.call.Reply.{Reply}
+use Rattle.caller_parts.specs.declared.call.Reply.TheVariants as replies
+use Rattle.caller_parts.specs.declared.call.Replied.{Replied}
+use Rattle.caller_parts.specs.declared.call.Running.{Running}
+use Rattle.caller_parts.specs.declared.routine.MethodStart.{MethodStart}
+use Rattle.caller_parts.specs.declared.routine.MethodStart.TheVariants as starts
+use Rattle.caller_parts.specs.declared.routine.AfterRetire.TheVariants as retires
+use Rattle.caller_parts.specs.declared.routine.Routine.{Routine}
+use Rattle.caller_parts.specs.declared.routine.Routine.TheVariants.{Idle, LoadSeen, At, InList, Retires, Restarts, Clears, Claims, Zeroes}
+use Rattle.caller_parts.specs.Pairing.{replied_by}
+use Rattle.caller_parts.specs.Settings.{Setting}
+use Rattle.caller_steps.specs.Entries.{Entry, is_idle, code_in, cradle_of, instr_in, new_number}
+use Rattle.caller_parts.specs.Operands.{is_new_at, method_code, news_before}
 use Rattle.caller_steps.specs.Signs.{Moved}
 use Rattle.caller_steps.specs.After.{after, counted, claim_on, is_wrap_up}
 use Rattle.caller_steps.specs.Belongs.{Belongs, RunsAt, Stands}

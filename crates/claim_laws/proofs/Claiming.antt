@@ -18,8 +18,8 @@ use Rattle.phase_pools.specs.declared.stages.ClaimStage.{ClaimStage}
 use Rattle.phase_pools.specs.declared.stages.ClaimStage.TheVariants as claims
 use Rattle.phase_pools.specs.Accesses.{Loads, Exchanges}
 use Rattle.phase_pools.specs.Pools.{Sweep, sweep_begun, sweep_wants_at, sweep_goes, sweep_ends, sweep_on, sweep_accepts, sweep_accepts_at, freeing, status_read, Claim, ClaimTurn, claim_wants, claim_wants_at, claim_accepts, claim_accepts_at, claim_goes, claim_ends, look_on, look_ended, look_kind, look_read, look_took, sweep_ended}
-use Rattle.caller_steps.specs.declared.routine.Routine.TheVariants.{Claims}
-use Rattle.caller_steps.specs.Settings.{Setting}
+use Rattle.caller_parts.specs.declared.routine.Routine.TheVariants.{Claims}
+use Rattle.caller_parts.specs.Settings.{Setting}
 use Rattle.claim_laws.specs.CallSteps.{StepMade}
 use Rattle.claim_laws.specs.Causes.{Looks, IsMadeInLastLook, IsReadyWord, EndsInVain, EndsInFailedLook}
 

@@ -15,9 +15,9 @@ use Rattle.oa_words.specs.Words.{Word, Phase, Place, Warning, Hazard, Status, Fi
 use Rattle.oa_words.specs.Packed.{status_word}
 use Rattle.oa_words.specs.Starts.{start_kind, start_word, slot_word}
 use Rattle.guard_words.specs.Guards.{guard_at, no_guards, has_slot}
-use Rattle.caller_steps.specs.declared.call.Reply.TheVariants as replies
-use Rattle.caller_steps.specs.declared.call.Replied.{Replied}
-use Rattle.caller_steps.specs.Settings.{Setting, Fits, IsSetting}
+use Rattle.caller_parts.specs.declared.call.Reply.TheVariants as replies
+use Rattle.caller_parts.specs.declared.call.Replied.{Replied}
+use Rattle.caller_parts.specs.Settings.{Setting, Fits, IsSetting}
 use Rattle.caller_steps.specs.Entries.{Entry, idle_entry}
 use Rattle.caller_steps.specs.Lawful.{LawfulValue}
 use Rattle.core_runs.specs.Machine.{CoreState, Reachable, core_start, beginning_of, node_words, root_word}

@@ -19,8 +19,7 @@ use Rattle.target_code.specs.declared.target.TargetInstr.TheVariants.{Plain, Che
 use Rattle.target_code.specs.LocalCode.{target_local_at, target_run}
 use Rattle.oa_words.specs.Packed.{ref_word, slot_part}
 use Rattle.guard_words.specs.Guards.{Guards, guard_at, with_guard, with_slot}
-use Rattle.caller_steps.specs.Operands.{unpacked, with_word, word_in, slot_in}
-use Rattle.caller_steps.specs.After.{emptied, to_retire}
+use Rattle.caller_parts.specs.Operands.{unpacked, with_word, word_in, slot_in, emptied, to_retire}
 use Rattle.caller_laws.proofs.Named.{set_keeps}
 use Rattle.claim_laws.specs.Untouched.{ValueAvoids, RegistersAvoid}
 

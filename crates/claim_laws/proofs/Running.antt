@@ -7,11 +7,11 @@ use mathlib.Core.Logic.{dite}
 use native.Mathlib.Decide.{ℕ_discrete}
 use Rattle.target_code.specs.declared.target.Target.{Target}
 use Rattle.phase_pools.specs.Accesses.{WordAccess}
-use Rattle.caller_steps.specs.declared.call.Call.{Call}
-use Rattle.caller_steps.specs.Pairing.{replied_by}
-use Rattle.caller_steps.specs.Settings.{Setting}
+use Rattle.caller_parts.specs.declared.call.Call.{Call}
+use Rattle.caller_parts.specs.Pairing.{replied_by}
+use Rattle.caller_parts.specs.Settings.{Setting}
 use Rattle.caller_steps.specs.Entries.{Entry, idle_entry, is_idle}
-use Rattle.caller_steps.specs.Calls.{is_call}
+use Rattle.caller_parts.specs.Calls.{is_call}
 use Rattle.caller_steps.specs.Wants.{wants}
 use Rattle.caller_steps.specs.After.{after, taken, counted}
 use Rattle.core_runs.specs.Machine.{CoreState, CoreEvent, Takes, Steps, core_event, core_run, core_start, run_on, event_by, stepped, found_by, made}

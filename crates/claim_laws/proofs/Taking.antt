@@ -6,14 +6,14 @@ use Rattle.target_code.specs.declared.target.Target.{Target}
 use Rattle.target_runs.specs.Runnable.{IsRunnable}
 use Rattle.phase_pools.specs.Accesses.{WordAccess}
 use Rattle.phase_pools.specs.Pools.{Claim, claim_accepts, claim_wants, claim_wants_at}
-use Rattle.caller_steps.specs.declared.call.Reply.{Reply}
-use Rattle.caller_steps.specs.declared.call.Reply.TheVariants as replies
-use Rattle.caller_steps.specs.declared.call.Replied.{Replied}
-use Rattle.caller_steps.specs.declared.call.Running.{Running}
-use Rattle.caller_steps.specs.declared.routine.MethodStart.TheVariants as starts
-use Rattle.caller_steps.specs.declared.routine.Routine.TheVariants.{LoadSeen, Claims}
-use Rattle.caller_steps.specs.Pairing.{replied_by, run_of}
-use Rattle.caller_steps.specs.Settings.{Setting, Fits, IsSetting}
+use Rattle.caller_parts.specs.declared.call.Reply.{Reply}
+use Rattle.caller_parts.specs.declared.call.Reply.TheVariants as replies
+use Rattle.caller_parts.specs.declared.call.Replied.{Replied}
+use Rattle.caller_parts.specs.declared.call.Running.{Running}
+use Rattle.caller_parts.specs.declared.routine.MethodStart.TheVariants as starts
+use Rattle.caller_parts.specs.declared.routine.Routine.TheVariants.{LoadSeen, Claims}
+use Rattle.caller_parts.specs.Pairing.{replied_by, run_of}
+use Rattle.caller_parts.specs.Settings.{Setting, Fits, IsSetting}
 use Rattle.caller_steps.specs.Entries.{Entry, is_idle}
 use Rattle.caller_steps.specs.After.{after, counted}
 use Rattle.caller_steps.specs.Lawful.{Accepts, AsksSafely, IsSafe}

@@ -21,11 +21,11 @@ use Rattle.phase_pools.specs.declared.stages.ClaimStage.{ClaimStage}
 use Rattle.phase_pools.specs.declared.stages.ClaimStage.TheVariants as claims
 use Rattle.phase_pools.specs.Accesses.{WordAccess}
 use Rattle.phase_pools.specs.Pools.{Sweep, sweep_begun, sweep_accepts, Claim, ClaimTurn, claim_accepts, claim_accepts_at, claim_goes, claim_ends, look_on, look_ended, look_kind, look_read, sweep_ended}
-use Rattle.caller_steps.specs.declared.routine.Routine.{Routine}
-use Rattle.caller_steps.specs.declared.routine.Routine.TheVariants.{Idle, LoadSeen, At, InList, Retires, Restarts, Clears, Claims, Zeroes}
-use Rattle.caller_steps.specs.Settings.{Setting, Fits, IsSetting}
+use Rattle.caller_parts.specs.declared.routine.Routine.{Routine}
+use Rattle.caller_parts.specs.declared.routine.Routine.TheVariants.{Idle, LoadSeen, At, InList, Retires, Restarts, Clears, Claims, Zeroes}
+use Rattle.caller_parts.specs.Settings.{Setting, Fits, IsSetting}
 use Rattle.caller_steps.specs.Entries.{Entry, is_idle, one_more}
-use Rattle.caller_steps.specs.Calls.{is_call}
+use Rattle.caller_parts.specs.Calls.{is_call}
 use Rattle.caller_steps.specs.Signs.{Moved}
 use Rattle.caller_steps.specs.Wants.{wants}
 use Rattle.caller_steps.specs.After.{after, taken, counted, claim_on}

@@ -4,15 +4,14 @@ use Rattle.std.specs.Prelude.{◌≡◌, ◌≢◌, ℕ, ◌+◌, ◌≤◌, ◌
 use Rattle.target_code.specs.declared.target.TargetOp.{TargetOp}
 use Rattle.target_code.specs.declared.target.Target.{Target}
 use Rattle.target_code.specs.TargetLimits.{target_news_in}
-use Rattle.caller_steps.specs.declared.call.Call.{Call}
-use Rattle.caller_steps.specs.declared.call.Reply.TheVariants as replies
-use Rattle.caller_steps.specs.declared.call.Replied.{Replied}
-use Rattle.caller_steps.specs.declared.call.Running.{Running}
-use Rattle.caller_steps.specs.declared.routine.MethodStart.TheVariants as starts
-use Rattle.caller_steps.specs.declared.routine.Routine.TheVariants.{LoadSeen}
-use Rattle.caller_steps.specs.Settings.{Setting}
-use Rattle.caller_steps.specs.Entries.{Entry}
-use Rattle.caller_steps.specs.Operands.{cradle_of}
+use Rattle.caller_parts.specs.declared.call.Call.{Call}
+use Rattle.caller_parts.specs.declared.call.Reply.TheVariants as replies
+use Rattle.caller_parts.specs.declared.call.Replied.{Replied}
+use Rattle.caller_parts.specs.declared.call.Running.{Running}
+use Rattle.caller_parts.specs.declared.routine.MethodStart.TheVariants as starts
+use Rattle.caller_parts.specs.declared.routine.Routine.TheVariants.{LoadSeen}
+use Rattle.caller_parts.specs.Settings.{Setting}
+use Rattle.caller_steps.specs.Entries.{Entry, cradle_of}
 use Rattle.caller_steps.specs.After.{after}
 use Rattle.core_runs.specs.Machine.{CoreState, CoreEvent, Reachable, core_run, core_start}
 use Rattle.core_runs.specs.Histories.{calls_of}

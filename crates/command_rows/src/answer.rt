@@ -33,7 +33,7 @@ fn called<R: Threads + Sync>(
 }
 
 /// The status of a row and what was written.
-pub fn answer<R: Threads + Sync>(
+pub(crate) fn answer<R: Threads + Sync>(
     rt: &R,
     alloc: Global,
     world: World,

@@ -2,10 +2,10 @@
 
 /// How many bytes the source gives and the sink takes a call, and the numbers of the calls that fail, from 1; 0 is none.
 #[derive(Clone, Copy, Debug)]
-pub struct World {
-    pub most: usize,
-    pub failing_read: u64,
-    pub failing_write: u64,
+pub(crate) struct World {
+    pub(crate) most: usize,
+    pub(crate) failing_read: u64,
+    pub(crate) failing_write: u64,
 }
 
 /// What stands before the first space, and what stands after it.
@@ -23,14 +23,14 @@ fn number(digits: &str) -> u64 {
 
 impl World {
     /// Nothing fails.
-    pub const KIND: World = World {
+    pub(crate) const KIND: World = World {
         most: 4096,
         failing_read: 0,
         failing_write: 0,
     };
 
     /// The world that a line's three numbers say.
-    pub fn of_line(line: &str) -> World {
+    pub(crate) fn of_line(line: &str) -> World {
         let (most, calls) = cut(line);
         let (read, write) = cut(calls);
         World {

@@ -1,8 +1,8 @@
 -- Runs without nodes: the counter, a wrap-up that loads and begins again, the choice of a root, and exchanges on null.
 use Rattle.std.specs.Prelude.{◌≡◌, true, false, List, [], ◌∷◌, ◌++◌, Some}
 use Rattle.oa_words.specs.Words.{Warning, FieldOf, Cell}
-use Rattle.caller_steps.specs.declared.call.Reply.TheVariants as replies
-use Rattle.caller_steps.specs.Settings.{Setting}
+use Rattle.caller_parts.specs.declared.call.Reply.TheVariants as replies
+use Rattle.caller_parts.specs.Settings.{Setting}
 use Rattle.caller_steps.specs.Signs.{Begins, Accesses}
 use Rattle.core_runs.specs.Machine.{CoreEvent, Takes}
 use Rattle.core_rows.specs.Short.{call_of, setting_of, no_slots}

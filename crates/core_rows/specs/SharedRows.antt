@@ -2,8 +2,8 @@
 -- that stays retired because it is guarded.
 use Rattle.std.specs.Prelude.{◌≡◌, ℕ, List, [], ◌∷◌, ◌++◌, Some}
 use Rattle.oa_words.specs.Words.{Phase, Status, FieldOf, Cell}
-use Rattle.caller_steps.specs.declared.call.Reply.TheVariants as replies
-use Rattle.caller_steps.specs.Settings.{Setting}
+use Rattle.caller_parts.specs.declared.call.Reply.TheVariants as replies
+use Rattle.caller_parts.specs.Settings.{Setting}
 use Rattle.caller_steps.specs.Signs.{Accesses}
 use Rattle.core_runs.specs.Machine.{CoreEvent}
 use Rattle.core_rows.specs.Short.{call_of, setting_of, no_slots}

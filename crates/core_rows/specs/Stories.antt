@@ -4,10 +4,10 @@ use Rattle.guard_words.specs.Guards.{Guards}
 use Rattle.oa_words.specs.Words.{Word, Phase, Warning, Hazard, Status, FieldOf}
 use Rattle.phase_pools.specs.Accesses.{WordAccess, Loads, Stores, Exchanges, Raises}
 use Rattle.target_code.specs.declared.target.Target.{Target}
-use Rattle.caller_steps.specs.declared.call.Call.{Call}
-use Rattle.caller_steps.specs.declared.call.Reply.{Reply}
-use Rattle.caller_steps.specs.Pairing.{reply_of}
-use Rattle.caller_steps.specs.Settings.{Setting}
+use Rattle.caller_parts.specs.declared.call.Call.{Call}
+use Rattle.caller_parts.specs.declared.call.Reply.{Reply}
+use Rattle.caller_parts.specs.Pairing.{reply_of}
+use Rattle.caller_parts.specs.Settings.{Setting}
 use Rattle.caller_steps.specs.Entries.{Entry}
 use Rattle.caller_steps.specs.Wants.{wants}
 use Rattle.caller_steps.specs.After.{signs}

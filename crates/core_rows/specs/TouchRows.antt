@@ -3,7 +3,7 @@
 use Rattle.std.specs.Prelude.{◌≡◌, Bool, true, false, List, [], ◌∷◌, Option, Some}
 use Rattle.guard_words.specs.Guards.{Guards}
 use Rattle.oa_words.specs.Words.{Warning, FieldOf, Cell}
-use Rattle.caller_steps.specs.Settings.{Setting}
+use Rattle.caller_parts.specs.Settings.{Setting}
 use Rattle.caller_steps.specs.Signs.{Begins, Accesses}
 use Rattle.core_rows.specs.Short.{call_of, setting_of}
 use Rattle.core_rows.specs.SmallTargets.{touch_target}

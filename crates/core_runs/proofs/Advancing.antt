@@ -1,10 +1,10 @@
 -- Several steps of one caller.
 use Rattle.std.proofs.Common.{◌≡◌, ◌⊎◌, inl, inr, ⊎_elim, ℕ, true, false, List, [], ◌∷◌, ◌++◌, sym, ap, ◌∙◌, subst}
 use Rattle.target_code.specs.declared.target.Target.{Target}
-use Rattle.caller_steps.specs.declared.call.Replied.{Replied}
-use Rattle.caller_steps.specs.declared.call.Running.{Running}
-use Rattle.caller_steps.specs.Pairing.{replied_by}
-use Rattle.caller_steps.specs.Settings.{Setting}
+use Rattle.caller_parts.specs.declared.call.Replied.{Replied}
+use Rattle.caller_parts.specs.declared.call.Running.{Running}
+use Rattle.caller_parts.specs.Pairing.{replied_by}
+use Rattle.caller_parts.specs.Settings.{Setting}
 use Rattle.caller_steps.specs.Entries.{Entry, is_idle}
 use Rattle.caller_steps.specs.After.{after, counted}
 use Rattle.core_runs.specs.Machine.{OfAll}

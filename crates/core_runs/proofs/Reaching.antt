@@ -1,7 +1,7 @@
 -- Events one after another.
 use Rattle.std.proofs.Common.{◌≡◌, ◌⊎◌, inl, inr, true, List, [], ◌∷◌, ◌++◌, Option, Some, None, refl, sym, ap, ◌∙◌, subst}
 use Rattle.target_code.specs.declared.target.Target.{Target}
-use Rattle.caller_steps.specs.Settings.{Setting}
+use Rattle.caller_parts.specs.Settings.{Setting}
 use Rattle.core_runs.specs.Machine.{CoreState, CoreEvent, core_event, core_run, run_on, core_start, Reachable, OneMore, EventsLead, OfAll}
 
 pub some_is : (a b : CoreState) → Some a ≡ Some b → a ≡ b

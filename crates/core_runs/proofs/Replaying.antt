@@ -10,18 +10,18 @@ use Rattle.schedule_turns.specs.declared.turn.Turn.TheVariants as turns
 use Rattle.schedule_turns.specs.declared.turn.StepKind.{StepKind}
 use Rattle.target_code.specs.declared.target.Target.{Target}
 use Rattle.phase_pools.specs.Accesses.{WordAccess}
-use Rattle.caller_steps.specs.declared.call.Call.{Call}
-use Rattle.caller_steps.specs.declared.call.Replied.{Replied}
-use Rattle.caller_steps.specs.declared.call.Running.{Running}
-use Rattle.caller_steps.specs.Pairing.{run_of}
-use Rattle.caller_steps.specs.Settings.{Setting}
+use Rattle.caller_parts.specs.declared.call.Call.{Call}
+use Rattle.caller_parts.specs.declared.call.Replied.{Replied}
+use Rattle.caller_parts.specs.declared.call.Running.{Running}
+use Rattle.caller_parts.specs.Pairing.{run_of}
+use Rattle.caller_parts.specs.Settings.{Setting}
 use Rattle.caller_steps.specs.Entries.{Entry, one_more, is_idle}
-use Rattle.caller_steps.specs.Calls.{is_call}
+use Rattle.caller_parts.specs.Calls.{is_call}
 use Rattle.caller_steps.specs.Wants.{wants}
 use Rattle.caller_steps.specs.After.{after, taken}
 use Rattle.core_runs.specs.Machine.{CoreState, CoreEvent, Takes, Steps, mover, core_event, core_run, run_on, core_start, event_by, stepped, found_by}
 use Rattle.core_runs.specs.Histories.{bumped, with_event, with_events, running_of, calls_of, calls_in}
-use Rattle.core_runs.specs.Scripts.{script_of, AreOfScript, last_steps, HasEnded, IsComplete, SuitScripts}
+use Rattle.core_runs.specs.Scripts.{script_of, AreOfScript, last_steps, HasEnded, IsCompleteRun, SuitScripts}
 use Rattle.core_runs.specs.Replays.{Replay, Replaying, Refusal, StepOfNobody, LongReplay, replay_start, is_spent, take_events, caller_events, next_events, stepped_to, step_by, one_step, go_further, most_steps, wants_kind, steps_made, upto_made, ended_calls, ops_made, turn_made, turns_made, ended_or, caller_ended, callers_ended, replayed, steps_in, ReplaysReach}
 use Rattle.core_runs.proofs.Reaching.{some_is, run_both}
 use Rattle.core_runs.proofs.Keeping.{bumped_last, got_other, kept_calls, idle_within, run_count}
@@ -390,7 +390,7 @@ has_ended p r c e held lt at none = by (is_idle e.routine) refl (ap (caller_even
       ap last_steps those ∙ (last_is (map run_of e.replies) e.running ∙ omega (arith, most, few))
 
 reach : (p : Replay) (turns : List Turn) (r : Replaying) → SuitScripts p.target p.setting p.scripts → 1 ≤ p.fuel → replayed p turns ≡ Ok r
-    → IsComplete p.target p.setting p.scripts p.fuel r.events r.state × (steps_in r.events ≡ r.steps) × (r.steps ≤ p.limit)
+    → IsCompleteRun p.target p.setting p.scripts p.fuel r.events r.state × (steps_in r.events ≡ r.steps) × (r.steps ≤ p.limit)
 reach p turns r suit some ok =
     let f = further (turns_made p turns (replay_start p)) (callers_ended p 0 p.setting.sizes.callers) r ok in
     let mid : Holding p f.0 = turns_kept p (Holding p) (λ c x x'. step_holds p some c x x') turns (replay_start p) f.0 (start_holds p) f.1 in

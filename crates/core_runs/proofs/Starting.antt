@@ -5,7 +5,7 @@ use Rattle.target_code.specs.declared.target.Target.{Target}
 use Rattle.oa_words.specs.Words.{Word, in_row, address_of}
 use Rattle.oa_words.specs.Starts.{Suits, start_word, start_words}
 use Rattle.oa_words.proofs.StartPlaces.{starts_as_named}
-use Rattle.caller_steps.specs.Settings.{Setting}
+use Rattle.caller_parts.specs.Settings.{Setting}
 use Rattle.caller_steps.specs.Entries.{idle_entry}
 use Rattle.core_runs.specs.Machine.{core_start, beginning_of, idle_from, OfAll}
 use Rattle.core_runs.specs.Views.{view, StartIsSeen}

@@ -10,10 +10,10 @@ use Rattle.target_code.specs.declared.target.TargetOp.{TargetOp}
 use Rattle.target_code.specs.declared.target.Target.{Target}
 use Rattle.schedule_turns.specs.declared.turn.Turn.TheVariants as turns
 use Rattle.schedule_turns.specs.declared.turn.StepKind.TheVariants as stepkinds
-use Rattle.caller_steps.specs.declared.call.Call.{Call}
-use Rattle.caller_steps.specs.declared.call.Replied.{Replied}
-use Rattle.caller_steps.specs.declared.call.Reply.TheVariants as replies
-use Rattle.caller_steps.specs.Settings.{Setting}
+use Rattle.caller_parts.specs.declared.call.Call.{Call}
+use Rattle.caller_parts.specs.declared.call.Replied.{Replied}
+use Rattle.caller_parts.specs.declared.call.Reply.TheVariants as replies
+use Rattle.caller_parts.specs.Settings.{Setting}
 use Rattle.caller_steps.specs.Entries.{Entry}
 use Rattle.caller_steps.specs.Wants.{wants}
 use Rattle.caller_steps.specs.Signs.{Begins, Accesses, Renews}

@@ -9,10 +9,10 @@ use Rattle.oa_words.specs.Words.{Word, address_of}
 use Rattle.oa_words.specs.Packed.{ref_word}
 use Rattle.oa_words.specs.Starts.{Beginning, start_words}
 use Rattle.phase_pools.specs.Accesses.{WordAccess, word_of, word_after}
-use Rattle.caller_steps.specs.declared.call.Call.{Call}
-use Rattle.caller_steps.specs.Settings.{Setting}
+use Rattle.caller_parts.specs.declared.call.Call.{Call}
+use Rattle.caller_parts.specs.Settings.{Setting}
 use Rattle.caller_steps.specs.Entries.{Entry, idle_entry, is_idle}
-use Rattle.caller_steps.specs.Calls.{is_call}
+use Rattle.caller_parts.specs.Calls.{is_call}
 use Rattle.caller_steps.specs.Wants.{wants}
 use Rattle.caller_steps.specs.After.{after, taken}
 

@@ -7,16 +7,15 @@ use Rattle.schedule_turns.specs.declared.turn.StepKind.TheVariants as kinds
 use Rattle.target_code.specs.declared.target.Target.{Target}
 use Rattle.oa_words.specs.Words.{FieldOf, Cell}
 use Rattle.phase_pools.specs.Accesses.{WordAccess, Loads, Exchanges}
-use Rattle.caller_steps.specs.declared.call.Call.{Call}
-use Rattle.caller_steps.specs.declared.routine.Routine.{Routine}
-use Rattle.caller_steps.specs.declared.routine.Routine.TheVariants.{At}
-use Rattle.caller_steps.specs.Settings.{Setting}
-use Rattle.caller_steps.specs.Entries.{Entry, is_idle}
-use Rattle.caller_steps.specs.Operands.{instr_in}
+use Rattle.caller_parts.specs.declared.call.Call.{Call}
+use Rattle.caller_parts.specs.declared.routine.Routine.{Routine}
+use Rattle.caller_parts.specs.declared.routine.Routine.TheVariants.{At}
+use Rattle.caller_parts.specs.Settings.{Setting}
+use Rattle.caller_steps.specs.Entries.{Entry, is_idle, instr_in}
 use Rattle.caller_steps.specs.Wants.{wants}
 use Rattle.caller_steps.specs.Belongs.{is_check_at}
 use Rattle.core_runs.specs.Machine.{CoreState, CoreEvent, Takes, Steps, core_run, core_start}
-use Rattle.core_runs.specs.Scripts.{script_of, IsComplete, SuitScripts}
+use Rattle.core_runs.specs.Scripts.{script_of, IsCompleteRun, SuitScripts}
 
 -- what is replayed: `fuel` steps at most for each call, and `limit` steps at most in all
 pub record Replay : Type 0 where
@@ -200,4 +199,4 @@ steps_in (Steps c ∷ events) = steps_in events + 1
 -- what a replay answers is a complete run of its scripts
 pub record ReplaysReach (p : Replay) : Type 0 where
   pub each : (turns : List Turn) (r : Replaying) → SuitScripts p.target p.setting p.scripts → 1 ≤ p.fuel → replayed p turns ≡ Ok r
-      → IsComplete p.target p.setting p.scripts p.fuel r.events r.state × (steps_in r.events ≡ r.steps) × (r.steps ≤ p.limit)
+      → IsCompleteRun p.target p.setting p.scripts p.fuel r.events r.state × (steps_in r.events ≡ r.steps) × (r.steps ≤ p.limit)

@@ -1,11 +1,11 @@
 -- Runs of scripts: each caller has a list of calls.
 use Rattle.std.specs.Prelude.{◌≡◌, ℕ, ◌≤◌, ◌<◌, Bool, true, false, List, [], ◌∷◌, length, Some, slice_get, slice_index_or, All}
 use Rattle.target_code.specs.declared.target.Target.{Target}
-use Rattle.caller_steps.specs.declared.call.Call.{Call}
-use Rattle.caller_steps.specs.declared.call.Running.{Running}
-use Rattle.caller_steps.specs.Settings.{Setting}
+use Rattle.caller_parts.specs.declared.call.Call.{Call}
+use Rattle.caller_parts.specs.declared.call.Running.{Running}
+use Rattle.caller_parts.specs.Settings.{Setting}
 use Rattle.caller_steps.specs.Entries.{Entry, is_idle}
-use Rattle.caller_steps.specs.Calls.{AreCalls}
+use Rattle.caller_parts.specs.Calls.{AreCalls}
 use Rattle.core_runs.specs.Machine.{CoreState, CoreEvent, core_run, core_start}
 use Rattle.core_runs.specs.Histories.{calls_in}
 
@@ -42,6 +42,6 @@ HasEnded fuel script calls true = length calls ≡ length script
 HasEnded fuel script calls false = last_steps calls ≡ fuel
 
 -- a run of scripts is complete where each caller has ended its script, or has a call that was given `fuel` steps and hasn't ended
-pub record IsComplete (target : Target) (setting : Setting) (scripts : List (List Call)) (fuel : ℕ) (events : List CoreEvent) (state : CoreState) : Type 0 where
+pub record IsCompleteRun (target : Target) (setting : Setting) (scripts : List (List Call)) (fuel : ℕ) (events : List CoreEvent) (state : CoreState) : Type 0 where
   pub run : IsRunOf target setting scripts fuel events state
   pub ended : (c : ℕ) (e : Entry) → slice_get state.entries c ≡ Some e → HasEnded fuel (script_of scripts c) (calls_in c events) (is_idle e.routine)

@@ -4,10 +4,10 @@ use Rattle.target_code.specs.declared.target.Target.{Target}
 use Rattle.oa_words.specs.Words.{Word, in_row, word_count}
 use Rattle.oa_words.specs.Starts.{Suits, start_word}
 use Rattle.phase_pools.specs.Accesses.{WordAccess, word_of, word_after}
-use Rattle.caller_steps.specs.declared.call.Call.{Call}
-use Rattle.caller_steps.specs.Settings.{Setting}
+use Rattle.caller_parts.specs.declared.call.Call.{Call}
+use Rattle.caller_parts.specs.Settings.{Setting}
 use Rattle.caller_steps.specs.Entries.{Entry, idle_entry, is_idle}
-use Rattle.caller_steps.specs.Calls.{is_call}
+use Rattle.caller_parts.specs.Calls.{is_call}
 use Rattle.caller_steps.specs.Wants.{wants}
 use Rattle.caller_steps.specs.After.{after, taken, signs}
 use Rattle.core_runs.specs.Machine.{CoreState, CoreEvent, Takes, Steps, core_event, core_start, beginning_of}

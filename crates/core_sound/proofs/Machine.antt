@@ -5,13 +5,13 @@ use Rattle.std.proofs.lemmas.Bool.Decides.{eqb_tells}
 use Rattle.target_code.specs.declared.target.Target.{Target}
 use Rattle.oa_words.specs.Words.{Word, address_of, in_row, word_count}
 use Rattle.phase_pools.specs.Accesses.{WordAccess, Loads, Stores, Exchanges, Raises, word_of, word_after}
-use Rattle.caller_steps.specs.declared.call.Call.{Call}
-use Rattle.caller_steps.specs.Calls.{is_call}
-use Rattle.caller_steps.specs.Settings.{Fits, Setting}
+use Rattle.caller_parts.specs.declared.call.Call.{Call}
+use Rattle.caller_parts.specs.Calls.{is_call}
+use Rattle.caller_parts.specs.Settings.{Fits, Setting}
 use Rattle.caller_steps.specs.Entries.{Entry, is_idle}
 use Rattle.caller_steps.specs.Wants.{wants}
 use Rattle.caller_steps.specs.After.{after, taken}
-use Rattle.caller_steps.specs.Lawful.{Accepts, AsksSafely, IsLawful, IsSafe, Told}
+use Rattle.caller_steps.specs.Lawful.{Accepts, AsksSafely, IsLawful, IsSafe, MayBeTold}
 use Rattle.caller_steps.specs.Belongs.{Belongs}
 use Rattle.core_runs.specs.Machine.{CoreEvent, CoreState, Steps, Takes, core_event, event_by, found_by, made, stepped}
 use Rattle.caller_laws.proofs.Methods.{Methods, SettingSane}
@@ -72,8 +72,8 @@ step_sound target setting state c e a sane some fits s there busy is = record {
   safe : IsSafe target setting a
   safe = subst (λ (o : Option WordAccess). AsksSafely target setting o) is (wants_safe target setting e sane some fits own.0 busy)
 
-  told : Told target setting (wants target e) (found_by setting state a)
-  told = subst (λ (o : Option WordAccess). Told target setting o (found_by setting state a)) (sym is) (found_told target setting state a s safe)
+  told : MayBeTold target setting (wants target e) (found_by setting state a)
+  told = subst (λ (o : Option WordAccess). MayBeTold target setting o (found_by setting state a)) (sym is) (found_told target setting state a s safe)
 
 some_is : (a b : CoreState) → Some a ≡ Some b → a ≡ b
 some_is a b e = cc

@@ -7,7 +7,7 @@ use Rattle.norm_lang.specs.InstructionRules.{field_kind, root_kind}
 use Rattle.target_code.specs.declared.target.Target.{Target}
 use Rattle.oa_words.specs.Words.{Phase, Warning, Hazard, Status, FieldOf, Cell, address_of, in_row, word_count}
 use Rattle.phase_pools.specs.Accesses.{WordAccess, word_of}
-use Rattle.caller_steps.specs.Settings.{Fits, Setting}
+use Rattle.caller_parts.specs.Settings.{Fits, Setting}
 use Rattle.caller_steps.specs.Entries.{Entry, is_idle}
 use Rattle.caller_steps.specs.Wants.{wants}
 use Rattle.caller_steps.specs.Lawful.{AsksSafely, IsLawful, IsSafe, LawfulValue, is_place}

@@ -22,7 +22,7 @@ use Rattle.oa_words.specs.Starts.{Suits, start_kind, field_word, slot_word, star
 use Rattle.oa_words.specs.Laws.{StartsAsNamed}
 use Rattle.oa_words.proofs.Parts.{status_back}
 use Rattle.oa_words.proofs.StartPlaces.{starts_as_named}
-use Rattle.caller_steps.specs.Settings.{Setting, Fits, IsSetting}
+use Rattle.caller_parts.specs.Settings.{Setting, Fits, IsSetting}
 use Rattle.caller_steps.specs.Entries.{Entry, idle_entry}
 use Rattle.caller_steps.specs.Lawful.{IsLawful, LawfulValue}
 use Rattle.caller_steps.specs.Belongs.{Belongs}

@@ -11,7 +11,7 @@ use Rattle.oa_words.specs.Words.{Word, Phase, Warning, Hazard, Status, FieldOf, 
 use Rattle.oa_words.specs.Packed.{slot_part}
 use Rattle.oa_words.specs.Starts.{Suits}
 use Rattle.phase_pools.specs.Accesses.{WordAccess, word_of}
-use Rattle.caller_steps.specs.Settings.{Setting, Fits, IsSetting}
+use Rattle.caller_parts.specs.Settings.{Setting, Fits, IsSetting}
 use Rattle.caller_steps.specs.Entries.{Entry}
 use Rattle.caller_steps.specs.Wants.{wants}
 use Rattle.caller_steps.specs.Lawful.{IsLawful, LawfulPhase, LawfulStatus, is_place}

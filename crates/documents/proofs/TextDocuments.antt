@@ -10,7 +10,7 @@ use Rattle.norm_lang.specs.Faults.{LineFault, form_fault, ◌>>=◌, at_line}
 use Rattle.norm_lang.specs.Declarations.{version_line}
 use Rattle.norm_lang.specs.Grammar.{Start, Opening, Draft, draft_at, is_comment, plain, finished, in_start, after_words as words_drafted, after_line as line_drafted, after_lines as lines_drafted}
 use Rattle.line_words.specs.Lines.{first_word}
-use Rattle.norm_parser.specs.FrontRead.{from_line, line_word, ends_text, names_text, behind_text, end_at}
+use Rattle.norm_parser.specs.FrontRead.{from_line, line_word, ends_text, names_text, after_text, end_at}
 use Rattle.norm_parser.specs.Version.{is_version, version_in, after_version}
 use Rattle.norm_parser.proofs.Fronts.{earlier}
 use Rattle.documents.specs.DocumentRead.{empty_tail, document_of, document_read}
@@ -44,36 +44,36 @@ ends_all n past lines count =
     let first = first_number n past lines count in
     rw first (omega arith, all_later n n lines (omega arith))
 
-ends_behind : (n past : ℕ) (lines : List (List ℕ)) → n + length lines ≡ past → Ends n past (numbered n lines) (behind_text (numbered n lines))
+ends_behind : (n past : ℕ) (lines : List (List ℕ)) → n + length lines ≡ past → Ends n past (numbered n lines) (after_text (numbered n lines))
 ends_behind n past [] count = (omega (arith, count), refl)
 ends_behind n past (line ∷ lines) count =
     go (ends_text (line_word (record { number = n; bytes = line }))) (names_text (line_word (record { number = n; bytes = line }))) (ends_behind (n + 1) past lines (omega (arith, count)))
   where
-    go : (ended named : Bool) → Ends (n + 1) past (numbered (n + 1) lines) (behind_text (numbered (n + 1) lines))
-        → Ends n past (numbered n (line ∷ lines)) (if ended then record { number = n; bytes = line } ∷ numbered (n + 1) lines else (if named then numbered (n + 1) lines else behind_text (numbered (n + 1) lines)))
+    go : (ended named : Bool) → Ends (n + 1) past (numbered (n + 1) lines) (after_text (numbered (n + 1) lines))
+        → Ends n past (numbered n (line ∷ lines)) (if ended then record { number = n; bytes = line } ∷ numbered (n + 1) lines else (if named then numbered (n + 1) lines else after_text (numbered (n + 1) lines)))
     go true named rest = ends_all n past (line ∷ lines) count
     go false true rest = one_before n past line (numbered (n + 1) lines) (numbered (n + 1) lines) (ends_all (n + 1) past lines (omega (arith, count)))
-    go false false rest = one_before n past line (numbered (n + 1) lines) (behind_text (numbered (n + 1) lines)) rest
+    go false false rest = one_before n past line (numbered (n + 1) lines) (after_text (numbered (n + 1) lines)) rest
 
 ends_same : (n past : ℕ) (lines behind others : List TextLine) → behind ≡ others → Ends n past lines others → Ends n past lines behind
 ends_same n past lines behind others same ends = rw same ends
 
-ends_from : (start n past : ℕ) (lines : List (List ℕ)) → n + length lines ≡ past → Ends n past (numbered n lines) (behind_text (from_line start (numbered n lines)))
+ends_from : (start n past : ℕ) (lines : List (List ℕ)) → n + length lines ≡ past → Ends n past (numbered n lines) (after_text (from_line start (numbered n lines)))
 ends_from start n past [] count = (omega (arith, count), refl)
 ends_from start n past (line ∷ lines) count = go (ends_from start (n + 1) past lines (omega (arith, count)))
   where
     left : List TextLine
     left = from_line start (numbered n (line ∷ lines))
 
-    go : Ends (n + 1) past (numbered (n + 1) lines) (behind_text (from_line start (numbered (n + 1) lines))) → Ends n past (numbered n (line ∷ lines)) (behind_text left)
+    go : Ends (n + 1) past (numbered (n + 1) lines) (after_text (from_line start (numbered (n + 1) lines))) → Ends n past (numbered n (line ∷ lines)) (after_text left)
     go rest =
         ⊎_elim
         (λ before.
-        ends_same n past (numbered n (line ∷ lines)) (behind_text left) (behind_text (from_line start (numbered (n + 1) lines)))
-        (ap behind_text (earlier start (record { number = n; bytes = line }) (numbered (n + 1) lines) before))
-        (one_before n past line (numbered (n + 1) lines) (behind_text (from_line start (numbered (n + 1) lines))) rest))
+        ends_same n past (numbered n (line ∷ lines)) (after_text left) (after_text (from_line start (numbered (n + 1) lines)))
+        (ap after_text (earlier start (record { number = n; bytes = line }) (numbered (n + 1) lines) before))
+        (one_before n past line (numbered (n + 1) lines) (after_text (from_line start (numbered (n + 1) lines))) rest))
         (λ from.
-        ends_same n past (numbered n (line ∷ lines)) (behind_text left) (behind_text (numbered n (line ∷ lines))) (ap behind_text (all_later n start (line ∷ lines) from))
+        ends_same n past (numbered n (line ∷ lines)) (after_text left) (after_text (numbered n (line ∷ lines))) (ap after_text (all_later n start (line ∷ lines) from))
         (ends_behind n past (line ∷ lines) count))
         (cases_lt n start)
 

@@ -11,7 +11,7 @@ use Rattle.norm_lang.specs.Faults.{form_fault, ◌>>=◌, at_line}
 use Rattle.norm_lang.specs.Declarations.{use_line}
 use Rattle.norm_lang.specs.Grammar.{Section, Start, Opening, Fields, Nodes, Roots, Begun, Generator, WrapUp, Shipped, Draft, in_section, in_place, is_comment, plain, after_words as words_drafted, after_line as line_drafted, after_lines as lines_drafted}
 use Rattle.line_words.specs.Lines.{first_word}
-use Rattle.norm_parser.specs.FrontRead.{front_of, line_word, ends_text, names_text, text_lines, behind_text}
+use Rattle.norm_parser.specs.FrontRead.{front_of, line_word, ends_text, names_text, text_lines, after_text}
 use Rattle.documents.specs.DocumentRead.{Tail, empty_tail, after_words, after_line, after_lines}
 
 -- what is read, or this
@@ -139,7 +139,7 @@ skips_all draft last tail (line ∷ lines) whole read = go (line_drafted draft l
 
 -- the text's own lines are all that say something
 pub own_lines : (draft last : Draft) (lines : List TextLine) → lines_drafted draft lines ≡ Ok last
-    → (lines_drafted draft (text_lines lines) ≡ Ok last) × (after_lines empty_tail (behind_text lines) ≡ Ok empty_tail)
+    → (lines_drafted draft (text_lines lines) ≡ Ok last) × (after_lines empty_tail (after_text lines) ≡ Ok empty_tail)
 own_lines draft last [] read = (read, refl)
 own_lines draft last (line ∷ lines) read =
     go (ends_text (line_word line)) (names_text (line_word line)) (line_drafted draft line) refl refl refl read (λ next. own_lines next last lines)
@@ -147,9 +147,9 @@ own_lines draft last (line ∷ lines) read =
     go : (ended named : Bool) (r : Result Draft ℕ) → ends_text (line_word line) ≡ ended → names_text (line_word line) ≡ named → line_drafted draft line ≡ r
         → (at_line line.number r >>= λ next. lines_drafted next lines) ≡ Ok last
         → ((next : Draft) → lines_drafted next lines ≡ Ok last
-        → (lines_drafted next (text_lines lines) ≡ Ok last) × (after_lines empty_tail (behind_text lines) ≡ Ok empty_tail))
+        → (lines_drafted next (text_lines lines) ≡ Ok last) × (after_lines empty_tail (after_text lines) ≡ Ok empty_tail))
         → (lines_drafted draft (if ended then [] else (if named then line ∷ [] else line ∷ text_lines lines)) ≡ Ok last)
-        × (after_lines empty_tail (if ended then line ∷ lines else (if named then lines else behind_text lines)) ≡ Ok empty_tail)
+        × (after_lines empty_tail (if ended then line ∷ lines else (if named then lines else after_text lines)) ≡ Ok empty_tail)
     go ended named (Err fault) e n same read others = absurd (let f : ⊥ = cc in f)
     go true named (Ok next) e n same read others = absurd (no_ending draft next line e same)
     go false true (Ok next) e n same read others =

@@ -37,14 +37,28 @@ pub record Tail : Type 0 where
   pub script : List ScriptCall
   pub schedule : List Turn
 
+-- ---- the settings of a document that doesn't set them
+
+abbrev pub default_slots : ℕ
+default_slots = 64
+
+abbrev pub default_first : ℕ
+default_first = 1
+
+abbrev pub default_last : ℕ
+default_last = 1000000000
+
+abbrev pub default_fuel : ℕ
+default_fuel = 1000000
+
 -- no line after the text has been read: the settings are the defaults
 abbrev pub empty_tail : Tail
 empty_tail = record {
   stage = AfterText;
-  slots = 64;
-  first = 1;
-  last = 1000000000;
-  fuel = 1000000;
+  slots = default_slots;
+  first = default_first;
+  last = default_last;
+  fuel = default_fuel;
   scripts = [];
   script = [];
   schedule = [];

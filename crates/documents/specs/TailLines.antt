@@ -11,6 +11,7 @@ use Rattle.schedule_turns.specs.declared.turn.StepKind.TheVariants as kinds
 use Rattle.schedule_turns.specs.declared.turn.Turn.{Turn}
 use Rattle.schedule_turns.specs.declared.turn.Turn.TheVariants as turns
 use Rattle.documents.specs.declared.document.ScriptCall.{ScriptCall}
+use Rattle.documents.specs.DocumentLimits.{most_calls}
 
 -- `slots S` and `fuel N`: one number
 abbrev pub setting_line : List (List ℕ) → Result ℕ ℕ
@@ -66,7 +67,7 @@ abbrev pub call_line : ℕ → ℕ → List ℕ → List (List ℕ) → Result S
 call_line line calls word rest = do
   named ← demand form_fault (is_name word)
   args ← arguments_at rest
-  room ← demand too_many (nat_lt calls 100000)
+  room ← demand too_many (nat_lt calls most_calls)
   Ok (record { line = line; name = word; args = args })
 
 -- `load`, `check` or `exchange`

@@ -3,7 +3,7 @@
 ghost use Rattle.line_words.specs.Answered.{Reads, Gives};
 ghost use Rattle.documents.specs.TailLines.{script_line, arguments_at, call_line};
 
-use crate::document::{Numbers, ScriptCall};
+use crate::document::{MOST_CALLS, Numbers, ScriptCall};
 use line_words::fault::{Fault, Stop};
 use line_words::number::number_in;
 use line_words::words::{Words, name};
@@ -11,8 +11,6 @@ use norm_lang::list::Listed;
 use std::alloc::Global;
 
 const MOST_SCRIPTS: usize = 256;
-
-const MOST_CALLS: usize = 100_000;
 
 /// `script C`, where C is the next script's number: at most 256 scripts.
 pub(crate) fn script(next: usize, words: &mut Words) -> Result<(), Fault>
@@ -62,7 +60,7 @@ pub(crate) fn call(
         return Err(Stop::Fault(Fault::Form));
     }
     let args = arguments(alloc, words)?;
-    if calls >= MOST_CALLS {
+    if calls >= MOST_CALLS as usize {
         return Err(Stop::Fault(Fault::TooMany));
     }
     Ok(ScriptCall {

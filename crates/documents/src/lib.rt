@@ -11,5 +11,8 @@ mod sections;
 mod settings;
 mod tail;
 
-pub use document::{Document, Numbers, Script, ScriptCall, Scripts, Turns};
+pub use document::{
+    DEFAULT_FIRST, DEFAULT_FUEL, DEFAULT_LAST, DEFAULT_SLOTS, Document, MOST_CALLS, Numbers,
+    Script, ScriptCall, Scripts, Turns,
+};
 pub use reader::read_document;

@@ -4,7 +4,9 @@ ghost use Rattle.std.specs.Prelude.{◌≡◌, [], length, IfOk};
 ghost use Rattle.documents.specs.DocumentRead.{empty_tail, may_set_slots, may_set_phases, may_set_fuel, whole_scripts, with_script, with_schedule, document_of};
 ghost use Rattle.documents.specs.TailShown.{stage_shown, tail_shown};
 
-use crate::document::{Document, Script, Scripts, Turns};
+use crate::document::{
+    DEFAULT_FIRST, DEFAULT_FUEL, DEFAULT_LAST, DEFAULT_SLOTS, Document, Script, Scripts, Turns,
+};
 use norm_lang::list::Listed;
 use norm_lang::text::Text;
 use std::alloc::{AllocError, Global};
@@ -70,10 +72,10 @@ impl Tail {
     {
         Tail {
             stage: Stage::Slots,
-            slots: 64,
-            first: 1,
-            last: 1_000_000_000,
-            fuel: 1_000_000,
+            slots: DEFAULT_SLOTS,
+            first: DEFAULT_FIRST,
+            last: DEFAULT_LAST,
+            fuel: DEFAULT_FUEL,
             scripts: Listed::empty(alloc),
             script: Listed::empty(alloc),
             schedule: Listed::empty(alloc),

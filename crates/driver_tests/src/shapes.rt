@@ -2,8 +2,10 @@
 
 use crate::told::{Command, Told, refuses, tell};
 use script_driver::RunFault;
+use std::alloc::Global;
 use std::process::Abort;
 use std::test::Fail;
+use std::thread::Threads;
 
 /// The text of a counter.
 const COUNTER: &[u8] =
@@ -48,59 +50,32 @@ fn a_step_of_nobody_is_refused(rt: HostRuntime) -> Result<(), Fail> {
     )
 }
 
+/// `run` finds this fault in the shape of a document on the list.
+fn run_finds<R: Abort + Threads + Sync>(
+    rt: &R,
+    alloc: Global,
+    after: &[u8],
+    fault: RunFault,
+) -> Result<(), Fail> {
+    refuses(rt, alloc, Command::Run, LIST, after, fault)
+}
+
 /// The settings come before the call lines, and the first call line decides.
 #[test]
 fn the_first_fault_is_told(rt: HostRuntime) -> Result<(), Fail> {
     let alloc = rt.alloc();
-    refuses(&rt, alloc, Command::Run, LIST, b"slots 0\n", shape(1, 0))?;
-    refuses(
+    run_finds(&rt, alloc, b"slots 0\n", shape(1, 0))?;
+    run_finds(&rt, alloc, b"slots 0\nscript 0\n", shape(2, 0))?;
+    run_finds(&rt, alloc, b"slots 4097\nfuel 0\nscript 0\n", shape(2, 0))?;
+    run_finds(
         &rt,
         alloc,
-        Command::Run,
-        LIST,
-        b"slots 0\nscript 0\n",
-        shape(2, 0),
-    )?;
-    refuses(
-        &rt,
-        alloc,
-        Command::Run,
-        LIST,
-        b"slots 4097\nfuel 0\nscript 0\n",
-        shape(2, 0),
-    )?;
-    refuses(
-        &rt,
-        alloc,
-        Command::Run,
-        LIST,
         b"phases 5 1\nfuel 0\nscript 0\nfly\n",
         shape(6, 0),
     )?;
-    refuses(
-        &rt,
-        alloc,
-        Command::Run,
-        LIST,
-        b"fuel 0\nscript 0\nfly\n",
-        shape(7, 0),
-    )?;
-    refuses(
-        &rt,
-        alloc,
-        Command::Run,
-        LIST,
-        b"script 0\nfly 5\n",
-        shape(8, 4),
-    )?;
-    refuses(
-        &rt,
-        alloc,
-        Command::Run,
-        LIST,
-        b"script 0\ninsert\nfly\n",
-        shape(9, 4),
-    )
+    run_finds(&rt, alloc, b"fuel 0\nscript 0\nfly\n", shape(7, 0))?;
+    run_finds(&rt, alloc, b"script 0\nfly 5\n", shape(8, 4))?;
+    run_finds(&rt, alloc, b"script 0\ninsert\nfly\n", shape(9, 4))
 }
 
 #[test]

@@ -1,5 +1,5 @@
 -- No claim takes a slot that a validated guard names.
-use Rattle.std.proofs.Common.{ℕ, ◌≡◌, ◌<◌, ◌∙◌, List, Some, arith, sym, ap, subst, refl}
+use Rattle.std.proofs.Common.{ℕ, ◌≡◌, ◌<◌, ◌∙◌, List, Some, arith, ap, refl}
 use Rattle.std.specs.Prelude.{nat_le}
 use Rattle.norm_lang.specs.declared.text.Text.{Text}
 use Rattle.target_code.specs.declared.target.Target.{Target}
@@ -9,7 +9,7 @@ use Rattle.oa_words.specs.declared.packed.Kind.TheVariants as kinds
 use Rattle.oa_words.specs.Packed.{status_word}
 use Rattle.caller_laws.proofs.Methods.{setting_sane}
 use Rattle.caller_laws.proofs.Together.{methods}
-use Rattle.caller_steps.specs.Settings.{Setting, Fits, IsSetting}
+use Rattle.caller_parts.specs.Settings.{Setting, Fits, IsSetting}
 use Rattle.core_runs.specs.Machine.{CoreState, CoreEvent, core_run, core_start}
 use Rattle.core_runs.specs.RunSigns.{run_signs}
 use Rattle.core_runs.specs.Views.{view}
@@ -26,10 +26,10 @@ use Rattle.oa_simulation.specs.Shadow.{Shadow, shadow_run, shadow_start}
 use Rattle.oa_simulation.specs.Relation.{HomeIs}
 use Rattle.sim_starts.proofs.FirstWords.{first_words}
 use Rattle.oa_simulation.proofs.Homes.{home_stays}
-use Rattle.oa_simulation.proofs.Refining.{either, plan_of, start_beside}
-use Rattle.oa_simulation.proofs.Worlds.{no_guarded_ready}
+use Rattle.oa_simulation.proofs.Refining.{either, plan_of, start_beside, start_sets_none}
 use Rattle.guarded_claims.specs.Marks.{IsValidated, Absent, Published, Validated, no_marks, run_marks}
 use Rattle.guarded_claims.specs.Guarded.{GuardsAreSpared}
+use Rattle.guarded_claims.proofs.Covered.{covered_spares}
 use Rattle.guarded_claims.proofs.Runs.{MarkedBeside, run_marked}
 
 -- every state that a run comes to, with the run's marks
@@ -55,8 +55,11 @@ marked target text setting runs own fits proper events state is =
     (record {
       beside = first;
       marked = λ c lt. record {
-        validated = λ r p mark. absurd (let z : Absent ≡ Validated p = mark in cc);
-        published = λ r p mark. absurd (let z : Absent ≡ Published p = mark in cc);
+        own = record {
+          was_set = start_sets_none t plan own (start_is_seen target setting) (start_suits target text setting runs own fits).suits (first_words t runs own fits homes) c;
+          published = λ r mark. absurd (let z : Absent ≡ Published = mark in cc);
+        };
+        covered = λ r mark. absurd (let z : Absent ≡ Validated = mark in cc);
       };
     }) is (λ n lt. refl)
 
@@ -66,8 +69,7 @@ spares target text setting runs own fits proper events state is =
     let k = marked target text setting runs own fits proper events state is in
     let b = k.beside in
     let not_ready : (c r q : ℕ) → c < setting.sizes.callers → IsValidated target setting events c r → (view setting state).memory (Status ((view setting state).memory (Hazard c r))) ≡ status_word q kinds.Ready → ⊥ = λ c r q lt valid ready.
-    (let some = (k.marked c lt).validated r valid.0 valid.1 valid.2 in
-    no_guarded_ready t b.w.shared b.holds.fine c r q (λ none. some (sym ((b.holds.told c lt).base.protects r) ∙ none)) (ap (λ (m : Word → ℕ). m (Status (m (Hazard c r)))) b.memory ∙ ready)) in
+    covered_spares t b.w c r q b.holds.shared_holds ((k.marked c lt).covered r valid) (ap (λ (m : Word → ℕ). m (Status (m (Hazard c r)))) b.memory ∙ ready) in
     record {
       not_ready = not_ready;
       not_taken = λ c r d j lt valid takes named. not_ready c r takes.phase lt valid (ap (λ (j : ℕ). (view setting state).memory (Status j)) named ∙ takes.ready);

@@ -7,7 +7,7 @@ use Rattle.oa_words.specs.Words.{Hazard, Status}
 use Rattle.oa_words.specs.Packed.{status_word}
 use Rattle.phase_pools.specs.Accesses.{Exchanges}
 use Rattle.source_machine.specs.Proper.{IsProper}
-use Rattle.caller_steps.specs.Settings.{Setting}
+use Rattle.caller_parts.specs.Settings.{Setting}
 use Rattle.caller_steps.specs.Entries.{Entry}
 use Rattle.caller_steps.specs.Wants.{wants}
 use Rattle.core_runs.specs.Machine.{CoreState, CoreEvent, core_start, core_run}

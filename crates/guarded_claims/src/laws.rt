@@ -1,20 +1,11 @@
 //! The law of validated guards, of every run of a barred target of a proper text.
 
-ghost use Rattle.barrier_check.specs.Paired.{IsSound};
-ghost use Rattle.caller_steps.specs.Settings.{Fits};
+ghost use Rattle.caller_parts.specs.Settings.{Fits};
 ghost use Rattle.guarded_claims.specs.Guarded.{GuardsAreSpared};
 
 use barrier_check::Barred;
 use caller_steps::Setting;
-
-/// What a barred target keeps.
-#[tactic(auto, using(oa_simulation::proofs::Barring::is_sound))]
-fn kept(barred: &Barred)
-    ensures { IsSound barred.now }
-{
-    let _ = barred.source();
-    let _ = barred.target();
-}
+use oa_simulation::laws::kept;
 
 /// For a proper text: whatever the callers do and however their steps interleave, in no state does a validated guard name a slot
 /// whose status is ready. So no claim's exchange, which finds a slot ready, takes one that a validated guard names.

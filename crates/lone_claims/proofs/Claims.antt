@@ -7,16 +7,17 @@ use Rattle.phase_pools.specs.declared.access.ClaimEnd.TheVariants as ends
 use Rattle.phase_pools.specs.Accesses.{WordAccess, word_of}
 use Rattle.phase_pools.specs.Pools.{Claim, ClaimTurn, claim_wants, claim_accepts}
 use Rattle.source_machine.proofs.Places.{each_put}
-use Rattle.caller_steps.specs.declared.routine.Routine.{Routine}
-use Rattle.caller_steps.specs.declared.routine.Routine.TheVariants.{Idle, LoadSeen, At, InList, Retires, Restarts, Clears, Claims, Zeroes}
-use Rattle.caller_steps.specs.Settings.{Setting}
+use Rattle.caller_parts.specs.declared.routine.Routine.{Routine}
+use Rattle.caller_parts.specs.declared.routine.Routine.TheVariants.{Idle, LoadSeen, At, InList, Retires, Restarts, Clears, Claims, Zeroes}
+use Rattle.caller_parts.specs.Settings.{Setting}
 use Rattle.caller_steps.specs.Entries.{Entry, is_idle}
 use Rattle.caller_steps.specs.Wants.{wants, wanted}
 use Rattle.caller_steps.specs.After.{after, accepted, counted, claim_on}
 use Rattle.core_runs.specs.Machine.{CoreState, CoreEvent, Takes, Steps, core_event, core_run, run_on}
 use Rattle.core_runs.specs.Views.{CoreView, view, Moves, IsShaped, EventsAreSeen}
 use Rattle.core_sound.specs.Sound.{IsSound}
-use Rattle.lone_claims.specs.Lone.{is_claiming, on_state, stays_in_claim}
+use Rattle.oa_simulation.specs.Throughout.{on_state}
+use Rattle.lone_claims.specs.Lone.{is_claiming, stays_in_claim}
 use Rattle.lone_claims.proofs.Pools.{made}
 
 -- what an entry in a claim wants, and what becomes of it

@@ -1,4 +1,4 @@
--- A lone claim ends with Full exactly where each status was used at its begin.
+-- A lone claim ends with Full exactly where each slot held a name that isn't retired at its begin, which is that each status was used.
 use Rattle.std.proofs.Common.{ℕ, zero, suc, ◌≡◌, ◌≢◌, ◌+◌, ◌≤◌, ◌<◌, ◌⊎◌, ◌∙◌, ◌↔◌, Bool, true, false, List, Option, Some, arith, inl, inr, ⊎_elim, sym, ap, subst, refl}
 use Rattle.std.proofs.lemmas.Bool.{cases_eq}
 use Rattle.norm_lang.specs.declared.text.Text.{Text}
@@ -13,9 +13,9 @@ use Rattle.phase_pools.specs.Pools.{claim_begun}
 use Rattle.source_machine.specs.declared.state.Memory.{Memory}
 use Rattle.source_machine.specs.declared.state.SourceMachine.{SourceMachine}
 use Rattle.source_machine.specs.Proper.{has}
-use Rattle.caller_steps.specs.declared.routine.Routine.{Routine}
-use Rattle.caller_steps.specs.declared.routine.Routine.TheVariants.{Claims}
-use Rattle.caller_steps.specs.Settings.{Setting, Fits, IsSetting}
+use Rattle.caller_parts.specs.declared.routine.Routine.{Routine}
+use Rattle.caller_parts.specs.declared.routine.Routine.TheVariants.{Claims}
+use Rattle.caller_parts.specs.Settings.{Setting, Fits, IsSetting}
 use Rattle.caller_steps.specs.Entries.{Entry}
 use Rattle.caller_laws.proofs.Together.{methods}
 use Rattle.caller_laws.proofs.Methods.{setting_sane}
@@ -33,10 +33,12 @@ use Rattle.oa_simulation.specs.Shadow.{shadow}
 use Rattle.oa_simulation.specs.Present.{present_in}
 use Rattle.oa_simulation.proofs.Lifting.{machine_is}
 use Rattle.oa_simulation.proofs.Refining.{Stood, plan_of, stands}
-use Rattle.lone_claims.specs.Lone.{AreUsed, EndsIn, LoneClaimsAreFull}
+use Rattle.lone_claims.specs.Lone.{IsUsed, HoldsName, AreUsed, EndsIn, LoneClaimsAreFull}
 use Rattle.lone_claims.proofs.Pools.{Used, used_on, used_full}
 use Rattle.lone_claims.proofs.Freeing.{IsFree, IsOld, Frees, frees_on, frees_full}
 use Rattle.lone_claims.proofs.Claims.{along}
+use Rattle.lone_claims.proofs.InUse.{IsNamed, Works, WorksAt}
+use Rattle.lone_claims.proofs.Settled.{SomeWorks, SettledBeside, settles}
 
 -- a slot's status by its owner: used, ready, or retired with its name's tag
 kind_of : (o : Owner) (word n : ℕ) (tag : Option ℕ) (rt pb : Bool) → Slot o word n tag rt pb → IsOf kinds.Used word ⊎ IsOf kinds.Ready word ⊎ ((p : ℕ) × (word ≡ status_word p kinds.Retired) × (tag ≡ Some p))
@@ -84,12 +86,12 @@ module _ (target : Target) (text : Text) (setting : Setting) (runs : IsRunnable 
 
   status_of : (j : ℕ) → IsOf kinds.Used (m (Status j)) ⊎ (IsFree m j ⊎ IsOld m j (m Phase + 1))
   status_of j = subst (λ (w : Word → ℕ). IsOf kinds.Used (w (Status j)) ⊎ (IsFree w j ⊎ IsOld w j (w Phase + 1))) words
-      (of (kind_of (world.owner j) (world.memory (Status j)) (world.present j) (world.tag (world.present j)) (has (world.present j) world.source.retired) (world.public (world.present j)) (k.beside.holds.fine.slot j))) where
+      (of (kind_of (world.owner j) (world.memory (Status j)) (world.present j) (world.tag (world.present j)) (has (world.present j) world.source.retired) (world.public (world.present j)) (k.beside.holds.shared_holds.slot j))) where
         of : IsOf kinds.Used (world.memory (Status j)) ⊎ IsOf kinds.Ready (world.memory (Status j)) ⊎ ((p : ℕ) × (world.memory (Status j) ≡ status_word p kinds.Retired) × (world.tag (world.present j) ≡ Some p))
             → IsOf kinds.Used (world.memory (Status j)) ⊎ (IsFree world.memory j ⊎ IsOld world.memory j (world.memory Phase + 1))
         of (inl used) = inl used
         of (inr (inl ready)) = inr (inl ready)
-        of (inr (inr retired)) = inr (inr (retired.0, retired.1, (let le = k.beside.holds.fine.tag (world.present j) retired.0 retired.2 in omega (arith, le))))
+        of (inr (inr retired)) = inr (inr (retired.0, retired.1, (let le = k.beside.holds.shared_holds.tag (world.present j) retired.0 retired.2 in omega (arith, le))))
 
   search : (n : ℕ) → ((j : ℕ) → 1 ≤ j → j ≤ n → IsOf kinds.Used (m (Status j))) ⊎ Unused n
   search zero = inl (λ j least most. absurd (omega (arith, least, most)))
@@ -106,7 +108,7 @@ module _ (target : Target) (text : Text) (setting : Setting) (runs : IsRunnable 
 
   zeros : ((view setting state).who 0).routine ≡ Claims (claim_begun setting.sizes) → (r : ℕ) → m (Hazard 0 r) ≡ 0
   zeros begun r =
-      let told = k.beside.holds.told 0 one in
+      let told = k.beside.holds.caller_holds 0 one in
       let routine : (k.beside.w.who 0).entry.routine ≡ Claims (claim_begun setting.sizes) = ap (λ (e : Entry). e.routine) (k.beside.entry 0 one) ∙ begun in
       let spot : HoldsAt (plan_of target text setting events) world 0 (k.beside.w.who 0) (Claims (claim_begun setting.sizes)) = subst (λ (r : Routine). HoldsAt (plan_of target text setting events) world 0 (k.beside.w.who 0) r) routine told.spot in
       sym (ap (λ (w : Word → ℕ). w (Hazard 0 r)) words) ∙ (told.base.hazard r ∙ spot.2 r)
@@ -141,14 +143,37 @@ module _ (target : Target) (text : Text) (setting : Setting) (runs : IsRunnable 
       let name : world.present j ≡ present_in target text setting events j = ap (λ (present : ℕ → ℕ). present j) k.present in
       let here : has (world.present j) world.source.retired ≡ false = ap (λ (n : ℕ). has n world.source.retired) name ∙ (ap (λ (memory : Memory). has (present_in target text setting events j) memory.retired) (sym source) ∙ alive) in
       subst (λ (w : Word → ℕ). IsOf kinds.Used (w (Status j))) words
-      (named_used (world.owner j) (world.memory (Status j)) (world.present j) (world.tag (world.present j)) (has (world.present j) world.source.retired) (world.public (world.present j)) (k.beside.holds.fine.slot j)
-      (k.beside.holds.fine.tagged (world.present j)) (λ z. some (sym name ∙ z)) here)
+      (named_used (world.owner j) (world.memory (Status j)) (world.present j) (world.tag (world.present j)) (has (world.present j) world.source.retired) (world.public (world.present j)) (k.beside.holds.shared_holds.slot j)
+      (k.beside.holds.shared_holds.tagged (world.present j)) (λ z. some (sym name ∙ z)) here)
+
+  -- at a claim's begin nobody works on a slot, so that a used one holds a name that isn't retired
+  holds : SettledBeside (plan_of target text setting events) state (shadow target text setting events) (present_in target text setting events) → ((view setting state).who 0).routine ≡ Claims (claim_begun setting.sizes)
+      → (j : ℕ) → 1 ≤ j → IsUsed m j → HoldsName target text setting events j
+  holds q begun j le used = ⊎_elim held (λ (works : SomeWorks setting.sizes.callers q.beside.w.who j). absurd (rests works)) (q.settled j le (subst (λ (w : Word → ℕ). IsUsed w j) (sym q.beside.memory) used)) where
+    held : IsNamed q.beside.w.shared j → HoldsName target text setting events j
+    held named =
+        let name : q.beside.w.shared.present j ≡ present_in target text setting events j = ap (λ (present : ℕ → ℕ). present j) q.names in
+        let source : (shadow target text setting events).machine.memory ≡ q.beside.w.shared.source =
+        ap (λ (machine : SourceMachine). machine.memory) (sym (machine_is text setting.sizes.callers (shadow target text setting events) q.beside.v q.beside.sourced)) ∙ q.beside.source in
+        ((λ z. named.0 (name ∙ z)), ap (λ (memory : Memory). has (present_in target text setting events j) memory.retired) source ∙ (ap (λ (n : ℕ). has n q.beside.w.shared.source.retired) (sym name) ∙ named.1))
+
+    rests : SomeWorks setting.sizes.callers q.beside.w.who j → ⊥
+    rests works =
+        let lt = works.1 in
+        let first : works.0 ≡ 0 = omega (arith, lt, lone) in
+        let own : Works (q.beside.w.who 0).entry j = subst (λ (d : ℕ). Works (q.beside.w.who d).entry j) first works.2 in
+        subst (λ (r : Routine). WorksAt (q.beside.w.who 0).entry r j) (ap (λ (e : Entry). e.routine) (q.beside.entry 0 one) ∙ begun) own
 
 pub lone_claims : (pair : Paired) (setting : Setting) → IsPairSound pair → IsSetting setting → Fits pair.target setting → LoneClaimsAreFull pair.target pair.source setting
 lone_claims pair setting sound own fits proper lone events state is =
     let runs : IsRunnable pair.target pair.source = record { small = sound.small; normal = sound.normal; within = sound.within; barred = sound.barred } in
     let k = stands pair.target pair.source setting events state runs own fits proper is in
+    let used = full_here pair.target pair.source setting runs own fits lone events state k in
+    let names : (j : ℕ) → HoldsName pair.target pair.source setting events j → IsUsed (view setting state).memory j = λ j held. named pair.target pair.source setting runs own fits lone events state k j held.0 held.1 in
+    let back = holds pair.target pair.source setting runs own fits lone events state k (settles pair.target pair.source setting runs own fits proper events state is) in
     record {
-      full = full_here pair.target pair.source setting runs own fits lone events state k;
-      used = named pair.target pair.source setting runs own fits lone events state k;
+      full = λ end e never. ((λ full j le most. back e.begun j le ((used end e never).0 full j le most)), (λ held. (used end e never).1 (λ j le most. names j (held j le most))));
+      full_as_used = used;
+      alike = λ begun j le. (names j, back begun j le);
+      used = names;
     }

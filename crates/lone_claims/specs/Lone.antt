@@ -1,5 +1,5 @@
 -- The claim of a lone caller, from its begin to its end.
-use Rattle.std.specs.Prelude.{ℕ, ◌≡◌, ◌≢◌, ◌≤◌, ◌↔◌, Bool, true, false, ◌&&◌, List, [], ◌∷◌, Option, Some, None}
+use Rattle.std.specs.Prelude.{ℕ, ◌≡◌, ◌≢◌, ◌≤◌, ◌↔◌, Bool, true, false, List, Some}
 use Rattle.norm_lang.specs.declared.text.Text.{Text}
 use Rattle.target_code.specs.declared.target.Target.{Target}
 use Rattle.oa_words.specs.declared.packed.Kind.TheVariants as kinds
@@ -10,13 +10,14 @@ use Rattle.phase_pools.specs.declared.access.ClaimEnd.TheVariants as ends
 use Rattle.phase_pools.specs.Accesses.{word_of}
 use Rattle.phase_pools.specs.Pools.{Claim, claim_begun, claim_wants, claim_accepts}
 use Rattle.source_machine.specs.Proper.{IsProper, has}
-use Rattle.caller_steps.specs.declared.routine.Routine.{Routine}
-use Rattle.caller_steps.specs.declared.routine.Routine.TheVariants.{Idle, LoadSeen, At, InList, Retires, Restarts, Clears, Claims, Zeroes}
-use Rattle.caller_steps.specs.Settings.{Setting}
-use Rattle.core_runs.specs.Machine.{CoreState, CoreEvent, core_event, core_run, core_start}
+use Rattle.caller_parts.specs.declared.routine.Routine.{Routine}
+use Rattle.caller_parts.specs.declared.routine.Routine.TheVariants.{Idle, LoadSeen, At, InList, Retires, Restarts, Clears, Claims, Zeroes}
+use Rattle.caller_parts.specs.Settings.{Setting}
+use Rattle.core_runs.specs.Machine.{CoreState, CoreEvent, core_run, core_start}
 use Rattle.core_runs.specs.Views.{view}
 use Rattle.oa_simulation.specs.Shadow.{shadow}
 use Rattle.oa_simulation.specs.Present.{present_in}
+use Rattle.oa_simulation.specs.Throughout.{throughout}
 
 abbrev pub is_claiming : Routine → Bool
 is_claiming (Claims claim) = true
@@ -29,19 +30,26 @@ is_claiming Restarts = false
 is_claiming (Clears next) = false
 is_claiming (Zeroes k field) = false
 
-abbrev pub on_state : Option CoreState → (CoreState → Bool) → Bool
-on_state None next = true
-on_state (Some state) next = next state
-
 -- caller 0 is in a claim before each of the events
 abbrev pub stays_in_claim : Target → Setting → List CoreEvent → CoreState → Bool
-stays_in_claim target setting [] state = true
-stays_in_claim target setting (event ∷ events) state =
-    is_claiming ((view setting state).who 0).routine && on_state (core_event target setting state event) (stays_in_claim target setting events)
+stays_in_claim target setting = throughout target setting (λ state event. is_claiming ((view setting state).who 0).routine)
+
+-- a slot's status is used
+abbrev pub IsUsed : (Word → ℕ) → ℕ → Type 0
+IsUsed memory j = (q : ℕ) × (memory (Status j) ≡ status_word q kinds.Used)
+
+-- after a run a slot holds a name that isn't retired
+abbrev pub HoldsName : Target → Text → Setting → List CoreEvent → ℕ → Type 0
+HoldsName target text setting events j =
+    (present_in target text setting events j ≢ 0) × (has (present_in target text setting events j) (shadow target text setting events).machine.memory.retired ≡ false)
 
 -- each slot's status is used
 abbrev pub AreUsed : Sizes → (Word → ℕ) → Type 0
-AreUsed n memory = (j : ℕ) → 1 ≤ j → j ≤ n.slots → (q : ℕ) × (memory (Status j) ≡ status_word q kinds.Used)
+AreUsed n memory = (j : ℕ) → 1 ≤ j → j ≤ n.slots → IsUsed memory j
+
+-- each slot holds a name that isn't retired
+abbrev pub AreNamed : Target → Text → Setting → List CoreEvent → Type 0
+AreNamed target text setting events = (j : ℕ) → 1 ≤ j → j ≤ setting.sizes.slots → HoldsName target text setting events j
 
 -- a claim of caller 0 that was at its begin ends in this way with the caller's next step, events of the claim alone lying between
 pub record EndsIn (target : Target) (setting : Setting) (state : CoreState) (end : ClaimEnd) : Type 0 where
@@ -55,11 +63,14 @@ pub record EndsIn (target : Target) (setting : Setting) (state : CoreState) (end
   pub ends : (claim_accepts setting.sizes setting.last claim ((view setting later).memory (word_of (claim_wants claim)))).ended ≡ Some end
 
 pub record LoneClaim (target : Target) (text : Text) (setting : Setting) (events : List CoreEvent) (state : CoreState) : Type 0 where
-  -- it ends with Full exactly where each status was used at its begin, if no sweep of it found the last phase
-  pub full : (end : ClaimEnd) → EndsIn target setting state end → ((p : ℕ) → end ≢ ends.PhasesOver p) → (end ≡ ends.Full) ↔ AreUsed setting.sizes (view setting state).memory
-  -- a slot that holds a name that isn't retired has a used status
-  pub used : (j : ℕ) → present_in target text setting events j ≢ 0 → has (present_in target text setting events j) (shadow target text setting events).machine.memory.retired ≡ false
-      → (q : ℕ) × ((view setting state).memory (Status j) ≡ status_word q kinds.Used)
+  -- it ends with Full exactly where each slot held a name that isn't retired at its begin, if no sweep of it found the last phase
+  pub full : (end : ClaimEnd) → EndsIn target setting state end → ((p : ℕ) → end ≢ ends.PhasesOver p) → (end ≡ ends.Full) ↔ AreNamed target text setting events
+  -- which is that each status was used
+  pub full_as_used : (end : ClaimEnd) → EndsIn target setting state end → ((p : ℕ) → end ≢ ends.PhasesOver p) → (end ≡ ends.Full) ↔ AreUsed setting.sizes (view setting state).memory
+  -- at its begin a slot holds a name that isn't retired exactly where the slot's status is used
+  pub alike : ((view setting state).who 0).routine ≡ Claims (claim_begun setting.sizes) → (j : ℕ) → 1 ≤ j → HoldsName target text setting events j ↔ IsUsed (view setting state).memory j
+  -- at any moment a slot that holds a name that isn't retired has a used status
+  pub used : (j : ℕ) → HoldsName target text setting events j → IsUsed (view setting state).memory j
 
 -- of a proper text, with one caller
 abbrev pub LoneClaimsAreFull : Target → Text → Setting → Type 0

@@ -6,7 +6,7 @@ use Rattle.oa_text.specs.Lines.{TextLine, numbered}
 use Rattle.norm_lang.specs.declared.text.Text.{Text}
 use Rattle.norm_lang.specs.Faults.{LineFault, at_line, ◌>>=◌}
 use Rattle.norm_lang.specs.Grammar.{Start, Opening, Draft, draft_at, after_line, after_lines, finished, text_in}
-use Rattle.norm_parser.specs.FrontRead.{from_line, line_word, ends_text, names_text, text_lines, behind_text, end_at, ended, front_in}
+use Rattle.norm_parser.specs.FrontRead.{from_line, line_word, ends_text, names_text, text_lines, after_text, end_at, ended, front_in}
 use Rattle.norm_parser.specs.FrontLaws.{FrontsAreTexts}
 
 -- lines that all come later
@@ -24,23 +24,23 @@ numbered_below : (n past : ℕ) (lines : List (List ℕ)) → n + length lines �
 numbered_below n past [] count = tt
 numbered_below n past (line ∷ lines) count = omega (arith, count)
 
-behind_below : (n past : ℕ) (lines : List (List ℕ)) → n + length lines ≡ past → Below past (behind_text (numbered n lines))
-behind_below n past [] count = tt
-behind_below n past (line ∷ lines) count =
-    go (ends_text (line_word (record { number = n; bytes = line }))) (names_text (line_word (record { number = n; bytes = line }))) (behind_below (n + 1) past lines (omega (arith, count)))
+after_below : (n past : ℕ) (lines : List (List ℕ)) → n + length lines ≡ past → Below past (after_text (numbered n lines))
+after_below n past [] count = tt
+after_below n past (line ∷ lines) count =
+    go (ends_text (line_word (record { number = n; bytes = line }))) (names_text (line_word (record { number = n; bytes = line }))) (after_below (n + 1) past lines (omega (arith, count)))
   where
-    go : (ended named : Bool) → Below past (behind_text (numbered (n + 1) lines))
-        → Below past (if ended then record { number = n; bytes = line } ∷ numbered (n + 1) lines else (if named then numbered (n + 1) lines else behind_text (numbered (n + 1) lines)))
+    go : (ended named : Bool) → Below past (after_text (numbered (n + 1) lines))
+        → Below past (if ended then record { number = n; bytes = line } ∷ numbered (n + 1) lines else (if named then numbered (n + 1) lines else after_text (numbered (n + 1) lines)))
     go true named rest = omega (arith, count)
     go false true rest = numbered_below (n + 1) past lines (omega (arith, count))
     go false false rest = rest
 
 -- a text with no line after it has all lines
-whole : (lines : List TextLine) → behind_text lines ≡ [] → text_lines lines ≡ lines
+whole : (lines : List TextLine) → after_text lines ≡ [] → text_lines lines ≡ lines
 whole [] none = refl
 whole (line ∷ lines) none = go (ends_text (line_word line)) (names_text (line_word line)) none (whole lines)
   where
-    go : (ended named : Bool) → (if ended then line ∷ lines else (if named then lines else behind_text lines)) ≡ [] → (behind_text lines ≡ [] → text_lines lines ≡ lines)
+    go : (ended named : Bool) → (if ended then line ∷ lines else (if named then lines else after_text lines)) ≡ [] → (after_text lines ≡ [] → text_lines lines ≡ lines)
         → (if ended then [] else (if named then line ∷ [] else line ∷ text_lines lines)) ≡ line ∷ lines
     go true named none rest = let e : line ∷ lines ≡ [] = none in absurd (let f : ⊥ = cc in f)
     go false true none rest = ap (λ (others : List TextLine). line ∷ others) (sym none)
@@ -72,16 +72,16 @@ with_end end draft = Ok (draft, end)
 abbrev front_ended : Draft × LineFault → Result (Text × ℕ) LineFault
 front_ended front = ended (finished front.0) front.1
 
-front_whole : (lines : List TextLine) (past : ℕ) (text : Text) → Below past (behind_text lines) → front_in lines past ≡ Ok (text, past)
+front_whole : (lines : List TextLine) (past : ℕ) (text : Text) → Below past (after_text lines) → front_in lines past ≡ Ok (text, past)
     → (after_lines (draft_at Opening) lines >>= λ draft. at_line past (finished draft)) ≡ Ok text
 front_whole lines past text below read = go (after_lines (draft_at Opening) (text_lines lines)) refl read
   where
     go : (r : Result Draft LineFault) → after_lines (draft_at Opening) (text_lines lines) ≡ r
-        → ((r >>= with_end (end_at (behind_text lines) past)) >>= front_ended) ≡ answer text past
+        → ((r >>= with_end (end_at (after_text lines) past)) >>= front_ended) ≡ answer text past
         → (after_lines (draft_at Opening) lines >>= λ draft. at_line past (finished draft)) ≡ Ok text
     go (Err fault) so_far read = absurd (let f : ⊥ = cc in f)
     go (Ok draft) so_far read =
-        let ends = ends_past (finished draft) (behind_text lines) past text below read in
+        let ends = ends_past (finished draft) (after_text lines) past text below read in
         let all : after_lines (draft_at Opening) lines ≡ Ok draft = rw (whole lines ends.1) at so_far in
         rw (all, ends.0) refl
 
@@ -92,7 +92,7 @@ version_then : (version : List ℕ) (rest : List (List ℕ)) (text : Text)
     → text_in (version ∷ rest) ≡ Ok text
 version_then version rest text first read =
     let past = length (version ∷ rest) + 1 in
-    let below : Below past (behind_text (numbered 2 rest)) = behind_below 2 past rest (omega arith) in
+    let below : Below past (after_text (numbered 2 rest)) = after_below 2 past rest (omega arith) in
     let front : front_in (numbered 2 rest) past ≡ Ok (text, past) = rw (all_later 2 2 rest (omega arith)) at read in
     rw first (front_whole (numbered 2 rest) past text below front)
 

@@ -5,7 +5,7 @@ use Rattle.std.proofs.lemmas.Bool.{lt-ltb, le-ltb}
 use Rattle.oa_text.specs.Lines.{TextLine}
 use Rattle.norm_lang.specs.Faults.{LineFault, at_line, ◌>>=◌}
 use Rattle.norm_lang.specs.Grammar.{Opening, Fields, Draft, draft_at, after_line, after_lines}
-use Rattle.norm_parser.specs.FrontRead.{from_line, line_word, ends_text, names_text, text_lines, behind_text, end_before, end_at, head_lines, behind_head, ends_head, before_op, front_end, head_end}
+use Rattle.norm_parser.specs.FrontRead.{from_line, line_word, ends_text, names_text, text_lines, after_text, end_before, end_at, head_lines, after_head, ends_head, before_op, front_end, head_end}
 
 -- what the lines from here on declare up to the end of a text, where the line before these named a shipped one or not
 abbrev pub front_from : Draft → Bool → List TextLine → ℕ → Result (Draft × LineFault) LineFault
@@ -21,7 +21,7 @@ front_named draft (line ∷ lines) past = refl
 
 -- what the lines of a text declare, and where they end
 abbrev ends : Draft → List TextLine → ℕ → Result (Draft × LineFault) LineFault
-ends draft lines past = after_lines draft (text_lines lines) >>= λ next. Ok (next, end_at (behind_text lines) past)
+ends draft lines past = after_lines draft (text_lines lines) >>= λ next. Ok (next, end_at (after_text lines) past)
 
 -- a draft, and where its lines end
 abbrev with_end : LineFault → Draft → Result (Draft × LineFault) LineFault
@@ -41,10 +41,10 @@ front_is draft (line ∷ lines) past = go (ends_text (line_word line)) (names_te
     go : (ended named : Bool) → ((next : Draft) → front_from next false lines past ≡ ends next lines past)
         → (if ended then with_end (end_before line) draft else (at_line line.number (after_line draft line) >>= λ next. front_from next named lines past))
         ≡ (after_lines draft (if ended then [] else (if named then line ∷ [] else line ∷ text_lines lines))
-        >>= with_end (end_at (if ended then line ∷ lines else (if named then lines else behind_text lines)) past))
+        >>= with_end (end_at (if ended then line ∷ lines else (if named then lines else after_text lines)) past))
     go true named rest = refl
     go false true rest = read_then (at_line line.number (after_line draft line)) lines [] lines past true (λ next. front_named next lines past)
-    go false false rest = read_then (at_line line.number (after_line draft line)) lines (text_lines lines) (behind_text lines) past false rest
+    go false false rest = read_then (at_line line.number (after_line draft line)) lines (text_lines lines) (after_text lines) past false rest
 
 -- what the lines from here on declare up to the first operation
 abbrev pub head_from : Draft → List TextLine → ℕ → Result (Draft × LineFault) LineFault
@@ -54,10 +54,10 @@ head_from draft (line ∷ lines) past =
     else (at_line line.number (after_line draft line) >>= λ next. head_from next lines past)
 
 abbrev head_ends : Draft → List TextLine → ℕ → Result (Draft × LineFault) LineFault
-head_ends draft lines past = after_lines draft (head_lines lines) >>= λ next. before_op next (behind_head lines) past
+head_ends draft lines past = after_lines draft (head_lines lines) >>= λ next. before_op next (after_head lines) past
 
 head_then : (read : Result Draft LineFault) (lines : List TextLine) (past : ℕ) → ((next : Draft) → head_from next lines past ≡ head_ends next lines past)
-    → (read >>= λ next. head_from next lines past) ≡ ((read >>= λ next. after_lines next (head_lines lines)) >>= λ last. before_op last (behind_head lines) past)
+    → (read >>= λ next. head_from next lines past) ≡ ((read >>= λ next. after_lines next (head_lines lines)) >>= λ last. before_op last (after_head lines) past)
 head_then (Ok next) lines past rest = rest next
 head_then (Err fault) lines past rest = refl
 
@@ -67,7 +67,7 @@ head_is draft (line ∷ lines) past = go (ends_head (line_word line)) (λ next. 
   where
     go : (ended : Bool) → ((next : Draft) → head_from next lines past ≡ head_ends next lines past)
         → (if ended then with_end (end_before line) draft else (at_line line.number (after_line draft line) >>= λ next. head_from next lines past))
-        ≡ (after_lines draft (if ended then [] else line ∷ head_lines lines) >>= λ next. before_op next (if ended then line ∷ lines else behind_head lines) past)
+        ≡ (after_lines draft (if ended then [] else line ∷ head_lines lines) >>= λ next. before_op next (if ended then line ∷ lines else after_head lines) past)
     go true rest = refl
     go false rest = head_then (at_line line.number (after_line draft line)) lines past rest
 

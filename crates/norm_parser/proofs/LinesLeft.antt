@@ -13,9 +13,9 @@ first_or line [] = line
 first_or line (first ∷ lines) = first
 
 -- the lines after the first
-abbrev behind_first : List TextLine → List TextLine
-behind_first [] = []
-behind_first (first ∷ lines) = lines
+abbrev after_first : List TextLine → List TextLine
+after_first [] = []
+after_first (first ∷ lines) = lines
 
 pub number_is : (n : ℕ) (line : TextLine) (lines whole : List TextLine) → whole ≡ line ∷ lines → AreFrom n whole → line.number ≡ n
 number_is n line lines whole is from =
@@ -36,7 +36,7 @@ first_from lines all same = rw same (numbered_from 1 lines)
 pub from_next : (n m : ℕ) (line : TextLine) (lines whole : List TextLine) → m ≡ n + 1 → whole ≡ line ∷ lines → AreFrom n whole → AreFrom m lines
 from_next n m line lines whole next is from =
     let same : line ∷ lines ≡ numbered n (map (λ l. l.bytes) (line ∷ lines)) = sym is ∙ from ∙ ap (λ ls. numbered n (map (λ l. l.bytes) ls)) is in
-    rw next (ap behind_first same)
+    rw next (ap after_first same)
 
 pub left_all : (whole : List TextLine) → AreLeftOf whole whole
 left_all whole = record { front = []; same = refl }

@@ -10,7 +10,7 @@ use Rattle.norm_lang.specs.declared.text.Text.{Text}
 use Rattle.norm_lang.specs.Grammar.{Section, Draft, Start, Opening, Fields, Nodes, Roots, Begun, Generator, WrapUp, Shipped, draft_at, after_line, after_lines, finished}
 use Rattle.norm_lang.specs.Limits.{IsWithinLimits, is_within_limits}
 use Rattle.text_laws.proofs.DraftLimits.{Kept, Keeps, roots_within, nothing_declared, may_have_fields, line_kept, lines_kept, finished_is, few_declared}
-use Rattle.norm_parser.specs.FrontRead.{text_lines, behind_text, end_at, front_end, head_lines, behind_head, before_op, head_end, whole_in, whole_head, IsHeadWithinLimits}
+use Rattle.norm_parser.specs.FrontRead.{text_lines, after_text, end_at, front_end, head_lines, after_head, before_op, head_end, whole_in, whole_head, IsHeadWithinLimits}
 use Rattle.norm_parser.specs.declared.head.Head.{Head}
 use Rattle.text_laws.proofs.Readings.{demanded}
 
@@ -62,7 +62,7 @@ pub front_is_within : (lines : List TextLine) (past : ℕ) (draft : Draft) (end 
 front_is_within lines past draft end text read ended = go (after_lines (draft_at Opening) (text_lines lines)) refl read
   where
     go : (r : Result Draft LineFault) → after_lines (draft_at Opening) (text_lines lines) ≡ r
-        → (r >>= with_end (end_at (behind_text lines) past)) ≡ with_end end draft → IsWithinLimits text
+        → (r >>= with_end (end_at (after_text lines) past)) ≡ with_end end draft → IsWithinLimits text
     go (Ok next) same read =
         let e : next ≡ draft = ap (drafted next) read in
         finished_within draft text (rw e at (lines_within (draft_at Opening) next (text_lines lines) nothing_declared same)) ended
@@ -90,7 +90,7 @@ whole_within Shipped draft h = tt
 
 pub head_is_within : (lines : List TextLine) (past : ℕ) (draft : Draft) (end : LineFault) (head : Head) → head_end lines past ≡ Ok (draft, end) → whole_head draft ≡ Ok head
     → IsHeadWithinLimits head
-head_is_within lines past draft end head read ended = go (after_lines (draft_at Fields) (head_lines lines)) refl (behind_head lines) read
+head_is_within lines past draft end head read ended = go (after_lines (draft_at Fields) (head_lines lines)) refl (after_head lines) read
   where
     first : Kept (draft_at Fields)
     first = kept_fields (draft_at Fields) refl

@@ -53,12 +53,12 @@ text_lines (line ∷ lines) =
     else line ∷ text_lines lines)
 
 -- the lines after them
-abbrev pub behind_text : List TextLine → List TextLine
-behind_text [] = []
-behind_text (line ∷ lines) =
+abbrev pub after_text : List TextLine → List TextLine
+after_text [] = []
+after_text (line ∷ lines) =
     if ends_text (line_word line) then line ∷ lines
     else (if names_text (line_word line) then lines
-    else behind_text lines)
+    else after_text lines)
 
 -- the lines before the first operation
 abbrev pub head_lines : List TextLine → List TextLine
@@ -66,9 +66,9 @@ head_lines [] = []
 head_lines (line ∷ lines) = if ends_head (line_word line) then [] else line ∷ head_lines lines
 
 -- the lines from the first operation on
-abbrev pub behind_head : List TextLine → List TextLine
-behind_head [] = []
-behind_head (line ∷ lines) = if ends_head (line_word line) then line ∷ lines else behind_head lines
+abbrev pub after_head : List TextLine → List TextLine
+after_head [] = []
+after_head (line ∷ lines) = if ends_head (line_word line) then line ∷ lines else after_head lines
 
 -- the number of a line's fault where another line must stand in its place: what is wrong with its bytes comes first
 abbrev pub misplaced : Option TextFault → ℕ
@@ -93,7 +93,7 @@ ended (Err fault) end = Err end
 abbrev pub front_end : List TextLine → ℕ → Result (Draft × LineFault) LineFault
 front_end lines past = do
   draft ← after_lines (draft_at Opening) (text_lines lines)
-  Ok (draft, end_at (behind_text lines) past)
+  Ok (draft, end_at (after_text lines) past)
 
 -- the text that lines begin with, and the number of the line after it
 abbrev pub front_in : List TextLine → ℕ → Result (Text × ℕ) LineFault
@@ -126,7 +126,7 @@ before_op draft (line ∷ lines) past = Ok (draft, end_before line)
 abbrev pub head_end : List TextLine → ℕ → Result (Draft × LineFault) LineFault
 head_end lines past = do
   draft ← after_lines (draft_at Fields) (head_lines lines)
-  before_op draft (behind_head lines) past
+  before_op draft (after_head lines) past
 
 -- the declarations that lines begin with, and the number of the first operation's line
 abbrev pub head_in : List TextLine → ℕ → Result (Head × ℕ) LineFault

@@ -1,6 +1,5 @@
-pub mod Steps
 pub mod Instruction
 pub mod FrontRead
 pub mod Version
-pub mod DraftShown
+pub mod FaultShown
 pub mod FrontLaws

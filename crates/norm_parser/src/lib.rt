@@ -1,18 +1,11 @@
 //! The reader of texts: lines, instructions, and the first fault.
 #![tactic(auto)]
 
-mod declarations;
-mod draft;
 mod front;
 mod head;
 mod instruction;
-mod instructions;
 pub mod laws;
-mod lines;
-mod operands;
 mod reader;
-mod sections;
-mod steps;
 mod version;
 
 pub use head::Head;

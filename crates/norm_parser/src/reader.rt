@@ -3,20 +3,20 @@
 ghost use Rattle.std.specs.Prelude.{◌≡◌, [], ◌+◌, ◌<◌, ◌≤◌, ◌^◌, length, IfOk};
 ghost use Rattle.oa_text.specs.Lines.{lines_of, numbered};
 ghost use Rattle.oa_text.specs.Shown.{line_shown};
-ghost use Rattle.norm_lang.specs.Grammar.{draft_at, after_lines, Start, finished, text_read};
+ghost use Rattle.norm_lang.specs.Grammar.{draft_at, after_lines, Start, Opening, Fields, finished, text_read};
 ghost use Rattle.norm_lang.specs.Limits.{IsWithinLimits};
 ghost use Rattle.line_words.specs.Answered.{Answers};
-ghost use Rattle.norm_parser.specs.DraftShown.{draft_shown, fault_shown};
+ghost use Rattle.text_drafts.specs.DraftShown.{draft_shown};
+ghost use Rattle.norm_parser.specs.FaultShown.{fault_shown};
 ghost use Rattle.norm_parser.specs.FrontRead.{from_line, end_before, end_at, front_end, front_read, head_end, head_read, IsHeadWithinLimits};
 
-use crate::draft::{Draft, Section};
 use crate::front::{ends_front, ends_head, front_word, misplaced, names_text};
-use crate::head::Head;
-use crate::lines::read_line;
+use crate::head::{Head, whole_head};
 use line_words::fault::{Fault, ParseError, ParseFault, Stop};
 use norm_lang::text::Text;
 use oa_text::{Line, lines};
 use std::alloc::Global;
+use text_drafts::{Draft, Section, read_line};
 
 /// What all lines declare, and the number of the line past the last.
 #[tactic(auto, using(crate::proofs::Reading::few_fields, crate::proofs::Reading::few_roots, crate::proofs::Reading::kept_on, crate::proofs::Reading::past_first, crate::proofs::Reading::kept_first))]
@@ -76,13 +76,18 @@ fn end_past(past: u32) -> ParseFault
     }
 }
 
-/// What the lines from this one on declare up to the end of a text, and where that is.
+/// Adds what the lines from this one on declare up to the end of a text, and answers where that is.
 #[tactic(auto, using(crate::proofs::Reading::few_fields, crate::proofs::Reading::few_roots, crate::proofs::Reading::kept_on, crate::proofs::Reading::past_first, crate::proofs::Reading::kept_opening, crate::proofs::Fronts::front_starts, crate::proofs::Fronts::front_passes, crate::proofs::Fronts::front_ends, crate::proofs::Fronts::front_stops))]
-fn read_front(alloc: Global, input: &[u8], line: u32) -> Result<(Draft, ParseFault), ParseError>
-    requires { length (lines_of input.now) + 1 < 2 ^ 32 }
-    ensures { Answers (λ front. (draft_shown front.0, fault_shown front.1)) result (front_end (from_line line (numbered 1 (lines_of input.now))) (length (lines_of input.now) + 1)) }
+fn add_front(
+    draft: &mut Draft,
+    alloc: Global,
+    input: &[u8],
+    line: u32,
+) -> Result<ParseFault, ParseError>
+    requires few { length (lines_of input.now) + 1 < 2 ^ 32 }
+    requires first { draft_shown draft.old ≡ draft_at Opening }
+    ensures { Answers (λ end. (draft_shown draft.new, fault_shown end)) result (front_end (from_line line (numbered 1 (lines_of input.now))) (length (lines_of input.now) + 1)) }
 {
-    let mut draft = Draft::at(alloc, Section::Opening);
     let mut named = false;
     let mut past = 1;
     for next in lines(input) {
@@ -92,12 +97,22 @@ fn read_front(alloc: Global, input: &[u8], line: u32) -> Result<(Draft, ParseFau
         }
         let word = front_word(next.bytes());
         if ends_front(named, word) {
-            return Ok((draft, end_before(next)));
+            return Ok(end_before(next));
         }
-        read_line(&mut draft, alloc, next)?;
+        read_line(draft, alloc, next)?;
         named = names_text(word);
     }
-    Ok((draft, end_past(past)))
+    Ok(end_past(past))
+}
+
+/// What the lines from this one on declare up to the end of a text, and where that is.
+fn read_front(alloc: Global, input: &[u8], line: u32) -> Result<(Draft, ParseFault), ParseError>
+    requires { length (lines_of input.now) + 1 < 2 ^ 32 }
+    ensures { Answers (λ front. (draft_shown front.0, fault_shown front.1)) result (front_end (from_line line (numbered 1 (lines_of input.now))) (length (lines_of input.now) + 1)) }
+{
+    let mut draft = Draft::at(alloc, Section::Opening);
+    let end = add_front(&mut draft, alloc, input, line)?;
+    Ok((draft, end))
 }
 
 /// The text that begins at a line, after the version line, and the number of the first line after it.
@@ -125,13 +140,18 @@ pub fn parse_front(alloc: Global, input: &[u8], line: u32) -> Result<(Text, u32)
     }
 }
 
-/// What the lines from this one on declare up to the first operation, and where that is.
+/// Adds what the lines from this one on declare up to the first operation, and answers where that is.
 #[tactic(auto, using(crate::proofs::Reading::few_fields, crate::proofs::Reading::few_roots, crate::proofs::Reading::kept_on, crate::proofs::Reading::past_first, crate::proofs::Reading::kept_fields, crate::proofs::Fronts::head_starts, crate::proofs::Fronts::head_passes))]
-fn read_head(alloc: Global, input: &[u8], line: u32) -> Result<(Draft, ParseFault), ParseError>
-    requires { length (lines_of input.now) + 1 < 2 ^ 32 }
-    ensures { Answers (λ head. (draft_shown head.0, fault_shown head.1)) result (head_end (from_line line (numbered 1 (lines_of input.now))) (length (lines_of input.now) + 1)) }
+fn add_head(
+    draft: &mut Draft,
+    alloc: Global,
+    input: &[u8],
+    line: u32,
+) -> Result<ParseFault, ParseError>
+    requires few { length (lines_of input.now) + 1 < 2 ^ 32 }
+    requires first { draft_shown draft.old ≡ draft_at Fields }
+    ensures { Answers (λ end. (draft_shown draft.new, fault_shown end)) result (head_end (from_line line (numbered 1 (lines_of input.now))) (length (lines_of input.now) + 1)) }
 {
-    let mut draft = Draft::at(alloc, Section::Fields);
     let mut past = 1;
     for next in lines(input) {
         past += 1;
@@ -139,11 +159,21 @@ fn read_head(alloc: Global, input: &[u8], line: u32) -> Result<(Draft, ParseFaul
             continue;
         }
         if ends_head(front_word(next.bytes())) {
-            return Ok((draft, end_before(next)));
+            return Ok(end_before(next));
         }
-        read_line(&mut draft, alloc, next)?;
+        read_line(draft, alloc, next)?;
     }
     Err(ParseError::Fault(end_past(past)))
+}
+
+/// What the lines from this one on declare up to the first operation, and where that is.
+fn read_head(alloc: Global, input: &[u8], line: u32) -> Result<(Draft, ParseFault), ParseError>
+    requires { length (lines_of input.now) + 1 < 2 ^ 32 }
+    ensures { Answers (λ head. (draft_shown head.0, fault_shown head.1)) result (head_end (from_line line (numbered 1 (lines_of input.now))) (length (lines_of input.now) + 1)) }
+{
+    let mut draft = Draft::at(alloc, Section::Fields);
+    let end = add_head(&mut draft, alloc, input, line)?;
+    Ok((draft, end))
 }
 
 /// The declarations that begin at a line, after the version line, and the number of the first line whose first word is
@@ -164,7 +194,7 @@ pub fn parse_head(alloc: Global, input: &[u8], line: u32) -> Result<(Head, u32),
     ensures within { IfOk result (λ head. IsHeadWithinLimits head.0) }
 {
     let (draft, end) = read_head(alloc, input, line)?;
-    match draft.into_head() {
+    match whole_head(draft) {
         Ok(head) => Ok((head, end.line)),
         Err(_) => Err(ParseError::Fault(end)),
     }

@@ -6,7 +6,6 @@ ghost use Rattle.oa_text.specs.Shown.{line_shown};
 ghost use Rattle.line_words.specs.Answered.{Reads, Answers};
 ghost use Rattle.norm_parser.specs.Version.{is_version, version_in, after_version};
 
-use crate::declarations;
 use line_words::fault::{Fault, ParseError, Stop};
 use line_words::words::Words;
 use oa_text::{Line, lines};
@@ -17,7 +16,7 @@ fn is_version(name: &[u8], word: &[u8], words: &mut Words) -> Result<bool, Fault
     if word != name {
         return Err(Fault::Form);
     }
-    declarations::version(words)?;
+    declaration_lines::version(words)?;
     Ok(true)
 }
 

@@ -19,14 +19,15 @@ use Rattle.script_driver.specs.Texts.{is_partial}
 use Rattle.statuses.specs.declared.status.Status.{Status}
 use Rattle.statuses.specs.declared.status.Status.TheVariants as statuses
 use Rattle.workload_runs.specs.Texts.{is_short}
-use Rattle.oa_cli.specs.declared.command.Command.{Command}
-use Rattle.oa_cli.specs.declared.command.Command.TheVariants as commands
-use Rattle.oa_cli.specs.declared.command.Request.{Request}
-use Rattle.oa_cli.specs.declared.command.Request.TheVariants as requests
-use Rattle.oa_cli.specs.declared.verdict.Verdict.{Verdict}
-use Rattle.oa_cli.specs.declared.verdict.Verdict.TheVariants as verdicts
+use Rattle.command_input.specs.declared.command.Command.{Command}
+use Rattle.command_input.specs.declared.command.Command.TheVariants as commands
+use Rattle.command_input.specs.declared.command.Request.{Request}
+use Rattle.command_input.specs.declared.command.Request.TheVariants as requests
+use Rattle.verdicts.specs.declared.verdict.Verdict.{Verdict}
+use Rattle.verdicts.specs.declared.verdict.Verdict.TheVariants as verdicts
 use Rattle.oa_cli.specs.Complete.{IsAccepted, HasAccepted, CanBeAnswered, IsAnsweredStatus, IsComplete}
-use Rattle.oa_cli.specs.Verdicts.{LIMIT, ReadsAll, takes_rules, IsShapeRefused, IsOfBytes, IsOfSource, IsOfWorkload, IsOfRequest, IsSaid, text_for, status_for}
+use Rattle.oa_cli.specs.Verdicts.{LIMIT, ReadsAll, takes_rules, IsShapeRefused, IsOfBytes, IsOfSource, IsOfWorkload, IsOfRequest}
+use Rattle.verdicts.specs.Telling.{IsSaid, text_for, status_for}
 
 done_or_partial : (short : Bool) → IsAnsweredStatus (if short then statuses.Partial else statuses.Done)
 done_or_partial true = inr (inl refl)

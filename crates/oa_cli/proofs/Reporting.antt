@@ -8,8 +8,8 @@ use Rattle.script_plans.specs.Plans.{IsFaultOf}
 use Rattle.script_driver.specs.declared.report.Report.{Report}
 use Rattle.script_driver.specs.Runs.{IsRan, IsReplayed, IsReplayFaultOf}
 use Rattle.report_laws.specs.Lines.{ReportsAreTrue}
-use Rattle.oa_cli.specs.declared.command.Command.TheVariants as commands
-use Rattle.oa_cli.specs.declared.verdict.Verdict.TheVariants as verdicts
+use Rattle.command_input.specs.declared.command.Command.TheVariants as commands
+use Rattle.verdicts.specs.declared.verdict.Verdict.TheVariants as verdicts
 use Rattle.oa_cli.specs.Verdicts.{IsOfDocument, fault_verdict}
 
 pub run_told : (document : Document) (report : Report) → ReportsAreTrue → IsWithinDocumentLimits document → IsRan document (Ok report)

@@ -3,16 +3,17 @@ use Rattle.std.proofs.Common.{◌≡◌, ℕ, ◌<◌, ◌≤◌, true, false, L
 use Rattle.std.proofs.lemmas.List.{take_all}
 use Rattle.std.specs.Io.KnownBytes.{Appends, Keeps}
 use Rattle.oa_text.specs.Causes.{one_more}
-use Rattle.oa_cli.specs.Endings.{is_write_fault, IsFinished}
-use Rattle.oa_cli.specs.Commands.{request_of}
-use Rattle.oa_cli.specs.Verdicts.{IsOfSource, IsOfRequest, IsJudged, IsSaid, FaultsAreTold, text_for, status_for}
-use Rattle.oa_cli.specs.declared.command.Command.{Command}
-use Rattle.oa_cli.specs.declared.command.Request.{Request}
-use Rattle.oa_cli.specs.declared.command.Request.TheVariants as requests
+use Rattle.verdicts.specs.Endings.{is_write_fault, IsFinished}
+use Rattle.command_input.specs.Commands.{request_of}
+use Rattle.oa_cli.specs.Verdicts.{IsOfSource, IsOfRequest, IsJudged, FaultsAreTold}
+use Rattle.verdicts.specs.Telling.{IsSaid, text_for, status_for}
+use Rattle.command_input.specs.declared.command.Command.{Command}
+use Rattle.command_input.specs.declared.command.Request.{Request}
+use Rattle.command_input.specs.declared.command.Request.TheVariants as requests
 use Rattle.statuses.specs.declared.status.Status.{Status}
 use Rattle.statuses.specs.declared.status.Status.TheVariants as statuses
-use Rattle.oa_cli.specs.declared.verdict.Verdict.{Verdict}
-use Rattle.oa_cli.specs.declared.verdict.Verdict.TheVariants as verdicts
+use Rattle.verdicts.specs.declared.verdict.Verdict.{Verdict}
+use Rattle.verdicts.specs.declared.verdict.Verdict.TheVariants as verdicts
 
 appends_kept : (old mid new : Option (List ℕ)) (text : List ℕ) → Appends old mid text → Keeps mid new → Appends old new text
 appends_kept None mid new text added keeps = tt

@@ -9,10 +9,10 @@ use Rattle.script_driver.specs.Runs.{replay_fault}
 use Rattle.statuses.specs.declared.status.Status.{Status}
 use Rattle.statuses.specs.declared.status.Status.TheVariants as statuses
 use Rattle.oa_cli.specs.Verdicts.{LIMIT}
-use Rattle.oa_cli.specs.declared.command.Command.{Command}
-use Rattle.oa_cli.specs.declared.command.Command.TheVariants as commands
-use Rattle.oa_cli.specs.declared.command.Request.{Request}
-use Rattle.oa_cli.specs.declared.command.Request.TheVariants as requests
+use Rattle.command_input.specs.declared.command.Command.{Command}
+use Rattle.command_input.specs.declared.command.Command.TheVariants as commands
+use Rattle.command_input.specs.declared.command.Request.{Request}
+use Rattle.command_input.specs.declared.command.Request.TheVariants as requests
 
 -- nothing in a document refuses the command: the rules accept its text, for `run` and `replay` its shape has no fault, and for
 -- `replay` no turn is refused; `show` takes every text

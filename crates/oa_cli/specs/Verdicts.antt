@@ -1,8 +1,7 @@
--- What is read and judged, what is said of it, and the status.
-use Rattle.std.specs.Prelude.{◌≡◌, ℕ, ◌<◌, List, [], ◌∷◌, ◌++◌, ◌⊎◌, length, codes, decimal, Option, Some, None, Err, IsTrue, Bool, true, false, if◌then◌else◌}
-use Rattle.std.specs.Io.KnownBytes.{Consumes, IsAtEnd, Appends}
+-- What is read and judged, and that each fault is told.
+use Rattle.std.specs.Prelude.{◌≡◌, ℕ, ◌<◌, List, ◌⊎◌, length, Option, Some, None, Err, IsTrue, Bool, true, false}
+use Rattle.std.specs.Io.KnownBytes.{Consumes, IsAtEnd}
 use Rattle.oa_text.specs.Causes.{Rose}
-use Rattle.oa_text.specs.Written.{AppendsPrefix}
 use Rattle.norm_lang.specs.declared.text.Text.{Text}
 use Rattle.norm_lang.specs.NormalForm.{IsNormal}
 use Rattle.norm_lang.specs.Spelling.{spelling_of}
@@ -10,7 +9,7 @@ use Rattle.norm_check.specs.Refusals.{IsRefused}
 use Rattle.target_code.specs.TargetSpelling.{target_spelling}
 use Rattle.target_code.specs.Barred.{IsBarred}
 use Rattle.target_code.specs.SecondScheme.{second_scheme}
-use Rattle.norm_parser.specs.DraftShown.{fault_shown}
+use Rattle.norm_parser.specs.FaultShown.{fault_shown}
 use Rattle.line_words.specs.declared.fault.ParseFault.{ParseFault}
 use Rattle.documents.specs.declared.document.Document.{Document}
 use Rattle.documents.specs.DocumentRead.{document_read, IsDocument}
@@ -18,22 +17,20 @@ use Rattle.script_plans.specs.declared.fault.RunFault.{RunFault}
 use Rattle.script_plans.specs.declared.fault.RunFault.TheVariants as faults
 use Rattle.script_plans.specs.Plans.{IsFaultOf}
 use Rattle.script_driver.specs.declared.report.Report.{Report}
-use Rattle.script_driver.specs.Texts.{report_text, is_partial}
 use Rattle.script_driver.specs.Runs.{IsReplayFaultOf}
 use Rattle.report_laws.specs.Runs.{IsRunReport, IsReplayReport}
 use Rattle.workload_runs.specs.Runs.{IsWorkloadReport}
-use Rattle.workload_runs.specs.Texts.{workload_text, is_short}
 use Rattle.statuses.specs.declared.status.Status.{Status}
 use Rattle.statuses.specs.declared.status.Status.TheVariants as statuses
-use Rattle.oa_cli.specs.Commands.{request_of}
-use Rattle.oa_cli.specs.Inputs.{ReadsFewer}
-use Rattle.oa_cli.specs.Refusals.{refusal_line}
-use Rattle.oa_cli.specs.declared.command.Command.{Command}
-use Rattle.oa_cli.specs.declared.command.Command.TheVariants as commands
-use Rattle.oa_cli.specs.declared.command.Request.{Request}
-use Rattle.oa_cli.specs.declared.command.Request.TheVariants as requests
-use Rattle.oa_cli.specs.declared.verdict.Verdict.{Verdict}
-use Rattle.oa_cli.specs.declared.verdict.Verdict.TheVariants as verdicts
+use Rattle.command_input.specs.Commands.{request_of}
+use Rattle.command_input.specs.Inputs.{ReadsFewer}
+use Rattle.verdicts.specs.Telling.{NoFault}
+use Rattle.command_input.specs.declared.command.Command.{Command}
+use Rattle.command_input.specs.declared.command.Command.TheVariants as commands
+use Rattle.command_input.specs.declared.command.Request.{Request}
+use Rattle.command_input.specs.declared.command.Request.TheVariants as requests
+use Rattle.verdicts.specs.declared.verdict.Verdict.{Verdict}
+use Rattle.verdicts.specs.declared.verdict.Verdict.TheVariants as verdicts
 
 -- one more byte than a document may have
 abbrev pub LIMIT : ℕ
@@ -44,10 +41,6 @@ pub record ReadsAll (old new : Option (List ℕ)) (bytes : List ℕ) : Type 0 wh
   pub read : Consumes old new bytes
   pub short : length bytes < LIMIT
   pub done : IsAtEnd new
-
--- no call failed: the count is as it was
-abbrev pub NoFault : ℕ → ℕ → Type 0
-NoFault before now = now ≡ before
 
 -- nothing was read
 pub record Untouched (old new : Option (List ℕ)) (before now : ℕ) : Type 0 where
@@ -131,49 +124,6 @@ IsOfRequest (Some (requests.Workload count callers)) old new before now verdict 
 -- the verdict on the words, on the source's faults, and on its bytes
 abbrev pub IsJudged : List (List ℕ) → Option (List ℕ) → Option (List ℕ) → ℕ → ℕ → Verdict → Type 0
 IsJudged words old new before now verdict = IsOfRequest (request_of words) old new before now verdict
-
--- the line that tells a fault
-abbrev pub fault_line : ParseFault → List ℕ
-fault_line fault = codes "line " ++ decimal fault.line ++ codes " fault " ++ decimal fault.number ++ 10 ∷ []
-
--- the line that tells what is wrong with a document's shape
-abbrev pub shape_line : ℕ → ℕ → List ℕ
-shape_line number at = codes "shape " ++ decimal number ++ codes " at " ++ decimal at ++ 10 ∷ []
-
--- the text of a verdict, each line with its newline
-abbrev pub text_for : Verdict → List ℕ
-text_for (verdicts.Answered report) = report_text report
-text_for (verdicts.Worked report) = workload_text report
-text_for verdicts.Accepted = codes "accepted\n"
-text_for (verdicts.Shown spelling) = spelling
-text_for (verdicts.Compiled spelling) = spelling
-text_for verdicts.Usage = codes "usage\n"
-text_for verdicts.ReadFault = codes "read fault\n"
-text_for verdicts.LongInput = codes "long input\n"
-text_for (verdicts.BadDocument fault) = fault_line fault
-text_for (verdicts.Refused text refusal) = refusal_line text refusal
-text_for (verdicts.BadShape number at) = shape_line number at
-text_for verdicts.Memory = codes "memory\n"
-
--- the status of a verdict
-abbrev pub status_for : Verdict → Status
-status_for (verdicts.Answered report) = if is_partial report then statuses.Partial else statuses.Done
-status_for (verdicts.Worked report) = if is_short report then statuses.Partial else statuses.Done
-status_for verdicts.Accepted = statuses.Done
-status_for (verdicts.Shown spelling) = statuses.Done
-status_for (verdicts.Compiled spelling) = statuses.Done
-status_for verdicts.Usage = statuses.Usage
-status_for verdicts.ReadFault = statuses.ReadFault
-status_for verdicts.LongInput = statuses.LongInput
-status_for (verdicts.BadDocument fault) = statuses.BadDocument fault.line fault.number
-status_for (verdicts.Refused text refusal) = statuses.Refused refusal
-status_for (verdicts.BadShape number at) = statuses.BadShape number at
-status_for verdicts.Memory = statuses.Memory
-
--- the whole text was written and no write failed, or the sink failed after a prefix of it
-abbrev pub IsSaid : Option (List ℕ) → Option (List ℕ) → ℕ → ℕ → List ℕ → Status → Status → Type 0
-IsSaid old new before now text status result =
-    ((result ≡ status) × NoFault before now × Appends old new text) ⊎ ((result ≡ statuses.WriteFault) × Rose before now × AppendsPrefix old new text)
 
 -- the other way round: where the sink's count rose, a fault of writing is told; where the source's count rose, a fault of reading is,
 -- or one of writing, for which the sink's count rose too

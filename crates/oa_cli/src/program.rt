@@ -1,25 +1,22 @@
-//! What the program does around the top call: the words of its command line, a buffer for what it writes, the end, and a
-//! sentence for a person.
+//! What the program does around the top call: the words of its command line, a buffer for what it writes, and the end.
 
-ghost use Rattle.std.specs.Prelude.{◌≡◌, map};
+ghost use Rattle.std.specs.Prelude.{map};
 ghost use Rattle.std.specs.String.{string_bytes};
-ghost use Rattle.std.specs.Io.KnownBytes.{Keeps};
-ghost use Rattle.oa_cli.specs.declared.verdict.Verdict.{Verdict};
-ghost use Rattle.oa_cli.specs.Verdicts.{IsJudged, IsSaid, FaultsAreTold, text_for, status_for};
-ghost use Rattle.statuses.specs.Statuses.{number_of};
-ghost use Rattle.oa_cli.specs.Commands.{request_of};
+ghost use Rattle.verdicts.specs.declared.verdict.Verdict.{Verdict};
+ghost use Rattle.oa_cli.specs.Verdicts.{IsJudged, FaultsAreTold};
+ghost use Rattle.verdicts.specs.Telling.{IsSaid, text_for, status_for};
+ghost use Rattle.command_input.specs.Commands.{request_of};
 ghost use Rattle.oa_cli.specs.Complete.{IsComplete};
-ghost use Rattle.oa_cli.specs.Endings.{is_write_fault, IsFinished, IsExplained};
 
-use crate::top::{oa_main, say};
-use crate::verdict::Verdict;
+use crate::top::oa_main;
 use oa_text::{Gate, OpenGate, Source, StdSink, StdSource};
-use statuses::{Status, explain, status_number};
+use statuses::Status;
 use std::alloc::Global;
 use std::io::{BufWriter, ErrorKind, Write};
 use std::rt::Env;
 use std::thread::Threads;
 use std::{env, io};
+use verdicts::{Verdict, conclude, finish, say};
 
 /// The words after the program's name, or `None` where memory runs out. Where they aren't text there are no words.
 fn command_words<R: Env + AllocGlobal>(rt: &R) -> Option<Vec<String>> {
@@ -34,27 +31,6 @@ fn command_words<R: Env + AllocGlobal>(rt: &R) -> Option<Vec<String>> {
         Err(_) => {}
     }
     Some(words)
-}
-
-fn is_write_fault(status: Status) -> bool
-    ensures { result ≡ is_write_fault status }
-{
-    matches!(status, Status::WriteFault)
-}
-
-/// Hands on what the writer has buffered, at the end: a fault there is a fault of writing like any other. After a fault
-/// of writing no more is written.
-pub fn finish<W: Write>(out: &mut StdSink<W>, status: Status) -> Status
-    ensures bytes { Keeps out.old.written out.new.written }
-    ensures status { IsFinished out.old.faults out.new.faults status result }
-{
-    if is_write_fault(status) {
-        return status;
-    }
-    match out.flush() {
-        Ok(()) => status,
-        Err(_) => Status::WriteFault,
-    }
 }
 
 /// Makes the top call, and hands on at the end what the writer has buffered. What the top call promises of a sink, this
@@ -95,18 +71,6 @@ fn answer<R: Env + Input + AllocGlobal + Threads + Sync, W: Write + Drop>(
     match command_words(rt) {
         Some(words) => serve(rt, rt.alloc(), &words, &mut source, &mut sink, &OpenGate),
         None => refuse_for_memory(&mut sink),
-    }
-}
-
-/// Writes the sentence on a status to `errors`, for a person, and answers the number with which to end. A fault of `errors`
-/// changes nothing: a prefix of the sentence was written then.
-pub fn conclude<E: Write>(errors: &mut StdSink<E>, status: Status) -> u8
-    ensures number { result ≡ number_of status }
-    ensures explained { IsExplained errors.old.written errors.new.written errors.old.faults errors.new.faults status }
-{
-    match explain(errors, status) {
-        Ok(()) => status_number(status),
-        Err(_) => status_number(status),
     }
 }
 

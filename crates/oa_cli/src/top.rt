@@ -2,37 +2,35 @@
 
 ghost use Rattle.std.specs.Prelude.{◌≡◌, ◌≤◌, ◌<◌, length, map, IfOk};
 ghost use Rattle.std.specs.String.{string_bytes};
-ghost use Rattle.oa_text.specs.Written.{Writes};
-ghost use Rattle.oa_text.specs.Causes.{HasCause};
 ghost use Rattle.target_code.specs.TargetSpelling.{target_spelling};
 ghost use Rattle.target_code.specs.Barred.{IsBarred};
 ghost use Rattle.target_code.specs.SecondScheme.{second_scheme};
 ghost use Rattle.documents.specs.DocumentLimits.{IsWithinDocumentLimits};
-ghost use Rattle.oa_cli.specs.declared.verdict.Verdict.{Verdict};
-ghost use Rattle.oa_cli.specs.Refusals.{refusal_line};
-ghost use Rattle.oa_cli.specs.Commands.{request_of};
+ghost use Rattle.verdicts.specs.declared.verdict.Verdict.{Verdict};
+ghost use Rattle.command_input.specs.Commands.{request_of};
 ghost use Rattle.oa_cli.specs.Complete.{IsComplete};
-ghost use Rattle.oa_cli.specs.Verdicts.{IsOfDocument, IsOfBytes, IsOfSource, IsOfWorkload, IsJudged, IsSaid, FaultsAreTold, fault_verdict, fault_line, shape_line, text_for, status_for};
+ghost use Rattle.oa_cli.specs.Verdicts.{IsOfDocument, IsOfBytes, IsOfSource, IsOfWorkload, IsJudged, FaultsAreTold, fault_verdict};
+ghost use Rattle.verdicts.specs.Telling.{IsSaid, text_for, status_for};
 
-use crate::command::{Command, Request, request_of};
-use crate::input::{InputError, read_input};
-use crate::rules::{judge_text, method_word, op_name};
-use crate::verdict::Verdict;
+use crate::rules::judge_text;
 use barrier_compiler::compile;
+use command_input::input::{InputError, read_input};
+use command_input::{Command, Request, request_of};
 use documents::{Document, read_document};
-use line_words::fault::{ParseError, ParseFault};
-use norm_check::{CheckError, Normal, Refusal};
+use line_words::fault::ParseError;
+use norm_check::{CheckError, Normal};
 use norm_lang::show;
 use norm_lang::text::{ByteText, Text};
-use oa_text::{Failed, Gate, Piece, Sink, Source, write_all, write_pieces};
+use oa_text::{Gate, Sink, Source};
 use report_laws::laws::reports_are_true;
-use script_driver::{is_partial, replay_document, run_document, show_report};
+use script_driver::{replay_document, run_document};
 use script_plans::RunFault;
 use statuses::Status;
 use std::alloc::{AllocError, Global};
 use std::thread::Threads;
 use target_code::show_target;
-use workload_runs::{is_short, run_workload, show_workload};
+use verdicts::{Verdict, say};
+use workload_runs::run_workload;
 
 /// One more byte than a document may have.
 const LIMIT: usize = 1_048_577;
@@ -223,124 +221,6 @@ fn judge<R: Threads + Sync, S: Source, G: Gate + Sync>(
             workload_verdict(rt, alloc, count, callers, gate)
         }
     }
-}
-
-/// Writes the line that tells a fault.
-fn write_fault<K: Sink>(out: &mut K, fault: ParseFault) -> Result<(), Failed>
-    ensures bytes { Writes (K.written out.old) (K.written out.new) (fault_line fault) result }
-    ensures cause { HasCause (K.faults out.old) (K.faults out.new) result }
-{
-    write_pieces(
-        out,
-        &[
-            Piece::Bytes(b"line "),
-            Piece::Number(fault.line as u64),
-            Piece::Bytes(b" fault "),
-            Piece::Number(fault.number as u64),
-            Piece::Bytes(b"\n"),
-        ],
-    )
-}
-
-/// Writes the line that tells why a text is refused.
-fn write_refusal<K: Sink>(out: &mut K, text: &Text, refusal: Refusal) -> Result<(), Failed>
-    ensures bytes { Writes (K.written out.old) (K.written out.new) (refusal_line text.now refusal) result }
-    ensures cause { HasCause (K.faults out.old) (K.faults out.new) result }
-{
-    write_pieces(
-        out,
-        &[
-            Piece::Bytes(b"refused N"),
-            Piece::Number(refusal.rule as u64),
-            Piece::Bytes(b" op "),
-            Piece::Bytes(op_name(text, refusal.op)),
-            Piece::Bytes(method_word(refusal.wrapup)),
-            Piece::Number(refusal.at as u64),
-            Piece::Bytes(b"\n"),
-        ],
-    )
-}
-
-/// Writes the line that tells what is wrong with a document's shape.
-fn write_shape<K: Sink>(out: &mut K, number: u8, at: u64) -> Result<(), Failed>
-    ensures bytes { Writes (K.written out.old) (K.written out.new) (shape_line number at) result }
-    ensures cause { HasCause (K.faults out.old) (K.faults out.new) result }
-{
-    write_pieces(
-        out,
-        &[
-            Piece::Bytes(b"shape "),
-            Piece::Number(number as u64),
-            Piece::Bytes(b" at "),
-            Piece::Number(at),
-            Piece::Bytes(b"\n"),
-        ],
-    )
-}
-
-/// Writes the text of a verdict.
-fn write_verdict<K: Sink>(out: &mut K, verdict: &Verdict) -> Result<(), Failed>
-    ensures bytes { Writes (K.written out.old) (K.written out.new) (text_for verdict.now) result }
-    ensures cause { HasCause (K.faults out.old) (K.faults out.new) result }
-{
-    match verdict {
-        Verdict::Answered(report) => show_report(report, out),
-        Verdict::Worked(report) => show_workload(report, out),
-        Verdict::Accepted => write_pieces(out, &[Piece::Bytes(b"accepted\n")]),
-        Verdict::Shown(spelling) | Verdict::Compiled(spelling) => write_all(out, spelling.items()),
-        Verdict::Usage => write_pieces(out, &[Piece::Bytes(b"usage\n")]),
-        Verdict::ReadFault => write_pieces(out, &[Piece::Bytes(b"read fault\n")]),
-        Verdict::LongInput => write_pieces(out, &[Piece::Bytes(b"long input\n")]),
-        Verdict::BadDocument(fault) => write_fault(out, *fault),
-        Verdict::Refused(text, refusal) => write_refusal(out, text, *refusal),
-        Verdict::BadShape { number, at } => write_shape(out, *number, *at),
-        Verdict::Memory => write_pieces(out, &[Piece::Bytes(b"memory\n")]),
-    }
-}
-
-fn status_of(verdict: &Verdict) -> Status
-    ensures { result ≡ status_for verdict.now }
-{
-    match verdict {
-        Verdict::Answered(report) => {
-            if is_partial(report) {
-                Status::Partial
-            } else {
-                Status::Done
-            }
-        }
-        Verdict::Worked(report) => {
-            if is_short(report) {
-                Status::Partial
-            } else {
-                Status::Done
-            }
-        }
-        Verdict::Accepted | Verdict::Shown(_) | Verdict::Compiled(_) => Status::Done,
-        Verdict::Usage => Status::Usage,
-        Verdict::ReadFault => Status::ReadFault,
-        Verdict::LongInput => Status::LongInput,
-        Verdict::BadDocument(fault) => Status::BadDocument {
-            line: fault.line,
-            fault: fault.number,
-        },
-        Verdict::Refused(_, refusal) => Status::Refused { refusal: *refusal },
-        Verdict::BadShape { number, at } => Status::BadShape {
-            number: *number,
-            at: *at,
-        },
-        Verdict::Memory => Status::Memory,
-    }
-}
-
-/// Writes the text of a verdict, and answers its status.
-pub(crate) fn say<K: Sink>(out: &mut K, verdict: &Verdict) -> Status
-    ensures { IsSaid (K.written out.old) (K.written out.new) (K.faults out.old) (K.faults out.new) (text_for verdict.now) (status_for verdict.now) result }
-{
-    if write_verdict(out, verdict).is_err() {
-        return Status::WriteFault;
-    }
-    status_of(verdict)
 }
 
 /// Does all that the program does: reads the words and the source, and writes the answers to the document's calls, or

@@ -1,34 +1,35 @@
--- The end of a replay is that of a complete run of its scripts.
+-- The end of a replay is that of a complete run of its scripts; and what holds in every state of a run.
 use Rattle.std.proofs.Common.{◌≡◌, ◌≤◌, ℕ, List, length, refl, sym, ap, ◌∙◌, subst}
 use Rattle.std.specs.Prelude.{Result, Ok, Err, All}
 use Rattle.schedule_turns.specs.declared.turn.Turn.{Turn}
-use Rattle.caller_steps.specs.declared.call.Call.{Call}
-use Rattle.caller_steps.specs.Calls.{AreCalls}
-use Rattle.caller_steps.specs.Settings.{Setting, Fits, IsSetting}
+use Rattle.caller_parts.specs.declared.call.Call.{Call}
+use Rattle.caller_parts.specs.Calls.{AreCalls}
+use Rattle.caller_parts.specs.Settings.{Setting, Fits, IsSetting}
 use Rattle.core_runs.specs.Machine.{CoreState, Reachable}
-use Rattle.core_runs.specs.Scripts.{IsComplete, SuitScripts}
+use Rattle.core_runs.specs.Scripts.{IsCompleteRun, SuitScripts}
 use Rattle.core_runs.specs.Replays.{Replaying, Refusal, replay_start, replayed}
 use Rattle.core_runs.proofs.Replaying.{replays_reach}
 use Rattle.core_sound.proofs.Reached.{states_are_sound, states_stay}
 use Rattle.barrier_check.specs.Paired.{Paired, IsSound}
+use Rattle.oa_core.specs.States.{RunsInRow}
 use Rattle.oa_core.specs.Finals.{Final, core_of, EndsRun}
 use Rattle.oa_core.specs.Shown.{Terms, Progress, replay_by, shown, bare, bared, replayed_from}
 use Rattle.oa_core.proofs.Bare.{made_to, refused}
-use Rattle.oa_core.proofs.Calling.{runnable}
+use Rattle.core_entries.proofs.Calling.{runnable}
 
 abbrev final_of : Progress → ℕ → Final
 final_of now fuel = record { words = now.words; entries = now.entries; fuel = fuel }
 
 pub complete_end : (pair : Paired) (setting : Setting) (scripts : List (List Call)) (fuel : ℕ) (r : Replaying) (final : Final) → IsSound pair → IsSetting setting → Fits pair.target setting
-    → IsComplete pair.target setting scripts fuel r.events r.state → core_of final ≡ r.state → EndsRun pair.target setting scripts fuel final
+    → IsCompleteRun pair.target setting scripts fuel r.events r.state → core_of final ≡ r.state → EndsRun pair.target setting scripts fuel final
 complete_end pair setting scripts fuel r final sound own fits complete same = record {
   events = r.events;
   complete = ended;
   sound = states_are_sound pair.target pair.source setting (core_of final) (runnable pair sound) own fits reached;
   stays = states_stay pair.target pair.source setting (core_of final) (runnable pair sound) own fits reached;
 } where
-  ended : IsComplete pair.target setting scripts fuel r.events (core_of final)
-  ended = subst (λ (s : CoreState). IsComplete pair.target setting scripts fuel r.events s) (sym same) complete
+  ended : IsCompleteRun pair.target setting scripts fuel r.events (core_of final)
+  ended = subst (λ (s : CoreState). IsCompleteRun pair.target setting scripts fuel r.events s) (sym same) complete
 
   reached : Reachable pair.target setting (core_of final)
   reached = record { events = r.events; runs = ended.run.runs }
@@ -51,3 +52,11 @@ ends_run t pair schedule start inside now same sound own fits count calls some s
     (ends_by t schedule now (subst IsSound (sym same) sound) own (subst (λ (p : Paired). Fits p.target t.setting) (sym same) fits)
     (record { count = count; calls = subst (λ (p : Paired). All (AreCalls p.target) t.scripts) (sym same) calls }) some (replayed (replay_by t) schedule) refl
     (made ∙ ap (λ (r : Replaying). bared (replayed_from (replay_by t) schedule r)) starts)))
+
+-- ---- every state
+
+pub runs_in_row : (pair : Paired) (setting : Setting) → IsSound pair → IsSetting setting → Fits pair.target setting → RunsInRow pair.target setting
+runs_in_row pair setting sound own fits = record {
+  sound = λ state reached. states_are_sound pair.target pair.source setting state (runnable pair sound) own fits reached;
+  stays = λ state reached. states_stay pair.target pair.source setting state (runnable pair sound) own fits reached;
+}

@@ -4,10 +4,10 @@ use Rattle.std.specs.Prelude.{slice_get, option_map, All}
 use Rattle.std.proofs.lemmas.List.{append_assoc, drop_more}
 use Rattle.std.proofs.lemmas.Option.{slice_get-map, slice_get_within, get_or_from_slice_get}
 use Rattle.target_code.specs.declared.target.Target.{Target}
-use Rattle.caller_steps.specs.declared.call.Call.{Call}
-use Rattle.caller_steps.specs.Settings.{Setting, IsSetting}
+use Rattle.caller_parts.specs.declared.call.Call.{Call}
+use Rattle.caller_parts.specs.Settings.{Setting, IsSetting}
 use Rattle.caller_steps.specs.Entries.{Entry, RoomyEntry, idle_entry}
-use Rattle.caller_steps.specs.Calls.{is_call, AreCalls}
+use Rattle.caller_parts.specs.Calls.{is_call, AreCalls}
 use Rattle.core_runs.specs.Machine.{core_start, idle_from, Reachable}
 use Rattle.core_runs.specs.Scripts.{script_of}
 use Rattle.core_runs.specs.Replays.{replay_start}
@@ -16,7 +16,7 @@ use Rattle.core_sound.proofs.Reached.{states_are_sound}
 use Rattle.barrier_check.specs.Paired.{IsSound}
 use Rattle.oa_core.specs.Finals.{core_part}
 use Rattle.oa_core.specs.Shown.{Terms, Progress, replay_by, shown, fresh_entries, SuitsReplay, IsUnderWay}
-use Rattle.oa_core.proofs.Calling.{runnable}
+use Rattle.core_entries.proofs.Calling.{runnable}
 
 -- ---- entries
 

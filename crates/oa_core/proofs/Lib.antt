@@ -1,7 +1,3 @@
-mod Starting
-pub mod Keeping
-pub mod Calling
-pub mod Stepping
 mod Bare
 mod Counted
 mod Ending

@@ -5,10 +5,10 @@ use Rattle.std.proofs.lemmas.List.{map-set, set-set}
 use Rattle.std.proofs.lemmas.Option.{slice_get-map, slice_get_within}
 use Rattle.target_code.specs.declared.target.Target.{Target}
 use Rattle.phase_pools.specs.Accesses.{WordAccess}
-use Rattle.caller_steps.specs.declared.call.Call.{Call}
-use Rattle.caller_steps.specs.Settings.{Setting}
+use Rattle.caller_parts.specs.declared.call.Call.{Call}
+use Rattle.caller_parts.specs.Settings.{Setting}
 use Rattle.caller_steps.specs.Entries.{Entry, RoomyEntry, is_idle}
-use Rattle.caller_steps.specs.Calls.{is_call}
+use Rattle.caller_parts.specs.Calls.{is_call}
 use Rattle.caller_steps.specs.Wants.{wants}
 use Rattle.caller_steps.specs.After.{after, taken}
 use Rattle.core_runs.specs.Machine.{CoreState, CoreEvent, Takes, Steps, core_event, core_run, run_on, event_by, stepped, found_by, made}
@@ -18,9 +18,9 @@ use Rattle.core_runs.proofs.Keeping.{got_same}
 use Rattle.barrier_check.specs.Paired.{Paired}
 use Rattle.oa_core.specs.declared.progress.Move.{Move}
 use Rattle.oa_core.specs.declared.progress.Move.TheVariants as moves
-use Rattle.oa_core.specs.Callers.{BelongsTo}
+use Rattle.core_entries.specs.Callers.{BelongsTo}
 use Rattle.oa_core.specs.Finals.{core_part}
-use Rattle.oa_core.specs.Steps.{StepIs, WordsSound}
+use Rattle.core_entries.specs.Steps.{StepIs, WordsSound}
 use Rattle.oa_core.specs.Shown.{Terms, Progress, replay_by, shown, bared, next_of, next_for, next_in, events_of, begun, CanMove, CanMoveAt, EntryMoves, MovesAt, AllBelongTo, IsUnderWay}
 use Rattle.oa_core.proofs.Bare.{made_to, refused}
 

@@ -1,11 +1,11 @@
 -- The end of a run of scripts, and what a replay answers.
 use Rattle.std.specs.Prelude.{◌≡◌, ℕ, ◌≤◌, Bool, false, List, map, length, Option, Some, None, Result, Ok, Err, slice_get, slice_index}
 use Rattle.target_code.specs.declared.target.Target.{Target}
-use Rattle.caller_steps.specs.declared.call.Call.{Call}
-use Rattle.caller_steps.specs.Settings.{Setting}
+use Rattle.caller_parts.specs.declared.call.Call.{Call}
+use Rattle.caller_parts.specs.Settings.{Setting}
 use Rattle.caller_steps.specs.Entries.{Entry, RoomyEntry}
 use Rattle.core_runs.specs.Machine.{CoreState, CoreEvent}
-use Rattle.core_runs.specs.Scripts.{IsComplete}
+use Rattle.core_runs.specs.Scripts.{IsCompleteRun}
 use Rattle.core_runs.specs.Replays.{Replay, Replaying, Refusal, StepOfNobody, LongReplay, is_spent}
 use Rattle.core_sound.specs.Sound.{IsSound, StaysInRow}
 use Rattle.oa_core.specs.declared.replaying.ReplayError.{ReplayError}
@@ -70,6 +70,6 @@ Answers (Err (errors.LongReplay steps)) fuel given = IsRefused (LongReplay steps
 -- a complete run of the scripts ends so: each caller's entry belongs, each word is lawful, and nothing leads out of the row
 pub record EndsRun (target : Target) (setting : Setting) (scripts : List (List Call)) (fuel : ℕ) (final : Final) : Type 0 where
   pub events : List CoreEvent
-  pub complete : IsComplete target setting scripts fuel events (core_of final)
+  pub complete : IsCompleteRun target setting scripts fuel events (core_of final)
   pub sound : IsSound target setting (core_of final)
   pub stays : StaysInRow target setting (core_of final)

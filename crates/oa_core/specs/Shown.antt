@@ -1,15 +1,11 @@
 -- A replay under way as the code holds it: without its events.
 use Rattle.std.specs.Prelude.{◌≡◌, ℕ, ◌+◌, ◌-◌, ◌≤◌, ◌<◌, All, Bool, true, false, List, [], ◌∷◌, map, length, Option, Some, None, option_map, Result, Ok, Err, nat_le, if◌then◌else◌, slice_get, slice_set}
 use Rattle.schedule_turns.specs.declared.turn.Turn.{Turn}
-use Rattle.schedule_turns.specs.declared.turn.StepKind.{StepKind}
-use Rattle.schedule_turns.specs.declared.turn.StepKind.TheVariants as kinds
 use Rattle.target_code.specs.declared.target.Target.{Target}
-use Rattle.phase_pools.specs.declared.access.Access.{Access}
-use Rattle.phase_pools.specs.declared.access.Access.TheVariants as codes
-use Rattle.caller_steps.specs.declared.call.Call.{Call}
-use Rattle.caller_steps.specs.Settings.{Setting, Fits}
+use Rattle.caller_parts.specs.declared.call.Call.{Call}
+use Rattle.caller_parts.specs.Settings.{Setting, Fits}
 use Rattle.caller_steps.specs.Entries.{Entry, RoomyEntry, idle_entry, is_idle}
-use Rattle.caller_steps.specs.Calls.{is_call, AreCalls}
+use Rattle.caller_parts.specs.Calls.{is_call, AreCalls}
 use Rattle.caller_steps.specs.After.{taken}
 use Rattle.core_runs.specs.Machine.{CoreEvent, Takes, Steps}
 use Rattle.core_runs.specs.Scripts.{script_of}
@@ -19,8 +15,8 @@ use Rattle.oa_core.specs.declared.progress.Move.{Move}
 use Rattle.oa_core.specs.declared.progress.Move.TheVariants as moves
 use Rattle.oa_core.specs.declared.progress.Stop.{Stop}
 use Rattle.oa_core.specs.declared.progress.Stop.TheVariants as stops
-use Rattle.oa_core.specs.Callers.{BelongsTo}
-use Rattle.oa_core.specs.Steps.{WordsSound, StepIs}
+use Rattle.core_entries.specs.Callers.{BelongsTo}
+use Rattle.core_entries.specs.Steps.{WordsSound, StepIs}
 use Rattle.oa_core.specs.declared.replaying.ReplayError.{ReplayError}
 use Rattle.oa_core.specs.declared.replaying.ReplayError.TheVariants as errors
 use Rattle.oa_core.specs.Finals.{core_part, IsShort}
@@ -143,15 +139,3 @@ replayed_from p turns r = go_further (turns_made p turns r) (callers_ended p 0 p
 abbrev pub error_of : Stop → ReplayError
 error_of (stops.StepOfNobody steps) = errors.StepOfNobody steps
 error_of (stops.LongReplay steps) = errors.LongReplay steps
-
--- ---- kinds of access
-
--- fields and cells stand from one address on
-abbrev pub kind_from : ℕ → ℕ → StepKind → Option StepKind
-kind_from first at kind = if nat_le first at then Some kind else None
-
-abbrev pub kind_at : ℕ → Access → Option StepKind
-kind_at first (codes.Load at) = kind_from first at kinds.Load
-kind_at first (codes.CompareExchange at expected replacement) = kind_from first at kinds.Exchange
-kind_at first (codes.Store at word) = None
-kind_at first (codes.FetchMax at word) = None

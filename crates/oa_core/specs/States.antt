@@ -1,6 +1,6 @@
 -- What holds in every state of a run.
 use Rattle.target_code.specs.declared.target.Target.{Target}
-use Rattle.caller_steps.specs.Settings.{Setting}
+use Rattle.caller_parts.specs.Settings.{Setting}
 use Rattle.core_runs.specs.Machine.{CoreState, Reachable}
 use Rattle.core_sound.specs.Sound.{IsSound, StaysInRow}
 

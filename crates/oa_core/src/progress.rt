@@ -4,16 +4,14 @@ ghost use Rattle.std.specs.Prelude.{◌≡◌, ◌<◌, ◌+◌, Some, OnOk, len
 ghost use Rattle.core_runs.specs.Machine.{core_run};
 ghost use Rattle.core_runs.specs.Scripts.{script_of};
 ghost use Rattle.core_runs.specs.Replays.{one_step};
-ghost use Rattle.oa_core.specs.Callers.{BelongsTo};
-ghost use Rattle.oa_core.specs.Steps.{WordsSound, StepIs};
+ghost use Rattle.core_entries.specs.Callers.{BelongsTo};
+ghost use Rattle.core_entries.specs.Steps.{WordsSound, StepIs};
 ghost use Rattle.oa_core.specs.Shown.{replay_by, shown, bared, told, next_of, next_in, events_of, begun, CanMove, CanMoveAt, MovesAt, AllBelongTo, IsUnderWay};
 
-use crate::entry::Entry;
-use crate::prepared::Prepared;
 use crate::replaying::CallList;
-use crate::step::step;
-use crate::words::PlainWords;
 use caller_steps::{Call, Setting};
+use core_entries::step::step;
+use core_entries::{Entry, PlainWords, Prepared};
 use std::marker::Model;
 
 /// What a caller does next.

@@ -1,18 +1,17 @@
 //! Replay: the run of scripts that the turns of a schedule give.
 
 ghost use Rattle.std.specs.Prelude.{◌≡◌, ◌≤◌, IfOk, All, length};
-ghost use Rattle.caller_steps.specs.Calls.{AreCalls};
-ghost use Rattle.caller_steps.specs.Settings.{Fits};
+ghost use Rattle.caller_parts.specs.Calls.{AreCalls};
+ghost use Rattle.caller_parts.specs.Settings.{Fits};
 ghost use Rattle.core_runs.specs.Replays.{replay_start, replayed};
 ghost use Rattle.oa_core.specs.Finals.{IsShort, phase_of, is_spent_in, replay_limit, replay_of, Answers, EndsRun};
 ghost use Rattle.oa_core.specs.Shown.{replay_by, shown, bared, told, fresh_entries, replayed_from, error_of, SuitsReplay, IsUnderWay};
 
-use crate::entry::Entry;
-use crate::prepared::{Prepared, kept};
 use crate::progress::{Progress, Stop, Terms};
-use crate::words::PlainWords;
 use barrier_check::Barred;
 use caller_steps::{Call, Setting};
+use core_entries::prepared::kept;
+use core_entries::{Entry, PlainWords, Prepared};
 use norm_lang::list::Listed;
 use schedule_turns::Turn;
 use std::alloc::{AllocError, Global};

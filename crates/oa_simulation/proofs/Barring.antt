@@ -7,7 +7,7 @@ use Rattle.target_code.specs.declared.target.Target.{Target}
 use Rattle.target_code.specs.Barred.{IsBarred}
 use Rattle.target_code.specs.TargetLimits.{IsTargetWithinLimits}
 use Rattle.barrier_check.specs.Paired.{Paired, IsSound}
-use Rattle.caller_steps.specs.Settings.{Setting, Fits, IsSetting}
+use Rattle.caller_parts.specs.Settings.{Setting, Fits, IsSetting}
 use Rattle.target_runs.specs.Runnable.{IsRunnable}
 use Rattle.oa_simulation.specs.Relation.{QuietIsKept, RunsAreSimulated}
 use Rattle.oa_simulation.proofs.QuietSteps.{keeps_quiet}

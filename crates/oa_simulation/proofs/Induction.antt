@@ -7,17 +7,17 @@ use Rattle.phase_pools.specs.Accesses.{WordAccess, word_of}
 use Rattle.source_machine.specs.MethodRuns.{put}
 use Rattle.source_machine.specs.Proper.{IsProper}
 use Rattle.source_machine.proofs.Places.{each_put, put_same}
-use Rattle.caller_steps.specs.declared.call.Call.{Call}
-use Rattle.caller_steps.specs.declared.routine.Routine.{Routine}
-use Rattle.caller_steps.specs.declared.routine.Routine.TheVariants.{Idle, LoadSeen, At, InList, Retires, Restarts, Clears, Claims, Zeroes}
-use Rattle.caller_steps.specs.Settings.{Setting}
+use Rattle.caller_parts.specs.declared.call.Call.{Call}
+use Rattle.caller_parts.specs.declared.routine.Routine.{Routine}
+use Rattle.caller_parts.specs.declared.routine.Routine.TheVariants.{Idle, LoadSeen, At, InList, Retires, Restarts, Clears, Claims, Zeroes}
+use Rattle.caller_parts.specs.Settings.{Setting}
 use Rattle.caller_steps.specs.Entries.{Entry, idle_entry, is_idle}
 use Rattle.caller_steps.specs.Wants.{wants}
 use Rattle.caller_steps.specs.After.{after, signs, taken, counted}
 use Rattle.caller_steps.specs.After.{moved as after_moves}
 use Rattle.caller_steps.specs.Belongs.{Belongs}
 use Rattle.core_runs.specs.Machine.{CoreState, CoreEvent, Takes, Steps, core_event, core_run, run_on}
-use Rattle.caller_steps.specs.Calls.{is_call}
+use Rattle.caller_parts.specs.Calls.{is_call}
 use Rattle.core_sound.specs.Sound.{IsSound}
 use Rattle.core_runs.specs.Advances.{RunsOn, Ends, EndsOrRuns}
 use Rattle.core_runs.proofs.Turning.{after_turns}
@@ -32,13 +32,14 @@ use Rattle.sim_relation.specs.Views.{Plan, IsPlan, Shared, Caller}
 use Rattle.sim_relation.specs.Callers.{CallerHolds, HoldsAt}
 use Rattle.sim_relation.specs.Naming.{present_at}
 use Rattle.sim_relation.specs.Steps.{KeptWith, Stepped, NamesAfter, TakeKept, StepsKeep, after_access}
+use Rattle.sim_relation.specs.WasSet.{set_after_access}
 use Rattle.sim_relation.specs.Worlds.{World}
 use Rattle.caller_steps.specs.Signs.{Moved}
 use Rattle.oa_simulation.specs.Shadow.{Shadow, shadow_run}
 use Rattle.sim_relation.specs.Points.{point, DrawsHome}
 use Rattle.oa_simulation.specs.Beside.{Placed, Beside}
 use Rattle.oa_simulation.specs.Present.{present_after, present_on, present_run}
-use Rattle.oa_simulation.proofs.Worlds.{holds_on}
+use Rattle.sim_steps.proofs.Worlds.{holds_on}
 use Rattle.oa_simulation.proofs.Lifting.{Lifted, lift, stays_proper}
 use Rattle.oa_simulation.specs.Relation.{HomeIs}
 use Rattle.oa_simulation.proofs.Homes.{home_before, run_append, draws_home}
@@ -67,9 +68,10 @@ take_kept t s c x call told idle =
       x' = record x { entry = taken call x.entry };
       entry = refl;
       names = refl;
+      was_set = refl;
       source = refl;
       watch = refl;
-      told = record {
+      caller_holds = record {
         base = record { number = b.number; seen = b.seen; old = b.old; hazard = b.hazard; protects = b.protects; known = b.known; cradle = b.cradle };
         spot = (spot.0, spot.1, spot.2);
       };
@@ -105,15 +107,54 @@ pub record TookCall (t : Plan) (state behind : CoreState) (z : Shadow) (c : ℕ)
   pub world : beside.w ≡ record { shared = b.w.shared; who = put b.w.who c kept.x' }
 
 -- what a caller's step leads to, beside what it was before: the world in which all facts hold again, and what became of the names of
--- the caller's guards
+-- the caller's guards and of the registers that its run has set
 pub record Went (t : Plan) (state behind : CoreState) (z z' : Shadow) (c : ℕ) (b : Beside t state z) : Type 0 where
   pub beside : Beside t behind z'
   pub access : WordAccess
   pub at : wants t.target ((view t.setting state).who c) ≡ Some access
   pub there : in_row t.setting.sizes (word_of access) ≡ true
-  pub stepped : Stepped t c b.w.shared (b.w.who c) (NamesAfter t b.w.shared c (b.w.who c) (b.w.who c).entry.routine) (after_access b.w.shared.memory access) (after_moves t.target t.setting (b.w.who c).entry (b.w.shared.memory (word_of access))) (present_at t.setting.sizes b.w.shared.memory b.w.shared.unused (b.w.who c).entry (b.w.who c).entry.routine b.w.shared.present)
+  pub stepped : Stepped t c b.w.shared (b.w.who c) (NamesAfter t b.w.shared c (b.w.who c) (b.w.who c).entry.routine) (set_after_access t.target t.setting.sizes (b.w.who c).entry (b.w.who c).entry.routine (b.w.shared.memory (word_of access)) (b.w.who c).was_set) (after_access b.w.shared.memory access) (after_moves t.target t.setting (b.w.who c).entry (b.w.shared.memory (word_of access))) (present_at t.setting.sizes b.w.shared.memory b.w.shared.unused (b.w.who c).entry (b.w.who c).entry.routine b.w.shared.present)
   pub world : beside.w ≡ record { shared = stepped.kept.s'; who = put b.w.who c stepped.kept.x' }
   pub present : beside.w.shared.present ≡ present_after t.setting (view t.setting state) (Steps c) z.unused b.w.shared.present
+
+-- what holds of a state beside its shadow, and of what a fold over the events carries, holds along a run of states that stay sound
+pub along_run : (t : Plan) (X : Type 0) (fold : List CoreEvent → CoreState → Shadow → X → X) (on : CoreEvent → CoreState → Shadow → X → X) (P : CoreState → Shadow → X → Type 0)
+    → ((state : CoreState) (z : Shadow) (x : X) → fold [] state z x ≡ x)
+    → ((event : CoreEvent) (events : List CoreEvent) (state next : CoreState) (z : Shadow) (x : X) → core_event t.target t.setting state event ≡ Some next
+    → fold (event ∷ events) state z x ≡ fold events next (shadow_run t.text (event_signs t.target t.setting state event) z) (on event state z x))
+    → ((state : CoreState) → IsSound t.target t.setting state → IsShaped t.target t.setting state)
+    → ((state behind : CoreState) (event : CoreEvent) → IsSound t.target t.setting state → core_event t.target t.setting state event ≡ Some behind → IsSound t.target t.setting behind)
+    → EventsAreSeen t.target t.setting
+    → ((event : CoreEvent) (state behind : CoreState) (z : Shadow) (x : X) → IsSound t.target t.setting state → IsShaped t.target t.setting state → P state z x → Moves t.target t.setting (view t.setting state) event (view t.setting behind)
+    → HomeIs t.home (shadow_run t.text (event_signs t.target t.setting state event) z) → P behind (shadow_run t.text (event_signs t.target t.setting state event) z) (on event state z x))
+    → (events : List CoreEvent) (state behind : CoreState) (z : Shadow) (x : X) → IsSound t.target t.setting state → P state z x → core_run t.target t.setting events state ≡ Some behind
+    → HomeIs t.home (shadow_run t.text (run_signs t.target t.setting events state) z) → P behind (shadow_run t.text (run_signs t.target t.setting events state) z) (fold events state z x)
+along_run t X fold on P empty more shaped stays seen one [] state behind z x sound p is homes =
+    subst (λ (i : CoreState). P i z (fold [] state z x)) (let same : state ≡ behind = cc in same) (subst (P state z) (sym (empty state z x)) p)
+along_run t X fold on P empty more shaped stays seen one (event ∷ events) state behind z x sound p is homes =
+    of (λ next. along_run t X fold on P empty more shaped stays seen one events next behind) (core_event t.target t.setting state event) refl is homes where
+      of : ((next : CoreState) (z : Shadow) (x : X) → IsSound t.target t.setting next → P next z x → core_run t.target t.setting events next ≡ Some behind
+          → HomeIs t.home (shadow_run t.text (run_signs t.target t.setting events next) z) → P behind (shadow_run t.text (run_signs t.target t.setting events next) z) (fold events next z x))
+          → (o : Option CoreState) → core_event t.target t.setting state event ≡ o → run_on o (core_run t.target t.setting events) ≡ Some behind
+          → HomeIs t.home (shadow_run t.text (event_signs t.target t.setting state event ++ signs_on o (run_signs t.target t.setting events)) z)
+          → P behind (shadow_run t.text (event_signs t.target t.setting state event ++ signs_on o (run_signs t.target t.setting events)) z) (fold (event ∷ events) state z x)
+      of rest None at runs homes = absurd (let y : None ≡ Some behind = runs in cc)
+      of rest (Some next) at runs homes =
+          let append = run_append t.text (event_signs t.target t.setting state event) (run_signs t.target t.setting events next) z in
+          let mid : Shadow = shadow_run t.text (event_signs t.target t.setting state event) z in
+          let homes2 : HomeIs t.home (shadow_run t.text (run_signs t.target t.setting events next) mid) = subst (λ (i : Shadow). HomeIs t.home i) append homes in
+          subst (λ (i : Shadow). P behind i (fold (event ∷ events) state z x)) (sym append)
+          (subst (P behind (shadow_run t.text (run_signs t.target t.setting events next) mid)) (sym (more event events state next z x at))
+          (rest next mid (on event state z x) (stays state next event sound at)
+          (one event state next z x sound (shaped state sound) p (seen.moves state next event (shaped state sound) at) (home_before t.text t.home (run_signs t.target t.setting events next) mid homes2)) runs homes2))
+
+-- the slots' names after a run, by its first event
+pub present_more : (t : Plan) (event : CoreEvent) (events : List CoreEvent) (state next : CoreState) (z : Shadow) (present : ℕ → ℕ) → core_event t.target t.setting state event ≡ Some next
+    → present_run t.target t.text t.setting (event ∷ events) state z present
+    ≡ present_run t.target t.text t.setting events next (shadow_run t.text (event_signs t.target t.setting state event) z) (present_after t.setting (view t.setting state) event z.unused present)
+present_more t event events state next z present at = ap (λ (o : Option CoreState).
+    present_on o (λ next. present_run t.target t.text t.setting events next (shadow_run t.text (event_signs t.target t.setting state event) z) (present_after t.setting (view t.setting state) event z.unused present))
+    (present_after t.setting (view t.setting state) event z.unused present)) at
 
 module _ (t : Plan) (plan : IsPlan t) (test : Entry → Bool) (keeps : StepsKeep t test) (proper : IsProper t.text) (events_seen : EventsAreSeen t.target t.setting) where
   abbrev seen : CoreState → CoreView
@@ -143,7 +184,7 @@ module _ (t : Plan) (plan : IsPlan t) (test : Entry → Bool) (keeps : StepsKeep
   take_went state behind z c call b m =
       let lt = m.0 in
       let e = b.entry c lt in
-      let k = take_kept t b.w.shared c (b.w.who c) call (b.holds.told c lt) (ap (λ (e : Entry). is_idle e.routine) e ∙ m.1) in
+      let k = take_kept t b.w.shared c (b.w.who c) call (b.holds.caller_holds c lt) (ap (λ (e : Entry). is_idle e.routine) e ∙ m.1) in
       record {
         kept = k;
         world = refl;
@@ -151,8 +192,8 @@ module _ (t : Plan) (plan : IsPlan t) (test : Entry → Bool) (keeps : StepsKeep
           w = record { shared = b.w.shared; who = put b.w.who c k.x' };
           v = b.v;
           holds = record {
-            fine = b.holds.fine;
-            told = each_put (λ d (x : Caller). d < n → CallerHolds t b.w.shared d x) b.w.who c k.x' (λ lt. k.told) (λ d ne lt. b.holds.told d lt);
+            shared_holds = b.holds.shared_holds;
+            caller_holds = each_put (λ d (x : Caller). d < n → CallerHolds t b.w.shared d x) b.w.who c k.x' (λ lt. k.caller_holds) (λ d ne lt. b.holds.caller_holds d lt);
           };
           memory = b.memory ∙ sym m.3;
           entry = entry_put b.w (seen state) c k.x' (taken call ((seen state).who c)) b.entry (k.entry ∙ ap (taken call) e) (seen behind).who m.4;
@@ -193,13 +234,13 @@ module _ (t : Plan) (plan : IsPlan t) (test : Entry → Bool) (keeps : StepsKeep
       subst (λ (u : ℕ). DrawsHome t.home made.signs u) b.unused
       (draws_home t.text t.home c made.signs z (subst (λ (k : List Signed). HomeIs t.home (shadow_run t.text k z)) (sym same) homes)) in
       let run : is_idle ((seen state).who c).routine ≡ false = busy t.target ((seen state).who c) a (is_idle ((seen state).who c).routine) refl want in
-      let stepped : Stepped t c s x (NamesAfter t s c x x.entry.routine) (after_access s.memory a) made (present_at t.setting.sizes s.memory s.unused x.entry x.entry.routine s.present) =
-      keeps.step c s x a (ap test e ∙ passes) lt b.holds.fine (b.holds.told c lt)
+      let stepped : Stepped t c s x (NamesAfter t s c x x.entry.routine) (set_after_access t.target t.setting.sizes x.entry x.entry.routine (s.memory (word_of a)) x.was_set) (after_access s.memory a) made (present_at t.setting.sizes s.memory s.unused x.entry x.entry.routine s.present) =
+      keeps.step c s x a (ap test e ∙ passes) lt b.holds.shared_holds (b.holds.caller_holds c lt)
       (subst (λ (e : Entry). Belongs t.target t.setting e) (sym e) (belongs_seen t.target t.setting state c sound lt))
       (ap (λ (e : Entry). is_call t.target e.running.call) e ∙ b.called c lt run)
       (stays_proper t.text n c z b.v (point s x) proper b.sourced placed)
       (ap (wants t.target) e ∙ want) m.3 (λ w out. ap (λ (k : Word → ℕ). k w) b.memory ∙ past_row state w out) draws in
-      let k : KeptWith t c s x stepped.row (after_access s.memory a) made (present_at t.setting.sizes s.memory s.unused x.entry x.entry.routine s.present) = stepped.kept in
+      let k : KeptWith t c s x stepped.row (set_after_access t.target t.setting.sizes x.entry x.entry.routine (s.memory (word_of a)) x.was_set) (after_access s.memory a) made (present_at t.setting.sizes s.memory s.unused x.entry x.entry.routine s.present) = stepped.kept in
       let l : Lifted t.text n c b.v (point k.s' k.x') (shadow_run t.text (event_signs t.target t.setting state (Steps c)) z) =
       subst (λ (i : List Signed). Lifted t.text n c b.v (point k.s' k.x') (shadow_run t.text i z)) same
       (lift t.text n c made.signs (point s x) (point k.s' k.x') k.plays z b.v b.sourced placed) in
@@ -216,7 +257,7 @@ module _ (t : Plan) (plan : IsPlan t) (test : Entry → Bool) (keeps : StepsKeep
         beside = record {
           w = record { shared = k.s'; who = put b.w.who c k.x' };
           v = l.v';
-          holds = holds_on t b.w c stepped.row (after_access s.memory a) made (present_at t.setting.sizes s.memory s.unused x.entry x.entry.routine s.present) plan b.holds k;
+          holds = holds_on t b.w c stepped.row (set_after_access t.target t.setting.sizes x.entry x.entry.routine (s.memory (word_of a)) x.was_set) (after_access s.memory a) made (present_at t.setting.sizes s.memory s.unused x.entry x.entry.routine s.present) plan b.holds k;
           memory = k.memory ∙ (ap (λ (i : Word → ℕ). after_access i a) b.memory ∙ sym m.4);
           entry = entry_put b.w (seen state) c k.x' next b.entry
               (k.entry ∙ (ap (λ (i : Moved). i.entry) same_move ∙ sym (after_is t.target t.setting ((seen state).who c) ((seen state).memory (word_of a)))))
@@ -249,22 +290,9 @@ module _ (t : Plan) (plan : IsPlan t) (test : Entry → Bool) (keeps : StepsKeep
       → (events : List CoreEvent) (state behind : CoreState) (z : Shadow) (present : ℕ → ℕ) → IsSound t.target t.setting state → NamedBeside t state z present → core_run t.target t.setting events state ≡ Some behind
       → HomeIs t.home (shadow_run t.text (run_signs t.target t.setting events state) z)
       → NamedBeside t behind (shadow_run t.text (run_signs t.target t.setting events state) z) (present_run t.target t.text t.setting events state z present)
-  run_beside all shaped stays [] state behind z present sound b is homes = subst (λ (i : CoreState). NamedBeside t i z present) (let same : state ≡ behind = cc in same) b
-  run_beside all shaped stays (event ∷ events) state behind z present sound b is homes =
-      of (λ next. run_beside all shaped stays events next behind) (core_event t.target t.setting state event) refl is homes where
-        of : ((next : CoreState) (z : Shadow) (present : ℕ → ℕ) → IsSound t.target t.setting next → NamedBeside t next z present → core_run t.target t.setting events next ≡ Some behind
-            → HomeIs t.home (shadow_run t.text (run_signs t.target t.setting events next) z)
-            → NamedBeside t behind (shadow_run t.text (run_signs t.target t.setting events next) z) (present_run t.target t.text t.setting events next z present))
-            → (o : Option CoreState) → core_event t.target t.setting state event ≡ o → run_on o (core_run t.target t.setting events) ≡ Some behind
-            → HomeIs t.home (shadow_run t.text (event_signs t.target t.setting state event ++ signs_on o (run_signs t.target t.setting events)) z)
-            → NamedBeside t behind (shadow_run t.text (event_signs t.target t.setting state event ++ signs_on o (run_signs t.target t.setting events)) z)
-            (present_on o (λ next. present_run t.target t.text t.setting events next (shadow_run t.text (event_signs t.target t.setting state event) z) (present_after t.setting (view t.setting state) event z.unused present)) (present_after t.setting (view t.setting state) event z.unused present))
-        of more None at runs homes = absurd (let y : None ≡ Some behind = runs in cc)
-        of more (Some next) at runs homes =
-            let append = run_append t.text (event_signs t.target t.setting state event) (run_signs t.target t.setting events next) z in
-            let mid : Shadow = shadow_run t.text (event_signs t.target t.setting state event) z in
-            let homes2 : HomeIs t.home (shadow_run t.text (run_signs t.target t.setting events next) mid) = subst (λ (i : Shadow). HomeIs t.home i) append homes in
-            let one = event_beside all event state next z sound (shaped state sound) b.0 (events_seen.moves state next event (shaped state sound) at) (home_before t.text t.home (run_signs t.target t.setting events next) mid homes2) in
-            subst (λ (i : Shadow). NamedBeside t behind i (present_run t.target t.text t.setting events next mid (present_after t.setting (view t.setting state) event z.unused present))) (sym append)
-            (more next mid (present_after t.setting (view t.setting state) event z.unused present) (stays state next event sound at)
-            (one.0, one.1 ∙ ap (present_after t.setting (view t.setting state) event z.unused) b.1) runs homes2)
+  run_beside all shaped stays events state behind z present sound b is homes = along_run t (ℕ → ℕ) (present_run t.target t.text t.setting)
+      (λ event state z present. present_after t.setting (view t.setting state) event z.unused present) (NamedBeside t) (λ state z present. refl)
+      (present_more t)
+      shaped stays events_seen
+      (λ event state behind z present sound shaped b m homes. let one = event_beside all event state behind z sound shaped b.0 m homes in (one.0, one.1 ∙ ap (present_after t.setting (view t.setting state) event z.unused) b.1))
+      events state behind z present sound b is homes

@@ -1,8 +1,6 @@
-pub mod Worlds
 pub mod Lifting
 pub mod Homes
 pub mod Induction
-pub mod Agreeing
 pub mod Refining
 pub mod QuietSteps
 pub mod Barring

@@ -1,5 +1,5 @@
 -- What a caller's signs do to its own part of the source, the whole source does.
-use Rattle.std.proofs.Common.{ℕ, zero, suc, ◌≡◌, ◌≢◌, ◌∙◌, Bool, true, false, List, [], ◌∷◌, Some, None, set, sym, ap, subst, refl}
+use Rattle.std.proofs.Common.{ℕ, ◌≡◌, ◌∙◌, true, false, List, Some, sym, ap, subst, refl}
 use Rattle.std.specs.Prelude.{slice_get}
 use Rattle.norm_lang.specs.declared.text.Text.{Text}
 use Rattle.source_machine.specs.declared.event.SourceEvent.{SourceEvent}
@@ -7,17 +7,16 @@ use Rattle.source_machine.specs.declared.event.SourceEvent.TheVariants.{Restart}
 use Rattle.source_machine.specs.declared.state.Memory.{Memory}
 use Rattle.source_machine.specs.declared.state.SourceCaller.{SourceCaller}
 use Rattle.source_machine.specs.declared.state.SourceMachine.{SourceMachine}
-use Rattle.source_machine.specs.Step.{caller_turn}
 use Rattle.source_machine.specs.Run.{mover, is_enabled, is_enabled_for}
-use Rattle.source_machine.specs.MethodRuns.{MethodRun, run_after, run_at, Watched, watched_start, watched_step, watched_run}
+use Rattle.source_machine.specs.MethodRuns.{MethodRun, Watched, watched_start, watched_step, watched_run}
 use Rattle.source_machine.specs.Proper.{runs_method, IsProper, IsProperState}
-use Rattle.source_machine.proofs.Places.{put_same, put_other}
 use Rattle.source_machine.proofs.Along.{source_run_more, watched_more, watched_machine}
 use Rattle.caller_steps.specs.Signs.{Sign, Begins, Accesses, Draws, Renews, GivesUp}
 use Rattle.core_runs.specs.RunSigns.{signed}
 use Rattle.sim_relation.specs.Points.{event_of}
 use Rattle.oa_simulation.specs.Shadow.{Shadow, is_told, shadow_step, shadow_run}
 use Rattle.sim_relation.specs.Points.{Point, Plays, done, makes, leaves_out, is_open, played, IsProperPoint, StaysProper}
+use Rattle.sim_steps.proofs.Turning.{Others, enabled_is, stepped}
 use Rattle.oa_simulation.specs.Beside.{Sourced, Placed}
 
 mover_is : (c u : ℕ) (sign : Sign) → mover (event_of c u sign) ≡ c
@@ -33,44 +32,6 @@ told_open Accesses = refl
 told_open (Draws j) = refl
 told_open Renews = refl
 told_open (GivesUp phase) = refl
-
-set_same : (xs : List SourceCaller) (k : ℕ) (x y : SourceCaller) → slice_get xs k ≡ Some x → slice_get (set xs k y) k ≡ Some y
-set_same [] k x y at = absurd (let z : None ≡ Some x = at in cc)
-set_same (a ∷ xs) zero x y at = refl
-set_same (a ∷ xs) (suc k) x y at = set_same xs k x y at
-
-set_away : (xs : List SourceCaller) (k d : ℕ) (y : SourceCaller) → d ≢ k → slice_get (set xs k y) d ≡ slice_get xs d
-set_away [] k d y ne = refl
-set_away (a ∷ xs) zero zero y ne = absurd (ne refl)
-set_away (a ∷ xs) zero (suc d) y ne = refl
-set_away (a ∷ xs) (suc k) zero y ne = refl
-set_away (a ∷ xs) (suc k) (suc d) y ne = set_away xs k d y (λ e. ne (ap suc e))
-
-abbrev Others : Watched → Watched → ℕ → Type 0
-Others v v' c = (d : ℕ) → d ≢ c → (slice_get v'.machine.callers d ≡ slice_get v.machine.callers d) × (v'.runs d ≡ v.runs d)
-
--- one event of a caller
-record Stepped (text : Text) (v : Watched) (event : SourceEvent) (c : ℕ) (x : SourceCaller) : Type 0 where
-  caller : slice_get (watched_step text v event).machine.callers c ≡ Some (caller_turn text event v.machine.memory x).caller
-  memory : (watched_step text v event).machine.memory ≡ (caller_turn text event v.machine.memory x).memory
-  run : (watched_step text v event).runs c ≡ run_after text event v.machine.memory x (v.runs c)
-  others : Others v (watched_step text v event) c
-
-stepped_here : (text : Text) (v : Watched) (event : SourceEvent) (x : SourceCaller) → slice_get v.machine.callers (mover event) ≡ Some x → Stepped text v event (mover event) x
-stepped_here text v event x at = record {
-  caller = rw at (set_same v.machine.callers (mover event) x (caller_turn text event v.machine.memory x).caller at);
-  memory = rw at refl;
-  run = put_same v.runs (mover event) (run_at text event v.machine.memory (slice_get v.machine.callers (mover event)) (v.runs (mover event)))
-      ∙ ap (λ o. run_at text event v.machine.memory o (v.runs (mover event))) at;
-  others = λ d ne. (
-    rw at (set_away v.machine.callers (mover event) d (caller_turn text event v.machine.memory x).caller ne),
-    put_other v.runs (mover event) d (run_at text event v.machine.memory (slice_get v.machine.callers (mover event)) (v.runs (mover event))) ne,
-  );
-}
-
-stepped : (text : Text) (v : Watched) (event : SourceEvent) (c : ℕ) (x : SourceCaller) → mover event ≡ c → slice_get v.machine.callers c ≡ Some x → Stepped text v event c x
-stepped text v event c x is at =
-    subst (λ k. Stepped text v event k x) is (stepped_here text v event x (ap (slice_get v.machine.callers) is ∙ at))
 
 -- the source after signs, and where their caller then stands
 pub record Lifted (text : Text) (callers c : ℕ) (v : Watched) (q : Point) (z' : Shadow) : Type 0 where
@@ -90,11 +51,6 @@ point_is v z c p at =
 
 pub machine_is : (text : Text) (callers : ℕ) (z : Shadow) (v : Watched) → Sourced text callers z v → v.machine ≡ z.machine
 machine_is text callers z v s = ap (λ (u : Watched). u.machine) s.watched ∙ watched_machine text callers z.events z.machine s.run
-
--- whether an event is enabled
-enabled_is : (text : Text) (v : Watched) (event : SourceEvent) (c : ℕ) (x : SourceCaller) (b : Bool) → mover event ≡ c → slice_get v.machine.callers c ≡ Some x
-    → is_enabled_for text event (Some x) v.machine.memory ≡ b → is_enabled text v.machine event ≡ b
-enabled_is text v event c x b is at open_ = ap (λ o. is_enabled_for text event o v.machine.memory) (ap (slice_get v.machine.callers) is ∙ at) ∙ open_
 
 open_at : (text : Text) (callers c : ℕ) (sign : Sign) (z : Shadow) (v : Watched) (x : SourceCaller) → Sourced text callers z v → slice_get v.machine.callers c ≡ Some x
     → is_open text c sign (point_at v z c x) → Lifted text callers c v (played text c sign (point_at v z c x)) (shadow_step text z (record { caller = c; sign = sign }))

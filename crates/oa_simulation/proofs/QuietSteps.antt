@@ -1,46 +1,45 @@
--- The start is in the relation, each quiet step keeps it, and no sweep frees what a validated guard names.
-use Rattle.std.proofs.Common.{ℕ, ◌≡◌, ◌≢◌, ◌<◌, ◌∙◌, true, List, Option, Some, sym, ap, subst, refl, arith}
+-- The start is in the relation, each quiet step keeps it, method runs begin unwarned, and no sweep frees what a validated guard names.
+use Rattle.std.proofs.Common.{ℕ, ◌≡◌, ◌∙◌, List, Some, sym, ap, subst, refl}
 use Rattle.std.specs.Prelude.{nat_le}
 use Rattle.norm_lang.specs.declared.text.Text.{Text}
 use Rattle.target_code.specs.declared.target.Target.{Target}
 use Rattle.oa_words.specs.declared.packed.Kind.TheVariants as kinds
-use Rattle.oa_words.specs.Words.{Word, Hazard, Status}
+use Rattle.oa_words.specs.Words.{Word, Warning, Hazard, Status}
 use Rattle.oa_words.specs.Packed.{status_word}
 use Rattle.phase_pools.specs.declared.stages.SweepStage.{SweepStage}
 use Rattle.phase_pools.specs.declared.stages.SweepStage.TheVariants as sweeps
 use Rattle.phase_pools.specs.declared.stages.ClaimStage.{ClaimStage}
 use Rattle.phase_pools.specs.declared.stages.ClaimStage.TheVariants as claims
-use Rattle.phase_pools.specs.Accesses.{WordAccess, word_of}
+use Rattle.phase_pools.specs.Accesses.{WordAccess, Loads, word_of}
 use Rattle.source_machine.specs.Proper.{IsProper}
-use Rattle.caller_steps.specs.declared.routine.Routine.{Routine}
-use Rattle.caller_steps.specs.declared.routine.Routine.TheVariants.{Claims}
-use Rattle.caller_steps.specs.Settings.{Setting, Fits, IsSetting}
+use Rattle.source_machine.proofs.Places.{put_same}
+use Rattle.caller_parts.specs.declared.routine.Routine.{Routine}
+use Rattle.caller_parts.specs.declared.routine.Routine.TheVariants.{Claims}
+use Rattle.caller_parts.specs.Settings.{Setting, Fits, IsSetting}
 use Rattle.caller_steps.specs.Entries.{Entry}
-use Rattle.caller_steps.specs.Signs.{Sign}
-use Rattle.caller_steps.specs.Wants.{wants}
-use Rattle.caller_steps.specs.After.{signs}
+use Rattle.caller_steps.specs.After.{after as after_step}
 use Rattle.caller_steps.specs.After.{moved as after_moves}
-use Rattle.caller_laws.proofs.Together.{methods}
-use Rattle.caller_laws.proofs.Methods.{setting_sane}
-use Rattle.core_runs.specs.Machine.{CoreState, CoreEvent, Steps, Reachable, core_start, core_event}
+use Rattle.core_runs.specs.Machine.{Steps}
 use Rattle.core_runs.specs.RunSigns.{Signed, signed, event_signs}
-use Rattle.core_runs.specs.Views.{view, Moves}
+use Rattle.core_runs.specs.Views.{CoreView, view, Moves}
 use Rattle.core_runs.proofs.Seeing.{events_are_seen}
 use Rattle.core_runs.proofs.Starting.{start_is_seen}
-use Rattle.core_sound.specs.Sound.{IsSound}
 use Rattle.core_sound.proofs.Reached.{states_are_sound, states_are_shaped, start_suits}
 use Rattle.target_runs.specs.Runnable.{IsRunnable}
 use Rattle.target_runs.proofs.SaneTargets.{runnable_is_sane}
-use Rattle.sim_relation.specs.Views.{Plan, IsPlan, Shared, Caller}
+use Rattle.sim_relation.specs.Views.{Plan, IsPlan, Shared}
 use Rattle.sim_relation.specs.Callers.{CallerHolds, HoldsAt, SweepAt, ClaimAt}
+use Rattle.sim_relation.specs.Steps.{after_access}
+use Rattle.sim_relation.proofs.Words.{store_idle}
 use Rattle.sim_pools.proofs.Slots.{Freed, unguarded}
 use Rattle.sim_steps.specs.Quiet.{is_quiet}
 use Rattle.sim_steps.proofs.Drawing.{quiet_draws_none}
 use Rattle.sim_steps.proofs.Dispatching.{quiet_steps}
-use Rattle.oa_simulation.specs.Shadow.{Shadow, shadow_run, shadow_start}
+use Rattle.sim_steps.proofs.Seen.{after_seen, renewing_loads}
+use Rattle.oa_simulation.specs.Shadow.{shadow_run}
 use Rattle.sim_starts.specs.FirstNames.{first_home}
 use Rattle.oa_simulation.specs.Beside.{Beside}
-use Rattle.oa_simulation.specs.Relation.{HomeIs, Related, StartIsRelated, QuietStepsKeep, Frees, SweepsSpareGuards, QuietIsKept}
+use Rattle.oa_simulation.specs.Relation.{HomeIs, StartIsRelated, QuietStepsKeep, RunsBeginUnwarned, SweepsSpareGuards, QuietIsKept}
 use Rattle.oa_simulation.proofs.Homes.{undrawn}
 use Rattle.oa_simulation.proofs.Induction.{step_beside, signs_are}
 use Rattle.sim_starts.proofs.FirstWords.{first_words}
@@ -95,12 +94,28 @@ quiet_kept target text setting runs own fits proper state later z c reached rela
           state later z c quiet sound shaped related.beside m homes).0;
     }
 
+pub runs_begin_unwarned : (target : Target) (text : Text) (setting : Setting) → IsRunnable target text → IsSetting setting → Fits target setting → RunsBeginUnwarned target text setting
+runs_begin_unwarned target text setting runs own fits state later z c reached related renew is =
+    let shaped = states_are_shaped target text setting state runs own fits reached in
+    let v : CoreView = view setting state in
+    let e : Entry = v.who c in
+    let m : Moves target setting v (Steps c) (view setting later) = (events_are_seen target setting).moves state later (Steps c) shaped is in
+    let b = related.beside in
+    let number : e.number ≡ c = ap (λ (e : Entry). e.number) (sym (b.entry c m.1)) ∙ (b.holds.caller_holds c m.1).base.number in
+    let access : m.0 ≡ Loads (Warning c) =
+    (let z : Some m.0 ≡ Some (Loads (Warning e.number)) = sym m.2 ∙ renewing_loads target (v.memory (Warning c)) e renew in
+    let same : m.0 ≡ Loads (Warning e.number) = cc in same ∙ ap (λ (n : ℕ). Loads (Warning n)) number) in
+    let entry : (view setting later).who c ≡ after_step target setting e (v.memory (word_of m.0)) = ap (λ (who : ℕ → Entry). who c) m.5 ∙ put_same v.who c (after_step target setting e (v.memory (word_of m.0))) in
+    let word : v.memory (word_of m.0) ≡ v.memory (Warning c) = ap (λ (a : WordAccess). v.memory (word_of a)) access in
+    let stays : (view setting later).memory (Warning c) ≡ v.memory (Warning c) = ap (λ (k : Word → ℕ). k (Warning c)) (m.4 ∙ (ap (λ (a : WordAccess). after_access v.memory a) access ∙ sym (store_idle v.memory (Warning c)))) in
+    ap (λ (e : Entry). e.hand.seen) (entry ∙ ap (after_step target setting e) word) ∙ (after_seen target setting (v.memory (Warning c)) e renew ∙ sym stays)
+
 pub sweeps_spare : (target : Target) (text : Text) (setting : Setting) → SweepsSpareGuards target text setting
 sweeps_spare target text setting state z related c j below frees d r some named =
     let t : Plan = planned target text setting related.home in
     let b : Beside t state z = related.beside in
     let s : Shared = b.w.shared in
-    let told : CallerHolds t s c (b.w.who c) = b.holds.told c below in
+    let told : CallerHolds t s c (b.w.who c) = b.holds.caller_holds c below in
     let routine : (b.w.who c).entry.routine ≡ Claims frees.claim = ap (λ (e : Entry). e.routine) (b.entry c below) ∙ frees.at in
     let spot : HoldsAt t s c (b.w.who c) (Claims frees.claim) = subst (λ (r : Routine). HoldsAt t s c (b.w.who c) r) routine told.spot in
     let claim : ClaimAt t s frees.claim.sweep claims.Sweeps = subst (λ (stage : ClaimStage). ClaimAt t s frees.claim.sweep stage) frees.in_sweep spot.0 in
@@ -108,12 +123,13 @@ sweeps_spare target text setting state z related c j below frees d r some named 
     subst (λ (stage : SweepStage). SweepAt t s frees.claim.sweep.bound frees.claim.sweep.gathered stage) frees.stage claim in
     let expected : s.memory (Status j) ≡ status_word frees.phase kinds.Retired = ap (λ (k : Word → ℕ). k (Status j)) b.memory ∙ frees.expected in
     let freed : Freed t s frees.claim.sweep.bound j frees.phase frees.claim.sweep.gathered = record { word = expected; below = sweep.1; away = sweep.2; sweeps = sweep.0 } in
-    unguarded t s frees.claim.sweep.bound j frees.phase frees.claim.sweep.gathered b.holds.fine freed d r some
-    (sym (b.holds.fine.guard d r some).word ∙ (ap (λ (k : Word → ℕ). k (Hazard d r)) b.memory ∙ named))
+    unguarded t s frees.claim.sweep.bound j frees.phase frees.claim.sweep.gathered b.holds.shared_holds freed d r some
+    (sym (b.holds.shared_holds.guard d r some).word ∙ (ap (λ (k : Word → ℕ). k (Hazard d r)) b.memory ∙ named))
 
 pub keeps_quiet : (target : Target) (text : Text) (setting : Setting) → IsRunnable target text → IsSetting setting → Fits target setting → QuietIsKept target text setting
 keeps_quiet target text setting runs own fits proper = record {
   start = start_related target text setting runs own fits;
   steps = quiet_kept target text setting runs own fits proper;
   guards = sweeps_spare target text setting;
+  unwarned = runs_begin_unwarned target text setting runs own fits;
 }

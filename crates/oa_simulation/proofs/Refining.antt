@@ -1,15 +1,14 @@
 -- Every run of the core is simulated by a run of the source.
-use Rattle.std.proofs.Common.{ℕ, zero, suc, ◌≡◌, ◌==◌, ◌<◌, ◌∙◌, ◌&&◌, not, Bool, true, false, List, [], replicate, Option, Some, None, sym, ap, subst, refl, arith, if◌then◌else◌}
+use Rattle.std.proofs.Common.{ℕ, zero, suc, ◌≡◌, ◌==◌, ◌<◌, ◌∙◌, ◌&&◌, not, Bool, true, false, List, Option, sym, ap, subst, refl, arith, if◌then◌else◌}
 use Rattle.std.proofs.lemmas.Bool.Decides.{nat_tests}
-use Rattle.std.specs.Prelude.{nat_le, slice_get, slice_index, unwrap_or}
+use Rattle.std.specs.Prelude.{nat_le, slice_get, unwrap_or}
 use Rattle.norm_lang.specs.declared.text.Text.{Text}
 use Rattle.target_code.specs.declared.target.Target.{Target}
-use Rattle.oa_words.specs.Words.{Word, Hazard, Status, address_of, in_row}
-use Rattle.guard_words.specs.Guards.{guard_at, no_guards}
-use Rattle.source_machine.specs.State.{idle_caller}
+use Rattle.oa_words.specs.Words.{Word, Hazard, Status}
+use Rattle.source_machine.specs.declared.state.SourceCaller.{SourceCaller}
 use Rattle.source_machine.specs.Run.{caller_replies}
 use Rattle.source_machine.specs.MethodRuns.{watched_start}
-use Rattle.caller_steps.specs.Settings.{Setting, IsSetting}
+use Rattle.caller_parts.specs.Settings.{Setting, IsSetting, Fits}
 use Rattle.caller_steps.specs.Entries.{Entry, idle_entry, is_idle}
 use Rattle.core_runs.specs.Machine.{CoreState, CoreEvent, core_start}
 use Rattle.core_sound.specs.Sound.{IsSound}
@@ -25,15 +24,14 @@ use Rattle.target_runs.proofs.SaneTargets.{runnable_is_sane}
 use Rattle.oa_words.specs.Starts.{Suits}
 use Rattle.core_runs.specs.Machine.{beginning_of}
 use Rattle.caller_laws.proofs.Methods.{setting_sane}
-use Rattle.sim_relation.specs.Views.{Plan, IsPlan, Caller}
-use Rattle.sim_relation.specs.Callers.{CallerHolds, replies_of}
+use Rattle.sim_relation.specs.Views.{Plan, IsPlan}
+use Rattle.sim_relation.specs.Callers.{replies_of}
 use Rattle.core_runs.specs.RunSigns.{run_signs}
 use Rattle.oa_simulation.specs.Shadow.{Shadow, shadow, shadow_start, home_of}
 use Rattle.oa_simulation.specs.Beside.{Beside}
 use Rattle.oa_simulation.specs.Statements.{AgreesWith, Agrees, ForProper, Refines}
-use Rattle.oa_simulation.proofs.Worlds.{no_guarded_ready}
+use Rattle.sim_steps.proofs.Worlds.{no_guarded_ready}
 use Rattle.sim_starts.proofs.Starting.{IsFirst, first_shared, fine_first}
-use Rattle.caller_steps.specs.Settings.{Fits}
 use Rattle.target_runs.specs.Runnable.{IsRunnable}
 use Rattle.sim_steps.proofs.Dispatching.{steps_keep}
 use Rattle.oa_simulation.specs.Relation.{HomeIs, RunsAreSimulated}
@@ -42,10 +40,12 @@ use Rattle.oa_simulation.proofs.Testing.{exchanges_agree}
 use Rattle.oa_simulation.proofs.Homes.{home_stays}
 use Rattle.oa_simulation.proofs.Induction.{NamedBeside, run_beside}
 use Rattle.oa_simulation.specs.Present.{first_present, present_in}
-use Rattle.oa_simulation.proofs.Agreeing.{told_agrees}
+use Rattle.sim_steps.proofs.Agreeing.{HasAbout, idle_agrees, running_agrees}
+use Rattle.sim_starts.proofs.FirstCallers.{all_idle, first_caller, no_hazard, told_first}
 use Rattle.oa_simulation.proofs.Lifting.{machine_is, stays_proper}
 use Rattle.oa_simulation.proofs.FactsHold.{facts_hold}
 use Rattle.sim_relation.specs.Points.{point}
+use Rattle.sim_relation.specs.WasSet.{none_set}
 use Rattle.std.proofs.lemmas.Option.{slice_get_within}
 use Rattle.source_machine.specs.declared.event.SourceReply.{SourceReply}
 
@@ -53,62 +53,15 @@ pub either : (b : Bool) → ◌≡◌ {A = ℕ} (if b then 0 else 0) 0
 either true = refl
 either false = refl
 
-no_guard : (r : ℕ) → guard_at no_guards r ≡ 0
-no_guard zero = refl
-no_guard (suc zero) = refl
-no_guard (suc (suc zero)) = refl
-no_guard (suc (suc (suc zero))) = refl
-no_guard (suc (suc (suc (suc zero)))) = refl
-no_guard (suc (suc (suc (suc (suc zero))))) = refl
-no_guard (suc (suc (suc (suc (suc (suc zero)))))) = refl
-no_guard (suc (suc (suc (suc (suc (suc (suc zero))))))) = refl
-no_guard (suc (suc (suc (suc (suc (suc (suc (suc r)))))))) = refl
-
-no_cradle : (k : ℕ) → slice_index (replicate 4 0) k ≡ 0
-no_cradle zero = refl
-no_cradle (suc zero) = refl
-no_cradle (suc (suc zero)) = refl
-no_cradle (suc (suc (suc zero))) = refl
-no_cradle (suc (suc (suc (suc k)))) = refl
-
-abbrev first_caller : ℕ → Caller
-first_caller d = record {
-  entry = idle_entry d;
-  names = record { name = λ r. 0; valid = λ r. false };
-  held = record { got = []; old = [] };
-  source = idle_caller;
-  watch = record { got = []; old = [] };
-}
-
-told_first : (t : Plan) (memory : Word → ℕ) (d : ℕ) → ((r : ℕ) → memory (Hazard d r) ≡ 0) → CallerHolds t (first_shared t memory) d (first_caller d)
-told_first t memory d hazards = record {
-  base = record {
-    number = refl;
-    seen = omega arith;
-    old = λ n p is. absurd (let z : None ≡ Some p = is in cc);
-    hazard = λ r. hazards r ∙ sym (no_guard r);
-    protects = λ r. refl;
-    known = λ n got. absurd (let z : false ≡ true = got in cc);
-    cradle = λ k some. absurd (some (no_cradle k));
-  };
-  spot = (no_guard, λ r valid. refl, refl);
-}
-
-all_idle : (n d : ℕ) → d < n → slice_get (replicate n idle_caller) d ≡ Some idle_caller
-all_idle zero d lt = absurd (omega (arith, lt))
-all_idle (suc n) zero lt = refl
-all_idle (suc n) (suc d) lt = all_idle n d (omega (arith, lt))
-
-no_hazard : (target : Target) (setting : Setting) → StartIsSeen target setting → Suits setting.sizes (beginning_of target setting) → (d r : ℕ) → (view setting (core_start target setting)).memory (Hazard d r) ≡ 0
-no_hazard target setting s suits d r = of (in_row setting.sizes (Hazard d r)) refl where
-  of : (b : Bool) → in_row setting.sizes (Hazard d r) ≡ b → (view setting (core_start target setting)).memory (Hazard d r) ≡ 0
-  of true row = s.memory suits (Hazard d r) row
-  of false row = ap (λ (b : Bool). if b then slice_index (core_start target setting).words (address_of setting.sizes (Hazard d r)) else 0) row
-
 -- the relation's first names are the run's
 first_names : (nodes j : ℕ) → (if not (j == 0) && nat_le j nodes then j else 0) ≡ first_present nodes j
 first_names nodes zero = sym (either (nat_le 0 nodes))
 first_names nodes (suc j) = let some : (suc j == 0) ≡ false = grind (arith, nat_tests) in rw some refl
+
+-- an idle caller's replies, and a running one's
+agrees_with : (b : Bool) (own : List SourceReply) (caller : SourceCaller) → (b ≡ true → caller.replies ≡ own) → HasAbout own caller → AgreesWith b own caller.replies
+agrees_with true own caller idle runs = idle refl
+agrees_with false own caller idle runs = runs
 
 -- the start beside its shadow
 pub start_beside : (t : Plan) → IsPlan t → IsSetting t.setting → StartIsSeen t.target t.setting → Suits t.setting.sizes (beginning_of t.target t.setting) → IsFirst t (view t.setting (core_start t.target t.setting)).memory
@@ -118,8 +71,8 @@ start_beside t plan own start suits first = (
     w = record { shared = first_shared t (view t.setting (core_start t.target t.setting)).memory; who = first_caller };
     v = watched_start t.text t.setting.sizes.callers;
     holds = record {
-      fine = fine_first t (view t.setting (core_start t.target t.setting)).memory plan first;
-      told = λ d lt. told_first t (view t.setting (core_start t.target t.setting)).memory d (no_hazard t.target t.setting start suits d);
+      shared_holds = fine_first t (view t.setting (core_start t.target t.setting)).memory plan first;
+      caller_holds = λ d lt. told_first t (view t.setting (core_start t.target t.setting)).memory d (no_hazard t.target t.setting start suits d);
     };
     memory = refl;
     entry = λ d lt. sym (start.who d);
@@ -134,6 +87,12 @@ start_beside t plan own start suits first = (
   λ i j. first_names t.setting.nodes j i,
 )
 
+-- no run has set a register there
+pub start_sets_none : (t : Plan) (plan : IsPlan t) (own : IsSetting t.setting) (start : StartIsSeen t.target t.setting) (suits : Suits t.setting.sizes (beginning_of t.target t.setting)) (first : IsFirst t (view t.setting (core_start t.target t.setting)).memory)
+    → (d : ℕ) → ((start_beside t plan own start suits first).0.w.who d).was_set ≡ none_set
+unfolding start_beside
+start_sets_none t plan own start suits first d = refl
+
 state_agrees : (t : Plan) (state : CoreState) (z : Shadow) → IsSound t.target t.setting state → Beside t state z → Agrees state z.machine
 state_agrees t state z s b c e at =
     let within = slice_get_within state.entries c e at in
@@ -143,7 +102,7 @@ state_agrees t state z s b c e at =
     let same : (b.w.who c).source.replies ≡ caller_replies (slice_get z.machine.callers c) =
     sym (ap (λ m. caller_replies (slice_get m.callers c)) (sym (machine_is t.text t.setting.sizes.callers z b.v b.sourced)) ∙ ap caller_replies (b.caller c lt)) in
     subst (λ (i : List SourceReply). AgreesWith (is_idle e.routine) (replies_of e) i) same
-    (subst (λ (i : Entry). AgreesWith (is_idle i.routine) (replies_of i) (b.w.who c).source.replies) own (told_agrees t b.w.shared c (b.w.who c) (b.holds.told c lt)))
+    (subst (λ (i : Entry). AgreesWith (is_idle i.routine) (replies_of i) (b.w.who c).source.replies) own (agrees_with (is_idle (b.w.who c).entry.routine) (replies_of (b.w.who c).entry) (b.w.who c).source (idle_agrees t b.w.shared c (b.w.who c) (b.holds.caller_holds c lt)) (running_agrees t b.w.shared c (b.w.who c) (b.holds.caller_holds c lt))))
 
 -- every reachable state stands beside its shadow
 abbrev pub plan_of : Target → Text → Setting → List CoreEvent → Plan
@@ -193,7 +152,7 @@ simulates target text setting runs own fits proper events state is =
         exchanges = exchanges_agree t state (shadow target text setting events) k.plan proper shaped k.beside;
       };
       related = record { home = t.home; null = k.plan.null; homes = λ n lt. refl; beside = k.beside };
-      guarded = λ c r q some ready. no_guarded_ready t k.beside.w.shared k.beside.holds.fine c r q some (ap (λ (m : Word → ℕ). m (Status (m (Hazard c r)))) k.beside.memory ∙ ready);
+      guarded = λ c r q some ready. no_guarded_ready t k.beside.w.shared k.beside.holds.shared_holds c r q some (ap (λ (m : Word → ℕ). m (Status (m (Hazard c r)))) k.beside.memory ∙ ready);
       facts = facts_hold t k.beside.w k.plan k.beside.holds (λ c lt.
           stays_proper text setting.sizes.callers c (shadow target text setting events) k.beside.v (point k.beside.w.shared (k.beside.w.who c)) proper k.beside.sourced
           (record { caller = k.beside.caller c lt; memory = k.beside.source; run = k.beside.run c lt; unused = k.beside.unused }));

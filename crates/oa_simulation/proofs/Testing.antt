@@ -1,8 +1,7 @@
 -- An exchange of the text succeeds exactly where the source's does.
-use Rattle.std.proofs.Common.{ℕ, ◌≡◌, ◌<◌, ◌∙◌, Bool, true, false, List, [], length, Option, Some, None, sym, ap, subst, refl, arith, if◌then◌else◌}
+use Rattle.std.proofs.Common.{ℕ, ◌≡◌, ◌<◌, ◌∙◌, Bool, true, false, List, [], Option, Some, None, sym, ap, subst, refl, arith, if◌then◌else◌}
 use Rattle.std.specs.Prelude.{slice_get, slice_index, option_map, is_some, unwrap_or}
 use Rattle.std.proofs.lemmas.Option.{slice_get_within}
-use Rattle.norm_lang.specs.declared.text.Reg.TheVariants.{Ref}
 use Rattle.norm_lang.specs.declared.text.CasEntry.{CasEntry}
 use Rattle.norm_lang.specs.declared.text.Instr.{Instr}
 use Rattle.norm_lang.specs.declared.text.Instr.TheVariants as instr
@@ -25,20 +24,17 @@ use Rattle.source_machine.specs.declared.state.SourceMachine.{SourceMachine}
 use Rattle.source_machine.specs.Memory.{exchange}
 use Rattle.source_machine.specs.Step.{performed_by, goes_on, generator_stand, wrap_up_stop}
 use Rattle.source_machine.specs.Proper.{IsProper}
-use Rattle.caller_steps.specs.declared.routine.Routine.{Routine}
-use Rattle.caller_steps.specs.declared.routine.Routine.TheVariants.{Idle, LoadSeen, At, Retires, Restarts, Clears, Claims, Zeroes}
-use Rattle.caller_steps.specs.declared.routine.Routine.TheVariants.{InList as InCoreList}
-use Rattle.caller_steps.specs.Settings.{IsSetting}
-use Rattle.caller_steps.specs.Entries.{Entry, idle_entry}
-use Rattle.caller_steps.specs.Operands.{instr_in, list_of}
+use Rattle.caller_parts.specs.declared.routine.Routine.{Routine}
+use Rattle.caller_parts.specs.declared.routine.Routine.TheVariants.{Idle, LoadSeen, At, Retires, Restarts, Clears, Claims, Zeroes, InList as InCoreList}
+use Rattle.caller_steps.specs.Entries.{Entry, idle_entry, instr_in}
+use Rattle.caller_parts.specs.Operands.{list_of, succeeds}
 use Rattle.caller_steps.specs.Belongs.{cas_of}
 use Rattle.caller_steps.specs.Wants.{wants, wanted, exchange_wanted, list_wanted, instr_wanted}
-use Rattle.caller_steps.specs.After.{succeeds}
 use Rattle.caller_laws.proofs.Safety.{list_there}
 use Rattle.core_runs.specs.Machine.{CoreState, found_by}
-use Rattle.core_runs.specs.Views.{view, IsShaped}
+use Rattle.core_runs.specs.Views.{IsShaped}
 use Rattle.target_laws.specs.Methods.{code_in}
-use Rattle.run_ahead.specs.Standing.{Call, stands_at, stands_in_list, running_at, running_of, caller_of}
+use Rattle.run_ahead.specs.Standing.{Call, stands_at, stands_in_list, running_at, caller_of}
 use Rattle.run_ahead.proofs.Plain.{at_place, kind_right}
 use Rattle.run_ahead.proofs.Quiet.{stands_there}
 use Rattle.sim_relation.specs.Views.{Plan, IsPlan, Shared, Caller}
@@ -107,7 +103,7 @@ module _ (t : Plan) (s : Shared) (c : ℕ) (x : Caller) (plan : IsPlan t) (f : S
       let here : slice_get (code_in run.0.walk.method) x.entry.hand.at ≡ Some (Plain (instr.Cas entry l)) = sym (instr_is t s c x (spot_of x.entry.hand) run.0 run.1) ∙ is in
       let offered : Offers t s c (spared t run.0.walk) x.entry.hand.registers run.0.mirror entry = offers t s c x run.0 (instr.Cas entry l) 0 entry (record {
         plan = plan;
-        fine = f;
+        shared_holds = f;
         base = told.base;
         walks = run.1;
         guards = run.4;
@@ -134,7 +130,7 @@ module _ (t : Plan) (s : Shared) (c : ℕ) (x : Caller) (plan : IsPlan t) (f : S
       let listed : slice_get commit.0 k ≡ Some entry = sym (ap (λ (o : Option TargetInstr). slice_get (list_of o) k) commit.1) ∙ one in
       let offered : Offers t s c (spared t run.0.walk) x.entry.hand.registers run.0.mirror entry = offers t s c x run.0 (instr.Commit commit.0) k entry (record {
         plan = plan;
-        fine = f;
+        shared_holds = f;
         base = told.base;
         walks = run.1;
         guards = run.2;
@@ -186,7 +182,7 @@ exchanges_agree t state z plan proper shaped b c e entry a at is want =
     let placed : Placed b.v z c (point s x) = record { caller = b.caller c lt; memory = b.source; run = b.run c lt; unused = b.unused } in
     let here : IsProperPoint (point s x) = stays_proper t.text t.setting.sizes.callers c z b.v (point s x) proper b.sourced placed [] (point s x) (done (point s x)) in
     let mine : succeeds entry x.entry.hand.registers (s.memory (word_of a)) ≡ caller_makes t.text s.source (Some x.source) =
-    caller_agrees t s c x plan b.holds.fine (b.holds.told c lt) here entry a (ap (λ (i : Entry). core_exchange t.target i i.routine) own ∙ is) (ap (wants t.target) own ∙ want) in
+    caller_agrees t s c x plan b.holds.shared_holds (b.holds.caller_holds c lt) here entry a (ap (λ (i : Entry). core_exchange t.target i i.routine) own ∙ is) (ap (wants t.target) own ∙ want) in
     sym (ap (λ (word : ℕ). succeeds entry x.entry.hand.registers word) found ∙ ap (λ (i : Entry). succeeds entry i.hand.registers (found_by t.setting state a)) own)
     ∙ (mine ∙ (ap (λ (memory : Memory). caller_makes t.text memory (Some x.source)) (sym b.source)
     ∙ (ap (caller_makes t.text b.v.machine.memory) (sym (b.caller c lt))

@@ -5,7 +5,7 @@ use Rattle.source_machine.specs.Run.{IsSourceRun}
 use Rattle.source_machine.specs.MethodRuns.{Watched, watched_start, watched_run}
 use Rattle.caller_steps.specs.Entries.{is_idle}
 use Rattle.core_runs.specs.Machine.{CoreState}
-use Rattle.caller_steps.specs.Calls.{is_call}
+use Rattle.caller_parts.specs.Calls.{is_call}
 use Rattle.core_runs.specs.Views.{view}
 use Rattle.sim_relation.specs.Views.{Plan}
 use Rattle.sim_relation.specs.Worlds.{World, Holds}

@@ -1,15 +1,16 @@
 -- The facts by which the simulation holds, each by a name of its own. They are parts of the relation, which adds where each caller
--- stands, so that each step keeps it.
+-- stands, so that each step keeps it. Two are facts about steps: the one on tags below, and `RunsBeginUnwarned`, which stands beside the
+-- relation of core states.
 use Rattle.std.specs.Prelude.{ℕ, ◌≡◌, ◌≢◌, ◌≤◌, ◌<◌, true, false, Some}
 use Rattle.norm_lang.specs.declared.text.Reg.{Reg}
 use Rattle.oa_words.specs.Words.{Phase, Warning, Hazard}
 use Rattle.phase_pools.specs.declared.stages.ClaimStage.TheVariants as claims
 use Rattle.phase_pools.specs.Pools.{Claim}
 use Rattle.source_machine.specs.Proper.{has}
-use Rattle.caller_steps.specs.declared.routine.Routine.TheVariants.{At, Claims}
+use Rattle.caller_parts.specs.declared.routine.Routine.TheVariants.{At, Claims}
 use Rattle.target_laws.specs.Trusted.{trust_along}
 use Rattle.run_ahead.specs.Agreeing.{Agree}
-use Rattle.run_ahead.specs.Ahead.{Told}
+use Rattle.run_ahead.specs.Ahead.{AsTrusted}
 use Rattle.sim_relation.specs.Views.{Plan, Shared, Resident, Apart, link}
 use Rattle.sim_relation.specs.Callers.{Calm, Trail, SweepAt, spared}
 use Rattle.sim_relation.specs.Worlds.{World}
@@ -41,4 +42,4 @@ pub record Facts (t : Plan) (w : World) : Type 0 where
       → (m : Trail t) × ((o e g : ℕ) → spared t m.walk o ≡ false → w.shared.protects c o ≢ 0 → w.shared.protects c e ≢ 0 → Apart t (link w.shared (w.shared.protects c o) g) (w.shared.protects c e))
   -- registers hold the source's values, as far as they are trusted on the way that the caller came
   pub trusted_registers_hold_the_values_of_the_source : (c : ℕ) → c < t.setting.sizes.callers → (w.who c).entry.routine ≡ At
-      → (m : Trail t) × ((r : Reg) → Told (Calm w.shared c (w.who c)) (trust_along m.walk.method m.path r) (Agree t.home (w.who c).entry.hand.registers m.mirror r))
+      → (m : Trail t) × ((r : Reg) → AsTrusted (Calm w.shared c (w.who c)) (trust_along m.walk.method m.path r) (Agree t.home (w.who c).entry.hand.registers m.mirror r))

@@ -1,5 +1,6 @@
 pub mod Shadow
 pub mod Present
+pub mod Throughout
 pub mod Statements
 pub mod Beside
 pub mod Relation

@@ -3,19 +3,19 @@ use Rattle.std.specs.Prelude.{ℕ, ◌≡◌, ◌≢◌, ◌<◌, true, List, So
 use Rattle.norm_lang.specs.declared.text.Text.{Text}
 use Rattle.target_code.specs.declared.target.Target.{Target}
 use Rattle.oa_words.specs.declared.packed.Kind.TheVariants as kinds
-use Rattle.oa_words.specs.Words.{Hazard, Status}
+use Rattle.oa_words.specs.Words.{Warning, Hazard, Status}
 use Rattle.oa_words.specs.Packed.{status_word}
 use Rattle.phase_pools.specs.declared.stages.SweepStage.TheVariants as sweeps
 use Rattle.phase_pools.specs.declared.stages.ClaimStage.TheVariants as claims
 use Rattle.phase_pools.specs.Pools.{Claim}
 use Rattle.source_machine.specs.Proper.{IsProper}
-use Rattle.caller_steps.specs.declared.routine.Routine.TheVariants.{Claims}
-use Rattle.caller_steps.specs.Settings.{Setting}
+use Rattle.caller_parts.specs.declared.routine.Routine.TheVariants.{Claims}
+use Rattle.caller_parts.specs.Settings.{Setting}
 use Rattle.core_runs.specs.Machine.{CoreState, CoreEvent, Steps, Reachable, core_start, core_event, core_run}
 use Rattle.core_runs.specs.RunSigns.{event_signs}
 use Rattle.core_runs.specs.Views.{view}
-use Rattle.sim_relation.specs.Views.{Plan}
 use Rattle.sim_steps.specs.Quiet.{is_quiet}
+use Rattle.sim_steps.specs.Renewing.{renews}
 use Rattle.oa_simulation.specs.Shadow.{Shadow, shadow, shadow_run, shadow_start}
 use Rattle.oa_simulation.specs.Beside.{Beside}
 use Rattle.oa_simulation.specs.Statements.{Refined}
@@ -43,6 +43,13 @@ QuietStepsKeep target text setting = (state later : CoreState) (z : Shadow) (c :
     → is_quiet target setting ((view setting state).who c) ≡ true → core_event target setting state (Steps c) ≡ Some later
     → Related target text setting later (shadow_run text (event_signs target setting state (Steps c)) z)
 
+-- a step by which a method begins, or begins again after a failed check, leaves its caller unwarned: what is seen is the warning word. So
+-- the method begins again later only for a warning that was raised since
+abbrev pub RunsBeginUnwarned : Target → Text → Setting → Type 0
+RunsBeginUnwarned target text setting = (state later : CoreState) (z : Shadow) (c : ℕ) → Reachable target setting state → Related target text setting state z
+    → renews target ((view setting state).who c) ((view setting state).memory (Warning c)) ≡ true → core_event target setting state (Steps c) ≡ Some later
+    → ((view setting later).who c).hand.seen ≡ (view setting later).memory (Warning c)
+
 -- a caller is in a claim whose sweep is about to make a slot ready, and the slot's status is still the one that it expects
 pub record Frees (setting : Setting) (state : CoreState) (c j : ℕ) : Type 0 where
   pub claim : Claim
@@ -62,6 +69,7 @@ pub record KeepsQuiet (target : Target) (text : Text) (setting : Setting) : Type
   pub start : StartIsRelated target text setting
   pub steps : QuietStepsKeep target text setting
   pub guards : SweepsSpareGuards target text setting
+  pub unwarned : RunsBeginUnwarned target text setting
 
 abbrev pub QuietIsKept : Target → Text → Setting → Type 0
 QuietIsKept target text setting = IsProper text → KeepsQuiet target text setting

@@ -10,7 +10,7 @@ use Rattle.source_machine.specs.declared.state.SourceMachine.{SourceMachine}
 use Rattle.source_machine.specs.State.{source_start}
 use Rattle.source_machine.specs.Run.{is_enabled, source_step}
 use Rattle.source_machine.specs.MethodRuns.{put}
-use Rattle.caller_steps.specs.Settings.{Setting}
+use Rattle.caller_parts.specs.Settings.{Setting}
 use Rattle.caller_steps.specs.Signs.{Sign, Draws, Renews}
 use Rattle.core_runs.specs.Machine.{CoreEvent, core_start}
 use Rattle.core_runs.specs.RunSigns.{Signed, run_signs}

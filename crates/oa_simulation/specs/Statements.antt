@@ -17,14 +17,13 @@ use Rattle.source_machine.specs.Memory.{exchange}
 use Rattle.source_machine.specs.Step.{Performed, performed}
 use Rattle.source_machine.specs.Run.{IsSourceRun, source_replies}
 use Rattle.source_machine.specs.Proper.{IsProper}
-use Rattle.caller_steps.specs.declared.routine.Routine.{Routine}
-use Rattle.caller_steps.specs.declared.routine.Routine.TheVariants.{At, InList as InCoreList}
-use Rattle.caller_steps.specs.Settings.{Setting, Fits, IsSetting}
-use Rattle.caller_steps.specs.Entries.{Entry, is_idle}
+use Rattle.caller_parts.specs.declared.routine.Routine.{Routine}
+use Rattle.caller_parts.specs.declared.routine.Routine.TheVariants.{At, InList as InCoreList}
+use Rattle.caller_parts.specs.Settings.{Setting, Fits, IsSetting}
+use Rattle.caller_steps.specs.Entries.{Entry, is_idle, instr_in}
 use Rattle.caller_steps.specs.Wants.{wants}
-use Rattle.caller_steps.specs.Operands.{instr_in, list_of}
+use Rattle.caller_parts.specs.Operands.{list_of, succeeds}
 use Rattle.caller_steps.specs.Belongs.{cas_of}
-use Rattle.caller_steps.specs.After.{succeeds}
 use Rattle.core_runs.specs.Machine.{CoreState, CoreEvent, core_run, core_start, found_by}
 use Rattle.target_runs.specs.Runnable.{IsRunnable}
 use Rattle.sim_relation.specs.Callers.{replies_of}

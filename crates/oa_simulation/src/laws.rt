@@ -1,7 +1,7 @@
 //! Laws of every run of a barred target of a proper text.
 
 ghost use Rattle.barrier_check.specs.Paired.{IsSound};
-ghost use Rattle.caller_steps.specs.Settings.{Fits};
+ghost use Rattle.caller_parts.specs.Settings.{Fits};
 ghost use Rattle.oa_simulation.specs.Relation.{QuietIsKept, RunsAreSimulated};
 
 use barrier_check::Barred;
@@ -9,7 +9,7 @@ use caller_steps::Setting;
 
 /// What a barred target keeps.
 #[tactic(auto, using(crate::proofs::Barring::is_sound))]
-fn kept(barred: &Barred)
+pub fn kept(barred: &Barred)
     ensures { IsSound barred.now }
 {
     let _ = barred.source();
@@ -18,8 +18,9 @@ fn kept(barred: &Barred)
 
 /// For a proper text: the start state is in the relation with the source machine's start; from each reachable state in the
 /// relation every quiet step of every caller leads to one in it, be it the load at a method's begin, a check that passes or
-/// fails, a guard, a clear, a step of a claim, of its sweeps or of a retirement, or a store of 0 of a `new` but the last; and
-/// no step of a sweep makes a slot ready that a validated guard names.
+/// fails, a guard, a clear, a step of a claim, of its sweeps or of a retirement, or a store of 0 of a `new` but the last;
+/// no step of a sweep makes a slot ready that a validated guard names; and a step by which a method begins, or begins again
+/// after a failed check, leaves its caller unwarned.
 pub fn quiet_steps_keep(barred: &Barred, setting: &Setting)
     requires fits { Fits barred.now.target setting.now }
     ensures { QuietIsKept barred.now.target barred.now.source setting.now }

@@ -1,5 +1,7 @@
 //! Whole sweeps and claims, against lists of accesses that were worked out by hand.
 
+ghost use Rattle.std.specs.Prelude.{◌≤◌};
+
 use crate::runs::{claims, sweeps};
 use oa_words::shape::Shape;
 use phase_pools::access::{Access, ClaimEnd, SweepEnd};
@@ -34,13 +36,9 @@ fn raise(at: u32, word: u64) -> Access {
     Access::FetchMax { at, word }
 }
 
-/// Slot 1 is used, slots 2 and 3 were retired in phase 1, and slot 3 is guarded. Then slot 1 is retired in phase 2, and
-/// slot 3 isn't guarded any more.
-#[test]
-fn two_sweeps_free_what_no_guard_names(rt: HostRuntime) {
-    let shape = Shape::new(1, 3, 2, 1).expect(&rt, "the numbers are in range");
-    let mut words = row(1, 3, [5, 5, 6, 6]);
-    let first = [
+/// The accesses of the first sweep, which frees slot 2: slot 3 is guarded.
+fn first_sweep() -> [Access; 15] {
+    [
         load(0),
         exchange(0, 1, 2),
         raise(2, 2),
@@ -56,11 +54,12 @@ fn two_sweeps_free_what_no_guard_names(rt: HostRuntime) {
         load(13),
         exchange(13, 6, 8),
         load(14),
-    ];
-    assert!(rt; sweeps(&rt, &shape, 5, &mut words, &first) == Some(SweepEnd::Swept));
-    assert!(rt; words == row(2, 3, [5, 5, 8, 6]));
-    words = row(2, 0, [5, 10, 8, 6]);
-    let second = [
+    ]
+}
+
+/// The accesses of the second sweep, which frees slots 1 and 3.
+fn second_sweep() -> [Access; 16] {
+    [
         load(0),
         exchange(0, 2, 3),
         raise(2, 3),
@@ -77,8 +76,19 @@ fn two_sweeps_free_what_no_guard_names(rt: HostRuntime) {
         load(13),
         load(14),
         exchange(14, 6, 12),
-    ];
-    assert!(rt; sweeps(&rt, &shape, 5, &mut words, &second) == Some(SweepEnd::Swept));
+    ]
+}
+
+/// Slot 1 is used, slots 2 and 3 were retired in phase 1, and slot 3 is guarded. Then slot 1 is retired in phase 2, and
+/// slot 3 isn't guarded any more.
+#[test]
+fn two_sweeps_free_what_no_guard_names(rt: HostRuntime) {
+    let shape = Shape::new(1, 3, 2, 1).expect(&rt, "the numbers are in range");
+    let mut words = row(1, 3, [5, 5, 6, 6]);
+    assert!(rt; sweeps(&rt, &shape, 5, &mut words, &first_sweep()) == Some(SweepEnd::Swept));
+    assert!(rt; words == row(2, 3, [5, 5, 8, 6]));
+    words = row(2, 0, [5, 10, 8, 6]);
+    assert!(rt; sweeps(&rt, &shape, 5, &mut words, &second_sweep()) == Some(SweepEnd::Swept));
     assert!(rt; words == row(3, 0, [5, 12, 8, 12]));
 }
 
@@ -115,51 +125,46 @@ fn sixty_four_hazards_are_gathered(rt: HostRuntime) {
     assert_eq!(rt; words[84], 8);
 }
 
+/// A look, which finds none of the three slots ready.
+fn put_look(accesses: &mut [Access; 37], at: usize)
+    requires { at ≤ 34 }
+{
+    accesses[at] = load(12);
+    accesses[at + 1] = load(13);
+    accesses[at + 2] = load(14);
+}
+
+/// A sweep after a phase, which finds no hazard and frees no slot.
+fn put_sweep(accesses: &mut [Access; 37], at: usize, phase: u64)
+    requires at { at ≤ 23 }
+    requires phase { phase ≤ 2 }
+{
+    accesses[at] = load(0);
+    accesses[at + 1] = exchange(0, phase, phase + 1);
+    accesses[at + 2] = raise(2, phase + 1);
+    for h in 0..8u32 {
+        accesses[at + 3 + h as usize] = load(3 + h);
+    }
+    put_look(accesses, at + 11);
+}
+
+/// The accesses of a claim that finds every slot used.
+fn vain_claim() -> [Access; 37] {
+    let mut accesses = [load(0); 37];
+    put_look(&mut accesses, 0);
+    put_sweep(&mut accesses, 3, 1);
+    put_look(&mut accesses, 17);
+    put_sweep(&mut accesses, 20, 2);
+    put_look(&mut accesses, 34);
+    accesses
+}
+
 /// A list whose three slots are used up: look, sweep, look, sweep, look.
 #[test]
 fn claim_of_a_full_list(rt: HostRuntime) {
     let shape = Shape::new(1, 3, 2, 1).expect(&rt, "the numbers are in range");
     let mut words = row(1, 0, [5, 5, 5, 5]);
-    let expected = [
-        load(12),
-        load(13),
-        load(14),
-        load(0),
-        exchange(0, 1, 2),
-        raise(2, 2),
-        load(3),
-        load(4),
-        load(5),
-        load(6),
-        load(7),
-        load(8),
-        load(9),
-        load(10),
-        load(12),
-        load(13),
-        load(14),
-        load(12),
-        load(13),
-        load(14),
-        load(0),
-        exchange(0, 2, 3),
-        raise(2, 3),
-        load(3),
-        load(4),
-        load(5),
-        load(6),
-        load(7),
-        load(8),
-        load(9),
-        load(10),
-        load(12),
-        load(13),
-        load(14),
-        load(12),
-        load(13),
-        load(14),
-    ];
-    assert!(rt; claims(&rt, &shape, 1000, &mut words, &expected) == Some(ClaimEnd::Full));
+    assert!(rt; claims(&rt, &shape, 1000, &mut words, &vain_claim()) == Some(ClaimEnd::Full));
     assert!(rt; words == row(3, 0, [5, 5, 5, 5]));
 }
 

@@ -1,1 +1,3 @@
 mod FirstWords
+mod Listed
+mod Sites

@@ -18,7 +18,7 @@ use target_code::show_target;
 use target_reader::read_target;
 
 /// A fault.
-pub fn refused(alloc: Global, error: ParseError) -> Result<String, RowError> {
+pub(crate) fn refused(alloc: Global, error: ParseError) -> Result<String, RowError> {
     match error {
         ParseError::Fault(fault) => {
             Ok(format!(in alloc; "line {} fault {}", fault.line, fault.number)?)
@@ -148,7 +148,7 @@ fn judged(alloc: Global, row: &Row<'_>, judge: Judge, bytes: &[u8]) -> Result<St
 }
 
 /// What the row's reader answers.
-pub fn answer(alloc: Global, row: &Row<'_>, bytes: &[u8]) -> Result<String, RowError> {
+pub(crate) fn answer(alloc: Global, row: &Row<'_>, bytes: &[u8]) -> Result<String, RowError> {
     if !few(bytes) {
         return Err(RowError::Wrong);
     }

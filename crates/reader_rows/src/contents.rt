@@ -43,7 +43,7 @@ fn add_script(out: &mut String, script: &Script) -> Result<(), RowError> {
 }
 
 /// The settings, the scripts with their calls, and the turns.
-pub fn contents(alloc: Global, document: &Document) -> Result<String, RowError> {
+pub(crate) fn contents(alloc: Global, document: &Document) -> Result<String, RowError> {
     let mut out = format!(in alloc;
         "slots {} phases {} {} fuel {}",
         document.slots, document.first, document.last, document.fuel

@@ -47,7 +47,7 @@ fn first_line(bytes: &[u8]) -> Option<(Line<'_>, Lines<'_>)>
 }
 
 /// Whether the lines begin with an instruction, and how many lines are left after what was read.
-pub fn instruction_answer(alloc: Global, bytes: &[u8]) -> Result<String, RowError>
+pub(crate) fn instruction_answer(alloc: Global, bytes: &[u8]) -> Result<String, RowError>
     requires { length (lines_of bytes.now) + 1 < 2 ^ 32 }
 {
     let queue = shipped_queue(alloc)?;

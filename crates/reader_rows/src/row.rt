@@ -2,7 +2,7 @@
 
 /// What is asked of an instruction of the first operation.
 #[derive(Clone, Copy, Debug, PartialEq, Eq)]
-pub enum Judge {
+pub(crate) enum Judge {
     /// Which rules over paths it breaks.
     Paths,
     /// Whether a register is of the wrong kind.
@@ -23,7 +23,7 @@ pub enum Judge {
 
 /// What a row asks for.
 #[derive(Clone, Copy, Debug, PartialEq, Eq)]
-pub enum Reader {
+pub(crate) enum Reader {
     /// Whether the lines are a text.
     Text,
     /// The canonical spelling of the text that the lines are.
@@ -50,13 +50,13 @@ pub enum Reader {
 
 /// A row.
 #[derive(Clone, Copy, Debug)]
-pub struct Row<'a> {
-    pub reader: Reader,
+pub(crate) struct Row<'a> {
+    pub(crate) reader: Reader,
     /// The line that is read first, from 1, or the place of the instruction that is judged, from 0.
-    pub first: u32,
+    pub(crate) first: u32,
     /// Whether the instruction is one of the wrap-up.
-    pub wrapup: bool,
-    pub spelling: &'a str,
+    pub(crate) wrapup: bool,
+    pub(crate) spelling: &'a str,
 }
 
 /// What a word asks of an instruction.
@@ -122,7 +122,7 @@ fn numbered<'a>(reader: Reader, wrapup: bool, rest: &'a str) -> Option<Row<'a>> 
 
 impl<'a> Row<'a> {
     /// The row that a line is.
-    pub fn of_line(line: &'a str) -> Option<Row<'a>> {
+    pub(crate) fn of_line(line: &'a str) -> Option<Row<'a>> {
         let (word, rest) = cut(line);
         let reader = reader_named(word)?;
         match reader {

@@ -1,7 +1,10 @@
 //! The rules that an instruction of a text's operation breaks.
 
-ghost use Rattle.norm_paths.specs.Found.{IsSized};
-ghost use Rattle.std.specs.Prelude.{IsTrue};
+ghost use Rattle.std.specs.Prelude.{◌≡◌, ◌<◌, length, map, Some, slice_get, option_map, IsTrue, IfOk};
+ghost use Rattle.std.specs.String.{string_bytes};
+ghost use Rattle.norm_lang.specs.Kept.{code_of};
+ghost use Rattle.norm_paths.specs.Found.{IsOpWithin, IsSized};
+ghost use Rattle.reader_rows.specs.Answers.{with_answer, listed, AreBroken, IsPathAnswer, is_wrong, wrong_at, verdict};
 
 use crate::row::Judge;
 use norm_check::ends::has_wrong_end;
@@ -20,21 +23,34 @@ use std::alloc::{AllocError, Global};
 /// The rules over paths.
 const PATH_RULES: [&str; 9] = ["N3", "N4", "N5", "N6", "N7", "N9", "N10", "N11", "N14"];
 
-/// The names of what holds, or `none`.
-pub fn listed(alloc: Global, names: &[&str], holds: &[bool]) -> Result<String, AllocError> {
-    let mut out = String::new(alloc);
-    for (name, holds) in names.iter().zip(holds) {
-        if *holds {
-            if !out.is_empty() {
-                out.push(' ')?;
-            }
-            out.push_str(name)?;
-        }
+/// Adds a name to a row of names, if the answer is yes.
+fn add_answer(row: &mut String, name: &str, answer: bool) -> Result<(), AllocError>
+    ensures { IfOk result (λ _. string_bytes row.new ≡ with_answer (string_bytes row.old) name.now answer) }
+{
+    if !answer {
+        return Ok(());
     }
-    if out.is_empty() {
-        out.push_str("none")?;
+    if !row.as_str().is_empty() {
+        row.push(' ')?;
     }
-    Ok(out)
+    row.push_str(name)?;
+    Ok(())
+}
+
+/// The names with the answer yes, or `none`.
+#[tactic(auto, using(crate::proofs::Listed::names_turn, crate::proofs::Listed::names_end))]
+pub(crate) fn listed(alloc: Global, names: &[&str], answers: &[bool]) -> Result<String, AllocError>
+    requires { length names.now ≡ length answers.now }
+    ensures { IfOk result (λ row. string_bytes row ≡ listed (map (λ name. name.now) names.now) answers.now) }
+{
+    let mut row = String::new(alloc);
+    for i in 0..names.len() {
+        add_answer(&mut row, names[i], answers[i])?;
+    }
+    if row.as_str().is_empty() {
+        row.push_str("none")?;
+    }
+    Ok(row)
 }
 
 fn is_sized(code: &[Instr]) -> bool
@@ -43,7 +59,9 @@ fn is_sized(code: &[Instr]) -> bool
     0 < code.len() && code.len() < 256
 }
 
-fn code_of(op: &Op, wrapup: bool) -> &[Instr] {
+fn code_of(op: &Op, wrapup: bool) -> &[Instr]
+    ensures { result.now ≡ code_of op.now wrapup }
+{
     if wrapup {
         op.wrapup.items()
     } else {
@@ -51,21 +69,30 @@ fn code_of(op: &Op, wrapup: bool) -> &[Instr] {
     }
 }
 
-/// Which rules over paths the instruction at a place breaks.
-fn broken(alloc: Global, op: &Op, wrapup: bool, at: usize) -> Result<[bool; 9], RowError>
+/// Which rules over paths an instruction breaks at its place.
+fn broken(
+    alloc: Global,
+    op: &Op,
+    wrapup: bool,
+    at: usize,
+    instr: &Instr,
+) -> Result<[bool; 9], AllocError>
     requires generator { IsSized op.now.generator }
     requires wrapup { IsSized op.now.wrapup }
+    requires stands { slice_get (code_of op.now wrapup) at ≡ Some instr.now }
+    ensures { IfOk result (λ broken. IsOpWithin op.now → AreBroken op.now wrapup at instr.now broken) }
 {
     let facts = OpFacts::of_op(alloc, op)?;
     let method = facts.method(wrapup);
     let kept = &facts.kept;
-    let instr = code_of(op, wrapup).get(at).ok_or(RowError::Wrong)?;
+    let makes_again = makes_nodes_again(alloc, wrapup, at, instr, method)?;
+    let blind = loops_blindly(alloc, at, method)?;
     Ok([
-        makes_nodes_again(alloc, wrapup, at, instr, method)?,
+        makes_again,
         has_wrong_put(wrapup, at, instr, method),
         shows_fresh(at, instr, method),
         leaks_fresh(at, instr, method, kept),
-        loops_blindly(alloc, at, method)?,
+        blind,
         sets_kept(wrapup, instr, kept),
         follows_kept(wrapup, instr, kept),
         exchanges_kept(wrapup, instr, kept),
@@ -74,21 +101,37 @@ fn broken(alloc: Global, op: &Op, wrapup: bool, at: usize) -> Result<[bool; 9], 
 }
 
 /// The names of the rules over paths that the instruction at a place breaks.
-pub fn path_answer(alloc: Global, op: &Op, wrapup: bool, at: usize) -> Result<String, RowError> {
+pub(crate) fn path_answer(
+    alloc: Global,
+    op: &Op,
+    wrapup: bool,
+    at: usize,
+) -> Result<String, RowError>
+    ensures { IfOk result (λ answer. IsOpWithin op.now → IsPathAnswer op.now wrapup at (string_bytes answer)) }
+{
     if !is_sized(op.generator.items()) {
         return Err(RowError::Wrong);
     }
     if !is_sized(op.wrapup.items()) {
         return Err(RowError::Wrong);
     }
-    let holds = broken(alloc, op, wrapup, at)?;
-    Ok(listed(alloc, &PATH_RULES, &holds)?)
+    let instr = code_of(op, wrapup).get(at).ok_or(RowError::Wrong)?;
+    let broken = broken(alloc, op, wrapup, at, instr)?;
+    Ok(listed(alloc, &PATH_RULES, &broken)?)
 }
 
-/// Whether the instruction at a place breaks a rule that looks at it alone.
-fn is_wrong(text: &Text, judge: Judge, code: &[Instr], wrapup: bool, at: usize) -> Option<bool> {
-    let count = code.len();
-    let instr = code.get(at)?;
+/// Whether the instruction breaks the rule, of those that look at it alone.
+fn is_wrong(
+    text: &Text,
+    judge: Judge,
+    wrapup: bool,
+    count: usize,
+    at: usize,
+    instr: &Instr,
+) -> Option<bool>
+    requires { at < count }
+    ensures { result ≡ is_wrong judge text.now wrapup count at instr.now }
+{
     let (fields, roots) = (text.fields.items(), text.roots.items());
     match judge {
         Judge::Kind => Some(has_wrong_kind(fields, roots, instr)),
@@ -96,22 +139,33 @@ fn is_wrong(text: &Text, judge: Judge, code: &[Instr], wrapup: bool, at: usize) 
         Judge::End => Some(has_wrong_end(wrapup, instr, at, count)),
         Judge::Retire => Some(has_wrong_retire(instr)),
         Judge::Range => Some(has_wrong_range(roots, instr, count)),
-        _ => None,
+        Judge::Paths | Judge::Flaws | Judge::CarriedFlaws => None,
     }
 }
 
+/// The same of the instruction at a place, if there is one.
+fn wrong_at(text: &Text, judge: Judge, code: &[Instr], wrapup: bool, at: usize) -> Option<bool>
+    ensures { result ≡ wrong_at judge text.now wrapup code.now at (slice_get code.now at) }
+{
+    let count = code.len();
+    let instr = code.get(at)?;
+    is_wrong(text, judge, wrapup, count, at, instr)
+}
+
 /// Whether the instruction at a place is wrong by a rule that looks at it alone, or right.
-pub fn rule_answer(
+pub(crate) fn rule_answer(
     alloc: Global,
     text: &Text,
     judge: Judge,
     op: &Op,
     wrapup: bool,
     at: usize,
-) -> Result<String, RowError> {
-    match is_wrong(text, judge, code_of(op, wrapup), wrapup, at) {
+) -> Result<String, RowError>
+    ensures { IfOk result (λ answer. option_map verdict (wrong_at judge text.now wrapup (code_of op.now wrapup) at (slice_get (code_of op.now wrapup) at)) ≡ Some (string_bytes answer)) }
+{
+    match wrong_at(text, judge, code_of(op, wrapup), wrapup, at) {
         None => Err(RowError::Wrong),
-        Some(true) => Ok(format!(in alloc; "wrong")?),
-        Some(false) => Ok(format!(in alloc; "right")?),
+        Some(true) => Ok(String::from_str(alloc, "wrong")?),
+        Some(false) => Ok(String::from_str(alloc, "right")?),
     }
 }

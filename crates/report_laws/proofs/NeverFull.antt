@@ -12,10 +12,10 @@ use Rattle.target_code.specs.declared.target.TargetOp.{TargetOp}
 use Rattle.target_code.specs.Blocks.{scheme_op}
 use Rattle.target_code.specs.SecondScheme.{second_marks, second_scheme}
 use Rattle.target_runs.specs.Runnable.{IsRunnable}
-use Rattle.caller_steps.specs.declared.call.Reply.TheVariants as replies
-use Rattle.caller_steps.specs.declared.call.Call.{Call}
-use Rattle.caller_steps.specs.declared.call.Running.{Running}
-use Rattle.caller_steps.specs.Settings.{Fits, IsSetting}
+use Rattle.caller_parts.specs.declared.call.Reply.TheVariants as replies
+use Rattle.caller_parts.specs.declared.call.Call.{Call}
+use Rattle.caller_parts.specs.declared.call.Running.{Running}
+use Rattle.caller_parts.specs.Settings.{Fits, IsSetting}
 use Rattle.caller_steps.specs.Entries.{Entry}
 use Rattle.core_runs.specs.Machine.{CoreState, CoreEvent}
 use Rattle.core_runs.specs.Histories.{calls_of}

@@ -4,7 +4,7 @@ use Rattle.std.proofs.lemmas.Bool.Decides.{nat_tests}
 use Rattle.std.specs.Prelude.{not, nat_le, nat_lt}
 use Rattle.std.specs.Option.{option_or}
 use Rattle.oa_words.specs.Within.{AreSizes, is_count}
-use Rattle.caller_steps.specs.Settings.{IsSetting, are_phases}
+use Rattle.caller_parts.specs.Settings.{IsSetting, are_phases}
 use Rattle.documents.specs.declared.document.Document.{Document}
 use Rattle.script_plans.specs.declared.fault.ShapeFault.{ShapeFault}
 use Rattle.script_plans.specs.Shapes.{first_of, most_callers, most_slots, most_fields, most_cells, most_fuel, fault_unless, sizes_of, setting_of, sizes_fault, setting_fault, scripts_fault}

@@ -2,15 +2,15 @@
 use Rattle.std.proofs.Common.{◌≡◌, ℕ, zero, suc, Bool, true, false, List, [], ◌∷◌, ◌++◌, length, map, Option, Some, None, refl, sym, ap, ◌∙◌, subst}
 use Rattle.std.specs.Prelude.{slice_get}
 use Rattle.target_code.specs.declared.target.Target.{Target}
-use Rattle.caller_steps.specs.declared.call.Call.{Call}
-use Rattle.caller_steps.specs.declared.call.Replied.{Replied}
-use Rattle.caller_steps.specs.declared.call.Running.{Running}
-use Rattle.caller_steps.specs.Pairing.{run_of}
-use Rattle.caller_steps.specs.Settings.{Setting}
+use Rattle.caller_parts.specs.declared.call.Call.{Call}
+use Rattle.caller_parts.specs.declared.call.Replied.{Replied}
+use Rattle.caller_parts.specs.declared.call.Running.{Running}
+use Rattle.caller_parts.specs.Pairing.{run_of}
+use Rattle.caller_parts.specs.Settings.{Setting}
 use Rattle.caller_steps.specs.Entries.{Entry, is_idle}
 use Rattle.core_runs.specs.Machine.{CoreState, CoreEvent, OfAll}
 use Rattle.core_runs.specs.Histories.{running_of, calls_of, calls_in}
-use Rattle.core_runs.specs.Scripts.{IsComplete, script_of, last_steps, HasEnded}
+use Rattle.core_runs.specs.Scripts.{IsCompleteRun, script_of, last_steps, HasEnded}
 use Rattle.core_runs.proofs.Keeping.{kept_calls}
 use Rattle.report_laws.specs.Fuel.{replies_of, reply_to, IsOutOfFuel, RunsStill, SpentCallsRanOut}
 
@@ -41,7 +41,7 @@ steps_of_last (x ∷ []) r = refl
 steps_of_last (x ∷ y ∷ xs) r = steps_of_last (y ∷ xs) r
 
 module _ (target : Target) (setting : Setting) (scripts : List (List Call)) (fuel : ℕ) (events : List CoreEvent) (state : CoreState) (c : ℕ) (e : Entry)
-    (complete : IsComplete target setting scripts fuel events state) (there : slice_get state.entries c ≡ Some e) where
+    (complete : IsCompleteRun target setting scripts fuel events state) (there : slice_get state.entries c ≡ Some e) where
   kept : calls_of e ≡ calls_in c events
   kept = kept_calls target setting events state c e complete.run.runs there
 

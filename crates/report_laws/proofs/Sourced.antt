@@ -12,10 +12,10 @@ use Rattle.source_machine.specs.declared.event.SourceReply.{SourceReply}
 use Rattle.source_machine.specs.declared.state.SourceMachine.{SourceMachine}
 use Rattle.source_machine.specs.Run.{source_replies}
 use Rattle.source_machine.specs.Proper.{IsProper}
-use Rattle.caller_steps.specs.declared.call.Reply.{Reply}
-use Rattle.caller_steps.specs.declared.call.Replied.{Replied}
-use Rattle.caller_steps.specs.Pairing.{reply_of}
-use Rattle.caller_steps.specs.Settings.{Fits, IsSetting}
+use Rattle.caller_parts.specs.declared.call.Reply.{Reply}
+use Rattle.caller_parts.specs.declared.call.Replied.{Replied}
+use Rattle.caller_parts.specs.Pairing.{reply_of}
+use Rattle.caller_parts.specs.Settings.{Fits, IsSetting}
 use Rattle.caller_steps.specs.Entries.{Entry, is_idle}
 use Rattle.core_runs.specs.Machine.{CoreState, CoreEvent}
 use Rattle.sim_relation.specs.Callers.{source_reply, replies_of}
@@ -134,5 +134,5 @@ proper_by sets queue TheList may = sets 1 (omega arith)
 proper_by sets queue (TheSet buckets) may = let some = may.0 in sets buckets (omega (arith, some))
 proper_by sets queue TheQueue may = queue
 
-pub named_is_proper : SetsAreProper → IsProper queue_text → (text : Text) → IsNamed text → IsProper text
-named_is_proper sets queue text named = subst IsProper (sym named.same) (proper_by sets queue named.shipped named.may_be)
+pub named_is_proper : SetsAreProper → IsProper queue_text → (words : List (List ℕ)) (text : Text) → IsNamed words text → IsProper text
+named_is_proper sets queue words text named = subst IsProper (sym named.same) (proper_by sets queue named.shipped named.may_be)

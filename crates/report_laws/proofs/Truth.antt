@@ -10,12 +10,12 @@ use Rattle.source_machine.specs.Proper.{IsProper}
 use Rattle.target_runs.specs.Runnable.{IsRunnable as MayRun}
 use Rattle.target_code.specs.declared.target.Target.{Target}
 use Rattle.barrier_compiler.specs.Laws.{SecondSchemeIsBarred, SecondSchemeIsWithin}
-use Rattle.caller_steps.specs.declared.call.Reply.{Reply}
-use Rattle.caller_steps.specs.declared.call.Reply.TheVariants as replies
-use Rattle.caller_steps.specs.declared.call.Replied.{Replied}
-use Rattle.caller_steps.specs.declared.call.Running.{Running}
-use Rattle.caller_steps.specs.Pairing.{reply_of, run_of}
-use Rattle.caller_steps.specs.Settings.{Setting, Fits, IsSetting}
+use Rattle.caller_parts.specs.declared.call.Reply.{Reply}
+use Rattle.caller_parts.specs.declared.call.Reply.TheVariants as replies
+use Rattle.caller_parts.specs.declared.call.Replied.{Replied}
+use Rattle.caller_parts.specs.declared.call.Running.{Running}
+use Rattle.caller_parts.specs.Pairing.{reply_of, run_of}
+use Rattle.caller_parts.specs.Settings.{Setting, Fits, IsSetting}
 use Rattle.caller_steps.specs.Entries.{Entry, is_idle}
 use Rattle.core_runs.specs.Machine.{CoreState, CoreEvent, Reachable, core_run, core_start}
 use Rattle.core_runs.specs.Histories.{running_of, calls_in}
@@ -133,7 +133,7 @@ reports_true barred small sets queue document events state within can complete =
   lines = every_line state (IsTrueLine document events state) (λ c i call e there. true_answer document events state complete own caused c e there i) 0 document.scripts count;
   full = every_line state (TakesClaims document (capped (sum_by claims_of state.entries))) (λ c i call e there full. enough c i e there (told_reply state c e there i replies.Full full)) 0 document.scripts count;
   proper = sourced;
-  named = λ named. sourced (named_is_proper sets queue document.text named);
+  named = λ words named. sourced (named_is_proper sets queue words document.text named);
   shipped = never_full document events state complete own may count;
 } where
   own : IsSetting (setting_of document)

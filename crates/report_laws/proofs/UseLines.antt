@@ -1,7 +1,7 @@
 -- The text of a document with a `use` line is the one that it names.
-use Rattle.std.proofs.Common.{◌≡◌, ◌||◌, ℕ, zero, suc, ◌+◌, Bool, true, false, List, [], ◌∷◌, length, Result, Ok, Err, refl, sym, ap, ◌∙◌, subst, if◌then◌else◌}
+use Rattle.std.proofs.Common.{◌≡◌, ℕ, zero, suc, ◌+◌, Bool, true, false, cond, List, [], ◌∷◌, length, Some, None, Result, Ok, Err, refl, sym, ap, ◌∙◌, subst, if◌then◌else◌}
 use Rattle.std.specs.Prelude.{codes, IfOk}
-use Rattle.std.specs.List.{list_any}
+use Rattle.std.specs.List.{find}
 use Rattle.std.proofs.lemmas.Slice.Eq.{bytes_eq-Decides}
 use Rattle.oa_text.specs.Lines.{TextLine, lines_of, numbered}
 use Rattle.oa_text.specs.Tokens.{words_of, line_fault}
@@ -10,7 +10,7 @@ use Rattle.norm_lang.specs.Faults.{LineFault, form_fault, ◌>>=◌, at_line}
 use Rattle.norm_lang.specs.Declarations.{use_line}
 use Rattle.norm_lang.specs.Grammar.{Section, Start, Opening, Fields, Nodes, Roots, Begun, Generator, WrapUp, Shipped, Draft, draft_at, plain, finished, in_section, in_place, after_words as words_drafted, after_line as line_drafted, after_lines as lines_drafted}
 use Rattle.text_laws.proofs.DeclarationsSaid.{NamesBy, use_said}
-use Rattle.norm_parser.specs.FrontRead.{from_line, front_of, line_word, ends_text, names_text, text_lines, behind_text, end_at, ended, front_read}
+use Rattle.norm_parser.specs.FrontRead.{from_line, front_of, line_word, ends_text, names_text, text_lines, after_text, end_at, ended, front_read}
 use Rattle.documents.specs.declared.document.Document.{Document}
 use Rattle.documents.specs.DocumentRead.{Tail, empty_tail, after_lines, document_of}
 use Rattle.report_laws.specs.Sources.{IsNamed}
@@ -21,16 +21,16 @@ abbrev given : {A E : Type 0} → A → Result A E → A
 given other (Ok x) = x
 given other (Err fault) = other
 
--- the draft's text is one that a `use` line names, and nothing more of it may follow
-record IsUsed (draft : Draft) : Type 0 where
-  named : IsNamed draft.text
+-- the draft's text is the one that the words of a `use` line name, and nothing more of it may follow
+record IsUsed (words : List (List ℕ)) (draft : Draft) : Type 0 where
+  named : IsNamed words draft.text
   section : draft.section ≡ Shipped
   left : draft.left ≡ 0
 
-named_by : (rest : List (List ℕ)) (text : Text) → use_line rest ≡ Ok text → IsNamed text
+named_by : (rest : List (List ℕ)) (text : Text) → use_line rest ≡ Ok text → IsNamed (codes "use" ∷ rest) text
 named_by rest text read =
     let by : NamesBy (codes "use" ∷ rest) text = subst (λ (r : Result Text ℕ). IfOk r (NamesBy (codes "use" ∷ rest))) read (use_said rest) in
-    record { shipped = by.shipped; may_be = by.may_be; same = by.named }
+    record { shipped = by.shipped; may_be = by.may_be; spelled = by.line; same = by.named }
 
 abbrev form : Result Draft ℕ
 form = Err form_fault
@@ -39,13 +39,13 @@ impossible : {A : Type 0} (next : Draft) → form ≡ Ok next → A
 impossible next e = absurd (let f : ⊥ = cc in f)
 
 -- a line that begins with `use` may stand at a text's start alone
-used : (section : Section) (draft next : Draft) (rest : List (List ℕ)) → draft.left ≡ 0 → in_section section draft (codes "use") rest ≡ Ok next → IsUsed next
+used : (section : Section) (draft next : Draft) (rest : List (List ℕ)) → draft.left ≡ 0 → in_section section draft (codes "use") rest ≡ Ok next → IsUsed (codes "use" ∷ rest) next
 used Opening draft next rest left read = go (use_line rest) refl read
   where
-    go : (r : Result Text ℕ) → use_line rest ≡ r → (r >>= λ text. Ok (record draft { section = Shipped; text = text })) ≡ Ok next → IsUsed next
+    go : (r : Result Text ℕ) → use_line rest ≡ r → (r >>= λ text. Ok (record draft { section = Shipped; text = text })) ≡ Ok next → IsUsed (codes "use" ∷ rest) next
     go (Ok text) is read =
         let e : record draft { section = Shipped; text = text } ≡ next = ap (given next) read in
-        subst IsUsed e (record { named = named_by rest text is; section = refl; left = left })
+        subst (IsUsed (codes "use" ∷ rest)) e (record { named = named_by rest text is; section = refl; left = left })
     go (Err fault) is read = absurd (let f : ⊥ = cc in f)
 used Start draft next rest left read = impossible next read
 used Fields draft next rest left read = impossible next read
@@ -56,50 +56,52 @@ used Generator draft next rest left read = impossible next read
 used WrapUp draft next rest left read = impossible next read
 used Shipped draft next rest left read = impossible next read
 
-used_at : (left : ℕ) (draft next : Draft) (rest : List (List ℕ)) → draft.left ≡ left → in_place left draft (codes "use") rest ≡ Ok next → IsUsed next
+used_at : (left : ℕ) (draft next : Draft) (rest : List (List ℕ)) → draft.left ≡ left → in_place left draft (codes "use") rest ≡ Ok next → IsUsed (codes "use" ∷ rest) next
 used_at zero draft next rest same read = used draft.section draft next rest same read
 used_at (suc left) draft next rest same read = impossible next read
 
-line_used : (draft next : Draft) (line : TextLine) → names_text (line_word line) ≡ true → line_drafted draft line ≡ Ok next → IsUsed next
+line_used : (draft next : Draft) (line : TextLine) → names_text (line_word line) ≡ true → line_drafted draft line ≡ Ok next → IsUsed (words_of line.bytes) next
 line_used draft next line named read = go (plain (line_fault line)) (words_of line.bytes) named read
   where
-    go : (r : Result (Unit {0}) ℕ) (words : List (List ℕ)) → names_text (front_of words) ≡ true → (r >>= λ done. words_drafted draft words) ≡ Ok next → IsUsed next
+    go : (r : Result (Unit {0}) ℕ) (words : List (List ℕ)) → names_text (front_of words) ≡ true → (r >>= λ done. words_drafted draft words) ≡ Ok next → IsUsed words next
     go (Err fault) words named read = absurd (let f : ⊥ = cc in f)
     go (Ok done) [] named read = let e : false ≡ true = named in absurd (let f : ⊥ = cc in f)
     go (Ok done) (word ∷ rest) named read =
         let e : word ≡ codes "use" = (bytes_eq-Decides word (codes "use")).0 named in
-        used_at draft.left draft next rest refl (rw e at read)
+        subst (λ (word : List ℕ). IsUsed (word ∷ rest) next) (sym e) (used_at draft.left draft next rest refl (rw e at read))
 
 -- a text's lines end at such a line
-lines_used : (draft last : Draft) (lines : List TextLine) → lines_drafted draft (text_lines lines) ≡ Ok last → list_any is_use_line (text_lines lines) ≡ true → IsUsed last
-lines_used draft last [] read some = absurd (let f : false ≡ true = some in cc)
-lines_used draft last (line ∷ lines) read some =
-    go (ends_text (line_word line)) (names_text (line_word line)) (line_drafted draft line) refl refl read some (λ next. lines_used next last lines)
+lines_used : (draft last : Draft) (lines : List TextLine) (used : TextLine) → lines_drafted draft (text_lines lines) ≡ Ok last → find is_use_line (text_lines lines) ≡ Some used → IsUsed (words_of used.bytes) last
+lines_used draft last [] used read some = absurd (let f : None ≡ Some used = some in cc)
+lines_used draft last (line ∷ lines) used read some =
+    go (ends_text (line_word line)) (names_text (line_word line)) (line_drafted draft line) refl refl read some (λ next. lines_used next last lines used)
   where
     go : (ended named : Bool) (r : Result Draft ℕ) → names_text (line_word line) ≡ named → line_drafted draft line ≡ r
         → lines_drafted draft (if ended then [] else (if named then line ∷ [] else line ∷ text_lines lines)) ≡ Ok last
-        → list_any is_use_line (if ended then [] else (if named then line ∷ [] else line ∷ text_lines lines)) ≡ true
-        → ((next : Draft) → lines_drafted next (text_lines lines) ≡ Ok last → list_any is_use_line (text_lines lines) ≡ true → IsUsed last)
-        → IsUsed last
-    go true named r n same read some others = absurd (let f : false ≡ true = some in cc)
+        → find is_use_line (if ended then [] else (if named then line ∷ [] else line ∷ text_lines lines)) ≡ Some used
+        → ((next : Draft) → lines_drafted next (text_lines lines) ≡ Ok last → find is_use_line (text_lines lines) ≡ Some used → IsUsed (words_of used.bytes) last)
+        → IsUsed (words_of used.bytes) last
+    go true named r n same read some others = absurd (let f : None ≡ Some used = some in cc)
     go false true (Ok next) n same read some others =
         let e : Ok next ≡ Ok last = subst (λ (s : Result Draft ℕ). (at_line line.number s >>= λ next. lines_drafted next []) ≡ Ok last) same read in
-        line_used draft last line n (same ∙ ap Ok (ap (given last) e))
+        let found : Some line ≡ Some used = subst (λ (b : Bool). cond b (Some line) None ≡ Some used) n some in
+        let this : line ≡ used = cc in
+        subst (λ (line : TextLine). IsUsed (words_of line.bytes) last) this (line_used draft last line n (same ∙ ap Ok (ap (given last) e)))
     go false true (Err fault) n same read some others =
         let e : at_line {A = Draft} line.number (Err fault) ≡ Ok last = subst (λ (s : Result Draft ℕ). (at_line line.number s >>= λ next. lines_drafted next []) ≡ Ok last) same read in
         absurd (let f : ⊥ = cc in f)
     go false false r n same read some others = onward (line_drafted draft line) read where
-      rest_some : (b : Bool) → is_use_line line ≡ b → b ≡ false → list_any is_use_line (line ∷ text_lines lines) ≡ true → list_any is_use_line (text_lines lines) ≡ true
-      rest_some b is none some = subst (λ (x : Bool). (x || list_any is_use_line (text_lines lines)) ≡ true) (is ∙ none) some
+      rest_some : find is_use_line (line ∷ text_lines lines) ≡ Some used → find is_use_line (text_lines lines) ≡ Some used
+      rest_some some = subst (λ (b : Bool). cond b (Some line) (find is_use_line (text_lines lines)) ≡ Some used) n some
 
-      onward : (s : Result Draft ℕ) → (at_line line.number s >>= λ next. lines_drafted next (text_lines lines)) ≡ Ok last → IsUsed last
-      onward (Ok next) read = others next read (rest_some false n refl some)
+      onward : (s : Result Draft ℕ) → (at_line line.number s >>= λ next. lines_drafted next (text_lines lines)) ≡ Ok last → IsUsed (words_of used.bytes) last
+      onward (Ok next) read = others next read (rest_some some)
       onward (Err fault) read = absurd (let f : ⊥ = cc in f)
 
 -- ---- documents
 
-finished_used : (draft : Draft) → IsUsed draft → finished draft ≡ Ok draft.text
-finished_used draft u = rw (u.left, u.section) refl
+finished_used : (words : List (List ℕ)) (draft : Draft) → IsUsed words draft → finished draft ≡ Ok draft.text
+finished_used words draft u = rw (u.left, u.section) refl
 
 abbrev with_end : Draft → LineFault → Result (Draft × LineFault) LineFault
 with_end draft end = Ok (draft, end)
@@ -117,18 +119,18 @@ text_is : (text : Text) (document : Document) (tail : Result Tail LineFault) →
 text_is text document (Ok tail) read = let e : document_of text tail ≡ document = ap (given document) read in ap (λ (d : Document). d.text) (sym e)
 text_is text document (Err fault) read = absurd (let f : ⊥ = cc in f)
 
-front_used : (bytes : List ℕ) (lines : List TextLine) (past : ℕ) (document : Document) (r : Result Draft LineFault) → lines_drafted (draft_at Opening) (text_lines lines) ≡ r
-    → (((r >>= λ draft. with_end draft (end_at (behind_text lines) past)) >>= λ front. ended (finished front.0) front.1) >>= after_front bytes) ≡ Ok document
-    → list_any is_use_line (text_lines lines) ≡ true → IsNamed document.text
-front_used bytes lines past document (Err fault) is read some = absurd (let f : ⊥ = cc in f)
-front_used bytes lines past document (Ok last) is read some =
-    let u = lines_used (draft_at Opening) last lines is some in
-    let end = end_at (behind_text lines) past in
-    let goes : (ended (Ok last.text) end >>= after_front bytes) ≡ Ok document = subst (λ (r : Result Text ℕ). (ended r end >>= after_front bytes) ≡ Ok document) (finished_used last u) read in
-    subst IsNamed (sym (text_is last.text document (after_lines empty_tail (from_line end.line (numbered 1 (lines_of bytes)))) goes)) u.named
+front_used : (bytes : List ℕ) (lines : List TextLine) (used : TextLine) (past : ℕ) (document : Document) (r : Result Draft LineFault) → lines_drafted (draft_at Opening) (text_lines lines) ≡ r
+    → (((r >>= λ draft. with_end draft (end_at (after_text lines) past)) >>= λ front. ended (finished front.0) front.1) >>= after_front bytes) ≡ Ok document
+    → find is_use_line (text_lines lines) ≡ Some used → IsNamed (words_of used.bytes) document.text
+front_used bytes lines used past document (Err fault) is read some = absurd (let f : ⊥ = cc in f)
+front_used bytes lines used past document (Ok last) is read some =
+    let u = lines_used (draft_at Opening) last lines used is some in
+    let end = end_at (after_text lines) past in
+    let goes : (ended (Ok last.text) end >>= after_front bytes) ≡ Ok document = subst (λ (r : Result Text ℕ). (ended r end >>= after_front bytes) ≡ Ok document) (finished_used (words_of used.bytes) last u) read in
+    subst (IsNamed (words_of used.bytes)) (sym (text_is last.text document (after_lines empty_tail (from_line end.line (numbered 1 (lines_of bytes)))) goes)) u.named
 
 pub use_lines_name : UseLinesName
 use_lines_name bytes document read has =
     let lines = from_line has.start (numbered 1 (lines_of bytes)) in
     let goes : after_start bytes has.start ≡ Ok document = sym (ap (λ (r : Result ℕ LineFault). r >>= after_start bytes) has.version) ∙ read in
-    front_used bytes lines (length (lines_of bytes) + 1) document (lines_drafted (draft_at Opening) (text_lines lines)) refl goes has.named
+    front_used bytes lines has.line (length (lines_of bytes) + 1) document (lines_drafted (draft_at Opening) (text_lines lines)) refl goes has.first

@@ -1,14 +1,14 @@
 -- Calls that run out of fuel.
 use Rattle.std.specs.Prelude.{◌≡◌, ◌↔◌, ℕ, false, List, [], length, Option, Some, None, slice_get}
 use Rattle.target_code.specs.declared.target.Target.{Target}
-use Rattle.caller_steps.specs.declared.call.Call.{Call}
-use Rattle.caller_steps.specs.declared.call.Replied.{Replied}
-use Rattle.caller_steps.specs.declared.call.Running.{Running}
-use Rattle.caller_steps.specs.Settings.{Setting}
+use Rattle.caller_parts.specs.declared.call.Call.{Call}
+use Rattle.caller_parts.specs.declared.call.Replied.{Replied}
+use Rattle.caller_parts.specs.declared.call.Running.{Running}
+use Rattle.caller_parts.specs.Settings.{Setting}
 use Rattle.caller_steps.specs.Entries.{Entry, is_idle}
 use Rattle.core_runs.specs.Machine.{CoreState, CoreEvent}
 use Rattle.core_runs.specs.Histories.{calls_in}
-use Rattle.core_runs.specs.Scripts.{IsComplete}
+use Rattle.core_runs.specs.Scripts.{IsCompleteRun}
 
 -- the replies that a caller has got
 abbrev pub replies_of : Option Entry → List Replied
@@ -33,5 +33,5 @@ pub record RunsStill (e : Entry) (i : ℕ) : Type 0 where
 
 -- at the end of a complete run a call runs still exactly where it is out of fuel
 pub record SpentCallsRanOut (target : Target) (setting : Setting) : Type 0 where
-  pub each : (scripts : List (List Call)) (fuel : ℕ) (events : List CoreEvent) (state : CoreState) (c i : ℕ) (e : Entry) → IsComplete target setting scripts fuel events state
+  pub each : (scripts : List (List Call)) (fuel : ℕ) (events : List CoreEvent) (state : CoreState) (c i : ℕ) (e : Entry) → IsCompleteRun target setting scripts fuel events state
       → slice_get state.entries c ≡ Some e → RunsStill e i ↔ IsOutOfFuel fuel events state c i

@@ -2,7 +2,7 @@
 use Rattle.std.specs.Prelude.{◌≡◌, ◌↔◌, ℕ, ◌+◌, ◌≤◌, List, length, None, slice_get}
 use Rattle.std.specs.List.{All}
 use Rattle.source_machine.specs.Proper.{IsProper}
-use Rattle.caller_steps.specs.declared.call.Reply.TheVariants as replies
+use Rattle.caller_parts.specs.declared.call.Reply.TheVariants as replies
 use Rattle.core_runs.specs.Machine.{CoreState, CoreEvent}
 use Rattle.core_runs.specs.Histories.{calls_in}
 use Rattle.claim_laws.specs.CallSteps.{StepMade, steps_of_call}
@@ -54,7 +54,7 @@ pub record TellsOf (document : Document) (events : List CoreEvent) (state : Core
   pub lines : All (IsTrueLine document events state) report.lines
   pub full : All (TakesClaims document report.claims) report.lines
   pub proper : IsProper document.text → HasSourceRun document events state report
-  pub named : IsNamed document.text → HasSourceRun document events state report
+  pub named : (words : List (List ℕ)) → IsNamed words document.text → HasSourceRun document events state report
   pub shipped : ShippedIsNeverFull document report
 
 -- of each complete run of each document that can be run

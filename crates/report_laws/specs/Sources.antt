@@ -2,10 +2,10 @@
 use Rattle.std.specs.Prelude.{◌≡◌, ◌⊎◌, ℕ, ◌+◌, ◌≤◌, List, ◌++◌, length, Some, slice_get}
 use Rattle.std.specs.List.{All}
 use Rattle.norm_lang.specs.declared.text.Text.{Text}
-use Rattle.text_laws.specs.StandsFor.{ShippedText, IsShipped, shipped_text}
+use Rattle.text_laws.specs.StandsFor.{ShippedText, IsShipped, spelled_use, shipped_text}
 use Rattle.source_machine.specs.declared.state.SourceMachine.{SourceMachine}
 use Rattle.source_machine.specs.Run.{source_replies}
-use Rattle.caller_steps.specs.declared.call.Reply.{Reply}
+use Rattle.caller_parts.specs.declared.call.Reply.{Reply}
 use Rattle.core_runs.specs.Machine.{CoreState, CoreEvent, core_run, core_start}
 use Rattle.sim_relation.specs.Callers.{source_reply}
 use Rattle.oa_simulation.specs.Shadow.{shadow}
@@ -51,7 +51,7 @@ AtEachState document events Holds = (before later : List CoreEvent) (there : Cor
 -- or in neither (`refined`), and so it is in each state on the way (`refined_so_far`); its begins are the calls of the scripts, in order; and
 -- each printed line is what it answers. In each state on the way no slot is ready that a validated guard names, so that none such is given
 -- out; a load from a slot that was given out again is followed by failed checks alone until its method begins again; and with one caller a
--- claim ends with Full exactly where every slot was in use
+-- claim ends with Full exactly where every slot held a name that isn't retired
 pub record HasSourceRun (document : Document) (events : List CoreEvent) (state : CoreState) (report : Report) : Type 0 where
   pub refined : Refined (target_of document) document.text (setting_of document) events state
   pub refined_so_far : AtEachState document events (Refined (target_of document) document.text (setting_of document))
@@ -63,8 +63,9 @@ pub record HasSourceRun (document : Document) (events : List CoreEvent) (state :
 
 -- ---- shipped texts
 
--- a text that a `use` line names: the list, a set of 1 to 64 buckets, or the queue
-pub record IsNamed (text : Text) : Type 0 where
+-- the words are `use list`, `use set B` with 1 to 64 buckets, or `use queue`, and the text is the one that they name
+pub record IsNamed (words : List (List ℕ)) (text : Text) : Type 0 where
   pub shipped : ShippedText
   pub may_be : IsShipped shipped
+  pub spelled : words ≡ spelled_use shipped
   pub same : text ≡ shipped_text shipped

@@ -15,7 +15,7 @@ pub fn spent_calls_ran_out()
     ensures { OfAll SpentCallsRanOut }
 {}
 
-/// The text of a document with a `use` line is one of those that such a line can name.
+/// The text of a document with a `use` line is the one that the words of this line name.
 pub fn use_lines_name()
     ensures { UseLinesName }
 {}

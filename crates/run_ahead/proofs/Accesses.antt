@@ -30,7 +30,7 @@ use Rattle.target_laws.specs.Methods.{code_in}
 use Rattle.target_laws.specs.Trusted.{Trust, Trusted, Unchecked, trust_in_set}
 use Rattle.run_ahead.specs.AccessLaws.{AccessFollows, LoadsAreFollowed, NewNodesAreFollowed, PutsAreFollowed, ExchangesAreFollowed}
 use Rattle.run_ahead.specs.Agreeing.{StandsFor, HaveSameSize, Changes}
-use Rattle.run_ahead.specs.Ahead.{Told, IsCompiled}
+use Rattle.run_ahead.specs.Ahead.{AsTrusted, IsCompiled}
 use Rattle.run_ahead.specs.Following.{Walk, Follows}
 use Rattle.run_ahead.specs.Standing.{loads_into, IsValueFor, ValuesAgree}
 use Rattle.run_ahead.proofs.Accessing.{Makes, access_follows}
@@ -44,12 +44,12 @@ use Rattle.run_ahead.proofs.TypedLoads.{load_finds}
 
 -- a value is put into a register of its kind
 pub value_changes : (home : ℕ → ℕ) (calm : Type 0) (trust : Trust) (here mirror : Registers) (d : Reg) (v v' : Value) → home 0 ≡ 0 → HaveSameSize here mirror → IsValueFor d v → IsValueFor d v'
-    → Told calm trust (ValuesAgree home v v') → Changes home (Told calm trust) (Some d) (name_in v') here mirror (with_value here d v) (with_value mirror d v')
+    → AsTrusted calm trust (ValuesAgree home v v') → Changes home (AsTrusted calm trust) (Some d) (name_in v') here mirror (with_value here d v) (with_value mirror d v')
 value_changes home calm trust here mirror (Num d) (Number n) (Number m) null sized kind kind' told =
-    number_changes home (Told calm trust) here mirror d n m sized
+    number_changes home (AsTrusted calm trust) here mirror d n m sized
     (λ r same. told_map calm trust (n ≡ m) (number_in (with_number here (Num d) n) (Num r) ≡ number_in (with_number mirror (Num d) m) (Num r)) (λ e. put_same here mirror d n m sized e r same) told)
 value_changes home calm trust here mirror (Ref d) (Node x) (Node y) null sized kind kind' told =
-    reference_changes home (Told calm trust) here mirror d x y sized
+    reference_changes home (AsTrusted calm trust) here mirror d x y sized
     (λ r same. told_map calm trust (StandsFor home x y) (StandsFor home (reference_in (with_reference here (Ref d) x) (Ref r)) (reference_in (with_reference mirror (Ref d) y) (Ref r)))
     (λ e. put_stands home here mirror d x y sized null e r same) told)
 value_changes home calm trust here mirror (Num d) (Number n) (Node y) null sized kind kind' told = absurd kind'
@@ -78,11 +78,11 @@ is_load text _ d is = absurd (let never : None ≡ Some d = is in cc)
 
 -- what a load changes
 pub load_changes : (text : Text) (home : ℕ → ℕ) (calm : Type 0) (i : Instr) (d : Reg) (here mirror : Registers) (v v' : Value) → home 0 ≡ 0 → loads_into i ≡ Some d → HaveSameSize here mirror → IsValueFor d v → IsValueFor d v'
-    → (calm → ValuesAgree home v v') → Changes home (Told calm (trust_in_set i)) (destination i) (name_in v') here mirror (with_value here d v) (with_value mirror d v')
+    → (calm → ValuesAgree home v v') → Changes home (AsTrusted calm (trust_in_set i)) (destination i) (name_in v') here mirror (with_value here d v) (with_value mirror d v')
 load_changes text home calm i d here mirror v v' null loads sized kind kind' agrees =
     let l = is_load text i d loads in
-    subst (λ o. Changes home (Told calm (trust_in_set i)) o (name_in v') here mirror (with_value here d v) (with_value mirror d v')) (sym l.sets)
-    (subst (λ t. Changes home (Told calm t) (Some d) (name_in v') here mirror (with_value here d v) (with_value mirror d v')) (sym l.trust)
+    subst (λ o. Changes home (AsTrusted calm (trust_in_set i)) o (name_in v') here mirror (with_value here d v) (with_value mirror d v')) (sym l.sets)
+    (subst (λ t. Changes home (AsTrusted calm t) (Some d) (name_in v') here mirror (with_value here d v) (with_value mirror d v')) (sym l.trust)
     (value_changes home calm Unchecked here mirror d v v' null sized kind kind' agrees))
 
 pub loads_are_followed : (calm : Type 0) → LoadsAreFollowed calm
@@ -108,9 +108,9 @@ loads_are_followed calm target text compiled home null walk path core mirror acc
 
 -- what it changes
 pub new_changes : (home : ℕ → ℕ) (calm : Type 0) (d name : ℕ) (here mirror : Registers) → home 0 ≡ 0 → HaveSameSize here mirror
-    → Changes home (Told calm Unchecked) (Some (Ref d)) name here mirror (with_reference here (Ref d) (record { node = home name; marked = false })) (with_reference mirror (Ref d) (record { node = name; marked = false }))
+    → Changes home (AsTrusted calm Unchecked) (Some (Ref d)) name here mirror (with_reference here (Ref d) (record { node = home name; marked = false })) (with_reference mirror (Ref d) (record { node = name; marked = false }))
 new_changes home calm d name here mirror null sized =
-    reference_changes home (Told calm Unchecked) here mirror d (record { node = home name; marked = false }) (record { node = name; marked = false }) sized
+    reference_changes home (AsTrusted calm Unchecked) here mirror d (record { node = home name; marked = false }) (record { node = name; marked = false }) sized
     (λ r same now. put_stands home here mirror d (record { node = home name; marked = false }) (record { node = name; marked = false }) sized null (refl, refl) r same)
 
 new_follows : {target : Target} {text : Text} (walk : Walk target text) (home : ℕ → ℕ) (calm : Type 0) (path : List ℕ) (core : Spot) (mirror : Registers) (accessed : Bool) (caller : SourceCaller) (d c name : ℕ) (memory : Memory)
@@ -143,7 +143,7 @@ puts_are_followed calm target text compiled home walk path core mirror accessed 
       access = refl;
       named = refl;
       goes = goes_next core.at;
-      changes = nothing_changes home (Told calm Trusted) core.registers mirror f.ahead.sized;
+      changes = nothing_changes home (AsTrusted calm Trusted) core.registers mirror f.ahead.sized;
       known = λ trusted. inl refl;
       gets = refl;
       leads = ap (λ (k : ℕ). record { at = k; registers = mirror }) (sym (at_place walk.method compiled core.at (Plain (instr.Put a field b)) is).1);
@@ -158,7 +158,7 @@ exchanges_are_followed calm target text compiled home walk path core mirror acce
       access = refl;
       named = refl;
       goes = goes succeeds;
-      changes = nothing_changes home (Told calm Trusted) core.registers mirror f.ahead.sized;
+      changes = nothing_changes home (AsTrusted calm Trusted) core.registers mirror f.ahead.sized;
       known = λ trusted. inl refl;
       gets = refl;
       leads = leads (exchange entry mirror memory) succeeds same (at_place walk.method compiled core.at (Plain (instr.Cas entry l)) is).1;

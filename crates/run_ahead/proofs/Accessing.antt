@@ -26,7 +26,7 @@ use Rattle.target_laws.specs.Trusted.{Trusted, trust_in_set, trust_along}
 use Rattle.target_laws.proofs.Redirected.{is_new_redirected}
 use Rattle.run_ahead.specs.AccessLaws.{AccessFollows}
 use Rattle.run_ahead.specs.Agreeing.{Changes}
-use Rattle.run_ahead.specs.Ahead.{Told, IsHeld, IsCompiled, Ahead}
+use Rattle.run_ahead.specs.Ahead.{AsTrusted, IsHeld, IsCompiled, Ahead}
 use Rattle.run_ahead.specs.Following.{Walk, Follows}
 use Rattle.run_ahead.specs.Standing.{stands_at, run_from}
 use Rattle.run_ahead.proofs.Enabled.{access_is_enabled}
@@ -76,7 +76,7 @@ pub record Makes {target : Target} {text : Text} (method : Method target text) (
   pub access : IsTrue (is_access i)
   pub named : IsTrue (is_name (is_new i) name memory.nodes)
   pub goes : IsTrue (goes_to i core.at next.at)
-  pub changes : Changes home (Told calm (trust_in_set i)) (destination i) given core.registers mirror next.registers mirror'
+  pub changes : Changes home (AsTrusted calm (trust_in_set i)) (destination i) given core.registers mirror next.registers mirror'
   pub known : trust_in_set i ≡ Trusted → IsHeld (trust_along method path) mirror given
   pub gets : name_got text name (Some (redirected (source_place (code_in method)) i)) mirror memory ≡ given
   pub leads : (mirrored_access method name i core.at mirror memory).spot ≡ record { at = source_place (code_in method) next.at; registers = mirror' }
@@ -125,7 +125,7 @@ access_follows {text = text} walk home calm path core next mirror mirror' access
       run = λ was. ap (λ z. run_after text (events.Access c name) memory z was) stands
           ∙ (access_watched text c name method.op method.wrapup walk.started accessed walk.call spot memory was op access
           ∙ (ap (λ o. run_with (name_got text name o mirror memory) was) here.0 ∙ ap (λ (n : ℕ). run_with n was) makes.gets));
-      got = λ names was. plain_got method home (Told calm (trust_in_set i)) path core.at i given core.registers mirror next.registers mirror' walk.started names (with_name given names) makes.here makes.changes
+      got = λ names was. plain_got method home (AsTrusted calm (trust_in_set i)) path core.at i given core.registers mirror next.registers mirror' walk.started names (with_name given names) makes.here makes.changes
           (λ r set. given_got given names) (more_got given names) was;
-      guards = λ row stand. plain_guards method home (Told calm (trust_in_set i)) path core.at i given core.registers mirror next.registers mirror' row makes.here makes.changes stand;
+      guards = λ row stand. plain_guards method home (AsTrusted calm (trust_in_set i)) path core.at i given core.registers mirror next.registers mirror' row makes.here makes.changes stand;
     }

@@ -17,7 +17,7 @@ use Rattle.target_code.specs.Erasing.{source_place}
 use Rattle.target_laws.specs.Methods.{Method, code_in, source_in}
 use Rattle.target_laws.specs.Trusted.{Trusted, trust_in_set, trust_along}
 use Rattle.run_ahead.specs.Agreeing.{Mirrors, node_in, Changes}
-use Rattle.run_ahead.specs.Ahead.{Told, IsHeld, IsCompiled, Ahead}
+use Rattle.run_ahead.specs.Ahead.{AsTrusted, IsHeld, IsCompiled, Ahead}
 use Rattle.run_ahead.proofs.Mirroring.{mirrored}
 use Rattle.run_ahead.proofs.Plain.{at_place, kind_right, trusted_at, agrees_at, plain_keeps}
 
@@ -50,9 +50,9 @@ local_held method home calm path core next mirror there i compiled is a made = e
 
 -- what it changes is known as it was
 pub local_changes : {home : ℕ → ℕ} {place : ℕ → ℕ} (calm : Type 0) (i : Instr) (at : ℕ) (here mirror : Registers) (next : Spot) → local_step i at here ≡ Some next
-    → (made : Mirrors home place i at here mirror next) → Changes home (Told calm (trust_in_set i)) (destination i) made.given here mirror next.registers made.mirror'
+    → (made : Mirrors home place i at here mirror next) → Changes home (AsTrusted calm (trust_in_set i)) (destination i) made.given here mirror next.registers made.mirror'
 local_changes {home = home} calm i at here mirror next step made =
-    subst (λ t. Changes home (Told calm t) (destination i) made.given here mirror next.registers made.mirror') (local_trusts i at here next step) made.changes
+    subst (λ t. Changes home (AsTrusted calm t) (destination i) made.given here mirror next.registers made.mirror') (local_trusts i at here next step) made.changes
 
 -- and the source stays ahead
 pub mirrored_keeps : {target : Target} {text : Text} (method : Method target text) (home : ℕ → ℕ) (calm : Type 0) (path : List ℕ) (core next : Spot) (mirror : Registers) (there : Spot) (i : Instr)

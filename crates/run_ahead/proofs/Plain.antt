@@ -24,7 +24,7 @@ use Rattle.target_laws.proofs.Forms.{instructions_are_in_form}
 use Rattle.target_laws.proofs.InText.{targets_stay_inside}
 use Rattle.target_laws.proofs.Trusts.{trusted_where_read}
 use Rattle.run_ahead.specs.Agreeing.{Agree, Changes}
-use Rattle.run_ahead.specs.Ahead.{Told, IsHeld, IsCompiled, Ahead}
+use Rattle.run_ahead.specs.Ahead.{AsTrusted, IsHeld, IsCompiled, Ahead}
 use Rattle.run_ahead.proofs.Telling.{told_map, told_trusted}
 
 -- ---- a place of a method
@@ -59,17 +59,17 @@ agrees_at method home calm path core mirror there i r compiled is read a =
 
 -- what is told of a register
 told_after : (home : ℕ → ℕ) (calm : Type 0) (i : Instr) (given : ℕ) (here mirror here' mirror' : Registers) (r : Reg) (was : Trust)
-    → Changes home (Told calm (trust_in_set i)) (destination i) given here mirror here' mirror' → Told calm was (Agree home here mirror r)
-    → Told calm (trust_after r (Plain i) was) (Agree home here' mirror' r)
+    → Changes home (AsTrusted calm (trust_in_set i)) (destination i) given here mirror here' mirror' → AsTrusted calm was (Agree home here mirror r)
+    → AsTrusted calm (trust_after r (Plain i) was) (Agree home here' mirror' r)
 told_after home calm i given here mirror here' mirror' r was changes told = by_set (sets r i) refl
   where
-    by_set : (set : Bool) → sets r i ≡ set → Told calm (if set then trust_in_set i else was) (Agree home here' mirror' r)
+    by_set : (set : Bool) → sets r i ≡ set → AsTrusted calm (if set then trust_in_set i else was) (Agree home here' mirror' r)
     by_set true is = changes.set r is
     by_set false is = told_map calm was (Agree home here mirror r) (Agree home here' mirror' r) (changes.kept r is) told
 
 -- which names trusted registers hold: none that no trusted register held before
 held_after : (home : ℕ → ℕ) (calm : Type 0) (i : Instr) (given : ℕ) (here mirror here' mirror' : Registers) (trust : Reg → Trust)
-    → Changes home (Told calm (trust_in_set i)) (destination i) given here mirror here' mirror' → (trust_in_set i ≡ Trusted → IsHeld trust mirror given)
+    → Changes home (AsTrusted calm (trust_in_set i)) (destination i) given here mirror here' mirror' → (trust_in_set i ≡ Trusted → IsHeld trust mirror given)
     → (n : ℕ) → IsHeld (λ r. trust_after r (Plain i) (trust r)) mirror' n → IsHeld trust mirror n
 held_after home calm i given here mirror here' mirror' trust changes known n (inl null) = inl null
 held_after home calm i given here mirror here' mirror' trust changes known n (inr holds) = by_set (sets (Ref holds.0) i) refl holds.1
@@ -85,14 +85,14 @@ held_after home calm i given here mirror here' mirror' trust changes known n (in
 
 pub plain_keeps : {target : Target} {text : Text} (method : Method target text) (home : ℕ → ℕ) (calm : Type 0) (path : List ℕ) (core next : Spot) (mirror mirror' : Registers) (there there' : Spot)
     (i : Instr) (given : ℕ) → IsCompiled target text → slice_get (code_in method) core.at ≡ Some (Plain i) → IsTrue (goes_to i core.at next.at)
-    → Changes home (Told calm (trust_in_set i)) (destination i) given core.registers mirror next.registers mirror'
+    → Changes home (AsTrusted calm (trust_in_set i)) (destination i) given core.registers mirror next.registers mirror'
     → (trust_in_set i ≡ Trusted → IsHeld (trust_along method path) mirror given)
     → Settles (source_in method) (record { at = source_place (code_in method) next.at; registers = mirror' }) there'
     → Ahead method home calm path core mirror there → Ahead method home calm (core.at ∷ path) next mirror' there'
 plain_keeps method home calm path core next mirror mirror' there there' i given compiled is goes changes known settles a = record {
   path_is = path_on method compiled path core.at next.at a.path_is (subst (λ o. IsTrue (target_goes_from o core.at next.at)) (sym is) goes);
   sized = changes.sized;
-  agree = λ r. subst (λ o. Told calm (passed (trust_after r) o (trust_along method path r)) (Agree home next.registers mirror' r)) (sym is)
+  agree = λ r. subst (λ o. AsTrusted calm (passed (trust_after r) o (trust_along method path r)) (Agree home next.registers mirror' r)) (sym is)
       (told_after home calm i given core.registers mirror next.registers mirror' r (trust_along method path r) changes (a.agree r));
   apart = λ x y x_held y_held. a.apart x y (held x x_held) (held y y_held);
   settles = settles;

@@ -18,7 +18,7 @@ use Rattle.target_code.specs.Paths.{target_goes_from}
 use Rattle.target_laws.specs.Methods.{Method, code_in, source_in}
 use Rattle.target_laws.specs.Trusted.{Trusted, Spoilt, trust_after, trust_along}
 use Rattle.run_ahead.specs.Agreeing.{Agree, AreApart}
-use Rattle.run_ahead.specs.Ahead.{Told, IsHeld, IsHoped, IsCompiled, Ahead}
+use Rattle.run_ahead.specs.Ahead.{AsTrusted, IsHeld, IsHoped, IsCompiled, Ahead}
 use Rattle.run_ahead.proofs.Plain.{path_on, at_place}
 use Rattle.run_ahead.proofs.Telling.{told_confirmed, told_less, confirmed_is, hoped_is_confirmed}
 
@@ -33,7 +33,7 @@ pub check_keeps : {target : Target} {text : Text} (method : Method target text) 
 check_keeps method home calm path core mirror there compiled is now apart a = record {
   path_is = path_on method compiled path core.at (core.at + 1) a.path_is (subst (λ o. IsTrue (target_goes_from o core.at (core.at + 1))) (sym is) (goes_next core.at));
   sized = a.sized;
-  agree = λ r. subst (λ o. Told calm (passed (trust_after r) o (trust_along method path r)) (Agree home core.registers mirror r)) (sym is)
+  agree = λ r. subst (λ o. AsTrusted calm (passed (trust_after r) o (trust_along method path r)) (Agree home core.registers mirror r)) (sym is)
       (told_confirmed calm (trust_along method path r) (Agree home core.registers mirror r) now (a.agree r));
   apart = λ x y x_held y_held. apart x y (hoped x x_held) (hoped y y_held);
   settles = subst (λ (k : ℕ). Settles (source_in method) (record { at = k; registers = mirror }) there) (sym (at_place method compiled core.at Check is)) a.settles;
@@ -62,7 +62,7 @@ guard_keeps method home calm path core mirror there guarded compiled is a =
     let same : (r : Reg) → trust_along method (core.at ∷ path) r ≡ trust_along method path r = λ r. ap (λ o. passed (trust_after r) o (trust_along method path r)) is in record {
       path_is = path_on method compiled path core.at (core.at + 1) a.path_is (subst (λ o. IsTrue (target_goes_from o core.at (core.at + 1))) (sym is) (goes_next core.at));
       sized = a.sized;
-      agree = λ r. subst (λ t. Told calm t (Agree home core.registers mirror r)) (sym (same r)) (a.agree r);
+      agree = λ r. subst (λ t. AsTrusted calm t (Agree home core.registers mirror r)) (sym (same r)) (a.agree r);
       apart = λ x y x_held y_held. a.apart x y (held x x_held) (held y y_held);
       settles = subst (λ (k : ℕ). Settles (source_in method) (record { at = k; registers = mirror }) there) (sym (at_place method compiled core.at (Guard guarded) is)) a.settles;
     }

@@ -18,14 +18,14 @@ use Rattle.target_laws.specs.Methods.{Method, code_in, generator_of, wrapup_of}
 use Rattle.target_laws.specs.Trusted.{Trusted, Spoilt, trust_at_start, trust_along, carried_in}
 use Rattle.target_laws.proofs.Trusts.{carried_are_trusted}
 use Rattle.run_ahead.specs.Agreeing.{Agree, node_in, Changes}
-use Rattle.run_ahead.specs.Ahead.{Told, IsHeld, IsCompiled, IsStart, Ahead}
+use Rattle.run_ahead.specs.Ahead.{AsTrusted, IsHeld, IsCompiled, IsStart, Ahead}
 use Rattle.run_ahead.specs.Standing.{first_spot, run_from}
 use Rattle.run_ahead.proofs.Changing.{number_changes, put_same}
 use Rattle.run_ahead.proofs.Telling.{told_trusted}
 
 -- ---- any method
 
-told_at_start : (calm : Type 0) (carried : Bool) (A : Type 0) → (IsTrue carried → A) → Told calm (trust_at_start carried) A
+told_at_start : (calm : Type 0) (carried : Bool) (A : Type 0) → (IsTrue carried → A) → AsTrusted calm (trust_at_start carried) A
 told_at_start calm true A known = known refl
 told_at_start calm false A known = tt
 

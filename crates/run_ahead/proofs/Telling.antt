@@ -1,30 +1,30 @@
 -- What is told of a register, by what can be trusted of it.
 use Rattle.std.proofs.Common.{◌≡◌, ◌≢◌, refl}
 use Rattle.target_laws.specs.Trusted.{Trust, Trusted, Unchecked, Spoilt, confirmed}
-use Rattle.run_ahead.specs.Ahead.{Told}
+use Rattle.run_ahead.specs.Ahead.{AsTrusted}
 
-pub told_map : (calm : Type 0) (trust : Trust) (A B : Type 0) → (A → B) → Told calm trust A → Told calm trust B
+pub told_map : (calm : Type 0) (trust : Trust) (A B : Type 0) → (A → B) → AsTrusted calm trust A → AsTrusted calm trust B
 told_map calm Trusted A B f told = f told
 told_map calm Unchecked A B f told = λ now. f (told now)
 told_map calm Spoilt A B f told = tt
 
-pub told_trusted : (calm : Type 0) (trust : Trust) (A : Type 0) → trust ≡ Trusted → Told calm trust A → A
+pub told_trusted : (calm : Type 0) (trust : Trust) (A : Type 0) → trust ≡ Trusted → AsTrusted calm trust A → A
 told_trusted calm Trusted A is told = told
 told_trusted calm Unchecked A is told = absurd (let never : Unchecked ≡ Trusted = is in cc)
 told_trusted calm Spoilt A is told = absurd (let never : Spoilt ≡ Trusted = is in cc)
 
 -- what is told of a register of which anything is known, of a caller that wasn't warned
-pub told_hoped : (calm : Type 0) (trust : Trust) (A : Type 0) → calm → trust ≢ Spoilt → Told calm trust A → A
+pub told_hoped : (calm : Type 0) (trust : Trust) (A : Type 0) → calm → trust ≢ Spoilt → AsTrusted calm trust A → A
 told_hoped calm Trusted A now hopes told = told
 told_hoped calm Unchecked A now hopes told = told now
 told_hoped calm Spoilt A now hopes told = absurd (hopes refl)
 
-pub told_confirmed : (calm : Type 0) (trust : Trust) (A : Type 0) → calm → Told calm trust A → Told calm (confirmed trust) A
+pub told_confirmed : (calm : Type 0) (trust : Trust) (A : Type 0) → calm → AsTrusted calm trust A → AsTrusted calm (confirmed trust) A
 told_confirmed calm Trusted A now told = told
 told_confirmed calm Unchecked A now told = told now
 told_confirmed calm Spoilt A now told = tt
 
-pub told_less : (calm calm' : Type 0) (trust : Trust) (A : Type 0) → (calm' → calm) → Told calm trust A → Told calm' trust A
+pub told_less : (calm calm' : Type 0) (trust : Trust) (A : Type 0) → (calm' → calm) → AsTrusted calm trust A → AsTrusted calm' trust A
 told_less calm calm' Trusted A less told = told
 told_less calm calm' Unchecked A less told = λ now. told (less now)
 told_less calm calm' Spoilt A less told = tt

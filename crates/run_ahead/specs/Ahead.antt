@@ -22,12 +22,12 @@ pub record IsCompiled (target : Target) (text : Text) : Type 0 where
   pub within : IsWithinLimits text
   pub barred : IsBarred target text
 
--- what holds of a register by what can be trusted of it. `calm` says that the caller wasn't warned: until a check has passed,
+-- what holds of a register, as far as it can be trusted. `calm` says that the caller wasn't warned: until a check has passed,
 -- what was loaded is right on that condition alone (Cohen and Petrank, SPAA 2015)
-abbrev pub Told : Type 0 → Trust → Type 0 → Type 0
-Told calm Trusted A = A
-Told calm Unchecked A = calm → A
-Told calm Spoilt A = Unit {0}
+abbrev pub AsTrusted : Type 0 → Trust → Type 0 → Type 0
+AsTrusted calm Trusted A = A
+AsTrusted calm Unchecked A = calm → A
+AsTrusted calm Spoilt A = Unit {0}
 
 -- a name is null, or a register that is trusted holds it
 abbrev pub IsHeld : (Reg → Trust) → Registers → ℕ → Type 0
@@ -43,7 +43,7 @@ pub record Ahead {target : Target} {text : Text} (method : Method target text) (
     (path : List ℕ) (core : Spot) (mirror : Registers) (there : Spot) : Type 0 where
   pub path_is : TargetPath (code_in method) path core.at
   pub sized : HaveSameSize core.registers mirror
-  pub agree : (r : Reg) → Told calm (trust_along method path r) (Agree home core.registers mirror r)
+  pub agree : (r : Reg) → AsTrusted calm (trust_along method path r) (Agree home core.registers mirror r)
   pub apart : AreApart home (IsHeld (trust_along method path) mirror)
   pub settles : Settles (source_in method) (record { at = source_place (code_in method) core.at; registers = mirror }) there
 

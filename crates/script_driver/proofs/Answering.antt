@@ -3,7 +3,7 @@ use Rattle.std.proofs.Common.{◌≡◌, ℕ, zero, suc, ◌+◌, ◌<◌, ◌�
 use Rattle.std.proofs.lemmas.Option.{slice_get-map}
 use Rattle.std.specs.Prelude.{slice_get}
 use Rattle.std.specs.Option.{option_map}
-use Rattle.caller_steps.specs.Pairing.{reply_of}
+use Rattle.caller_parts.specs.Pairing.{reply_of}
 use Rattle.caller_steps.specs.Entries.{Entry, RoomyEntry, is_idle}
 use Rattle.oa_core.specs.Finals.{core_part}
 use Rattle.documents.specs.declared.document.ScriptCall.{ScriptCall}

@@ -2,8 +2,8 @@
 use Rattle.std.specs.Prelude.{ℕ, ◌+◌, ◌-◌, ◌^◌, min, Bool, true, false, ◌&&◌, not, List, [], ◌∷◌, ◌++◌, map, length, Option, Some, None, ◌==◌, slice_get}
 use Rattle.std.specs.List.{sum_by}
 use Rattle.oa_words.specs.Words.{Phase}
-use Rattle.caller_steps.specs.declared.call.Reply.{Reply}
-use Rattle.caller_steps.specs.Pairing.{reply_of}
+use Rattle.caller_parts.specs.declared.call.Reply.{Reply}
+use Rattle.caller_parts.specs.Pairing.{reply_of}
 use Rattle.caller_steps.specs.Entries.{Entry, is_idle}
 use Rattle.core_runs.specs.Machine.{CoreState, word_at}
 use Rattle.documents.specs.declared.document.ScriptCall.{ScriptCall}

@@ -3,7 +3,7 @@ use Rattle.std.specs.Prelude.{◌≡◌, List, [], ◌∷◌, Option, Some, None
 use Rattle.norm_lang.specs.NormalForm.{IsNormal}
 use Rattle.norm_check.specs.Refusals.{IsRefused}
 use Rattle.core_runs.specs.Machine.{CoreState, CoreEvent}
-use Rattle.core_runs.specs.Scripts.{IsComplete}
+use Rattle.core_runs.specs.Scripts.{IsCompleteRun}
 use Rattle.core_runs.specs.Replays.{Replaying, Refusal, StepOfNobody, LongReplay, replayed}
 use Rattle.oa_core.specs.Finals.{replay_of}
 use Rattle.documents.specs.declared.document.Document.{Document}
@@ -18,7 +18,7 @@ use Rattle.script_driver.specs.Reports.{report_of}
 -- a complete run of a document: a core run of its compiled text in which each caller takes the calls of its script in order, makes
 -- at most `fuel` steps for each, and has ended its script or a call for which that many were made
 abbrev pub IsCompleteRunOf : Document → List CoreEvent → CoreState → Type 0
-IsCompleteRunOf document events state = IsComplete (target_of document) (setting_of document) (calls_of document) document.fuel events state
+IsCompleteRunOf document events state = IsCompleteRun (target_of document) (setting_of document) (calls_of document) document.fuel events state
 
 -- ---- a run
 

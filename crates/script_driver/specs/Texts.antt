@@ -2,7 +2,7 @@
 use Rattle.std.specs.Prelude.{ℕ, Bool, true, false, not, List, [], ◌∷◌, ◌++◌, codes, decimal}
 use Rattle.std.specs.List.{concat, flat_map, list_any, count_by}
 use Rattle.oa_text.specs.Pieces.{argument_bytes}
-use Rattle.caller_steps.specs.declared.call.Reply.TheVariants as replies
+use Rattle.caller_parts.specs.declared.call.Reply.TheVariants as replies
 use Rattle.script_driver.specs.declared.report.Answer.{Answer}
 use Rattle.script_driver.specs.declared.report.Answer.TheVariants as answers
 use Rattle.script_driver.specs.declared.report.ReportLine.{ReportLine}

@@ -5,8 +5,8 @@ use Rattle.norm_lang.specs.declared.text.Text.{Text}
 use Rattle.norm_lang.specs.NormalForm.{IsNormal}
 use Rattle.target_code.specs.SecondScheme.{second_scheme}
 use Rattle.barrier_check.specs.Paired.{Paired}
-use Rattle.caller_steps.specs.declared.call.Call.{Call}
-use Rattle.caller_steps.specs.Settings.{Setting}
+use Rattle.caller_parts.specs.declared.call.Call.{Call}
+use Rattle.caller_parts.specs.Settings.{Setting}
 use Rattle.documents.specs.declared.document.Document.{Document}
 use Rattle.documents.specs.DocumentLimits.{IsWithinDocumentLimits}
 use Rattle.script_plans.specs.declared.fault.ShapeFault.{ShapeFault}

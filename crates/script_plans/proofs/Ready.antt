@@ -12,9 +12,9 @@ use Rattle.norm_lang.specs.declared.text.Op.{Op}
 use Rattle.target_code.specs.Blocks.{scheme_op}
 use Rattle.target_code.specs.SecondScheme.{second_marks}
 use Rattle.oa_words.specs.Within.{is_count}
-use Rattle.caller_steps.specs.declared.call.Call.{Call}
-use Rattle.caller_steps.specs.Settings.{are_phases}
-use Rattle.caller_steps.specs.Calls.{is_call_of}
+use Rattle.caller_parts.specs.declared.call.Call.{Call}
+use Rattle.caller_parts.specs.Settings.{are_phases}
+use Rattle.caller_parts.specs.Calls.{is_call_of}
 use Rattle.documents.specs.declared.document.ScriptCall.{ScriptCall}
 use Rattle.documents.specs.declared.document.Document.{Document}
 use Rattle.documents.specs.DocumentLimits.{AreShort, IsWithinDocumentLimits}

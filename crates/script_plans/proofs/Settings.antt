@@ -5,9 +5,9 @@ use Rattle.oa_words.specs.declared.shape.ShapeFault.{ShapeFault as SizesFault}
 use Rattle.oa_words.specs.declared.shape.ShapeFault.TheVariants as sizes
 use Rattle.oa_words.specs.Words.{Sizes}
 use Rattle.oa_words.specs.Within.{is_count, sizes_or_fault}
-use Rattle.caller_steps.specs.declared.setting.SettingFault.{SettingFault}
-use Rattle.caller_steps.specs.declared.setting.SettingFault.TheVariants as settings
-use Rattle.caller_steps.specs.Settings.{Setting, are_phases, setting_or_fault}
+use Rattle.caller_parts.specs.declared.setting.SettingFault.{SettingFault}
+use Rattle.caller_parts.specs.declared.setting.SettingFault.TheVariants as settings
+use Rattle.caller_parts.specs.Settings.{Setting, are_phases, setting_or_fault}
 use Rattle.documents.specs.declared.document.Document.{Document}
 use Rattle.script_plans.specs.declared.fault.ShapeFault.{ShapeFault}
 use Rattle.script_plans.specs.Shapes.{first_of, most_fuel, whole_fault, fault_unless, sizes_of, setting_of, sizes_fault, setting_fault}

@@ -5,9 +5,9 @@ use Rattle.norm_lang.specs.NormalForm.{IsNormal}
 use Rattle.norm_check.specs.Refusals.{IsRefused}
 use Rattle.target_code.specs.declared.target.Target.{Target}
 use Rattle.target_code.specs.SecondScheme.{second_scheme}
-use Rattle.caller_steps.specs.declared.call.Call.{Call}
-use Rattle.caller_steps.specs.Settings.{Fits}
-use Rattle.caller_steps.specs.Calls.{AreCalls}
+use Rattle.caller_parts.specs.declared.call.Call.{Call}
+use Rattle.caller_parts.specs.Settings.{Fits}
+use Rattle.caller_parts.specs.Calls.{AreCalls}
 use Rattle.documents.specs.declared.document.ScriptCall.{ScriptCall}
 use Rattle.documents.specs.declared.document.Document.{Document}
 use Rattle.documents.specs.DocumentLimits.{AreShort}

@@ -7,7 +7,7 @@ use Rattle.std.specs.Str.{bytes_eq}
 use Rattle.norm_lang.specs.declared.text.Op.{Op}
 use Rattle.oa_words.specs.Words.{Sizes}
 use Rattle.oa_words.specs.Within.{is_count}
-use Rattle.caller_steps.specs.Settings.{Setting, are_phases}
+use Rattle.caller_parts.specs.Settings.{Setting, are_phases}
 use Rattle.documents.specs.declared.document.ScriptCall.{ScriptCall}
 use Rattle.documents.specs.declared.document.Document.{Document}
 use Rattle.script_plans.specs.declared.fault.ShapeFault.{ShapeFault}

@@ -4,8 +4,8 @@ use Rattle.norm_check.specs.declared.refusal.CheckError.{CheckError}
 use Rattle.norm_check.specs.declared.refusal.CheckError.TheVariants as checks
 use Rattle.oa_words.specs.declared.shape.ShapeFault.{ShapeFault as SizesFault}
 use Rattle.oa_words.specs.declared.shape.ShapeFault.TheVariants as sizes
-use Rattle.caller_steps.specs.declared.setting.SettingFault.{SettingFault}
-use Rattle.caller_steps.specs.declared.setting.SettingFault.TheVariants as settings
+use Rattle.caller_parts.specs.declared.setting.SettingFault.{SettingFault}
+use Rattle.caller_parts.specs.declared.setting.SettingFault.TheVariants as settings
 use Rattle.script_plans.specs.declared.fault.ShapeFault.{ShapeFault}
 use Rattle.script_plans.specs.declared.fault.RunFault.{RunFault}
 use Rattle.script_plans.specs.declared.fault.RunFault.TheVariants as faults

@@ -9,8 +9,8 @@ use Rattle.target_code.specs.declared.target.Target.{Target}
 use Rattle.target_code.specs.SecondScheme.{second_scheme}
 use Rattle.target_runs.specs.Runnable.{IsRunnable}
 use Rattle.barrier_compiler.specs.Laws.{SecondSchemeIsBarred, SecondSchemeIsWithin}
-use Rattle.caller_steps.specs.declared.call.Running.{Running}
-use Rattle.caller_steps.specs.Settings.{Setting, Fits, IsSetting}
+use Rattle.caller_parts.specs.declared.call.Running.{Running}
+use Rattle.caller_parts.specs.Settings.{Setting, Fits, IsSetting}
 use Rattle.caller_steps.specs.Entries.{Entry}
 use Rattle.core_runs.specs.Histories.{calls_of}
 use Rattle.claim_laws.specs.Publishing.{news_of, HasFewNews, PublishedEnd, new_calls, new_calls_in}

@@ -12,13 +12,13 @@ use Rattle.target_runs.specs.Runnable.{IsRunnable}
 use Rattle.phase_pools.specs.declared.access.ClaimEnd.{ClaimEnd}
 use Rattle.phase_pools.specs.declared.access.ClaimEnd.TheVariants as ends
 use Rattle.phase_pools.specs.Pools.{Claim, ClaimTurn, claim_accepts}
-use Rattle.caller_steps.specs.declared.routine.MethodStart.TheVariants as starts
-use Rattle.caller_steps.specs.declared.routine.AfterRetire.TheVariants as retires
-use Rattle.caller_steps.specs.declared.routine.Routine.{Routine}
-use Rattle.caller_steps.specs.declared.routine.Routine.TheVariants.{Idle, LoadSeen, At, InList, Retires, Restarts, Clears, Claims, Zeroes}
-use Rattle.caller_steps.specs.Settings.{Setting, Fits, IsSetting}
-use Rattle.caller_steps.specs.Entries.{Entry, is_idle}
-use Rattle.caller_steps.specs.Operands.{code_at, cradle_of, new_number}
+use Rattle.caller_parts.specs.declared.routine.MethodStart.TheVariants as starts
+use Rattle.caller_parts.specs.declared.routine.AfterRetire.TheVariants as retires
+use Rattle.caller_parts.specs.declared.routine.Routine.{Routine}
+use Rattle.caller_parts.specs.declared.routine.Routine.TheVariants.{Idle, LoadSeen, At, InList, Retires, Restarts, Clears, Claims, Zeroes}
+use Rattle.caller_parts.specs.Settings.{Setting, Fits, IsSetting}
+use Rattle.caller_steps.specs.Entries.{Entry, is_idle, cradle_of, new_number}
+use Rattle.caller_parts.specs.Operands.{code_at}
 use Rattle.caller_steps.specs.Signs.{Moved}
 use Rattle.caller_steps.specs.After.{after, counted, claim_on}
 use Rattle.caller_steps.specs.Belongs.{Belongs}

@@ -8,7 +8,7 @@ use Rattle.norm_lang.specs.Shipped.{set_text}
 use Rattle.target_code.specs.declared.target.TargetInstr.TheVariants.{Plain}
 use Rattle.target_code.specs.declared.target.Target.{Target}
 use Rattle.target_code.specs.SecondScheme.{second_scheme}
-use Rattle.caller_steps.specs.Operands.{code_at}
+use Rattle.caller_parts.specs.Operands.{code_at}
 use Rattle.claim_laws.specs.Publishing.{news_of}
 use Rattle.shipped_claims.specs.NeverFull.{has_name}
 use Rattle.shipped_claims.proofs.Settled.{CodeCarries, Begins}

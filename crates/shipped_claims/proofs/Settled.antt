@@ -19,22 +19,22 @@ use Rattle.target_code.specs.LocalCode.{target_local_at, target_next_spot, targe
 use Rattle.guard_words.specs.Guards.{pass_check, with_guard}
 use Rattle.oa_words.specs.Words.{Sizes}
 use Rattle.phase_pools.specs.Pools.{Retirement, retire_accepts}
-use Rattle.caller_steps.specs.declared.call.Reply.TheVariants as replies
+use Rattle.caller_parts.specs.declared.call.Reply.TheVariants as replies
 use Rattle.caller_steps.specs.declared.entry.Hand.{Hand}
-use Rattle.caller_steps.specs.declared.routine.MethodStart.{MethodStart}
-use Rattle.caller_steps.specs.declared.routine.MethodStart.TheVariants as starts
-use Rattle.caller_steps.specs.declared.routine.AfterClear.{AfterClear}
-use Rattle.caller_steps.specs.declared.routine.AfterClear.TheVariants as clears
-use Rattle.caller_steps.specs.declared.routine.AfterRetire.{AfterRetire}
-use Rattle.caller_steps.specs.declared.routine.AfterRetire.TheVariants as retires
-use Rattle.caller_steps.specs.declared.routine.Routine.{Routine}
-use Rattle.caller_steps.specs.declared.routine.Routine.TheVariants.{Idle, LoadSeen, At, InList, Retires, Restarts, Clears, Claims, Zeroes}
-use Rattle.caller_steps.specs.Settings.{Setting}
-use Rattle.caller_steps.specs.Entries.{Entry}
-use Rattle.caller_steps.specs.Operands.{with_word, slot_in, register_number, code_at, instr_at, code_in, instr_in, list_of}
+use Rattle.caller_parts.specs.declared.routine.MethodStart.{MethodStart}
+use Rattle.caller_parts.specs.declared.routine.MethodStart.TheVariants as starts
+use Rattle.caller_parts.specs.declared.routine.AfterClear.{AfterClear}
+use Rattle.caller_parts.specs.declared.routine.AfterClear.TheVariants as clears
+use Rattle.caller_parts.specs.declared.routine.AfterRetire.{AfterRetire}
+use Rattle.caller_parts.specs.declared.routine.AfterRetire.TheVariants as retires
+use Rattle.caller_parts.specs.declared.routine.Routine.{Routine}
+use Rattle.caller_parts.specs.declared.routine.Routine.TheVariants.{Idle, LoadSeen, At, InList, Retires, Restarts, Clears, Claims, Zeroes}
+use Rattle.caller_parts.specs.Settings.{Setting}
+use Rattle.caller_steps.specs.Entries.{Entry, code_in, instr_in}
+use Rattle.caller_parts.specs.Operands.{with_word, slot_in, register_number, code_at, instr_at, list_of, succeeds, to_retire}
 use Rattle.caller_steps.specs.Clearing.{restart_next, clear_next, unguarded}
 use Rattle.caller_steps.specs.Signs.{quiet}
-use Rattle.caller_steps.specs.After.{with_routine, with_hand, hand_at, then_goes, clear_on, cleared, wrap_up_hand, list_ended, plain_stop, stops, stopped, settles, goes_on, first_spot, method_begun, seen_loaded, restart_on, restarted, check_passed, check_failed, checked, with_restart, with_access, succeeds, to_retire, list_on, onward_goes, retires_then, cas_failed, cas_ended, plain_accepted, instr_accepted, with_published, entry_ended, list_accepted, retired_on, accepted, counted, after}
+use Rattle.caller_steps.specs.After.{with_routine, with_hand, hand_at, then_goes, clear_on, cleared, wrap_up_hand, list_ended, plain_stop, stops, stopped, settles, goes_on, first_spot, method_begun, seen_loaded, restart_on, restarted, check_passed, check_failed, checked, with_restart, with_access, list_on, onward_goes, retires_then, cas_failed, cas_ended, plain_accepted, instr_accepted, with_published, entry_ended, list_accepted, retired_on, accepted, counted, after}
 use Rattle.claim_laws.proofs.Onward.{ended_moves}
 
 -- ---- a sentence about places and registers of a wrap-up

@@ -7,7 +7,7 @@ use Rattle.norm_lang.specs.Registers.{first_registers, with_number}
 use Rattle.norm_lang.specs.Shipped.{root_entry, next_field, tail_root}
 use Rattle.target_code.specs.declared.target.TargetInstr.{TargetInstr}
 use Rattle.target_code.specs.declared.target.TargetInstr.TheVariants.{Plain, Check, Guard}
-use Rattle.caller_steps.specs.Operands.{with_word}
+use Rattle.caller_parts.specs.Operands.{with_word}
 use Rattle.shipped_claims.proofs.Settled.{Begins, CodeCarries}
 use Rattle.shipped_claims.proofs.WrapUps.{change_code}
 

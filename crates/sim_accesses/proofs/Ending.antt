@@ -1,5 +1,5 @@
 -- An exchange of the list that fails: the wrap-up's start.
-use Rattle.std.proofs.Common.{subst, ℕ, ◌≡◌, ◌∙◌, Bool, true, false, List, [], ◌∷◌, Some, None, sym, ap, refl, if◌then◌else◌}
+use Rattle.std.proofs.Common.{subst, ℕ, ◌≡◌, ◌∙◌, Bool, true, false, List, [], ◌∷◌, Some, None, sym, ap, refl, if◌then◌else◌, inl}
 use Rattle.std.specs.Prelude.{slice_get, is_some}
 use Rattle.norm_lang.specs.declared.text.CasEntry.{CasEntry}
 use Rattle.norm_lang.specs.declared.text.Instr.TheVariants as instr
@@ -10,10 +10,11 @@ use Rattle.source_machine.specs.Step.{caller_turn}
 use Rattle.source_machine.specs.Run.{is_enabled_for}
 use Rattle.source_machine.specs.Memory.{exchange}
 use Rattle.source_machine.specs.MethodRuns.{run_begun, run_after}
-use Rattle.caller_steps.specs.declared.routine.AfterRetire.TheVariants as onward
-use Rattle.caller_steps.specs.Operands.{instr_in, list_of}
+use Rattle.caller_parts.specs.declared.routine.AfterRetire.TheVariants as onward
+use Rattle.caller_steps.specs.Entries.{instr_in}
+use Rattle.caller_parts.specs.Operands.{list_of, succeeds, to_retire}
 use Rattle.caller_steps.specs.Wants.{exchange_wanted}
-use Rattle.caller_steps.specs.After.{counted, succeeds, retires_then, to_retire, with_published, list_ended, entry_made}
+use Rattle.caller_steps.specs.After.{counted, retires_then, with_published, list_ended, entry_made}
 use Rattle.target_laws.specs.Methods.{code_in}
 use Rattle.run_ahead.proofs.Lists.{lists_are_made}
 use Rattle.target_code.specs.Erasing.{source_place}
@@ -44,7 +45,7 @@ entry_fails t c s x k entry entries plan f b w here there offers none =
     let v = w.1 in
     let committed : Committed t s c y k = (
       m,
-      record { call = v.call; wrapup = v.wrapup; first = v.first; number = v.number; start = v.start; ahead = v.ahead; generator = v.generator; kept = v.kept; shown = v.shown; sound = v.sound },
+      record { call = v.call; wrapup = v.wrapup; was_set = v.was_set; first = v.first; number = v.number; start = v.start; ahead = v.ahead; generator = v.generator; kept = v.kept; shown = v.shown; sound = v.sound },
       w.2,
       w.3,
       ap (λ turn. turn.caller) turned,
@@ -63,9 +64,11 @@ entry_fails t c s x k entry entries plan f b w here there offers none =
       present = refl;
       entry = ended.entry;
       names = ended.names;
+      was_set = ended.was_set;
       plays = plays_first t.text c Accesses _ (point s x) (point s y) (point s ended.x')
           (ap (λ caller. is_enabled_for t.text (events.Access c 0) (Some caller) s.source) w.4 ∙ turns.enabled, (sym (ap (λ turn. turn.memory) turned), refl, sym begun)) refl ended.plays;
-      fine = f;
+      shared_holds = f;
       goes = goes_same t s c;
-      told = ended.told;
+      retires = λ n is. inl is;
+      caller_holds = ended.caller_holds;
     })

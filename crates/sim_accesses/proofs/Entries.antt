@@ -1,6 +1,7 @@
 -- The exchanges of a list, of a caller that belongs.
-use Rattle.std.proofs.Common.{ℕ, zero, suc, ◌≡◌, ◌≢◌, ◌==◌, ◌+◌, ◌⊎◌, ◌∙◌, Bool, true, false, List, [], ◌∷◌, ◌++◌, map, length, Option, Some, None, arith, inl, inr, ⊎_elim, sym, ap, subst, refl, if◌then◌else◌}
-use Rattle.std.specs.Prelude.{slice_get, slice_index, nat_lt, IsTrue, is_some}
+use Rattle.std.proofs.Common.{ℕ, zero, suc, ◌≡◌, ◌≢◌, ◌==◌, ◌+◌, ◌⊎◌, ◌∙◌, Bool, true, false, List, [], ◌∷◌, map, length, Option, Some, None, arith, inl, inr, ⊎_elim, sym, ap, subst, refl, if◌then◌else◌}
+use Rattle.source_machine.proofs.Names.{has_last}
+use Rattle.std.specs.Prelude.{slice_get, slice_index, nat_lt, is_some}
 use Rattle.std.proofs.lemmas.Bool.{or_parts, cases_eq}
 use Rattle.std.proofs.lemmas.Bool.Decides.{eqb_tells}
 use Rattle.norm_lang.specs.declared.text.Reg.{Reg}
@@ -10,7 +11,7 @@ use Rattle.norm_lang.specs.declared.text.Place.TheVariants as places
 use Rattle.norm_lang.specs.declared.text.CasEntry.{CasEntry}
 use Rattle.norm_lang.specs.declared.text.Instr.TheVariants as instr
 use Rattle.norm_lang.specs.declared.registers.Registers.{Registers}
-use Rattle.norm_lang.specs.InstructionRules.{place_kind, is_unlike, has_wrong_object, has_wrong_operand, is_stranger, retires_stranger}
+use Rattle.norm_lang.specs.InstructionRules.{place_kind, is_unlike, has_wrong_object, has_wrong_operand, retires_stranger}
 use Rattle.target_code.specs.declared.target.TargetInstr.{TargetInstr}
 use Rattle.target_code.specs.declared.target.TargetInstr.TheVariants.{Plain, Check, Guard}
 use Rattle.target_code.specs.Erasing.{source_place}
@@ -19,24 +20,23 @@ use Rattle.phase_pools.specs.Accesses.{word_of}
 use Rattle.phase_pools.specs.Pools.{retire_begun}
 use Rattle.source_machine.specs.declared.event.SourceEvent.TheVariants as events
 use Rattle.source_machine.specs.declared.state.Memory.{Memory}
-use Rattle.source_machine.specs.Memory.{value_in, exchange, with_place, with_name_retired}
+use Rattle.source_machine.specs.Memory.{value_in, exchange, with_name_retired}
 use Rattle.source_machine.specs.Proper.{has, IsOnce}
 use Rattle.source_machine.specs.Run.{is_enabled_for}
 use Rattle.source_machine.specs.Step.{caller_turn}
 use Rattle.source_machine.proofs.Places.{put_same, put_other}
-use Rattle.caller_steps.specs.declared.routine.AfterRetire.TheVariants as onward
-use Rattle.caller_steps.specs.declared.routine.Routine.{Routine}
-use Rattle.caller_steps.specs.declared.routine.Routine.TheVariants.{InList, Retires}
-use Rattle.caller_steps.specs.Entries.{Entry}
-use Rattle.caller_steps.specs.Operands.{instr_in, list_of, slot_in}
+use Rattle.caller_parts.specs.declared.routine.AfterRetire.TheVariants as onward
+use Rattle.caller_parts.specs.declared.routine.Routine.{Routine}
+use Rattle.caller_parts.specs.declared.routine.Routine.TheVariants.{InList, Retires}
+use Rattle.caller_steps.specs.Entries.{Entry, instr_in}
+use Rattle.caller_parts.specs.Operands.{list_of, slot_in, succeeds, to_retire, emptied}
 use Rattle.caller_steps.specs.Signs.{Accesses, quiet, told}
 use Rattle.caller_steps.specs.Wants.{exchange_wanted}
-use Rattle.caller_steps.specs.After.{counted, succeeds, to_retire, emptied, with_published, with_routine, retires_then, list_ended, entry_made}
+use Rattle.caller_steps.specs.After.{counted, with_published, with_routine, retires_then, list_ended, entry_made}
 use Rattle.target_laws.specs.Methods.{code_in}
 use Rattle.target_laws.proofs.Forms.{instructions_are_in_form}
 use Rattle.target_laws.proofs.FreshRules.{open_reads_are_not_fresh}
 use Rattle.run_ahead.specs.Agreeing.{Agree, node_in}
-use Rattle.run_ahead.specs.MethodLaws.{ListTurns}
 use Rattle.run_ahead.specs.Standing.{stands_in_list}
 use Rattle.run_ahead.specs.Typed.{IsTyped}
 use Rattle.run_ahead.proofs.Lists.{lists_are_made}
@@ -44,7 +44,6 @@ use Rattle.run_ahead.proofs.Plain.{kind_right}
 use Rattle.run_ahead.proofs.TypedMemory.{register_for, exchange_typed}
 use Rattle.sim_relation.specs.Views.{Plan, IsPlan, Held, Living, Retiring, Shared, Caller, name_of, link, Resident}
 use Rattle.sim_relation.specs.Shared.{SharedHolds}
-use Rattle.sim_relation.specs.MayChange.{MayChange}
 use Rattle.sim_relation.specs.Callers.{CallerHolds, HoldsAt, IsRetiring, Shown, Base, Trail, Walks, Guards, InExecutor, AfterExchange, spared, spot_of}
 use Rattle.sim_relation.specs.Points.{StaysProper, IsProperPoint, point, played, makes, done}
 use Rattle.sim_relation.specs.Steps.{Kept, after_access}
@@ -54,10 +53,10 @@ use Rattle.sim_relation.proofs.Playing.{PlaysEvent, plays_one, plays_first}
 use Rattle.sim_pools.proofs.Slots.{apart}
 use Rattle.sim_walks.proofs.Committing.{list_ends}
 use Rattle.sim_exchanges.proofs.Exchanging.{IsUnder, null, under, Offers, under_resident, tests_agree}
-use Rattle.sim_exchanges.proofs.Entering.{Writes, Passes, Enters, enters, entered, published_if, publishes, public_still, public_now, owner_still, written, living}
+use Rattle.sim_exchanges.proofs.Entering.{Passes, Enters, enters, entered, published_if, publishes, public_still, public_now, owner_still, living}
 use Rattle.sim_exchanges.proofs.Writing.{dropped, fine_dropped, goes_dropped, goes_compose}
 use Rattle.sim_exchanges.proofs.Offering.{offers, own_in_generator, none_passes}
-use Rattle.sim_exchanges.proofs.Placing.{place_memory, placed, PlaceThere, place_there, place_writes, Makes, makes as makes_after, under_still, to_drop, words_written, once_new}
+use Rattle.sim_exchanges.proofs.Placing.{placed, PlaceThere, place_there, place_writes, makes as makes_after, under_still, to_drop, words_written, once_new}
 use Rattle.sim_exchanges.proofs.Dropping.{Drops, drops, untagged}
 use Rattle.sim_accesses.proofs.Ending.{entry_fails}
 use Rattle.sim_accesses.proofs.Objects.{object_openly}
@@ -66,8 +65,8 @@ use Rattle.sim_relation.proofs.Moving.{same_names}
 -- the caller stands before an exchange of its list
 pub record AtEntry (t : Plan) (c : ℕ) (s : Shared) (x : Caller) (k : ℕ) (entry : CasEntry) : Type 0 where
   pub plan : IsPlan t
-  pub fine : SharedHolds t s
-  pub told : CallerHolds t s c x
+  pub shared_holds : SharedHolds t s
+  pub caller_holds : CallerHolds t s c x
   pub at : x.entry.routine ≡ InList k
   pub here : slice_get (list_of (instr_in t.target x.entry)) k ≡ Some entry
   pub proper : StaysProper t.text c (point s x)
@@ -180,7 +179,7 @@ is_done : (t : Plan) (c : ℕ) (s : Shared) (x : Caller) (m : Trail t) (k : ℕ)
     → Done t c s x m k entry entries (name_of (value_in m.mirror entry.replacement)) (placed t (published_if t s (name_of (value_in m.mirror entry.replacement))) m.mirror entry.place (value_in m.mirror entry.replacement)) after
 is_done t c s x m k entry entries after w some =
     let plan = w.before.plan in
-    let f = w.before.fine in
+    let f = w.before.shared_holds in
     let own = spared t m.walk in
     let core = x.entry.hand.registers in
     let v = value_in m.mirror entry.replacement in
@@ -204,7 +203,7 @@ is_done t c s x m k entry entries after w some =
       after_is = made.after_is;
       typed = typed;
       passes = record {
-        fine = writes.fine;
+        shared_holds = writes.shared_holds;
         goes = goes_compose t c s (published_if t s (name_of (value_in m.mirror entry.replacement))) (placed t (published_if t s (name_of (value_in m.mirror entry.replacement))) m.mirror entry.place (value_in m.mirror entry.replacement)) up.1 writes.goes writes.links (λ r. refl);
         warning = writes.warning c;
         hazard = λ r. writes.hazard c r;
@@ -230,8 +229,8 @@ enters_at : (t : Plan) (c : ℕ) (s s' : Shared) (x : Caller) (m : Trail t) (k :
     → exchange entry m.mirror s.source ≡ Some s'.source → Enters t s s' c x m k (name_of (value_in m.mirror entry.replacement)) entry (cradles_after entry.replacement x.entry.hand.registers x.entry.cradles)
 enters_at t c s s' x m k entry entries w passes after = record {
   plan = w.before.plan;
-  fine = w.before.fine;
-  base = w.before.told.base;
+  shared_holds = w.before.shared_holds;
+  base = w.before.caller_holds.base;
   walks = w.walks;
   guards = w.guards;
   generator = w.generator;
@@ -253,7 +252,7 @@ by_retirement : (t : Plan) (c : ℕ) (s : Shared) (x : Caller) (m : Trail t) (k 
     → to_retire entry.retire x.entry.hand.registers ≡ j → EntryKept t c s x k entry j
     → Kept t c s x (after_access s.memory (exchange_wanted entry x.entry.hand.registers)) (entry_made t.target t.setting.sizes k entry (s.memory (word_of (exchange_wanted entry x.entry.hand.registers))) (counted x.entry))
 by_retirement t c s x m k entry entries after j w some slot kept =
-    let succeeded : succeeds entry x.entry.hand.registers (s.memory (word_of (exchange_wanted entry x.entry.hand.registers))) ≡ true = tests_agree t s c (spared t m.walk) x.entry.hand.registers m.mirror entry w.before.plan w.before.fine w.offers ∙ ap is_some some in
+    let succeeded : succeeds entry x.entry.hand.registers (s.memory (word_of (exchange_wanted entry x.entry.hand.registers))) ≡ true = tests_agree t s c (spared t m.walk) x.entry.hand.registers m.mirror entry w.before.plan w.before.shared_holds w.offers ∙ ap is_some some in
     subst (λ (z : Bool). Kept t c s x (after_access s.memory (exchange_wanted entry x.entry.hand.registers))
     (told (Accesses ∷ []) (if z then retires_then t.target t.setting.sizes (onward.List k) (to_retire entry.retire x.entry.hand.registers) (with_published entry.replacement (counted x.entry)) else quiet (list_ended t.target t.setting.sizes k (counted x.entry))))) (sym succeeded)
     (subst (λ (e : Entry). Kept t c s x (after_access s.memory (exchange_wanted entry x.entry.hand.registers)) (told (Accesses ∷ []) (retires_then t.target t.setting.sizes (onward.List k) (to_retire entry.retire x.entry.hand.registers) e))) (sym (published_entry entry.replacement (counted x.entry)))
@@ -261,8 +260,8 @@ by_retirement t c s x m k entry entries after j w some slot kept =
 
 -- where nothing is retired the next entry follows, or the wrap-up's start
 keeps_on : (t : Plan) (c : ℕ) (s s' : Shared) (x : Caller) (m : Trail t) (k : ℕ) (entry : CasEntry) (entries : List CasEntry) → Tries t c s x m k entry entries → Passes t c s s' (name_of (value_in m.mirror entry.replacement))
-    → exchange entry m.mirror s.source ≡ Some s'.source → s'.memory ≡ after_access s.memory (exchange_wanted entry x.entry.hand.registers) → s'.unused ≡ s.unused → s'.present ≡ s.present → EntryKept t c s x k entry 0
-keeps_on t c s s' x m k entry entries w passes after memory unused present = of (nat_lt (k + 1) (length (list_of (instr_in t.target x.entry)))) (λ routine. enters t s s' c x m k n entry cradles routine (enters_at t c s s' x m k entry entries w passes after)) where
+    → exchange entry m.mirror s.source ≡ Some s'.source → s'.memory ≡ after_access s.memory (exchange_wanted entry x.entry.hand.registers) → s'.unused ≡ s.unused → s'.present ≡ s.present → ((i : ℕ) → has i s'.source.retired ≡ true → has i s.source.retired ≡ true) → EntryKept t c s x k entry 0
+keeps_on t c s s' x m k entry entries w passes after memory unused present old = of (nat_lt (k + 1) (length (list_of (instr_in t.target x.entry)))) (λ routine. enters t s s' c x m k n entry cradles routine (enters_at t c s s' x m k entry entries w passes after)) where
   n : ℕ
   n = name_of (value_in m.mirror entry.replacement)
 
@@ -285,10 +284,12 @@ keeps_on t c s s' x m k entry entries w passes after memory unused present = of 
         present = present;
         entry = refl;
         names = same_names x.names false;
+        was_set = refl;
         plays = plays_one t.text c Accesses (point s x) (point s' y) e.0 unused;
-        fine = passes.fine;
+        shared_holds = passes.shared_holds;
         goes = passes.goes;
-        told = record { base = e.1; spot = e.2 };
+        retires = λ i is. inl (old i is);
+        caller_holds = record { base = e.1; spot = e.2 };
       }
   of false facts =
       let e = facts x.entry.routine in
@@ -302,16 +303,19 @@ keeps_on t c s s' x m k entry entries w passes after memory unused present = of 
         present = present;
         entry = ended.entry;
         names = ended.names;
+        was_set = ended.was_set;
         plays = plays_first t.text c Accesses _ (point s x) (point s' y) (point s' ended.x') e.0 unused ended.plays;
-        fine = passes.fine;
+        shared_holds = passes.shared_holds;
         goes = passes.goes;
-        told = ended.told;
+        retires = λ i is. inl (old i is);
+        caller_holds = ended.caller_holds;
       }
 
 -- and a name that is retired goes into the retire routine
 retires_on : (t : Plan) (c : ℕ) (s s' : Shared) (x : Caller) (m : Trail t) (k : ℕ) (entry : CasEntry) (entries : List CasEntry) (j n : ℕ) → Tries t c s x m k entry entries → Passes t c s s' (name_of (value_in m.mirror entry.replacement))
-    → exchange entry m.mirror s.source ≡ Some s'.source → s'.memory ≡ after_access s.memory (exchange_wanted entry x.entry.hand.registers) → s'.unused ≡ s.unused → s'.present ≡ s.present → IsRetiring s' c (suc j) n None → EntryKept t c s x k entry (suc j)
-retires_on t c s s' x m k entry entries j n w passes after memory unused present retiring =
+    → exchange entry m.mirror s.source ≡ Some s'.source → s'.memory ≡ after_access s.memory (exchange_wanted entry x.entry.hand.registers) → s'.unused ≡ s.unused → s'.present ≡ s.present → IsRetiring s' c (suc j) n None
+    → ((i : ℕ) → has i s'.source.retired ≡ true → (has i s.source.retired ≡ true) ⊎ (t.home i ≡ suc j)) → EntryKept t c s x k entry (suc j)
+retires_on t c s s' x m k entry entries j n w passes after memory unused present retiring new =
     let cradles = cradles_after entry.replacement x.entry.hand.registers x.entry.cradles in
     let routine = Retires (retire_begun (suc j)) (onward.List k) in
     let e = enters t s s' c x m k (name_of (value_in m.mirror entry.replacement)) entry (cradles_after entry.replacement x.entry.hand.registers x.entry.cradles) (Retires (retire_begun (suc j)) (onward.List k)) (enters_at t c s s' x m k entry entries w passes after) in
@@ -323,17 +327,19 @@ retires_on t c s s' x m k entry entries j n w passes after memory unused present
       present = present;
       entry = refl;
       names = same_names x.names false;
+      was_set = refl;
       plays = plays_one t.text c Accesses (point s x) (point s' y) e.0 unused;
-      fine = passes.fine;
+      shared_holds = passes.shared_holds;
       goes = passes.goes;
-      told = record { base = e.1; spot = ((n, retiring), e.2) };
+      retires = λ i is. ⊎_elim (λ (was : has i s.source.retired ≡ true). inl was) (λ (now : t.home i ≡ suc j). inr (onward.List k, ap (λ (slot : ℕ). Retires (retire_begun slot) (onward.List k)) (sym now))) (new i is);
+      caller_holds = record { base = e.1; spot = ((n, retiring), e.2) };
     }
 
 -- what both machines have where a name was retired
 drop_passes : (t : Plan) (c : ℕ) (s s1 : Shared) (n e : ℕ) → Passes t c s s1 n → ((j : ℕ) → s1.present j ≡ s.present j) → e ≢ 0 → Resident t s1 e → s1.owner (t.home e) ≡ Living → s1.public e ≡ true → IsTyped t.text (dropped t s1 c e).source
     → Passes t c s (dropped t s1 c e) n
 drop_passes t c s s1 n e w present some here alive public typed = record {
-  fine = fine_dropped t s1 c e w.fine some here alive public typed;
+  shared_holds = fine_dropped t s1 c e w.shared_holds some here alive public typed;
   goes = goes_compose t c s s1 (dropped t s1 c e) w.goes (goes_dropped t s1 c e alive) (λ i g. links i g (w.links i g)) w.protects;
   warning = w.warning;
   hazard = w.hazard;
@@ -352,16 +358,16 @@ retired_kept : (t : Plan) (c : ℕ) (s s1 : Shared) (x : Caller) (m : Trail t) (
     → to_drop entry.retire m.mirror ≡ suc n → (j : ℕ) → t.home (suc n) ≡ j → (to_retire entry.retire x.entry.hand.registers ≡ j) × EntryKept t c s x k entry j
 retired_kept t c s s1 x m k entry entries after n d is j home =
     let w = d.tries in
-    let f = w.before.fine in
+    let f = w.before.shared_holds in
     let some : suc n ≢ 0 = λ z. (let no : ⊥ = omega (arith, z) in no) in
     let after_is : after ≡ (dropped t s1 c (suc n)).source = d.after_is ∙ ap (λ (i : ℕ). with_name_retired i s1.source) is in
     let here : Resident t s (suc n) = subst (λ (i : ℕ). Resident t s i) is d.drops.here in
     let here1 : Resident t s1 (suc n) = d.present (t.home (suc n)) ∙ here in
     let public : s1.public (suc n) ≡ true = d.passes.public (suc n) (public_of (subst (λ (i : ℕ). Shown s i) is d.drops.shown)) in
     let live1 : has (suc n) s1.source.retired ≡ false = once_new s1.source.retired (suc n) (subst IsOnce (ap (λ (memory : Memory). memory.retired) after_is) d.once) in
-    let alive : s1.owner (t.home (suc n)) ≡ Living = living t s1 (suc n) d.passes.fine here1 some public live1 in
+    let alive : s1.owner (t.home (suc n)) ≡ Living = living t s1 (suc n) d.passes.shared_holds here1 some public live1 in
     let passes = drop_passes t c s s1 (name_of (value_in m.mirror entry.replacement)) (suc n) d.passes d.present some here1 alive public (subst (λ (memory : Memory). IsTyped t.text memory) after_is d.typed) in
-    let retiring : IsRetiring (dropped t s1 c (suc n)) c (t.home (suc n)) (suc n) None = record { owner = put_same s1.owner (t.home (suc n)) (Retiring c); present = here1; tag_is = untagged t s1 (suc n) d.passes.fine live1 } in
+    let retiring : IsRetiring (dropped t s1 c (suc n)) c (t.home (suc n)) (suc n) None = record { owner = put_same s1.owner (t.home (suc n)) (Retiring c); present = here1; tag_is = untagged t s1 (suc n) d.passes.shared_holds live1 } in
     (d.drops.slot ∙ (ap t.home is ∙ home), by_slot j home (has_slot_of t s (suc n) f here some) passes (d.makes ∙ ap Some after_is) retiring)
   where
     public_of : Shown s (suc n) → s.public (suc n) ≡ true
@@ -373,6 +379,7 @@ retired_kept t c s s1 x m k entry entries after n d is j home =
     by_slot zero home ne passes made retiring = absurd (ne home)
     by_slot (suc j) home ne passes made retiring = retires_on t c s (dropped t s1 c (suc n)) x m k entry entries j (suc n) d.tries passes made (sym d.memory) d.unused (λ i l. d.present l i)
         (subst (λ (i : ℕ). IsRetiring (dropped t s1 c (suc n)) c i (suc n) None) home retiring)
+        (λ i new. ⊎_elim (λ (was : has i s1.source.retired ≡ true). inl (subst (λ (ns : List ℕ). has i ns ≡ true) d.retired was)) (λ (now : i ≡ suc n). inr (ap t.home now ∙ home)) (has_last i (suc n) s1.source.retired new))
 
 made_kept : (t : Plan) (c : ℕ) (s s1 : Shared) (x : Caller) (m : Trail t) (k : ℕ) (entry : CasEntry) (entries : List CasEntry) (after : Memory) → Done t c s x m k entry entries (name_of (value_in m.mirror entry.replacement)) s1 after
     → Kept t c s x (after_access s.memory (exchange_wanted entry x.entry.hand.registers)) (entry_made t.target t.setting.sizes k entry (s.memory (word_of (exchange_wanted entry x.entry.hand.registers))) (counted x.entry))
@@ -380,7 +387,7 @@ made_kept t c s s1 x m k entry entries after d = by_drop (to_drop entry.retire m
   by_drop : (n : ℕ) → to_drop entry.retire m.mirror ≡ n
       → Kept t c s x (after_access s.memory (exchange_wanted entry x.entry.hand.registers)) (entry_made t.target t.setting.sizes k entry (s.memory (word_of (exchange_wanted entry x.entry.hand.registers))) (counted x.entry))
   by_drop zero none = by_retirement t c s x m k entry entries after 0 d.tries d.makes (d.drops.slot ∙ (ap t.home none ∙ d.tries.before.plan.null))
-      (keeps_on t c s s1 x m k entry entries d.tries d.passes (d.makes ∙ ap Some (d.after_is ∙ ap (λ (n : ℕ). with_name_retired n s1.source) none)) (sym d.memory) d.unused (λ i l. d.present l i))
+      (keeps_on t c s s1 x m k entry entries d.tries d.passes (d.makes ∙ ap Some (d.after_is ∙ ap (λ (n : ℕ). with_name_retired n s1.source) none)) (sym d.memory) d.unused (λ i l. d.present l i) (λ i is. subst (λ (ns : List ℕ). has i ns ≡ true) d.retired is))
   by_drop (suc n) is =
       let kept = retired_kept t c s s1 x m k entry entries after n d is (t.home (suc n)) refl in
       by_retirement t c s x m k entry entries after (t.home (suc n)) d.tries d.makes kept.0 kept.1
@@ -388,7 +395,7 @@ made_kept t c s s1 x m k entry entries after d = by_drop (to_drop entry.retire m
 -- an exchange of a list, whether it fails or succeeds, and whatever it retires
 pub entry_step : (t : Plan) (c : ℕ) (s : Shared) (x : Caller) (k : ℕ) (entry : CasEntry) → AtEntry t c s x k entry
     → Kept t c s x (after_access s.memory (exchange_wanted entry x.entry.hand.registers)) (entry_made t.target t.setting.sizes k entry (s.memory (word_of (exchange_wanted entry x.entry.hand.registers))) (counted x.entry))
-entry_step t c s x k entry w = by_spot (subst (λ (r : Routine). HoldsAt t s c x r) w.at w.told.spot) (commit_there (instr_in t.target x.entry) k entry w.here) where
+entry_step t c s x k entry w = by_spot (subst (λ (r : Routine). HoldsAt t s c x r) w.at w.caller_holds.spot) (commit_there (instr_in t.target x.entry) k entry w.here) where
   by_spot : InExecutor t s c x k → (entries : List CasEntry) × (instr_in t.target x.entry ≡ Some (Plain (instr.Commit entries)))
       → Kept t c s x (after_access s.memory (exchange_wanted entry x.entry.hand.registers)) (entry_made t.target t.setting.sizes k entry (s.memory (word_of (exchange_wanted entry x.entry.hand.registers))) (counted x.entry))
   by_spot spot commit =
@@ -397,8 +404,8 @@ entry_step t c s x k entry w = by_spot (subst (λ (r : Routine). HoldsAt t s c x
       let one : slice_get commit.0 k ≡ Some entry = ap (λ (o : Option TargetInstr). slice_get (list_of o) k) (sym commit.1) ∙ w.here in
       let offered = offers t s c x spot.0 (instr.Commit commit.0) k entry (record {
         plan = w.plan;
-        fine = w.fine;
-        base = w.told.base;
+        shared_holds = w.shared_holds;
+        base = w.caller_holds.base;
         walks = spot.1;
         guards = spot.2;
         here = here;
@@ -412,6 +419,6 @@ entry_step t c s x k entry w = by_spot (subst (λ (r : Routine). HoldsAt t s c x
     where
       by_result : (spot : InExecutor t s c x k) (entries : List CasEntry) → Tries t c s x spot.0 k entry entries → (o : Option Memory) → exchange entry spot.0.mirror s.source ≡ o
           → Kept t c s x (after_access s.memory (exchange_wanted entry x.entry.hand.registers)) (entry_made t.target t.setting.sizes k entry (s.memory (word_of (exchange_wanted entry x.entry.hand.registers))) (counted x.entry))
-      by_result spot entries tries None none = entry_fails t c s x k entry entries w.plan w.fine w.told.base spot tries.here w.here tries.offers none
+      by_result spot entries tries None none = entry_fails t c s x k entry entries w.plan w.shared_holds w.caller_holds.base spot tries.here w.here tries.offers none
       by_result spot entries tries (Some after) some =
           made_kept t c s (placed t (published_if t s (name_of (value_in spot.0.mirror entry.replacement))) spot.0.mirror entry.place (value_in spot.0.mirror entry.replacement)) x spot.0 k entry entries after (is_done t c s x spot.0 k entry entries after tries some)

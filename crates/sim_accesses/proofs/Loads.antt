@@ -33,14 +33,14 @@ use Rattle.source_machine.specs.Memory.{with_value, value_at, blank_fields, fiel
 use Rattle.source_machine.specs.MethodRuns.{MethodRun, with_name, name_in, name_got}
 use Rattle.source_machine.specs.Proper.{has, field_of}
 use Rattle.source_machine.specs.Run.{is_name}
-use Rattle.caller_steps.specs.Operands.{with_word, unpacked, slot_in}
+use Rattle.caller_parts.specs.Operands.{with_word, unpacked, slot_in}
 use Rattle.caller_steps.specs.Wants.{plain_wanted}
 use Rattle.caller_steps.specs.Entries.{one_more}
 use Rattle.caller_steps.specs.After.{counted, with_access, loaded as core_loaded, plain_accepted}
 use Rattle.run_ahead.specs.Agreeing.{Agree, Changes, node_in}
 use Rattle.target_laws.specs.Methods.{code_in}
 use Rattle.target_laws.specs.Trusted.{Trusted, Unchecked, Spoilt, trust_along, trust_in_set}
-use Rattle.run_ahead.specs.Ahead.{Told}
+use Rattle.run_ahead.specs.Ahead.{AsTrusted}
 use Rattle.run_ahead.specs.Known.{IsGot, AreGot}
 use Rattle.run_ahead.specs.Standing.{loads_into, IsValueFor, ValuesAgree, run_from}
 use Rattle.run_ahead.specs.Typed.{IsOfKind, IsRegisterFor}
@@ -59,7 +59,8 @@ use Rattle.sim_relation.specs.Allowing.{IsProperFor}
 use Rattle.caller_steps.specs.Signs.{Accesses, Moved}
 use Rattle.sim_relation.specs.Points.{point}
 use Rattle.sim_relation.proofs.Playing.{PlaysEvent, plays_first}
-use Rattle.sim_relation.specs.Steps.{Kept}
+use Rattle.sim_relation.specs.Steps.{KeptSetting}
+use Rattle.sim_relation.specs.WasSet.{set_by, set_onward, set_plain}
 use Rattle.sim_relation.proofs.Names.{own_private, null_resident}
 use Rattle.sim_relation.proofs.Words.{store_idle}
 use Rattle.sim_walks.proofs.Along.{has_before, base_walked, walks_along, guards_along, gets_along}
@@ -125,7 +126,7 @@ pub record Found (t : Plan) (s : Shared) (c : ℕ) (x : Caller) (m : Trail t) (i
 -- what a load stands on
 pub record Reading (t : Plan) (s : Shared) (c : ℕ) (x : Caller) (m : Trail t) (i : Instr) : Type 0 where
   pub plan : IsPlan t
-  pub fine : SharedHolds t s
+  pub shared_holds : SharedHolds t s
   pub base : Base t s c x
   pub walks : Walks t s c x (spot_of x.entry.hand) m
   pub gets : Gets t s c x m
@@ -174,12 +175,12 @@ field_known t s y f plan fine = of (fields_named y.node s.source.nodes) refl whe
 trusted_resident : (t : Plan) (s : Shared) (c : ℕ) (x : Caller) (m : Trail t) (i : Instr) (r : ℕ) → Reading t s c x m i → IsTrue (reads (Ref r) i) → Calm s c x → Resident t s (node_in m.mirror r)
 trusted_resident t s c x m i r w is calm =
     let trusted = trusted_at m.walk.method w.plan.compiled m.path x.entry.hand.at i (Ref r) w.walks.ahead.path_is w.here is in
-    hoped_resident t s c x m w.plan w.fine w.base w.below calm w.proper (blank m.walk w.walks.generator) w.walks.kept w.gets (node_in m.mirror r)
+    hoped_resident t s c x m w.plan w.shared_holds w.base w.below calm w.proper (blank m.walk w.walks.generator) w.walks.kept w.gets (node_in m.mirror r)
     (inr (r, (λ spoilt. let z : Trusted ≡ Spoilt = sym trusted ∙ spoilt in cc), refl))
 
 pub object_resident : (t : Plan) (s : Shared) (c : ℕ) (x : Caller) (m : Trail t) (i : Instr) (a : Reg) → Reading t s c x m i → IsTrue (reads a i) → Calm s c x → Resident t s (reference_in m.mirror a).node
 object_resident t s c x m i (Ref r) w is calm = trusted_resident t s c x m i r w is calm
-object_resident t s c x m i (Num r) w is calm = null_resident t s 0 w.plan w.fine refl
+object_resident t s c x m i (Num r) w is calm = null_resident t s 0 w.plan w.shared_holds refl
 
 refuted : (b : Bool) → (IsTrue b → ⊥) → b ≡ false
 refuted true never = absurd (never refl)
@@ -191,14 +192,14 @@ some_load v w is = cc
 pub finds : (t : Plan) (s : Shared) (c : ℕ) (x : Caller) (m : Trail t) (i : Instr) (d : Reg) (w : Word) → Reading t s c x m i → loads_into i ≡ Some d → LooksAt i x.entry.hand.registers w → Found t s c x m i d w
 finds t s c x m (instr.LoadRoot e z) d w rd loads looks =
     subst (λ (r : Reg). Found t s c x m (instr.LoadRoot e z) r w) (let same : e ≡ d = cc in same) (subst (λ (v : Word). Found t s c x m (instr.LoadRoot e z) e v) (some_load (Cell z) w looks)
-    (by_kind t s c x m (instr.LoadRoot e z) e (Cell z) _ (root_finds t.text e z m.mirror s.source (kind_right m.walk.method rd.plan.compiled x.entry.hand.at (instr.LoadRoot e z) rd.here) rd.fine.typed) (λ calm. rd.fine.store.root z) (rd.fine.store.top z)))
+    (by_kind t s c x m (instr.LoadRoot e z) e (Cell z) _ (root_finds t.text e z m.mirror s.source (kind_right m.walk.method rd.plan.compiled x.entry.hand.at (instr.LoadRoot e z) rd.here) rd.shared_holds.typed) (λ calm. rd.shared_holds.store.root z) (rd.shared_holds.store.top z)))
 finds t s c x m (instr.LoadPick e z n a) d w rd loads looks =
     let i = instr.LoadPick e z n a in
     let same : number_in x.entry.hand.registers a ≡ number_in m.mirror a = numbers_agree t.home x.entry.hand.registers m.mirror a (read_agrees t s c x m i a rd (reads_first a false)) in
     let one : are_roots_of_one_kind t.text.roots z n ≡ true = unnegated (are_roots_of_one_kind t.text.roots z n) (refuted _ (λ wrong. keeps_at rd.plan.compiled.normal rd.plan.compiled.barred.erases m.walk.method N13 x.entry.hand.at i rd.here wrong)) in
     subst (λ (r : Reg). Found t s c x m i r w) (let same : e ≡ d = cc in same) (subst (λ (v : Word). Found t s c x m i e v) (ap (λ (k : ℕ). Cell (z + remainder k n)) (sym same) ∙ some_load (Cell (z + remainder (number_in x.entry.hand.registers a) n)) w looks)
-    (by_kind t s c x m i e (Cell (z + remainder (number_in m.mirror a) n)) _ (pick_finds t.text e z n a m.mirror s.source (kind_right m.walk.method rd.plan.compiled x.entry.hand.at i rd.here) one rd.fine.typed)
-    (λ calm. rd.fine.store.root (z + remainder (number_in m.mirror a) n)) (rd.fine.store.top (z + remainder (number_in m.mirror a) n))))
+    (by_kind t s c x m i e (Cell (z + remainder (number_in m.mirror a) n)) _ (pick_finds t.text e z n a m.mirror s.source (kind_right m.walk.method rd.plan.compiled x.entry.hand.at i rd.here) one rd.shared_holds.typed)
+    (λ calm. rd.shared_holds.store.root (z + remainder (number_in m.mirror a) n)) (rd.shared_holds.store.top (z + remainder (number_in m.mirror a) n))))
   where
     unnegated : (b : Bool) → not b ≡ false → b ≡ true
     unnegated true is = refl
@@ -207,8 +208,8 @@ finds t s c x m (instr.LoadField e a f) d w rd loads looks =
     let i = instr.LoadField e a f in
     let slot : (reference_in x.entry.hand.registers a).node ≡ t.home (reference_in m.mirror a).node = (references_agree t.home x.entry.hand.registers m.mirror a rd.plan.null (read_agrees t s c x m i a rd (reads_first a false))).0 in
     subst (λ (r : Reg). Found t s c x m i r w) (let same : e ≡ d = cc in same) (subst (λ (v : Word). Found t s c x m i e v) (ap (λ (j : ℕ). FieldOf j f) (sym slot) ∙ some_load (FieldOf (slot_in x.entry.hand.registers a) f) w looks)
-    (by_kind t s c x m i e (FieldOf (t.home (reference_in m.mirror a).node) f) _ (field_finds t.text e a f m.mirror s.source (kind_right m.walk.method rd.plan.compiled x.entry.hand.at i rd.here) rd.fine.typed)
-    (λ calm. field_word t s (reference_in m.mirror a) f rd.plan rd.fine (object_resident t s c x m i a rd (reads_first a false) calm)) (field_known t s (reference_in m.mirror a) f rd.plan rd.fine)))
+    (by_kind t s c x m i e (FieldOf (t.home (reference_in m.mirror a).node) f) _ (field_finds t.text e a f m.mirror s.source (kind_right m.walk.method rd.plan.compiled x.entry.hand.at i rd.here) rd.shared_holds.typed)
+    (λ calm. field_word t s (reference_in m.mirror a) f rd.plan rd.shared_holds (object_resident t s c x m i a rd (reads_first a false) calm)) (field_known t s (reference_in m.mirror a) f rd.plan rd.shared_holds)))
 finds t s c x m _ d w rd loads looks = absurd (let never : None ≡ Some d = loads in cc)
 
 -- ---- the names that a run has got
@@ -253,6 +254,13 @@ load_accepted t (instr.LoadPick e z n a) d word x is = let same : d ≡ e = cc i
 load_accepted t (instr.LoadField e a f) d word x is = let same : d ≡ e = cc in ap (λ (r : Reg). core_loaded t.target t.setting.sizes r word (counted x.entry)) same
 load_accepted t _ d word x is = absurd (let never : None ≡ Some d = is in cc)
 
+-- the registers that the run has set after it
+load_sets : (t : Plan) (i : Instr) (d : Reg) (word : ℕ) (x : Caller) → loads_into i ≡ Some d → set_onward t.target x.entry (set_by (Some (Plain i)) x.was_set) (with_word x.entry.hand.registers d word) ≡ set_plain t.target i word x.entry x.was_set
+load_sets t (instr.LoadRoot e z) d word x is = let same : d ≡ e = cc in ap (λ (r : Reg). set_onward t.target x.entry (set_by (Some (Plain (instr.LoadRoot e z))) x.was_set) (with_word x.entry.hand.registers r word)) same
+load_sets t (instr.LoadPick e z n a) d word x is = let same : d ≡ e = cc in ap (λ (r : Reg). set_onward t.target x.entry (set_by (Some (Plain (instr.LoadPick e z n a))) x.was_set) (with_word x.entry.hand.registers r word)) same
+load_sets t (instr.LoadField e a f) d word x is = let same : d ≡ e = cc in ap (λ (r : Reg). set_onward t.target x.entry (set_by (Some (Plain (instr.LoadField e a f))) x.was_set) (with_word x.entry.hand.registers r word)) same
+load_sets t _ d word x is = absurd (let never : None ≡ Some d = is in cc)
+
 -- the spot after a load
 abbrev pub behind_load : Caller → Reg → ℕ → Spot
 behind_load x d word = record { at = x.entry.hand.at + 1; registers = with_word x.entry.hand.registers d word }
@@ -260,7 +268,7 @@ behind_load x d word = record { at = x.entry.hand.at + 1; registers = with_word 
 -- a load makes the source's load too, and the run gets what it found
 pub load_takes : (t : Plan) (s : Shared) (c : ℕ) (x : Caller) (m : Trail t) (i : Instr) (d : Reg) (w : Word) (accessed : Bool) → Reading t s c x m i → Stands t x m → Guards t x m → loads_into i ≡ Some d
     → Found t s c x m i d w → (m.walk.method.wrapup ≡ true → accessed ≡ true)
-    → let y = took t s c 0 x (behind_load x d (s.memory w)) accessed (name_of (loaded t.text i m.mirror s.source)) in
+    → let y = took t s c 0 x (behind_load x d (s.memory w)) accessed (name_of (loaded t.text i m.mirror s.source)) (set_by (Some (Plain i)) x.was_set) in
     PlaysEvent t.text (events.Access c 0) s.source x.source x.watch s.source y.source y.watch × (Base t s c y × Running t s c y (behind_load x d (s.memory w)))
 load_takes t s c x m i d w accessed rd st guards loads found marked =
     let l = is_load t.text i d loads in
@@ -271,10 +279,10 @@ load_takes t s c x m i d w accessed rd st guards loads found marked =
     let n : ℕ = name_of v in
     let next = behind_load x d (s.memory w) in
     let mirror' = with_value m.mirror d v in
-    let changes : Changes t.home (Told (Calm s c x) (trust_in_set i)) (destination i) (name_in v) x.entry.hand.registers m.mirror next.registers mirror' =
-    subst (λ registers. Changes t.home (Told (Calm s c x) (trust_in_set i)) (destination i) (name_in v) x.entry.hand.registers m.mirror registers mirror') (sym (word_put x.entry.hand.registers d (s.memory w)))
-    (subst (λ o. Changes t.home (Told (Calm s c x) (trust_in_set i)) o (name_in v) x.entry.hand.registers m.mirror (with_value x.entry.hand.registers d (read_as d (s.memory w))) mirror') (sym l.sets)
-    (subst (λ z. Changes t.home (Told (Calm s c x) z) (Some d) (name_in v) x.entry.hand.registers m.mirror (with_value x.entry.hand.registers d (read_as d (s.memory w))) mirror') (sym l.trust)
+    let changes : Changes t.home (AsTrusted (Calm s c x) (trust_in_set i)) (destination i) (name_in v) x.entry.hand.registers m.mirror next.registers mirror' =
+    subst (λ registers. Changes t.home (AsTrusted (Calm s c x) (trust_in_set i)) (destination i) (name_in v) x.entry.hand.registers m.mirror registers mirror') (sym (word_put x.entry.hand.registers d (s.memory w)))
+    (subst (λ o. Changes t.home (AsTrusted (Calm s c x) (trust_in_set i)) o (name_in v) x.entry.hand.registers m.mirror (with_value x.entry.hand.registers d (read_as d (s.memory w))) mirror') (sym l.sets)
+    (subst (λ z. Changes t.home (AsTrusted (Calm s c x) z) (Some d) (name_in v) x.entry.hand.registers m.mirror (with_value x.entry.hand.registers d (read_as d (s.memory w))) mirror') (sym l.trust)
     (value_changes t.home (Calm s c x) Unchecked x.entry.hand.registers m.mirror d (read_as d (s.memory w)) v rd.plan.null rd.walks.ahead.sized found.kind.0 found.kind.1 found.agrees))) in
     let made : Makes t s c 0 x m i (name_in v) next mirror' = record {
       here = rd.here;
@@ -286,28 +294,28 @@ load_takes t s c x m i d w accessed rd st guards loads found marked =
       leads = l.spot place 0 (place at) m.mirror s.source ∙ ap (λ (k : ℕ). record { at = k; registers = mirror' }) (sym (at_place method rd.plan.compiled at (Plain i) rd.here).1);
     } in
     let turn = turns t s c 0 x m i (name_in v) next mirror' rd.plan rd.walks st made in
-    let y = turned x (took t s c 0 x next accessed n).source (took t s c 0 x next accessed n).watch in
-    let held = (took t s c 0 x next accessed n).held in
+    let y = turned x (took t s c 0 x next accessed n x.was_set).source (took t s c 0 x next accessed n x.was_set).watch in
+    let held = (took t s c 0 x next accessed n x.was_set).held in
     let there : Spot = run_from method.op method.wrapup (record { at = place next.at; registers = mirror' }) in
     let new : name_in v ≡ n = (same_name v).0 in
     let got : AreGot method (at ∷ m.path) m.walk.started mirror' held.got =
-    plain_got method t.home (Told (Calm s c x) (trust_in_set i)) m.path at i (name_in v) x.entry.hand.registers m.mirror next.registers mirror' m.walk.started x.held.got held.got rd.here changes
+    plain_got method t.home (AsTrusted (Calm s c x) (trust_in_set i)) m.path at i (name_in v) x.entry.hand.registers m.mirror next.registers mirror' m.walk.started x.held.got held.got rd.here changes
     (λ r set. subst (IsGot held.got) (sym new) (got_new n x.held.got)) (λ k. got_kept k n x.held.got) rd.gets.got in (
       (turn.enabled, (sym (turn.memory ∙ l.memory place 0 (place at) m.mirror s.source), refl, sym (turn.watch ∙ ap (λ (k : ℕ). record x.watch { got = with_name k x.watch.got }) (load_got t.text i d place m.mirror s.source loads)))),
       (
-        base_walked t s c y next accessed held refl
+        base_walked t s c y next accessed held (set_by (Some (Plain i)) x.was_set) refl
             (λ k has_k. ⊎_elim (λ (e : k ≡ n). subst (λ (j : ℕ). Known t s c j) (sym e) (found_known n found.known)) (λ (old : has k x.held.got ≡ true). rd.base.known k old) (has_with k n x.held.got has_k))
             (base_turned t s c x y.source y.watch rd.base),
         (
           record { walk = m.walk; path = at ∷ m.path; mirror = mirror'; there = there },
-          walks_along t s c y (spot_of x.entry.hand) next m i (name_in v) (Told (Calm s c x) (trust_in_set i)) mirror' there accessed held rd.plan rd.fine rd.here (load_old i d loads) changes
+          walks_along t s c y (spot_of x.entry.hand) next m i (name_in v) (AsTrusted (Calm s c x) (trust_in_set i)) mirror' there accessed held rd.plan rd.shared_holds rd.here (load_old i d loads) changes
               (λ trusted. absurd (let never : Unchecked ≡ Trusted = sym l.trust ∙ trusted in cc)) turn.ahead (walks_turned t s c x (spot_of x.entry.hand) m y.source y.watch rd.walks),
           stands_took t s c 0 x m i next mirror' accessed n marked turn,
-          gets_along t s c y (spot_of x.entry.hand) next m i (name_in v) (Told (Calm s c x) (trust_in_set i)) mirror' there accessed held rd.here (load_old i d loads) changes got (λ k is. has_kept k n x.held.got is)
+          gets_along t s c y (spot_of x.entry.hand) next m i (name_in v) (AsTrusted (Calm s c x) (trust_in_set i)) mirror' there accessed held rd.here (load_old i d loads) changes got (λ k is. has_kept k n x.held.got is)
               (λ k j has_k own here. ⊎_elim (λ (e : k ≡ n). absurd (not_own n found.known j (subst (λ (a : ℕ). s.owner (t.home a) ≡ Held c j) e own) (subst (λ (a : ℕ). Resident t s a) e here))) (λ (old : has k x.held.got ≡ true). old) (has_with k n x.held.got has_k))
               (λ gen r set. subst (λ (k : ℕ). Shown s k) (sym new) found.known)
               rd.gets,
-          guards_along t s c y (spot_of x.entry.hand) next m i (name_in v) (Told (Calm s c x) (trust_in_set i)) mirror' there accessed held rd.here (load_old i d loads) changes guards,
+          guards_along t s c y (spot_of x.entry.hand) next m i (name_in v) (AsTrusted (Calm s c x) (trust_in_set i)) mirror' there accessed held rd.here (load_old i d loads) changes guards,
         ),
       ),
     )
@@ -317,33 +325,36 @@ load_takes t s c x m i d w accessed rd st guards loads found marked =
     found_known n (inr p) = inr (inl p)
 
     not_own : (n : ℕ) → (n ≡ 0) ⊎ (s.public n ≡ true) → (j : ℕ) → s.owner (t.home n) ≡ Held c j → Resident t s n → ⊥
-    not_own n (inl z) j own here = let e : Null ≡ Held c j = sym rd.fine.none_there ∙ (ap s.owner (sym (ap t.home z ∙ rd.plan.null)) ∙ own) in cc
-    not_own n (inr p) j own here = let e : true ≡ false = sym p ∙ own_private t s c j n rd.fine own here in cc
+    not_own n (inl z) j own here = let e : Null ≡ Held c j = sym rd.shared_holds.none_there ∙ (ap s.owner (sym (ap t.home z ∙ rd.plan.null)) ∙ own) in cc
+    not_own n (inr p) j own here = let e : true ≡ false = sym p ∙ own_private t s c j n rd.shared_holds own here in cc
 
 -- the caller whose access was made, where it stood
-abbrev pub made_by : Caller → SourceCaller → MethodRun → MethodRun → Caller
-made_by x source watch held = record x { source = source; watch = watch; held = held; entry = with_access (counted x.entry) }
+abbrev pub made_by : Caller → SourceCaller → MethodRun → MethodRun → (ℕ → Bool) → Caller
+made_by x source watch held were = record x { source = source; watch = watch; held = held; was_set = were; entry = with_access (counted x.entry) }
 
 -- a load, and the local code after it
 pub load_kept : (t : Plan) (c : ℕ) (s : Shared) (x : Caller) (i : Instr) (d : Reg) (w : Word) → IsPlan t → SharedHolds t s → Base t s c x → (walk : Running t s c x (spot_of x.entry.hand)) → c < t.setting.sizes.callers → IsProperFor s x
     → slice_get (code_in walk.0.walk.method) x.entry.hand.at ≡ Some (Plain i) → loads_into i ≡ Some d → LooksAt i x.entry.hand.registers w
-    → Kept t c s x (store s.memory w (s.memory w)) (plain_accepted t.target t.setting.sizes i (s.memory w) (counted x.entry))
+    → KeptSetting t c s x (set_plain t.target i (s.memory w) x.entry x.was_set) (store s.memory w (s.memory w)) (plain_accepted t.target t.setting.sizes i (s.memory w) (counted x.entry))
 load_kept t c s x i d w plan f b walk below proper here loads looks =
     let y = counted_caller x in
     let moves = running_moved t s c x (spot_of x.entry.hand) (one_more x.entry.running.steps) x.entry.counts x.entry.routine walk in
-    let rd : Reading t s c y walk.0 i = record { plan = plan; fine = f; base = base_moved t s c x (one_more x.entry.running.steps) x.entry.counts x.entry.routine b; walks = moves.1; gets = moves.3; below = below; proper = proper; here = here } in
+    let rd : Reading t s c y walk.0 i = record { plan = plan; shared_holds = f; base = base_moved t s c x (one_more x.entry.running.steps) x.entry.counts x.entry.routine b; walks = moves.1; gets = moves.3; below = below; proper = proper; here = here } in
     let taken = load_takes t s c y walk.0 i d w x.entry.hand.wrapup rd moves.2 moves.4 loads (finds t s c y walk.0 i d w rd loads looks) (λ e. walk.1.wrapup ∙ e) in
-    let z = took t s c 0 y (behind_load x d (s.memory w)) x.entry.hand.wrapup (name_of (loaded t.text i walk.0.mirror s.source)) in
-    let ended = settles_ends t s c (made_by x z.source z.watch z.held) (behind_load x d (s.memory w)) plan f taken.1.0 taken.1.1 in
-    subst (λ (m : Moved). Kept t c s x (store s.memory w (s.memory w)) m) (load_accepted t i d (s.memory w) x loads) (record {
+    let z = took t s c 0 y (behind_load x d (s.memory w)) x.entry.hand.wrapup (name_of (loaded t.text i walk.0.mirror s.source)) (set_by (Some (Plain i)) x.was_set) in
+    let ended = settles_ends t s c (made_by x z.source z.watch z.held z.was_set) (behind_load x d (s.memory w)) plan f taken.1.0 taken.1.1 in
+    subst (λ (were : ℕ → Bool). KeptSetting t c s x were (store s.memory w (s.memory w)) (plain_accepted t.target t.setting.sizes i (s.memory w) (counted x.entry))) (load_sets t i d (s.memory w) x loads)
+    (subst (λ (m : Moved). KeptSetting t c s x (set_onward t.target x.entry (set_by (Some (Plain i)) x.was_set) (with_word x.entry.hand.registers d (s.memory w))) (store s.memory w (s.memory w)) m) (load_accepted t i d (s.memory w) x loads) (record {
       s' = s;
       x' = ended.x';
       memory = store_idle s.memory w;
       present = refl;
       entry = ended.entry;
       names = ended.names;
+      was_set = ended.was_set;
       plays = plays_first t.text c Accesses _ (point s x) (point s z) (point s ended.x') taken.0 refl ended.plays;
-      fine = f;
+      shared_holds = f;
       goes = goes_same t s c;
-      told = ended.told;
-    })
+      retires = λ n is. inl is;
+      caller_holds = ended.caller_holds;
+    }))

@@ -12,12 +12,13 @@ use Rattle.target_code.specs.Keeping.{keeps}
 use Rattle.source_machine.specs.MethodRuns.{put}
 use Rattle.source_machine.specs.Proper.{has}
 use Rattle.std.proofs.lemmas.Bool.Decides.{eqb_tells}
-use Rattle.caller_steps.specs.declared.routine.AfterClear.TheVariants as clears
-use Rattle.caller_steps.specs.declared.routine.Routine.TheVariants.{Zeroes}
-use Rattle.caller_steps.specs.Entries.{one_more}
-use Rattle.caller_steps.specs.Operands.{cradle_of, instr_in}
-use Rattle.caller_steps.specs.Clearing.{clear_next, none_spared, unguarded}
-use Rattle.caller_steps.specs.After.{counted, with_new, with_hand, then_cleared, cleared, goes_on, zeroed as core_zeroed}
+use Rattle.caller_parts.specs.declared.routine.AfterClear.TheVariants as clears
+use Rattle.caller_parts.specs.declared.routine.Routine.TheVariants.{Zeroes}
+use Rattle.caller_steps.specs.Entries.{one_more, cradle_of, instr_in}
+use Rattle.caller_steps.specs.Clearing.{clear_next, unguarded}
+use Rattle.caller_parts.specs.Spared.{none_spared}
+use Rattle.caller_steps.specs.After.{counted, with_hand, then_cleared, cleared, goes_on, zeroed as core_zeroed}
+use Rattle.caller_parts.specs.Operands.{with_new}
 use Rattle.sim_relation.specs.Views.{Plan, Shared, Caller}
 use Rattle.sim_relation.specs.Shared.{SharedHolds}
 use Rattle.sim_relation.specs.Callers.{Base, Trail, Walks, Stands, Gets, AtNew, Calm, spared, spot_of}
@@ -26,7 +27,8 @@ use Rattle.caller_steps.specs.Signs.{Draws, quiet, told}
 use Rattle.sim_relation.specs.Points.{point}
 use Rattle.sim_relation.proofs.Playing.{plays_first}
 use Rattle.sim_relation.specs.Naming.{named_at}
-use Rattle.sim_relation.specs.Steps.{KeptNaming, Ends, hazarded, regarded, KeptBy, with_names}
+use Rattle.sim_relation.specs.Steps.{KeptWith, Ends, hazarded, regarded, KeptBy, with_names}
+use Rattle.sim_relation.specs.WasSet.{set_by, set_onward, set_zeroed}
 use Rattle.sim_relation.proofs.Moving.{base_moved, walks_moved}
 use Rattle.sim_exchanges.proofs.Fresh.{zeroed, goes_zeroed, drawn, goes_drawn}
 use Rattle.sim_walks.proofs.Quieting.{cleared_new}
@@ -57,7 +59,7 @@ twice m j g = λ i v. twice_word m j g v i
 pub zeroing_moved : (t : Plan) (s : Shared) (c : ℕ) (x : Caller) (m : Trail t) (r k g : ℕ) → Zeroing t s c x m r k g → Zeroing t s c (counted_caller x) m r k g
 zeroing_moved t s c x m r k g w = record {
   plan = w.plan;
-  fine = w.fine;
+  shared_holds = w.shared_holds;
   base = base_moved t s c x (one_more x.entry.running.steps) x.entry.counts x.entry.routine w.base;
   walks = walks_moved t s c x (spot_of x.entry.hand) m (one_more x.entry.running.steps) x.entry.counts x.entry.routine w.walks;
   gets = w.gets;
@@ -87,9 +89,9 @@ goes_new t s c k j g one two = record {
 -- a store of 0 at a `new`: the next field's, or the draw and the local code after it
 pub new_stores : (t : Plan) (c : ℕ) (s : Shared) (x : Caller) (m : Trail t) (r k g : ℕ) → Zeroing t s c x m r k g → Stands t x m → instr_in t.target x.entry ≡ Some (Plain (instr.New (Ref r)))
     → (nat_lt (g + 1) t.setting.sizes.fields ≡ false → Drawing t (zeroed s (cradle_of x.entry k) g) c (counted_caller x) m r k g)
-    → KeptNaming t c s x (store s.memory (FieldOf (cradle_of x.entry k) g) 0) (core_zeroed t.target t.setting.sizes k g (counted x.entry)) (named_at (nat_lt (g + 1) t.setting.sizes.fields) (cradle_of x.entry k) s.unused (put s.present (cradle_of x.entry k) 0))
+    → KeptWith t c s x x.names (set_zeroed t.target x.entry x.was_set k (nat_lt (g + 1) t.setting.sizes.fields)) (store s.memory (FieldOf (cradle_of x.entry k) g) 0) (core_zeroed t.target t.setting.sizes k g (counted x.entry)) (named_at (nat_lt (g + 1) t.setting.sizes.fields) (cradle_of x.entry k) s.unused (put s.present (cradle_of x.entry k) 0))
 new_stores t c s x m r k g w st is draw = of (nat_lt (g + 1) t.setting.sizes.fields) refl where
-  last : nat_lt (g + 1) t.setting.sizes.fields ≡ false → KeptNaming t c s x (store s.memory (FieldOf (cradle_of x.entry k) g) 0) (told (Draws (cradle_of x.entry k) ∷ []) (goes_on t.target t.setting.sizes (with_new (Some (Plain (instr.New (Ref r)))) (cradle_of x.entry k) x.entry.hand.registers) (counted x.entry))) (put (put s.present (cradle_of x.entry k) 0) (cradle_of x.entry k) s.unused)
+  last : nat_lt (g + 1) t.setting.sizes.fields ≡ false → KeptWith t c s x x.names (set_onward t.target x.entry (set_by (Some (Plain (instr.New (Ref r)))) x.was_set) (with_new (Some (Plain (instr.New (Ref r)))) (cradle_of x.entry k) x.entry.hand.registers)) (store s.memory (FieldOf (cradle_of x.entry k) g) 0) (told (Draws (cradle_of x.entry k) ∷ []) (goes_on t.target t.setting.sizes (with_new (Some (Plain (instr.New (Ref r)))) (cradle_of x.entry k) x.entry.hand.registers) (counted x.entry))) (put (put s.present (cradle_of x.entry k) 0) (cradle_of x.entry k) s.unused)
   last ends =
       let d = draw ends in
       let j = cradle_of x.entry k in
@@ -98,8 +100,8 @@ new_stores t c s x m r k g w st is draw = of (nat_lt (g + 1) t.setting.sizes.fie
       let y = counted_caller x in
       let own = w.base.cradle k w.held in
       let taken = new_takes t s1 c y m r k g d in
-      let z = took t s1 c s.unused y (behind_new x r j) x.entry.hand.accessed s.unused in
-      let ended = settles_ends t s' c (record (turned y z.source z.watch) { held = z.held }) (behind_new x r j) w.plan taken.1 taken.2 taken.3 in
+      let z = took t s1 c s.unused y (behind_new x r j) x.entry.hand.accessed s.unused (set_by (Some (Plain (instr.New (Ref r)))) x.was_set) in
+      let ended = settles_ends t s' c (record (turned y z.source z.watch) { held = z.held; was_set = z.was_set }) (behind_new x r j) w.plan taken.1 taken.2 taken.3 in
       record {
         s' = s';
         x' = ended.x';
@@ -107,16 +109,18 @@ new_stores t c s x m r k g w st is draw = of (nat_lt (g + 1) t.setting.sizes.fie
         present = refl;
         entry = ended.entry;
         names = ended.names;
+        was_set = ended.was_set;
         plays = plays_first t.text c (Draws (cradle_of x.entry k)) _ (point s x) (point s' z) (point s' ended.x') taken.0 refl ended.plays;
-        fine = taken.1;
-        goes = goes_new t s c k j g (goes_zeroed t s c k j g own) (goes_drawn t s1 c k j g w.plan d.zeroing.fine (draws t s1 c y m r k g d));
-        told = ended.told;
+        shared_holds = taken.1;
+        goes = goes_new t s c k j g (goes_zeroed t s c k j g own) (goes_drawn t s1 c k j g w.plan d.zeroing.shared_holds (draws t s1 c y m r k g d));
+        retires = λ n is. inl is;
+        caller_holds = ended.caller_holds;
       }
 
-  of : (b : Bool) → nat_lt (g + 1) t.setting.sizes.fields ≡ b → KeptNaming t c s x (store s.memory (FieldOf (cradle_of x.entry k) g) 0)
+  of : (b : Bool) → nat_lt (g + 1) t.setting.sizes.fields ≡ b → KeptWith t c s x x.names (set_zeroed t.target x.entry x.was_set k b) (store s.memory (FieldOf (cradle_of x.entry k) g) 0)
       (if b then quiet (record (counted x.entry) { routine = Zeroes k (g + 1) }) else told (Draws (cradle_of x.entry k) ∷ []) (goes_on t.target t.setting.sizes (with_new (instr_in t.target (counted x.entry)) (cradle_of x.entry k) x.entry.hand.registers) (counted x.entry))) (named_at b (cradle_of x.entry k) s.unused (put s.present (cradle_of x.entry k) 0))
   of true more = zero_kept t c s x m r k g w st
-  of false ends = subst (λ (o : Option TargetInstr). KeptNaming t c s x (store s.memory (FieldOf (cradle_of x.entry k) g) 0) (told (Draws (cradle_of x.entry k) ∷ []) (goes_on t.target t.setting.sizes (with_new o (cradle_of x.entry k) x.entry.hand.registers) (counted x.entry))) (put (put s.present (cradle_of x.entry k) 0) (cradle_of x.entry k) s.unused)) (sym is) (last ends)
+  of false ends = subst (λ (o : Option TargetInstr). KeptWith t c s x x.names (set_onward t.target x.entry (set_by o x.was_set) (with_new o (cradle_of x.entry k) x.entry.hand.registers)) (store s.memory (FieldOf (cradle_of x.entry k) g) 0) (told (Draws (cradle_of x.entry k) ∷ []) (goes_on t.target t.setting.sizes (with_new o (cradle_of x.entry k) x.entry.hand.registers) (counted x.entry))) (put (put s.present (cradle_of x.entry k) 0) (cradle_of x.entry k) s.unused)) (sym is) (last ends)
 
 -- ---- the clear before a `new`
 
@@ -127,6 +131,7 @@ new_regarded t s c x m r lt gen w st g = (
   record {
     call = w.call;
     wrapup = w.wrapup;
+    was_set = w.was_set;
     first = w.first;
     number = w.number;
     start = w.start;
@@ -155,7 +160,7 @@ new_regarded t s c x m r lt gen w st g = (
   named k (inr e) = rw e.0 (λ some free. g.named k some free)
 
 pub new_clears : (t : Plan) (c : ℕ) (s : Shared) (x : Caller) (r : ℕ) → SharedHolds t s → Base t s c x → clear_next t.target clears.New x.entry ≡ Some r → (at : AtNew t s c x (spot_of x.entry.hand)) → at.0.walk.method.wrapup ≡ false
-    → KeptBy t c s x (with_names x.names r 0) (store s.memory (Hazard c r) 0) (quiet (then_cleared t.target t.setting.sizes clears.New (counted x.entry)))
+    → KeptBy t c s x (with_names x.names r 0) x.was_set (store s.memory (Hazard c r) 0) (quiet (then_cleared t.target t.setting.sizes clears.New (counted x.entry)))
 new_clears t c s x r f b is at gen =
     let found = clear_some x.entry.hand.guards none_spared r is in
     let y = regarded (counted_caller x) r 0 0 in

@@ -9,7 +9,7 @@ use Rattle.norm_lang.specs.declared.registers.Reference.{Reference}
 use Rattle.norm_lang.specs.Flow.{passed}
 use Rattle.norm_lang.specs.Local.{Spot}
 use Rattle.norm_lang.specs.Registers.{with_reference}
-use Rattle.norm_lang.specs.RegisterUse.{sets}
+use Rattle.norm_lang.specs.RegisterUse.{sets, set_after}
 use Rattle.target_code.specs.declared.target.TargetInstr.TheVariants.{Plain}
 use Rattle.target_code.specs.Erasing.{source_place}
 use Rattle.target_code.specs.Flaws.{GuardState, dropped, guard_after}
@@ -19,14 +19,14 @@ use Rattle.source_machine.specs.declared.event.SourceEvent.TheVariants as events
 use Rattle.source_machine.specs.MethodRuns.{put, with_name}
 use Rattle.source_machine.specs.Proper.{has}
 use Rattle.source_machine.proofs.Places.{put_same, put_other}
-use Rattle.caller_steps.specs.Operands.{cradle_of, is_new_at, news_before}
-use Rattle.caller_steps.specs.declared.routine.Routine.TheVariants.{Zeroes}
-use Rattle.caller_steps.specs.Entries.{one_more}
+use Rattle.caller_steps.specs.Entries.{cradle_of, one_more}
+use Rattle.caller_parts.specs.Operands.{is_new_at, news_before}
+use Rattle.caller_parts.specs.declared.routine.Routine.TheVariants.{Zeroes}
 use Rattle.caller_steps.specs.After.{counted, with_routine}
 use Rattle.run_ahead.specs.Agreeing.{node_in}
 use Rattle.target_laws.specs.Methods.{code_in}
 use Rattle.target_laws.specs.Trusted.{Trusted, Unchecked}
-use Rattle.run_ahead.specs.Ahead.{Told}
+use Rattle.run_ahead.specs.Ahead.{AsTrusted}
 use Rattle.run_ahead.specs.Known.{IsGot, is_set_in}
 use Rattle.target_code.specs.PathStates.{is_fresh_along}
 use Rattle.run_ahead.specs.Standing.{run_from}
@@ -45,6 +45,7 @@ use Rattle.caller_steps.specs.Signs.{quiet}
 use Rattle.sim_relation.specs.Points.{done}
 use Rattle.sim_relation.proofs.Playing.{PlaysEvent}
 use Rattle.sim_relation.specs.Steps.{KeptNaming, moved}
+use Rattle.sim_relation.specs.WasSet.{set_by}
 use Rattle.sim_relation.proofs.Moving.{base_moved, walks_moved, same_names}
 use Rattle.sim_relation.proofs.Names.{null_resident, unprotected}
 use Rattle.sim_walks.proofs.Along.{undone, made_before}
@@ -57,7 +58,7 @@ use Rattle.sim_walks.proofs.Accessing.{Makes, turns, took, stands_took}
 -- what is known where the fields of a cradle's slot are zeroed
 pub record Zeroing (t : Plan) (s : Shared) (c : ℕ) (x : Caller) (m : Trail t) (r k g : ℕ) : Type 0 where
   pub plan : IsPlan t
-  pub fine : SharedHolds t s
+  pub shared_holds : SharedHolds t s
   pub base : Base t s c x
   pub walks : Walks t s c x (spot_of x.entry.hand) m
   pub gets : Gets t s c x m
@@ -69,7 +70,7 @@ pub record Zeroing (t : Plan) (s : Shared) (c : ℕ) (x : Caller) (m : Trail t) 
   pub generator : m.walk.method.wrapup ≡ false
 
 bare : (t : Plan) (s : Shared) (c : ℕ) (x : Caller) (m : Trail t) (r k g : ℕ) → Zeroing t s c x m r k g → (i : ℕ) → s.protects c i ≡ 0
-bare t s c x m r k g w i = unprotected t s c i w.fine (w.base.hazard i ∙ w.empty i)
+bare t s c x m r k g w i = unprotected t s c i w.shared_holds (w.base.hazard i ∙ w.empty i)
 
 -- null, or a name that the run has got: its slot is another
 away : (t : Plan) (s : Shared) (c : ℕ) (x : Caller) (m : Trail t) (r k g n : ℕ) → Zeroing t s c x m r k g → (n ≡ 0) ⊎ (has n x.held.got ≡ true) → Resident t s n → t.home n ≢ cradle_of x.entry k
@@ -94,9 +95,9 @@ fresh_got t s c x m r k g i w = of (is_set_in m.walk.method m.path i) refl where
 pub zeroing_on : (t : Plan) (s : Shared) (c : ℕ) (x : Caller) (m : Trail t) (r k g : ℕ) → Zeroing t s c x m r k g → Zeroing t (zeroed s (cradle_of x.entry k) g) c x m r k (g + 1)
 zeroing_on t s c x m r k g w = record {
   plan = w.plan;
-  fine = fine_zeroed t s c k j g w.plan w.fine (w.base.cradle k w.held) (bare t s c x m r k g w);
+  shared_holds = fine_zeroed t s c k j g w.plan w.shared_holds (w.base.cradle k w.held) (bare t s c x m r k g w);
   base = record { number = b.number; seen = b.seen; old = b.old; hazard = b.hazard; protects = b.protects; cradle = b.cradle; known = λ n got. known n got (b.known n got) };
-  walks = record { call = k'.call; wrapup = k'.wrapup; first = k'.first; number = k'.number; start = k'.start; ahead = k'.ahead; generator = k'.generator; kept = k'.kept; shown = k'.shown; sound = k'.sound };
+  walks = record { call = k'.call; wrapup = k'.wrapup; was_set = k'.was_set; first = k'.first; number = k'.number; start = k'.start; ahead = k'.ahead; generator = k'.generator; kept = k'.kept; shown = k'.shown; sound = k'.sound };
   gets = record {
     got = w.gets.got;
     named = w.gets.named;
@@ -127,7 +128,7 @@ zeroing_on t s c x m r k g w = record {
 
   before : (n : ℕ) → put s.present (cradle_of x.entry k) 0 (t.home n) ≡ n → s.present (t.home n) ≡ n
   before n is = ⊎_elim
-      (λ (e : t.home n ≡ cradle_of x.entry k). null_resident t s n w.plan w.fine (sym is ∙ (ap (put s.present (cradle_of x.entry k) 0) e ∙ put_same s.present (cradle_of x.entry k) 0)))
+      (λ (e : t.home n ≡ cradle_of x.entry k). null_resident t s n w.plan w.shared_holds (sym is ∙ (ap (put s.present (cradle_of x.entry k) 0) e ∙ put_same s.present (cradle_of x.entry k) 0)))
       (λ (ne : t.home n ≢ cradle_of x.entry k). sym (put_other s.present (cradle_of x.entry k) (t.home n) 0 ne) ∙ is)
       (cases_eq (t.home n) (cradle_of x.entry k))
 
@@ -147,10 +148,12 @@ zero_kept t c s x m r k g w st =
       present = refl;
       entry = refl;
       names = same_names x.names false;
+      was_set = refl;
       plays = done _;
-      fine = z.fine;
+      shared_holds = z.shared_holds;
       goes = goes_zeroed t s c k (cradle_of x.entry k) g (w.base.cradle k w.held);
-      told = record {
+      retires = λ n is. inl is;
+      caller_holds = record {
         base = base_moved t (zeroed s (cradle_of x.entry k) g) c x (one_more x.entry.running.steps) x.entry.counts (Zeroes k (g + 1)) z.base;
         spot = (
           w.held,
@@ -184,7 +187,7 @@ draws t s c x m r k g d = record {
   none = d.zeroing.zeros.0 (omega arith);
   home = d.home;
   zeros = λ i ne. ⊎_elim (λ (lt : i < g + 1). d.zeroing.zeros.1 i lt) (λ (le : g + 1 ≤ i). d.beyond i (omega (arith, le))) (cases_lt i (g + 1));
-  typed = new_typed t.text s.unused 0 (Ref r) m.mirror s.source d.zeroing.fine.typed;
+  typed = new_typed t.text s.unused 0 (Ref r) m.mirror s.source d.zeroing.shared_holds.typed;
 }
 
 abbrev pub behind_new : Caller → ℕ → ℕ → Spot
@@ -193,7 +196,7 @@ behind_new x r j = record { at = x.entry.hand.at + 1; registers = with_reference
 pub new_takes : (t : Plan) (s : Shared) (c : ℕ) (x : Caller) (m : Trail t) (r k g : ℕ) → Drawing t s c x m r k g
     → let j = cradle_of x.entry k in
     let s' = drawn t s j g in
-    let y = took t s c s.unused x (behind_new x r j) x.entry.hand.accessed s.unused in
+    let y = took t s c s.unused x (behind_new x r j) x.entry.hand.accessed s.unused (set_by (Some (Plain (instr.New (Ref r)))) x.was_set) in
     PlaysEvent t.text (events.Access c s.unused) s.source x.source x.watch s'.source y.source y.watch × SharedHolds t s' × Base t s' c y × Running t s' c y (behind_new x r j)
 new_takes t s c x m r k g d =
     let z = d.zeroing in
@@ -208,9 +211,9 @@ new_takes t s c x m r k g d =
     let named : Reference = record { node = name; marked = false } in
     let next = behind_new x r j in
     let mirror' = with_reference m.mirror (Ref r) named in
-    let changes = reference_changes t.home (Told (Calm s c x) Unchecked) x.entry.hand.registers m.mirror r there named z.walks.ahead.sized (λ q same now. put_stands t.home x.entry.hand.registers m.mirror r there named z.walks.ahead.sized z.plan.null (sym d.home, refl) q same) in
-    let unknown = (z.fine.unused s.unused (omega arith)).2 in
-    let some = z.fine.unused_some in
+    let changes = reference_changes t.home (AsTrusted (Calm s c x) Unchecked) x.entry.hand.registers m.mirror r there named z.walks.ahead.sized (λ q same now. put_stands t.home x.entry.hand.registers m.mirror r there named z.walks.ahead.sized z.plan.null (sym d.home, refl) q same) in
+    let unknown = (z.shared_holds.unused s.unused (omega arith)).2 in
+    let some = z.shared_holds.unused_some in
     let made : Makes t s c name x m i name next mirror' = record {
       here = z.here;
       access = refl;
@@ -222,9 +225,9 @@ new_takes t s c x m r k g d =
     } in
     let turn = turns t s c name x m i name next mirror' z.plan z.walks d.stands made in
     let there' : Spot = run_from method.op method.wrapup (record { at = place next.at; registers = mirror' }) in
-    let y = took t s c name x next x.entry.hand.accessed name in (
+    let y = took t s c name x next x.entry.hand.accessed name (set_by (Some (Plain i)) x.was_set) in (
       (turn.enabled, (sym turn.memory, refl, sym turn.watch)),
-      fine_drawn t s c k j g z.plan z.fine (draws t s c x m r k g d),
+      fine_drawn t s c k j g z.plan z.shared_holds (draws t s c x m r k g d),
       record {
         number = z.base.number;
         seen = z.base.seen;
@@ -239,6 +242,7 @@ new_takes t s c x m r k g d =
         record {
           call = z.walks.call;
           wrapup = z.walks.wrapup;
+          was_set = λ q. ap (λ (b : Bool). passed (over_plain (set_after (Ref q))) (Some (Plain i)) b) (z.walks.was_set q) ∙ ap (λ o. passed (over_plain (set_after (Ref q))) o (is_set_in method m.path q)) (sym z.here);
           first = z.walks.first;
           number = z.walks.number;
           start = z.walks.start;
@@ -254,7 +258,7 @@ new_takes t s c x m r k g d =
         },
         stands_took t s c name x m i next mirror' x.entry.hand.accessed name (λ wrap. absurd (let never : true ≡ false = sym wrap ∙ z.generator in cc)) turn,
         record {
-          got = plain_got method t.home (Told (Calm s c x) Unchecked) m.path at i name x.entry.hand.registers m.mirror next.registers mirror' m.walk.started x.held.got (with_name name x.held.got) z.here changes (λ q set. got_new s.unused x.held.got) (λ q. got_kept q s.unused x.held.got) z.gets.got;
+          got = plain_got method t.home (AsTrusted (Calm s c x) Unchecked) m.path at i name x.entry.hand.registers m.mirror next.registers mirror' m.walk.started x.held.got (with_name name x.held.got) z.here changes (λ q set. got_new s.unused x.held.got) (λ q. got_kept q s.unused x.held.got) z.gets.got;
           named = λ q full free. has_kept (x.names.name q) s.unused x.held.got (z.gets.named q full free);
           shown = λ gen q shut. by_shown gen q (sets (Ref q) i) refl (changes.leaves q) (subst (λ o. passed (over_plain (fresh_after (Ref q))) o (is_fresh_along (code_in method) m.path (Ref q)) ≡ false) z.here shut);
           fresh = λ gen q fresh. by_fresh gen q (sets (Ref q) i) refl (changes.leaves q) (subst (λ o. passed (over_plain (fresh_after (Ref q))) o (is_fresh_along (code_in method) m.path (Ref q)) ≡ true) z.here fresh);

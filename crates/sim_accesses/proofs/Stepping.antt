@@ -8,9 +8,9 @@ use Rattle.target_code.specs.declared.target.TargetInstr.TheVariants.{Plain}
 use Rattle.oa_words.specs.Words.{Word}
 use Rattle.phase_pools.specs.Accesses.{Loads, WordAccess, word_of}
 use Rattle.source_machine.specs.Proper.{has}
-use Rattle.caller_steps.specs.declared.routine.Routine.{Routine}
-use Rattle.caller_steps.specs.declared.routine.Routine.TheVariants.{At}
-use Rattle.caller_steps.specs.Operands.{instr_in}
+use Rattle.caller_parts.specs.declared.routine.Routine.{Routine}
+use Rattle.caller_parts.specs.declared.routine.Routine.TheVariants.{At}
+use Rattle.caller_steps.specs.Entries.{instr_in}
 use Rattle.caller_steps.specs.Wants.{plain_wanted}
 use Rattle.caller_steps.specs.After.{counted, plain_accepted}
 use Rattle.target_laws.specs.Methods.{code_in}
@@ -20,7 +20,8 @@ use Rattle.sim_relation.specs.Shared.{SharedHolds}
 use Rattle.sim_relation.specs.Callers.{Tied, CallerHolds, HoldsAt, Running, spot_of}
 use Rattle.sim_relation.specs.Allowing.{IsProperFor}
 use Rattle.sim_relation.specs.Points.{StaysProper, IsProperPoint, point, done}
-use Rattle.sim_relation.specs.Steps.{Kept, after_access}
+use Rattle.sim_relation.specs.Steps.{KeptSetting, after_access}
+use Rattle.sim_relation.specs.WasSet.{set_plain}
 use Rattle.sim_relation.proofs.Codes.{instr_is}
 use Rattle.sim_accesses.proofs.Loads.{LooksAt, load_kept}
 use Rattle.sim_accesses.proofs.Puts.{put_kept}
@@ -35,15 +36,15 @@ proper_here t c s x stays (inr (ended, none)) n other got reaches = absurd (let 
 -- the caller stands before a plain instruction of its method
 pub record AtPlain (t : Plan) (c : ℕ) (s : Shared) (x : Caller) (i : Instr) : Type 0 where
   pub plan : IsPlan t
-  pub fine : SharedHolds t s
-  pub told : CallerHolds t s c x
+  pub shared_holds : SharedHolds t s
+  pub caller_holds : CallerHolds t s c x
   pub below : c < t.setting.sizes.callers
   pub at : x.entry.routine ≡ At
   pub here : instr_in t.target x.entry ≡ Some (Plain i)
   pub proper : StaysProper t.text c (point s x)
 
 pub running_at : (t : Plan) (c : ℕ) (s : Shared) (x : Caller) (i : Instr) → AtPlain t c s x i → Running t s c x (spot_of x.entry.hand)
-running_at t c s x i w = subst (λ (r : Routine). HoldsAt t s c x r) w.at w.told.spot
+running_at t c s x i w = subst (λ (r : Routine). HoldsAt t s c x r) w.at w.caller_holds.spot
 
 pub code_at : (t : Plan) (c : ℕ) (s : Shared) (x : Caller) (i : Instr) (w : AtPlain t c s x i) → slice_get (code_in (running_at t c s x i w).0.walk.method) x.entry.hand.at ≡ Some (Plain i)
 code_at t c s x i w = let r = running_at t c s x i w in sym (instr_is t s c x (spot_of x.entry.hand) r.0 r.1) ∙ w.here
@@ -51,12 +52,12 @@ code_at t c s x i w = let r = running_at t c s x i w in sym (instr_is t s c x (s
 -- the step of the core at a plain instruction, by the access that it makes
 abbrev pub PlainKept : (t : Plan) (c : ℕ) (s : Shared) (x : Caller) → Instr → Option WordAccess → Type 0
 PlainKept t c s x i None = Unit {0}
-PlainKept t c s x i (Some a) = Kept t c s x (after_access s.memory a) (plain_accepted t.target t.setting.sizes i (s.memory (word_of a)) (counted x.entry))
+PlainKept t c s x i (Some a) = KeptSetting t c s x (set_plain t.target i (s.memory (word_of a)) x.entry x.was_set) (after_access s.memory a) (plain_accepted t.target t.setting.sizes i (s.memory (word_of a)) (counted x.entry))
 
 pub put_step : (t : Plan) (c : ℕ) (s : Shared) (x : Caller) (a b : Reg) (f : ℕ) → AtPlain t c s x (instr.Put a f b) → PlainKept t c s x (instr.Put a f b) (plain_wanted (instr.Put a f b) x.entry.hand.registers)
-put_step t c s x a b f w = put_kept t c s x a f b w.plan w.fine w.told.base (running_at t c s x (instr.Put a f b) w) (code_at t c s x (instr.Put a f b) w)
+put_step t c s x a b f w = put_kept t c s x a f b w.plan w.shared_holds w.caller_holds.base (running_at t c s x (instr.Put a f b) w) (code_at t c s x (instr.Put a f b) w)
 
 pub load_at : (t : Plan) (c : ℕ) (s : Shared) (x : Caller) (i : Instr) (d : Reg) (word : Word) → AtPlain t c s x i → loads_into i ≡ Some d → LooksAt i x.entry.hand.registers word → PlainKept t c s x i (Some (Loads word))
 load_at t c s x i d word w loads looks =
     let r = running_at t c s x i w in
-    load_kept t c s x i d word w.plan w.fine w.told.base r w.below (proper_here t c s x w.proper r.2.tied) (code_at t c s x i w) loads looks
+    load_kept t c s x i d word w.plan w.shared_holds w.caller_holds.base r w.below (proper_here t c s x w.proper r.2.tied) (code_at t c s x i w) loads looks

@@ -1,5 +1,6 @@
 -- An auxiliary exchange of a caller that belongs.
-use Rattle.std.proofs.Common.{ℕ, zero, suc, ◌≡◌, ◌≢◌, ◌==◌, ◌+◌, ◌∙◌, ◌||◌, not, Bool, true, false, [], ◌∷◌, Option, Some, None, arith, inl, inr, sym, ap, subst, refl, if◌then◌else◌}
+use Rattle.std.proofs.Common.{ℕ, zero, suc, ◌≡◌, ◌≢◌, ◌==◌, ◌+◌, ◌∙◌, ◌||◌, not, Bool, true, false, [], ◌∷◌, Option, Some, None, arith, inl, inr, sym, ap, subst, refl, if◌then◌else◌, ⊎_elim}
+use Rattle.source_machine.proofs.Names.{has_last}
 use Rattle.std.specs.Prelude.{slice_get, IsTrue, is_some}
 use Rattle.std.specs.List.{list_any}
 use Rattle.std.proofs.lemmas.Bool.{or_parts}
@@ -20,7 +21,7 @@ use Rattle.source_machine.specs.Memory.{value_in, exchange, auxiliary, with_name
 use Rattle.source_machine.specs.Proper.{has, IsOnce}
 use Rattle.source_machine.proofs.Places.{put_same, put_other}
 use Rattle.caller_steps.specs.Wants.{exchange_wanted, plain_wanted}
-use Rattle.caller_steps.specs.After.{succeeds, to_retire}
+use Rattle.caller_parts.specs.Operands.{succeeds, to_retire}
 use Rattle.caller_steps.specs.Signs.{Accesses}
 use Rattle.target_laws.specs.Methods.{code_in}
 use Rattle.target_laws.proofs.Entries.{reads_entry}
@@ -123,18 +124,18 @@ is_done t s c x m entry l after w some =
     let right : has_wrong_operand t.text.fields t.text.roots entry ≡ false = kind_right m.walk.method r.plan.compiled x.entry.hand.at (instr.Cas entry l) r.here in
     let kind = register_for (place_kind t.text.fields t.text.roots entry.place) entry.expected (or_parts (is_unlike (place_kind t.text.fields t.text.roots entry.place) entry.expected) _ (or_parts (has_wrong_object entry.place) _ right).1).0 in
     let after_made = makes_after t s m.mirror entry after some in
-    let there = place_there t s c (spared t m.walk) x.entry.hand.registers m.mirror entry.place kind.0 after_made.found r.fine w.offers.place kind.1 after_made.finds in
-    let typed : IsTyped t.text after = exchange_typed t.text entry m.mirror s.source after right some r.fine.typed in
-    let succeeded : succeeds entry x.entry.hand.registers (s.memory (word_of (exchange_wanted entry x.entry.hand.registers))) ≡ true = tests_agree t s c (spared t m.walk) x.entry.hand.registers m.mirror entry r.plan r.fine w.offers ∙ ap is_some some in
+    let there = place_there t s c (spared t m.walk) x.entry.hand.registers m.mirror entry.place kind.0 after_made.found r.shared_holds w.offers.place kind.1 after_made.finds in
+    let typed : IsTyped t.text after = exchange_typed t.text entry m.mirror s.source after right some r.shared_holds.typed in
+    let succeeded : succeeds entry x.entry.hand.registers (s.memory (word_of (exchange_wanted entry x.entry.hand.registers))) ≡ true = tests_agree t s c (spared t m.walk) x.entry.hand.registers m.mirror entry r.plan r.shared_holds w.offers ∙ ap is_some some in
     record {
       tries = w;
       makes = some;
       after_is = after_made.after_is;
       typed = typed;
-      writes = place_writes t s c (spared t m.walk) m.mirror entry.place v r.plan r.fine there (under_resident t s c (spared t m.walk) (name_of v) r.plan r.fine w.offers.new)
+      writes = place_writes t s c (spared t m.walk) m.mirror entry.place v r.plan r.shared_holds there (under_resident t s c (spared t m.walk) (name_of v) r.plan r.shared_holds w.offers.new)
           (value_shown t s c x m entry l entry.replacement r (replacement_at entry.place entry))
           (typed_before t (to_drop entry.retire m.mirror) (placed t s m.mirror entry.place v).source (subst (λ (memory : Memory). IsTyped t.text memory) after_made.after_is typed));
-      drops = drops t s c (spared t m.walk) x.entry.hand.registers m.mirror entry after_made.found r.plan r.fine w.offers after_made.finds after_made.same
+      drops = drops t s c (spared t m.walk) x.entry.hand.registers m.mirror entry after_made.found r.plan r.shared_holds w.offers after_made.finds after_made.same
           (λ q f is. operand_shown t s c x m entry l q r (object_is (Ref q) f entry is))
           (instructions_are_in_form t.target t.text r.plan.compiled.normal r.plan.compiled.barred.erases m.walk.method x.entry.hand.at (instr.Cas entry l) r.here).retired;
       memory = words_written t s c (spared t m.walk) x.entry.hand.registers m.mirror entry w.offers succeeded;
@@ -163,11 +164,12 @@ leaves t s c x m entry l after d none = record {
   guards = d.tries.guards;
   offers = d.tries.offers;
   makes = d.makes ∙ ap Some (d.after_is ∙ ap (λ (n : ℕ). with_name_retired n (placed t s m.mirror entry.place (value_in m.mirror entry.replacement)).source) none);
-  fine = d.writes.fine;
+  shared_holds = d.writes.shared_holds;
   goes = d.writes.goes;
   keeps = keeps_placed t s c x m entry l after d;
   unused = refl;
   memory = sym d.memory;
+  retires = λ i is. inl is;
 }
 
 -- it retires a name
@@ -179,7 +181,7 @@ record Retired (t : Plan) (s : Shared) (c : ℕ) (x : Caller) (m : Trail t) (ent
 
 retires : (t : Plan) (s : Shared) (c : ℕ) (x : Caller) (m : Trail t) (entry : CasEntry) (l n : ℕ) (after : Memory) → Done t s c x m entry l after → to_drop entry.retire m.mirror ≡ suc n → Retired t s c x m entry l n
 retires t s c x m entry l n after d is =
-    let f = d.tries.reads.fine in
+    let f = d.tries.reads.shared_holds in
     let s1 = placed t s m.mirror entry.place (value_in m.mirror entry.replacement) in
     let e : ℕ = suc n in
     let some : suc n ≢ 0 = λ z. (let no : ⊥ = omega (arith, z) in no) in
@@ -187,7 +189,7 @@ retires t s c x m entry l n after d is =
     let here : Resident t s (suc n) = subst (λ (i : ℕ). Resident t s i) is d.drops.here in
     let public : s.public (suc n) ≡ true = public_of (subst (λ (i : ℕ). Shown s i) is d.drops.shown) in
     let live : has (suc n) s.source.retired ≡ false = once_new s.source.retired (suc n) (subst IsOnce (ap (λ (memory : Memory). memory.retired) after_is) d.once) in
-    let alive : s1.owner (t.home (suc n)) ≡ Living = living t s1 (suc n) d.writes.fine here some public live in
+    let alive : s1.owner (t.home (suc n)) ≡ Living = living t s1 (suc n) d.writes.shared_holds here some public live in
     let typed : IsTyped t.text (dropped t s1 c (suc n)).source = subst (λ (memory : Memory). IsTyped t.text memory) after_is d.typed in
     let k = keeps_placed t s c x m entry l after d in
     record {
@@ -200,10 +202,12 @@ retires t s c x m entry l n after d is =
         guards = d.tries.guards;
         offers = d.tries.offers;
         makes = d.makes ∙ ap Some after_is;
-        fine = fine_dropped t s1 c (suc n) d.writes.fine some here alive public typed;
+        shared_holds = fine_dropped t s1 c (suc n) d.writes.shared_holds some here alive public typed;
         goes = goes_compose t c s s1 (dropped t s1 c (suc n)) d.writes.goes (goes_dropped t s1 c (suc n) alive) d.writes.links (λ r. refl);
         unused = refl;
         memory = sym d.memory;
+        retires = λ i new. ⊎_elim (λ (was : has i s.source.retired ≡ true). inl was)
+            (λ (now : i ≡ suc n). inr (d.drops.slot ∙ (ap t.home is ∙ ap t.home (sym now)), (λ z. has_slot_of t s (suc n) f here some (ap t.home (sym now) ∙ z)))) (has_last i (suc n) s.source.retired new);
         keeps = record {
           warning = k.warning;
           hazard = k.hazard;
@@ -242,8 +246,8 @@ cas_step t c s x entry l w = by_result (exchange entry m.mirror s.source) refl w
   offered : Offers t s c (spared t run.0.walk) x.entry.hand.registers run.0.mirror entry
   offered = offers t s c x run.0 (instr.Cas entry l) 0 entry (record {
     plan = w.plan;
-    fine = w.fine;
-    base = w.told.base;
+    shared_holds = w.shared_holds;
+    base = w.caller_holds.base;
     walks = run.1;
     guards = run.4;
     here = here;
@@ -255,7 +259,7 @@ cas_step t c s x entry l w = by_result (exchange entry m.mirror s.source) refl w
 
   tries : Tries t s c x run.0 entry l
   tries = record {
-    reads = record { plan = w.plan; fine = w.fine; base = w.told.base; walks = run.1; gets = run.3; here = here };
+    reads = record { plan = w.plan; shared_holds = w.shared_holds; base = w.caller_holds.base; walks = run.1; gets = run.3; here = here };
     stands = run.2;
     guards = run.4;
     offers = offered;
@@ -272,7 +276,7 @@ cas_step t c s x entry l w = by_result (exchange entry m.mirror s.source) refl w
   by_drop after d (suc n) is = by_slot after n (retires t s c x run.0 entry l n after d is) (t.home (suc n)) refl
 
   by_result : (o : Option Memory) → exchange entry run.0.mirror s.source ≡ o → PlainKept t c s x (instr.Cas entry l) (plain_wanted (instr.Cas entry l) x.entry.hand.registers)
-  by_result None none = failure_kept t c s x entry l w.plan w.fine w.told.base run here offered none
+  by_result None none = failure_kept t c s x entry l w.plan w.shared_holds w.caller_holds.base run here offered none
   by_result (Some after) some = by_drop after (is_done t s c x run.0 entry l after tries some) (to_drop entry.retire run.0.mirror) refl
 
 -- each plain instruction with an access of its own

@@ -14,10 +14,11 @@ use Rattle.target_code.specs.declared.target.TargetInstr.TheVariants.{Plain}
 use Rattle.oa_words.specs.Words.{Word, FieldOf, in_row}
 use Rattle.core_runs.specs.Memories.{store}
 use Rattle.source_machine.specs.MethodRuns.{put}
-use Rattle.caller_steps.specs.declared.routine.Routine.{Routine}
-use Rattle.caller_steps.specs.declared.routine.Routine.TheVariants.{Zeroes}
+use Rattle.caller_parts.specs.declared.routine.Routine.{Routine}
+use Rattle.caller_parts.specs.declared.routine.Routine.TheVariants.{Zeroes}
 use Rattle.caller_steps.specs.Belongs.{Belongs, Stands as CoreStands}
-use Rattle.caller_steps.specs.Operands.{cradle_of, instr_in, news_before}
+use Rattle.caller_steps.specs.Entries.{cradle_of, instr_in}
+use Rattle.caller_parts.specs.Operands.{news_before}
 use Rattle.caller_steps.specs.After.{counted, node_made, zeroed as core_zeroed}
 use Rattle.caller_steps.specs.Signs.{quiet}
 use Rattle.run_ahead.specs.Agreeing.{node_in}
@@ -27,7 +28,8 @@ use Rattle.sim_relation.specs.Shared.{SharedHolds}
 use Rattle.sim_relation.specs.Callers.{CallerHolds, HoldsAt, Walks, Trail, spot_of}
 use Rattle.sim_relation.specs.Points.{DrawsHome}
 use Rattle.sim_relation.specs.Naming.{emptied_at, named_at}
-use Rattle.sim_relation.specs.Steps.{KeptNaming}
+use Rattle.sim_relation.specs.Steps.{KeptWith}
+use Rattle.sim_relation.specs.WasSet.{set_zeroed}
 use Rattle.sim_relation.proofs.Codes.{code_is, instr_is, new_there}
 use Rattle.sim_walks.proofs.Quieting.{sane_here}
 use Rattle.sim_guards.proofs.Unguarding.{counted_caller}
@@ -37,8 +39,8 @@ use Rattle.sim_accesses.proofs.Newing.{zeroing_moved, new_stores}
 -- the caller stores 0 to a field of a cradle's slot
 pub record AtZeroes (t : Plan) (c : ℕ) (s : Shared) (x : Caller) (k field : ℕ) : Type 0 where
   pub plan : IsPlan t
-  pub fine : SharedHolds t s
-  pub told : CallerHolds t s c x
+  pub shared_holds : SharedHolds t s
+  pub caller_holds : CallerHolds t s c x
   pub belongs : Belongs t.target t.setting x.entry
   pub at : x.entry.routine ≡ Zeroes k field
   -- no word past the row holds anything
@@ -73,13 +75,13 @@ none_before present j (suc field) none = λ i l. at l (eqb_tells l j) i where
   at l (inr e) = rw e.0 refl
 
 pub zero_step : (t : Plan) (c : ℕ) (s : Shared) (x : Caller) (k field : ℕ) → AtZeroes t c s x k field
-    → KeptNaming t c s x (store s.memory (FieldOf (cradle_of x.entry k) field) 0) (core_zeroed t.target t.setting.sizes k field (counted x.entry))
+    → KeptWith t c s x x.names (set_zeroed t.target x.entry x.was_set k (nat_lt (field + 1) t.setting.sizes.fields)) (store s.memory (FieldOf (cradle_of x.entry k) field) 0) (core_zeroed t.target t.setting.sizes k field (counted x.entry))
     (named_at (nat_lt (field + 1) t.setting.sizes.fields) (cradle_of x.entry k) s.unused (emptied_at field (cradle_of x.entry k) s.present))
 zero_step t c s x k field w =
-    let spot : HoldsAt t s c x (Zeroes k field) = subst (λ (r : Routine). HoldsAt t s c x r) w.at w.told.spot in
+    let spot : HoldsAt t s c x (Zeroes k field) = subst (λ (r : Routine). HoldsAt t s c x r) w.at w.caller_holds.spot in
     let stands : CoreStands t.target t.setting x.entry (Zeroes k field) = subst (λ (r : Routine). CoreStands t.target t.setting x.entry r) w.at w.belongs.stands in
     let there = new_there (instr_in t.target x.entry) stands.0 in
-    subst (λ (present : ℕ → ℕ). KeptNaming t c s x (store s.memory (FieldOf (cradle_of x.entry k) field) 0) (core_zeroed t.target t.setting.sizes k field (counted x.entry)) (named_at (nat_lt (field + 1) t.setting.sizes.fields) (cradle_of x.entry k) s.unused present))
+    subst (λ (present : ℕ → ℕ). KeptWith t c s x x.names (set_zeroed t.target x.entry x.was_set k (nat_lt (field + 1) t.setting.sizes.fields)) (store s.memory (FieldOf (cradle_of x.entry k) field) 0) (core_zeroed t.target t.setting.sizes k field (counted x.entry)) (named_at (nat_lt (field + 1) t.setting.sizes.fields) (cradle_of x.entry k) s.unused present))
     (none_before s.present (cradle_of x.entry k) field spot.1.0) (by_register there.0 there.1 spot stands)
   where
     draws_home : (b : Bool) → b ≡ false → DrawsHome t.home (if b then quiet (record (counted x.entry) { routine = Zeroes k (field + 1) }) else node_made t.target t.setting.sizes (cradle_of x.entry k) (counted x.entry)).signs s.unused → t.home s.unused ≡ cradle_of x.entry k
@@ -87,7 +89,7 @@ zero_step t c s x k field w =
     draws_home false is home = home.0
 
     by_register : (d : Reg) → instr_in t.target x.entry ≡ Some (Plain (instr.New d)) → HoldsAt t s c x (Zeroes k field) → CoreStands t.target t.setting x.entry (Zeroes k field)
-        → KeptNaming t c s x (store s.memory (FieldOf (cradle_of x.entry k) field) 0) (core_zeroed t.target t.setting.sizes k field (counted x.entry))
+        → KeptWith t c s x x.names (set_zeroed t.target x.entry x.was_set k (nat_lt (field + 1) t.setting.sizes.fields)) (store s.memory (FieldOf (cradle_of x.entry k) field) 0) (core_zeroed t.target t.setting.sizes k field (counted x.entry))
         (named_at (nat_lt (field + 1) t.setting.sizes.fields) (cradle_of x.entry k) s.unused (put s.present (cradle_of x.entry k) 0))
     by_register (Num r) is spot stands =
         let at = spot.2 in
@@ -102,8 +104,8 @@ zero_step t c s x k field w =
         let less : r < 8 = (let limit : nat_lt r 8 ≡ true = sane.limits in grind (arith, nat_tests, limit)) in
         let zeroing : Zeroing t s c x m r k field = record {
           plan = w.plan;
-          fine = w.fine;
-          base = w.told.base;
+          shared_holds = w.shared_holds;
+          base = w.caller_holds.base;
           walks = walks;
           gets = at.3;
           held = spot.0;

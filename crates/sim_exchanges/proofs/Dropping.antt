@@ -1,6 +1,6 @@
 -- What an exchange retires: what it expects, or its object, of which both are under guards.
-use Rattle.std.proofs.Common.{ℕ, zero, suc, ◌≡◌, ◌≢◌, ◌==◌, ◌⊎◌, ◌∙◌, ◌||◌, not, Bool, true, false, Option, Some, None, arith, inl, inr, sym, ap, subst, refl}
-use Rattle.std.proofs.lemmas.Bool.{or_parts, or_cases}
+use Rattle.std.proofs.Common.{ℕ, ◌≡◌, ◌==◌, ◌∙◌, ◌||◌, not, Bool, true, false, Option, Some, None, arith, inl, inr, sym, ap, subst, refl}
+use Rattle.std.proofs.lemmas.Bool.{or_cases}
 use Rattle.std.proofs.lemmas.Bool.Decides.{nat_tests}
 use Rattle.norm_lang.specs.declared.text.Reg.{Reg}
 use Rattle.norm_lang.specs.declared.text.Reg.TheVariants.{Num, Ref}
@@ -13,13 +13,13 @@ use Rattle.norm_lang.specs.RegisterUse.{same_register}
 use Rattle.source_machine.specs.declared.state.Value.{Value}
 use Rattle.source_machine.specs.Memory.{value_in, found_at}
 use Rattle.source_machine.specs.Proper.{has}
-use Rattle.caller_steps.specs.After.{to_retire}
+use Rattle.caller_parts.specs.Operands.{to_retire}
 use Rattle.run_ahead.specs.Agreeing.{Agree, node_in}
-use Rattle.sim_relation.specs.Views.{Plan, IsPlan, Shared, Retiring, name_of, Resident}
+use Rattle.sim_relation.specs.Views.{Plan, IsPlan, Shared, name_of, Resident}
 use Rattle.sim_relation.specs.Shared.{SharedHolds}
 use Rattle.sim_relation.specs.Callers.{Shown}
 use Rattle.sim_relation.proofs.Names.{null_resident}
-use Rattle.sim_exchanges.proofs.Exchanging.{IsUnder, under_resident, PlaceUnder, Offers}
+use Rattle.sim_exchanges.proofs.Exchanging.{under_resident, PlaceUnder, Offers}
 use Rattle.sim_exchanges.proofs.Placing.{to_drop, found_shown}
 
 -- the name that an exchange retires, null if none: the core's slot is its home, and it is resident, and null or published

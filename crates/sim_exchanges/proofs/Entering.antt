@@ -1,10 +1,9 @@
 -- An exchange of the list that succeeds.
-use Rattle.std.proofs.Common.{ℕ, ◌≡◌, ◌≢◌, ◌==◌, ◌+◌, ◌≤◌, ◌⊎◌, ◌∙◌, Bool, true, false, List, [], ◌∷◌, ◌++◌, length, Option, Some, None, arith, inl, inr, ⊎_elim, sym, ap, subst, refl, if◌then◌else◌}
+use Rattle.std.proofs.Common.{ℕ, ◌≡◌, ◌≢◌, ◌==◌, ◌+◌, ◌≤◌, ◌⊎◌, ◌∙◌, Bool, true, false, List, length, Some, arith, inl, inr, ⊎_elim, sym, ap, subst, refl, if◌then◌else◌}
 use Rattle.std.specs.Prelude.{slice_get, slice_index, nat_lt}
 use Rattle.std.proofs.lemmas.Bool.Decides.{nat_tests, eqb_tells}
 use Rattle.norm_lang.specs.declared.text.CasEntry.{CasEntry}
 use Rattle.oa_words.specs.Words.{Word, Warning, Hazard}
-use Rattle.phase_pools.specs.Pools.{retire_begun}
 use Rattle.source_machine.specs.declared.event.SourceEvent.TheVariants as events
 use Rattle.source_machine.specs.declared.state.Value.{Value}
 use Rattle.source_machine.specs.declared.state.NamedNode.{NamedNode}
@@ -13,31 +12,26 @@ use Rattle.source_machine.specs.Run.{is_enabled_for}
 use Rattle.source_machine.specs.Memory.{exchange}
 use Rattle.source_machine.specs.MethodRuns.{put, run_begun, run_after}
 use Rattle.source_machine.specs.Proper.{has}
-use Rattle.source_machine.proofs.Places.{put_same, put_other}
-use Rattle.caller_steps.specs.declared.routine.AfterRetire.TheVariants as onward
-use Rattle.caller_steps.specs.declared.routine.Routine.{Routine}
-use Rattle.caller_steps.specs.Entries.{one_more}
-use Rattle.caller_steps.specs.Operands.{instr_in, list_of}
+use Rattle.source_machine.proofs.Places.{put_other}
+use Rattle.caller_parts.specs.declared.routine.Routine.{Routine}
+use Rattle.caller_steps.specs.Entries.{one_more, instr_in}
+use Rattle.caller_parts.specs.Operands.{list_of}
 use Rattle.run_ahead.specs.Standing.{wrap_up_after, stands_in_list}
-use Rattle.run_ahead.specs.Typed.{IsTyped}
 use Rattle.run_ahead.proofs.Quiet.{less_calm}
 use Rattle.run_ahead.specs.MethodLaws.{Turns}
 use Rattle.run_ahead.proofs.Lists.{lists_are_made}
 use Rattle.target_code.specs.Erasing.{source_place}
 use Rattle.target_laws.specs.Methods.{code_in}
-use Rattle.caller_steps.specs.Signs.{Accesses, quiet, told}
-use Rattle.sim_relation.specs.Points.{point}
 use Rattle.sim_relation.proofs.Playing.{PlaysEvent}
 use Rattle.run_ahead.specs.Agreeing.{node_in}
 use Rattle.sim_relation.specs.Views.{Plan, IsPlan, Owner, Null, Pool, Held, Living, Retiring, Dead, Shared, Caller, link, Resident, Apart}
 use Rattle.sim_relation.specs.Shared.{SharedHolds}
 use Rattle.sim_relation.specs.Callers.{Shown, CommitsShown, Calm, Base, Trail, Walks, Guards, AfterExchange, spot_of}
 use Rattle.sim_relation.specs.MayChange.{MayChange}
-use Rattle.sim_relation.specs.Steps.{Kept, moved, cradled}
+use Rattle.sim_relation.specs.Steps.{moved, cradled}
 use Rattle.sim_relation.proofs.Names.{residents_apart, slot_by, own_private}
-use Rattle.sim_pools.proofs.Slots.{apart}
 use Rattle.sim_relation.proofs.Moving.{goes_same}
-use Rattle.sim_exchanges.proofs.Writing.{goes_compose, publish, published, fine_published, goes_published, dropped, fine_dropped, goes_dropped}
+use Rattle.sim_exchanges.proofs.Writing.{publish, published, fine_published, goes_published}
 
 -- a name other than null is published
 abbrev pub published_if : Plan → Shared → ℕ → Shared
@@ -48,7 +42,7 @@ abbrev pub written : Shared → (Word → ℕ) → List NamedNode → List Value
 written s memory nodes roots = record s { memory = memory; source = record s.source { nodes = nodes; roots = roots } }
 
 pub record Writes (t : Plan) (c : ℕ) (s : Shared) (memory : Word → ℕ) (nodes : List NamedNode) (roots : List Value) : Type 0 where
-  pub fine : SharedHolds t (written s memory nodes roots)
+  pub shared_holds : SharedHolds t (written s memory nodes roots)
   pub goes : MayChange t c s (written s memory nodes roots)
   pub links : (n g : ℕ) → (link (written s memory nodes roots) n g ≡ link s n g) ⊎ Resident t s (link (written s memory nodes roots) n g)
   pub hazard : (d r : ℕ) → memory (Hazard d r) ≡ s.memory (Hazard d r)
@@ -102,7 +96,7 @@ owner_still t s n j away = ⊎_elim
 
 -- what an exchange that publishes a name leaves of what the caller knows
 pub record Passes (t : Plan) (c : ℕ) (s s' : Shared) (n : ℕ) : Type 0 where
-  pub fine : SharedHolds t s'
+  pub shared_holds : SharedHolds t s'
   pub goes : MayChange t c s s'
   pub warning : s'.memory (Warning c) ≡ s.memory (Warning c)
   pub hazard : (r : ℕ) → s'.memory (Hazard c r) ≡ s.memory (Hazard c r)
@@ -115,7 +109,7 @@ pub record Passes (t : Plan) (c : ℕ) (s s' : Shared) (n : ℕ) : Type 0 where
 -- the exchange of an entry that succeeds in both machines
 pub record Enters (t : Plan) (s s' : Shared) (c : ℕ) (x : Caller) (m : Trail t) (k n : ℕ) (entry : CasEntry) (cradles : List ℕ) : Type 0 where
   pub plan : IsPlan t
-  pub fine : SharedHolds t s
+  pub shared_holds : SharedHolds t s
   pub base : Base t s c x
   pub walks : Walks t s c x (spot_of x.entry.hand) m
   pub guards : Guards t x m
@@ -178,7 +172,7 @@ enters t s s' c x m k n entry cradles routine w = (
   base' : Base t s' c (entered t c s s' x cradles routine)
   base' = record {
     number = w.base.number;
-    old = λ i p is lt. w.passes.fine.tagged i p is;
+    old = λ i p is lt. w.passes.shared_holds.tagged i p is;
     protects = λ r. w.passes.protects r ∙ w.base.protects r;
     seen = subst (λ (i : ℕ). x.entry.hand.seen ≤ i) (sym w.passes.warning) w.base.seen;
     hazard = λ r. w.passes.hazard r ∙ w.base.hazard r;
@@ -192,12 +186,13 @@ enters t s s' c x m k n entry cradles routine w = (
 
   pair : (o e g : ℕ) → Apart t (link s (s.protects c o) g) (s.protects c e) → s.protects c e ≢ 0 → (link s' (s.protects c o) g ≡ link s (s.protects c o) g) ⊎ Resident t s (link s' (s.protects c o) g) → Apart t (link s' (s.protects c o) g) (s.protects c e)
   pair o e g was some (inl same) = subst (λ (j : ℕ). Apart t j (s.protects c e)) (sym same) was
-  pair o e g was some (inr new) = residents_apart t s (link s' (s.protects c o) g) (s.protects c e) new (w.fine.guard c e some).resident
+  pair o e g was some (inr new) = residents_apart t s (link s' (s.protects c o) g) (s.protects c e) new (w.shared_holds.guard c e some).resident
 
   walks' : Walks t s' c (entered t c s s' x cradles routine) (spot_of x.entry.hand) m
   walks' = record {
     call = w.walks.call;
     wrapup = w.walks.wrapup;
+    was_set = w.walks.was_set;
     first = w.walks.first;
     number = w.walks.number;
     start = w.walks.start;

@@ -18,9 +18,8 @@ use Rattle.source_machine.specs.declared.state.Value.TheVariants.{Number, Node}
 use Rattle.source_machine.specs.declared.state.Memory.{Memory}
 use Rattle.source_machine.specs.Memory.{value_at, value_in, same_value, fields_named, found_at, exchange, exchange_on}
 use Rattle.source_machine.specs.Proper.{has, field_of}
-use Rattle.caller_steps.specs.Operands.{word_in, slot_in}
+use Rattle.caller_parts.specs.Operands.{word_in, slot_in, succeeds, has_object}
 use Rattle.caller_steps.specs.Wants.{place_exchange, object_exchange, exchange_wanted}
-use Rattle.caller_steps.specs.After.{succeeds, has_object}
 use Rattle.run_ahead.specs.Agreeing.{Agree, StandsFor}
 use Rattle.sim_relation.specs.Views.{Plan, IsPlan, Shared, word_for, name_of, link, top, Resident, Apart}
 use Rattle.sim_relation.specs.Shared.{SharedHolds}

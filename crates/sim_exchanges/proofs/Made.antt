@@ -9,7 +9,7 @@ use Rattle.norm_lang.specs.Local.{Spot}
 use Rattle.target_code.specs.declared.target.TargetInstr.{TargetInstr}
 use Rattle.target_code.specs.declared.target.TargetInstr.TheVariants.{Plain}
 use Rattle.source_machine.specs.Proper.{has}
-use Rattle.caller_steps.specs.Operands.{is_new_at, news_before}
+use Rattle.caller_parts.specs.Operands.{is_new_at, news_before}
 use Rattle.target_laws.specs.Methods.{code_in}
 use Rattle.std.specs.List.{Contains}
 use Rattle.target_laws.proofs.FreshRules.{new_is_passed_once}

@@ -150,7 +150,7 @@ found_right text memory mirror (places.Field a f) kind v typed is found = of (fi
 -- a caller stands before one of an instruction's exchanges
 pub record Before (t : Plan) (s : Shared) (c : ℕ) (x : Caller) (m : Trail t) (i : Instr) (k : ℕ) (entry : CasEntry) : Type 0 where
   pub plan : IsPlan t
-  pub fine : SharedHolds t s
+  pub shared_holds : SharedHolds t s
   pub base : Base t s c x
   pub walks : Walks t s c x (spot_of x.entry.hand) m
   pub guards : Guards t x m
@@ -184,7 +184,7 @@ under_guard t s c x m i k entry (Ref r) w operand = of (cases_eq (node_in m.mirr
 
 place_under : (t : Plan) (s : Shared) (c : ℕ) (x : Caller) (m : Trail t) (i : Instr) (k : ℕ) (entry : CasEntry) (p : Place) → Before t s c x m i k entry → entry.place ≡ p
     → PlaceUnder t s c (spared t m.walk) x.entry.hand.registers m.mirror p
-place_under t s c x m i k entry (places.Root z) w is = roots_live t s x z w.fine w.proper
+place_under t s c x m i k entry (places.Root z) w is = roots_live t s x z w.shared_holds w.proper
 place_under t s c x m i k entry (places.Field (Num a) f) w is = ((sym w.plan.null, refl), null refl)
 place_under t s c x m i k entry (places.Field (Ref a) f) w is =
     (agrees t s c x m i k entry (Ref a) w (object_is (Ref a) f entry is), under_guard t s c x m i k entry (Ref a) w (object_is (Ref a) f entry is))
@@ -199,5 +199,5 @@ offers t s c x m i k entry w = record {
   pairs = w.walks.sound.pairs;
   alike = λ v found.
       let kind = register_for (place_kind t.text.fields t.text.roots entry.place) entry.expected (or_parts (is_unlike (place_kind t.text.fields t.text.roots entry.place) entry.expected) _ (or_parts (has_wrong_object entry.place) _ w.right).1).0 in
-      same_kind kind.0 v (value_in m.mirror entry.expected) (found_right t.text s.source m.mirror entry.place kind.0 v w.fine.typed kind.1 found) (value_right kind.0 m.mirror entry.expected kind.2);
+      same_kind kind.0 v (value_in m.mirror entry.expected) (found_right t.text s.source m.mirror entry.place kind.0 v w.shared_holds.typed kind.1 found) (value_right kind.0 m.mirror entry.expected kind.2);
 }

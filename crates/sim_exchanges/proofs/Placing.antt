@@ -20,9 +20,8 @@ use Rattle.source_machine.specs.declared.state.Memory.{Memory}
 use Rattle.source_machine.specs.Memory.{value_at, value_in, same_value, fields_named, found_at, with_place, with_name_retired, with_retired, exchange, exchange_on, blank_fields}
 use Rattle.source_machine.specs.Proper.{has, field_of, IsOnce}
 use Rattle.source_machine.proofs.Names.{has_push}
-use Rattle.caller_steps.specs.Operands.{word_in, slot_in}
+use Rattle.caller_parts.specs.Operands.{word_in, slot_in, succeeds, has_object}
 use Rattle.caller_steps.specs.Wants.{place_exchange, object_exchange, exchange_wanted}
-use Rattle.caller_steps.specs.After.{succeeds, has_object}
 use Rattle.run_ahead.specs.Typed.{AreOfKinds, IsTyped, field_kinds, root_kinds}
 use Rattle.run_ahead.proofs.TypedMemory.{behind_typed, field_at, root_at}
 use Rattle.sim_relation.specs.Views.{Plan, IsPlan, Held, Shared, word_for, name_of, Resident}
@@ -64,7 +63,7 @@ pub place_writes : (t : Plan) (s : Shared) (c : ℕ) (own : ℕ → Bool) (mirro
     → (name_of v ≡ 0) ⊎ (s.public (name_of v) ≡ true) → IsTyped t.text (placed t s mirror p v).source
     → Writes t c s (place_memory t s.memory mirror p v) (with_place p mirror v s.source).nodes (with_place p mirror v s.source).roots
 place_writes t s c own mirror (places.Root z) v plan f there here known typed = record {
-  fine = fine_linked_root t s z v f (record { within = there; known = known; typed = typed });
+  shared_holds = fine_linked_root t s z v f (record { within = there; known = known; typed = typed });
   goes = goes_linked_root t c s z v;
   links = λ n g. inl refl;
   hazard = λ d r. refl;
@@ -76,7 +75,7 @@ place_writes t s c own mirror (places.Field a g) v plan f there here known typed
     record { here = under_resident t s c own (reference_in mirror a).node plan f there.0; some = there.1; values = there.2.0; fields = there.2.1; within = there.2.2; known = known; typed = typed } in
     let both = goes_linked t c s (reference_in mirror a).node g v w here (no_other t s c own (reference_in mirror a).node f there.0 there.1) in
     record {
-      fine = fine_linked t s (reference_in mirror a).node g v f w;
+      shared_holds = fine_linked t s (reference_in mirror a).node g v f w;
       goes = both.0;
       links = both.1;
       hazard = λ d r. refl;

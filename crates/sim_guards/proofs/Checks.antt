@@ -49,7 +49,7 @@ checked_shared s c x = record s { protects = put s.protects c x.names.name }
 -- what a passing check needs
 pub record Passing (t : Plan) (s : Shared) (c : ℕ) (x : Caller) (m : Trail t) : Type 0 where
   pub plan : IsPlan t
-  pub fine : SharedHolds t s
+  pub shared_holds : SharedHolds t s
   pub base : Base t s c x
   pub walks : Walks t s c x (spot_of x.entry.hand) m
   pub gets : Gets t s c x m
@@ -75,15 +75,15 @@ pub named_holds : (t : Plan) (s : Shared) (c : ℕ) (x : Caller) (m : Trail t) (
 named_holds t s c x m r w some = ⊎_elim
     (λ (p : s.protects c r ≡ x.names.name r).
     let there : s.protects c r ≢ 0 = λ z. some (sym p ∙ z) in
-    let g = w.fine.guard c r there in
-    (subst (λ (n : ℕ). Resident t s n) p g.resident, g.word ∙ ap t.home p, g.register, subst (λ (n : ℕ). (s.public n ≡ true) ⊎ ((k : ℕ) × (s.owner (t.home n) ≡ Held c k))) p (w.fine.mine c r there)))
+    let g = w.shared_holds.guard c r there in
+    (subst (λ (n : ℕ). Resident t s n) p g.resident, g.word ∙ ap t.home p, g.register, subst (λ (n : ℕ). (s.public n ≡ true) ⊎ ((k : ℕ) × (s.owner (t.home n) ≡ Held c k))) p (w.shared_holds.mine c r there)))
     (λ (new : (has (x.names.name r) x.held.got ≡ true) × (guard_at x.entry.hand.guards r ≡ t.home (x.names.name r))).
-    let here : Resident t s (x.names.name r) = resident t s c x w.plan w.fine w.base w.below w.calm w.proper (x.names.name r) (x.names.name r) new.0 (itself (x.names.name r)) in
+    let here : Resident t s (x.names.name r) = resident t s c x w.plan w.shared_holds w.base w.below w.calm w.proper (x.names.name r) (x.names.name r) new.0 (itself (x.names.name r)) in
     (here, w.base.hazard r ∙ new.1, low new.1 here, mine (w.base.known (x.names.name r) new.0)))
     (named_guard t s c x m r w some)
   where
     low : guard_at x.entry.hand.guards r ≡ t.home (x.names.name r) → Resident t s (x.names.name r) → r < 8
-    low is here = ⊎_elim (λ (l : r < 8). l) (λ (ge : 8 ≤ r). absurd (has_slot_of t s (x.names.name r) w.fine here some (sym is ∙ past_end x.entry.hand.guards.slots r (omega (arith, w.count, ge))))) (cases_lt r 8)
+    low is here = ⊎_elim (λ (l : r < 8). l) (λ (ge : 8 ≤ r). absurd (has_slot_of t s (x.names.name r) w.shared_holds here some (sym is ∙ past_end x.entry.hand.guards.slots r (omega (arith, w.count, ge))))) (cases_lt r 8)
 
     mine : Known t s c (x.names.name r) → (s.public (x.names.name r) ≡ true) ⊎ ((k : ℕ) × (s.owner (t.home (x.names.name r)) ≡ Held c k))
     mine (inl z) = absurd (some z)
@@ -110,7 +110,7 @@ fine_passed t s c x m w = record {
   mine = λ d r. mine_by d r (cases_eq d c);
 } where
   f : SharedHolds t s
-  f = w.fine
+  f = w.shared_holds
 
   at_own : (d r : ℕ) → d ≡ c → put s.protects c x.names.name d r ≡ x.names.name r
   at_own d r e = ap (λ (i : ℕ). put s.protects c x.names.name i r) e ∙ ap (λ (row : ℕ → ℕ). row r) (put_same s.protects c x.names.name)
@@ -193,6 +193,7 @@ pub walks_passed : (t : Plan) (s : Shared) (c : ℕ) (x : Caller) (m : Trail t) 
 walks_passed t s c x m w is = record {
   call = k.call;
   wrapup = k.wrapup;
+  was_set = λ r. k.was_set r ∙ ap (λ o. passed (over_plain (set_after (Ref r))) o (is_set_in m.walk.method m.path r)) (sym is);
   first = k.first;
   number = k.number;
   start = k.start;
@@ -215,12 +216,12 @@ walks_passed t s c x m w is = record {
   fine' = fine_passed t s c x m w
 
   hoped : (n : ℕ) → IsHoped (trust_along m.walk.method m.path) m.mirror n → Resident t s n
-  hoped = hoped_resident t s c x m w.plan w.fine w.base w.below w.calm w.proper (blank m.walk k.generator) k.kept w.gets
+  hoped = hoped_resident t s c x m w.plan w.shared_holds w.base w.below w.calm w.proper (blank m.walk k.generator) k.kept w.gets
 
   by_value : (n g : ℕ) → has n x.held.got ≡ true → (v : Value) → field_of s.source n g ≡ v → Resident t s (name_of v)
-  by_value n g got (Number i) is = null_resident t s 0 w.plan w.fine refl
+  by_value n g got (Number i) is = null_resident t s 0 w.plan w.shared_holds refl
   by_value n g got (Node reference) is =
-      resident t s c x w.plan w.fine w.base w.below w.calm w.proper n reference.node got (onward n reference.node reference.node (g, reference.marked, is) (itself reference.node))
+      resident t s c x w.plan w.shared_holds w.base w.below w.calm w.proper n reference.node got (onward n reference.node reference.node (g, reference.marked, is) (itself reference.node))
 
   content : (o g : ℕ) → spared t m.walk o ≡ false → put s.protects c x.names.name c o ≢ 0 → Resident t s (link s (put s.protects c x.names.name c o) g)
   content o g free some =

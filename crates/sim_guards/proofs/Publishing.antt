@@ -21,9 +21,9 @@ use Rattle.source_machine.specs.Proper.{has}
 use Rattle.source_machine.proofs.Places.{put_other}
 use Rattle.run_ahead.specs.Agreeing.{Agree, node_in}
 use Rattle.target_laws.specs.Trusted.{Trust, Trusted, Unchecked, Spoilt, carried_in, carried_by, trust_along, trust_after, trust_in_set, trust_at_start, confirmed}
-use Rattle.run_ahead.specs.Ahead.{Told}
+use Rattle.run_ahead.specs.Ahead.{AsTrusted}
 use Rattle.target_laws.specs.Methods.{Method, code_in}
-use Rattle.target_code.specs.PathStates.{over_plain, is_fresh_along, is_set_along}
+use Rattle.target_code.specs.PathStates.{over_plain, is_fresh_along}
 use Rattle.run_ahead.specs.Guards.{GuardStands}
 use Rattle.run_ahead.specs.Known.{IsGot, is_set_in}
 use Rattle.run_ahead.proofs.Quiet.{guard_keeps}
@@ -34,12 +34,11 @@ use Rattle.norm_lang.specs.RegisterUse.{set_after}
 use Rattle.sim_relation.specs.Views.{Plan, IsPlan, Shared, Caller}
 use Rattle.sim_relation.specs.Shared.{SharedHolds}
 use Rattle.sim_relation.specs.Callers.{Calm, Trail, Walks, Running, counts, guard_state, spared, spot_of}
-use Rattle.sim_relation.specs.Steps.{hazarded, regarded, with_names, IsCounted, place_of}
+use Rattle.sim_relation.specs.Steps.{hazarded, regarded, with_names, is_counted}
 use Rattle.sim_walks.proofs.Along.{made_before}
-use Rattle.sim_relation.proofs.Codes.{blank, code_is}
+use Rattle.sim_relation.proofs.Codes.{blank}
 use Rattle.sim_guards.proofs.Guarding.{kept_hazarded, guard_here, guard_other, protects_more}
 use Rattle.sim_walks.proofs.Local.{at_spot}
-use Rattle.target_code.specs.Paths.{TargetPath}
 
 -- a register that was carried over or set isn't spoilt
 unspoilt_set : (i : Instr) → trust_in_set i ≡ Spoilt → ⊥
@@ -71,7 +70,7 @@ unspoilt m r (last ∷ path) live = of (slice_get (code_in m) last) live (unspoi
   of (Some Check) live old = unspoilt_confirmed (trust_along m path (Ref r)) (old live)
   of (Some (Guard a)) live old = old live
 
-told_calm : (calm : Type 0) (trust : Trust) (A : Type 0) → calm → (trust ≡ Spoilt → ⊥) → Told calm trust A → A
+told_calm : (calm : Type 0) (trust : Trust) (A : Type 0) → calm → (trust ≡ Spoilt → ⊥) → AsTrusted calm trust A → A
 told_calm calm Trusted A now live told = told
 told_calm calm Unchecked A now live told = told now
 told_calm calm Spoilt A now live told = absurd (live refl)
@@ -95,23 +94,14 @@ guard_agrees t s c x k m w calm counted = told_calm (Calm s c x) (trust_along m.
     carried true is gen = absurd (let z : true ≡ false = gen in cc)
     carried false is gen = ap (λ (b : Bool). carried_by b m.walk.method.op (Ref k)) is
 
--- a `grd` that counts, by what the target says of its place
-place_counts : (t : Plan) (s : Shared) (c : ℕ) (x : Caller) (k : ℕ) (m : Trail t) → Walks t s c x (spot_of x.entry.hand) m → IsCounted t.target (place_of x.entry) k → counts t m.walk m.path k ≡ true
-place_counts t s c x k m w (inl gen) = ap (λ (b : Bool). not b || is_set_in m.walk.method m.path k) (sym w.wrapup ∙ gen)
-place_counts t s c x k m w (inr all) =
-    let code = code_is t s c x (spot_of x.entry.hand) m w in
-    let set : is_set_in m.walk.method m.path k ≡ true =
-    subst (λ (code : List TargetInstr). is_set_along code m.path (Ref k) false ≡ true) code (all m.path (subst (λ (code : List TargetInstr). TargetPath code m.path x.entry.hand.at) (sym code) w.ahead.path_is)) in
-    rw set (or_true (not m.walk.method.wrapup))
-  where
-    or_true : (a : Bool) → (a || true) ≡ true
-    or_true true = refl
-    or_true false = refl
+-- a `grd` that counts, by what the run has set
+run_counts : (t : Plan) (s : Shared) (c : ℕ) (x : Caller) (k : ℕ) (m : Trail t) → Walks t s c x (spot_of x.entry.hand) m → is_counted x.entry x.was_set k ≡ counts t m.walk m.path k
+run_counts t s c x k m w = ap (λ (a : Bool). not a || x.was_set k) w.wrapup ∙ ap (λ (b : Bool). not m.walk.method.wrapup || b) (w.was_set k)
 
 -- so it gets a name, if the register isn't null
-pub guard_named : (t : Plan) (s : Shared) (c : ℕ) (x : Caller) (k : ℕ) (m : Trail t) → IsPlan t → Walks t s c x (spot_of x.entry.hand) m → IsCounted t.target (place_of x.entry) k → Calm s c x → node_in x.entry.hand.registers k ≢ 0 → guard_name t m k ≢ 0
-guard_named t s c x k m plan w place calm some none =
-    let counted = place_counts t s c x k m w place in
+pub guard_named : (t : Plan) (s : Shared) (c : ℕ) (x : Caller) (k : ℕ) (m : Trail t) → IsPlan t → Walks t s c x (spot_of x.entry.hand) m → is_counted x.entry x.was_set k ≡ true → Calm s c x → node_in x.entry.hand.registers k ≢ 0 → guard_name t m k ≢ 0
+guard_named t s c x k m plan w counts calm some none =
+    let counted = sym (run_counts t s c x k m w) ∙ counts in
     let name : guard_name t m k ≡ node_in m.mirror k = rw counted refl in
     some ((guard_agrees t s c x k m w calm counted).0 ∙ (ap t.home (sym name ∙ none) ∙ plan.null))
 
@@ -133,6 +123,7 @@ running_guarded t s c x k plan f walk lt is = (
   record {
     call = w.call;
     wrapup = w.wrapup;
+    was_set = λ r. w.was_set r ∙ sym (set_still r);
     first = w.first;
     number = w.number;
     start = w.start;
@@ -164,8 +155,11 @@ running_guarded t s c x k plan f walk lt is = (
   w : Walks t s c x (spot_of x.entry.hand) walk.0
   w = walk.1
 
+  set_still : (r : ℕ) → is_set_in walk.0.walk.method (x.entry.hand.at ∷ walk.0.path) r ≡ is_set_in walk.0.walk.method walk.0.path r
+  set_still r = ap (λ o. passed (over_plain (set_after (Ref r))) o (is_set_in walk.0.walk.method walk.0.path r)) is
+
   counts_is : (r : ℕ) → counts t walk.0.walk (x.entry.hand.at ∷ walk.0.path) r ≡ counts t walk.0.walk walk.0.path r
-  counts_is r = ap (λ (b : Bool). not walk.0.walk.method.wrapup || b) (ap (λ o. passed (over_plain (set_after (Ref r))) o (is_set_in walk.0.walk.method walk.0.path r)) is)
+  counts_is r = ap (λ (b : Bool). not walk.0.walk.method.wrapup || b) (set_still r)
 
   -- a guard with a name counts
   name_counts : (b : Bool) (n : ℕ) → (if b then n else 0) ≢ 0 → b ≡ true

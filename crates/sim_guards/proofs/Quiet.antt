@@ -8,7 +8,7 @@ use Rattle.target_code.specs.declared.target.TargetInstr.TheVariants.{Check, Gua
 use Rattle.oa_words.specs.Words.{Warning, Hazard}
 use Rattle.core_runs.specs.Memories.{store}
 use Rattle.caller_steps.specs.Entries.{one_more}
-use Rattle.caller_steps.specs.Operands.{slot_in}
+use Rattle.caller_parts.specs.Operands.{slot_in}
 use Rattle.caller_steps.specs.After.{counted, checked, check_passed, check_failed, guarded}
 use Rattle.target_laws.specs.Methods.{code_in}
 use Rattle.run_ahead.specs.Agreeing.{node_in}
@@ -17,6 +17,7 @@ use Rattle.sim_relation.specs.Shared.{SharedHolds}
 use Rattle.sim_relation.specs.Callers.{Calm, Base, Running, spot_of}
 use Rattle.sim_relation.specs.Allowing.{IsProperFor}
 use Rattle.sim_relation.specs.Steps.{KeptBy, checked_names, with_names, hazarded, regarded}
+use Rattle.sim_relation.specs.WasSet.{set_checked, set_onward}
 use Rattle.sim_relation.proofs.Words.{store_idle}
 use Rattle.sim_relation.proofs.Moving.{base_moved, running_moved}
 use Rattle.sim_walks.proofs.Stopping.{settles_ends}
@@ -33,12 +34,12 @@ behind x = record { at = x.entry.hand.at + 1; registers = x.entry.hand.registers
 -- a check that passes, and the local code after it
 pub check_passes : (t : Plan) (c : ℕ) (s : Shared) (x : Caller) → IsPlan t → SharedHolds t s → Base t s c x → (walk : Running t s c x (spot_of x.entry.hand)) → slice_get (code_in walk.0.walk.method) x.entry.hand.at ≡ Some Check
     → c < t.setting.sizes.callers → Calm s c x → IsProperFor s x → length x.entry.hand.guards.slots ≡ 8
-    → KeptBy t c s x (validated x.names) (store s.memory (Warning c) (s.memory (Warning c))) (check_passed t.target t.setting.sizes (counted x.entry))
+    → KeptBy t c s x (validated x.names) (set_onward t.target x.entry x.was_set x.entry.hand.registers) (store s.memory (Warning c) (s.memory (Warning c))) (check_passed t.target t.setting.sizes (counted x.entry))
 check_passes t c s x plan f b walk is below calm proper count =
     let y = counted_caller x in
     let moves = running_moved t s c x (spot_of x.entry.hand) (one_more x.entry.running.steps) x.entry.counts x.entry.routine walk in
     let b' : Base t s c y = base_moved t s c x (one_more x.entry.running.steps) x.entry.counts x.entry.routine b in
-    let p : Passing t s c y walk.0 = record { plan = plan; fine = f; base = b'; walks = moves.1; gets = moves.3; below = below; calm = calm; proper = proper; count = count } in
+    let p : Passing t s c y walk.0 = record { plan = plan; shared_holds = f; base = b'; walks = moves.1; gets = moves.3; below = below; calm = calm; proper = proper; count = count } in
     let next = base_passed t s c y b' in
     kept_ends t c s (checked_shared s c y) x _ (check_passed t.target t.setting.sizes (counted x.entry)) (store s.memory (Warning c) (s.memory (Warning c))) (fine_passed t s c y walk.0 p) (goes_passed t s c y walk.0 p) (store_idle s.memory (Warning c)) refl refl
     (settles_ends t (checked_shared s c y) c (checked_caller y) (behind x) plan (fine_passed t s c y walk.0 p)
@@ -48,17 +49,17 @@ check_passes t c s x plan f b walk is below calm proper count =
 -- a check, whichever way it goes
 pub check_kept : (t : Plan) (c : ℕ) (s : Shared) (x : Caller) → (plan : IsPlan t) → SharedHolds t s → Base t s c x → (walk : Running t s c x (spot_of x.entry.hand)) → slice_get (code_in walk.0.walk.method) x.entry.hand.at ≡ Some Check
     → c < t.setting.sizes.callers → IsProperFor s x → length x.entry.hand.guards.slots ≡ 8
-    → KeptBy t c s x (checked_names (s.memory (Warning c) == x.entry.hand.seen) x.names) (store s.memory (Warning c) (s.memory (Warning c))) (checked t.target t.setting.sizes (s.memory (Warning c)) (counted x.entry))
+    → KeptBy t c s x (checked_names (s.memory (Warning c) == x.entry.hand.seen) x.names) (set_checked t.target x.entry x.was_set (s.memory (Warning c) == x.entry.hand.seen)) (store s.memory (Warning c) (s.memory (Warning c))) (checked t.target t.setting.sizes (s.memory (Warning c)) (counted x.entry))
 check_kept t c s x plan f b walk is below proper count = of (s.memory (Warning c) == x.entry.hand.seen) refl where
   of : (z : Bool) → (s.memory (Warning c) == x.entry.hand.seen) ≡ z
-      → KeptBy t c s x (checked_names z x.names) (store s.memory (Warning c) (s.memory (Warning c))) (if z then check_passed t.target t.setting.sizes (counted x.entry) else check_failed t.target t.setting.sizes (s.memory (Warning c)) (counted x.entry))
+      → KeptBy t c s x (checked_names z x.names) (set_checked t.target x.entry x.was_set z) (store s.memory (Warning c) (s.memory (Warning c))) (if z then check_passed t.target t.setting.sizes (counted x.entry) else check_failed t.target t.setting.sizes (s.memory (Warning c)) (counted x.entry))
   of true same = let calm : x.entry.hand.seen ≡ s.memory (Warning c) = grind (arith, nat_tests) in check_passes t c s x plan f b walk is below calm proper count
   of false differs = check_fails t s c x walk.0 plan f b walk.1 (walks_restart t s c x walk.0 plan walk.1 walk.2)
 
 -- a guard, and the local code after it
 pub guard_kept : (t : Plan) (c : ℕ) (s : Shared) (x : Caller) (k : ℕ) → IsPlan t → SharedHolds t s → Base t s c x → (walk : Running t s c x (spot_of x.entry.hand)) → slice_get (code_in walk.0.walk.method) x.entry.hand.at ≡ Some (Guard (Ref k))
     → k < length x.entry.hand.guards.slots
-    → KeptBy t c s x (with_names x.names k (guard_name t walk.0 k)) (store s.memory (Hazard c k) (slot_in x.entry.hand.registers (Ref k))) (guarded t.target t.setting.sizes (Ref k) (counted x.entry))
+    → KeptBy t c s x (with_names x.names k (guard_name t walk.0 k)) (set_onward t.target x.entry x.was_set x.entry.hand.registers) (store s.memory (Hazard c k) (slot_in x.entry.hand.registers (Ref k))) (guarded t.target t.setting.sizes (Ref k) (counted x.entry))
 guard_kept t c s x k plan f b walk is lt =
     let y = counted_caller x in
     let slot = node_in x.entry.hand.registers k in

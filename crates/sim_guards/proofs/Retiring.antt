@@ -14,12 +14,12 @@ use Rattle.phase_pools.specs.declared.stages.RetireStage.TheVariants as retires
 use Rattle.source_machine.specs.MethodRuns.{put}
 use Rattle.source_machine.specs.Proper.{has}
 use Rattle.source_machine.proofs.Places.{each_put, put_same, put_other}
-use Rattle.caller_steps.specs.declared.routine.AfterRetire.{AfterRetire}
-use Rattle.caller_steps.specs.declared.routine.AfterRetire.TheVariants as onward
-use Rattle.caller_steps.specs.declared.routine.Routine.{Routine}
-use Rattle.caller_steps.specs.declared.routine.Routine.TheVariants.{At, InList, Retires}
-use Rattle.caller_steps.specs.Entries.{one_more}
-use Rattle.caller_steps.specs.Operands.{instr_in, list_of, cradle_of}
+use Rattle.caller_parts.specs.declared.routine.AfterRetire.{AfterRetire}
+use Rattle.caller_parts.specs.declared.routine.AfterRetire.TheVariants as onward
+use Rattle.caller_parts.specs.declared.routine.Routine.{Routine}
+use Rattle.caller_parts.specs.declared.routine.Routine.TheVariants.{At, InList, Retires}
+use Rattle.caller_steps.specs.Entries.{one_more, instr_in, cradle_of}
+use Rattle.caller_parts.specs.Operands.{list_of}
 use Rattle.caller_steps.specs.After.{counted, with_routine, retired_on, list_ended}
 use Rattle.caller_steps.specs.declared.entry.Counts.{Counts}
 use Rattle.sim_walks.proofs.Local.{at_spot}
@@ -30,7 +30,8 @@ use Rattle.sim_relation.specs.Shared.{SharedHolds}
 use Rattle.sim_relation.specs.Callers.{Own, Known, Base, Trail, Walks, Gets, AfterExchange, GoesOn, IsRetiring, spot_of}
 use Rattle.caller_steps.specs.Signs.{quiet}
 use Rattle.sim_relation.specs.Points.{done}
-use Rattle.sim_relation.specs.Steps.{Kept, Ends, moved}
+use Rattle.sim_relation.specs.Steps.{Kept, KeptSetting, Ends, moved}
+use Rattle.sim_relation.specs.WasSet.{set_onward}
 use Rattle.sim_relation.proofs.Words.{store_idle}
 use Rattle.sim_relation.proofs.Moving.{base_moved, walks_moved, running_moved, same_names}
 use Rattle.sim_pools.proofs.Slots.{with_tag, with_status, tagged, marked}
@@ -42,7 +43,7 @@ use Rattle.sim_walks.proofs.Committing.{list_ends}
 -- ---- the load
 
 walks_tagged : (t : Plan) (s : Shared) (c n : ℕ) (x : Caller) (core : Spot) (m : Trail t) → Walks t s c x core m → Walks t (with_tag s n) c x core m
-walks_tagged t s c n x core m w = record { call = w.call; wrapup = w.wrapup; first = w.first; number = w.number; start = w.start; generator = w.generator; ahead = w.ahead; kept = w.kept; shown = w.shown; sound = w.sound }
+walks_tagged t s c n x core m w = record { call = w.call; wrapup = w.wrapup; was_set = w.was_set; first = w.first; number = w.number; start = w.start; generator = w.generator; ahead = w.ahead; kept = w.kept; shown = w.shown; sound = w.sound }
 
 behind_tagged : (t : Plan) (s : Shared) (c n : ℕ) (x : Caller) (made : ℕ) (b : Bool) → AfterExchange t s c x made b → AfterExchange t (with_tag s n) c x made b
 behind_tagged t s c n x made true w = (w.0, walks_tagged t s c n x (spot_of x.entry.hand) w.0 w.1, w.2, w.3, w.4, w.5)
@@ -84,10 +85,12 @@ retire_loads t c s x slot n go f b r w =
       present = refl;
       entry = refl;
       names = same_names x.names false;
+      was_set = refl;
       plays = done _;
-      fine = step.0;
+      shared_holds = step.0;
       goes = step.1;
-      told = record {
+      retires = λ n is. inl is;
+      caller_holds = record {
         base = base_moved t (with_tag s n) c x (one_more x.entry.running.steps) x.entry.counts next (base_tagged t s c n x f b);
         spot = (
           (n, record { owner = r.owner; present = r.present; tag_is = put_same s.tag n (Some (s.memory Phase)) }),
@@ -128,7 +131,7 @@ base_status t s c j word x retiring b = record {
 }
 
 walks_status : (t : Plan) (s : Shared) (c j : ℕ) (word : ℕ) (x : Caller) (core : Spot) (m : Trail t) → Walks t s c x core m → Walks t (with_status s j Dead word) c x core m
-walks_status t s c j word x core m w = record { call = w.call; wrapup = w.wrapup; first = w.first; number = w.number; start = w.start; generator = w.generator; ahead = w.ahead; kept = w.kept; shown = w.shown; sound = w.sound }
+walks_status t s c j word x core m w = record { call = w.call; wrapup = w.wrapup; was_set = w.was_set; first = w.first; number = w.number; start = w.start; generator = w.generator; ahead = w.ahead; kept = w.kept; shown = w.shown; sound = w.sound }
 
 gets_status : (t : Plan) (s : Shared) (c j : ℕ) (word : ℕ) (x : Caller) (m : Trail t) → s.owner j ≡ Retiring c → Gets t s c x m → Gets t (with_status s j Dead word) c x m
 gets_status t s c j word x m retiring g = record {
@@ -173,7 +176,7 @@ retire_stores_in_list t c s x slot n p k entries plan f b r w commit =
 
 -- the store after an auxiliary exchange, and the local code after it
 pub retire_stores_next : (t : Plan) (c : ℕ) (s : Shared) (x : Caller) (slot n p : ℕ) → IsPlan t → SharedHolds t s → Base t s c x → IsRetiring s c slot n (Some p) → GoesOn t s c x onward.Next
-    → Kept t c s x (store s.memory (Status slot) (status_word p kinds.Retired)) (retired_on t.target t.setting.sizes onward.Next None (counted x.entry))
+    → KeptSetting t c s x (set_onward t.target x.entry x.was_set x.entry.hand.registers) (store s.memory (Status slot) (status_word p kinds.Retired)) (retired_on t.target t.setting.sizes onward.Next None (counted x.entry))
 retire_stores_next t c s x slot n p plan f b r w =
     let step = marked t s c slot n p f r in
     let s' = with_status s slot Dead (status_word p kinds.Retired) in
@@ -187,4 +190,4 @@ retire_stores_next t c s x slot n p plan f b r w =
     kept_ends t c s s' x _ (retired_on t.target t.setting.sizes onward.Next None (counted x.entry)) _ step.0 step.1 refl refl refl ended
   where
     walks_at : (t : Plan) (s : Shared) (c : ℕ) (y : Caller) (next : Spot) (m : Trail t) → Walks t s c y next m → Walks t s c (at_spot y next) next m
-    walks_at t s c y next m w = record { call = w.call; wrapup = w.wrapup; first = w.first; number = w.number; start = w.start; generator = w.generator; ahead = w.ahead; kept = w.kept; shown = w.shown; sound = w.sound }
+    walks_at t s c y next m w = record { call = w.call; wrapup = w.wrapup; was_set = w.was_set; first = w.first; number = w.number; start = w.start; generator = w.generator; ahead = w.ahead; kept = w.kept; shown = w.shown; sound = w.sound }

@@ -1,5 +1,6 @@
 -- A store of 0 to a hazard word, and what the caller does after it.
-use Rattle.std.proofs.Common.{ℕ, ◌≡◌, ◌≢◌, ◌==◌, ◌≤◌, ◌<◌, ◌∙◌, ◌&&◌, Bool, true, false, length, Option, Some, arith, ⊎_elim, sym, ap, subst, refl}
+use Rattle.std.proofs.Common.{ℕ, ◌≡◌, ◌≢◌, ◌==◌, ◌≤◌, ◌<◌, ◌∙◌, ◌&&◌, Bool, true, false, length, Option, Some, arith, ⊎_elim, sym, ap, subst, refl, inl}
+use Rattle.source_machine.specs.Proper.{has}
 use Rattle.std.specs.Prelude.{slice_get}
 use Rattle.std.proofs.lemmas.Bool.Decides.{eqb_tells}
 use Rattle.norm_lang.specs.declared.text.Op.{Op}
@@ -10,22 +11,24 @@ use Rattle.target_code.specs.Keeping.{keeps}
 use Rattle.oa_words.specs.Words.{Word, Hazard}
 use Rattle.core_runs.specs.Memories.{store}
 use Rattle.guard_words.specs.Guards.{is_spared}
-use Rattle.caller_steps.specs.declared.routine.AfterClear.{AfterClear}
-use Rattle.caller_steps.specs.declared.routine.AfterClear.TheVariants as clears
-use Rattle.caller_steps.specs.Entries.{one_more}
-use Rattle.caller_steps.specs.Operands.{op_of}
-use Rattle.caller_steps.specs.Clearing.{kept_by, none_spared, restart_spares, restart_next, clear_next, unguarded}
+use Rattle.caller_parts.specs.declared.routine.AfterClear.{AfterClear}
+use Rattle.caller_parts.specs.declared.routine.AfterClear.TheVariants as clears
+use Rattle.caller_steps.specs.Entries.{one_more, op_of}
+use Rattle.caller_parts.specs.Spared.{kept_by, none_spared, restart_spares}
+use Rattle.caller_steps.specs.Clearing.{restart_next, clear_next, unguarded}
 use Rattle.caller_steps.specs.After.{counted, restart_cleared, restarted, then_cleared, cleared, with_hand}
 use Rattle.run_ahead.specs.Following.{Walk}
 use Rattle.target_laws.proofs.ErasedPlaces.{erased_is}
 use Rattle.caller_steps.specs.Signs.{Moved, quiet}
-use Rattle.sim_relation.specs.Points.{point}
+use Rattle.sim_relation.specs.Points.{point, Point}
 use Rattle.sim_relation.proofs.Playing.{plays_from}
 use Rattle.sim_relation.specs.Views.{Plan, IsPlan, Shared, Caller}
 use Rattle.sim_relation.specs.Shared.{SharedHolds}
 use Rattle.sim_relation.specs.Callers.{Base, Begins, Settled, ClearsAt, spared, call_of}
 use Rattle.sim_relation.specs.MayChange.{MayChange}
 use Rattle.sim_relation.specs.Steps.{KeptBy, Ends, with_names, hazarded, regarded, moved}
+use Rattle.sim_relation.specs.WasSet.{set_cleared}
+use Rattle.sim_walks.proofs.Local.{having_set}
 use Rattle.sim_relation.proofs.Moving.{base_moved}
 use Rattle.sim_guards.proofs.Guarding.{fine_hazarded, goes_hazarded, base_hazarded, kept_hazarded}
 use Rattle.sim_relation.proofs.Clearing.{clear_some, kept_bit}
@@ -33,7 +36,7 @@ use Rattle.sim_walks.proofs.Beginning.{cleared_wrap_up, cleared_again, cleared_r
 use Rattle.sim_walks.proofs.Stopping.{restarted_ends}
 
 -- a step whose access is made, and after which the entry comes to stand elsewhere
-pub kept_ends : (t : Plan) (c : ℕ) (s s' : Shared) (x y : Caller) (m : Moved) (memory' : Word → ℕ) → SharedHolds t s' → MayChange t c s s' → s'.memory ≡ memory' → s'.present ≡ s.present → point s' y ≡ point s x → Ends t s' c y m → KeptBy t c s x y.names memory' m
+pub kept_ends : (t : Plan) (c : ℕ) (s s' : Shared) (x y : Caller) (m : Moved) (memory' : Word → ℕ) → SharedHolds t s' → MayChange t c s s' → s'.memory ≡ memory' → s'.present ≡ s.present → point s' y ≡ point s x → Ends t s' c y m → KeptBy t c s x y.names y.was_set memory' m
 kept_ends t c s s' x y m memory' f g memory present from w = record {
   s' = s';
   x' = w.x';
@@ -41,9 +44,11 @@ kept_ends t c s s' x y m memory' f g memory present from w = record {
   present = present;
   entry = w.entry;
   names = w.names;
-  fine = f;
+  was_set = w.was_set;
+  shared_holds = f;
   goes = g;
-  told = w.told;
+  retires = λ n is. inl (subst (λ (p : Point). has n p.memory.retired ≡ true) from is);
+  caller_holds = w.caller_holds;
   plays = plays_from t.text c m.signs (point s x) (point s' y) (point s' w.x') from w.plays;
 }
 
@@ -89,17 +94,17 @@ base_cleared t s c x r lt b = base_hazarded t c s (counted_caller x) r 0 0 lt (b
 -- a clear after a failed check
 pub restart_clears : (t : Plan) (c : ℕ) (s : Shared) (x : Caller) (r : ℕ) → IsPlan t → SharedHolds t s → Base t s c x → length x.entry.hand.guards.slots ≡ 8 → restart_next t.target x.entry ≡ Some r
     → (walk : Walk t.target t.text) → Begins t s c x walk → walk.method.wrapup ≡ x.entry.hand.wrapup
-    → KeptBy t c s x (with_names x.names r 0) (store s.memory (Hazard c r) 0) (restart_cleared t.target t.setting.sizes (counted x.entry))
+    → KeptBy t c s x (with_names x.names r 0) (set_cleared t.target (with_hand x.entry (unguarded (restart_next t.target x.entry) x.entry.hand)) x.was_set) (store s.memory (Hazard c r) 0) (restart_cleared t.target t.setting.sizes (counted x.entry))
 restart_clears t c s x r plan f b count next walk begins is =
     let found = clear_some x.entry.hand.guards (restart_spares x.entry.hand.wrapup (op_of t.target x.entry)) r next in
     let free : spared t walk r ≡ false = free_of t x walk r x.entry.hand.wrapup plan begins.call begins.number is (omega (arith, found.1, count)) found.0 in
     let ended = restarted_ends t (hazarded s c r 0) c (regarded (counted_caller x) r 0 0) walk plan (fine_hazarded t c s r 0 f) (base_cleared t s c x r found.1 b) is (begins_regarded t s c x r walk free begins) in
-    kept_ends t c s (hazarded s c r 0) x (regarded (counted_caller x) r 0 0) (restart_cleared t.target t.setting.sizes (counted x.entry)) (store s.memory (Hazard c r) 0) (fine_hazarded t c s r 0 f) (goes_hazarded t c s r 0) refl refl refl
-    (subst (λ (o : Option ℕ). Ends t (hazarded s c r 0) c (regarded (counted_caller x) r 0 0) (restarted t.target t.setting.sizes (with_hand (counted x.entry) (unguarded o x.entry.hand)))) (sym next) ended)
+    kept_ends t c s (hazarded s c r 0) x (having_set (regarded (counted_caller x) r 0 0) (set_cleared t.target (with_hand x.entry (unguarded (restart_next t.target x.entry) x.entry.hand)) x.was_set)) (restart_cleared t.target t.setting.sizes (counted x.entry)) (store s.memory (Hazard c r) 0) (fine_hazarded t c s r 0 f) (goes_hazarded t c s r 0) refl refl refl
+    (subst (λ (o : Option ℕ). Ends t (hazarded s c r 0) c (having_set (regarded (counted_caller x) r 0 0) (set_cleared t.target (with_hand x.entry (unguarded o x.entry.hand)) x.was_set)) (restarted t.target t.setting.sizes (with_hand (counted x.entry) (unguarded o x.entry.hand)))) (sym next) ended)
 
 -- a clear at a wrap-up's start, after `again`, or at the reply
 pub then_clears : (t : Plan) (c : ℕ) (s : Shared) (x : Caller) (r : ℕ) (next : AfterClear) → (next ≡ clears.New → ⊥) → IsPlan t → SharedHolds t s → Base t s c x → length x.entry.hand.guards.slots ≡ 8 → clear_next t.target next x.entry ≡ Some r
-    → ClearsAt t s c x next → KeptBy t c s x (with_names x.names r 0) (store s.memory (Hazard c r) 0) (quiet (then_cleared t.target t.setting.sizes next (counted x.entry)))
+    → ClearsAt t s c x next → KeptBy t c s x (with_names x.names r 0) x.was_set (store s.memory (Hazard c r) 0) (quiet (then_cleared t.target t.setting.sizes next (counted x.entry)))
 then_clears t c s x r next old plan f b count is at =
     kept_ends t c s (hazarded s c r 0) x (regarded (counted_caller x) r 0 0) (quiet (then_cleared t.target t.setting.sizes next (counted x.entry))) (store s.memory (Hazard c r) 0) (fine_hazarded t c s r 0 f) (goes_hazarded t c s r 0) refl refl refl
     (subst (λ (o : Option ℕ). Ends t (hazarded s c r 0) c (regarded (counted_caller x) r 0 0) (quiet (cleared t.target t.setting.sizes next (with_hand (counted x.entry) (unguarded o x.entry.hand))))) (sym is) (by_then next old is at))

@@ -1,5 +1,6 @@
 -- The claim of a `new`: looks, sweeps, the slot that it takes, and the call that it gives up.
-use Rattle.std.proofs.Common.{ℕ, ◌≡◌, ◌≢◌, ◌==◌, ◌+◌, ◌≤◌, ◌<◌, ◌∙◌, Bool, true, false, List, [], ◌∷◌, ◌++◌, map, length, Option, Some, None, arith, ⊎_elim, sym, ap, subst, refl, if◌then◌else◌, set}
+use Rattle.std.proofs.Common.{ℕ, ◌≡◌, ◌≢◌, ◌==◌, ◌+◌, ◌≤◌, ◌<◌, ◌∙◌, Bool, true, false, List, [], ◌∷◌, ◌++◌, map, length, Option, Some, None, arith, ⊎_elim, sym, ap, subst, refl, if◌then◌else◌, set, inl}
+use Rattle.source_machine.specs.declared.state.Memory.{Memory}
 use Rattle.std.specs.Prelude.{slice_get, slice_index}
 use Rattle.std.proofs.lemmas.List.{map-append}
 use Rattle.std.proofs.lemmas.Bool.{cases_eq}
@@ -23,18 +24,18 @@ use Rattle.source_machine.specs.declared.event.SourceEvent.TheVariants as events
 use Rattle.source_machine.specs.declared.event.SourceReply.{SourceReply}
 use Rattle.source_machine.specs.Step.{caller_turn, give_up_reply, replied}
 use Rattle.source_machine.specs.MethodRuns.{run_after, put}
-use Rattle.caller_steps.specs.declared.call.Reply.{Reply}
-use Rattle.caller_steps.specs.declared.call.Reply.TheVariants as core_replies
-use Rattle.caller_steps.specs.declared.call.Replied.{Replied}
-use Rattle.caller_steps.specs.declared.routine.Routine.TheVariants.{At, Claims, Zeroes}
-use Rattle.caller_steps.specs.Entries.{one_more}
-use Rattle.caller_steps.specs.Operands.{instr_in, is_new_at, new_number}
+use Rattle.caller_parts.specs.declared.call.Reply.{Reply}
+use Rattle.caller_parts.specs.declared.call.Reply.TheVariants as core_replies
+use Rattle.caller_parts.specs.declared.call.Replied.{Replied}
+use Rattle.caller_parts.specs.declared.routine.Routine.TheVariants.{At, Claims, Zeroes}
+use Rattle.caller_steps.specs.Entries.{one_more, instr_in, new_number}
+use Rattle.caller_parts.specs.Operands.{is_new_at}
 use Rattle.caller_steps.specs.After.{counted, claimed, claim_on, claim_ended, with_routine, replied as entry_replied}
 use Rattle.target_laws.specs.Methods.{code_in}
 use Rattle.run_ahead.specs.Standing.{Call, caller_of}
 use Rattle.run_ahead.proofs.Ends.{giving_up_is_followed}
 use Rattle.caller_steps.specs.Signs.{GivesUp, quiet, told}
-use Rattle.caller_steps.specs.Pairing.{replied_by}
+use Rattle.caller_parts.specs.Pairing.{replied_by}
 use Rattle.caller_steps.specs.declared.entry.Counts.{Counts}
 use Rattle.sim_relation.specs.Views.{Plan, IsPlan, Pool, Held, Shared, Caller, settled_names}
 use Rattle.sim_relation.specs.Shared.{SharedHolds}
@@ -104,10 +105,12 @@ gave_up t c s s' x phase memory' present' plan f f' g source unused memory prese
       present = present;
       entry = refl;
       names = names_settle x.names true refl;
+      was_set = refl;
       plays = plays_one t.text c (GivesUp phase) (point s x) (point s' x') (turns.enabled, (source ∙ sym (ap (λ turn. turn.memory) turns.turns), refl, refl)) unused;
-      fine = f';
+      shared_holds = f';
       goes = g c;
-      told = record {
+      retires = λ n is. inl (subst (λ (memory : Memory). has n memory.retired ≡ true) source is);
+      caller_holds = record {
         base = record { number = b.number; seen = b.seen; old = b.old; hazard = b.hazard; protects = b.protects; known = b.known; cradle = b.cradle };
         spot = (w.empty, settled_is x, ap (λ turn. turn.caller) turns.turns ∙ idle m.walk.call walks.call);
       };
@@ -138,10 +141,12 @@ claim_kept t c s s' x claim None memory' present' plan f f' g source unused memo
       present = present;
       entry = refl;
       names = same_names x.names false;
+      was_set = refl;
       plays = plays_none t.text c (point s x) (point s' (moved x (one_more x.entry.running.steps) x.entry.counts (Claims claim))) (points_same (point s x) (point s' (moved x (one_more x.entry.running.steps) x.entry.counts (Claims claim))) unused source refl refl);
-      fine = f';
+      shared_holds = f';
       goes = g c;
-      told = record {
+      retires = λ n is. inl (subst (λ (memory : Memory). has n memory.retired ≡ true) source is);
+      caller_holds = record {
         base = base_moved t s' c x (one_more x.entry.running.steps) x.entry.counts (Claims claim) w'.base;
         spot = (goes, new_moved t s' c x (spot_of x.entry.hand) (one_more x.entry.running.steps) x.entry.counts (Claims claim) w'.running, w.empty);
       };
@@ -198,10 +203,12 @@ took t c s x claim j q plan f w some lt is =
       present = refl;
       entry = refl;
       names = same_names x.names false;
+      was_set = refl;
       plays = done _;
-      fine = take.0;
+      shared_holds = take.0;
       goes = take.1 c;
-      told = record {
+      retires = λ n is. inl is;
+      caller_holds = record {
         base = base_moved t _ c (cradled x cradles) (one_more x.entry.running.steps) (one_claim x.entry.counts) (Zeroes k 0)
             (base_cradled t _ c x cradles (cradle k refl) w'.base);
         spot = (
@@ -242,5 +249,5 @@ claims_keep t c s x claim (claims.Take j q) is plan f w lt at = takes t c s x cl
 claims_keep t c s x claim claims.Sweeps is plan f w lt at =
     let turn = sweep_accepts_at t.setting.sizes t.setting.last claim.sweep (s.memory (word_of (sweep_wants_at claim.sweep.stage claim.sweep.bound))) claim.sweep.stage in
     let swept = sweep_step t s claim.sweep claim.sweep.stage plan f at in
-    claim_kept t c s swept.s' x (sweep_ended t.setting.sizes claim turn.sweep turn.ended).claim (sweep_ended t.setting.sizes claim turn.sweep turn.ended).ended _ _ plan f swept.fine swept.goes swept.source swept.unused swept.memory swept.present w
+    claim_kept t c s swept.s' x (sweep_ended t.setting.sizes claim turn.sweep turn.ended).claim (sweep_ended t.setting.sizes claim turn.sweep turn.ended).ended _ _ plan f swept.shared_holds swept.goes swept.source swept.unused swept.memory swept.present w
     (sweep_goes_on t swept.s' claim turn.sweep turn.ended is swept.next)

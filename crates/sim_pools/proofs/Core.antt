@@ -3,13 +3,13 @@ use Rattle.std.proofs.Common.{ℕ, ◌≡◌, ◌<◌, true, false, length, Opti
 use Rattle.target_code.specs.declared.target.Target.{Target}
 use Rattle.phase_pools.specs.Accesses.{WordAccess, word_of}
 use Rattle.phase_pools.specs.Pools.{Claim, claim_wants}
-use Rattle.caller_steps.specs.declared.routine.Routine.{Routine}
-use Rattle.caller_steps.specs.declared.routine.Routine.TheVariants.{Claims}
-use Rattle.caller_steps.specs.Settings.{Setting}
-use Rattle.caller_steps.specs.Entries.{Entry}
+use Rattle.caller_parts.specs.declared.routine.Routine.{Routine}
+use Rattle.caller_parts.specs.declared.routine.Routine.TheVariants.{Claims}
+use Rattle.caller_parts.specs.Settings.{Setting}
+use Rattle.caller_steps.specs.Entries.{Entry, new_number, instr_in}
 use Rattle.caller_steps.specs.Wants.{wants, wanted}
 use Rattle.caller_steps.specs.After.{moved, accepted, counted}
-use Rattle.caller_steps.specs.Operands.{new_number, is_new_at, instr_in}
+use Rattle.caller_parts.specs.Operands.{is_new_at}
 use Rattle.caller_steps.specs.Signs.{Moved}
 use Rattle.sim_relation.specs.Views.{Plan, IsPlan, Shared, Caller}
 use Rattle.sim_relation.specs.Shared.{SharedHolds}

@@ -39,12 +39,12 @@ pub record Swept (t : Plan) (s : Shared) (memory' : Word → ℕ) (turn : SweepT
   pub present : s'.present ≡ present'
   pub source : s'.source ≡ s.source
   pub unused : s'.unused ≡ s.unused
-  pub fine : SharedHolds t s'
+  pub shared_holds : SharedHolds t s'
   pub goes : GoesForAll t s s'
   pub next : SweepNext t s' turn.sweep turn.ended
 
 unchanged : (t : Plan) (s : Shared) (w : Word) (turn : SweepTurn) → SharedHolds t s → SweepNext t s turn.sweep turn.ended → Swept t s (store s.memory w (s.memory w)) turn s.present
-unchanged t s w turn f next = record { s' = s; memory = store_idle s.memory w; present = refl; source = refl; unused = refl; fine = f; goes = goes_same t s; next = next }
+unchanged t s w turn f next = record { s' = s; memory = store_idle s.memory w; present = refl; source = refl; unused = refl; shared_holds = f; goes = goes_same t s; next = next }
 
 on_next : (t : Plan) (s : Shared) (sweep : Sweep) (j : ℕ) → Sweeps t s sweep.bound t.setting.sizes.callers (8 * t.setting.sizes.callers) sweep.gathered
     → SweepNext t s (sweep_on t.setting.sizes sweep j).sweep (sweep_on t.setting.sizes sweep j).ended
@@ -142,7 +142,7 @@ frees t s sweep j q f w = of (s.memory (Status j) == status_word q kinds.Retired
         present = refl;
         source = refl;
         unused = refl;
-        fine = fine_freed t s sweep.bound j q sweep.gathered f k;
+        shared_holds = fine_freed t s sweep.bound j q sweep.gathered f k;
         goes = goes_freed t s sweep.bound j q sweep.gathered f k;
         next = on_next t (freed s j sweep.bound) sweep j w.0;
       }
@@ -164,7 +164,7 @@ sweep_step t s sweep (sweeps.RaisePhase p) plan f w =
       present = refl;
       source = refl;
       unused = refl;
-      fine = fine_phase t s _ up f;
+      shared_holds = fine_phase t s _ up f;
       goes = goes_phase t s _ up;
       next = (record { raised = to; warned = λ d lt. absurd (omega arith); gathered = λ d r q lt. absurd (omega arith) }, plan.callers);
     }
@@ -174,7 +174,7 @@ sweep_step t s sweep (sweeps.Warn c) plan f w = record {
   present = refl;
   source = refl;
   unused = refl;
-  fine = fine_warning t s c sweep.bound w.0.raised f;
+  shared_holds = fine_warning t s c sweep.bound w.0.raised f;
   goes = goes_warning t s c sweep.bound;
   next = warned_next t (with_warning s c sweep.bound) sweep.bound c sweep.gathered w.1 (warned_more t s sweep.bound c sweep.gathered w.0);
 }

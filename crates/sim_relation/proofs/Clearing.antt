@@ -8,7 +8,7 @@ use Rattle.target_code.specs.declared.target.TargetOp.{TargetOp}
 use Rattle.target_code.specs.Erasing.{erased_op}
 use Rattle.target_code.specs.Keeping.{keeps}
 use Rattle.guard_words.specs.Guards.{Guards, guard_at, least_from, is_spared, is_to_clear, next_to_clear}
-use Rattle.caller_steps.specs.Clearing.{kept_by, none_spared}
+use Rattle.caller_parts.specs.Spared.{kept_by, none_spared}
 
 pub least_none : (test : ℕ → Bool) (r n : ℕ) → least_from test r n ≡ None → (k : ℕ) → r ≤ k → k < r + n → test k ≡ false
 least_none test r zero is k le lt = absurd (omega (arith, le, lt))

@@ -7,7 +7,8 @@ use Rattle.norm_lang.specs.Local.{Spot}
 use Rattle.target_code.specs.declared.target.TargetInstr.{TargetInstr}
 use Rattle.target_code.specs.declared.target.TargetInstr.TheVariants.{Plain, Check, Guard}
 use Rattle.target_code.specs.declared.target.TargetOp.{TargetOp}
-use Rattle.caller_steps.specs.Operands.{op_of, method_code, instr_in, code_in as core_code, is_new_at}
+use Rattle.caller_steps.specs.Entries.{op_of, instr_in, code_in as core_code}
+use Rattle.caller_parts.specs.Operands.{method_code, is_new_at}
 use Rattle.target_laws.specs.Methods.{code_in}
 use Rattle.norm_lang.specs.Registers.{first_registers}
 use Rattle.norm_lang.specs.declared.text.Text.{Text}

@@ -4,7 +4,7 @@ use Rattle.std.specs.Prelude.{slice_index}
 use Rattle.norm_lang.specs.Local.{Spot}
 use Rattle.run_ahead.specs.Following.{Walk}
 use Rattle.caller_steps.specs.declared.entry.Counts.{Counts}
-use Rattle.caller_steps.specs.declared.routine.Routine.{Routine}
+use Rattle.caller_parts.specs.declared.routine.Routine.{Routine}
 use Rattle.source_machine.specs.declared.state.SourceCaller.{SourceCaller}
 use Rattle.source_machine.specs.MethodRuns.{MethodRun, run_begun}
 use Rattle.sim_relation.specs.Views.{Plan, IsPlan, Held, Shared, Caller, protected, settled_names}
@@ -21,6 +21,7 @@ pub walks_moved : (t : Plan) (s : Shared) (d : ℕ) (x : Caller) (core : Spot) (
 walks_moved t s d x core m a k r w = record {
   call = w.call;
   wrapup = w.wrapup;
+  was_set = w.was_set;
   first = w.first;
   number = w.number;
   start = w.start;
@@ -71,6 +72,7 @@ pub walks_cradled : (t : Plan) (s : Shared) (d : ℕ) (x : Caller) (core : Spot)
 walks_cradled t s d x core m cradles w = record {
   call = w.call;
   wrapup = w.wrapup;
+  was_set = w.was_set;
   first = w.first;
   number = w.number;
   start = w.start;

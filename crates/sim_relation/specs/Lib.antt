@@ -4,6 +4,7 @@ pub mod Callers
 pub mod MayChange
 pub mod Points
 pub mod Naming
+pub mod WasSet
 pub mod Steps
 pub mod Allowing
 pub mod Worlds

@@ -63,7 +63,7 @@ pub record SharedHolds (t : Plan) (s : Shared) : Type 0 where
   pub none_there : s.owner 0 ≡ Null
   -- each slot of the pool is one that a caller may claim
   pub null_stays : has 0 s.source.retired ≡ false
-  -- K1: a name that was tagged and isn't resident was freed by a sweep that had warned all
+  -- a name that was tagged and isn't resident was freed by a sweep that had warned all
   pub gone : (n p c : ℕ) → s.tag n ≡ Some p → (Resident t s n → ⊥) → c < t.setting.sizes.callers → p < s.memory (Warning c)
   -- a published name that isn't resident has a tag
   pub public : (n : ℕ) → s.public n ≡ true → (Resident t s n → ⊥) → (p : ℕ) × (s.tag n ≡ Some p)

@@ -1,12 +1,12 @@
 -- What a step keeps.
-use Rattle.std.specs.Prelude.{ℕ, ◌≡◌, ◌≢◌, ◌<◌, ◌⊎◌, ◌==◌, Bool, true, false, List, length, Option, Some, None}
+use Rattle.std.specs.Prelude.{ℕ, ◌≡◌, ◌≢◌, ◌<◌, ◌==◌, ◌||◌, not, Bool, true, false, List, length, Option, Some, None, ◌⊎◌}
+use Rattle.phase_pools.specs.Pools.{retire_begun}
+use Rattle.caller_parts.specs.declared.routine.AfterRetire.{AfterRetire}
+use Rattle.source_machine.specs.Proper.{has}
 use Rattle.norm_lang.specs.declared.text.Reg.TheVariants.{Ref}
 use Rattle.norm_lang.specs.Local.{Spot}
-use Rattle.target_code.specs.declared.target.Target.{Target}
 use Rattle.target_code.specs.declared.target.TargetInstr.{TargetInstr}
 use Rattle.target_code.specs.declared.target.TargetInstr.TheVariants.{Plain, Check, Guard}
-use Rattle.target_code.specs.Paths.{TargetPath}
-use Rattle.target_code.specs.PathStates.{is_set_along}
 use Rattle.oa_words.specs.Words.{Word, Warning, Hazard}
 use Rattle.core_runs.specs.Memories.{store}
 use Rattle.guard_words.specs.Guards.{with_guard}
@@ -15,18 +15,17 @@ use Rattle.run_ahead.specs.Guards.{GuardRow, validated}
 use Rattle.phase_pools.specs.Accesses.{WordAccess, word_of, word_after}
 use Rattle.source_machine.specs.MethodRuns.{MethodRun, put}
 use Rattle.caller_steps.specs.declared.entry.Counts.{Counts}
-use Rattle.caller_steps.specs.declared.routine.AfterClear.{AfterClear}
-use Rattle.caller_steps.specs.declared.routine.AfterClear.TheVariants as clears
-use Rattle.caller_steps.specs.declared.routine.Routine.{Routine}
-use Rattle.caller_steps.specs.declared.routine.Routine.TheVariants.{Idle, LoadSeen, At, InList, Retires, Restarts, Clears, Claims, Zeroes}
+use Rattle.caller_parts.specs.declared.routine.AfterClear.{AfterClear}
+use Rattle.caller_parts.specs.declared.routine.AfterClear.TheVariants as clears
+use Rattle.caller_parts.specs.declared.routine.Routine.{Routine}
+use Rattle.caller_parts.specs.declared.routine.Routine.TheVariants.{Idle, LoadSeen, At, InList, Retires, Restarts, Clears, Claims, Zeroes}
 use Rattle.caller_steps.specs.Clearing.{restart_next, clear_next}
-use Rattle.caller_steps.specs.Operands.{code_at, instr_in}
+use Rattle.caller_steps.specs.Entries.{instr_in, Entry}
 use Rattle.caller_steps.specs.Signs.{Moved}
-use Rattle.caller_steps.specs.Entries.{Entry}
 use Rattle.caller_steps.specs.Belongs.{HandBelongs, HoldsSlots, RunsAt as CoreRunsAt, Stands as CoreStands}
 use Rattle.oa_words.specs.Words.{in_row}
-use Rattle.caller_steps.specs.declared.call.Call.{Call}
-use Rattle.caller_steps.specs.Calls.{is_call}
+use Rattle.caller_parts.specs.declared.call.Call.{Call}
+use Rattle.caller_parts.specs.Calls.{is_call}
 use Rattle.caller_steps.specs.Wants.{wants}
 use Rattle.caller_steps.specs.After.{taken}
 use Rattle.caller_steps.specs.After.{moved as after_moves}
@@ -37,6 +36,7 @@ use Rattle.sim_relation.specs.Shared.{SharedHolds}
 use Rattle.sim_relation.specs.Callers.{Calm, CallerHolds}
 use Rattle.sim_relation.specs.MayChange.{MayChange}
 use Rattle.sim_relation.specs.Naming.{present_at}
+use Rattle.sim_relation.specs.WasSet.{set_after_access}
 use Rattle.sim_relation.specs.Points.{Plays, point}
 
 -- the words after an access
@@ -67,31 +67,42 @@ pub record NamesStay (row row' : GuardRow) (between : Bool) : Type 0 where
   pub guarded : (r : ℕ) → protected row r ≢ 0 → protected row' r ≢ 0
   pub named : between ≡ false → (r : ℕ) → row.name r ≢ 0 → row'.name r ≢ 0
 
+-- the caller goes on to retire a name's slot
+abbrev pub GoesToRetire : Plan → Routine → ℕ → Type 0
+GoesToRetire t routine n = (go : AfterRetire) × (routine ≡ Retires (retire_begun (t.home n)) go)
+
 -- names can be put beside the words and what a step has made of the entry, so that all facts hold again, and the source plays the
--- step's signs. `row` is what the step's access has made of the names of the caller's guards, and each slot then has the name that
--- is given
-pub record KeptWith (t : Plan) (c : ℕ) (s : Shared) (x : Caller) (row : GuardRow) (memory' : Word → ℕ) (m : Moved) (present' : ℕ → ℕ) : Type 0 where
+-- step's signs. `row` is what the step's access has made of the names of the caller's guards, the run has then set the registers that
+-- are given, and each slot has the name that is given
+pub record KeptWith (t : Plan) (c : ℕ) (s : Shared) (x : Caller) (row : GuardRow) (were : ℕ → Bool) (memory' : Word → ℕ) (m : Moved) (present' : ℕ → ℕ) : Type 0 where
   pub s' : Shared
   pub x' : Caller
   pub memory : s'.memory ≡ memory'
   pub present : s'.present ≡ present'
   pub entry : x'.entry ≡ m.entry
   pub names : NamesStay row x'.names (is_between m.entry.routine)
+  pub was_set : x'.was_set ≡ were
   pub plays : Plays t.text c m.signs (point s x) (point s' x')
-  pub fine : SharedHolds t s'
+  pub shared_holds : SharedHolds t s'
   pub goes : MayChange t c s s'
-  pub told : CallerHolds t s' c x'
+  -- the slot of what is newly retired is the one that the caller goes on to retire
+  pub retires : (n : ℕ) → has n s'.source.retired ≡ true → (has n s.source.retired ≡ true) ⊎ GoesToRetire t m.entry.routine n
+  pub caller_holds : CallerHolds t s' c x'
 
 -- each slot keeps its name
-abbrev pub KeptBy : (t : Plan) (c : ℕ) (s : Shared) (x : Caller) → GuardRow → (Word → ℕ) → Moved → Type 0
-KeptBy t c s x row memory' m = KeptWith t c s x row memory' m s.present
+abbrev pub KeptBy : (t : Plan) (c : ℕ) (s : Shared) (x : Caller) → GuardRow → (ℕ → Bool) → (Word → ℕ) → Moved → Type 0
+KeptBy t c s x row were memory' m = KeptWith t c s x row were memory' m s.present
 
 -- of a step that stores no hazard word and is no check
+abbrev pub KeptSetting : (t : Plan) (c : ℕ) (s : Shared) (x : Caller) → (ℕ → Bool) → (Word → ℕ) → Moved → Type 0
+KeptSetting t c s x were memory' m = KeptBy t c s x x.names were memory' m
+
+-- and whose run sets no register
 abbrev pub KeptNaming : (t : Plan) (c : ℕ) (s : Shared) (x : Caller) → (Word → ℕ) → Moved → (ℕ → ℕ) → Type 0
-KeptNaming t c s x memory' m present' = KeptWith t c s x x.names memory' m present'
+KeptNaming t c s x memory' m present' = KeptWith t c s x x.names x.was_set memory' m present'
 
 abbrev pub Kept : (t : Plan) (c : ℕ) (s : Shared) (x : Caller) → (Word → ℕ) → Moved → Type 0
-Kept t c s x memory' m = KeptWith t c s x x.names memory' m s.present
+Kept t c s x memory' m = KeptNaming t c s x memory' m s.present
 
 -- a change that any caller might make
 abbrev pub GoesForAll : Plan → Shared → Shared → Type 0
@@ -113,9 +124,9 @@ pub record Sits (t : Plan) (e : Entry) (r : Routine) : Type 0 where
   pub reaches : CoreRunsAt t.target e r
   pub stands : CoreStands t.target t.setting e r
 
--- its local code comes to a spot, and its run gets names
-abbrev pub walked : Caller → Spot → Bool → MethodRun → Caller
-walked x spot accessed held = record x { held = held; entry = record x.entry { hand = record x.entry.hand { at = spot.at; registers = spot.registers; accessed = accessed } } }
+-- its local code comes to a spot, and its run gets names and has set registers
+abbrev pub walked : Caller → Spot → Bool → MethodRun → (ℕ → Bool) → Caller
+walked x spot accessed held were = record x { held = held; was_set = were; entry = record x.entry { hand = record x.entry.hand { at = spot.at; registers = spot.registers; accessed = accessed } } }
 
 -- a guard of the caller is published for a register, with the name that it then has; or cleared
 abbrev pub with_names : GuardRow → ℕ → ℕ → GuardRow
@@ -133,22 +144,14 @@ pub record Ends (t : Plan) (s : Shared) (c : ℕ) (x : Caller) (m : Moved) : Typ
   pub x' : Caller
   pub entry : x'.entry ≡ m.entry
   pub names : NamesStay x.names x'.names (is_between m.entry.routine)
+  pub was_set : x'.was_set ≡ x.was_set
   pub plays : Plays t.text c m.signs (point s x) (point s x')
-  pub told : CallerHolds t s c x'
+  pub caller_holds : CallerHolds t s c x'
 
--- where a `grd` stands in a target
-pub record GuardPlace : Type 0 where
-  pub op : ℕ
-  pub wrapup : Bool
-  pub at : ℕ
-
-abbrev pub place_of : Entry → GuardPlace
-place_of e = record { op = e.running.call.op; wrapup = e.hand.wrapup; at = e.hand.at }
-
--- a `grd` that counts: each of a generator, and of a wrap-up that of a register which each way from the wrap-up's start to it sets.
--- Any other register of a wrap-up may hold what was recycled since the commit
-abbrev pub IsCounted : Target → GuardPlace → ℕ → Type 0
-IsCounted target p r = (p.wrapup ≡ false) ⊎ ((path : List ℕ) → TargetPath (code_at target p.op p.wrapup) path p.at → is_set_along (code_at target p.op p.wrapup) path (Ref r) false ≡ true)
+-- a `grd` counts: each of a generator, and of a wrap-up that of a register which this run of it has set. Any other register of a
+-- wrap-up may hold what was recycled since the commit
+abbrev pub is_counted : Entry → (ℕ → Bool) → ℕ → Bool
+is_counted e were r = not e.hand.wrapup || were r
 
 -- what a step's access makes of the names of the caller's guards. A check that passes validates those that have a name, and one that
 -- fails leaves those that were validated; a guard that counts gets a name, if the caller wasn't warned and the register isn't null
@@ -160,7 +163,7 @@ abbrev pub NamesAt : (t : Plan) → Shared → ℕ → Caller → Option TargetI
 NamesAt t s c x None row = row ≡ x.names
 NamesAt t s c x (Some (Plain i)) row = row ≡ x.names
 NamesAt t s c x (Some Check) row = row ≡ checked_names (s.memory (Warning c) == x.entry.hand.seen) x.names
-NamesAt t s c x (Some (Guard r)) row = (k n : ℕ) × (r ≡ Ref k) × (row ≡ with_names x.names k n) × (IsCounted t.target (place_of x.entry) k → Calm s c x → node_in x.entry.hand.registers k ≢ 0 → n ≢ 0)
+NamesAt t s c x (Some (Guard r)) row = (k n : ℕ) × (r ≡ Ref k) × (row ≡ with_names x.names k n) × (is_counted x.entry x.was_set k ≡ true → Calm s c x → node_in x.entry.hand.registers k ≢ 0 → n ≢ 0)
 
 abbrev pub NamesCleared : Caller → Option ℕ → GuardRow → Type 0
 NamesCleared x None row = row ≡ x.names
@@ -178,19 +181,20 @@ NamesAfter t s c x (Claims claim) row = row ≡ x.names
 NamesAfter t s c x (Zeroes k field) row = row ≡ x.names
 
 -- a step that is kept, and what its access has made of the names of the guards
-pub record Stepped (t : Plan) (c : ℕ) (s : Shared) (x : Caller) (Names : GuardRow → Type 0) (memory' : Word → ℕ) (m : Moved) (present' : ℕ → ℕ) : Type 0 where
+pub record Stepped (t : Plan) (c : ℕ) (s : Shared) (x : Caller) (Names : GuardRow → Type 0) (were : ℕ → Bool) (memory' : Word → ℕ) (m : Moved) (present' : ℕ → ℕ) : Type 0 where
   pub row : GuardRow
   pub names : Names row
-  pub kept : KeptWith t c s x row memory' m present'
+  pub kept : KeptWith t c s x row were memory' m present'
 
 -- a caller that takes a call stands at its generator's start, and the source doesn't move
 pub record TakeKept (t : Plan) (c : ℕ) (s : Shared) (x : Caller) (call : Call) : Type 0 where
   pub x' : Caller
   pub entry : x'.entry ≡ taken call x.entry
   pub names : x'.names ≡ x.names
+  pub was_set : x'.was_set ≡ x.was_set
   pub source : x'.source ≡ x.source
   pub watch : x'.watch ≡ x.watch
-  pub told : CallerHolds t s c x'
+  pub caller_holds : CallerHolds t s c x'
 
 -- each step of each caller whose entry passes a test is kept, where its source's text owes what a proper one does at each point to
 -- which the step leads
@@ -199,7 +203,7 @@ pub record StepsKeep (t : Plan) (test : Entry → Bool) : Type 0 where
       → is_call t.target x.entry.running.call ≡ true → StaysProper t.text c (point s x) → wants t.target x.entry ≡ Some a → in_row t.setting.sizes (word_of a) ≡ true
       → ((w : Word) → in_row t.setting.sizes w ≡ false → s.memory w ≡ 0)
       → DrawsHome t.home (after_moves t.target t.setting x.entry (s.memory (word_of a))).signs s.unused
-      → Stepped t c s x (NamesAfter t s c x x.entry.routine) (after_access s.memory a) (after_moves t.target t.setting x.entry (s.memory (word_of a))) (present_at t.setting.sizes s.memory s.unused x.entry x.entry.routine s.present)
+      → Stepped t c s x (NamesAfter t s c x x.entry.routine) (set_after_access t.target t.setting.sizes x.entry x.entry.routine (s.memory (word_of a)) x.was_set) (after_access s.memory a) (after_moves t.target t.setting x.entry (s.memory (word_of a))) (present_at t.setting.sizes s.memory s.unused x.entry x.entry.routine s.present)
 
 -- every step of each caller is kept
 abbrev pub StepKeeps : Plan → Type 0

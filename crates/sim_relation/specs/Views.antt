@@ -11,7 +11,7 @@ use Rattle.source_machine.specs.declared.state.SourceCaller.{SourceCaller}
 use Rattle.source_machine.specs.MethodRuns.{MethodRun}
 use Rattle.source_machine.specs.Proper.{field_of}
 use Rattle.source_machine.specs.Memory.{value_at}
-use Rattle.caller_steps.specs.Settings.{Setting, Fits, IsSetting}
+use Rattle.caller_parts.specs.Settings.{Setting, Fits, IsSetting}
 use Rattle.target_runs.specs.Sane.{Sane}
 use Rattle.caller_steps.specs.Entries.{Entry}
 use Rattle.run_ahead.specs.Ahead.{IsCompiled}
@@ -58,11 +58,13 @@ pub record Shared : Type 0 where
   pub public : ℕ → Bool
   pub source : Memory
 
--- a caller: its entry; the names that its guards had when they were published; what its own method run has got, and what
--- was retired when that run began; the source's caller, and the source's method run. The source may be ahead in another run
+-- a caller: its entry; the names that its guards had when they were published; which registers of references its own method run
+-- has set, what it has got, and what was retired when it began; the source's caller, and the source's method run. The source may
+-- be ahead in another run
 pub record Caller : Type 0 where
   pub entry : Entry
   pub names : GuardRow
+  pub was_set : ℕ → Bool
   pub held : MethodRun
   pub source : SourceCaller
   pub watch : MethodRun

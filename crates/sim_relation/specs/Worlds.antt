@@ -9,5 +9,5 @@ pub record World : Type 0 where
   pub who : ℕ → Caller
 
 pub record Holds (t : Plan) (w : World) : Type 0 where
-  pub fine : SharedHolds t w.shared
-  pub told : (d : ℕ) → d < t.setting.sizes.callers → CallerHolds t w.shared d (w.who d)
+  pub shared_holds : SharedHolds t w.shared
+  pub caller_holds : (d : ℕ) → d < t.setting.sizes.callers → CallerHolds t w.shared d (w.who d)

@@ -26,7 +26,7 @@ use Rattle.source_machine.specs.declared.state.Value.{Value}
 use Rattle.source_machine.specs.State.{first_value, root_value, named_from, first_memory}
 use Rattle.source_machine.specs.Memory.{value_at, fields_named}
 use Rattle.source_machine.specs.Proper.{field_of}
-use Rattle.caller_steps.specs.Settings.{Setting, Fits, IsSetting}
+use Rattle.caller_parts.specs.Settings.{Fits, IsSetting}
 use Rattle.core_runs.specs.Machine.{value_word, node_words, root_word, beginning_of, core_start}
 use Rattle.core_runs.specs.Views.{view}
 use Rattle.core_runs.proofs.Starting.{start_is_seen}

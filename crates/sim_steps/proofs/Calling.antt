@@ -11,16 +11,14 @@ use Rattle.oa_words.specs.Words.{Warning}
 use Rattle.source_machine.specs.declared.event.SourceEvent.TheVariants as events
 use Rattle.source_machine.specs.declared.state.SourceCaller.{SourceCaller}
 use Rattle.source_machine.specs.Run.{is_call_of}
-use Rattle.source_machine.specs.Proper.{runs_method}
 use Rattle.source_machine.specs.MethodRuns.{run_begun}
 use Rattle.core_runs.specs.Memories.{store}
-use Rattle.caller_steps.specs.declared.routine.MethodStart.TheVariants as starts
-use Rattle.caller_steps.specs.Calls.{is_call}
-use Rattle.caller_steps.specs.Calls.{is_call_of as is_core_call_of}
+use Rattle.caller_parts.specs.declared.routine.MethodStart.TheVariants as starts
+use Rattle.caller_parts.specs.Calls.{is_call, is_call_of as is_core_call_of}
 use Rattle.caller_steps.specs.Signs.{Begins as BeginsCall}
 use Rattle.caller_steps.specs.After.{counted, seen_loaded, method_begun}
 use Rattle.target_laws.specs.Methods.{Method}
-use Rattle.run_ahead.specs.Standing.{Call, caller_of, begins_at, run_from, first_spot}
+use Rattle.run_ahead.specs.Standing.{Call, begins_at, run_from, first_spot}
 use Rattle.run_ahead.specs.Following.{Walk, generator_walk}
 use Rattle.run_ahead.specs.MethodLaws.{Turns}
 use Rattle.run_ahead.proofs.Starting.{generator_start}
@@ -29,7 +27,8 @@ use Rattle.sim_relation.specs.Views.{Plan, IsPlan, Shared, Caller}
 use Rattle.sim_relation.specs.Shared.{SharedHolds}
 use Rattle.sim_relation.specs.Callers.{Base, Begins, Empty, Settled, IsIdle, call_of}
 use Rattle.sim_relation.specs.Points.{point}
-use Rattle.sim_relation.specs.Steps.{Kept}
+use Rattle.sim_relation.specs.Steps.{KeptSetting}
+use Rattle.sim_relation.specs.WasSet.{set_begun}
 use Rattle.sim_relation.proofs.Words.{store_idle}
 use Rattle.sim_relation.proofs.Moving.{goes_same}
 use Rattle.sim_relation.proofs.Playing.{plays_first}
@@ -61,7 +60,7 @@ called t x plan is = of (slice_get t.target.ops x.entry.running.call.op) refl wh
 
 -- the load of what was seen, where a call begins
 pub begin_kept : (t : Plan) (c : ℕ) (s : Shared) (x : Caller) → IsPlan t → SharedHolds t s → Base t s c x → Empty x → Settled x → IsIdle x → is_call t.target x.entry.running.call ≡ true
-    → Kept t c s x (store s.memory (Warning c) (s.memory (Warning c))) (seen_loaded t.target t.setting.sizes starts.Begin (s.memory (Warning c)) (counted x.entry))
+    → KeptSetting t c s x (set_begun t.target false x.entry) (store s.memory (Warning c) (s.memory (Warning c))) (seen_loaded t.target t.setting.sizes starts.Begin (s.memory (Warning c)) (counted x.entry))
 begin_kept t c s x plan f b empty settled idle is =
     let call : Call = call_of x.entry in
     let k = called t x plan is in
@@ -95,9 +94,11 @@ begin_kept t c s x plan f b empty settled idle is =
       present = refl;
       entry = ended.entry;
       names = ended.names;
-      fine = f;
+      was_set = ended.was_set;
+      shared_holds = f;
       goes = goes_same t s c;
-      told = ended.told;
+      retires = λ n is. inl is;
+      caller_holds = ended.caller_holds;
       plays = plays_first t.text c (BeginsCall x.entry.running.call) (method_begun t.target t.setting.sizes false y.entry).signs (point s x) (point s y) (point s ended.x')
           (turns.enabled, (sym (ap (λ turn. turn.memory) turns.turns), sym (ap (λ turn. turn.caller) turns.turns), sym (turns.run x.watch))) refl ended.plays;
     }

@@ -1,8 +1,7 @@
 -- A quiet step draws no name.
-use Rattle.std.proofs.Common.{ℕ, ◌≡◌, ◌∙◌, ◌&&◌, ◌==◌, ◌+◌, if◌then◌else◌, Bool, true, false, List, [], ◌∷◌, ◌++◌, length, Option, Some, None, sym, ap, refl}
+use Rattle.std.proofs.Common.{ℕ, ◌≡◌, ◌&&◌, ◌==◌, ◌+◌, if◌then◌else◌, Bool, true, false, List, [], ◌∷◌, ◌++◌, length, Option, Some, None, refl}
 use Rattle.std.specs.Prelude.{nat_lt}
 use Rattle.std.specs.List.{list_all}
-use Rattle.norm_lang.specs.declared.text.CasEntry.{CasEntry}
 use Rattle.norm_lang.specs.declared.text.Instr.{Instr}
 use Rattle.norm_lang.specs.declared.text.Instr.TheVariants as instr
 use Rattle.norm_lang.specs.declared.registers.Registers.{Registers}
@@ -15,20 +14,19 @@ use Rattle.target_code.specs.declared.target.Target.{Target}
 use Rattle.oa_words.specs.Words.{Sizes}
 use Rattle.phase_pools.specs.declared.access.ClaimEnd.{ClaimEnd}
 use Rattle.phase_pools.specs.declared.access.ClaimEnd.TheVariants as ends
-use Rattle.phase_pools.specs.Pools.{Claim, ClaimTurn, Retirement, claim_accepts, retire_accepts}
-use Rattle.caller_steps.specs.declared.routine.MethodStart.{MethodStart}
-use Rattle.caller_steps.specs.declared.routine.MethodStart.TheVariants as starts
-use Rattle.caller_steps.specs.declared.routine.AfterRetire.{AfterRetire}
-use Rattle.caller_steps.specs.declared.routine.AfterRetire.TheVariants as onward
-use Rattle.caller_steps.specs.declared.routine.Routine.{Routine}
-use Rattle.caller_steps.specs.declared.routine.Routine.TheVariants.{Idle, LoadSeen, At, InList, Retires, Restarts, Clears, Claims, Zeroes}
-use Rattle.caller_steps.specs.Settings.{Setting}
-use Rattle.caller_steps.specs.Entries.{Entry}
-use Rattle.caller_steps.specs.Operands.{code_in, instr_in, cradle_of, register_number, slot_in}
+use Rattle.phase_pools.specs.Pools.{Claim, Retirement, claim_accepts, retire_accepts}
+use Rattle.caller_parts.specs.declared.routine.MethodStart.TheVariants as starts
+use Rattle.caller_parts.specs.declared.routine.AfterRetire.{AfterRetire}
+use Rattle.caller_parts.specs.declared.routine.AfterRetire.TheVariants as onward
+use Rattle.caller_parts.specs.declared.routine.Routine.{Routine}
+use Rattle.caller_parts.specs.declared.routine.Routine.TheVariants.{Idle, LoadSeen, At, InList, Retires, Restarts, Clears, Claims, Zeroes}
+use Rattle.caller_parts.specs.Settings.{Setting}
+use Rattle.caller_steps.specs.Entries.{Entry, code_in, instr_in, cradle_of}
+use Rattle.caller_parts.specs.Operands.{register_number, slot_in}
 use Rattle.caller_steps.specs.Clearing.{restart_next, unguarded}
-use Rattle.caller_steps.specs.After.{owed, stops, plain_stop, settles, restart_on, restarted, seen_sign, check_passed, check_failed, onward_goes, retired_on, claim_on, instr_accepted, accepted, counted, node_made, with_routine, with_hand, hand_at, goes_on, method_begun, first_spot, with_restart}
+use Rattle.caller_steps.specs.After.{stops, plain_stop, settles, restart_on, check_passed, check_failed, onward_goes, retired_on, claim_on, instr_accepted, accepted, counted, node_made, with_routine, with_hand, hand_at, goes_on, method_begun, first_spot, with_restart}
 use Rattle.caller_steps.specs.After.{moved as after_moves}
-use Rattle.caller_steps.specs.Signs.{Sign, Begins, Accesses, Draws, Renews, GivesUp, Moved, quiet}
+use Rattle.caller_steps.specs.Signs.{Sign, Accesses, Draws, quiet}
 use Rattle.sim_steps.specs.Quiet.{is_quiet_instr, is_quiet_at, is_quiet}
 
 abbrev pub draws_none : Sign → Bool

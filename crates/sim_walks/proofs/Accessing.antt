@@ -24,7 +24,7 @@ use Rattle.source_machine.specs.MethodRuns.{MethodRun, run_with, name_got, run_a
 use Rattle.run_ahead.specs.Agreeing.{Changes}
 use Rattle.target_laws.specs.Methods.{code_in, source_in}
 use Rattle.target_laws.specs.Trusted.{Trusted, trust_in_set, trust_along}
-use Rattle.run_ahead.specs.Ahead.{Told, IsHeld, Ahead}
+use Rattle.run_ahead.specs.Ahead.{AsTrusted, IsHeld, Ahead}
 use Rattle.run_ahead.specs.Standing.{Call, running_of, caller_of, stands_at, run_from}
 use Rattle.run_ahead.proofs.Plain.{at_place, plain_keeps}
 use Rattle.run_ahead.proofs.Accessing.{mirrored_access, still_access, still_new, not_local}
@@ -72,7 +72,7 @@ pub record Makes (t : Plan) (s : Shared) (c name : ℕ) (x : Caller) (m : Trail 
   pub access : IsTrue (is_access i)
   pub named : IsTrue (is_name (is_new i) name s.source.nodes)
   pub goes : IsTrue (goes_to i x.entry.hand.at next.at)
-  pub changes : Changes t.home (Told (Calm s c x) (trust_in_set i)) (destination i) given x.entry.hand.registers m.mirror next.registers mirror'
+  pub changes : Changes t.home (AsTrusted (Calm s c x) (trust_in_set i)) (destination i) given x.entry.hand.registers m.mirror next.registers mirror'
   pub known : trust_in_set i ≡ Trusted → IsHeld (trust_along m.walk.method m.path) m.mirror given
   pub leads : (mirrored_access m.walk.method name i x.entry.hand.at m.mirror s.source).spot ≡ record { at = source_place (code_in m.walk.method) next.at; registers = mirror' }
 
@@ -114,20 +114,20 @@ turns t s c name x m i given next mirror' plan w st makes =
 abbrev pub turned : Caller → SourceCaller → MethodRun → Caller
 turned x source watch = record x { source = source; watch = watch }
 
--- the source's turn was made, the run has got a name, and local code has come to a spot
-abbrev pub took : Plan → Shared → ℕ → ℕ → Caller → Spot → Bool → ℕ → Caller
-took t s c name x next accessed n = walked (turned x (caller_turn t.text (events.Access c name) s.source x.source).caller (run_with n x.watch)) next accessed (run_with n x.held)
+-- the source's turn was made, the run has got a name and set registers, and local code has come to a spot
+abbrev pub took : Plan → Shared → ℕ → ℕ → Caller → Spot → Bool → ℕ → (ℕ → Bool) → Caller
+took t s c name x next accessed n were = walked (turned x (caller_turn t.text (events.Access c name) s.source x.source).caller (run_with n x.watch)) next accessed (run_with n x.held) were
 
 pub base_turned : (t : Plan) (s : Shared) (c : ℕ) (x : Caller) (source : SourceCaller) (watch : MethodRun) → Base t s c x → Base t s c (turned x source watch)
 base_turned t s c x source watch b = record { number = b.number; seen = b.seen; old = b.old; hazard = b.hazard; protects = b.protects; known = b.known; cradle = b.cradle }
 
 pub walks_turned : (t : Plan) (s : Shared) (c : ℕ) (x : Caller) (core : Spot) (m : Trail t) (source : SourceCaller) (watch : MethodRun) → Walks t s c x core m → Walks t s c (turned x source watch) core m
-walks_turned t s c x core m source watch w = record { call = w.call; wrapup = w.wrapup; first = w.first; number = w.number; start = w.start; ahead = w.ahead; generator = w.generator; kept = w.kept; shown = w.shown; sound = w.sound }
+walks_turned t s c x core m source watch w = record { call = w.call; wrapup = w.wrapup; was_set = w.was_set; first = w.first; number = w.number; start = w.start; ahead = w.ahead; generator = w.generator; kept = w.kept; shown = w.shown; sound = w.sound }
 
 -- where the source stands after the access
 pub stands_took : (t : Plan) (s : Shared) (c name : ℕ) (x : Caller) (m : Trail t) (i : Instr) (next : Spot) (mirror' : Registers) (accessed : Bool) (n : ℕ)
     → (m.walk.method.wrapup ≡ true → accessed ≡ true) → Turned t s c name x m i next mirror'
-    → Stands t (took t s c name x next accessed n) (record { walk = m.walk; path = x.entry.hand.at ∷ m.path; mirror = mirror'; there = run_from m.walk.method.op m.walk.method.wrapup (record { at = source_place (code_in m.walk.method) next.at; registers = mirror' }) })
+    → Stands t (took t s c name x next accessed n x.was_set) (record { walk = m.walk; path = x.entry.hand.at ∷ m.path; mirror = mirror'; there = run_from m.walk.method.op m.walk.method.wrapup (record { at = source_place (code_in m.walk.method) next.at; registers = mirror' }) })
 stands_took t s c name x m i next mirror' accessed n marked turn = record {
   stands = turn.stands ∙ by_wrapup m.walk.method.wrapup marked;
   unmoved = λ wrap still. absurd (let z : true ≡ false = sym (marked wrap) ∙ still in cc);

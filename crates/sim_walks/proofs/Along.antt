@@ -26,6 +26,7 @@ use Rattle.sim_relation.specs.Views.{Plan, IsPlan, Held, Shared, Caller, Residen
 use Rattle.sim_relation.specs.Shared.{SharedHolds}
 use Rattle.sim_relation.specs.Callers.{Own, Known, Shown, Calm, Base, Trail, Walks, Gets, Guards, counts, guard_state, HasMade}
 use Rattle.sim_relation.specs.Steps.{walked}
+use Rattle.sim_relation.specs.WasSet.{set_by}
 use Rattle.sim_relation.proofs.Names.{has_slot_of}
 
 -- null is apart from what is protected
@@ -53,8 +54,8 @@ has_before at path i is = rw is (or_true (at == i)) where
 pub made_before : (code : List TargetInstr) (at : ℕ) (path : List ℕ) (k : ℕ) → HasMade code path k → HasMade code (at ∷ path) k
 made_before code at path k made = (made.0, has_before at path made.0 made.1, made.2, made.3)
 
-pub base_walked : (t : Plan) (s : Shared) (c : ℕ) (x : Caller) (next : Spot) (accessed : Bool) (held : MethodRun) → held.old ≡ x.held.old → ((n : ℕ) → has n held.got ≡ true → Known t s c n) → Base t s c x → Base t s c (walked x next accessed held)
-base_walked t s c x next accessed held same known b = record {
+pub base_walked : (t : Plan) (s : Shared) (c : ℕ) (x : Caller) (next : Spot) (accessed : Bool) (held : MethodRun) (were : ℕ → Bool) → held.old ≡ x.held.old → ((n : ℕ) → has n held.got ≡ true → Known t s c n) → Base t s c x → Base t s c (walked x next accessed held were)
+base_walked t s c x next accessed held were same known b = record {
   number = b.number;
   seen = b.seen;
   hazard = b.hazard;
@@ -69,7 +70,7 @@ pub walks_along : (t : Plan) (s : Shared) (c : ℕ) (x : Caller) (core next : Sp
     → Changes t.home Set (destination i) given core.registers m.mirror next.registers mirror'
     → (trust_in_set i ≡ Trusted → IsHeld (trust_along m.walk.method m.path) m.mirror given)
     → Ahead m.walk.method t.home (Calm s c x) (core.at ∷ m.path) next mirror' there'
-    → Walks t s c x core m → Walks t s c (walked x next accessed held) next (record { walk = m.walk; path = core.at ∷ m.path; mirror = mirror'; there = there' })
+    → Walks t s c x core m → Walks t s c (walked x next accessed held (set_by (Some (Plain i)) x.was_set)) next (record { walk = m.walk; path = core.at ∷ m.path; mirror = mirror'; there = there' })
 walks_along t s c x core next m i given Set mirror' there' accessed held plan f is old changes trusts ahead w = record {
   call = w.call;
   wrapup = w.wrapup;
@@ -80,6 +81,7 @@ walks_along t s c x core next m i given Set mirror' there' accessed held plan f 
   generator = w.generator;
   kept = w.kept;
   shown = w.shown;
+  was_set = λ r. ap (λ (b : Bool). passed (over_plain (set_after (Ref r))) (Some (Plain i)) b) (w.was_set r) ∙ ap (λ o. passed (over_plain (set_after (Ref r))) o (is_set_in m.walk.method m.path r)) (sym is);
   sound = record {
     word = w.sound.word;
     pairs = w.sound.pairs;
@@ -100,7 +102,7 @@ walks_along t s c x core next m i given Set mirror' there' accessed held plan f 
 pub guards_along : (t : Plan) (s : Shared) (c : ℕ) (x : Caller) (core next : Spot) (m : Trail t) (i : Instr) (given : ℕ) (Set : Type 0 → Type 0) (mirror' : Registers) (there' : Spot) (accessed : Bool) (held : MethodRun)
     → slice_get (code_in m.walk.method) core.at ≡ Some (Plain i) → is_new i ≡ false
     → Changes t.home Set (destination i) given core.registers m.mirror next.registers mirror'
-    → Guards t x m → Guards t (walked x next accessed held) (record { walk = m.walk; path = core.at ∷ m.path; mirror = mirror'; there = there' })
+    → Guards t x m → Guards t (walked x next accessed held x.was_set) (record { walk = m.walk; path = core.at ∷ m.path; mirror = mirror'; there = there' })
 guards_along t s c x core next m i given Set mirror' there' accessed held is old changes g r counted = by_guard r (sets (Ref r) i) refl counted where
   state_is : (r : ℕ) → guard_state t m.walk (core.at ∷ m.path) r ≡ (if sets (Ref r) i || is_new i then dropped (guard_state t m.walk m.path r) else guard_state t m.walk m.path r)
   state_is r = ap (λ o. passed (guard_after (Ref r)) o (guard_state t m.walk m.path r)) is
@@ -122,7 +124,7 @@ pub gets_along : (t : Plan) (s : Shared) (c : ℕ) (x : Caller) (core next : Spo
     → ((n : ℕ) → has n x.held.got ≡ true → has n held.got ≡ true)
     → ((n k : ℕ) → has n held.got ≡ true → s.owner (t.home n) ≡ Held c k → Resident t s n → has n x.held.got ≡ true)
     → (m.walk.method.wrapup ≡ false → (r : ℕ) → sets (Ref r) i ≡ true → Shown s given)
-    → Gets t s c x m → Gets t s c (walked x next accessed held) (record { walk = m.walk; path = core.at ∷ m.path; mirror = mirror'; there = there' })
+    → Gets t s c x m → Gets t s c (walked x next accessed held x.was_set) (record { walk = m.walk; path = core.at ∷ m.path; mirror = mirror'; there = there' })
 gets_along t s c x core next m i given Set mirror' there' accessed held is old changes got more own shows g = record {
   fresh = λ gen r is_fresh. by_fresh gen r (sets (Ref r) i) refl (subst (λ o. passed (over_plain (fresh_after (Ref r))) o (is_fresh_along (code_in m.walk.method) m.path (Ref r)) ≡ true) is is_fresh);
   shown = λ gen r shut. by_shown gen r (sets (Ref r) i) refl (subst (λ o. passed (over_plain (fresh_after (Ref r))) o (is_fresh_along (code_in m.walk.method) m.path (Ref r)) ≡ false) is shut);

@@ -11,14 +11,14 @@ use Rattle.target_code.specs.Keeping.{keeps}
 use Rattle.guard_words.specs.Guards.{is_spared, next_to_clear}
 use Rattle.source_machine.specs.declared.event.SourceReply.{SourceReply}
 use Rattle.source_machine.specs.Proper.{has}
-use Rattle.caller_steps.specs.declared.call.Reply.{Reply}
-use Rattle.caller_steps.specs.declared.call.Replied.{Replied}
-use Rattle.caller_steps.specs.declared.routine.MethodStart.TheVariants as starts
-use Rattle.caller_steps.specs.declared.routine.AfterClear.TheVariants as clears
-use Rattle.caller_steps.specs.declared.routine.Routine.TheVariants.{LoadSeen, Clears}
-use Rattle.caller_steps.specs.Entries.{Entry}
-use Rattle.caller_steps.specs.Operands.{op_of}
-use Rattle.caller_steps.specs.Clearing.{kept_by, restart_spares, clear_next}
+use Rattle.caller_parts.specs.declared.call.Reply.{Reply}
+use Rattle.caller_parts.specs.declared.call.Replied.{Replied}
+use Rattle.caller_parts.specs.declared.routine.MethodStart.TheVariants as starts
+use Rattle.caller_parts.specs.declared.routine.AfterClear.TheVariants as clears
+use Rattle.caller_parts.specs.declared.routine.Routine.TheVariants.{LoadSeen, Clears}
+use Rattle.caller_steps.specs.Entries.{Entry, op_of}
+use Rattle.caller_parts.specs.Spared.{kept_by, restart_spares}
+use Rattle.caller_steps.specs.Clearing.{clear_next}
 use Rattle.caller_steps.specs.After.{first_spot, clear_on, cleared, replied as entry_replied}
 use Rattle.run_ahead.specs.Ahead.{Ahead}
 use Rattle.run_ahead.specs.Known.{AreGot}
@@ -31,23 +31,24 @@ use Rattle.sim_relation.specs.Views.{Plan, IsPlan, Shared, Caller}
 use Rattle.sim_relation.specs.Shared.{SharedHolds}
 use Rattle.sim_relation.specs.Callers.{Calm, Base, Running, Begins, EmptyBut, Settled, HasReplied, spared, first_of, source_reply, call_of}
 use Rattle.caller_steps.specs.Signs.{Moved, quiet}
-use Rattle.caller_steps.specs.Pairing.{replied_by}
+use Rattle.caller_parts.specs.Pairing.{replied_by}
 use Rattle.sim_relation.specs.Points.{done, point}
 use Rattle.sim_relation.proofs.Playing.{plays_from, points_same}
 use Rattle.sim_relation.specs.Steps.{Ends, NamesStay, is_between, is_over}
+use Rattle.sim_relation.specs.WasSet.{none_set}
 use Rattle.sim_relation.proofs.Names.{unprotected}
 use Rattle.sim_relation.proofs.Moving.{begins_moved, same_names, names_stay_on}
 use Rattle.sim_relation.proofs.Codes.{blank}
 use Rattle.sim_walks.proofs.Local.{at_spot}
 use Rattle.sim_relation.proofs.Clearing.{clear_none, none_out, kept_bit}
 use Rattle.sim_walks.proofs.Quieting.{ends_quiet}
-use Rattle.caller_steps.specs.declared.routine.AfterClear.{AfterClear}
+use Rattle.caller_parts.specs.declared.routine.AfterClear.{AfterClear}
 use Rattle.oa_words.specs.Words.{Sizes}
 use Rattle.target_code.specs.declared.target.Target.{Target}
 
--- the method's flag is set, and no access was made
+-- the method's flag is set, and no access was made and no register set
 abbrev pub restarting : Caller → Bool → Caller
-restarting x wrapup = record x { entry = record x.entry { hand = record x.entry.hand { wrapup = wrapup; accessed = false } } }
+restarting x wrapup = record x { was_set = none_set; entry = record x.entry { hand = record x.entry.hand { wrapup = wrapup; accessed = false } } }
 
 -- where a method run begins
 abbrev pub begun_spot : Bool → Entry → Spot
@@ -81,6 +82,7 @@ begins_running t s c x walk wrapup plan f b is begins empty = (
     generator = begins.generator;
     kept = begins.kept;
     shown = begins.shown;
+    was_set = λ r. refl;
     ahead = subst (λ (spot : Spot). Ahead walk.method t.home (Calm s c x) [] spot walk.started (run_from walk.method.op walk.method.wrapup (record { at = 0; registers = walk.started }))) here
         (start_keeps walk.method t.home (Calm s c x) walk.first walk.started plan.compiled begins.start);
     sound = record {
@@ -120,12 +122,13 @@ restart_empty t s c x walk true plan is begins none r free = clear_none x.entry.
 restart_empty t s c x walk false plan is begins none r free = none_out x.entry.hand.guards none r
 
 -- from where the source stands
-pub ends_from : (t : Plan) (s : Shared) (c : ℕ) (x y : Caller) (m : Moved) → y.source ≡ x.source → y.watch ≡ x.watch → NamesStay x.names y.names (is_between m.entry.routine) → Ends t s c y m → Ends t s c x m
-ends_from t s c x y m source watch names w = record {
+pub ends_from : (t : Plan) (s : Shared) (c : ℕ) (x y : Caller) (m : Moved) → y.source ≡ x.source → y.watch ≡ x.watch → y.was_set ≡ x.was_set → NamesStay x.names y.names (is_between m.entry.routine) → Ends t s c y m → Ends t s c x m
+ends_from t s c x y m source watch same names w = record {
   x' = w.x';
   entry = w.entry;
   names = names_stay_on x.names y.names w.x'.names (is_between m.entry.routine) names w.names;
-  told = w.told;
+  was_set = w.was_set ∙ same;
+  caller_holds = w.caller_holds;
   plays = plays_from t.text c m.signs (point s x) (point s y) (point s w.x') (points_same (point s x) (point s y) refl refl source watch) w.plays;
 }
 
@@ -163,8 +166,9 @@ cleared_reply t s c x reply b replied settled = of (clear_next t.target (clears.
     x' = record x { entry = entry_replied reply x.entry };
     entry = refl;
     names = same_names x.names true;
+    was_set = refl;
     plays = done _;
-    told = record {
+    caller_holds = record {
       base = record { number = b.number; seen = b.seen; old = b.old; hazard = b.hazard; protects = b.protects; known = b.known; cradle = b.cradle };
       spot = (
         none_out x.entry.hand.guards none,

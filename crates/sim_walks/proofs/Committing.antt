@@ -32,7 +32,7 @@ use Rattle.sim_relation.specs.Points.{point}
 use Rattle.sim_relation.proofs.Playing.{plays_first}
 use Rattle.sim_relation.proofs.Moving.{base_begun, names_settle}
 use Rattle.sim_walks.proofs.Quieting.{sane_here, commits_in_generator, commit_source}
-use Rattle.caller_steps.specs.declared.routine.AfterClear.TheVariants as clears
+use Rattle.caller_parts.specs.declared.routine.AfterClear.TheVariants as clears
 use Rattle.sim_relation.specs.Views.{Plan, IsPlan, Shared, Caller, settled_names}
 use Rattle.sim_relation.specs.Callers.{Calm, Base, Trail, Walks, Stands, Gets, Guards, Begins, Committed, Tied, spot_of}
 use Rattle.sim_relation.specs.Steps.{Ends}
@@ -90,7 +90,7 @@ pub list_ends : (t : Plan) (s : Shared) (c : ℕ) (x : Caller) (made : ℕ) (ent
     → slice_get (code_in w.0.walk.method) x.entry.hand.at ≡ Some (Plain (instr.Commit entries)) → Ends t s c x (quiet (list_ended t.target t.setting.sizes made x.entry))
 list_ends t s c x made entries plan b w is =
     let b' = base_settled t s c x b in
-    ends_from t s c x (wrapped x made) _ refl refl (names_settle x.names _ (over_after t.target t.setting.sizes clears.WrapUp (wrapped x made).entry refl))
+    ends_from t s c x (wrapped x made) _ refl refl refl (names_settle x.names _ (over_after t.target t.setting.sizes clears.WrapUp (wrapped x made).entry refl))
     (cleared_wrap_up t s c (wrapped x made) (wrapup_walk w.0.walk.method w.0.walk.call (with_count x.entry.hand.registers made) (with_count w.0.mirror made)) plan
     (record { number = b'.number; seen = b'.seen; old = b'.old; hazard = b'.hazard; protects = b'.protects; known = b'.known; cradle = b'.cradle })
     refl (committed_begins t s c x made entries plan w is))
@@ -102,7 +102,8 @@ empty_list_ends t s c x m plan f b w stands gets guards is = record {
   x' = ended.x';
   entry = ended.entry;
   names = ended.names;
-  told = ended.told;
+  was_set = ended.was_set;
+  caller_holds = ended.caller_holds;
   plays = plays_first t.text c Accesses [] (point s x) (point s y) (point s ended.x')
       (ap (λ caller. is_enabled_for t.text (events.Access c 0) (Some caller) s.source) source ∙ turns.enabled, (sym (ap (λ turn. turn.memory) turned), refl, refl)) refl ended.plays;
 } where
@@ -124,7 +125,7 @@ empty_list_ends t s c x m plan f b w stands gets guards is = record {
   committed : Committed t s c y 0
   committed = (
     m,
-    record { call = w.call; wrapup = w.wrapup; first = w.first; number = w.number; start = w.start; ahead = w.ahead; generator = w.generator; kept = w.kept; shown = w.shown; sound = w.sound },
+    record { call = w.call; wrapup = w.wrapup; was_set = w.was_set; first = w.first; number = w.number; start = w.start; ahead = w.ahead; generator = w.generator; kept = w.kept; shown = w.shown; sound = w.sound },
     guards,
     gen,
     ap (λ turn. turn.caller) turned,

@@ -1,5 +1,5 @@
 -- Local code, to where it stops.
-use Rattle.std.proofs.Common.{ℕ, zero, suc, ◌≡◌, ◌∙◌, false, List, ◌∷◌, Option, Some, None, ◌⊎◌, inl, inr, sym, ap, subst, refl}
+use Rattle.std.proofs.Common.{ℕ, zero, suc, ◌≡◌, ◌∙◌, Bool, false, List, ◌∷◌, Option, Some, None, ◌⊎◌, inl, inr, sym, ap, subst, refl}
 use Rattle.std.specs.Prelude.{slice_get, IsTrue}
 use Rattle.norm_lang.specs.declared.text.Instr.{Instr}
 use Rattle.norm_lang.specs.declared.text.Instr.TheVariants as instr
@@ -9,7 +9,7 @@ use Rattle.norm_lang.specs.Local.{Spot, local_step, go_on}
 use Rattle.target_code.specs.declared.target.TargetInstr.{TargetInstr}
 use Rattle.target_code.specs.declared.target.TargetInstr.TheVariants.{Plain, Check, Guard}
 use Rattle.target_code.specs.LocalCode.{target_run, target_local_at as core_local_at}
-use Rattle.caller_steps.specs.Operands.{code_in as core_code}
+use Rattle.caller_steps.specs.Entries.{code_in as core_code}
 use Rattle.norm_lang.specs.declared.text.Reg.{Reg}
 use Rattle.norm_lang.specs.declared.text.Reg.TheVariants.{Ref}
 use Rattle.norm_lang.specs.PathRules.{reads_openly}
@@ -25,6 +25,7 @@ use Rattle.sim_relation.specs.Views.{Plan, IsPlan, Shared, Caller}
 use Rattle.sim_relation.specs.Shared.{SharedHolds}
 use Rattle.sim_relation.specs.Callers.{Shown, Calm, Trail, Walks, Running}
 use Rattle.sim_relation.specs.Steps.{walked}
+use Rattle.sim_relation.specs.WasSet.{set_by, set_if_local, set_on}
 use Rattle.sim_walks.proofs.Along.{walks_along, gets_along, guards_along}
 use Rattle.sim_relation.proofs.Codes.{code_is, blank}
 
@@ -33,7 +34,10 @@ local_is_old (instr.New d) at registers next is = absurd (let z : None ≡ Some 
 local_is_old _ at registers next is = refl
 
 abbrev pub at_spot : Caller → Spot → Caller
-at_spot x spot = walked x spot x.entry.hand.accessed x.held
+at_spot x spot = walked x spot x.entry.hand.accessed x.held x.was_set
+
+abbrev pub having_set : Caller → (ℕ → Bool) → Caller
+having_set x were = record x { was_set = were }
 
 -- what local code reads it reads openly
 local_opens : (i : Instr) (at : ℕ) (registers : Registers) (next : Spot) (r : Reg) → local_step i at registers ≡ Some next → IsTrue (reads r i) → IsTrue (reads_openly r i)
@@ -50,12 +54,12 @@ local_shown t s c x m i core next given plan is step leads shown (inr read) = su
     (shown read.0 (open_reads_are_not_fresh t.target t.text plan.compiled.normal plan.compiled.barred.erases m.walk.method m.path core.at i (Ref read.0) (record { leads = leads; stands = is }) (local_opens i core.at core.registers next (Ref read.0) step read.1)))
 
 pub local_goes : (t : Plan) (s : Shared) (c : ℕ) (x : Caller) (core next : Spot) → IsPlan t → SharedHolds t s → core_local_at (slice_get (core_code t.target x.entry) core.at) core.at core.registers ≡ Some next
-    → Running t s c x core → Running t s c (at_spot x next) next
+    → Running t s c x core → Running t s c (at_spot (having_set x (set_by (slice_get (core_code t.target x.entry) core.at) x.was_set)) next) next
 local_goes t s c x core next plan f goes walk = of (slice_get (core_code t.target x.entry) core.at) refl goes where
   m : Trail t
   m = walk.0
 
-  of : (o : Option TargetInstr) → slice_get (core_code t.target x.entry) core.at ≡ o → core_local_at o core.at core.registers ≡ Some next → Running t s c (at_spot x next) next
+  of : (o : Option TargetInstr) → slice_get (core_code t.target x.entry) core.at ≡ o → core_local_at o core.at core.registers ≡ Some next → Running t s c (at_spot (having_set x (set_by o x.was_set)) next) next
   of None there step = absurd (let z : None ≡ Some next = step in cc)
   of (Some Check) there step = absurd (let z : None ≡ Some next = step in cc)
   of (Some (Guard r)) there step = absurd (let z : None ≡ Some next = step in cc)
@@ -76,11 +80,14 @@ local_goes t s c x core next plan f goes walk = of (slice_get (core_code t.targe
       )
 
 pub local_runs : (t : Plan) (s : Shared) (c : ℕ) (x : Caller) (n : ℕ) (spot : Spot) → IsPlan t → SharedHolds t s → Running t s c (at_spot x spot) spot
-    → Running t s c (at_spot x (target_run (core_code t.target x.entry) n spot)) (target_run (core_code t.target x.entry) n spot)
+    → Running t s c (at_spot (having_set x (set_on (core_code t.target x.entry) n x.was_set spot)) (target_run (core_code t.target x.entry) n spot)) (target_run (core_code t.target x.entry) n spot)
 local_runs t s c x zero spot plan f walk = walk
-local_runs t s c x (suc n) spot plan f walk = by_next (core_local_at (slice_get (core_code t.target x.entry) spot.at) spot.at spot.registers) refl (λ next go. local_runs t s c x n next plan f go) where
-  by_next : (o : Option Spot) → core_local_at (slice_get (core_code t.target x.entry) spot.at) spot.at spot.registers ≡ o
-      → ((next : Spot) → Running t s c (at_spot x next) next → Running t s c (at_spot x (target_run (core_code t.target x.entry) n next)) (target_run (core_code t.target x.entry) n next))
-      → Running t s c (at_spot x (go_on o spot (target_run (core_code t.target x.entry) n))) (go_on o spot (target_run (core_code t.target x.entry) n))
-  by_next None is more = walk
-  by_next (Some next) is more = more next (local_goes t s c (at_spot x spot) spot next plan f is walk)
+local_runs t s c x (suc n) spot plan f walk =
+    by_next (core_local_at (slice_get (core_code t.target x.entry) spot.at) spot.at spot.registers) refl (λ next go. local_runs t s c (having_set x (set_by (slice_get (core_code t.target x.entry) spot.at) x.was_set)) n next plan f go)
+  where
+    by_next : (o : Option Spot) → core_local_at (slice_get (core_code t.target x.entry) spot.at) spot.at spot.registers ≡ o
+        → ((next : Spot) → Running t s c (at_spot (having_set x (set_by (slice_get (core_code t.target x.entry) spot.at) x.was_set)) next) next
+        → Running t s c (at_spot (having_set x (set_on (core_code t.target x.entry) n (set_by (slice_get (core_code t.target x.entry) spot.at) x.was_set) next)) (target_run (core_code t.target x.entry) n next)) (target_run (core_code t.target x.entry) n next))
+        → Running t s c (at_spot (having_set x (set_if_local o x.was_set (set_on (core_code t.target x.entry) n (set_by (slice_get (core_code t.target x.entry) spot.at) x.was_set)))) (go_on o spot (target_run (core_code t.target x.entry) n))) (go_on o spot (target_run (core_code t.target x.entry) n))
+    by_next None is more = walk
+    by_next (Some next) is more = more next (local_goes t s c (at_spot x spot) spot next plan f is walk)

@@ -12,10 +12,10 @@ use Rattle.target_code.specs.declared.target.TargetInstr.TheVariants.{Plain}
 use Rattle.target_code.specs.Erasing.{source_place}
 use Rattle.phase_pools.specs.Pools.{claim_begun}
 use Rattle.source_machine.specs.Step.{generator_stand, goes_on}
-use Rattle.caller_steps.specs.declared.routine.AfterClear.TheVariants as clears
-use Rattle.caller_steps.specs.declared.routine.Routine.{Routine}
-use Rattle.caller_steps.specs.declared.routine.Routine.TheVariants.{Clears, Claims, Zeroes}
-use Rattle.caller_steps.specs.Operands.{cradle_of, new_number}
+use Rattle.caller_parts.specs.declared.routine.AfterClear.TheVariants as clears
+use Rattle.caller_parts.specs.declared.routine.Routine.{Routine}
+use Rattle.caller_parts.specs.declared.routine.Routine.TheVariants.{Clears, Claims, Zeroes}
+use Rattle.caller_steps.specs.Entries.{cradle_of, new_number}
 use Rattle.caller_steps.specs.Clearing.{clear_next}
 use Rattle.caller_steps.specs.After.{with_routine, new_on, clear_on, cleared}
 use Rattle.target_runs.specs.Sane.{SaneAt}
@@ -40,8 +40,9 @@ ends_quiet t s c x r b spot = record {
   x' = routed x r;
   entry = refl;
   names = same_names x.names (is_between r);
+  was_set = refl;
   plays = done _;
-  told = record { base = base_moved t s c x x.entry.running.steps x.entry.counts r b; spot = spot };
+  caller_holds = record { base = base_moved t s c x x.entry.running.steps x.entry.counts r b; spot = spot };
 }
 
 pub new_routed : (t : Plan) (s : Shared) (c : ℕ) (x : Caller) (core : Spot) (r : Routine) → AtNew t s c x core → AtNew t s c (routed x r) core

@@ -13,8 +13,8 @@ use Rattle.source_machine.specs.declared.state.SourceCaller.{SourceCaller}
 use Rattle.source_machine.specs.Step.{caller_turn, replied}
 use Rattle.source_machine.specs.MethodRuns.{run_begun, run_after}
 use Rattle.source_machine.specs.Proper.{runs_method}
-use Rattle.caller_steps.specs.declared.call.Reply.{Reply}
-use Rattle.caller_steps.specs.declared.routine.AfterClear.TheVariants as clears
+use Rattle.caller_parts.specs.declared.call.Reply.{Reply}
+use Rattle.caller_parts.specs.declared.routine.AfterClear.TheVariants as clears
 use Rattle.caller_steps.specs.Signs.{Accesses, quiet, told}
 use Rattle.caller_steps.specs.After.{cleared, owed}
 use Rattle.target_laws.specs.Methods.{code_in}
@@ -103,7 +103,7 @@ reply_ends t s c x m i reply plan f b w stands gets is ends leaves = owes t s c 
   replies = leaves ∙ ap (λ (call : Call). replied (source_reply reply) (caller_of call)) w.call
 
   by : (accessed : Bool) → x.entry.hand.accessed ≡ accessed → Ends t s c x (told (if accessed then Accesses ∷ [] else []) (quiet (cleared t.target t.setting.sizes (clears.Reply reply) x.entry)))
-  by false none = ends_from t s c x (settled_caller x) _ refl refl (names_settle x.names _ (over_after t.target t.setting.sizes (clears.Reply reply) x.entry refl)) (cleared_reply t s c (settled_caller x) reply (base_settled t s c x b) (e.ended none ∙ replies) (λ r invalid. settled_is x r invalid))
+  by false none = ends_from t s c x (settled_caller x) _ refl refl refl (names_settle x.names _ (over_after t.target t.setting.sizes (clears.Reply reply) x.entry refl)) (cleared_reply t s c (settled_caller x) reply (base_settled t s c x b) (e.ended none ∙ replies) (λ r invalid. settled_is x r invalid))
   by true made =
       let turns = e.ends made c s.source in
       let ended = cleared_reply t s c (ended_caller t s c x) reply (base_ended t s c x f b) (ap (λ turn. turn.caller) turns.turns ∙ replies) (λ r invalid. settled_is x r invalid) in
@@ -111,7 +111,8 @@ reply_ends t s c x m i reply plan f b w stands gets is ends leaves = owes t s c 
         x' = ended.x';
         entry = ended.entry;
         names = names_stay_on x.names (settled_names x.names) ended.x'.names _ (names_settle x.names _ (over_after t.target t.setting.sizes (clears.Reply reply) x.entry refl)) ended.names;
-        told = ended.told;
+        was_set = ended.was_set;
+        caller_holds = ended.caller_holds;
         plays = plays_first t.text c Accesses [] (point s x) (point s (ended_caller t s c x)) (point s ended.x') (turns.enabled, (sym (ap (λ turn. turn.memory) turns.turns), refl, refl)) refl ended.plays;
       }
 
@@ -143,7 +144,7 @@ again_ends t s c x m plan f b w stands gets is = owes t s c x clears.Again (w.wr
         tied = inl (runs x.source (e.ended none), ⊎_elim (λ both. both.1) (λ ended. absurd (let z : true ≡ false = sym (runs x.source (e.ended none)) ∙ ended.0 in cc)) stands.tied);
         settled = λ r invalid. settled_is x r invalid;
       } in
-      ends_from t s c x (settled_caller x) _ refl refl (names_settle x.names _ (over_after t.target t.setting.sizes clears.Again x.entry refl)) (cleared_again t s c (settled_caller x) (generator_walk m.walk.method m.walk.call) (base_settled t s c x b) refl begins)
+      ends_from t s c x (settled_caller x) _ refl refl refl (names_settle x.names _ (over_after t.target t.setting.sizes clears.Again x.entry refl)) (cleared_again t s c (settled_caller x) (generator_walk m.walk.method m.walk.call) (base_settled t s c x b) refl begins)
   by true made =
       let turns = e.ends made c s.source in
       let begins : Begins t s c (ended_caller t s c x) (generator_walk m.walk.method m.walk.call) = record {
@@ -164,6 +165,7 @@ again_ends t s c x m plan f b w stands gets is = owes t s c x clears.Again (w.wr
         x' = ended.x';
         entry = ended.entry;
         names = names_stay_on x.names (settled_names x.names) ended.x'.names _ (names_settle x.names _ (over_after t.target t.setting.sizes clears.Again x.entry refl)) ended.names;
-        told = ended.told;
+        was_set = ended.was_set;
+        caller_holds = ended.caller_holds;
         plays = plays_first t.text c Accesses [] (point s x) (point s (ended_caller t s c x)) (point s ended.x') (turns.enabled, (sym (ap (λ turn. turn.memory) turns.turns), refl, refl)) refl ended.plays;
       }

@@ -18,7 +18,7 @@ use Rattle.source_machine.specs.Step.{performed_by, caller_turn, wrap_up_end}
 use Rattle.source_machine.specs.Run.{is_enabled_for, is_enabled_by}
 use Rattle.source_machine.specs.MethodRuns.{MethodRun, run_begun, run_after}
 use Rattle.source_machine.specs.Proper.{runs_method, in_method}
-use Rattle.caller_steps.specs.declared.routine.MethodStart.{MethodStart}
+use Rattle.caller_parts.specs.declared.routine.MethodStart.{MethodStart}
 use Rattle.caller_steps.specs.Entries.{one_more}
 use Rattle.caller_steps.specs.After.{counted, seen_loaded, check_failed, is_wrap_up}
 use Rattle.run_ahead.proofs.Starting.{start_keeps}
@@ -42,7 +42,8 @@ use Rattle.sim_relation.specs.Callers.{first_of}
 use Rattle.sim_relation.specs.Views.{Plan, IsPlan, Shared, Caller, settled_names}
 use Rattle.sim_relation.specs.Shared.{SharedHolds}
 use Rattle.sim_relation.specs.Callers.{Calm, Base, Trail, Walks, Stands, Begins, EmptyBut, spot_of}
-use Rattle.sim_relation.specs.Steps.{Kept, KeptBy}
+use Rattle.sim_relation.specs.Steps.{KeptBy, KeptSetting}
+use Rattle.sim_relation.specs.WasSet.{set_begun, set_cleared}
 use Rattle.sim_relation.proofs.Words.{store_idle}
 use Rattle.sim_relation.proofs.Moving.{goes_same, settled_is, base_settled}
 use Rattle.sim_walks.proofs.Stopping.{settles_ends, restarted_ends}
@@ -164,7 +165,7 @@ base_rerun t s c x source watch counts accessed f b = record {
 -- the load of what was seen, at a wrap-up's start and after `again`
 pub seen_kept : (t : Plan) (s : Shared) (c : ℕ) (x : Caller) (walk : Walk t.target t.text) (why : MethodStart) → IsPlan t → SharedHolds t s → Base t s c x → Begins t s c x walk → walk.method.wrapup ≡ is_wrap_up why → EmptyBut t walk x
     → seen_sign why (counted x.entry) ≡ Renews → (r : Restarted t s c x walk)
-    → Kept t c s x (store s.memory (Warning c) (s.memory (Warning c))) (seen_loaded t.target t.setting.sizes why (s.memory (Warning c)) (counted x.entry))
+    → KeptSetting t c s x (set_begun t.target (is_wrap_up why) x.entry) (store s.memory (Warning c) (s.memory (Warning c))) (seen_loaded t.target t.setting.sizes why (s.memory (Warning c)) (counted x.entry))
 seen_kept t s c x walk why plan f b begins is empty sign r =
     let word = s.memory (Warning c) in
     let y : Caller = rerun x s word r.source' r.watch' x.entry.counts x.entry.hand.accessed in
@@ -180,9 +181,11 @@ seen_kept t s c x walk why plan f b begins is empty sign r =
       present = refl;
       entry = ended.entry;
       names = ended.names;
-      fine = f;
+      was_set = ended.was_set;
+      shared_holds = f;
       goes = goes_same t s c;
-      told = ended.told;
+      retires = λ n is. inl is;
+      caller_holds = ended.caller_holds;
       plays = subst (λ (sign : Sign). Plays t.text c (sign ∷ (method_begun t.target t.setting.sizes (is_wrap_up why) y.entry).signs) (point s x) (point s ended.x')) (sym sign) (r.plays _ (point s ended.x') ended.plays);
     }
 
@@ -207,7 +210,7 @@ walks_restart t s c x m plan w stands = restarts t s c x m.walk (Calm s c x) m.p
 
 -- a check that fails
 pub check_fails : (t : Plan) (s : Shared) (c : ℕ) (x : Caller) (m : Trail t) → IsPlan t → SharedHolds t s → Base t s c x → Walks t s c x (spot_of x.entry.hand) m → (r : Restarted t s c x m.walk)
-    → KeptBy t c s x (settled_names x.names) (store s.memory (Warning c) (s.memory (Warning c))) (check_failed t.target t.setting.sizes (s.memory (Warning c)) (counted x.entry))
+    → KeptBy t c s x (settled_names x.names) (set_cleared t.target x.entry x.was_set) (store s.memory (Warning c) (s.memory (Warning c))) (check_failed t.target t.setting.sizes (s.memory (Warning c)) (counted x.entry))
 check_fails t s c x m plan f b w r =
     let word = s.memory (Warning c) in
     let settled : Caller = record x { names = settled_names x.names } in
@@ -234,8 +237,10 @@ check_fails t s c x m plan f b w r =
       present = refl;
       entry = ended.entry;
       names = ended.names;
-      fine = f;
+      was_set = ended.was_set;
+      shared_holds = f;
       goes = goes_same t s c;
-      told = ended.told;
+      retires = λ n is. inl is;
+      caller_holds = ended.caller_holds;
       plays = r.plays _ (point s ended.x') ended.plays;
     }

@@ -7,15 +7,15 @@ use Rattle.norm_lang.specs.Local.{Spot}
 use Rattle.target_code.specs.declared.target.TargetInstr.{TargetInstr}
 use Rattle.target_code.specs.declared.target.TargetInstr.TheVariants.{Plain, Check, Guard}
 use Rattle.target_code.specs.Erasing.{source_place}
-use Rattle.caller_steps.specs.declared.routine.Routine.TheVariants.{At, InList}
+use Rattle.caller_parts.specs.declared.routine.Routine.TheVariants.{At, InList, Restarts}
 use Rattle.target_code.specs.LocalCode.{target_run}
-use Rattle.caller_steps.specs.Operands.{instr_in, list_of, code_in as core_code}
+use Rattle.caller_steps.specs.Entries.{instr_in, code_in as core_code}
+use Rattle.caller_parts.specs.Operands.{list_of}
 use Rattle.caller_steps.specs.After.{with_routine, plain_stop, stops, stopped, settles}
 use Rattle.target_laws.specs.Methods.{code_in}
 use Rattle.run_ahead.specs.Standing.{stands_in_list}
 use Rattle.norm_lang.specs.Registers.{number_in}
-use Rattle.caller_steps.specs.declared.call.Reply.TheVariants as core_replies
-use Rattle.caller_steps.specs.declared.routine.Routine.TheVariants.{Restarts}
+use Rattle.caller_parts.specs.declared.call.Reply.TheVariants as core_replies
 use Rattle.caller_steps.specs.Clearing.{restart_next}
 use Rattle.caller_steps.specs.After.{restart_on, restarted}
 use Rattle.run_ahead.specs.Following.{Walk}
@@ -29,9 +29,10 @@ use Rattle.sim_relation.specs.Views.{Plan, IsPlan, Shared, Caller}
 use Rattle.sim_relation.specs.Shared.{SharedHolds}
 use Rattle.sim_relation.specs.Callers.{Base, Running, spot_of}
 use Rattle.sim_relation.specs.Steps.{Ends}
+use Rattle.sim_relation.specs.WasSet.{set_begun, set_cleared, set_from, set_restarted}
 use Rattle.caller_steps.specs.Signs.{quiet}
 use Rattle.sim_relation.proofs.Moving.{walks_moved, running_moved}
-use Rattle.sim_walks.proofs.Local.{at_spot, local_runs}
+use Rattle.sim_walks.proofs.Local.{at_spot, having_set, local_runs}
 use Rattle.sim_relation.proofs.Codes.{instr_is}
 
 -- at an instruction that isn't local
@@ -70,21 +71,21 @@ stopped_ends t s c x plan f b walk = by_instr (instr_in t.target x.entry) refl w
 
 -- local code from a spot, to where it stops
 pub settles_ends : (t : Plan) (s : Shared) (c : ℕ) (x : Caller) (spot : Spot) → IsPlan t → SharedHolds t s → Base t s c (at_spot x spot) → Running t s c (at_spot x spot) spot
-    → Ends t s c (at_spot x (target_run (core_code t.target x.entry) (length (core_code t.target x.entry)) spot)) (settles t.target t.setting.sizes spot x.entry)
+    → Ends t s c (at_spot (having_set x (set_from t.target x.entry x.was_set spot)) (target_run (core_code t.target x.entry) (length (core_code t.target x.entry)) spot)) (settles t.target t.setting.sizes spot x.entry)
 settles_ends t s c x spot plan f b walk =
     let there = target_run (core_code t.target x.entry) (length (core_code t.target x.entry)) spot in
-    stopped_ends t s c (at_spot x there) plan f (record { number = b.number; seen = b.seen; old = b.old; hazard = b.hazard; protects = b.protects; known = b.known; cradle = b.cradle })
+    stopped_ends t s c (at_spot (having_set x (set_from t.target x.entry x.was_set spot)) there) plan f (record { number = b.number; seen = b.seen; old = b.old; hazard = b.hazard; protects = b.protects; known = b.known; cradle = b.cradle })
     (local_runs t s c x (length (core_code t.target x.entry)) spot plan f walk)
 
 -- after a failed check: guards are cleared, then the method begins again
 pub restarted_ends : (t : Plan) (s : Shared) (c : ℕ) (x : Caller) (walk : Walk t.target t.text) → IsPlan t → SharedHolds t s → Base t s c x → walk.method.wrapup ≡ x.entry.hand.wrapup → Begins t s c x walk
-    → Ends t s c x (restarted t.target t.setting.sizes x.entry)
+    → Ends t s c (having_set x (set_cleared t.target x.entry x.was_set)) (restarted t.target t.setting.sizes x.entry)
 restarted_ends t s c x walk plan f b is begins = of (restart_next t.target x.entry) refl where
-  of : (o : Option ℕ) → restart_next t.target x.entry ≡ o → Ends t s c x (restart_on t.target t.setting.sizes o x.entry)
+  of : (o : Option ℕ) → restart_next t.target x.entry ≡ o → Ends t s c (having_set x (set_restarted t.target x.entry x.was_set o)) (restart_on t.target t.setting.sizes o x.entry)
   of None none =
       let spot = begun_spot x.entry.hand.wrapup x.entry in
       let there = target_run (core_code t.target (restarting x x.entry.hand.wrapup).entry) (length (core_code t.target (restarting x x.entry.hand.wrapup).entry)) spot in
-      ends_from t s c x (at_spot (restarting x x.entry.hand.wrapup) there) _ refl refl (same_names x.names _)
+      ends_from t s c (having_set x (set_begun t.target x.entry.hand.wrapup x.entry)) (at_spot (having_set (restarting x x.entry.hand.wrapup) (set_begun t.target x.entry.hand.wrapup x.entry)) there) _ refl refl refl (same_names x.names _)
       (settles_ends t s c (restarting x x.entry.hand.wrapup) spot plan f
       (record { number = b.number; seen = b.seen; old = b.old; hazard = b.hazard; protects = b.protects; known = b.known; cradle = b.cradle })
       (begins_running t s c x walk x.entry.hand.wrapup plan f b is begins (restart_empty t s c x walk x.entry.hand.wrapup plan is begins none)))

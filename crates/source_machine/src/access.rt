@@ -1,9 +1,12 @@
 //! What an access finds in memory, and what it is to change there.
 
-ghost use Rattle.std.specs.Prelude.{◌≡◌, ◌<◌, ◌≤◌, map, option_copied, option_map, slice_get, IfOk};
+ghost use Rattle.std.specs.Prelude.{◌≡◌, ◌<◌, ◌≤◌, ◌+◌, false, map, option_copied, option_map, slice_get, IfOk};
 ghost use Rattle.norm_lang.specs.Local.{remainder};
+ghost use Rattle.norm_lang.specs.Registers.{reference_in, with_reference};
 ghost use Rattle.source_machine.specs.Memory.{value_in, with_value, same_value, value_at, blank_of, blank_field, blank_fields, fields_behind, loaded, found_at};
-ghost use Rattle.source_machine.specs.Plans.{blank_in, site_at, retired_name, exchange_write, made_by, made_at};
+ghost use Rattle.source_machine.specs.declared.plan.Change.TheVariants.{Makes, Writes};
+ghost use Rattle.source_machine.specs.declared.plan.Site.TheVariants as sites;
+ghost use Rattle.source_machine.specs.Plans.{blank_in, site_at, retired_name, exchange_write, auxiliary_made, load_made, made_by, made_at};
 
 use crate::plan::{Change, Made, Site, Write};
 use crate::state::{Memory, Value};
@@ -186,6 +189,80 @@ pub fn exchange(entry: &CasEntry, registers: &Registers, memory: &Memory) -> Opt
     })
 }
 
+/// A load: the register holds the value that was found.
+fn load(to: Reg, value: Value, at: usize, registers: &Registers) -> Made
+    requires { at < usize.MAX }
+    ensures { result ≡ load_made to value at registers.now }
+{
+    let mut after = *registers;
+    put_value(&mut after, to, value);
+    Made {
+        change: Change::Nothing,
+        at: at + 1,
+        registers: after,
+    }
+}
+
+/// A `new`: the node with the name is made, and the register refers to it.
+fn make_node(to: Reg, name: u64, at: usize, registers: &Registers) -> Made
+    requires { at < usize.MAX }
+    ensures { result ≡ record { change = Makes name; at = at + 1; registers = with_reference registers.now to (record { node = name; marked = false }) } }
+{
+    let mut after = *registers;
+    let reference = Reference {
+        node: name,
+        marked: false,
+    };
+    put_reference(&mut after, to, reference);
+    Made {
+        change: Change::Makes(name),
+        at: at + 1,
+        registers: after,
+    }
+}
+
+/// A `put`: the field of the object becomes what the other register holds.
+fn put(object: Reg, field: u8, from: Reg, at: usize, registers: &Registers) -> Made
+    requires { at < usize.MAX }
+    ensures { result ≡ record { change = Writes (record { site = sites.Field (reference_in registers.now object).node field; value = value_in registers.now from; retires = 0 }); at = at + 1; registers = registers.now } }
+{
+    let write = Write {
+        site: Site::Field(reference_at(registers, object).node, field as usize),
+        value: value_in(registers, from),
+        retires: 0,
+    };
+    Made {
+        change: Change::Writes(write),
+        at: at + 1,
+        registers: *registers,
+    }
+}
+
+/// An auxiliary exchange, which goes elsewhere where it fails.
+fn auxiliary(
+    entry: &CasEntry,
+    elsewhere: u16,
+    at: usize,
+    registers: &Registers,
+    memory: &Memory,
+) -> Made
+    requires { at < usize.MAX }
+    ensures { result ≡ auxiliary_made (exchange_write entry.now registers.now memory.now) at elsewhere registers.now }
+{
+    match exchange(entry, registers, memory) {
+        None => Made {
+            change: Change::Nothing,
+            at: elsewhere as usize,
+            registers: *registers,
+        },
+        Some(write) => Made {
+            change: Change::Writes(write),
+            at: at + 1,
+            registers: *registers,
+        },
+    }
+}
+
 /// The access of one instruction at a place; a `new` makes the node with the name.
 fn make(
     text: &Text,
@@ -198,49 +275,18 @@ fn make(
     requires { at < usize.MAX }
     ensures { result ≡ made_by text.now name instr.now at registers.now memory.now }
 {
-    let mut after = *registers;
-    let mut change = Change::Nothing;
     match instr {
         Instr::LoadRoot(d, _) | Instr::LoadPick(d, _, _, _) | Instr::LoadField(d, _, _) => {
-            put_value(&mut after, *d, loaded(text, instr, registers, memory));
+            load(*d, loaded(text, instr, registers, memory), at, registers)
         }
-        Instr::New(d) => {
-            let reference = Reference {
-                node: name,
-                marked: false,
-            };
-            put_reference(&mut after, *d, reference);
-            change = Change::Makes(name);
-        }
-        Instr::Put(a, f, b) => {
-            change = Change::Writes(Write {
-                site: Site::Field(reference_at(registers, *a).node, *f as usize),
-                value: value_in(registers, *b),
-                retires: 0,
-            });
-        }
-        Instr::Cas(entry, l) => match exchange(entry, registers, memory) {
-            None => {
-                return Made {
-                    change,
-                    at: *l as usize,
-                    registers: after,
-                };
-            }
-            Some(write) => change = Change::Writes(write),
+        Instr::New(d) => make_node(*d, name, at, registers),
+        Instr::Put(a, f, b) => put(*a, *f, *b, at, registers),
+        Instr::Cas(entry, l) => auxiliary(entry, *l, at, registers, memory),
+        _ => Made {
+            change: Change::Nothing,
+            at,
+            registers: *registers,
         },
-        _ => {
-            return Made {
-                change,
-                at,
-                registers: after,
-            };
-        }
-    }
-    Made {
-        change,
-        at: at + 1,
-        registers: after,
     }
 }
 

@@ -15,8 +15,8 @@ use Rattle.target_laws.specs.Methods.{code_in}
 use Rattle.source_machine.specs.declared.state.Stand.TheVariants.{InWrapUp}
 use Rattle.source_machine.specs.declared.state.SourceCaller.{SourceCaller}
 use Rattle.source_machine.specs.Step.{wrap_up_stop}
-use Rattle.caller_steps.specs.declared.routine.Routine.{Routine}
-use Rattle.caller_steps.specs.Operands.{slot_in}
+use Rattle.caller_parts.specs.declared.routine.Routine.{Routine}
+use Rattle.caller_parts.specs.Operands.{slot_in}
 use Rattle.run_ahead.specs.Standing.{Call, running_at, caller_of, stands_at}
 use Rattle.run_ahead.proofs.Mirroring.{references_agree, reads_first}
 use Rattle.run_ahead.proofs.Plain.{at_place}
@@ -54,7 +54,7 @@ based t s c x base plan f told below proper loads =
         let m : Trail t = run.0 in
         let i : Instr = instr.LoadField loads.into base loads.field in
         let here : slice_get (code_in run.0.walk.method) x.entry.hand.at ≡ Some (Plain i) = sym (instr_is t s c x (spot_of x.entry.hand) run.0 run.1) ∙ loads.instr_is in
-        let rd : Reading t s c x run.0 i = record { plan = plan; fine = f; base = told.base; walks = run.1; gets = run.3; below = below; proper = proper_here t c s x proper run.2.tied; here = here } in
+        let rd : Reading t s c x run.0 i = record { plan = plan; shared_holds = f; base = told.base; walks = run.1; gets = run.3; below = below; proper = proper_here t c s x proper run.2.tied; here = here } in
         let there = stands_there run.0.walk.method t.home (Calm s c x) run.0.path (spot_of x.entry.hand) run.0.mirror run.0.there i plan.compiled here refl run.1.ahead in
         let stands : x.source ≡ stands_at run.0.walk.method.op run.0.walk.method.wrapup run.0.walk.started x.entry.hand.accessed run.0.walk.call (record { at = source_place (code_in run.0.walk.method) x.entry.hand.at; registers = run.0.mirror }) =
         run.2.stands ∙ ap (λ (spot : Spot). stands_at run.0.walk.method.op run.0.walk.method.wrapup run.0.walk.started x.entry.hand.accessed run.0.walk.call spot) (sym there) in

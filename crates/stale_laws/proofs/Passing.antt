@@ -9,9 +9,9 @@ use Rattle.barrier_check.specs.Paired.{Paired, IsSound as IsPairSound}
 use Rattle.source_machine.specs.declared.state.SourceCaller.{SourceCaller}
 use Rattle.source_machine.specs.declared.state.SourceMachine.{SourceMachine}
 use Rattle.source_machine.specs.Proper.{IsProper}
-use Rattle.caller_steps.specs.Settings.{Setting, Fits, IsSetting}
+use Rattle.caller_parts.specs.Settings.{Setting, Fits, IsSetting}
 use Rattle.caller_steps.specs.Entries.{Entry}
-use Rattle.caller_steps.specs.Operands.{slot_in}
+use Rattle.caller_parts.specs.Operands.{slot_in}
 use Rattle.caller_laws.proofs.Together.{methods}
 use Rattle.caller_laws.proofs.Methods.{setting_sane}
 use Rattle.core_runs.specs.Machine.{CoreState, CoreEvent}
@@ -48,7 +48,7 @@ module _ (target : Target) (text : Text) (setting : Setting) (runs : IsRunnable 
 
   base_of : (c : ℕ) (base : Reg) → c < setting.sizes.callers → LoadsFrom target ((view setting state).who c) base → Based t world c (k.beside.w.who c) base
   base_of c base lt loads =
-      based t world c (k.beside.w.who c) base k.plan k.beside.holds.fine (k.beside.holds.told c lt) lt
+      based t world c (k.beside.w.who c) base k.plan k.beside.holds.shared_holds (k.beside.holds.caller_holds c lt) lt
       (stays_proper text setting.sizes.callers c (shadow target text setting events) k.beside.v (point world (k.beside.w.who c)) proper k.beside.sourced
       (record { caller = k.beside.caller c lt; memory = k.beside.source; run = k.beside.run c lt; unused = k.beside.unused }))
       (subst (λ (e : Entry). LoadsFrom target e base) (sym (entry_is c lt)) loads)
@@ -75,7 +75,7 @@ module _ (target : Target) (text : Text) (setting : Setting) (runs : IsRunnable 
         stale.away (ap (λ (present : ℕ → ℕ). present (home_of target text setting events (register_name target text setting events c base))) (sym k.present) ∙ here)
 
     below : ((view setting state).who c).hand.seen < (view setting state).memory (Warning c)
-    below = let le = (k.beside.holds.told c lt).base.seen in omega (arith, le, uncalm, seen, word)
+    below = let le = (k.beside.holds.caller_holds c lt).base.seen in omega (arith, le, uncalm, seen, word)
 
   stale_loads : StaleLoadsAreWarned target text setting events state
   stale_loads = record {

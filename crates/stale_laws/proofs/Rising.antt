@@ -22,10 +22,10 @@ use Rattle.phase_pools.specs.declared.stages.RetireStage.{RetireStage}
 use Rattle.phase_pools.specs.declared.stages.RetireStage.TheVariants as retires
 use Rattle.phase_pools.specs.Accesses.{WordAccess, Loads, word_of, word_after}
 use Rattle.phase_pools.specs.Pools.{Sweep, sweep_wants_at, claim_wants_at, retire_wants_at}
-use Rattle.caller_steps.specs.declared.routine.Routine.{Routine}
-use Rattle.caller_steps.specs.declared.routine.Routine.TheVariants.{Idle, LoadSeen, At, InList, Retires, Restarts, Clears, Claims, Zeroes}
-use Rattle.caller_steps.specs.Entries.{Entry}
-use Rattle.caller_steps.specs.Operands.{instr_in, list_of, slot_in, word_in}
+use Rattle.caller_parts.specs.declared.routine.Routine.{Routine}
+use Rattle.caller_parts.specs.declared.routine.Routine.TheVariants.{Idle, LoadSeen, At, InList, Retires, Restarts, Clears, Claims, Zeroes}
+use Rattle.caller_steps.specs.Entries.{Entry, instr_in}
+use Rattle.caller_parts.specs.Operands.{list_of, slot_in, word_in}
 use Rattle.caller_steps.specs.Clearing.{restart_next, clear_next}
 use Rattle.caller_steps.specs.Wants.{wants, wanted, instr_wanted, plain_wanted, list_wanted, clear_wanted, exchange_wanted, place_exchange, object_exchange}
 use Rattle.sim_relation.proofs.Words.{store_idle, each_warning}

@@ -9,30 +9,31 @@ use Rattle.target_code.specs.declared.target.Target.{Target}
 use Rattle.oa_words.specs.Words.{Word, Warning}
 use Rattle.phase_pools.specs.Accesses.{WordAccess, Loads, word_of}
 use Rattle.source_machine.proofs.Places.{each_put}
-use Rattle.caller_steps.specs.declared.routine.Routine.{Routine}
-use Rattle.caller_steps.specs.declared.routine.Routine.TheVariants.{Idle, LoadSeen, At, InList, Retires, Restarts, Clears, Claims, Zeroes}
-use Rattle.caller_steps.specs.Settings.{Setting}
-use Rattle.caller_steps.specs.Entries.{Entry, idle_entry}
-use Rattle.caller_steps.specs.Operands.{instr_in}
+use Rattle.caller_parts.specs.declared.routine.Routine.{Routine}
+use Rattle.caller_parts.specs.declared.routine.Routine.TheVariants.{Idle, LoadSeen, At, InList, Retires, Restarts, Clears, Claims, Zeroes}
+use Rattle.caller_parts.specs.Settings.{Setting}
+use Rattle.caller_steps.specs.Entries.{Entry, idle_entry, instr_in}
 use Rattle.caller_steps.specs.Wants.{wants, wanted, instr_wanted}
 use Rattle.caller_steps.specs.After.{taken, after, accepted, counted, instr_accepted, check_passed, check_failed}
 use Rattle.core_runs.specs.Machine.{CoreState, CoreEvent, Takes, Steps, core_event, core_run, run_on}
 use Rattle.core_runs.specs.Views.{CoreView, view, Moves, IsShaped, EventsAreSeen}
 use Rattle.core_sound.specs.Sound.{IsSound}
-use Rattle.stale_laws.specs.Stale.{fails_check, begins_at, begins_run, on_state, begins_none, IsWarned}
+use Rattle.oa_simulation.specs.Throughout.{on_state}
+use Rattle.sim_steps.specs.Renewing.{fails_at, renews_at}
+use Rattle.stale_laws.specs.Stale.{begins_run, begins_none, IsWarned}
 use Rattle.stale_laws.proofs.Rising.{warnings_rise}
-use Rattle.stale_laws.proofs.Staying.{seen_stays}
+use Rattle.sim_steps.proofs.Seen.{after_stays}
 
 -- ---- the word that a check finds
 
 by_instr : (c : ℕ) (o : Option TargetInstr) (registers : Registers) (seen : ℕ) (memory : Word → ℕ) (a : WordAccess) → instr_wanted c o registers ≡ Some a
-    → fails_check o seen (memory (Warning c)) ≡ false → fails_check o seen (memory (word_of a)) ≡ false
+    → fails_at o seen (memory (Warning c)) ≡ false → fails_at o seen (memory (word_of a)) ≡ false
 by_instr c None registers seen memory a want goes = refl
 by_instr c (Some (Plain i)) registers seen memory a want goes = refl
 by_instr c (Some Check) registers seen memory a want goes = let same : Loads (Warning c) ≡ a = cc in subst (λ (b : WordAccess). not (memory (word_of b) == seen) ≡ false) same goes
 by_instr c (Some (Guard r)) registers seen memory a want goes = refl
 
-by_routine : (target : Target) (e : Entry) (r : Routine) (memory : Word → ℕ) (a : WordAccess) → wanted target e r ≡ Some a → begins_at target e r (memory (Warning e.number)) ≡ false → begins_at target e r (memory (word_of a)) ≡ false
+by_routine : (target : Target) (e : Entry) (r : Routine) (memory : Word → ℕ) (a : WordAccess) → wanted target e r ≡ Some a → renews_at target e r (memory (Warning e.number)) ≡ false → renews_at target e r (memory (word_of a)) ≡ false
 by_routine target e Idle memory a want goes = goes
 by_routine target e (LoadSeen why) memory a want goes = goes
 by_routine target e At memory a want goes = by_instr e.number (instr_in target e) e.hand.registers e.hand.seen memory a want goes
@@ -43,7 +44,7 @@ by_routine target e (Clears next) memory a want goes = goes
 by_routine target e (Claims claim) memory a want goes = goes
 by_routine target e (Zeroes k field) memory a want goes = goes
 
-found_begins : (target : Target) (e : Entry) (memory : Word → ℕ) (a : WordAccess) → wants target e ≡ Some a → begins_at target e e.routine (memory (Warning e.number)) ≡ false → begins_at target e e.routine (memory (word_of a)) ≡ false
+found_begins : (target : Target) (e : Entry) (memory : Word → ℕ) (a : WordAccess) → wants target e ≡ Some a → renews_at target e e.routine (memory (Warning e.number)) ≡ false → renews_at target e e.routine (memory (word_of a)) ≡ false
 unfolding wants
 found_begins target e memory a want goes = by_routine target e e.routine memory a want goes
 
@@ -74,10 +75,10 @@ below_on target setting before later c (Steps d) m goes below =
   where
     own : (a : WordAccess) → wants target (before.who d) ≡ Some a → d ≡ c → (after target setting (before.who d) (before.memory (word_of a))).hand.seen ≡ (before.who d).hand.seen
     own a want is =
-        let none : begins_at target (before.who c) (before.who c).routine (before.memory (Warning (before.who c).number)) ≡ false = second (d == c) _ (grind (arith, nat_tests, is)) goes in
-        let here : begins_at target (before.who d) (before.who d).routine (before.memory (Warning (before.who d).number)) ≡ false =
-        subst (λ (i : ℕ). begins_at target (before.who i) (before.who i).routine (before.memory (Warning (before.who i).number)) ≡ false) (sym is) none in
-        seen_stays target setting (before.who d) (before.memory (word_of a)) (found_begins target (before.who d) before.memory a want here)
+        let none : renews_at target (before.who c) (before.who c).routine (before.memory (Warning (before.who c).number)) ≡ false = second (d == c) _ (grind (arith, nat_tests, is)) goes in
+        let here : renews_at target (before.who d) (before.who d).routine (before.memory (Warning (before.who d).number)) ≡ false =
+        subst (λ (i : ℕ). renews_at target (before.who i) (before.who i).routine (before.memory (Warning (before.who i).number)) ≡ false) (sym is) none in
+        after_stays target setting (before.memory (word_of a)) (before.who d) (found_begins target (before.who d) before.memory a want here)
 
 -- ---- a run
 
@@ -108,9 +109,9 @@ module _ (target : Target) (setting : Setting) (seen : EventsAreSeen target sett
 
 -- ---- checks
 
-fails_at : (target : Target) (setting : Setting) (e : Entry) (word : ℕ) → e.routine ≡ At → instr_in target e ≡ Some Check → word ≢ e.hand.seen → after target setting e word ≡ (check_failed target setting.sizes word (counted e)).entry
+fails_below : (target : Target) (setting : Setting) (e : Entry) (word : ℕ) → e.routine ≡ At → instr_in target e ≡ Some Check → word ≢ e.hand.seen → after target setting e word ≡ (check_failed target setting.sizes word (counted e)).entry
 unfolding after
-fails_at target setting e word at is ne =
+fails_below target setting e word at is ne =
     ap (λ (r : Routine). (accepted target setting word (counted e) r).entry) at
     ∙ (ap (λ (o : Option TargetInstr). (instr_accepted target setting.sizes o word (counted e)).entry) is
     ∙ ap (λ (b : Bool). (if b then check_passed target setting.sizes (counted e) else check_failed target setting.sizes word (counted e)).entry) (let test : (word == e.hand.seen) ≡ false = grind (arith, nat_tests, ne) in test))
@@ -127,7 +128,7 @@ warned_fails target setting state c lt s = record {
       (let loads : Loads (Warning ((view setting state).who c).number) ≡ a = finds_warning target ((view setting state).who c) a at is want in
       let word : (view setting state).memory (word_of a) ≡ (view setting state).memory (Warning c) =
       ap (λ (b : WordAccess). (view setting state).memory (word_of b)) (sym loads) ∙ ap (λ (i : ℕ). (view setting state).memory (Warning i)) number in
-      fails_at target setting ((view setting state).who c) ((view setting state).memory (word_of a)) at is (λ z. differs (sym word ∙ z)));
+      fails_below target setting ((view setting state).who c) ((view setting state).memory (word_of a)) at is (λ z. differs (sym word ∙ z)));
 } where
   differs : (view setting state).memory (Warning c) ≢ ((view setting state).who c).hand.seen
   differs z = let below = s.below in let no : ⊥ = omega (arith, below, z) in no

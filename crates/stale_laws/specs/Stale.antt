@@ -1,28 +1,28 @@
 -- Stale loads, and the method run in which they are made.
-use Rattle.std.specs.Prelude.{ℕ, ◌≡◌, ◌≢◌, ◌<◌, ◌==◌, Bool, true, false, ◌&&◌, not, List, [], ◌∷◌, Option, Some, None, slice_get}
+use Rattle.std.specs.Prelude.{ℕ, ◌≡◌, ◌≢◌, ◌<◌, ◌==◌, Bool, true, false, ◌&&◌, not, List, Option, Some, None, slice_get}
 use Rattle.norm_lang.specs.declared.text.Reg.{Reg}
 use Rattle.norm_lang.specs.declared.text.Instr.TheVariants as instr
 use Rattle.norm_lang.specs.declared.text.Text.{Text}
 use Rattle.norm_lang.specs.Registers.{reference_in}
-use Rattle.target_code.specs.declared.target.TargetInstr.{TargetInstr}
-use Rattle.target_code.specs.declared.target.TargetInstr.TheVariants.{Plain, Check, Guard}
+use Rattle.target_code.specs.declared.target.TargetInstr.TheVariants.{Plain, Check}
 use Rattle.target_code.specs.declared.target.Target.{Target}
 use Rattle.oa_words.specs.Words.{Warning}
 use Rattle.phase_pools.specs.Accesses.{WordAccess, word_of}
 use Rattle.source_machine.specs.declared.state.Running.{Running}
 use Rattle.source_machine.specs.declared.state.SourceCaller.{SourceCaller}
 use Rattle.source_machine.specs.Proper.{IsProper}
-use Rattle.caller_steps.specs.declared.routine.Routine.{Routine}
-use Rattle.caller_steps.specs.declared.routine.Routine.TheVariants.{Idle, LoadSeen, At, InList, Retires, Restarts, Clears, Claims, Zeroes}
-use Rattle.caller_steps.specs.Settings.{Setting}
-use Rattle.caller_steps.specs.Entries.{Entry}
-use Rattle.caller_steps.specs.Operands.{instr_in, slot_in}
+use Rattle.caller_parts.specs.declared.routine.Routine.TheVariants.{At}
+use Rattle.caller_parts.specs.Settings.{Setting}
+use Rattle.caller_steps.specs.Entries.{Entry, instr_in}
+use Rattle.caller_parts.specs.Operands.{slot_in}
 use Rattle.caller_steps.specs.Wants.{wants}
 use Rattle.caller_steps.specs.After.{after, counted, check_failed}
-use Rattle.core_runs.specs.Machine.{CoreState, CoreEvent, Takes, Steps, core_event, core_run, core_start}
+use Rattle.core_runs.specs.Machine.{CoreState, CoreEvent, Takes, Steps, core_run, core_start}
 use Rattle.core_runs.specs.Views.{CoreView, view}
+use Rattle.sim_steps.specs.Renewing.{renews_at}
 use Rattle.oa_simulation.specs.Shadow.{shadow, home_of}
 use Rattle.oa_simulation.specs.Present.{IsResident}
+use Rattle.oa_simulation.specs.Throughout.{throughout}
 
 -- ---- stale loads
 
@@ -54,39 +54,14 @@ pub record IsStaleLoad (target : Target) (text : Text) (setting : Setting) (even
 
 -- ---- method runs
 
-abbrev pub fails_check : Option TargetInstr → ℕ → ℕ → Bool
-fails_check (Some Check) seen word = not (word == seen)
-fails_check (Some (Plain i)) seen word = false
-fails_check (Some (Guard r)) seen word = false
-fails_check None seen word = false
-
--- whether a method run begins with the step that an entry makes at a routine, where this word is its warning: the load of `seen` at a
--- method's start, and a check that fails
-abbrev pub begins_at : Target → Entry → Routine → ℕ → Bool
-begins_at target e (LoadSeen why) word = true
-begins_at target e At word = fails_check (instr_in target e) e.hand.seen word
-begins_at target e Idle word = false
-begins_at target e (InList k) word = false
-begins_at target e (Retires retirement go) word = false
-begins_at target e Restarts word = false
-begins_at target e (Clears next) word = false
-begins_at target e (Claims claim) word = false
-begins_at target e (Zeroes k field) word = false
-
 -- whether an event begins a method run of a caller
 abbrev pub begins_run : Target → CoreView → ℕ → CoreEvent → Bool
 begins_run target seen c (Takes d call) = false
-begins_run target seen c (Steps d) = (d == c) && begins_at target (seen.who c) (seen.who c).routine (seen.memory (Warning (seen.who c).number))
-
-abbrev pub on_state : Option CoreState → (CoreState → Bool) → Bool
-on_state None next = true
-on_state (Some state) next = next state
+begins_run target seen c (Steps d) = (d == c) && renews_at target (seen.who c) (seen.who c).routine (seen.memory (Warning (seen.who c).number))
 
 -- no event begins one: the method run of the caller that was under way goes on, or has come to its end
 abbrev pub begins_none : Target → Setting → ℕ → List CoreEvent → CoreState → Bool
-begins_none target setting c [] state = true
-begins_none target setting c (event ∷ events) state =
-    not (begins_run target (view setting state) c event) && on_state (core_event target setting state event) (begins_none target setting c events)
+begins_none target setting c = throughout target setting (λ state event. not (begins_run target (view setting state) c event))
 
 -- ---- the law
 

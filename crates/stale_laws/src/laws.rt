@@ -1,20 +1,11 @@
 //! A law of every run of a barred target of a proper text.
 
-ghost use Rattle.barrier_check.specs.Paired.{IsSound};
-ghost use Rattle.caller_steps.specs.Settings.{Fits};
+ghost use Rattle.caller_parts.specs.Settings.{Fits};
 ghost use Rattle.stale_laws.specs.Stale.{NoStalePass};
 
 use barrier_check::Barred;
 use caller_steps::Setting;
-
-/// What a barred target keeps.
-#[tactic(auto, using(oa_simulation::proofs::Barring::is_sound))]
-fn kept(barred: &Barred)
-    ensures { IsSound barred.now }
-{
-    let _ = barred.source();
-    let _ = barred.target();
-}
+use oa_simulation::laws::kept;
 
 /// For a proper text: once a caller stands before a load whose base isn't null and isn't resident, its warning word differs
 /// from its `seen` until a method run of it begins, whatever all callers do. So each check that it comes to in that run fails,

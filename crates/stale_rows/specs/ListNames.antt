@@ -15,6 +15,7 @@ use Rattle.core_rows.specs.SharedRows.{shared_setting, five_in, searching, five_
 use Rattle.core_rows.specs.Stories.{calls, steps}
 use Rattle.oa_simulation.specs.Present.{present_in, IsResident}
 use Rattle.stale_laws.specs.Stale.{register_name, IsStaleLoad, begins_none}
+use Rattle.lone_claims.specs.Lone.{HoldsName}
 
 -- the name of a slot after a run
 abbrev pub name_after : List CoreEvent → ℕ → ℕ
@@ -37,6 +38,20 @@ pub record RecycledNames : Type 0 where
   -- the first store of 0 from the cradle takes it away
   pub emptied : name_after (inserting 41) 2 ≡ 0
   pub again : name_after (inserting 42) 2 ≡ 4
+
+-- which slots hold a name that isn't retired
+abbrev pub Holds : List CoreEvent → ℕ → Type 0
+Holds events j = HoldsName list_target (set_text 1) (shared_setting 2) events j
+
+pub record HeldNames : Type 0 where
+  pub sentinel : Holds five_in 1
+  pub node : Holds five_in 2
+  -- the name of the node that was taken out is still there, but retired
+  pub retired : ¬ Holds five_out 2
+  -- no name is there after the sweep's exchange, nor while the stores of 0 go on
+  pub freed : ¬ Holds (inserting 30) 2
+  pub claimed : ¬ Holds (inserting 34) 2
+  pub drawn : Holds (inserting 35) 2
 
 abbrev pub state_after : List CoreEvent → CoreState
 state_after events = unwrap_or (core_run list_target (shared_setting 2) events (core_start list_target (shared_setting 2))) (core_start list_target (shared_setting 2))

@@ -14,13 +14,13 @@ use Rattle.phase_pools.specs.declared.access.Access.{Access}
 use Rattle.phase_pools.specs.declared.access.Access.TheVariants as codes
 use Rattle.phase_pools.specs.Accesses.{WordAccess, Loads, Stores, Exchanges, Raises, word_of, word_after, located}
 use Rattle.caller_steps.specs.Asking.{located_option}
-use Rattle.caller_steps.specs.Calls.{is_call}
-use Rattle.caller_steps.specs.declared.call.Call.{Call}
-use Rattle.caller_steps.specs.Settings.{Setting}
+use Rattle.caller_parts.specs.Calls.{is_call}
+use Rattle.caller_parts.specs.declared.call.Call.{Call}
+use Rattle.caller_parts.specs.Settings.{Setting}
 use Rattle.caller_steps.specs.Entries.{Entry, idle_entry, is_idle}
 use Rattle.caller_steps.specs.Wants.{wants}
 use Rattle.caller_steps.specs.After.{after, taken}
-use Rattle.caller_steps.specs.Lawful.{IsLawful, Accepts, Told, IsSafe, AsksSafely, is_place}
+use Rattle.caller_steps.specs.Lawful.{IsLawful, Accepts, MayBeTold, IsSafe, AsksSafely, is_place}
 use Rattle.core_runs.specs.Machine.{CoreState, CoreEvent, Takes, Steps as StepsOf, found_by, made, Reachable}
 use Rattle.core_sound.specs.Sound.{IsSound}
 use Rattle.core_sound.proofs.Reached.{states_are_sound}
@@ -31,7 +31,7 @@ use Rattle.core_runs.proofs.Reaching.{reaches}
 use Rattle.table_rule.proofs.Rows.{taking, stepping}
 use Rattle.caller_laws.proofs.Stored.{after_store}
 use Rattle.table_rule.proofs.Rows.{no_place, told_lawful}
-use Rattle.oa_core.proofs.Calling.{runnable}
+use Rattle.core_entries.proofs.Calling.{runnable}
 use Rattle.table_rule.specs.Seen.{Fixed, IsGround, SeatView}
 use Rattle.table_rule.specs.Rule.{IsReached, callers_of, IsPlace, total, times, held, AllHere, IsSeen, Shows, Holds}
 use Rattle.table_rule.specs.Plays.{wish, next, IsTold, Belonging, with_entry, Made, InHand, CanGo, CanStep}
@@ -136,7 +136,7 @@ pub record CanMake (key : Fixed) (me : Me ℕ SeatView) (e : Entry) (a : WordAcc
   pub wanted : wish key e ≡ Some a
 
 told : (key : Fixed) (me : Me ℕ SeatView) (e : Entry) (a : WordAccess) (n : ℕ) → CanMake key me e a → Accepts key.target.target key.setting a n → IsTold me.0.fixed e n
-told key me e a n can h = subst (λ (f : Fixed). IsTold f e n) (sym can.can.fixed) (subst (λ (o : Option WordAccess). Told key.target.target key.setting o n) (sym can.wanted) h)
+told key me e a n can h = subst (λ (f : Fixed). IsTold f e n) (sym can.can.fixed) (subst (λ (o : Option WordAccess). MayBeTold key.target.target key.setting o n) (sym can.wanted) h)
 
 -- the rule is kept where the seat's view gets what the entry in hand becomes
 goes : (key : Fixed) (slots id : ℕ) (me : Me ℕ SeatView) (e : Entry) (a : WordAccess) (s : State ℕ SeatView) → CanMake key me e a → (h : Holds key s) → get_elem? s.views id ≡ some me.0

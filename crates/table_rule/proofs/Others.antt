@@ -19,7 +19,7 @@ use Rattle.core_sound.specs.Sound.{IsSound}
 use Rattle.core_runs.proofs.Reaching.{starts}
 use Rattle.core_runs.proofs.Keeping.{idle_there}
 use Rattle.table_rule.proofs.Rows.{place_free}
-use Rattle.oa_core.proofs.Calling.{runnable}
+use Rattle.core_entries.proofs.Calling.{runnable}
 use Rattle.table_rule.specs.Seen.{Fixed, IsGround, SeatView, nobody, newcomer}
 use Rattle.table_rule.specs.Rule.{IsReached, callers_of, IsPlace, total, times, held, AllHere, IsSeen, Shows, Holds}
 use Rattle.table_rule.specs.Plays.{with_entry, cut_off, joined, with_found, Tried, AllBelow, Apart, Looked}

@@ -8,10 +8,10 @@ use Rattle.norm_lang.specs.declared.text.Text.{Text}
 use Rattle.oa_words.specs.Words.{Word, Place, Sizes, address_of, in_row}
 use Rattle.oa_words.proofs.Places.{apart}
 use Rattle.phase_pools.specs.Accesses.{WordAccess, Loads, Stores, Exchanges, Raises, word_of}
-use Rattle.caller_steps.specs.declared.call.Call.{Call}
-use Rattle.caller_steps.specs.Settings.{Setting, Fits, IsSetting}
+use Rattle.caller_parts.specs.declared.call.Call.{Call}
+use Rattle.caller_parts.specs.Settings.{Setting, Fits, IsSetting}
 use Rattle.caller_steps.specs.Entries.{Entry, is_idle}
-use Rattle.caller_steps.specs.Calls.{is_call}
+use Rattle.caller_parts.specs.Calls.{is_call}
 use Rattle.caller_steps.specs.Wants.{wants}
 use Rattle.caller_steps.specs.After.{after, taken}
 use Rattle.caller_steps.specs.Lawful.{IsLawful, Accepts, is_place}

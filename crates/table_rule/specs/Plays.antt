@@ -3,15 +3,15 @@ use Rattle.std.specs.Prelude.{◌≡◌, ℕ, ◌+◌, ◌-◌, ◌≤◌, ◌<�
 use Rattle.atomic_table.specs.Table.{Me, Step}
 use Rattle.phase_pools.specs.declared.access.Access.{Access}
 use Rattle.phase_pools.specs.Accesses.{WordAccess}
-use Rattle.caller_steps.specs.declared.call.Call.{Call}
+use Rattle.caller_parts.specs.declared.call.Call.{Call}
 use Rattle.caller_steps.specs.Entries.{Entry, idle_entry, is_idle}
-use Rattle.caller_steps.specs.Calls.{is_call}
+use Rattle.caller_parts.specs.Calls.{is_call}
 use Rattle.caller_steps.specs.Wants.{wants}
 use Rattle.caller_steps.specs.After.{after, taken}
-use Rattle.caller_steps.specs.Lawful.{Told}
+use Rattle.caller_steps.specs.Lawful.{MayBeTold}
 use Rattle.caller_steps.specs.Asking.{located_option}
 use Rattle.core_runs.specs.Advances.{Advances}
-use Rattle.oa_core.specs.Callers.{BelongsTo}
+use Rattle.core_entries.specs.Callers.{BelongsTo}
 use Rattle.table_rule.specs.Seen.{Fixed, SeatView}
 use Rattle.table_rule.specs.Rule.{callers_of, times}
 
@@ -27,7 +27,7 @@ next key e word = after key.target.target key.setting e word
 
 -- the word is lawful where its access stands
 abbrev pub IsTold : Fixed → Entry → ℕ → Type 0
-IsTold key e word = Told key.target.target key.setting (wish key e) word
+IsTold key e word = MayBeTold key.target.target key.setting (wish key e) word
 
 -- the words were found by its steps, one after another
 abbrev pub Steps : Fixed → Entry → List ℕ → Entry → Type 0

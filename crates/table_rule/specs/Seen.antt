@@ -1,7 +1,7 @@
 -- What a seat at the table knows.
 use Rattle.std.specs.Prelude.{ℕ, Bool, true, false, List, []}
 use Rattle.barrier_check.specs.Paired.{Paired, IsSound}
-use Rattle.caller_steps.specs.Settings.{Setting, Fits, IsSetting}
+use Rattle.caller_parts.specs.Settings.{Setting, Fits, IsSetting}
 use Rattle.caller_steps.specs.Entries.{Entry}
 
 -- what a table is told once: the target with its source, and the setting

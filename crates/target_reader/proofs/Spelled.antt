@@ -23,7 +23,7 @@ use Rattle.text_laws.proofs.SpelledFolds as text
 use Rattle.text_laws.proofs.TextRead.{declared, fields_read, among_nodes, nodes_read_line, nodes_read, roots_read}
 use Rattle.norm_parser.specs.declared.head.Head.{Head}
 use Rattle.norm_parser.specs.Instruction.{AreFrom}
-use Rattle.norm_parser.specs.FrontRead.{from_line, front_of, ends_head, head_lines, behind_head, head_in}
+use Rattle.norm_parser.specs.FrontRead.{from_line, front_of, ends_head, head_lines, after_head, head_in}
 use Rattle.norm_parser.proofs.LinesLeft.{first_from, numbered_from}
 use Rattle.target_code.specs.declared.target.TargetInstr.{TargetInstr}
 use Rattle.target_code.specs.declared.target.TargetInstr.TheVariants.{Plain, Check, Guard}
@@ -221,7 +221,7 @@ declarations_begin_none target =
 -- where the head ends
 record Splits (n at : ℕ) (xs ys : List (List (List ℕ))) : Type 0 where
   front : head_lines (numbered n (map joined_words (xs ++ ys))) ≡ numbered n (map joined_words xs)
-  behind : behind_head (numbered n (map joined_words (xs ++ ys))) ≡ numbered at (map joined_words ys)
+  behind : after_head (numbered n (map joined_words (xs ++ ys))) ≡ numbered at (map joined_words ys)
 
 splits : (n at : ℕ) (xs : List (List (List ℕ))) (first : List (List ℕ)) (rest : List (List (List ℕ))) → n + length xs ≡ at → Lines xs → NoOps xs → IsLine first
     → ends_head (front_of first) ≡ true → Splits n at xs (first ∷ rest)

@@ -13,7 +13,7 @@ use Rattle.norm_lang.specs.Faults.{◌>>=◌, form_fault, at_line}
 use Rattle.norm_lang.specs.Grammar.{is_comment, plain}
 use Rattle.norm_lang.specs.Declarations.{version_line}
 use Rattle.line_words.specs.Lines.{words_in, first_word}
-use Rattle.norm_parser.specs.FrontRead.{from_line, front_of, ends_head, head_lines, behind_head}
+use Rattle.norm_parser.specs.FrontRead.{from_line, front_of, ends_head, head_lines, after_head}
 use Rattle.text_laws.specs.StandsFor.{is_plain_line, begins_with_hash, is_skipped, told_in}
 use Rattle.text_laws.proofs.Readings.{then_has}
 use Rattle.text_laws.proofs.WordsSaid.{same_word}
@@ -144,7 +144,7 @@ pub record HeadSplit (n : ℕ) (lines : List (List ℕ)) : Type 0 where
   pub place : ℕ
   pub split : lines ≡ front ++ back
   pub first : head_lines (numbered n lines) ≡ numbered n front
-  pub behind : behind_head (numbered n lines) ≡ numbered place back
+  pub behind : after_head (numbered n lines) ≡ numbered place back
   pub left : from_line place (numbered n lines) ≡ numbered place back
   pub later : n ≤ place
   pub none : NoOps (told_in front)

@@ -1,7 +1,7 @@
 -- Halves of a list of callers.
 use Rattle.std.proofs.Common.{◌≡◌, ◌<◌, ℕ, true, false, List, [], ◌∷◌, ⊎_elim, length, get_or, arith, sym, ap, ◌∙◌, subst}
 use Rattle.std.proofs.lemmas.List.{get_or_default}
-use Rattle.caller_steps.specs.declared.call.Call.{Call}
+use Rattle.caller_parts.specs.declared.call.Call.{Call}
 use Rattle.caller_steps.specs.Entries.{Entry, idle_entry, is_idle}
 use Rattle.caller_steps.specs.After.{taken}
 use Rattle.core_runs.specs.Scripts.{script_of}

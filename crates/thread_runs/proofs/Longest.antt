@@ -4,7 +4,7 @@ use Rattle.std.specs.Prelude.{slice_index_or}
 use Rattle.std.proofs.lemmas.List.{get_or_default}
 use mathlib.Core.Logic.{dite}
 use native.Mathlib.Decide.{ℕ_discrete}
-use Rattle.caller_steps.specs.declared.call.Call.{Call}
+use Rattle.caller_parts.specs.declared.call.Call.{Call}
 
 -- so many scripts from the first on fit the room
 abbrev pub FitFirst : List (List Call) → ℕ → ℕ → Type 0

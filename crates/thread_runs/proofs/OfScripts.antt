@@ -2,15 +2,15 @@
 use Rattle.std.proofs.Common.{◌≡◌, ◌⊎◌, ◌≤◌, ◌<◌, ◌+◌, ◌^◌, min, ℕ, zero, suc, Bool, true, false, List, [], ◌∷◌, ◌++◌, map, length, Option, Some, None, refl, sym, ap, ◌∙◌, subst, ⊎_elim, arith, append_assoc}
 use Rattle.std.specs.Prelude.{slice_get, slice_index, All}
 use Rattle.std.proofs.lemmas.List.{map-append, append-nil}
-use Rattle.caller_steps.specs.declared.call.Call.{Call}
-use Rattle.caller_steps.specs.declared.call.Running.{Running}
-use Rattle.caller_steps.specs.Pairing.{run_of, replied_by}
+use Rattle.caller_parts.specs.declared.call.Call.{Call}
+use Rattle.caller_parts.specs.declared.call.Running.{Running}
+use Rattle.caller_parts.specs.Pairing.{run_of, replied_by}
 use Rattle.caller_steps.specs.Entries.{Entry, RoomyEntry, idle_entry, one_more, is_idle}
 use Rattle.caller_steps.specs.After.{taken}
 use Rattle.core_runs.specs.Machine.{CoreState, CoreEvent}
 use Rattle.core_runs.specs.Advances.{Stays, Stops, counted_on}
 use Rattle.core_runs.specs.Histories.{running_of, calls_of, calls_in}
-use Rattle.core_runs.specs.Scripts.{script_of, AreOfScript, HasEnded, last_steps, IsComplete}
+use Rattle.core_runs.specs.Scripts.{script_of, AreOfScript, HasEnded, last_steps, IsCompleteRun}
 use Rattle.core_runs.proofs.Advancing.{runs_end}
 use Rattle.core_runs.proofs.Keeping.{kept_calls}
 use Rattle.core_sound.specs.Sound.{IsSound}
@@ -119,7 +119,7 @@ module _ (key : Fixed) (scripts : List (List Call)) (fuel : ℕ) (entries : List
       subst (λ (k : ℕ). AreOfScript fuel (script_of scripts k) (calls_in c reached.events) × HasEnded fuel (script_of scripts k) (calls_in c reached.events) (is_idle e.routine)) number
       (subst (λ (l : List Running). AreOfScript fuel (script_of scripts e.number) l × HasEnded fuel (script_of scripts e.number) l (is_idle e.routine)) calls (run.of, run.ended))
 
-  pub is_complete : IsComplete key.target.target key.setting scripts fuel reached.events core
+  pub is_complete : IsCompleteRun key.target.target key.setting scripts fuel reached.events core
   is_complete = record {
     run = record {
       runs = reached.runs;

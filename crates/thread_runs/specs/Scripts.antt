@@ -1,8 +1,8 @@
 -- Calls in order, by one caller and by a list of callers.
 use Rattle.std.specs.Prelude.{◌≡◌, true, false, ℕ, ◌+◌, ◌-◌, ◌≤◌, ◌<◌, ◌⊎◌, List, [], ◌∷◌, length, drop, All}
-use Rattle.caller_steps.specs.declared.call.Call.{Call}
+use Rattle.caller_parts.specs.declared.call.Call.{Call}
 use Rattle.caller_steps.specs.Entries.{Entry, idle_entry, is_idle}
-use Rattle.caller_steps.specs.Calls.{AreCalls}
+use Rattle.caller_parts.specs.Calls.{AreCalls}
 use Rattle.caller_steps.specs.After.{taken}
 use Rattle.core_runs.specs.Scripts.{script_of}
 use Rattle.table_rule.specs.Seen.{Fixed}

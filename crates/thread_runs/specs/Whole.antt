@@ -1,9 +1,9 @@
 -- A whole run of scripts.
 use Rattle.std.specs.Prelude.{◌≡◌, ◌≤◌, ℕ, List, length, slice_index, All}
-use Rattle.caller_steps.specs.declared.call.Call.{Call}
+use Rattle.caller_parts.specs.declared.call.Call.{Call}
 use Rattle.caller_steps.specs.Entries.{RoomyEntry}
 use Rattle.core_runs.specs.Machine.{CoreState, CoreEvent}
-use Rattle.core_runs.specs.Scripts.{IsComplete}
+use Rattle.core_runs.specs.Scripts.{IsCompleteRun}
 use Rattle.core_sound.specs.Sound.{IsSound}
 use Rattle.table_rule.specs.Seen.{Fixed}
 use Rattle.table_rule.specs.Seats.{cores}
@@ -32,7 +32,7 @@ AreShort scripts = HasRooms scripts 100000
 pub record IsFinalOf (key : Fixed) (scripts : List (List Call)) (fuel phase : ℕ) (entries : List RoomyEntry) : Type 0 where
   pub events : List CoreEvent
   pub core : CoreState
-  pub complete : IsComplete key.target.target key.setting scripts fuel events core
+  pub complete : IsCompleteRun key.target.target key.setting scripts fuel events core
   pub sound : IsSound key.target.target key.setting core
   pub phase_is : phase ≡ slice_index core.words 0
   pub entries_are : cores entries ≡ core.entries

@@ -1,7 +1,7 @@
 //! A whole run: from the target to the final state.
 
 ghost use Rattle.std.specs.Prelude.{◌≡◌, ◌<◌, ◌≤◌, ◌+◌, [], length, vec_capacity, IfOk, IfSome};
-ghost use Rattle.caller_steps.specs.Settings.{Fits};
+ghost use Rattle.caller_parts.specs.Settings.{Fits};
 ghost use Rattle.core_runs.specs.Scripts.{SuitScripts};
 ghost use Rattle.table_rule.specs.Rule.{callers_of};
 ghost use Rattle.word_runner.specs.Shown.{CameFrom};

@@ -1,9 +1,9 @@
 //! The arena: a table of words, with the target and the setting of the callers that meet there.
 
 ghost use Rattle.std.specs.Prelude.{◌≡◌, ◌<◌, ◌≤◌, ◌+◌, [], true, false, MatchBool, IfOk, length};
-ghost use Rattle.caller_steps.specs.Settings.{Fits};
+ghost use Rattle.caller_parts.specs.Settings.{Fits};
 ghost use Rattle.caller_steps.specs.Entries.{idle_entry, is_idle};
-ghost use Rattle.caller_steps.specs.Calls.{is_call};
+ghost use Rattle.caller_parts.specs.Calls.{is_call};
 ghost use Rattle.caller_steps.specs.After.{taken};
 ghost use Rattle.core_runs.specs.Machine.{core_start};
 ghost use Rattle.table_rule.specs.Seen.{newcomer, IsGround};

@@ -3,7 +3,7 @@
 ghost use Rattle.std.specs.Prelude.{◌≡◌, ◌<◌, ◌≤◌, ◌+◌, ◌-◌, ◌∷◌, [], true, false, length, Some, vec_capacity};
 ghost use Rattle.caller_steps.specs.After.{taken};
 ghost use Rattle.caller_steps.specs.Entries.{is_idle};
-ghost use Rattle.caller_steps.specs.Calls.{is_call};
+ghost use Rattle.caller_parts.specs.Calls.{is_call};
 ghost use Rattle.table_rule.specs.Rule.{callers_of};
 ghost use Rattle.table_rule.specs.Seats.{Seated, IsFew};
 ghost use Rattle.word_runner.specs.Shown.{CameFrom, Operated};

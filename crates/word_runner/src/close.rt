@@ -1,7 +1,7 @@
 //! Making an arena, and closing it.
 
 ghost use Rattle.std.specs.Prelude.{◌≡◌, ◌<◌, ◌≤◌, ◌+◌, [], length, IfOk};
-ghost use Rattle.caller_steps.specs.Settings.{Fits};
+ghost use Rattle.caller_parts.specs.Settings.{Fits};
 ghost use Rattle.word_runner.specs.Shown.{CameFrom};
 ghost use Rattle.table_rule.specs.Rule.{callers_of};
 ghost use Rattle.table_rule.specs.Closing.{IsClosed};

@@ -7,9 +7,9 @@ use Rattle.std.proofs.lemmas.Bool.Decides.{nat_tests}
 use Rattle.norm_lang.specs.declared.text.Reg.TheVariants.{Num, Ref}
 use Rattle.target_code.specs.declared.target.TargetInstr.{TargetInstr}
 use Rattle.target_code.specs.Paths.{IsTargetSuccessor, target_goes_from}
-use Rattle.target_code.specs.Barred.{UncheckedUse, GuardDropped}
+use Rattle.target_code.specs.Barred.{UncheckedUse, Unguarded, GuardAfterCheck, GuardDropped}
 use Rattle.worked_rows.specs.Small.{n1, r0}
-use Rattle.worked_rows.specs.TargetRows.{IsSpoilt, only_replies, sets_guarded, picks, loads_key, makes, loads_count, returns_count, FlawRows}
+use Rattle.worked_rows.specs.TargetRows.{IsSpoilt, only_replies, sets_guarded, guards_the_new, checks_then_guards, picks, loads_key, makes, loads_count, returns_count, FlawRows}
 
 -- a step from one place to the next
 step : (code : List TargetInstr) (at to : ℕ) → target_goes_from (slice_get code at) at to ≡ true → nat_lt to (length code) ≡ true → IsTargetSuccessor code at to
@@ -29,6 +29,16 @@ dropped_by_setting =
         refl,
       ),
     )
+
+expected_unguarded : IsSpoilt guards_the_new only_replies Unguarded false 4
+expected_unguarded = (
+  r0,
+  inl (refl, refl),
+  (3 ∷ 2 ∷ 1 ∷ 0 ∷ [], (step guards_the_new 3 4 refl refl, (step guards_the_new 2 3 refl refl, (step guards_the_new 1 2 refl refl, (step guards_the_new 0 1 refl refl, refl)))), refl),
+)
+
+guarded_after_check : IsSpoilt checks_then_guards only_replies GuardAfterCheck false 3
+guarded_after_check = (r0, inl (refl, refl), (2 ∷ 1 ∷ 0 ∷ [], (step checks_then_guards 2 3 refl refl, (step checks_then_guards 1 2 refl refl, (step checks_then_guards 0 1 refl refl, refl))), refl))
 
 picked_unchecked : IsSpoilt picks only_replies UncheckedUse false 1
 picked_unchecked = (r0, inl refl, (0 ∷ [], (step picks 0 1 refl refl, refl), refl))
@@ -53,6 +63,8 @@ count_not_handed_over (Num n, inr (commits, (number, (suc at, read, unset))), un
 pub flaw_rows : FlawRows
 flaw_rows = record {
   dropped_by_setting = dropped_by_setting;
+  expected_unguarded = expected_unguarded;
+  guarded_after_check = guarded_after_check;
   picked_unchecked = picked_unchecked;
   field_unchecked = field_unchecked;
   new_unchecked = new_unchecked;

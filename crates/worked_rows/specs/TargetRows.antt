@@ -10,8 +10,8 @@ use Rattle.target_code.specs.declared.target.TargetInstr.TheVariants.{Plain, Che
 use Rattle.target_code.specs.declared.target.TargetOp.{TargetOp}
 use Rattle.target_code.specs.declared.target.Target.{Target}
 use Rattle.target_code.specs.Erasing.{erased, ErasesTo}
-use Rattle.target_code.specs.Barred.{FlawKind, ErasesDifferently, UncheckedUse, GuardDropped, HasFlaw, IsFirstFlaw}
-use Rattle.worked_rows.specs.Small.{n0, n1, n2, n7, r0, key, first, ten, small_fields, small_roots, small_nodes, over}
+use Rattle.target_code.specs.Barred.{FlawKind, ErasesDifferently, UncheckedUse, Unguarded, GuardAfterCheck, GuardDropped, HasFlaw, IsFirstFlaw}
+use Rattle.worked_rows.specs.Small.{n0, n1, n2, n7, r0, r1, key, first, ten, small_fields, small_roots, small_nodes, over}
 
 -- operations of a target over the small declarations
 abbrev pub barred_over : List TargetOp → Target
@@ -31,6 +31,13 @@ only_replies = Plain ReturnNone ∷ []
 -- a guarded register is set, and a check stands after that
 abbrev pub sets_guarded : List TargetInstr
 sets_guarded = Guard r0 ∷ Check ∷ Plain (Null r0) ∷ Check ∷ Plain (Commit (root_entry first r0 r0 ∷ [])) ∷ []
+
+-- an exchange whose expected operand has no guard, while the new one has; and one whose check stands before its guard
+abbrev pub guards_the_new : List TargetInstr
+guards_the_new = Plain (LoadRoot r0 first) ∷ Plain (Null r1) ∷ Guard r1 ∷ Check ∷ Plain (Commit (root_entry first r0 r1 ∷ [])) ∷ []
+
+abbrev pub checks_then_guards : List TargetInstr
+checks_then_guards = Plain (LoadRoot r0 first) ∷ Check ∷ Guard r0 ∷ Plain (Commit (root_entry first r0 r0 ∷ [])) ∷ []
 
 -- what a pick, a load of a field or a `new` gave is used without a check
 abbrev pub picks : List TargetInstr
@@ -132,6 +139,9 @@ IsOtherAt target text op inside = IsFirstFlaw target text (record { kind = Erase
 pub record FlawRows : Type 0 where
   -- setting a register drops its guard, and no later check brings it back
   pub dropped_by_setting : IsSpoilt sets_guarded only_replies GuardDropped false 4
+  -- the expected operand of an exchange needs a guard, and each guard a check after it
+  pub expected_unguarded : IsSpoilt guards_the_new only_replies Unguarded false 4
+  pub guarded_after_check : IsSpoilt checks_then_guards only_replies GuardAfterCheck false 3
   -- what a pick gave needs its check, as what a load of a field or a `new` gave does
   pub picked_unchecked : IsSpoilt picks only_replies UncheckedUse false 1
   pub field_unchecked : IsSpoilt loads_key only_replies UncheckedUse false 3

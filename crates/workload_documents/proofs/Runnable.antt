@@ -17,7 +17,7 @@ use Rattle.script_plans.specs.declared.fault.ShapeFault.{ShapeFault}
 use Rattle.script_plans.specs.Shapes.{first_of, call_fault, script_fault, scripts_fault, shape_fault}
 use Rattle.script_plans.specs.Plans.{IsRunnable}
 use Rattle.workload_documents.specs.Laws.{PartsCanBeRun, PartsAreWithinLimits}
-use Rattle.workload_documents.specs.Workload.{key_at, key_call, round_call, call_at, script_of, scripts_of, buckets, set_document, first_part, second_part}
+use Rattle.workload_documents.specs.Workload.{key_at, key_call, round_call, call_at, script_of, scripts_of, buckets, first_part_calls, first_part_slots, second_part_slots, set_document, first_part, second_part}
 
 -- ---- calls
 
@@ -60,10 +60,10 @@ no_scripts_fault count callers = none_has (script_fault ops) (script_of count) (
 few_callers : (count callers : ℕ) → 1 ≤ callers → callers ≤ 8 → is_count 8 (length (scripts_of count callers)) ≡ true
 few_callers count callers some few = rw (length-map-range_with_len (script_of count) 0 callers, le-leb 1 callers some, le-leb callers 8 few) refl
 
-first_shape : (scripts : List (List ScriptCall)) → is_count 8 (length scripts) ≡ true → scripts_fault ops scripts ≡ None → shape_fault (set_document 4096 scripts) ≡ None
+first_shape : (scripts : List (List ScriptCall)) → is_count 8 (length scripts) ≡ true → scripts_fault ops scripts ≡ None → shape_fault (set_document first_part_slots scripts) ≡ None
 first_shape scripts few calls = rw (few, calls) refl
 
-second_shape : (scripts : List (List ScriptCall)) → is_count 8 (length scripts) ≡ true → scripts_fault ops scripts ≡ None → shape_fault (set_document 16 scripts) ≡ None
+second_shape : (scripts : List (List ScriptCall)) → is_count 8 (length scripts) ≡ true → scripts_fault ops scripts ≡ None → shape_fault (set_document second_part_slots scripts) ≡ None
 second_shape scripts few calls = rw (few, calls) refl
 
 -- ---- both parts
@@ -72,7 +72,7 @@ part_can_be_run : (b : Bool) (count callers : ℕ) → IsNormal (set_text bucket
     → IsRunnable (if b then first_part count callers else second_part count)
 part_can_be_run true count callers normal some few = record {
   normal = normal;
-  shape = first_shape (scripts_of (min count 2000) callers) (few_callers (min count 2000) callers some few) (no_scripts_fault (min count 2000) callers);
+  shape = first_shape (scripts_of (min count first_part_calls) callers) (few_callers (min count first_part_calls) callers some few) (no_scripts_fault (min count first_part_calls) callers);
 }
 part_can_be_run false count callers normal some few = record {
   normal = normal;
@@ -93,7 +93,7 @@ are_short count callers few =
 part_is_within : (b : Bool) (count callers : ℕ) → ShippedAreWithin → count ≤ 100000 → IsWithinDocumentLimits (if b then first_part count callers else second_part count)
 part_is_within true count callers shipped few = record {
   text = shipped.0 8 (omega arith) (omega arith);
-  scripts = are_short (min count 2000) callers (omega (arith, few));
+  scripts = are_short (min count first_part_calls) callers (omega (arith, few));
   turns = All-nil (λ (turn : Turn). 1 ≤ count_of turn);
 }
 part_is_within false count callers shipped few = record {

@@ -9,17 +9,33 @@ use Rattle.documents.specs.DocumentRead.{empty_tail, document_of}
 
 -- ---- keys
 
+-- a caller's numbers are a linear congruential sequence; its modulus is a prime
+abbrev pub multiplier : ℕ
+multiplier = 75
+
+abbrev pub increment : ℕ
+increment = 74
+
+abbrev pub modulus : ℕ
+modulus = 65537
+
 -- each number of the sequence gives the next
 abbrev pub next_seed : ℕ → ℕ
-next_seed seed = (75 * seed + 74) % 65537
+next_seed seed = (multiplier * seed + increment) % modulus
 
 -- number j of a caller's sequence, which begins with one more than the caller's own
 abbrev pub seed_at : ℕ → ℕ → ℕ
 seed_at caller j = iterate next_seed j (caller + 1)
 
--- a caller has 50 keys, which no other has
+-- how many keys a caller has, and how far they are from those of the next caller: so no two callers share one
+abbrev pub keys : ℕ
+keys = 50
+
+abbrev pub keys_apart : ℕ
+keys_apart = 1000
+
 abbrev pub key_from : ℕ → ℕ → ℕ
-key_from caller seed = 1000 * caller + seed % 50
+key_from caller seed = keys_apart * caller + seed % keys
 
 abbrev pub key_at : ℕ → ℕ → ℕ
 key_at caller j = key_from caller (seed_at caller j)
@@ -55,17 +71,28 @@ scripts_of count callers = map (script_of count) (range_with_len 0 callers)
 abbrev pub buckets : ℕ
 buckets = 8
 
+-- part 1: each caller makes at most so many of its calls, of which one in four puts a key in, over as many slots as a row may have
+abbrev pub first_part_calls : ℕ
+first_part_calls = 2000
+
+abbrev pub first_part_slots : ℕ
+first_part_slots = 4096
+
+-- part 2: eight slots are the buckets' own; of the other eight no more than two hold a key of the set
+abbrev pub second_part_slots : ℕ
+second_part_slots = 16
+
 -- scripts on the set, over so many slots; phases and fuel are those of a document that doesn't set them, and there is no schedule
 abbrev pub set_document : ℕ → List (List ScriptCall) → Document
 set_document slots scripts = record (document_of (set_text buckets) empty_tail) { slots = slots; scripts = scripts }
 
 -- part 1: so many callers, each with the first 2,000 of its calls at most
 abbrev pub first_part : ℕ → ℕ → Document
-first_part count callers = set_document 4096 (scripts_of (min count 2000) callers)
+first_part count callers = set_document first_part_slots (scripts_of (min count first_part_calls) callers)
 
 -- part 2: caller 0 alone, over a row in which slots must be used again
 abbrev pub second_part : ℕ → Document
-second_part count = set_document 16 (scripts_of count 1)
+second_part count = set_document second_part_slots (scripts_of count 1)
 
 -- the document of a part, with so many calls for so many callers
 abbrev pub workload_document : ℕ → ℕ → ℕ → Document

@@ -7,7 +7,7 @@ ghost use Rattle.workload_documents.specs.Workload.{key_call, round_call, script
 
 use crate::laws::{parts_are_within_limits, parts_can_be_run};
 use crate::rounds::{first_round, round_after};
-use documents::{Document, Script, ScriptCall, Scripts};
+use documents::{DEFAULT_FIRST, DEFAULT_FUEL, DEFAULT_LAST, Document, Script, ScriptCall, Scripts};
 use norm_lang::list::Listed;
 use set_source::set_text;
 use std::alloc::{AllocError, Global};
@@ -15,8 +15,16 @@ use std::alloc::{AllocError, Global};
 /// How many buckets the set has.
 const BUCKETS: u32 = 8;
 
-/// How many calls each caller of part 1 makes at most.
-const MOST_CALLS: u32 = 2000;
+/// How many of its calls each caller of part 1 makes at most. One call in four puts a key in, so eight callers need 4,000
+/// slots beside the eight of the buckets.
+const FIRST_PART_CALLS: u32 = 2000;
+
+/// The slots of part 1: as many as a row may have. They suffice for every key that is put in, so that none is used again.
+const FIRST_PART_SLOTS: u64 = 4096;
+
+/// The slots of part 2: eight of the buckets, and eight for the two keys that are in the set at most, so that slots must be
+/// used again and again.
+const SECOND_PART_SLOTS: u64 = 16;
 
 /// A call of an operation with a key.
 fn key_call(alloc: Global, name: &[u8], key: u64) -> Result<ScriptCall, AllocError>
@@ -77,9 +85,9 @@ fn set_document(alloc: Global, slots: u64, scripts: Scripts) -> Result<Document,
     Ok(Document {
         text: set_text(alloc, BUCKETS)?,
         slots,
-        first: 1,
-        last: 1_000_000_000,
-        fuel: 1_000_000,
+        first: DEFAULT_FIRST,
+        last: DEFAULT_LAST,
+        fuel: DEFAULT_FUEL,
         scripts,
         schedule: Listed::empty(alloc),
     })
@@ -91,11 +99,11 @@ fn part_document(alloc: Global, part: u32, count: u32, callers: u32) -> Result<D
     ensures { IfOk result (λ document. document ≡ workload_document part count callers) }
 {
     if part == 1 {
-        let scripts = scripts_of(alloc, count.min(MOST_CALLS), callers)?;
-        set_document(alloc, 4096, scripts)
+        let scripts = scripts_of(alloc, count.min(FIRST_PART_CALLS), callers)?;
+        set_document(alloc, FIRST_PART_SLOTS, scripts)
     } else {
         let scripts = scripts_of(alloc, count, 1)?;
-        set_document(alloc, 16, scripts)
+        set_document(alloc, SECOND_PART_SLOTS, scripts)
     }
 }
 

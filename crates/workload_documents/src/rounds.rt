@@ -4,6 +4,20 @@ ghost use Rattle.std.specs.Prelude.{◌≡◌, ◌<◌, ◌+◌, ◌/◌};
 ghost use Rattle.workload_documents.specs.Workload.{next_seed, seed_at, key_from};
 ghost use Rattle.workload_documents.specs.Rounds.{round_at};
 
+/// Each number x of a caller's sequence gives the next, the remainder of 75 x + 74 by 65,537, which is a prime: a linear
+/// congruential sequence.
+const MULTIPLIER: u64 = 75;
+
+const INCREMENT: u64 = 74;
+
+const MODULUS: u64 = 65_537;
+
+/// How many keys a caller has: a number of its sequence gives one by its remainder.
+const KEYS: u64 = 50;
+
+/// How far the keys of a caller are from those of the next, which is more than the keys of each, so that no two share one.
+const KEYS_APART: u64 = 1000;
+
 /// A round of a caller: its number of the sequence, its key, and the key of the round before.
 #[derive(Clone, Copy, Debug, PartialEq, Eq)]
 pub(crate) struct Round {
@@ -17,14 +31,14 @@ fn next_seed(seed: u64) -> u64
     requires { seed < 65537 }
     ensures { result ≡ next_seed seed }
 {
-    (75 * seed + 74) % 65537
+    (MULTIPLIER * seed + INCREMENT) % MODULUS
 }
 
 /// The key that a number of the sequence gives a caller.
 fn key_from(caller: u32, seed: u64) -> u64
     ensures { result ≡ key_from caller seed }
 {
-    1000 * (caller as u64) + seed % 50
+    KEYS_APART * (caller as u64) + seed % KEYS
 }
 
 /// The first round, whose own key stands for the one before.

@@ -1,7 +1,7 @@
 -- The text of a workload.
 use Rattle.std.specs.Prelude.{ℕ, Bool, false, ◌||◌, ◌==◌, List, [], ◌∷◌, ◌++◌, length, codes, decimal}
 use Rattle.std.specs.List.{concat, count_by}
-use Rattle.caller_steps.specs.declared.call.Reply.TheVariants as replies
+use Rattle.caller_parts.specs.declared.call.Reply.TheVariants as replies
 use Rattle.script_driver.specs.declared.report.Answer.{Answer}
 use Rattle.script_driver.specs.declared.report.Answer.TheVariants as answers
 use Rattle.script_driver.specs.declared.report.ReportLine.{ReportLine}

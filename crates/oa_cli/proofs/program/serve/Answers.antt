@@ -1,6 +1,6 @@
 use Rattle.std.proofs.Common.{map, string_bytes}
-use Rattle.oa_cli.specs.Verdicts.{text_for, status_for}
-use Rattle.oa_cli.specs.Commands.{request_of}
+use Rattle.verdicts.specs.Telling.{text_for, status_for}
+use Rattle.command_input.specs.Commands.{request_of}
 use Rattle.oa_cli.proofs.Telling.{said_finished, told}
 use Rattle.oa_cli.proofs.Completing.{complete}
 use Rattle.oa_cli.proofs.program.serve.Goals as goal

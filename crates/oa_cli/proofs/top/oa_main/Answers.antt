@@ -1,5 +1,5 @@
 use Rattle.std.proofs.Common.{map, string_bytes}
-use Rattle.oa_cli.specs.Commands.{request_of}
+use Rattle.command_input.specs.Commands.{request_of}
 use Rattle.oa_cli.proofs.Telling.{told}
 use Rattle.oa_cli.proofs.Completing.{complete}
 use Rattle.oa_cli.proofs.top.oa_main.Goals as goal

@@ -1,5 +1,5 @@
 use Rattle.std.proofs.Common.{refl, ap, ◌∙◌, subst}
-use Rattle.caller_steps.specs.Settings.{IsSetting}
+use Rattle.caller_parts.specs.Settings.{IsSetting}
 use Rattle.core_runs.specs.Machine.{core_start}
 use Rattle.barrier_check.specs.Paired.{Paired, IsSound}
 use Rattle.oa_core.specs.Shown.{Terms, fresh_entries}

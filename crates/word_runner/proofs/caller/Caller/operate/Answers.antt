@@ -1,5 +1,5 @@
 use Rattle.std.proofs.Common.{ap, ◌∙◌}
-use Rattle.caller_steps.specs.declared.call.Call.{Call}
+use Rattle.caller_parts.specs.declared.call.Call.{Call}
 use Rattle.caller_steps.specs.Entries.{RoomyEntry}
 use Rattle.caller_steps.specs.After.{taken}
 use Rattle.word_runner.specs.Shown.{CallerShown}

@@ -1,0 +1,102 @@
+//! What a run is told once.
+
+ghost use Rattle.std.specs.Prelude.{◌≡◌, ◌≤◌, ◌^◌};
+ghost use Rattle.caller_parts.specs.Settings.{setting_or_fault, IsSetting};
+
+use oa_words::shape::Shape;
+use std::marker::Model;
+
+/// Why a setting is refused.
+#[derive(Clone, Copy, Debug, PartialEq, Eq)]
+pub enum SettingFault {
+    /// There are more initial nodes than slots.
+    Nodes,
+    /// The phases aren't in order, from 1 to 2^61.
+    Phases,
+}
+
+/// The shape of the row of words, the first and the last phase, and how many initial nodes there are: no more than slots.
+/// Phases are from 1 to 2^61.
+#[derive(Debug, Drop)]
+pub struct Setting {
+    shape: Shape,
+    first: u64,
+    last: u64,
+    nodes: u32,
+}
+
+impl Model for Setting {
+    ghost use Rattle.caller_parts.specs.Settings.{Setting as Told, IsSetting};
+
+    ghost Value = { Told };
+
+    ghost view = { λ s. record { sizes = s.shape; first = s.first; last = s.last; nodes = s.nodes } };
+
+    ghost invariant = { λ s. IsSetting (record { sizes = s.shape; first = s.first; last = s.last; nodes = s.nodes }) };
+}
+
+impl Setting {
+    /// A setting of a shape, the first and the last phase, and a count of initial nodes.
+    ///
+    /// # Errors
+    /// `Nodes` where there are more initial nodes than slots, else `Phases` where `1 <= first_phase <= last_phase <= 2^61` fails.
+    pub fn new(
+        shape: Shape,
+        first_phase: u64,
+        last_phase: u64,
+        nodes: u32,
+    ) -> Result<Setting, SettingFault>
+        ensures { result ≡ setting_or_fault (record { sizes = shape; first = first_phase; last = last_phase; nodes = nodes }) }
+    {
+        if nodes > shape.slots() {
+            return Err(SettingFault::Nodes);
+        }
+        if !(1 <= first_phase && first_phase <= last_phase && last_phase <= 1 << 61) {
+            return Err(SettingFault::Phases);
+        }
+        Ok(Setting {
+            shape,
+            first: first_phase,
+            last: last_phase,
+            nodes,
+        })
+    }
+
+    /// What every setting keeps: a law for those who hold one.
+    pub fn kept(&self)
+        ensures { IsSetting self.now }
+    {
+        let _ = &self.shape;
+    }
+
+    /// The shape of the row of words.
+    pub fn shape(&self) -> &Shape
+        ensures { result.now ≡ self.now.sizes }
+    {
+        &self.shape
+    }
+
+    /// The first phase.
+    pub fn first_phase(&self) -> u64
+        ensures same { result ≡ self.now.first }
+        ensures few { result ≤ 2 ^ 61 }
+    {
+        self.first
+    }
+
+    /// The last phase.
+    pub fn last_phase(&self) -> u64
+        ensures same { result ≡ self.now.last }
+        ensures few { result ≤ 2 ^ 61 }
+    {
+        self.last
+    }
+
+    /// How many initial nodes there are.
+    pub fn nodes(&self) -> u32
+        ensures same { result ≡ self.now.nodes }
+        ensures few { result ≤ self.now.sizes.slots }
+    {
+        self.nodes
+    }
+}

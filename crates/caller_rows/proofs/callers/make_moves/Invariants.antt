@@ -1,0 +1,10 @@
+use Rattle.core_entries.specs.Callers.{BelongsTo}
+use Rattle.core_entries.specs.Steps.{WordsSound}
+use Rattle.caller_rows.proofs.callers.make_moves.Given as goal
+
+abbrev pub invariant-loop-text : goal.invariant-loop-text
+invariant-loop-text l = record {
+  first : BelongsTo l.barred l.setting l.first.core;
+  last : BelongsTo l.barred l.setting l.last.core;
+  lawful : WordsSound l.barred.target l.setting l.words;
+}

@@ -1,0 +1,192 @@
+//! Callers on the words of a table, call by call and step by step, on one thread.
+
+ghost use Rattle.word_runner.specs.Shown.{CameFrom};
+
+use crate::hall::{Hall, one_caller, two_callers};
+use crate::moves::{Who, move_of, who_in};
+use crate::numbers::number;
+use oa_core::Entry;
+use row_spelling::RowError;
+use std::alloc::{AllocError, Global};
+use word_runner::{Caller, Final, Outcome};
+
+/// How far a caller goes: with the call at this index of its script, or with the one that runs, by at most so many steps.
+#[derive(Clone, Copy, Debug, PartialEq, Eq)]
+enum Going {
+    Operates { index: u64, budget: u64 },
+    Resumes(u64),
+}
+
+fn going_in(words: &str) -> Option<Going> {
+    let (word, numbers) = words.split_once(' ')?;
+    if word == "operates" {
+        let (index, budget) = numbers.split_once(' ')?;
+        let index = number(index)?;
+        let budget = number(budget)?;
+        Some(Going::Operates { index, budget })
+    } else if word == "resumes" {
+        Some(Going::Resumes(number(numbers)?))
+    } else {
+        None
+    }
+}
+
+fn move_in(text: &str) -> Option<(Who, Going)> {
+    let (word, words) = move_of(text)?;
+    let who = who_in(word)?;
+    let going = going_in(words)?;
+    Some((who, going))
+}
+
+fn state(caller: &Caller) -> &'static str {
+    if caller.is_idle() { "idle" } else { "runs" }
+}
+
+/// How a caller stands.
+fn add_caller(alloc: Global, out: &mut String, caller: &Caller) -> Result<(), AllocError> {
+    out.push_str(format!(in alloc;
+        "caller {} {}, spare {}\n",
+        caller.number(),
+        state(caller),
+        caller.spare()
+    )?
+    .as_str())
+}
+
+fn add_outcome(
+    alloc: Global,
+    out: &mut String,
+    outcome: Option<Outcome>,
+) -> Result<(), AllocError> {
+    match outcome {
+        Some(outcome) => out.push_str(format!(in alloc; "{outcome:?}, ")?.as_str()),
+        None => out.push_str("no step, "),
+    }
+}
+
+/// A caller goes on, and its outcome is told, and how it stands.
+fn go(
+    alloc: Global,
+    hall: &Hall,
+    caller: &mut Caller,
+    going: Going,
+    out: &mut String,
+) -> Result<(), AllocError>
+    requires came { CameFrom hall.now.arena caller.old.table caller.old.fixed }
+    ensures came { CameFrom hall.now.arena caller.new.table caller.new.fixed }
+{
+    let outcome = match going {
+        Going::Operates { index, budget } => hall.operate(caller, index as usize, budget),
+        Going::Resumes(budget) => hall.resume(caller, budget),
+    };
+    add_outcome(alloc, out, outcome)?;
+    add_caller(alloc, out, caller)
+}
+
+fn go_alone(
+    alloc: Global,
+    hall: &Hall,
+    caller: &mut Caller,
+    moves: &str,
+    out: &mut String,
+) -> Result<(), RowError>
+    requires came { CameFrom hall.now.arena caller.old.table caller.old.fixed }
+    ensures came { CameFrom hall.now.arena caller.new.table caller.new.fixed }
+{
+    add_caller(alloc, out, caller)?;
+    for text in moves.split(", ") {
+        match move_in(text) {
+            Some((Who::First, going)) => go(alloc, hall, caller, going, out)?,
+            _ => return Err(RowError::Wrong),
+        }
+    }
+    Ok(())
+}
+
+fn go_together(
+    alloc: Global,
+    hall: &Hall,
+    one: &mut Caller,
+    two: &mut Caller,
+    moves: &str,
+    out: &mut String,
+) -> Result<(), RowError>
+    requires one { CameFrom hall.now.arena one.old.table one.old.fixed }
+    requires two { CameFrom hall.now.arena two.old.table two.old.fixed }
+    ensures one { CameFrom hall.now.arena one.new.table one.new.fixed }
+    ensures two { CameFrom hall.now.arena two.new.table two.new.fixed }
+{
+    add_caller(alloc, out, one)?;
+    add_caller(alloc, out, two)?;
+    for text in moves.split(", ") {
+        match move_in(text) {
+            Some((Who::First, going)) => go(alloc, hall, one, going, out)?,
+            Some((Who::Second, going)) => go(alloc, hall, two, going, out)?,
+            None => return Err(RowError::Wrong),
+        }
+    }
+    Ok(())
+}
+
+fn add_entry(alloc: Global, out: &mut String, entry: &Entry) -> Result<(), AllocError> {
+    out.push_str(format!(in alloc;
+        "\nclaims {}, restarts {}, replies",
+        entry.claims(),
+        entry.restarts()
+    )?
+    .as_str())?;
+    for reply in entry.replies() {
+        out.push_str(format!(in alloc; " {reply:?}")?.as_str())?;
+    }
+    Ok(())
+}
+
+/// The phase and the entries at the end.
+fn add_end(alloc: Global, out: &mut String, end: &Final) -> Result<(), AllocError> {
+    out.push_str(format!(in alloc; "phase {}", end.phase)?.as_str())?;
+    for entry in end.entries.items() {
+        add_entry(alloc, out, entry)?;
+    }
+    Ok(())
+}
+
+fn close(alloc: Global, end: Option<Final>, out: &mut String) -> Result<(), RowError> {
+    match end {
+        Some(end) => Ok(add_end(alloc, out, &end)?),
+        None => Err(RowError::Wrong),
+    }
+}
+
+/// The caller of a document's one script.
+pub(crate) fn alone(
+    alloc: Global,
+    bytes: &[u8],
+    room: u32,
+    moves: &str,
+    out: &mut String,
+) -> Result<(), RowError> {
+    let Some((hall, mut caller)) = one_caller(alloc, bytes, room) else {
+        return Err(RowError::Wrong);
+    };
+    match go_alone(alloc, &hall, &mut caller, moves, out) {
+        Ok(()) => close(alloc, hall.close(caller.rest()), out),
+        Err(error) => Err(error),
+    }
+}
+
+/// The callers of a document's two scripts.
+pub(crate) fn together(
+    alloc: Global,
+    bytes: &[u8],
+    room: u32,
+    moves: &str,
+    out: &mut String,
+) -> Result<(), RowError> {
+    let Some((hall, mut one, mut two)) = two_callers(alloc, bytes, room) else {
+        return Err(RowError::Wrong);
+    };
+    match go_together(alloc, &hall, &mut one, &mut two, moves, out) {
+        Ok(()) => close(alloc, hall.close_both(one, two), out),
+        Err(error) => Err(error),
+    }
+}

@@ -1,0 +1,171 @@
+//! Callers who take calls and make steps.
+
+ghost use Rattle.caller_parts.specs.Settings.{Fits};
+ghost use Rattle.core_entries.specs.Callers.{BelongsTo};
+ghost use Rattle.core_entries.specs.Steps.{WordsSound};
+
+use crate::entries::tell_entry;
+use crate::moves::{Deed, Who, move_in};
+use crate::starts::{entry_of, words_of};
+use crate::steps::{begin, step};
+use barrier_check::Barred;
+use oa_core::{Entry, PlainWords, Setting};
+use phase_pools::access::Access;
+use row_spelling::RowError;
+use std::alloc::{AllocError, Global};
+
+fn add_access(alloc: Global, out: &mut String, access: Option<Access>) -> Result<(), AllocError> {
+    match access {
+        Some(access) => out.push_str(format!(in alloc; "{access:?}, ")?.as_str()),
+        None => out.push_str("no step, "),
+    }
+}
+
+/// A caller makes so many steps, and each access is told.
+fn make_steps(
+    alloc: Global,
+    barred: &Barred,
+    setting: &Setting,
+    entry: &mut Entry,
+    words: &mut PlainWords,
+    count: u64,
+    out: &mut String,
+) -> Result<(), AllocError>
+    requires belongs { BelongsTo barred.now setting.now entry.old.core }
+    requires lawful { WordsSound barred.now.target setting.now words.old }
+    ensures belongs { BelongsTo barred.now setting.now entry.new.core }
+    ensures lawful { WordsSound barred.now.target setting.now words.new }
+{
+    for _ in 0..count {
+        let access = step(barred, setting, entry, words);
+        add_access(alloc, out, access)?;
+    }
+    Ok(())
+}
+
+/// A caller takes a call, and it is told where it can't.
+fn take_call(
+    barred: &Barred,
+    setting: &Setting,
+    entry: &mut Entry,
+    op: u8,
+    arg: u64,
+    out: &mut String,
+) -> Result<(), AllocError>
+    requires { BelongsTo barred.now setting.now entry.old.core }
+    ensures { BelongsTo barred.now setting.now entry.new.core }
+{
+    if begin(barred, setting, entry, op, arg) {
+        Ok(())
+    } else {
+        out.push_str("no call, ")
+    }
+}
+
+/// What a caller does, and how its entry stands then.
+fn make_move(
+    alloc: Global,
+    barred: &Barred,
+    setting: &Setting,
+    entry: &mut Entry,
+    words: &mut PlainWords,
+    deed: Deed,
+    out: &mut String,
+) -> Result<(), AllocError>
+    requires belongs { BelongsTo barred.now setting.now entry.old.core }
+    requires lawful { WordsSound barred.now.target setting.now words.old }
+    ensures belongs { BelongsTo barred.now setting.now entry.new.core }
+    ensures lawful { WordsSound barred.now.target setting.now words.new }
+{
+    match deed {
+        Deed::Calls { op, arg } => take_call(barred, setting, entry, op, arg, out)?,
+        Deed::Steps(count) => make_steps(alloc, barred, setting, entry, words, count, out)?,
+    }
+    out.push_str(tell_entry(alloc, entry)?.as_str())?;
+    out.push('\n')
+}
+
+/// The callers of a row, one after another: the first, and the last of so many.
+fn make_moves(
+    alloc: Global,
+    barred: &Barred,
+    setting: &Setting,
+    first: &mut Entry,
+    last: &mut Entry,
+    words: &mut PlainWords,
+    moves: &str,
+    out: &mut String,
+) -> Result<(), RowError>
+    requires first { BelongsTo barred.now setting.now first.old.core }
+    requires last { BelongsTo barred.now setting.now last.old.core }
+    requires lawful { WordsSound barred.now.target setting.now words.old }
+    ensures lawful { WordsSound barred.now.target setting.now words.new }
+{
+    for text in moves.split(", ") {
+        match move_in(text) {
+            Some((Who::First, deed)) => {
+                make_move(alloc, barred, setting, first, words, deed, out)?
+            }
+            Some((Who::Second, deed)) => {
+                make_move(alloc, barred, setting, last, words, deed, out)?
+            }
+            None => return Err(RowError::Wrong),
+        }
+    }
+    Ok(())
+}
+
+fn add_replies(alloc: Global, out: &mut String, entry: &Entry) -> Result<(), AllocError> {
+    out.push_str("replies")?;
+    for reply in entry.replies() {
+        out.push_str(format!(in alloc; " {reply:?}")?.as_str())?;
+    }
+    Ok(())
+}
+
+/// The moves, and the replies of the first caller, and of the last if it is another.
+fn act(
+    alloc: Global,
+    barred: &Barred,
+    setting: &Setting,
+    first: &mut Entry,
+    last: &mut Entry,
+    words: &mut PlainWords,
+    moves: &str,
+    out: &mut String,
+) -> Result<(), RowError>
+    requires first { BelongsTo barred.now setting.now first.old.core }
+    requires last { BelongsTo barred.now setting.now last.old.core }
+    requires lawful { WordsSound barred.now.target setting.now words.old }
+{
+    make_moves(alloc, barred, setting, first, last, words, moves, out)?;
+    add_replies(alloc, out, first)?;
+    if last.number() > 0 {
+        out.push('\n')?;
+        add_replies(alloc, out, last)?;
+    }
+    Ok(())
+}
+
+/// What the first and the last caller of a target do.
+pub(crate) fn callers(
+    alloc: Global,
+    barred: &Barred,
+    setting: &Setting,
+    room: u32,
+    moves: &str,
+    out: &mut String,
+) -> Result<(), RowError>
+    requires { Fits barred.now.target setting.now }
+{
+    let count = setting.shape().callers();
+    if count == 0 {
+        return Err(RowError::Wrong);
+    }
+    let mut words = words_of(alloc, barred, setting)?;
+    let mut first = entry_of(alloc, barred, setting, 0, room)?;
+    let mut last = entry_of(alloc, barred, setting, count - 1, room)?;
+    act(
+        alloc, barred, setting, &mut first, &mut last, &mut words, moves, out,
+    )
+}

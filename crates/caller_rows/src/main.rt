@@ -1,0 +1,74 @@
+//! Answers rows on the callers' core. A row is a line of standard input; on standard output it stands as it is, and its answers are
+//! the lines after it. A line that begins with `#` is a heading and is written as it stands; an empty line is skipped.
+//! `lines NAME SPELLING` names lines that the rows below it begin with.
+//!
+//! - `entry NUMBER ROOM OTHER`: an entry as it is made, and after it got another number.
+//! - `setting CALLERS SLOTS FIELDS ROOTS FIRST LAST NODES`: what a setting tells, or why it is refused.
+//! - `words CALLERS SLOTS FIRST LAST, ACCESS, .. < TEXT`: the words at the start, and what accesses to them find one after another:
+//!   `load AT`, `store AT WORD`, `exchange AT EXPECTED REPLACEMENT` and `max AT WORD`.
+//! - `callers CALLERS SLOTS FIRST LAST ROOM, MOVE, .. < TEXT`: the accesses of callers of the compiled text, and how their entries
+//!   stand after each move: `first calls OP ARGUMENT`, `first steps COUNT`, and the same of `second`. At the end come the replies.
+//! - `alone ROOM, MOVE, .. < DOCUMENT` and `together ROOM, MOVE, .. < DOCUMENT`: the caller of a document's one script, or those of its
+//!   two, on the words of a table: `first operates INDEX BUDGET` with the call at this index of its script, by at most so many
+//!   steps, `first resumes BUDGET`, and the same of `second`; how each move ends, and at the end the phase and the entries.
+//! - `places ROOM, COUNT < DOCUMENT`: so many blanks enter, and then one more tries it twice.
+//! - `sharing < DOCUMENT`: the document's scripts run on threads, and what their replies add up to.
+#![tactic(auto)]
+
+mod accesses;
+mod answer;
+mod budgets;
+mod callers;
+mod entries;
+mod hall;
+mod moves;
+mod numbers;
+mod places;
+mod sharing;
+mod starts;
+mod steps;
+mod targets;
+
+use crate::answer::answer;
+use row_spelling::{NamedLines, RowError, named_lines};
+use std::alloc::Global;
+use std::io::{self, BufRead, BufReader};
+use std::thread::Threads;
+
+/// The lines that are written after a row, also where the row can't be answered.
+fn written<R: Threads + Sync>(
+    rt: &R,
+    alloc: Global,
+    named: &[NamedLines],
+    line: &str,
+) -> io::Result<String> {
+    match answer(rt, alloc, named, line) {
+        Ok(written) => Ok(written),
+        Err(RowError::Wrong) => Ok(format!(in alloc; "wrong row")?),
+        Err(RowError::Memory(error)) => Err(error.into()),
+    }
+}
+
+fn main(rt: HostRuntime) -> io::Result<()> {
+    let alloc = rt.alloc();
+    let mut named = Vec::new(alloc);
+    for line in BufReader::new(alloc, rt.reader())?.lines(alloc) {
+        let line = line?;
+        if line.is_empty() {
+            continue;
+        }
+        if let Some(rest) = line.strip_prefix("lines ") {
+            match named_lines(alloc, &named, rest) {
+                Ok(lines) => named.push(lines)?,
+                Err(RowError::Wrong) => println!(rt; "wrong row: {line}")?,
+                Err(RowError::Memory(error)) => return Err(error.into()),
+            }
+            continue;
+        }
+        println!(rt; "{line}")?;
+        if !line.starts_with('#') {
+            println!(rt; "{}", written(&rt, alloc, &named, line.as_str())?)?;
+        }
+    }
+    Ok(())
+}

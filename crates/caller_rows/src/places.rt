@@ -1,0 +1,103 @@
+//! Places: as many callers enter as the setting has, and no more.
+
+ghost use Rattle.std.specs.Prelude.{◌≡◌, IfOk};
+ghost use Rattle.word_runner.specs.Shown.{CameFrom};
+
+use crate::hall::{Hall, open, second};
+use row_spelling::RowError;
+use std::alloc::{AllocError, Global};
+use word_runner::{Blank, Caller};
+
+fn add_found(alloc: Global, out: &mut String, found: u32) -> Result<(), AllocError> {
+    out.push_str(format!(in alloc; "found {found}, ")?.as_str())
+}
+
+fn add_entered(alloc: Global, out: &mut String, caller: &Caller) -> Result<(), AllocError> {
+    out.push_str(format!(in alloc;
+        "caller {}, spare {}\n",
+        caller.number(),
+        caller.spare()
+    )?.as_str())
+}
+
+/// Another blank enters, and it is told as whom.
+fn enter_one(
+    alloc: Global,
+    hall: &Hall,
+    blank: &mut Blank,
+    out: &mut String,
+) -> Result<(), RowError>
+    requires came { CameFrom hall.now.arena blank.old.table blank.old.fixed }
+    ensures same { blank.new ≡ blank.old }
+{
+    let Some(other) = second(alloc, hall, blank) else {
+        return Err(RowError::Wrong);
+    };
+    add_found(alloc, out, other.found())?;
+    match other.enter(&hall.arena) {
+        Ok(caller) => Ok(add_entered(alloc, out, &caller)?),
+        Err(_) => Err(RowError::Wrong),
+    }
+}
+
+fn enter_some(
+    alloc: Global,
+    hall: &Hall,
+    blank: &mut Blank,
+    count: u64,
+    out: &mut String,
+) -> Result<(), RowError>
+    requires came { CameFrom hall.now.arena blank.old.table blank.old.fixed }
+    ensures same { blank.new ≡ blank.old }
+{
+    for _ in 0..count {
+        enter_one(alloc, hall, blank, out)?;
+    }
+    Ok(())
+}
+
+/// A blank that finds no place, and is handed back.
+fn find_none(alloc: Global, hall: &Hall, blank: Blank, out: &mut String) -> Result<Blank, RowError>
+    requires came { CameFrom hall.now.arena blank.table blank.fixed }
+    ensures { IfOk result (λ back. CameFrom hall.now.arena back.table back.fixed) }
+{
+    add_found(alloc, out, blank.found())?;
+    match blank.enter(&hall.arena) {
+        Ok(_) => Err(RowError::Wrong),
+        Err(none) => {
+            out.push_str(format!(in alloc; "none of {}\n", none.callers)?.as_str())?;
+            Ok(none.blank)
+        }
+    }
+}
+
+/// So many others enter, and the blank finds no place, twice.
+fn fill(
+    alloc: Global,
+    hall: &Hall,
+    blank: Blank,
+    count: u64,
+    out: &mut String,
+) -> Result<(), RowError>
+    requires came { CameFrom hall.now.arena blank.table blank.fixed }
+{
+    let mut blank = blank;
+    enter_some(alloc, hall, &mut blank, count, out)?;
+    let back = find_none(alloc, hall, blank, out)?;
+    let again = find_none(alloc, hall, back, out)?;
+    Ok(add_found(alloc, out, again.found())?)
+}
+
+/// So many blanks enter; one more finds all places taken, and so again when it is handed back.
+pub(crate) fn places(
+    alloc: Global,
+    bytes: &[u8],
+    room: u32,
+    count: u64,
+    out: &mut String,
+) -> Result<(), RowError> {
+    match open(alloc, bytes, room) {
+        Some((hall, blank)) => fill(alloc, &hall, blank, count, out),
+        None => Err(RowError::Wrong),
+    }
+}

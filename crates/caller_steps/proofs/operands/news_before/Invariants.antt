@@ -1,6 +1,0 @@
-use Rattle.std.proofs.Common.{◌≡◌, ◌≤◌}
-use Rattle.caller_steps.specs.Operands.{news_before}
-use Rattle.caller_steps.proofs.operands.news_before.Given as goal
-
-abbrev pub invariant-loop-place : goal.invariant-loop-place
-invariant-loop-place l = record { same : l.count ≡ news_before l.code l.place; few : l.count ≤ l.place }

@@ -1,0 +1,106 @@
+-- The ready slots as a chain, and who has each slot.
+use Rattle.std.specs.Prelude.{ℕ, suc, ◌≡◌, ◌≢◌, ◌≤◌, List, [], ◌∷◌, Option, Some, None, ◌==◌, if◌then◌else◌}
+use Rattle.chain_words.specs.declared.packed.Kind.{Kind}
+use Rattle.chain_words.specs.declared.packed.Kind.TheVariants as kinds
+use Rattle.chain_words.specs.Words.{Word, Phase, Status, Head, Link, Sizes}
+use Rattle.chain_words.specs.Packed.{status_word, head_parts}
+use Rattle.chain_laws.specs.Memories.{put}
+
+-- from a top on each slot's link names the one below it, and 0 stands below the lowest
+abbrev pub IsChain : (ℕ → ℕ) → ℕ → List ℕ → Type 0
+IsChain link top [] = top ≡ 0
+IsChain link top (j ∷ below) = (top ≡ j) × (j ≢ 0) × IsChain link (link j) below
+
+-- how often a slot stands in it
+abbrev pub times : ℕ → List ℕ → ℕ
+times j [] = 0
+times j (i ∷ below) = if i == j then suc (times j below) else times j below
+
+-- what a slot stands on
+abbrev pub below_top : List ℕ → List ℕ
+below_top [] = []
+below_top (j ∷ below) = below
+
+-- who has a slot
+pub data Owner : Type 0 where
+  Chained : Owner  -- it is in the chain
+  Taken : (c : ℕ) → Owner  -- a claim of c has taken it from the chain, and hasn't stored that it is used
+  Pushing : (c s : ℕ) → Owner  -- a sweep of c that announced phase s has made it ready, and pushes it
+  Outside : Owner  -- it is used, and nobody retires it; or it is null
+  Retiring : (c : ℕ) (tag : Option ℕ) → Owner  -- c retires it, and has loaded this phase or none yet
+  Retired : (tag : ℕ) → Owner  -- its status is retired, with this phase
+
+-- the caller that has it, if it is one's
+abbrev pub caller_of : Owner → Option ℕ
+caller_of Chained = None
+caller_of (Taken c) = Some c
+caller_of (Pushing c s) = Some c
+caller_of Outside = None
+caller_of (Retiring c tag) = Some c
+caller_of (Retired tag) = None
+
+-- the owner of each slot, and the slots of the chain from the top on
+pub record Hands : Type 0 where
+  pub owner : ℕ → Owner
+  pub chain : List ℕ
+
+abbrev pub handed : Hands → ℕ → Owner → Hands
+handed hands j o = record hands { owner = put hands.owner j o }
+
+abbrev pub with_top : Hands → ℕ → Hands
+with_top hands j = record { owner = put hands.owner j Chained; chain = j ∷ hands.chain }
+
+abbrev pub without_top : Hands → ℕ → ℕ → Hands
+without_top hands c j = record { owner = put hands.owner j (Taken c); chain = below_top hands.chain }
+
+-- the phase that the head is stamped with, and the slot on top
+abbrev pub stamp : (Word → ℕ) → ℕ
+stamp memory = (head_parts (memory Head)).phase
+
+abbrev pub top : (Word → ℕ) → ℕ
+top memory = (head_parts (memory Head)).top
+
+abbrev pub links : (Word → ℕ) → ℕ → ℕ
+links memory j = memory (Link j)
+
+-- a status word of a kind
+abbrev pub IsOf : Kind → ℕ → Type 0
+IsOf kind word = (q : ℕ) × (word ≡ status_word q kind)
+
+-- once for a slot of the chain, never for any other
+abbrev pub once : Owner → ℕ
+once Chained = 1
+once (Taken c) = 0
+once (Pushing c s) = 0
+once Outside = 0
+once (Retiring c tag) = 0
+once (Retired tag) = 0
+
+-- a phase that was loaded doesn't pass another
+abbrev pub UpTo : ℕ → Option ℕ → Type 0
+UpTo phase None = Unit {0}
+UpTo phase (Some tag) = tag ≤ phase
+
+-- a slot that isn't null
+abbrev pub IsSlot : Sizes → ℕ → Type 0
+IsSlot n j = (1 ≤ j) × (j ≤ n.slots)
+
+-- the status word of a slot by its owner, where the head's stamp and the phase are these
+abbrev pub SlotHolds : Sizes → ℕ → ℕ → ℕ → ℕ → Owner → Type 0
+SlotHolds n stamped phase j word Chained = IsSlot n j × ((q : ℕ) × (word ≡ status_word q kinds.Ready) × (q ≤ stamped))
+SlotHolds n stamped phase j word (Taken c) = IsSlot n j × IsOf kinds.Ready word
+SlotHolds n stamped phase j word (Pushing c s) = IsSlot n j × (word ≡ status_word s kinds.Ready) × (s ≤ phase)
+SlotHolds n stamped phase j word Outside = j ≤ n.slots → IsOf kinds.Used word
+SlotHolds n stamped phase j word (Retiring c tag) = IsSlot n j × IsOf kinds.Used word × UpTo phase tag
+SlotHolds n stamped phase j word (Retired tag) = IsSlot n j × (word ≡ status_word tag kinds.Retired) × (tag ≤ phase)
+
+-- what holds of the pool's words at each moment
+pub record PoolHolds (n : Sizes) (memory : Word → ℕ) (hands : Hands) : Type 0 where
+  -- the head's stamp doesn't pass the phase
+  pub stamped : stamp memory ≤ memory Phase
+  -- the chain hangs on the head
+  pub linked : IsChain (links memory) (top memory) hands.chain
+  -- each of its slots stands in it once, and no other slot does
+  pub stands : (j : ℕ) → times j hands.chain ≡ once (hands.owner j)
+  -- each slot has the status that its owner gave it
+  pub slot : (j : ℕ) → SlotHolds n (stamp memory) (memory Phase) j (memory (Status j)) (hands.owner j)

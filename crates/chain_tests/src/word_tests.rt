@@ -1,0 +1,70 @@
+//! Addresses, references, statuses, heads and shapes.
+
+use chain_words::packed::{
+    Kind, head_parts, head_word, is_marked, ref_word, slot_part, status_parts, status_word,
+};
+use chain_words::shape::{Shape, ShapeFault};
+
+/// A row of 1 caller, 3 slots, 2 fields and 1 cell.
+#[test]
+fn words_stand_where_the_layout_says(rt: HostRuntime) {
+    let shape = Shape::new(1, 3, 2, 1).expect(&rt, "the numbers are in range");
+    assert!(rt; shape.callers() == 1);
+    assert!(rt; shape.slots() == 3);
+    assert!(rt; shape.fields() == 2);
+    assert!(rt; shape.cells() == 1);
+    assert_eq!(rt; shape.phase_at(), 0);
+    assert_eq!(rt; shape.place_at(0), 1);
+    assert_eq!(rt; shape.warning_at(0), 2);
+    assert_eq!(rt; shape.hazard_at(0, 0), 3);
+    assert_eq!(rt; shape.hazard_at(0, 7), 10);
+    assert_eq!(rt; shape.status_at(1), 12);
+    assert_eq!(rt; shape.field_at(2, 1), 20);
+    assert_eq!(rt; shape.cell_at(0), 23);
+    assert_eq!(rt; shape.head_at(), 24);
+    assert_eq!(rt; shape.link_at(0), 25);
+    assert_eq!(rt; shape.link_at(3), 28);
+    assert_eq!(rt; shape.word_count(), 29);
+}
+
+#[test]
+fn references_and_statuses_are_packed(rt: HostRuntime) {
+    assert_eq!(rt; ref_word(3, true), 7);
+    assert_eq!(rt; slot_part(7), 3);
+    assert!(rt; is_marked(7));
+    assert!(rt; !is_marked(6));
+    assert_eq!(rt; status_word(7, Kind::Retired), 30);
+    assert!(rt; status_parts(30) == Some((7, Kind::Retired)));
+    assert!(rt; status_parts(28) == Some((7, Kind::Ready)));
+    assert!(rt; status_parts(29) == Some((7, Kind::Used)));
+    assert!(rt; status_parts(7).is_none());
+}
+
+#[test]
+fn heads_are_packed(rt: HostRuntime) {
+    assert_eq!(rt; head_word(3, 2), 24578);
+    assert!(rt; head_parts(24578) == (3, 2));
+    assert_eq!(rt; head_word(1, 0), 8192);
+    assert!(rt; head_parts(8192) == (1, 0));
+    assert_eq!(rt; head_word(1125899906842624, 4096), 9223372036854779904);
+    assert!(rt; head_parts(9223372036854779904) == (1125899906842624, 4096));
+}
+
+fn fault_of(callers: u64, slots: u64, fields: u64, cells: u64) -> Option<ShapeFault> {
+    Shape::new(callers, slots, fields, cells).err()
+}
+
+#[test]
+fn shapes_have_limits(rt: HostRuntime) {
+    assert!(rt; fault_of(1, 1, 1, 1).is_none());
+    assert!(rt; fault_of(8, 4096, 4, 256).is_none());
+    assert!(rt; fault_of(0, 1, 1, 1) == Some(ShapeFault::Callers));
+    assert!(rt; fault_of(9, 0, 0, 0) == Some(ShapeFault::Callers));
+    assert!(rt; fault_of(1, 0, 1, 1) == Some(ShapeFault::Slots));
+    assert!(rt; fault_of(1, 4097, 0, 0) == Some(ShapeFault::Slots));
+    assert!(rt; fault_of(1, 4294967297, 1, 1) == Some(ShapeFault::Slots));
+    assert!(rt; fault_of(1, 1, 0, 0) == Some(ShapeFault::Fields));
+    assert!(rt; fault_of(1, 1, 5, 1) == Some(ShapeFault::Fields));
+    assert!(rt; fault_of(1, 1, 1, 0) == Some(ShapeFault::Cells));
+    assert!(rt; fault_of(1, 1, 1, 257) == Some(ShapeFault::Cells));
+}

@@ -1,0 +1,37 @@
+-- What holds of all words.
+use Rattle.std.specs.Prelude.{◌≡◌, ◌↔◌, ℕ, ◌<◌, ◌%◌, Bool, true, Some, None, length, slice_index}
+use Rattle.chain_words.specs.declared.packed.Kind.{Kind}
+use Rattle.chain_words.specs.Words.{Word, Sizes, address_of, in_row, word_count}
+use Rattle.chain_words.specs.Packed.{ref_word, slot_part, is_marked, StatusParts, status_word, status_parts, head_word, head_parts}
+use Rattle.chain_words.specs.Starts.{Beginning, start_word, start_words}
+
+-- each word of the row stands below the count of words, and different words stand at different addresses
+pub record WordsStandApart (n : Sizes) : Type 0 where
+  pub within : (w : Word) → in_row n w ≡ true → address_of n w < word_count n
+  pub apart : (v w : Word) → in_row n v ≡ true → in_row n w ≡ true → address_of n v ≡ address_of n w → v ≡ w
+
+-- a reference and its parts: each gives back the other, so words with equal parts are equal, and equal words have equal parts
+pub record ReferencesSplit : Type 0 where
+  pub slot : (slot : ℕ) (marked : Bool) → slot_part (ref_word slot marked) ≡ slot
+  pub mark : (slot : ℕ) (marked : Bool) → is_marked (ref_word slot marked) ≡ marked
+  pub whole : (word : ℕ) → ref_word (slot_part word) (is_marked word) ≡ word
+  pub equal : (slot other : ℕ) (marked also : Bool) → ref_word slot marked ≡ ref_word other also → (slot ≡ other) × (marked ≡ also)
+
+-- a status and its parts: each gives back the other, and a word has none exactly where its kind would be 3
+pub record StatusesSplit : Type 0 where
+  pub parts : (phase : ℕ) (kind : Kind) → status_parts (status_word phase kind) ≡ Some (record { phase = phase; kind = kind })
+  pub whole : (word : ℕ) (parts : StatusParts) → status_parts word ≡ Some parts → status_word parts.phase parts.kind ≡ word
+  pub equal : (phase other : ℕ) (kind also : Kind) → status_word phase kind ≡ status_word other also → (phase ≡ other) × (kind ≡ also)
+  pub none : (word : ℕ) → (status_parts word ≡ None) ↔ (word % 4 ≡ 3)
+
+-- a head and its parts: each gives back the other, where the top is a slot of some row
+pub record HeadsSplit : Type 0 where
+  pub parts : (phase top : ℕ) → top < 8192 → head_parts (head_word phase top) ≡ record { phase = phase; top = top }
+  pub small : (word : ℕ) → (head_parts word).top < 8192
+  pub whole : (word : ℕ) → head_word (head_parts word).phase (head_parts word).top ≡ word
+  pub equal : (phase other top also : ℕ) → top < 8192 → also < 8192 → head_word phase top ≡ head_word other also → (phase ≡ other) × (top ≡ also)
+
+-- at the start each word says what its name does, and there are no other words
+pub record StartsAsNamed (n : Sizes) (start : Beginning) : Type 0 where
+  pub words : (w : Word) → in_row n w ≡ true → slice_index (start_words n start) (address_of n w) ≡ start_word n start w
+  pub count : length (start_words n start) ≡ word_count n

@@ -1,0 +1,5 @@
+pub mod Words
+pub mod Within
+pub mod Packed
+pub mod Starts
+pub mod Laws

@@ -1,0 +1,149 @@
+-- Claims take slots that were never claimed in ascending order, whatever is retired: the least of them is the frontier. This needs no chain:
+-- a slot may be retired twice, and the links may make a circle.
+use Rattle.std.specs.Prelude.{ℕ, ◌+◌, ◌≡◌, ◌≤◌, ◌<◌, ◌⊎◌, List, [], ◌∷◌, length, Option, Some, None, nat_lt, ◌==◌, if◌then◌else◌}
+use Rattle.chain_words.specs.declared.packed.Kind.TheVariants as kinds
+use Rattle.chain_words.specs.Words.{Word, Status, Head, Link, Sizes}
+use Rattle.chain_words.specs.Packed.{status_word, head_word}
+use Rattle.chain_words.specs.Starts.{Beginning, slot_after}
+use Rattle.chain_pools.specs.declared.stages.SweepStage.{SweepStage}
+use Rattle.chain_pools.specs.declared.stages.SweepStage.TheVariants as sweeps
+use Rattle.chain_pools.specs.declared.stages.ClaimStage.{ClaimStage}
+use Rattle.chain_pools.specs.declared.stages.ClaimStage.TheVariants as claims
+use Rattle.chain_pools.specs.Accesses.{word_of}
+use Rattle.chain_pools.specs.Pools.{claim_begun, claim_wants, claim_accepts, retire_begun, retire_wants, retire_accepts}
+use Rattle.chain_laws.specs.Memories.{store, after_access, put}
+use Rattle.chain_laws.specs.Chains.{top}
+use Rattle.chain_laws.specs.Laws.{StartsAs}
+use Rattle.chain_laws.specs.Machine.{Standing, Elsewhere, Claims, Retires, slot_of, PoolEvent, BeginsClaim, BeginsRetirement, Steps, Writes, is_other, claim_left, retirement_left}
+
+-- ---- the machine, in which callers retire what they like
+
+-- the frontier is the greatest slot and one where each slot was claimed; and how many exchanges took a slot
+pub record OpenState : Type 0 where
+  pub memory : Word → ℕ
+  pub frontier : ℕ
+  pub claims : ℕ
+  pub who : ℕ → Standing
+
+-- the exchange that takes the slot at the frontier moves it on
+abbrev pub frontier_at : ClaimStage → (Word → ℕ) → ℕ → ℕ
+frontier_at claims.ReadHead memory v = v
+frontier_at (claims.ReadLink q t) memory v = v
+frontier_at (claims.Take q t next) memory v = if memory Head == head_word q t then (if t == v then v + 1 else v) else v
+frontier_at (claims.StoreUsed q t) memory v = v
+frontier_at claims.Sweeps memory v = v
+
+abbrev pub claims_at : ClaimStage → (Word → ℕ) → ℕ → ℕ
+claims_at claims.ReadHead memory count = count
+claims_at (claims.ReadLink q t) memory count = count
+claims_at (claims.Take q t next) memory count = if memory Head == head_word q t then count + 1 else count
+claims_at (claims.StoreUsed q t) memory count = count
+claims_at claims.Sweeps memory count = count
+
+abbrev pub open_begins : Standing → OpenState → Option OpenState
+open_begins Elsewhere later = Some later
+open_begins (Claims claim) later = None
+open_begins (Retires retirement) later = None
+
+abbrev pub open_stepped : Sizes → ℕ → OpenState → ℕ → Standing → Option OpenState
+open_stepped n last state c Elsewhere = None
+open_stepped n last state c (Claims claim) =
+    let turn = claim_accepts n last claim (state.memory (word_of (claim_wants claim))) in
+    Some (record {
+      memory = after_access state.memory (claim_wants claim);
+      frontier = frontier_at claim.stage state.memory state.frontier;
+      claims = claims_at claim.stage state.memory state.claims;
+      who = put state.who c (claim_left turn.claim turn.ended);
+    })
+open_stepped n last state c (Retires retirement) =
+    Some (record {
+      memory = after_access state.memory (retire_wants retirement);
+      frontier = state.frontier;
+      claims = state.claims;
+      who = put state.who c (retirement_left (retire_accepts retirement (state.memory (word_of (retire_wants retirement)))));
+    })
+
+-- one event, where it is enabled: what is retired is null, held an initial node or was claimed
+abbrev pub open_event : Sizes → ℕ → OpenState → PoolEvent → Option OpenState
+open_event n last state (BeginsClaim c) = open_begins (state.who c) (record state { who = put state.who c (Claims (claim_begun n)) })
+open_event n last state (BeginsRetirement c j) =
+    if nat_lt j state.frontier then open_begins (state.who c) (record state { who = put state.who c (Retires (retire_begun j)) }) else None
+open_event n last state (Steps c) = open_stepped n last state c (state.who c)
+open_event n last state (Writes w x) = if is_other w then Some (record state { memory = store state.memory w x }) else None
+
+abbrev pub open_on : Option OpenState → (OpenState → Option OpenState) → Option OpenState
+open_on None next = None
+open_on (Some state) next = next state
+
+abbrev pub open_run : Sizes → ℕ → List PoolEvent → OpenState → Option OpenState
+open_run n last [] state = Some state
+open_run n last (event ∷ events) state = open_on (open_event n last state event) (open_run n last events)
+
+abbrev pub open_start : Sizes → Beginning → (Word → ℕ) → OpenState
+open_start n start memory = record { memory = memory; frontier = length start.nodes + 1; claims = 0; who = λ c. Elsewhere }
+
+-- ---- what holds
+
+-- a slot up to the frontier; none, 0, comes only after the last
+abbrev pub IsNear : ℕ → ℕ → ℕ → Type 0
+IsNear slots v x = (x ≤ v) × (x ≤ slots) × ((1 ≤ x) ⊎ (slots < v))
+
+abbrev pub IsPast : ℕ → ℕ → Type 0
+IsPast v j = (1 ≤ j) × (j < v)
+
+-- one that may stand on top: if it was claimed, its link names none past the frontier either
+abbrev pub IsGood : ℕ → (Word → ℕ) → ℕ → ℕ → Type 0
+IsGood slots memory v x = IsNear slots v x × (IsPast v x → IsNear slots v (memory (Link x)))
+
+-- words, where claims have come to v: from there on they are as at the start. The link of a slot that was never pushed may name none
+pub record IsOrdered (n : Sizes) (nodes first : ℕ) (memory : Word → ℕ) (v : ℕ) : Type 0 where
+  pub least : nodes < v
+  pub greatest : v ≤ n.slots + 1
+  pub top_good : IsGood n.slots memory v (top memory)
+  pub link_good : (j : ℕ) → IsPast v j → IsNear n.slots v (memory (Link j)) → IsGood n.slots memory v (memory (Link j))
+  pub link_first : (j : ℕ) → v ≤ j → j ≤ n.slots → memory (Link j) ≡ slot_after n.slots j
+  pub status_first : (j : ℕ) → v ≤ j → j ≤ n.slots → memory (Status j) ≡ status_word first kinds.Ready
+
+-- and callers
+abbrev pub SweepFits : ℕ → (Word → ℕ) → ℕ → SweepStage → Type 0
+SweepFits slots memory v sweeps.ReadPhase = Unit {0}
+SweepFits slots memory v (sweeps.RaisePhase p) = Unit {0}
+SweepFits slots memory v (sweeps.Warn d) = Unit {0}
+SweepFits slots memory v (sweeps.ReadHazard d r) = Unit {0}
+SweepFits slots memory v (sweeps.ReadStatus j) = (1 ≤ j) × (j ≤ slots)
+SweepFits slots memory v (sweeps.MakeReady j q) = (1 ≤ j) × (j ≤ slots)
+SweepFits slots memory v (sweeps.PushHead j) = IsPast v j × (j ≤ slots)
+SweepFits slots memory v (sweeps.PushLink j q t) = IsPast v j × (j ≤ slots) × IsGood slots memory v t
+SweepFits slots memory v (sweeps.PushTop j q t) = IsPast v j × (j ≤ slots) × IsNear slots v (memory (Link j))
+
+abbrev pub ClaimFits : ℕ → (Word → ℕ) → ℕ → SweepStage → ClaimStage → Type 0
+ClaimFits slots memory v stage claims.ReadHead = Unit {0}
+ClaimFits slots memory v stage (claims.ReadLink q t) = (1 ≤ t) × IsGood slots memory v t
+ClaimFits slots memory v stage (claims.Take q t next) = (1 ≤ t) × IsGood slots memory v t × (t < v → IsGood slots memory v next) × (t ≡ v → next ≡ slot_after slots t)
+ClaimFits slots memory v stage (claims.StoreUsed q t) = t < v
+ClaimFits slots memory v stage claims.Sweeps = SweepFits slots memory v stage
+
+abbrev pub Fits : ℕ → (Word → ℕ) → ℕ → Standing → Type 0
+Fits slots memory v Elsewhere = Unit {0}
+Fits slots memory v (Claims claim) = ClaimFits slots memory v claim.sweep.stage claim.stage
+Fits slots memory v (Retires retirement) = retirement.slot < v
+
+pub record OpenHolds (n : Sizes) (start : Beginning) (state : OpenState) : Type 0 where
+  pub words : IsOrdered n (length start.nodes) start.first state.memory state.frontier
+  pub fits : (c : ℕ) → Fits n.slots state.memory state.frontier (state.who c)
+  pub counted : state.frontier ≤ length start.nodes + 1 + state.claims
+
+-- ---- laws
+
+-- in each state of a run with any retirements
+pub record ClaimsAreOrdered (n : Sizes) (start : Beginning) (state : OpenState) : Type 0 where
+  -- where no slot is on top, the initial nodes and the claims together are at least the slots
+  pub full : top state.memory ≡ 0 → n.slots ≤ length start.nodes + state.claims
+  -- a slot from the frontier on is as at the start
+  pub ready : (j : ℕ) → state.frontier ≤ j → j ≤ n.slots → state.memory (Status j) ≡ status_word start.first kinds.Ready
+  -- and no caller has it
+  pub unclaimed : (c : ℕ) → slot_of (state.who c) < state.frontier
+
+abbrev pub ClaimsStayOrdered : Sizes → ℕ → Beginning → Type 0
+ClaimsStayOrdered n last start = 1 ≤ n.slots → n.slots ≤ 4096 → length start.nodes ≤ n.slots → (memory : Word → ℕ) → StartsAs n start memory
+    → (events : List PoolEvent) (state : OpenState) → open_run n last events (open_start n start memory) ≡ Some state → ClaimsAreOrdered n start state

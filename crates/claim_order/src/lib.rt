@@ -1,0 +1,4 @@
+//! In which order slots are claimed for the first time, whatever the callers retire.
+#![tactic(auto)]
+
+pub mod laws;

@@ -1,0 +1,108 @@
+//! The words of the command line.
+
+ghost use Rattle.std.specs.Prelude.{◌≡◌, ◌<◌, ◌^◌, ◌∷◌, map, IfSome, Some, None, if◌then◌else◌};
+ghost use Rattle.std.specs.String.{string_bytes};
+ghost use Rattle.oa_words.specs.Within.{is_count};
+ghost use Rattle.command_input.specs.Commands.{command_named, count_in, workload_in, request_of, IsInRange};
+
+use documents::MOST_CALLS;
+use oa_text::read_numeral;
+
+/// What is done with a document.
+#[derive(Clone, Copy, Debug, PartialEq, Eq)]
+pub enum Command {
+    /// The document's calls are made, and their answers written.
+    Run,
+    /// The same, with the steps of the callers in the order that the document's schedule gives.
+    Replay,
+    /// The document's text is judged by the rules of the normal form.
+    Check,
+    /// The document's text is written in its canonical spelling.
+    Show,
+    /// The document's text is compiled, and the target written in its canonical spelling.
+    Compile,
+}
+
+/// What the words ask for.
+#[derive(Clone, Copy, Debug, PartialEq, Eq)]
+pub enum Request {
+    /// A command on the document that the source has.
+    OfDocument(Command),
+    /// Two large runs, for so many calls and callers. No document is read.
+    Workload { count: u32, callers: u32 },
+}
+
+/// How many callers a workload has at most.
+const MOST_CALLERS: u32 = 8;
+
+fn command_named(word: &str) -> Option<Command>
+    ensures { result ≡ command_named word.now }
+{
+    if word == "run" {
+        Some(Command::Run)
+    } else if word == "replay" {
+        Some(Command::Replay)
+    } else if word == "check" {
+        Some(Command::Check)
+    } else if word == "show" {
+        Some(Command::Show)
+    } else if word == "compile" {
+        Some(Command::Compile)
+    } else {
+        None
+    }
+}
+
+/// A number as a count, if it is from 1 to `most`.
+fn in_range(number: u64, most: u32) -> Option<u32>
+    ensures { result ≡ (if is_count most number then Some number else None) }
+{
+    if 1 <= number && number <= most as u64 {
+        Some(number as u32)
+    } else {
+        None
+    }
+}
+
+/// The number that a word spells, if it is from 1 to `most`.
+#[tactic(auto, using(crate::proofs::Counted::no_numeral, crate::proofs::Counted::too_large, crate::proofs::Counted::counted))]
+fn count_in(word: &[u8], most: u32) -> Option<u32>
+    ensures { result ≡ count_in most word.now }
+{
+    match read_numeral(word) {
+        None => None,
+        Some(None) => None,
+        Some(Some(number)) => in_range(number, most),
+    }
+}
+
+/// The workload that the words after `workload` ask for.
+fn workload_in(words: &[String]) -> Option<Request>
+    ensures { result ≡ workload_in (map string_bytes words.now) }
+{
+    let (count, others) = words.split_first()?;
+    let (callers, others) = others.split_first()?;
+    if !others.is_empty() {
+        return None;
+    }
+    let count = count_in(count.as_bytes(), MOST_CALLS)?;
+    let callers = count_in(callers.as_bytes(), MOST_CALLERS)?;
+    Some(Request::Workload { count, callers })
+}
+
+/// What the words ask for, if they are in the grammar.
+pub fn request_of(words: &[String]) -> Option<Request>
+    ensures request { result ≡ request_of (map string_bytes words.now) }
+    ensures range { IfSome result IsInRange }
+{
+    let (word, others) = words.split_first()?;
+    if others.is_empty() {
+        let command = command_named(word.as_str())?;
+        return Some(Request::OfDocument(command));
+    }
+    if word.as_str() == "workload" {
+        workload_in(others)
+    } else {
+        None
+    }
+}

@@ -1,0 +1,5 @@
+mod Starting
+pub mod Keeping
+pub mod Calling
+pub mod Stepping
+mod Counted

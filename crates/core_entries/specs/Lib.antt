@@ -1,0 +1,6 @@
+pub mod Ports
+pub mod Starts
+pub mod Tables
+pub mod Kinds
+pub mod Callers
+pub mod Steps

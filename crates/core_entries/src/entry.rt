@@ -1,0 +1,233 @@
+//! A caller's entry.
+
+ghost use Rattle.std.specs.Prelude.{◌≡◌, ◌≢◌, ◌-◌, ◌<◌, None, IfOk, length, map, true, is_some, not};
+ghost use Rattle.caller_steps.specs.Entries.{idle_entry, is_idle};
+ghost use Rattle.caller_parts.specs.Pairing.{reply_of};
+ghost use Rattle.caller_parts.specs.Calls.{is_call};
+ghost use Rattle.caller_steps.specs.Asking.{located_option};
+ghost use Rattle.caller_steps.specs.Lawful.{MayBeTold};
+ghost use Rattle.caller_steps.specs.Wants.{wants};
+ghost use Rattle.caller_steps.specs.After.{after, taken};
+ghost use Rattle.core_runs.specs.Replays.{is_spent, stands_at_check, kind_wanted};
+ghost use Rattle.core_entries.specs.Callers.{BelongsTo, BelongsToAll, BelongsToSome, StaysWithAll, IsInRow};
+
+use crate::kinds::{first_field, instr_at, is_check, kind_at};
+use crate::loaded::LoadedTarget;
+use crate::prepared::{Prepared, kept};
+use barrier_check::Barred;
+use caller_steps::{Call, Entry as State, Reply, Routine, Setting};
+use phase_pools::access::Access;
+use schedule_turns::StepKind;
+use std::alloc::{AllocError, Global};
+use std::marker::Model;
+
+/// A caller of the core, with room for its replies: the call that it runs, where it stands in its method or in the routine of
+/// its pool, its guards, the slots that it has claimed and hasn't published, its replies, and its counts. What it does is
+/// Cohen and Petrank's optimistic access (SPAA 2015).
+///
+/// It runs step by step: `pending` is the one access that it makes next, and `accept` takes the word that this access found.
+#[derive(Debug, Drop)]
+pub struct Entry {
+    state: State,
+    room: u32,
+}
+
+impl Model for Entry {
+    ghost use Rattle.std.specs.Prelude.{◌≡◌};
+    ghost use Rattle.caller_steps.specs.Entries.{RoomyEntry};
+    ghost use Rattle.core_entries.specs.Callers.{HasRoom};
+
+    ghost Value = { RoomyEntry };
+
+    ghost view = { λ e. e.state };
+
+    ghost invariant = { λ e. HasRoom e.state × (e.room ≡ e.state.room) };
+}
+
+impl Entry {
+    /// An idle entry of the caller with this number, counted from 0, with room for so many replies. It belongs to every barred
+    /// target and fitting setting with more callers than its number.
+    ///
+    /// # Errors
+    /// Memory ran out.
+    #[tactic(auto, using(crate::proofs::Calling::new_belongs))]
+    pub fn new(alloc: Global, number: u32, room: u32) -> Result<Entry, AllocError>
+        ensures made { IfOk result (λ e. e ≡ record { core = idle_entry number; room = room }) }
+        ensures belongs { BelongsToAll (idle_entry number) }
+    {
+        let state = State::new(alloc, number, room as usize)?;
+        Ok(Entry { state, room })
+    }
+
+    /// Another number for an entry that is as `new` made it. Takes no memory.
+    #[tactic(auto, using(crate::proofs::Calling::new_belongs))]
+    pub fn renumber(&mut self, number: u32)
+        requires fresh { self.old.core ≡ idle_entry self.old.core.number }
+        ensures numbered { self.new ≡ record self.old { core = idle_entry number } }
+        ensures belongs { BelongsToAll (idle_entry number) }
+    {
+        self.state.renumber(number);
+    }
+
+    /// Takes a call of the operation `op`, by its number in the target, with its arguments. The entry is idle and has room for
+    /// the reply, and the words of `args` past the operation's count are 0.
+    #[tactic(auto, using(crate::proofs::Calling::begins))]
+    pub fn begin(&mut self, barred: &Barred, op: u8, args: [u64; 4])
+        requires belongs { BelongsToSome barred.now self.old.core }
+        requires idle { is_idle self.old.core.routine ≡ true }
+        requires spare { length self.old.core.replies < self.old.room }
+        requires call { is_call barred.now.target (record { op = op; args = args }) ≡ true }
+        ensures taken { self.new ≡ record self.old { core = taken (record { op = op; args = args }) self.old.core } }
+        ensures belongs { StaysWithAll barred.now self.old.core self.new.core }
+    {
+        kept(barred);
+        self.state.begin(Call { op, args });
+    }
+
+    /// The one access that the entry makes next, to a word of the row; none exactly where it is idle.
+    pub fn pending(&self, barred: &Barred, setting: &Setting) -> Option<Access>
+        requires belongs { BelongsTo barred.now setting.now self.now.core }
+        ensures wanted { result ≡ located_option setting.now.sizes (wants barred.now.target self.now.core) }
+        ensures idle { is_some result ≡ not (is_idle self.now.core.routine) }
+        ensures row { IsInRow setting.now result }
+    {
+        self.pending_in(&Prepared::new(barred), setting)
+    }
+
+    /// `pending` of a loaded target.
+    pub fn pending_on(&self, loaded: &LoadedTarget, setting: &Setting) -> Option<Access>
+        requires belongs { BelongsTo loaded.now setting.now self.now.core }
+        ensures wanted { result ≡ located_option setting.now.sizes (wants loaded.now.target self.now.core) }
+        ensures idle { is_some result ≡ not (is_idle self.now.core.routine) }
+        ensures row { IsInRow setting.now result }
+    {
+        self.pending_in(&loaded.prepared(), setting)
+    }
+
+    /// `pending` for many steps of one target.
+    pub(crate) fn pending_in(&self, prepared: &Prepared, setting: &Setting) -> Option<Access>
+        requires belongs { BelongsTo prepared.now setting.now self.now.core }
+        ensures wanted { result ≡ located_option setting.now.sizes (wants prepared.now.target self.now.core) }
+        ensures idle { is_some result ≡ not (is_idle self.now.core.routine) }
+        ensures row { IsInRow setting.now result }
+    {
+        setting.kept();
+        self.state.pending(&prepared.program(), setting)
+    }
+
+    /// The entry after its wanted access found a word, which is lawful where that access stood. What a store found is no
+    /// matter.
+    pub fn accept(&mut self, barred: &Barred, setting: &Setting, word: u64)
+        requires belongs { BelongsTo barred.now setting.now self.old.core }
+        requires wanted { wants barred.now.target self.old.core ≢ None }
+        requires lawful { MayBeTold barred.now.target setting.now (wants barred.now.target self.old.core) word }
+        ensures after { self.new ≡ record self.old { core = after barred.now.target setting.now self.old.core word } }
+        ensures belongs { BelongsTo barred.now setting.now self.new.core }
+    {
+        self.accept_in(&Prepared::new(barred), setting, word);
+    }
+
+    /// `accept` of a loaded target.
+    pub fn accept_on(&mut self, loaded: &LoadedTarget, setting: &Setting, word: u64)
+        requires belongs { BelongsTo loaded.now setting.now self.old.core }
+        requires wanted { wants loaded.now.target self.old.core ≢ None }
+        requires lawful { MayBeTold loaded.now.target setting.now (wants loaded.now.target self.old.core) word }
+        ensures after { self.new ≡ record self.old { core = after loaded.now.target setting.now self.old.core word } }
+        ensures belongs { BelongsTo loaded.now setting.now self.new.core }
+    {
+        self.accept_in(&loaded.prepared(), setting, word);
+    }
+
+    /// `accept` for many steps of one target.
+    pub(crate) fn accept_in(&mut self, prepared: &Prepared, setting: &Setting, word: u64)
+        requires belongs { BelongsTo prepared.now setting.now self.old.core }
+        requires wanted { wants prepared.now.target self.old.core ≢ None }
+        requires lawful { MayBeTold prepared.now.target setting.now (wants prepared.now.target self.old.core) word }
+        ensures after { self.new ≡ record self.old { core = after prepared.now.target setting.now self.old.core word } }
+        ensures belongs { BelongsTo prepared.now setting.now self.new.core }
+    {
+        setting.kept();
+        self.state.accept(&prepared.program(), setting, word);
+    }
+
+    /// Whether so many steps were made for the call that runs that it takes no more.
+    pub fn is_spent(&self, fuel: u64) -> bool
+        ensures { result ≡ is_spent fuel self.now.core }
+    {
+        !self.is_idle() && fuel <= self.state.running.steps
+    }
+
+    /// Whether the entry stands at a check.
+    fn stands_at_check(&self, prepared: &Prepared) -> bool
+        ensures { result ≡ stands_at_check prepared.now.target self.now.core self.now.core.routine }
+    {
+        match self.state.routine {
+            Routine::At => {
+                let code = prepared
+                    .program()
+                    .code(self.state.running.call.op, self.state.hand.wrapup);
+                is_check(instr_at(code, self.state.hand.at))
+            }
+            _ => false,
+        }
+    }
+
+    /// The kind of the access that the entry makes next, where turns count it.
+    pub fn kind_wanted(&self, prepared: &Prepared, setting: &Setting) -> Option<StepKind>
+        requires belongs { BelongsTo prepared.now setting.now self.now.core }
+        ensures { result ≡ kind_wanted prepared.now.target self.now.core }
+    {
+        setting.kept();
+        let _ = prepared.program();
+        if self.stands_at_check(prepared) {
+            return Some(StepKind::Check);
+        }
+        match self.pending_in(prepared, setting) {
+            None => None,
+            Some(access) => kind_at(first_field(setting), access),
+        }
+    }
+
+    /// The caller's number, from 0 on.
+    pub fn number(&self) -> u32
+        ensures { result ≡ self.now.core.number }
+    {
+        self.state.number
+    }
+
+    /// Whether no call runs.
+    pub fn is_idle(&self) -> bool
+        ensures { result ≡ is_idle self.now.core.routine }
+    {
+        self.state.is_idle()
+    }
+
+    /// The replies in order.
+    pub fn replies(&self) -> &[Reply]
+        ensures { result.now ≡ map reply_of self.now.core.replies }
+    {
+        self.state.answers()
+    }
+
+    /// For how many more replies there is room.
+    pub fn spare(&self) -> u32
+        ensures { result ≡ self.now.room - length self.now.core.replies }
+    {
+        let room = self.room as usize;
+        self.state.spare().min(room) as u32
+    }
+
+    /// How many of its checks failed; the count stays at 2^64 - 1.
+    pub fn restarts(&self) -> u64
+        ensures { result ≡ self.now.core.counts.restarts }
+    {
+        self.state.counts.restarts
+    }
+
+    /// How many slots it has claimed; the count stays at 2^64 - 1.
+    pub fn claims(&self) -> u64
+        ensures { result ≡ self.now.core.counts.claims }
+    {
+        self.state.counts.claims
+    }
+}

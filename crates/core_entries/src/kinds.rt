@@ -1,0 +1,49 @@
+//! The kinds of access that turns count.
+
+ghost use Rattle.std.specs.Prelude.{◌≡◌, option_copied, slice_get};
+ghost use Rattle.oa_words.specs.Words.{field_base};
+ghost use Rattle.caller_steps.specs.Belongs.{is_check_at};
+ghost use Rattle.core_entries.specs.Kinds.{kind_at, kind_from};
+
+use caller_steps::Setting;
+use phase_pools::access::Access;
+use schedule_turns::StepKind;
+use target_code::target::TargetInstr;
+
+pub(crate) fn instr_at(code: &[TargetInstr], at: usize) -> Option<&TargetInstr>
+    ensures { option_copied result ≡ slice_get code.now at }
+{
+    code.get(at)
+}
+
+pub(crate) fn is_check(instr: Option<&TargetInstr>) -> bool
+    ensures { result ≡ is_check_at (option_copied instr.entry) }
+{
+    matches!(instr, Some(TargetInstr::Check))
+}
+
+/// The address of the first field. From there on fields and cells stand.
+pub(crate) fn first_field(setting: &Setting) -> u32
+    ensures { result ≡ field_base setting.now.sizes }
+{
+    let shape = setting.shape();
+    let _fields = shape.fields();
+    shape.field_at(0, 0)
+}
+
+fn kind_from(first: u32, at: u32, kind: StepKind) -> Option<StepKind>
+    ensures { result ≡ kind_from first at kind }
+{
+    if first <= at { Some(kind) } else { None }
+}
+
+/// The kind of an access: a load or an exchange of a field or a cell.
+pub(crate) fn kind_at(first: u32, access: Access) -> Option<StepKind>
+    ensures { result ≡ kind_at first access }
+{
+    match access {
+        Access::Load { at } => kind_from(first, at, StepKind::Load),
+        Access::CompareExchange { at, .. } => kind_from(first, at, StepKind::Exchange),
+        Access::Store { .. } | Access::FetchMax { .. } => None,
+    }
+}

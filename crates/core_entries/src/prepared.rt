@@ -1,0 +1,131 @@
+//! A barred target with what its wrap-ups keep.
+
+ghost use Rattle.std.specs.Prelude.{◌≡◌, ◌<◌, length, slice_get};
+ghost use Rattle.barrier_check.specs.Paired.{IsSound};
+ghost use Rattle.caller_parts.specs.Spared.{KeptIs};
+ghost use Rattle.core_entries.specs.Tables.{keeps_at, row_at, table_of};
+
+use barrier_check::Barred;
+use caller_steps::Program;
+use std::marker::Model;
+
+/// A barred target with the table of what its wrap-ups keep.
+#[derive(Debug, Drop)]
+pub struct Prepared<'a> {
+    barred: &'a Barred,
+    rows: [[bool; 8]; 16],
+}
+
+impl<'a> Model for Prepared<'a> {
+    ghost use Rattle.caller_parts.specs.Spared.{KeptIs};
+    ghost use Rattle.barrier_check.specs.Paired.{Paired};
+
+    ghost Value = { Paired };
+
+    ghost view = { λ p. p.barred.now };
+
+    ghost invariant = { λ p. KeptIs p.barred.now.target p.rows };
+}
+
+fn keeps_register(barred: &Barred, op: u8, register: u8) -> bool
+    requires op { op < length barred.now.target.ops }
+    requires register { register < 8 }
+    ensures { result ≡ keeps_at (slice_get barred.now.target.ops op) register }
+{
+    let _ = barred.target();
+    barred.is_kept(op, register)
+}
+
+#[tactic(auto, using(crate::proofs::Keeping::kept_by_none))]
+fn keeps_at(barred: &Barred, op: u8, register: u8) -> bool
+    requires { register < 8 }
+    ensures { result ≡ keeps_at (slice_get barred.now.target.ops op) register }
+{
+    if (op as usize) < barred.target().ops.items().len() {
+        return keeps_register(barred, op, register);
+    }
+    false
+}
+
+fn row_at(barred: &Barred, op: u8) -> [bool; 8]
+    ensures { result ≡ row_at barred.now.target op }
+{
+    [
+        keeps_at(barred, op, 0),
+        keeps_at(barred, op, 1),
+        keeps_at(barred, op, 2),
+        keeps_at(barred, op, 3),
+        keeps_at(barred, op, 4),
+        keeps_at(barred, op, 5),
+        keeps_at(barred, op, 6),
+        keeps_at(barred, op, 7),
+    ]
+}
+
+/// A target has no more than sixteen operations.
+pub(crate) fn table_of(barred: &Barred) -> [[bool; 8]; 16]
+    ensures { result ≡ table_of barred.now.target }
+{
+    [
+        row_at(barred, 0),
+        row_at(barred, 1),
+        row_at(barred, 2),
+        row_at(barred, 3),
+        row_at(barred, 4),
+        row_at(barred, 5),
+        row_at(barred, 6),
+        row_at(barred, 7),
+        row_at(barred, 8),
+        row_at(barred, 9),
+        row_at(barred, 10),
+        row_at(barred, 11),
+        row_at(barred, 12),
+        row_at(barred, 13),
+        row_at(barred, 14),
+        row_at(barred, 15),
+    ]
+}
+
+/// What a barred target keeps.
+#[tactic(auto, using(crate::proofs::Keeping::is_sound))]
+pub fn kept(barred: &Barred)
+    ensures { IsSound barred.now }
+{
+    let _ = barred.source();
+    let _ = barred.target();
+}
+
+impl<'a> Prepared<'a> {
+    /// The table is made here, once for many steps.
+    pub fn new(barred: &'a Barred) -> Prepared<'a>
+        ensures { result ≡ barred.now }
+    {
+        kept(barred);
+        let rows = table_of(barred);
+        Prepared { barred, rows }
+    }
+
+    /// The target with its source.
+    pub fn barred(&self) -> &'a Barred
+        ensures { result.now ≡ self.now }
+    {
+        self.barred
+    }
+
+    /// Over a table that was made before.
+    pub(crate) fn over(barred: &'a Barred, rows: [[bool; 8]; 16]) -> Prepared<'a>
+        requires { KeptIs barred.now.target rows }
+        ensures { result ≡ barred.now }
+    {
+        Prepared { barred, rows }
+    }
+
+    /// What the steps of entries are told.
+    pub fn program(&self) -> Program<'_>
+        ensures same { result ≡ self.now.target }
+        ensures sound { IsSound self.now }
+    {
+        kept(self.barred);
+        Program::new(self.barred.target(), self.rows.as_slice())
+    }
+}

@@ -1,0 +1,175 @@
+//! The words of a row, in a vector.
+
+ghost use Rattle.std.specs.Prelude.{◌≡◌, ◌++◌, ◌+◌, IfOk, map, replicate, flat_map, slice_index};
+ghost use Rattle.oa_words.specs.Packed.{status_word};
+ghost use Rattle.oa_words.specs.Starts.{start_kind, start_statuses};
+ghost use Rattle.caller_parts.specs.Settings.{Fits};
+ghost use Rattle.core_runs.specs.Machine.{value_word, node_words, root_word, core_start};
+ghost use Rattle.core_entries.specs.Starts.{caller_words, slot_words};
+
+use crate::port::{Port, answer_to, at_of, left_by};
+use barrier_check::Barred;
+use caller_steps::Setting;
+use norm_lang::list::Listed;
+use norm_lang::text::{NodeDecl, RootDecl, Start};
+use oa_words::packed::{Kind, ref_word, status_word};
+use phase_pools::access::Access;
+use std::alloc::{AllocError, Global};
+use std::marker::Model;
+use target_code::Target;
+
+/// The words of a row in a vector, for callers that take turns.
+#[derive(Debug, Drop)]
+pub struct PlainWords {
+    words: Listed<u64>,
+}
+
+impl Model for PlainWords {
+    ghost use Rattle.std.specs.Prelude.{List, ℕ};
+
+    ghost Value = { List ℕ };
+
+    ghost view = { λ w. w.words };
+}
+
+fn put_copies(words: &mut Listed<u64>, count: u32, word: u64) -> Result<(), AllocError>
+    ensures { IfOk result (λ _. words.new ≡ words.old ++ replicate count word) }
+{
+    for _ in 0..count {
+        words.push(word)?;
+    }
+    Ok(())
+}
+
+/// A first value as a word: initial node J stands in slot J.
+fn value_word(start: Start) -> u64
+    ensures { result ≡ value_word start }
+{
+    match start {
+        Start::Value(v) => v,
+        Start::Node(j) => ref_word(j, false),
+    }
+}
+
+fn put_starts(words: &mut Listed<u64>, starts: &[Start]) -> Result<(), AllocError>
+    ensures { IfOk result (λ _. words.new ≡ words.old ++ map value_word starts.now) }
+{
+    for start in starts {
+        words.push(value_word(*start))?;
+    }
+    Ok(())
+}
+
+fn put_nodes(words: &mut Listed<u64>, nodes: &[NodeDecl]) -> Result<(), AllocError>
+    ensures { IfOk result (λ _. words.new ≡ words.old ++ flat_map node_words nodes.now) }
+{
+    for node in nodes {
+        put_starts(words, node.values.items())?;
+    }
+    Ok(())
+}
+
+fn put_roots(words: &mut Listed<u64>, roots: &[RootDecl]) -> Result<(), AllocError>
+    ensures { IfOk result (λ _. words.new ≡ words.old ++ map root_word roots.now) }
+{
+    for root in roots {
+        words.push(value_word(root.start))?;
+    }
+    Ok(())
+}
+
+/// Null and the initial nodes are used, all other slots are ready.
+fn start_kind(nodes: u32, slot: u32) -> Kind
+    ensures { result ≡ start_kind nodes slot }
+{
+    if slot <= nodes {
+        Kind::Used
+    } else {
+        Kind::Ready
+    }
+}
+
+fn start_status(setting: &Setting, slot: u32) -> u64
+    ensures { result ≡ status_word setting.now.first (start_kind setting.now.nodes slot) }
+{
+    status_word(setting.first_phase(), start_kind(setting.nodes(), slot))
+}
+
+fn put_statuses(words: &mut Listed<u64>, setting: &Setting) -> Result<(), AllocError>
+    ensures { IfOk result (λ _. words.new ≡ words.old ++ start_statuses setting.now.first setting.now.nodes 0 (setting.now.sizes.slots + 1)) }
+{
+    let slots = setting.shape().slots();
+    for slot in 0..slots + 1 {
+        words.push(start_status(setting, slot))?;
+    }
+    Ok(())
+}
+
+/// The first phase, and the words of callers.
+fn put_callers(words: &mut Listed<u64>, setting: &Setting) -> Result<(), AllocError>
+    ensures { IfOk result (λ _. words.new ≡ words.old ++ caller_words setting.now) }
+{
+    let callers = setting.shape().callers();
+    let first = setting.first_phase();
+    words.push(first)?;
+    put_copies(words, callers, 0)?;
+    put_copies(words, callers, first)?;
+    put_copies(words, 8 * callers, 0)?;
+    Ok(())
+}
+
+/// The words of slots, and the cells.
+fn put_slots(words: &mut Listed<u64>, target: &Target, setting: &Setting) -> Result<(), AllocError>
+    ensures { IfOk result (λ _. words.new ≡ words.old ++ slot_words target.now setting.now) }
+{
+    let shape = setting.shape();
+    put_statuses(words, setting)?;
+    put_copies(words, shape.fields(), 0)?;
+    put_nodes(words, target.nodes.items())?;
+    put_copies(words, (shape.slots() - setting.nodes()) * shape.fields(), 0)?;
+    put_roots(words, target.roots.items())?;
+    Ok(())
+}
+
+impl PlainWords {
+    /// The words at the start, in the order of their addresses: the phase, places, warnings, hazards, statuses, fields and
+    /// cells. The setting fits the target.
+    ///
+    /// # Errors
+    /// Memory ran out.
+    #[tactic(auto, using(crate::proofs::Starting::words_put))]
+    pub fn new(alloc: Global, barred: &Barred, setting: &Setting) -> Result<PlainWords, AllocError>
+        requires { Fits barred.now.target setting.now }
+        ensures { IfOk result (λ words. words ≡ (core_start barred.now.target setting.now).words) }
+    {
+        let mut words = Listed::empty(alloc);
+        put_callers(&mut words, setting)?;
+        put_slots(&mut words, barred.target(), setting)?;
+        Ok(PlainWords { words })
+    }
+
+    /// The first word, which is the phase.
+    pub fn phase(&self) -> u64
+        ensures { result ≡ slice_index self.now 0 }
+    {
+        self.words.items().first().copied().unwrap_or(0)
+    }
+
+    /// The words, in the order of their addresses.
+    pub fn words(&self) -> &[u64]
+        ensures { result.now ≡ self.now }
+    {
+        self.words.items()
+    }
+}
+
+impl Port for PlainWords {
+    ghost words = { λ words. words };
+
+    fn access(&mut self, access: Access) -> u64 {
+        let at = at_of(access) as usize;
+        let found = self.words.items()[at];
+        self.words.replace(at, left_by(access, found));
+        answer_to(access, found)
+    }
+}

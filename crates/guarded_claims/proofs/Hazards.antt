@@ -1,0 +1,142 @@
+-- Which accesses store a hazard word: a `grd` and a clear alone.
+use Rattle.std.proofs.Common.{ℕ, zero, suc, ◌≡◌, ◌≢◌, ◌⊎◌, Option, Some, None, sym, ap, subst, refl, true, false, ◌==◌, inl, inr}
+use Rattle.std.specs.Prelude.{slice_get}
+use Rattle.std.proofs.lemmas.Bool.Decides.{eqb_tells}
+use Rattle.norm_lang.specs.declared.text.Place.{Place}
+use Rattle.norm_lang.specs.declared.text.Place.TheVariants as places
+use Rattle.norm_lang.specs.declared.text.CasEntry.{CasEntry}
+use Rattle.norm_lang.specs.declared.text.Instr.{Instr}
+use Rattle.norm_lang.specs.declared.text.Instr.TheVariants as instr
+use Rattle.norm_lang.specs.declared.registers.Registers.{Registers}
+use Rattle.target_code.specs.declared.target.Target.{Target}
+use Rattle.target_code.specs.declared.target.TargetInstr.{TargetInstr}
+use Rattle.target_code.specs.declared.target.TargetInstr.TheVariants.{Plain, Check, Guard}
+use Rattle.oa_words.specs.Words.{Word, Hazard}
+use Rattle.core_runs.specs.Memories.{store}
+use Rattle.phase_pools.specs.declared.stages.SweepStage.{SweepStage}
+use Rattle.phase_pools.specs.declared.stages.SweepStage.TheVariants as sweeps
+use Rattle.phase_pools.specs.declared.stages.ClaimStage.{ClaimStage}
+use Rattle.phase_pools.specs.declared.stages.ClaimStage.TheVariants as claims
+use Rattle.phase_pools.specs.declared.stages.RetireStage.{RetireStage}
+use Rattle.phase_pools.specs.declared.stages.RetireStage.TheVariants as retires
+use Rattle.phase_pools.specs.Accesses.{WordAccess, Stores}
+use Rattle.phase_pools.specs.Pools.{Sweep, claim_wants_at, sweep_wants_at, retire_wants_at}
+use Rattle.caller_parts.specs.declared.routine.Routine.{Routine}
+use Rattle.caller_parts.specs.declared.routine.Routine.TheVariants.{Idle, LoadSeen, At, InList, Retires, Restarts, Clears, Claims, Zeroes}
+use Rattle.caller_parts.specs.Operands.{list_of, slot_in, word_in, register_number}
+use Rattle.caller_steps.specs.Entries.{Entry, instr_in}
+use Rattle.caller_steps.specs.Clearing.{restart_next, clear_next}
+use Rattle.caller_steps.specs.Wants.{wanted, exchange_wanted, instr_wanted, list_wanted, clear_wanted, object_exchange, place_exchange, plain_wanted}
+use Rattle.sim_relation.specs.Steps.{after_access}
+use Rattle.sim_relation.proofs.Words.{store_again}
+
+abbrev pub Leaves : (Word → ℕ) → ℕ → ℕ → Option WordAccess → Type 0
+Leaves m c r None = Unit {0}
+Leaves m c r (Some a) = after_access m a (Hazard c r) ≡ m (Hazard c r)
+
+-- the hazard word that a routine stores
+abbrev pub stored_at : Option TargetInstr → Option ℕ
+stored_at None = None
+stored_at (Some (Plain i)) = None
+stored_at (Some Check) = None
+stored_at (Some (Guard r)) = Some (register_number r)
+
+abbrev pub stored : Target → Entry → Routine → Option ℕ
+stored target e Idle = None
+stored target e (LoadSeen why) = None
+stored target e At = stored_at (instr_in target e)
+stored target e (InList k) = None
+stored target e (Retires retirement go) = None
+stored target e Restarts = restart_next target e
+stored target e (Clears next) = clear_next target next e
+stored target e (Claims claim) = None
+stored target e (Zeroes k field) = None
+
+module _ (m : Word → ℕ) (c r : ℕ) where
+  -- a store in another hazard word of the caller
+  other_leaves : (i k word : ℕ) → r ≢ k → store m (Hazard i k) word (Hazard c r) ≡ m (Hazard c r)
+  other_leaves i k word ne = of (eqb_tells r k) (eqb_tells c i) where
+    of : (((r == k) ≡ true) × (r ≡ k)) ⊎ (((r == k) ≡ false) × (r ≢ k)) → (((c == i) ≡ true) × (c ≡ i)) ⊎ (((c == i) ≡ false) × (c ≢ i)) → store m (Hazard i k) word (Hazard c r) ≡ m (Hazard c r)
+    of (inl same) here = absurd (ne same.1)
+    of (inr away) (inl here) = rw (here.0, away.0) refl
+    of (inr away) (inr there) = rw there.0 refl
+
+  exchange_leaves : (exchange : CasEntry) (registers : Registers) → Leaves m c r (Some (exchange_wanted exchange registers))
+  exchange_leaves exchange registers = of exchange.place where
+    object : (k f expected replacement : ℕ) → Leaves m c r (Some (object_exchange k f expected replacement))
+    object zero f expected replacement = refl
+    object (suc k) f expected replacement = refl
+
+    of : (place : Place) → Leaves m c r (Some (place_exchange place registers (word_in registers exchange.expected) (word_in registers exchange.replacement)))
+    of (places.Root x) = refl
+    of (places.Field a f) = object (slot_in registers a) f (word_in registers exchange.expected) (word_in registers exchange.replacement)
+
+  plain_leaves : (i : Instr) (registers : Registers) → Leaves m c r (plain_wanted i registers)
+  plain_leaves (instr.LoadRoot d x) registers = refl
+  plain_leaves (instr.LoadPick d x n a) registers = refl
+  plain_leaves (instr.LoadField d a f) registers = refl
+  plain_leaves (instr.Put a f b) registers = refl
+  plain_leaves (instr.Cas exchange l) registers = exchange_leaves exchange registers
+  plain_leaves (instr.Set d n) registers = tt
+  plain_leaves (instr.Mov d a) registers = tt
+  plain_leaves (instr.Add d a b) registers = tt
+  plain_leaves (instr.Sub d a b) registers = tt
+  plain_leaves (instr.Rem d a n) registers = tt
+  plain_leaves (instr.Mark d a) registers = tt
+  plain_leaves (instr.Unmark d a) registers = tt
+  plain_leaves (instr.Null d) registers = tt
+  plain_leaves (instr.New d) registers = tt
+  plain_leaves (instr.Jump l) registers = tt
+  plain_leaves (instr.IfEq a b l) registers = tt
+  plain_leaves (instr.IfLess a b l) registers = tt
+  plain_leaves (instr.IfMarked a l) registers = tt
+  plain_leaves (instr.Commit exchanges) registers = tt
+  plain_leaves (instr.Return a) registers = tt
+  plain_leaves instr.ReturnNone registers = tt
+  plain_leaves instr.Again registers = tt
+
+  list_leaves : (o : Option CasEntry) (registers : Registers) → Leaves m c r (list_wanted o registers)
+  list_leaves None registers = tt
+  list_leaves (Some exchange) registers = exchange_leaves exchange registers
+
+  instr_leaves : (i : ℕ) (o : Option TargetInstr) (registers : Registers) → (stored_at o ≡ Some r → ⊥) → Leaves m c r (instr_wanted i o registers)
+  instr_leaves i None registers ne = tt
+  instr_leaves i (Some (Plain x)) registers ne = plain_leaves x registers
+  instr_leaves i (Some Check) registers ne = refl
+  instr_leaves i (Some (Guard k)) registers ne = other_leaves i (register_number k) (slot_in registers k) (λ same. ne (ap Some (sym same)))
+
+  clear_leaves : (i : ℕ) (o : Option ℕ) → (o ≡ Some r → ⊥) → Leaves m c r (clear_wanted i o)
+  clear_leaves i None ne = tt
+  clear_leaves i (Some k) ne = other_leaves i k 0 (λ same. ne (ap Some (sym same)))
+
+  retire_leaves : (slot : ℕ) (stage : RetireStage) → Leaves m c r (Some (retire_wants_at slot stage))
+  retire_leaves slot retires.ReadPhase = refl
+  retire_leaves slot (retires.StoreStatus p) = refl
+
+  sweep_leaves : (stage : SweepStage) (bound : ℕ) → Leaves m c r (Some (sweep_wants_at stage bound))
+  sweep_leaves sweeps.ReadPhase bound = refl
+  sweep_leaves (sweeps.RaisePhase p) bound = refl
+  sweep_leaves (sweeps.Warn d) bound = refl
+  sweep_leaves (sweeps.ReadHazard d i) bound = store_again m (Hazard d i) (Hazard c r)
+  sweep_leaves (sweeps.ReadStatus j) bound = refl
+  sweep_leaves (sweeps.MakeReady j q) bound = refl
+
+  claim_leaves : (sweep : Sweep) (stage : ClaimStage) → Leaves m c r (Some (claim_wants_at sweep stage))
+  claim_leaves sweep (claims.ReadStatus j) = refl
+  claim_leaves sweep (claims.Take j q) = refl
+  claim_leaves sweep claims.Sweeps = sweep_leaves sweep.stage sweep.bound
+
+  pub leaves : (target : Target) (e : Entry) (routine : Routine) → (stored target e routine ≡ Some r → ⊥) → Leaves m c r (wanted target e routine)
+  leaves target e Idle ne = tt
+  leaves target e (LoadSeen why) ne = refl
+  leaves target e At ne = instr_leaves e.number (instr_in target e) e.hand.registers ne
+  leaves target e (InList k) ne = list_leaves (slice_get (list_of (instr_in target e)) k) e.hand.registers
+  leaves target e (Retires retirement go) ne = retire_leaves retirement.slot retirement.stage
+  leaves target e Restarts ne = clear_leaves e.number (restart_next target e) ne
+  leaves target e (Clears next) ne = clear_leaves e.number (clear_next target next e) ne
+  leaves target e (Claims claim) ne = claim_leaves claim.sweep claim.stage
+  leaves target e (Zeroes k field) ne = refl
+
+  -- a store of what stands there
+  pub again_leaves : (slot : ℕ) → slot ≡ m (Hazard c r) → Leaves m c r (Some (Stores (Hazard c r) slot))
+  again_leaves slot same = subst (λ (word : ℕ). store m (Hazard c r) word (Hazard c r) ≡ m (Hazard c r)) (sym same) (store_again m (Hazard c r) (Hazard c r))

@@ -1,0 +1,38 @@
+//! Whether a history is legal.
+
+ghost use Rattle.std.specs.Prelude.{IfOk};
+ghost use Rattle.histories.specs.Histories.{IsJudged};
+
+use crate::call::Call;
+use crate::orders::has_legal_order;
+use crate::shared::Shared;
+use std::alloc::{AllocError, Global};
+
+/// What is found of a history.
+#[derive(Clone, Copy, Debug, PartialEq, Eq)]
+pub enum Judgement {
+    /// There is an order in which each answer is right.
+    Legal,
+    /// There is none.
+    NoLegalOrder,
+    /// It has too many calls to be searched.
+    TooLarge,
+}
+
+/// How many calls a history has at most that is searched.
+const MOST_CALLS: usize = 10;
+
+/// Looks for an order of a history's calls, each caller's in its own, in which a set and a queue that are empty at first give each
+/// answer. A history of more than ten calls isn't searched.
+pub fn judge(alloc: Global, history: &[Call]) -> Result<Judgement, AllocError>
+    ensures { IfOk result (IsJudged history.now) }
+{
+    if MOST_CALLS < history.len() {
+        return Ok(Judgement::TooLarge);
+    }
+    if has_legal_order(alloc, &Shared::new(alloc), history)? {
+        Ok(Judgement::Legal)
+    } else {
+        Ok(Judgement::NoLegalOrder)
+    }
+}

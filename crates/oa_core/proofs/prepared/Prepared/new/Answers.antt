@@ -1,5 +1,0 @@
-use Rattle.oa_core.proofs.Keeping.{kept_is}
-use Rattle.oa_core.proofs.prepared.Prepared.new.Goals as goal
-
-pub invariant_of-result : goal.invariant_of-result
-invariant_of-result c = kept_is c.args.barred.now.target c.table_of-rows.result c.kept.ensures.within c.table_of-rows.ensures

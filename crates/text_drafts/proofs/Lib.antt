@@ -1,0 +1,2 @@
+mod LineReads
+mod News
