@@ -1,6 +1,7 @@
 #!/usr/bin/env bash
-# Times the steps of one caller on plain words, by `oa replay`: on the hash set with 8 buckets, on lists of 1, 10 and 100 nodes, and on
-# queues that leave two of 8, 64, 512 and 4,096 slots free, where each enqueue claims, so that its look and its sweep go through the whole row.
+# Times the steps of one caller on plain words, by `oa replay`: on the hash set with 8 buckets; on lists of 1, 10 and 100 nodes; on queues of at most
+# one value and 8, 64, 512 and 4,096 slots, where each enqueue claims, each slot is used again and again, and a sweep frees nearly all of them; and on
+# queues that leave two of as many slots free: each third claim finds no slot ready, and its sweep goes through the whole row and makes three ready.
 # How many steps a document takes is told by a schedule that asks for one more than there are. From the time of a replay that of the same
 # document with `fuel 1` is taken off, which reads it, makes one step, and writes as many lines. Times are the processor's, the least of
 # five runs each, so that other programs on the machine count as far as they slow a processor down. It needs the proved program (`./prove`),
@@ -9,8 +10,7 @@ set -eu
 cd "$(dirname "$0")/.."
 work=$(mktemp -d)
 trap 'rm -rf "$work"' EXIT
-[ -n "${program:-}" ] || . bench/least.sh
-oa=${program:-crates/oa/out/oa}
+. bench/least.sh
 
 # The least time of five replays of an input, in microseconds.
 least_of() { # INPUT
@@ -62,8 +62,16 @@ done
 for slots in 8 64 512 4096; do
   awk -v slots="$slots" 'BEGIN {
     print "oa 1"; print "use queue"; print "slots " slots; print "script 0"
+    for (i = 0; i < 8000; i++) { print "enqueue " i; print "dequeue" }
+  }' >"$work/in"
+  tell "queue of at most one value, $slots slots" 16000
+done
+
+for slots in 8 64 512 4096; do
+  awk -v slots="$slots" 'BEGIN {
+    print "oa 1"; print "use queue"; print "slots " slots; print "script 0"
     for (i = 3; i < slots; i++) print "enqueue " i
     for (i = 0; i < 6000000 / (10 * slots + 50); i++) { print "dequeue"; print "enqueue " i }
   }' >"$work/in"
-  tell "queue, $slots slots" "$(grep -c queue "$work/in" | awk '{ print $1 - 1 }')"
+  tell "queue that leaves two of $slots slots free" "$(grep -c queue "$work/in" | awk '{ print $1 - 1 }')"
 done

@@ -36,11 +36,12 @@ static size_t length;
 
 static const char *const words[] = {
     "0", "1", "2", "3", "7", "8", "9", "63", "64", "65", "255", "256", "257", "4096", "4097", "65535", "65536", "100000", "1000000", "1000001",
-    "18446744073709551615", "18446744073709551616", "00", "n0", "n1", "n7", "n8", "r0", "r1", "r7", "r8", "null", "@0", "@1", "@2", "@256", "num", "ref",
-    "key", "next", "value", "head", "tail", "b0", "set", "mov", "add", "sub", "rem", "mark", "unmark", "root", "pick", "load", "new", "put", "cas",
-    "casroot", "jump", "ifeq", "ifless", "ifmarked", "commit", "with", "withroot", "return", "returnnone", "again", "chk", "grd", "retire", "oa", "oat",
-    "use", "list", "queue", "field", "nodes", "node", "op", "gen", "wrap", "slots", "phases", "fuel", "script", "schedule", "step", "upto", "check",
-    "exchange", "insert", "remove", "contains", "enqueue", "dequeue", "#", "\t", "~", "\x7f"};
+    "1125899906842624", "1125899906842625", "18446744073709551615", "18446744073709551616", "00", "n0", "n1", "n7", "n8", "r0", "r1", "r7", "r8",
+    "null", "@0", "@1", "@2", "@256", "num", "ref", "key", "next", "value", "head", "tail", "b0", "set", "mov", "add", "sub", "rem", "mark", "unmark",
+    "root", "pick", "load", "new", "put", "cas", "casroot", "jump", "ifeq", "ifless", "ifmarked", "commit", "with", "withroot", "return",
+    "returnnone", "again", "chk", "grd", "retire", "oa", "oat", "use", "list", "queue", "field", "nodes", "node", "op", "gen", "wrap", "slots",
+    "phases", "fuel", "script", "schedule", "step", "upto", "check", "exchange", "insert", "remove", "contains", "enqueue", "dequeue", "#", "\t", "~",
+    "\x7f"};
 
 static void put(size_t at, size_t taken, const char *with, size_t size) {
   if (length - taken + size > MOST) return;
@@ -75,7 +76,7 @@ static const char *word_for(size_t from, size_t to) {
   if (is_register)
     snprintf(made, sizeof made, "%c%d", drawn(5) ? text[from] : "nr"[drawn(2)], (int)drawn(8));
   else if (drawn(4) == 0)
-    return words[drawn(21)];
+    return words[drawn(23)];
   else
     snprintf(made, sizeof made, "%d", (int)drawn(drawn(2) ? 6 : 24));
   return made;
@@ -274,7 +275,7 @@ int main(int argc, char **argv) {
     while (waitpid(id, &raw, WNOHANG) == 0)
       if (sigtimedwait(&child, NULL, &patience) < 0 && errno == EAGAIN) timed_out = 1, kill(id, SIGKILL);
     if (timed_out) {
-      slow++;
+      slow++, tell_failure(number, commands[command], raw, "");
       continue;
     }
     ssize_t size = pread(out, said, sizeof said - 1, 0);

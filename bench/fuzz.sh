@@ -3,11 +3,11 @@
 # each, with one of `run`, `replay`, `check`, `show` and `compile`, and looks whether it ends with a status of README's table, with the line on
 # standard output and a sentence on standard error as that status has them. One call in sixteen is a `workload`, with numbers and words that may be
 # wrong; it leaves its document unread. `bench/fuzz.sh COUNT SEED` makes COUNT documents, a million if there is no number; a seed gives the same
-# documents again. It writes how often which status came, and keeps a document that shows anything else as fuzz-NUMBER.oa where it is called. It needs
-# gcc and the proved program (`./prove`).
+# documents again. It writes how often which status came, and keeps a document that shows anything else, or that had to be stopped, as fuzz-NUMBER.oa
+# where it is called. It needs gcc and the proved program (`./prove`), or the path of another in `program`.
 set -eu
 top=$(cd "$(dirname "$0")/.." && pwd)
-"$top/prove" --is-ready || { echo "the proved program isn't there: run ./prove first" >&2; exit 2; }
+[ -n "${program:-}" ] || "$top/prove" --is-ready || { echo "the proved program isn't there: run ./prove first" >&2; exit 2; }
 work=$(mktemp -d)
 trap 'rm -rf "$work"' EXIT
 gcc -O2 -Wall -Wextra -o "$work/fuzz" "$top/bench/fuzz.c"
@@ -24,4 +24,4 @@ awk -v into="$work" '
   }' "$top/crates/reader_rows/stdin"
 
 good=("$top"/examples/*.oa)
-"$work/fuzz" "$top/crates/oa/out/oa" "${1-1000000}" "${2-1}" ${#good[@]} "${good[@]}" "$work"/row*
+"$work/fuzz" "${program:-$top/crates/oa/out/oa}" "${1-1000000}" "${2-1}" ${#good[@]} "${good[@]}" "$work"/row*

@@ -1,12 +1,12 @@
 #!/usr/bin/env python3
 """Runs small random documents of the set and the queue on threads, and looks for one legal order of their calls.
 
-usage: bench/histories.py [SECONDS [PROGRAM [SEED [JUDGE]]]]
+usage: bench/histories.py [SECONDS [PROGRAM [SEED [JUDGE [SLOTS]]]]]
 
-Eight callers share a row with few slots to spare, three in most documents. In a third of them calls have little fuel, so that callers stop in the
-middle of a call and stand still, with the guards and cradles that they have, while the others go on. A run is legal where the calls can be put in one
-order, each caller's in its own, in which each reply is that of a set or of a queue. A call that is printed as `spent` may have had its effect or
-not; one that is `full`, `phases` or `unreached` has none.
+Eight callers share a row with few slots to spare, three in most documents, or SLOTS in each. In a third of them calls have little fuel, so that
+callers stop in the middle of a call and stand still, with the guards and cradles that they have, while the others go on. A run is legal where the
+calls can be put in one order, each caller's in its own, in which each reply is that of a set or of a queue. A call that is printed as `spent` may
+have had its effect or not; one that is `full`, `phases` or `unreached` has none.
 
 Half of the documents have ten calls at most. Their runs are judged by the proved program `history_rows` (JUDGE), and by the search of this script as
 well; larger ones by that search alone. The status is 1 where a run has no legal order, answers anything else, or is judged otherwise by the one than by the
@@ -50,13 +50,13 @@ def counts(random, most):
     return [random.randrange(1, most + 1) for _ in range(CALLERS)]
 
 
-def document(random):
+def document(random, wanted):
     kind = random.choice([a_set, a_queue])
     text, nodes, most, call = kind(random)
     scripts = [[call() for _ in range(count)] for count in counts(random, most)]
     adds = sum(name in ("insert", "enqueue") for script in scripts for name, _ in script)
     slots = random.choice([3, 3, 3, nodes + 1, nodes + adds])
-    lines = ["oa 1", f"use {text}", f"slots {slots}"]
+    lines = ["oa 1", f"use {text}", f"slots {wanted or slots}"]
     if random.random() < 0.33:
         lines.append(f"fuel {random.randrange(4, 60)}")
     for number, script in enumerate(scripts):
@@ -148,13 +148,14 @@ def main():
     program = sys.argv[2] if len(sys.argv) > 2 else "crates/oa/out/oa"
     seed = int(sys.argv[3]) if len(sys.argv) > 3 else time.time_ns()
     judge = sys.argv[4] if len(sys.argv) > 4 else "crates/history_rows/out/history_rows"
+    wanted = int(sys.argv[5]) if len(sys.argv) > 5 else None
     for needed in (program, judge):
         if not os.access(needed, os.X_OK):
             print(f"{needed} isn't there: the gate makes it, or `rt run` in its crate's folder", file=sys.stderr)
             return 2
     source, end, runs, three, judged, stopped, full, unsettled = random.Random(seed), time.monotonic() + seconds, 0, 0, 0, 0, 0, 0
     while time.monotonic() < end:
-        is_queue, scripts, text = document(source)
+        is_queue, scripts, text = document(source, wanted)
         run = subprocess.run([program, "run"], input=text.encode(), capture_output=True, timeout=600)
         answers = answers_in(run.stdout.decode(), scripts)
         legal = answers is not None and is_legal(is_queue, scripts, answers)

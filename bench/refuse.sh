@@ -4,11 +4,12 @@
 # needed (the buffer of the output, say), as the run does in which nothing is refused. With a standard output that can't be written it has to end with
 # the status 8; that is tried on the list, the queue and the workloads. Nothing may be left allocated at the end. It writes for each document and
 # command how many requests there were, and how the runs ended. `bench/refuse.sh EVERY DOCUMENT..` refuses each EVERY-th request alone, of some of
-# `list`, `queue`, `workload`, `eight` and `100KB`. It needs gcc and the proved program (`./prove`).
+# `list`, `queue`, `workload`, `eight` and `100KB`. It needs gcc and the proved program (`./prove`), or the path of another in `program`.
 set -eu
+[ -z "${program:-}" ] || program=$(realpath "$program")
 cd "$(dirname "$0")/.."
-program=crates/oa/out/oa
-./prove --is-ready || { echo "the proved program isn't there: run ./prove first" >&2; exit 2; }
+[ -n "${program:-}" ] || ./prove --is-ready || { echo "the proved program isn't there: run ./prove first" >&2; exit 2; }
+program=${program:-crates/oa/out/oa}
 work=$(mktemp -d)
 trap 'rm -rf "$work"' EXIT
 gcc -O2 -Wall -Wextra -shared -fPIC -o "$work/refuse.so" bench/refuse.c

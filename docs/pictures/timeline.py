@@ -20,7 +20,8 @@ these accesses it doesn't know. These are the lines, beside empty ones and comme
 
 The meaning `..` puts an access into the row of the one before it. A meaning that begins with `!` tells what would do harm, one with
 `*` what makes it safe. The status `retired 1` is that of a slot which was retired in phase 1, `ready 2` of one that was made ready in
-phase 2, and `used 2` of one that was taken when it was `ready 2`.
+phase 2, and `used 2` of one that was taken when the chain's head had phase 2. `slot 3 in 2` is a head with slot 3 on top and phase 2,
+`none in 2` one with no slot on top.
 """
 import glob
 import html
@@ -357,7 +358,7 @@ class Drawing:
                 told(text, 26)
         sheet.text(at[0], at[1] + 4, "grey: as before", SMALL, PALE)
         at[:] = MARGIN + 4.0, at[1] + 22
-        for kind, text in (("used", "used 1: in use, ready in phase 1 or there at the start"), ("retired", "retired 1: retired in phase 1"),
+        for kind, text in (("used", "used 1: in use, taken under a head of phase 1 or there at the start"), ("retired", "retired 1: retired in phase 1"),
                            ("ready", "ready 2: made ready in phase 2")):
             sheet.box(at[0], at[1] - 7, 26, 14, "url(#%s)" % kind, INK)
             told(text, 26)

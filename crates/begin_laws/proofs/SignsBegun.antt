@@ -17,7 +17,7 @@ use Rattle.guard_words.specs.Guards.{pass_check, with_guard}
 use Rattle.oa_words.specs.Words.{Sizes}
 use Rattle.phase_pools.specs.declared.access.ClaimEnd.{ClaimEnd}
 use Rattle.phase_pools.specs.declared.access.ClaimEnd.TheVariants as ends
-use Rattle.phase_pools.specs.Pools.{Claim, claim_accepts, Retirement, retire_accepts}
+use Rattle.phase_pools.specs.Pools.{Claim, claim_accepts, claim_takes, Retirement, retire_accepts}
 use Rattle.caller_parts.specs.declared.call.Call.{Call}
 use Rattle.caller_parts.specs.declared.call.Reply.TheVariants as replies
 use Rattle.caller_parts.specs.declared.routine.AfterClear.{AfterClear}
@@ -33,7 +33,7 @@ use Rattle.caller_steps.specs.Entries.{Entry, is_idle, code_in, instr_in, new_nu
 use Rattle.caller_parts.specs.Operands.{with_word, slot_in, register_number, list_of, succeeds, to_retire, with_new}
 use Rattle.caller_steps.specs.Clearing.{restart_next, clear_next, unguarded}
 use Rattle.caller_steps.specs.Signs.{Sign, Begins, Accesses, Moved, quiet}
-use Rattle.caller_steps.specs.After.{with_routine, with_hand, hand_at, new_on, then_goes, clear_on, cleared, wrap_up_hand, list_ended, list_begun, plain_stop, stops, stopped, settles, goes_on, first_spot, method_begun, restart_on, restarted, is_wrap_up, ended, check_passed, check_failed, checked, with_restart, with_access, list_on, onward_goes, retires_then, cas_failed, cas_ended, plain_accepted, instr_accepted, with_published, entry_ended, list_accepted, retired_on, claim_on, node_made, zeroed, accepted, counted, after, signs}
+use Rattle.caller_steps.specs.After.{with_routine, with_hand, hand_at, new_on, then_goes, clear_on, cleared, wrap_up_hand, list_ended, list_begun, plain_stop, stops, stopped, settles, goes_on, first_spot, method_begun, restart_on, restarted, is_wrap_up, ended, check_passed, check_failed, checked, with_restart, with_access, list_on, onward_goes, retires_then, cas_failed, cas_ended, plain_accepted, instr_accepted, with_published, entry_ended, list_accepted, retired_on, claim_counted, claim_on, node_made, zeroed, accepted, counted, after, signs}
 
 abbrev pub begins : Sign → List Call
 begins (Begins call) = call ∷ []
@@ -232,7 +232,7 @@ step_starts target setting word e (Retires retirement go) busy is = retirement_o
 step_starts target setting word e Restarts busy is = restarted_on target setting.sizes (with_hand e (unguarded (restart_next target e) e.hand))
 step_starts target setting word e (Clears next) busy is = (refl, cleared_on target setting.sizes next (with_hand e (unguarded (clear_next target next e) e.hand)))
 step_starts target setting word e (Claims claim) busy is =
-    let turn = claim_accepts setting.sizes setting.last claim word in claim_goes target setting.sizes turn.claim turn.ended e
+    let turn = claim_accepts setting.sizes setting.last claim word in claim_goes target setting.sizes turn.claim turn.ended (claim_counted (claim_takes claim word) e)
 step_starts target setting word e (Zeroes k field) busy is = zeroed_on target setting.sizes k field e
 
 -- of a step of a call that runs

@@ -97,8 +97,10 @@ ask_list target setting None registers safe = tt
 ask_list target setting (Some exchange) registers safe = can_exchange target setting exchange registers safe
 
 claim_ranges : (setting : Setting) (sweep : Sweep) (stage : ClaimStage) → ClaimStands setting stage → SweepBelongs setting sweep → ClaimInRange setting.sizes sweep stage
-claim_ranges setting sweep (claims.ReadStatus j) s own = s.1
-claim_ranges setting sweep (claims.Take j q) s own = s.1
+claim_ranges setting sweep claims.ReadHead s own = tt
+claim_ranges setting sweep (claims.ReadLink q t) s own = s.1
+claim_ranges setting sweep (claims.Take q t next) s own = (s.1, s.3)
+claim_ranges setting sweep (claims.StoreUsed q t) s own = s.1
 claim_ranges setting sweep claims.Sweeps s own = sweep_ranges setting sweep.bound sweep.stage own.stands
 
 ask_step : (target : Target) (setting : Setting) (e : Entry) (routine : Routine) → Methods target → IsSetting setting → Fits target setting → Belongs target setting e

@@ -3,7 +3,7 @@
 use Rattle.std.proofs.Common.{◌≡◌, ℕ, Some, None, refl}
 use Rattle.std.specs.Prelude.{slice_get}
 use Rattle.target_code.specs.declared.target.Target.{Target}
-use Rattle.phase_pools.specs.Pools.{Claim, Retirement, claim_wants, claim_accepts, retire_wants, retire_accepts}
+use Rattle.phase_pools.specs.Pools.{Claim, Retirement, claim_wants, claim_takes, claim_accepts, retire_wants, retire_accepts}
 use Rattle.phase_pools.specs.Accesses.{Loads, Stores}
 use Rattle.oa_words.specs.Words.{Warning, FieldOf}
 use Rattle.caller_parts.specs.declared.routine.MethodStart.{MethodStart}
@@ -16,7 +16,7 @@ use Rattle.caller_parts.specs.Operands.{list_of}
 use Rattle.caller_steps.specs.Clearing.{clear_next, restart_next}
 use Rattle.caller_steps.specs.Wants.{clear_wanted, instr_wanted, list_wanted, wants}
 use Rattle.caller_steps.specs.Signs.{quiet}
-use Rattle.caller_steps.specs.After.{moved, signs, after, claimed, counted, instr_accepted, list_accepted, restart_cleared, retired_on, seen_loaded, then_cleared, zeroed}
+use Rattle.caller_steps.specs.After.{moved, signs, after, claim_counted, claimed, counted, instr_accepted, list_accepted, restart_cleared, retired_on, seen_loaded, then_cleared, zeroed}
 
 module _ (target : Target) (e : Entry) where
   pub wants_idle : e.routine ≡ Idle → wants target e ≡ None
@@ -82,7 +82,7 @@ module _ (target : Target) (setting : Setting) (e : Entry) (word : ℕ) where
   pub moved_clears : (next : AfterClear) → e.routine ≡ Clears next → moved target setting e word ≡ quiet (then_cleared target setting.sizes next (counted e))
   moved_clears next is = rw is refl
 
-  pub moved_claims : (claim : Claim) → e.routine ≡ Claims claim → moved target setting e word ≡ claimed target (claim_accepts setting.sizes setting.last claim word) (counted e)
+  pub moved_claims : (claim : Claim) → e.routine ≡ Claims claim → moved target setting e word ≡ claimed target (claim_accepts setting.sizes setting.last claim word) (claim_counted (claim_takes claim word) (counted e))
   moved_claims claim is = rw is refl
 
   pub moved_zeroes : (k field : ℕ) → e.routine ≡ Zeroes k field → moved target setting e word ≡ zeroed target setting.sizes k field (counted e)

@@ -29,6 +29,9 @@ sweep_ranges setting bound (sweeps.Warn c) s = s
 sweep_ranges setting bound (sweeps.ReadHazard c r) s = s
 sweep_ranges setting bound (sweeps.ReadStatus j) s = s.1
 sweep_ranges setting bound (sweeps.MakeReady j q) s = s.1
+sweep_ranges setting bound (sweeps.PushHead j) s = s.1
+sweep_ranges setting bound (sweeps.PushLink j q t) s = (s.1, s.3)
+sweep_ranges setting bound (sweeps.PushTop j q t) s = (s.1, s.3)
 
 sweep_told : (target : Target) (setting : Setting) (bound word : ℕ) (stage : SweepStage) → Accepts target setting (sweep_wants_at stage bound) word → SweepTold setting.sizes setting.last stage word
 sweep_told target setting bound word sweeps.ReadPhase l = l.1
@@ -37,8 +40,13 @@ sweep_told target setting bound word (sweeps.Warn c) l = l.1
 sweep_told target setting bound word (sweeps.ReadHazard c r) l = l
 sweep_told target setting bound word (sweeps.ReadStatus j) l = l
 sweep_told target setting bound word (sweeps.MakeReady j q) l = l
+sweep_told target setting bound word (sweeps.PushHead j) l = l
+sweep_told target setting bound word (sweeps.PushLink j q t) l = tt
+sweep_told target setting bound word (sweeps.PushTop j q t) l = l
 
 pub claim_told : (target : Target) (setting : Setting) (sweep : Sweep) (word : ℕ) (stage : ClaimStage) → Accepts target setting (claim_wants_at sweep stage) word → ClaimTold setting.sizes setting.last sweep stage word
-claim_told target setting sweep word (claims.ReadStatus j) l = l
-claim_told target setting sweep word (claims.Take j q) l = l
+claim_told target setting sweep word claims.ReadHead l = l
+claim_told target setting sweep word (claims.ReadLink q t) l = l
+claim_told target setting sweep word (claims.Take q t next) l = l
+claim_told target setting sweep word (claims.StoreUsed q t) l = tt
 claim_told target setting sweep word claims.Sweeps l = sweep_told target setting sweep.bound word sweep.stage l

@@ -14,3 +14,4 @@ pub mod Beginning
 pub mod Stored
 pub mod Equations
 pub mod Together
+pub mod Routed

@@ -38,11 +38,12 @@ methods_of target sane = record { ops = sane.ops; some = λ op wrapup lt. filled
     by_op op wrapup None is = no_code target wrapup
     by_op op wrapup (Some compiled) is = sane.method op wrapup compiled is
 
--- there is a slot, a field and a phase
+-- there is a slot, a field and a phase, and each slot has room on top of a head
 pub record SettingSane (setting : Setting) : Type 0 where
   pub slots : 1 ≤ setting.sizes.slots
+  pub few : setting.sizes.slots ≤ 4096
   pub fields : 1 ≤ setting.sizes.fields
   pub phases : setting.first ≤ setting.last
 
 pub setting_sane : (setting : Setting) → IsSetting setting → SettingSane setting
-setting_sane setting own = record { slots = own.sizes.2; fields = own.sizes.4; phases = own.phases }
+setting_sane setting own = record { slots = own.sizes.2; few = own.sizes.3; fields = own.sizes.4; phases = own.phases }

@@ -1,6 +1,6 @@
 -- What an entry that belongs asks for is safe.
 use Rattle.std.proofs.Common.{◌≡◌, ℕ, zero, suc, ◌+◌, ◌*◌, ◌/◌, ◌≤◌, ◌<◌, ◌==◌, ◌&&◌, ◌||◌, not, Bool, true, false, List, [], ◌∷◌, length, Option, Some, None, refl, sym, ◌∙◌, subst, ap, arith, if◌then◌else◌}
-use Rattle.std.specs.Prelude.{slice_get, nat_le, nat_lt, IsSomeAnd, IfSome, slice_index_or}
+use Rattle.std.specs.Prelude.{slice_get, nat_le, nat_lt, max, IsSomeAnd, IfSome, slice_index_or}
 use Rattle.std.specs.List.{list_any, list_all}
 use Rattle.std.proofs.lemmas.Bool.Decides.{nat_tests}
 use Rattle.norm_lang.specs.declared.text.Reg.{Reg}
@@ -32,8 +32,8 @@ use Rattle.caller_steps.specs.Belongs.{Belongs, ClaimStands, HasBound, IsSomeOf,
 use Rattle.std.proofs.lemmas.Option.{slice_get-get_or}
 use Rattle.oa_words.specs.declared.packed.Kind.{Kind}
 use Rattle.oa_words.specs.declared.packed.Kind.TheVariants as statuses
-use Rattle.oa_words.specs.Words.{Word, Phase, Warning, Hazard, Status, FieldOf, Cell, in_row}
-use Rattle.oa_words.specs.Packed.{StatusParts, ref_word, slot_part, status_word}
+use Rattle.oa_words.specs.Words.{Word, Phase, Warning, Hazard, Status, FieldOf, Cell, Head, Link, in_row}
+use Rattle.oa_words.specs.Packed.{StatusParts, ref_word, slot_part, status_word, HeadParts, head_word}
 use Rattle.phase_pools.specs.declared.stages.SweepStage.{SweepStage}
 use Rattle.phase_pools.specs.declared.stages.SweepStage.TheVariants as sweeps
 use Rattle.phase_pools.specs.declared.stages.ClaimStage.{ClaimStage}
@@ -42,12 +42,13 @@ use Rattle.phase_pools.specs.declared.stages.RetireStage.{RetireStage}
 use Rattle.phase_pools.specs.declared.stages.RetireStage.TheVariants as retires
 use Rattle.phase_pools.specs.Accesses.{Loads, Stores, Exchanges, Raises}
 use Rattle.phase_pools.specs.Pools.{Sweep, sweep_wants_at, claim_wants_at, retire_wants_at}
+use Rattle.phase_pools.specs.Ranges.{IsHead}
 use Rattle.caller_parts.specs.declared.routine.Routine.{Routine}
 use Rattle.caller_parts.specs.declared.routine.Routine.TheVariants.{Idle, LoadSeen, At, InList, Retires, Restarts, Clears, Claims, Zeroes}
 use Rattle.target_runs.specs.Sane.{SaneAt}
 use Rattle.caller_laws.proofs.Methods.{Methods, SettingSane}
 use Rattle.caller_laws.proofs.Named.{named}
-use Rattle.oa_words.proofs.Parts.{status_back}
+use Rattle.oa_words.proofs.Parts.{status_back, head_back}
 use Rattle.caller_laws.proofs.Stopping.{Here, site_of}
 use Rattle.caller_laws.proofs.Going.{pick_kind, remainder_below}
 use Rattle.caller_laws.proofs.Instructions.{parts}
@@ -92,6 +93,9 @@ zero_lawful slots (Some kinds.Reference) = omega arith
 status_lawful : (last q : ℕ) (kind : Kind) → q ≤ last → LawfulStatus last (status_word q kind)
 status_lawful last q kind le = subst (λ (o : Option StatusParts). IsSomeAnd o (λ (p : StatusParts). p.phase ≤ last)) (sym (status_back q kind)) le
 
+head_lawful : (setting : Setting) (q j : ℕ) → SettingSane setting → q ≤ setting.last → j ≤ setting.sizes.slots → IsHead setting.sizes setting.last (head_word q j)
+head_lawful setting q j some within le = subst (λ (parts : HeadParts). (parts.phase ≤ setting.last) × (parts.top ≤ setting.sizes.slots)) (sym (head_back q j (let few = some.few in omega (arith, le, few)))) (within, le)
+
 -- each kind of access
 pub loads_safe : (target : Target) (setting : Setting) (w : Word) → in_row setting.sizes w ≡ true → is_place_word w ≡ false → IsSafe target setting (Loads w)
 loads_safe target setting w row place = record { row = row; place = place; lawful = λ found lawful. lawful }
@@ -117,21 +121,31 @@ hazard_row setting c r a b = both (nat_lt c setting.sizes.callers) (nat_lt r 8) 
 status_row : (setting : Setting) (j : ℕ) → j ≤ setting.sizes.slots → in_row setting.sizes (Status j) ≡ true
 status_row setting j a = less j (setting.sizes.slots + 1) (omega (arith, a))
 
--- pools
-sweep_safe : (target : Target) (setting : Setting) (bound : ℕ) (stage : SweepStage) → SweepStands setting bound stage → HasBound setting bound stage → IsSafe target setting (sweep_wants_at stage bound)
-sweep_safe target setting bound sweeps.ReadPhase stands s = loads_safe target setting Phase refl refl
-sweep_safe target setting bound (sweeps.RaisePhase p) stands s = exchanges_safe target setting Phase p (p + 1) refl refl (omega (arith, stands.0), omega (arith, stands.1))
-sweep_safe target setting bound (sweeps.Warn c) stands s = raises_safe target setting c bound stands s.0 s.1
-sweep_safe target setting bound (sweeps.ReadHazard c r) stands s = loads_safe target setting (Hazard c r) (hazard_row setting c r stands.0 stands.1) refl
-sweep_safe target setting bound (sweeps.ReadStatus j) stands s = loads_safe target setting (Status j) (status_row setting j stands.1) refl
-sweep_safe target setting bound (sweeps.MakeReady j q) stands s =
-    exchanges_safe target setting (Status j) (status_word q statuses.Retired) (status_word bound statuses.Ready) (status_row setting j stands.1) refl (status_lawful setting.last bound statuses.Ready s.1)
+link_row : (setting : Setting) (j : ℕ) → j ≤ setting.sizes.slots → in_row setting.sizes (Link j) ≡ true
+link_row setting j a = less j (setting.sizes.slots + 1) (omega (arith, a))
 
-claim_safe : (target : Target) (setting : Setting) (sweep : Sweep) (stage : ClaimStage) → ClaimStands setting stage → SweepBelongs setting sweep → IsSafe target setting (claim_wants_at sweep stage)
-claim_safe target setting sweep (claims.ReadStatus j) stands own = loads_safe target setting (Status j) (status_row setting j stands.1) refl
-claim_safe target setting sweep (claims.Take j q) stands own =
-    exchanges_safe target setting (Status j) (status_word q statuses.Ready) (status_word q statuses.Used) (status_row setting j stands.1) refl (status_lawful setting.last q statuses.Used stands.2)
-claim_safe target setting sweep claims.Sweeps stands own = sweep_safe target setting sweep.bound sweep.stage own.stands own.bound
+-- pools
+sweep_safe : (target : Target) (setting : Setting) (bound : ℕ) (stage : SweepStage) → SettingSane setting → SweepStands setting bound stage → HasBound setting bound stage → IsSafe target setting (sweep_wants_at stage bound)
+sweep_safe target setting bound sweeps.ReadPhase some stands s = loads_safe target setting Phase refl refl
+sweep_safe target setting bound (sweeps.RaisePhase p) some stands s = exchanges_safe target setting Phase p (p + 1) refl refl (omega (arith, stands.0), omega (arith, stands.1))
+sweep_safe target setting bound (sweeps.Warn c) some stands s = raises_safe target setting c bound stands s.0 s.1
+sweep_safe target setting bound (sweeps.ReadHazard c r) some stands s = loads_safe target setting (Hazard c r) (hazard_row setting c r stands.0 stands.1) refl
+sweep_safe target setting bound (sweeps.ReadStatus j) some stands s = loads_safe target setting (Status j) (status_row setting j stands.1) refl
+sweep_safe target setting bound (sweeps.MakeReady j q) some stands s =
+    exchanges_safe target setting (Status j) (status_word q statuses.Retired) (status_word bound statuses.Ready) (status_row setting j stands.1) refl (status_lawful setting.last bound statuses.Ready s.1)
+sweep_safe target setting bound (sweeps.PushHead j) some stands s = loads_safe target setting Head refl refl
+sweep_safe target setting bound (sweeps.PushLink j q t) some stands s = stores_safe target setting (Link j) t (link_row setting j stands.1) refl stands.3
+sweep_safe target setting bound (sweeps.PushTop j q t) some stands s =
+    exchanges_safe target setting Head (head_word q t) (head_word (max q bound) j) refl refl (head_lawful setting (max q bound) j some (omega (arith, stands.2, s.1)) stands.1)
+
+claim_safe : (target : Target) (setting : Setting) (sweep : Sweep) (stage : ClaimStage) → SettingSane setting → ClaimStands setting stage → SweepBelongs setting sweep → IsSafe target setting (claim_wants_at sweep stage)
+claim_safe target setting sweep claims.ReadHead some stands own = loads_safe target setting Head refl refl
+claim_safe target setting sweep (claims.ReadLink q t) some stands own = loads_safe target setting (Link t) (link_row setting t stands.1) refl
+claim_safe target setting sweep (claims.Take q t next) some stands own =
+    exchanges_safe target setting Head (head_word q t) (head_word q next) refl refl (head_lawful setting q next some stands.2 stands.3)
+claim_safe target setting sweep (claims.StoreUsed q t) some stands own =
+    stores_safe target setting (Status t) (status_word q statuses.Used) (status_row setting t stands.1) refl (status_lawful setting.last q statuses.Used stands.2)
+claim_safe target setting sweep claims.Sweeps some stands own = sweep_safe target setting sweep.bound sweep.stage some own.stands own.bound
 
 retire_safe : (target : Target) (setting : Setting) (slot : ℕ) (stage : RetireStage) → slot ≤ setting.sizes.slots → RetireStands setting stage → IsSafe target setting (retire_wants_at slot stage)
 retire_safe target setting slot retires.ReadPhase le stands = loads_safe target setting Phase refl refl
@@ -310,7 +324,7 @@ step_safe target setting e (InList k) sane some fits b busy reaches stands = lis
 step_safe target setting e (Retires retirement go) sane some fits b busy reaches stands = retire_safe target setting retirement.slot retirement.stage stands.0.1 stands.0.2
 step_safe target setting e Restarts sane some fits b busy reaches stands = cleared_safe target setting e.number e.hand.guards (restart_spares e.hand.wrapup (op_of target e)) b.number b.hand.guards.row.slots stands.1
 step_safe target setting e (Clears next) sane some fits b busy reaches stands = cleared_safe target setting e.number e.hand.guards (then_spares next (op_of target e)) b.number b.hand.guards.row.slots stands.1
-step_safe target setting e (Claims claim) sane some fits b busy reaches stands = claim_safe target setting claim.sweep claim.stage stands.1.stands stands.1.sweep
+step_safe target setting e (Claims claim) sane some fits b busy reaches stands = claim_safe target setting claim.sweep claim.stage some stands.1.stands stands.1.sweep
 step_safe target setting e (Zeroes k field) sane some fits b busy reaches stands =
     stores_safe target setting (FieldOf (cradle_of e k) field) 0 (field_row setting (cradle_of e k) field (b.cradles.within k) stands.3) refl (zero_lawful setting.sizes.slots (field_kind target.fields field))
 

@@ -20,7 +20,7 @@ use Rattle.phase_pools.specs.declared.access.ClaimEnd.{ClaimEnd}
 use Rattle.phase_pools.specs.declared.access.ClaimEnd.TheVariants as ends
 use Rattle.phase_pools.specs.declared.stages.RetireStage.{RetireStage}
 use Rattle.phase_pools.specs.declared.stages.RetireStage.TheVariants as retires
-use Rattle.phase_pools.specs.Pools.{Claim, claim_accepts, retire_accepts_at, retire_wants_at}
+use Rattle.phase_pools.specs.Pools.{Claim, claim_takes, claim_accepts, retire_accepts_at, retire_wants_at}
 use Rattle.caller_parts.specs.declared.routine.MethodStart.{MethodStart}
 use Rattle.caller_parts.specs.declared.routine.AfterClear.{AfterClear}
 use Rattle.caller_parts.specs.declared.routine.AfterClear.TheVariants as clears
@@ -31,7 +31,7 @@ use Rattle.caller_steps.specs.Entries.{Entry, code_in, cradle_of, instr_in, new_
 use Rattle.caller_parts.specs.Operands.{is_new_at, list_of, news_before, slot_in, succeeds, to_retire, with_new}
 use Rattle.caller_steps.specs.Clearing.{clear_next, restart_next, unguarded}
 use Rattle.caller_steps.specs.Wants.{wanted, wants}
-use Rattle.caller_steps.specs.After.{accepted, after, claim_on, cleared, counted, entry_made, goes_on, is_wrap_up, list_accepted, list_ended, list_on, node_made, onward_goes, restarted, retired_on, retires_then, seen_loaded, with_hand, with_published, with_routine, zeroed}
+use Rattle.caller_steps.specs.After.{accepted, after, claim_counted, claim_on, cleared, counted, entry_made, goes_on, is_wrap_up, list_accepted, list_ended, list_on, node_made, onward_goes, restarted, retired_on, retires_then, seen_loaded, with_hand, with_published, with_routine, zeroed}
 use Rattle.caller_steps.specs.Signs.{quiet}
 use Rattle.caller_steps.specs.Lawful.{Accepts, MayBeTold}
 use Rattle.caller_steps.specs.Belongs.{Belongs, ClearStands, RetireFits, RetireStands, RunsAt, Stands, cas_of, is_check_at, is_retiring}
@@ -188,6 +188,10 @@ new_there (Some (Plain (instr.Return a))) is = absurd (let z : false ≡ true = 
 new_there (Some (Plain instr.ReturnNone)) is = absurd (let z : false ≡ true = is in cc)
 new_there (Some (Plain instr.Again)) is = absurd (let z : false ≡ true = is in cc)
 
+-- that a claim is counted changes nothing else
+claims_counted : (target : Target) (setting : Setting) (takes : Bool) (e : Entry) → Holds target setting e → Holds target setting (claim_counted takes e)
+claims_counted target setting takes e h = record { number = h.number; op = h.op; started = h.started; guards = h.guards; cradles = h.cradles; seen = h.seen }
+
 claimed_keeps : (target : Target) (setting : Setting) (e : Entry) (claim : Claim) (end : Option ClaimEnd) → Methods target → SettingSane setting → Holds target setting e → Here setting.sizes.slots target e
     → is_new_at (instr_in target e) ≡ true → ClaimOn setting end claim → BelongsIn target setting (claim_on target claim end e)
 claimed_keeps target setting e claim None sane some h c stands on = record {
@@ -311,7 +315,8 @@ step_keeps target setting e word (Clears next) sane some b reaches stands told =
     clear_keeps target setting e (clear_next target next e) next some (holds_of target setting e b) (record { reached = reaches; names = b.hand.registers }) stands.0
 step_keeps target setting e word (Claims claim) sane some b reaches stands told =
     let turn = claim_accepts setting.sizes setting.last claim word in
-    claimed_keeps target setting e turn.claim turn.ended sane some (holds_of target setting e b) (record { reached = reaches; names = b.hand.registers }) stands.0
+    let counts = claim_counted (claim_takes claim word) e in
+    claimed_keeps target setting counts turn.claim turn.ended sane some (claims_counted target setting (claim_takes claim word) e (holds_of target setting e b)) (record { reached = reaches; names = b.hand.registers }) stands.0
     (claim_keeps target setting claim word claim.stage refl some (omega (arith, b.number)) stands.1.stands stands.1.sweep told)
 step_keeps target setting e word (Zeroes k field) sane some b reaches stands told =
     zero_keeps target setting e k field sane some (holds_of target setting e b) (record { reached = reaches; names = b.hand.registers }) stands

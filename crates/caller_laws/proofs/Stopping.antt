@@ -62,7 +62,7 @@ then_belongs : (target : Target) (setting : Setting) (next : AfterClear) (e : En
     → ClearStands (instr_in target e) e.hand next → Belongs target setting (then_goes target setting.sizes next e)
 then_belongs target setting clears.New e some h c stands = of (cradle_of e (new_number target e)) refl where
   of : (j : ℕ) → cradle_of e (new_number target e) ≡ j → Belongs target setting (new_on setting.sizes (new_number target e) j e)
-  of zero is = record { number = h.number; op = h.op; hand = hand_belongs target setting e h c.names; cradles = h.cradles; reaches = c.reached; stands = (stands, record { stands = (omega arith, some.slots); sweep = fresh_sweep setting }) }
+  of zero is = record { number = h.number; op = h.op; hand = hand_belongs target setting e h c.names; cradles = h.cradles; reaches = c.reached; stands = (stands, record { stands = tt; sweep = fresh_sweep setting }) }
   of (suc j) is = record { number = h.number; op = h.op; hand = hand_belongs target setting e h c.names; cradles = h.cradles; reaches = c.reached; stands = (stands, refl, (λ null. let z : suc j ≡ 0 = sym is ∙ null in omega (arith, z)), some.fields) }
 then_belongs target setting clears.WrapUp e some h c stands = record { number = h.number; op = h.op; hand = hand_belongs target setting e h c.names; cradles = h.cradles; reaches = c.reached; stands = stands }
 then_belongs target setting (clears.Reply reply) e some h c stands = record { number = h.number; op = h.op; hand = hand_belongs target setting e h c.names; cradles = h.cradles; reaches = c.reached.inside; stands = tt }

@@ -1,5 +1,5 @@
 -- The word that a store found is no matter.
-use Rattle.std.proofs.Common.{◌≡◌, ℕ, zero, suc, Option, Some, None, refl, ap}
+use Rattle.std.proofs.Common.{◌≡◌, ◌∙◌, ℕ, zero, suc, Bool, Option, Some, None, refl, ap}
 use Rattle.std.specs.Prelude.{slice_get}
 use Rattle.norm_lang.specs.declared.text.Place.{Place}
 use Rattle.norm_lang.specs.declared.text.Place.TheVariants as places
@@ -18,7 +18,7 @@ use Rattle.phase_pools.specs.declared.stages.ClaimStage.{ClaimStage}
 use Rattle.phase_pools.specs.declared.stages.ClaimStage.TheVariants as claims
 use Rattle.phase_pools.specs.declared.stages.RetireStage.{RetireStage}
 use Rattle.phase_pools.specs.declared.stages.RetireStage.TheVariants as retires
-use Rattle.phase_pools.specs.Pools.{Sweep, sweep_wants_at, claim_wants_at, Retirement, retire_wants_at, retire_accepts_at}
+use Rattle.phase_pools.specs.Pools.{Sweep, sweep_wants_at, sweep_accepts_at, Claim, ClaimTurn, claim_wants_at, claim_accepts, claim_accepts_at, claim_sweeps, claim_takes, takes_at, Retirement, retire_wants_at, retire_accepts_at}
 use Rattle.caller_parts.specs.declared.routine.Routine.{Routine}
 use Rattle.caller_parts.specs.declared.routine.Routine.TheVariants.{Idle, LoadSeen, At, InList, Retires, Restarts, Clears, Claims, Zeroes}
 use Rattle.caller_parts.specs.Settings.{Setting}
@@ -26,7 +26,7 @@ use Rattle.caller_steps.specs.Entries.{Entry, instr_in}
 use Rattle.caller_parts.specs.Operands.{list_of, slot_in, word_in}
 use Rattle.caller_steps.specs.Wants.{exchange_wanted, instr_wanted, list_wanted, object_exchange, place_exchange, plain_wanted, wanted, wants}
 use Rattle.caller_steps.specs.Signs.{Moved}
-use Rattle.caller_steps.specs.After.{accepted, after, counted, instr_accepted, moved, plain_accepted, retired_on, signs}
+use Rattle.caller_steps.specs.After.{accepted, after, claim_counted, claimed, counted, instr_accepted, moved, plain_accepted, retired_on, signs}
 
 -- no store
 abbrev IsNoStore : WordAccess → Type 0
@@ -51,17 +51,27 @@ exchange_no_store exchange registers = of exchange.place where
   of (places.Root c) w x is = cc
   of (places.Field a f) w x is = by_slot (slot_in registers a) f (word_in registers exchange.expected) (word_in registers exchange.replacement) w x is
 
-claim_no_store : (sweep : Sweep) (stage : ClaimStage) → IsNoStore (claim_wants_at sweep stage)
-claim_no_store sweep (claims.ReadStatus j) w x is = cc
-claim_no_store sweep (claims.Take j q) w x is = cc
-claim_no_store sweep claims.Sweeps w x is = by_stage sweep.stage w x is where
-  by_stage : (stage : SweepStage) → IsNoStore (sweep_wants_at stage sweep.bound)
-  by_stage sweeps.ReadPhase w x is = cc
-  by_stage (sweeps.RaisePhase p) w x is = cc
-  by_stage (sweeps.Warn c) w x is = cc
-  by_stage (sweeps.ReadHazard c r) w x is = cc
-  by_stage (sweeps.ReadStatus j) w x is = cc
-  by_stage (sweeps.MakeReady j q) w x is = cc
+-- a claim's stores are of a status, and of a link
+sweep_store : (n : Sizes) (last : ℕ) (sweep : Sweep) (stage : SweepStage) (w : Word) (x a b : ℕ) → sweep_wants_at stage sweep.bound ≡ Stores w x
+    → sweep_accepts_at n last sweep a stage ≡ sweep_accepts_at n last sweep b stage
+sweep_store n last sweep sweeps.ReadPhase w x a b is = absurd cc
+sweep_store n last sweep (sweeps.RaisePhase p) w x a b is = absurd cc
+sweep_store n last sweep (sweeps.Warn c) w x a b is = absurd cc
+sweep_store n last sweep (sweeps.ReadHazard c r) w x a b is = absurd cc
+sweep_store n last sweep (sweeps.ReadStatus j) w x a b is = absurd cc
+sweep_store n last sweep (sweeps.MakeReady j q) w x a b is = absurd cc
+sweep_store n last sweep (sweeps.PushHead j) w x a b is = absurd cc
+sweep_store n last sweep (sweeps.PushLink j q t) w x a b is = refl
+sweep_store n last sweep (sweeps.PushTop j q t) w x a b is = absurd cc
+
+-- the claim after a store, and whether it took a slot
+claim_store : (n : Sizes) (last : ℕ) (claim : Claim) (stage : ClaimStage) (w : Word) (x a b : ℕ) → claim_wants_at claim.sweep stage ≡ Stores w x
+    → (claim_accepts_at n last claim a stage ≡ claim_accepts_at n last claim b stage) × (takes_at stage a ≡ takes_at stage b)
+claim_store n last claim claims.ReadHead w x a b is = absurd cc
+claim_store n last claim (claims.ReadLink q t) w x a b is = absurd cc
+claim_store n last claim (claims.Take q t next) w x a b is = absurd cc
+claim_store n last claim (claims.StoreUsed q t) w x a b is = (refl, refl)
+claim_store n last claim claims.Sweeps w x a b is = (ap (claim_sweeps claim) (sweep_store n last claim.sweep claim.sweep.stage w x a b is), refl)
 
 plain_store : (target : Target) (sizes : Sizes) (i : Instr) (registers : Registers) (w : Word) (x a b : ℕ) (e : Entry) → plain_wanted i registers ≡ Some (Stores w x) → plain_accepted target sizes i a e ≡ plain_accepted target sizes i b e
 plain_store target sizes (instr.LoadRoot d y) registers w x a b e is = absurd cc
@@ -98,7 +108,10 @@ step_store target setting e (Retires retirement go) w x a b is =
     ap (λ (o : Option Retirement). retired_on target setting.sizes go o (counted e)) (retire_store retirement.slot retirement.stage w x a b (some_same (retire_wants_at retirement.slot retirement.stage) (Stores w x) is))
 step_store target setting e Restarts w x a b is = refl
 step_store target setting e (Clears next) w x a b is = refl
-step_store target setting e (Claims claim) w x a b is = absurd (claim_no_store claim.sweep claim.stage w x (some_same (claim_wants_at claim.sweep claim.stage) (Stores w x) is))
+step_store target setting e (Claims claim) w x a b is =
+    let same = claim_store setting.sizes setting.last claim claim.stage w x a b (some_same (claim_wants_at claim.sweep claim.stage) (Stores w x) is) in
+    ap (λ (turn : ClaimTurn). claimed target turn (claim_counted (claim_takes claim a) (counted e))) same.0
+    ∙ ap (λ (takes : Bool). claimed target (claim_accepts setting.sizes setting.last claim b) (claim_counted takes (counted e))) same.1
 step_store target setting e (Zeroes k field) w x a b is = refl
 
 pub moved_store : (target : Target) (setting : Setting) (e : Entry) (w : Word) (x a b : ℕ) → wants target e ≡ Some (Stores w x) → moved target setting e a ≡ moved target setting e b

@@ -19,16 +19,16 @@ pub record Fits (target : Target) (setting : Setting) : Type 0 where
   pub cells : setting.sizes.cells ≡ length target.roots
   pub nodes : setting.nodes ≡ length target.nodes
 
--- what every setting keeps: sizes within the limits, phases from 1 to 2^61, and no more initial nodes than slots
+-- what every setting keeps: sizes within the limits, phases from 1 to 2^50, and no more initial nodes than slots
 pub record IsSetting (setting : Setting) : Type 0 where
   pub sizes : AreSizes setting.sizes
   pub first : 1 ≤ setting.first
   pub phases : setting.first ≤ setting.last
-  pub last : setting.last ≤ 2 ^ 61
+  pub last : setting.last ≤ 2 ^ 50
   pub nodes : setting.nodes ≤ setting.sizes.slots
 
 abbrev pub are_phases : ℕ → ℕ → Bool
-are_phases first last = nat_le 1 first && (nat_le first last && nat_le last (2 ^ 61))
+are_phases first last = nat_le 1 first && (nat_le first last && nat_le last (2 ^ 50))
 
 -- a setting, or the fault for which it is refused
 abbrev pub setting_or_fault : Setting → Result Setting SettingFault

@@ -11,12 +11,12 @@ use std::marker::Model;
 pub enum SettingFault {
     /// There are more initial nodes than slots.
     Nodes,
-    /// The phases aren't in order, from 1 to 2^61.
+    /// The phases aren't in order, from 1 to 2^50.
     Phases,
 }
 
 /// The shape of the row of words, the first and the last phase, and how many initial nodes there are: no more than slots.
-/// Phases are from 1 to 2^61.
+/// Phases are from 1 to 2^50.
 #[derive(Debug, Drop)]
 pub struct Setting {
     shape: Shape,
@@ -39,7 +39,7 @@ impl Setting {
     /// A setting of a shape, the first and the last phase, and a count of initial nodes.
     ///
     /// # Errors
-    /// `Nodes` where there are more initial nodes than slots, else `Phases` where `1 <= first_phase <= last_phase <= 2^61` fails.
+    /// `Nodes` where there are more initial nodes than slots, else `Phases` where `1 <= first_phase <= last_phase <= 2^50` fails.
     pub fn new(
         shape: Shape,
         first_phase: u64,
@@ -51,7 +51,7 @@ impl Setting {
         if nodes > shape.slots() {
             return Err(SettingFault::Nodes);
         }
-        if !(1 <= first_phase && first_phase <= last_phase && last_phase <= 1 << 61) {
+        if !(1 <= first_phase && first_phase <= last_phase && last_phase <= 1 << 50) {
             return Err(SettingFault::Phases);
         }
         Ok(Setting {
@@ -79,7 +79,7 @@ impl Setting {
     /// The first phase.
     pub fn first_phase(&self) -> u64
         ensures same { result ≡ self.now.first }
-        ensures few { result ≤ 2 ^ 61 }
+        ensures few { result ≤ 2 ^ 50 }
     {
         self.first
     }
@@ -87,7 +87,7 @@ impl Setting {
     /// The last phase.
     pub fn last_phase(&self) -> u64
         ensures same { result ≡ self.now.last }
-        ensures few { result ≤ 2 ^ 61 }
+        ensures few { result ≤ 2 ^ 50 }
     {
         self.last
     }

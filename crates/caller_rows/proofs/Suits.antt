@@ -1,5 +1,4 @@
 -- What a plan keeps suits a run.
-use Rattle.std.proofs.Common.{◌≡◌}
 use Rattle.core_runs.specs.Scripts.{SuitScripts}
 use Rattle.script_plans.specs.declared.plan.Plan.{Plan}
 use Rattle.script_plans.specs.Plans.{IsReady}

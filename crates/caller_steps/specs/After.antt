@@ -19,7 +19,7 @@ use Rattle.guard_words.specs.Guards.{with_guard, pass_check}
 use Rattle.oa_words.specs.Words.{Sizes}
 use Rattle.phase_pools.specs.declared.access.ClaimEnd.{ClaimEnd}
 use Rattle.phase_pools.specs.declared.access.ClaimEnd.TheVariants as ends
-use Rattle.phase_pools.specs.Pools.{Claim, ClaimTurn, claim_begun, claim_accepts, Retirement, retire_begun, retire_accepts}
+use Rattle.phase_pools.specs.Pools.{Claim, ClaimTurn, claim_begun, claim_takes, claim_accepts, Retirement, retire_begun, retire_accepts}
 use Rattle.caller_parts.specs.declared.call.Call.{Call}
 use Rattle.caller_parts.specs.declared.call.Reply.{Reply}
 use Rattle.caller_parts.specs.declared.call.Reply.TheVariants as replies
@@ -275,14 +275,13 @@ restart_cleared target sizes e = restarted target sizes (with_hand e (unguarded 
 abbrev pub then_cleared : Target → Sizes → AfterClear → Entry → Entry
 then_cleared target sizes next e = cleared target sizes next (with_hand e (unguarded (clear_next target next e) e.hand))
 
--- a claimed slot is counted and goes into the cradle of the `new`
+-- a claim is counted where its exchange takes the slot
+abbrev pub claim_counted : Bool → Entry → Entry
+claim_counted takes e = record e { counts = record e.counts { claims = if takes then one_more e.counts.claims else e.counts.claims } }
+
+-- a claimed slot goes into the cradle of the `new`
 abbrev pub slot_claimed : Target → ℕ → Entry → Entry
-slot_claimed target j e =
-    record e {
-      routine = Zeroes (new_number target e) 0;
-      cradles = slice_set e.cradles (new_number target e) j;
-      counts = record e.counts { claims = one_more e.counts.claims };
-    }
+slot_claimed target j e = record e { routine = Zeroes (new_number target e) 0; cradles = slice_set e.cradles (new_number target e) j }
 
 -- a claim's end: a slot, or the call is given up
 abbrev pub claim_ended : Target → ClaimEnd → Entry → Moved
@@ -317,7 +316,8 @@ accepted target setting word e (InList k) = list_accepted target setting.sizes k
 accepted target setting word e (Retires retirement go) = retired_on target setting.sizes go (retire_accepts retirement word) e
 accepted target setting word e Restarts = restart_cleared target setting.sizes e
 accepted target setting word e (Clears next) = quiet (then_cleared target setting.sizes next e)
-accepted target setting word e (Claims claim) = claimed target (claim_accepts setting.sizes setting.last claim word) e
+accepted target setting word e (Claims claim) =
+    claimed target (claim_accepts setting.sizes setting.last claim word) (claim_counted (claim_takes claim word) e)
 accepted target setting word e (Zeroes k field) = zeroed target setting.sizes k field e
 
 -- the step is counted

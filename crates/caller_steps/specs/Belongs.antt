@@ -89,6 +89,9 @@ SweepStands setting bound (sweeps.Warn c) = c < setting.sizes.callers
 SweepStands setting bound (sweeps.ReadHazard c r) = (c < setting.sizes.callers) × (r < 8)
 SweepStands setting bound (sweeps.ReadStatus j) = (first_slot setting ≤ j) × (j ≤ last_slot setting)
 SweepStands setting bound (sweeps.MakeReady j q) = (first_slot setting ≤ j) × (j ≤ last_slot setting) × (q ≤ setting.last)
+SweepStands setting bound (sweeps.PushHead j) = (first_slot setting ≤ j) × (j ≤ last_slot setting)
+SweepStands setting bound (sweeps.PushLink j q t) = (first_slot setting ≤ j) × (j ≤ last_slot setting) × (q ≤ setting.last) × (t ≤ setting.sizes.slots)
+SweepStands setting bound (sweeps.PushTop j q t) = (first_slot setting ≤ j) × (j ≤ last_slot setting) × (q ≤ setting.last) × (t ≤ setting.sizes.slots)
 
 -- a sweep that has its s has one of the run's phases; before that it has none past the last
 abbrev pub HasBound : Setting → ℕ → SweepStage → Type 0
@@ -103,10 +106,12 @@ SweepBelongs setting sweep = record {
   gathered : All (λ j. j ≤ setting.sizes.slots) sweep.gathered;
 }
 
--- where a claim stands; no look tries slot 0
+-- where a claim stands; no look takes slot 0
 abbrev pub ClaimStands : Setting → ClaimStage → Type 0
-ClaimStands setting (claims.ReadStatus j) = (first_slot setting ≤ j) × (j ≤ last_slot setting)
-ClaimStands setting (claims.Take j q) = (first_slot setting ≤ j) × (j ≤ last_slot setting) × (q ≤ setting.last)
+ClaimStands setting claims.ReadHead = Unit {0}
+ClaimStands setting (claims.ReadLink q t) = (first_slot setting ≤ t) × (t ≤ last_slot setting) × (q ≤ setting.last)
+ClaimStands setting (claims.Take q t next) = (first_slot setting ≤ t) × (t ≤ last_slot setting) × (q ≤ setting.last) × (next ≤ setting.sizes.slots)
+ClaimStands setting (claims.StoreUsed q t) = (first_slot setting ≤ t) × (t ≤ last_slot setting) × (q ≤ setting.last)
 ClaimStands setting claims.Sweeps = Unit {0}
 
 -- its sweep belongs, whether it is under way or has ended: the slots and phases of one that has ended stay with the claim that

@@ -4,9 +4,9 @@ use Rattle.norm_lang.specs.declared.text.FieldKind.{FieldKind}
 use Rattle.norm_lang.specs.declared.text.FieldKind.TheVariants as kinds
 use Rattle.norm_lang.specs.InstructionRules.{field_kind, root_kind}
 use Rattle.target_code.specs.declared.target.Target.{Target}
-use Rattle.oa_words.specs.Words.{in_row, Word, Phase, Place, Warning, Hazard, Status, FieldOf, Cell}
+use Rattle.oa_words.specs.Words.{in_row, Word, Phase, Place, Warning, Hazard, Status, FieldOf, Cell, Head, Link}
 use Rattle.oa_words.specs.Packed.{slot_part}
-use Rattle.phase_pools.specs.Ranges.{IsStatus}
+use Rattle.phase_pools.specs.Ranges.{IsStatus, IsHead}
 use Rattle.phase_pools.specs.Accesses.{word_of, word_after, WordAccess, Loads, Stores, Exchanges, Raises}
 use Rattle.caller_parts.specs.Settings.{Setting}
 
@@ -33,6 +33,8 @@ IsLawful target setting (Hazard c r) word = word ≤ setting.sizes.slots
 IsLawful target setting (Status j) word = LawfulStatus setting.last word
 IsLawful target setting (FieldOf j g) word = LawfulValue setting.sizes.slots (field_kind target.fields g) word
 IsLawful target setting (Cell x) word = LawfulValue setting.sizes.slots (root_kind target.roots x) word
+IsLawful target setting Head word = IsHead setting.sizes setting.last word
+IsLawful target setting (Link j) word = word ≤ setting.sizes.slots
 
 -- what an entry that wants this access may be told: of a store, anything
 abbrev pub Accepts : Target → Setting → WordAccess → ℕ → Type 0
@@ -54,6 +56,8 @@ is_place (Hazard c r) = false
 is_place (Status j) = false
 is_place (FieldOf j g) = false
 is_place (Cell x) = false
+is_place Head = false
+is_place (Link j) = false
 
 -- an access to a word of the row, which isn't a place, and which goes on to hold a lawful word
 pub record IsSafe (target : Target) (setting : Setting) (a : WordAccess) : Type 0 where

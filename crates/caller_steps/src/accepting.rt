@@ -5,7 +5,7 @@ ghost use Rattle.phase_pools.specs.Ranges.{ClaimInRange, ClaimTold, RetireTold};
 ghost use Rattle.caller_steps.specs.Entries.{instr_in};
 ghost use Rattle.caller_parts.specs.Operands.{list_of, AreSlots};
 ghost use Rattle.caller_steps.specs.Clearing.{restart_next, clear_next, unguarded};
-ghost use Rattle.caller_steps.specs.After.{seen_loaded, check_passed, check_failed, checked, guarded, loaded, put_made, list_on, onward_goes, retires_then, cas_ended, cas_made, plain_accepted, instr_accepted, with_published, entry_ended, entry_made, list_accepted, restart_cleared, then_cleared, slot_claimed, claim_ended, node_made, zeroed, after};
+ghost use Rattle.caller_steps.specs.After.{seen_loaded, check_passed, check_failed, checked, guarded, loaded, put_made, list_on, onward_goes, retires_then, cas_ended, cas_made, plain_accepted, instr_accepted, with_published, entry_ended, entry_made, list_accepted, restart_cleared, then_cleared, claim_counted, slot_claimed, claim_ended, node_made, zeroed, after};
 ghost use Rattle.caller_steps.specs.Asking.{IsNear, IsRegister, InstrAccepts, CanAccept};
 
 use crate::entry::{Entry, one_more};
@@ -277,13 +277,21 @@ impl Entry {
         self.cleared(program, shape, next);
     }
 
+    /// A claim is counted where its exchange takes the slot.
+    fn count_claim(&mut self, takes: bool)
+        ensures { self.new ≡ record self.old { core = claim_counted takes self.old.core } }
+    {
+        if takes {
+            self.counts.claims = one_more(self.counts.claims);
+        }
+    }
+
     /// A claimed slot goes into the cradle of the `new`.
     fn slot_claimed(&mut self, program: &Program, slot: u32)
         ensures { self.new ≡ record self.old { core = slot_claimed program.now slot self.old.core } }
     {
         let k = self.new_number(program);
         put_cradle(&mut self.cradles, k, slot);
-        self.counts.claims = one_more(self.counts.claims);
         self.routine = Routine::Zeroes(k, 0);
     }
 
@@ -359,7 +367,10 @@ impl Entry {
                 self.then_cleared(program, shape, next);
             }
             Routine::Claims(claim) => {
-                if let Some(end) = claim.accept(shape, setting.last_phase(), word) {
+                let takes = claim.takes(shape, word);
+                let ended = claim.accept(shape, setting.last_phase(), word);
+                self.count_claim(takes);
+                if let Some(end) = ended {
                     self.routine = Routine::At;
                     self.claim_ended(program, end);
                 }

@@ -2,9 +2,10 @@
 use Rattle.std.proofs.Common.{ℕ, suc, ◌≡◌, ◌≢◌, ◌==◌, ◌%◌, ◌≤◌, ◌<◌, ◌∙◌, true, false, List, [], ◌∷◌, Option, Some, None, arith, inl, inr, ⊎_elim, sym, ap, subst, refl, max}
 use Rattle.std.proofs.lemmas.Bool.{cases_eq}
 use Rattle.std.proofs.lemmas.Bool.Decides.{eqb_tells}
-use Rattle.chain_words.specs.Words.{Word, Phase, Status, Head, Link, Sizes}
-use Rattle.chain_words.specs.Packed.{head_word}
-use Rattle.chain_laws.specs.Memories.{store, put}
+use Rattle.oa_words.specs.Words.{Word, Phase, Status, Head, Link, Sizes}
+use Rattle.oa_words.specs.Packed.{head_word}
+use Rattle.oa_words.specs.Memories.{store}
+use Rattle.chain_laws.specs.Memories.{put}
 use Rattle.chain_laws.specs.Chains.{IsChain, times, below_top, Owner, Chained, Taken, Pushing, Outside, Retiring, Retired, caller_of, Hands, handed, with_top, without_top, stamp, top, links, once, UpTo, IsSlot, SlotHolds, PoolHolds}
 use Rattle.chain_laws.specs.Standing.{ComesAbove, MayMove}
 use Rattle.chain_laws.proofs.Lists.{each_put, same_test, other_test, put_same, put_other, times_here, times_other, chain_same}

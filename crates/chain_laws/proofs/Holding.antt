@@ -1,18 +1,18 @@
 -- Which slot a caller has after each step.
 use Rattle.std.proofs.Common.{ℕ, ◌≡◌, ◌==◌, ◌∙◌, Bool, true, false, Option, Some, None, arith, sym, subst, refl, if◌then◌else◌}
-use Rattle.chain_words.specs.declared.packed.Kind.TheVariants as kinds
-use Rattle.chain_words.specs.Words.{Word, Phase, Status, Head, Sizes}
-use Rattle.chain_words.specs.Packed.{status_word, head_word}
-use Rattle.chain_pools.specs.declared.access.SweepEnd.{SweepEnd}
-use Rattle.chain_pools.specs.declared.access.SweepEnd.TheVariants as swept
-use Rattle.chain_pools.specs.declared.stages.SweepStage.{SweepStage}
-use Rattle.chain_pools.specs.declared.stages.SweepStage.TheVariants as sweeps
-use Rattle.chain_pools.specs.declared.stages.ClaimStage.{ClaimStage}
-use Rattle.chain_pools.specs.declared.stages.ClaimStage.TheVariants as claims
-use Rattle.chain_pools.specs.declared.stages.RetireStage.{RetireStage}
-use Rattle.chain_pools.specs.declared.stages.RetireStage.TheVariants as retires
-use Rattle.chain_pools.specs.Accesses.{word_of}
-use Rattle.chain_pools.specs.Pools.{Sweep, sweep_wants_at, sweep_accepts_at, sweep_goes, sweep_on, Claim, claim_wants_at, claim_accepts_at, claim_goes, sweep_ended, retire_wants_at, retire_accepts_at}
+use Rattle.oa_words.specs.declared.packed.Kind.TheVariants as kinds
+use Rattle.oa_words.specs.Words.{Word, Phase, Status, Head, Sizes}
+use Rattle.oa_words.specs.Packed.{status_word, head_word}
+use Rattle.phase_pools.specs.declared.access.SweepEnd.{SweepEnd}
+use Rattle.phase_pools.specs.declared.access.SweepEnd.TheVariants as swept
+use Rattle.phase_pools.specs.declared.stages.SweepStage.{SweepStage}
+use Rattle.phase_pools.specs.declared.stages.SweepStage.TheVariants as sweeps
+use Rattle.phase_pools.specs.declared.stages.ClaimStage.{ClaimStage}
+use Rattle.phase_pools.specs.declared.stages.ClaimStage.TheVariants as claims
+use Rattle.phase_pools.specs.declared.stages.RetireStage.{RetireStage}
+use Rattle.phase_pools.specs.declared.stages.RetireStage.TheVariants as retires
+use Rattle.phase_pools.specs.Accesses.{word_of}
+use Rattle.phase_pools.specs.Pools.{Sweep, sweep_wants_at, sweep_accepts_at, sweep_goes, sweep_on, Claim, claim_wants_at, claim_accepts_at, claim_goes, sweep_ended, retire_wants_at, retire_accepts_at}
 use Rattle.chain_laws.specs.Memories.{put}
 use Rattle.chain_laws.specs.Chains.{Owner, Chained, Taken, Pushing, Outside, Retiring, Retired, caller_of, Hands, handed, with_top, without_top, stamp, PoolHolds}
 use Rattle.chain_laws.specs.Standing.{HasOnly, slot_of_sweep, slot_of_claim, slot_after_sweep, slot_after_claim, slot_after_retirement}

@@ -1,13 +1,13 @@
 -- What a step of one caller leaves of what is known of another.
 use Rattle.std.proofs.Common.{ℕ, ◌≡◌, ◌≢◌, ◌≤◌, ◌∙◌, Some, None, arith, inl, inr, ⊎_elim, sym, subst}
-use Rattle.chain_words.specs.Words.{Word, Link, Sizes}
-use Rattle.chain_pools.specs.declared.stages.SweepStage.{SweepStage}
-use Rattle.chain_pools.specs.declared.stages.SweepStage.TheVariants as sweeps
-use Rattle.chain_pools.specs.declared.stages.ClaimStage.{ClaimStage}
-use Rattle.chain_pools.specs.declared.stages.ClaimStage.TheVariants as claims
-use Rattle.chain_pools.specs.declared.stages.RetireStage.{RetireStage}
-use Rattle.chain_pools.specs.declared.stages.RetireStage.TheVariants as retires
-use Rattle.chain_pools.specs.Pools.{Sweep}
+use Rattle.oa_words.specs.Words.{Word, Link, Sizes}
+use Rattle.phase_pools.specs.declared.stages.SweepStage.{SweepStage}
+use Rattle.phase_pools.specs.declared.stages.SweepStage.TheVariants as sweeps
+use Rattle.phase_pools.specs.declared.stages.ClaimStage.{ClaimStage}
+use Rattle.phase_pools.specs.declared.stages.ClaimStage.TheVariants as claims
+use Rattle.phase_pools.specs.declared.stages.RetireStage.{RetireStage}
+use Rattle.phase_pools.specs.declared.stages.RetireStage.TheVariants as retires
+use Rattle.phase_pools.specs.Pools.{Sweep}
 use Rattle.chain_laws.specs.Chains.{Owner, Chained, Taken, Hands, stamp}
 use Rattle.chain_laws.specs.Standing.{ComesAbove, Gone, Loaded, SweepStands, ClaimStands, RetireStands, MayMove}
 

@@ -2,24 +2,25 @@
 use Rattle.std.proofs.Common.{ℕ, ◌≡◌, ◌≢◌, ◌==◌, ◌+◌, ◌-◌, ◌≤◌, ◌<◌, ◌⊎◌, ◌∙◌, ◌&&◌, not, Bool, true, false, Option, Some, None, arith, inl, inr, sym, ap, subst, refl, max, if◌then◌else◌}
 use Rattle.std.specs.Prelude.{nat_lt}
 use Rattle.std.proofs.lemmas.Bool.Decides.{nat_tests}
-use Rattle.chain_words.specs.declared.packed.Kind.{Kind}
-use Rattle.chain_words.specs.declared.packed.Kind.TheVariants as kinds
-use Rattle.chain_words.specs.Words.{Word, Phase, Warning, Hazard, Status, Head, Link, Sizes}
-use Rattle.chain_words.specs.Packed.{StatusParts, status_word, status_parts, head_word, head_parts}
-use Rattle.chain_words.proofs.Parts.{status_back}
+use Rattle.oa_words.specs.declared.packed.Kind.{Kind}
+use Rattle.oa_words.specs.declared.packed.Kind.TheVariants as kinds
+use Rattle.oa_words.specs.Words.{Word, Phase, Warning, Hazard, Status, Head, Link, Sizes}
+use Rattle.oa_words.specs.Packed.{StatusParts, status_word, status_parts, head_word, head_parts}
+use Rattle.oa_words.proofs.Parts.{status_back}
 use Rattle.guard_words.specs.Guards.{has_slot}
-use Rattle.chain_pools.specs.declared.access.ClaimEnd.TheVariants as ends
-use Rattle.chain_pools.specs.declared.access.SweepEnd.{SweepEnd}
-use Rattle.chain_pools.specs.declared.access.SweepEnd.TheVariants as swept
-use Rattle.chain_pools.specs.declared.stages.SweepStage.{SweepStage}
-use Rattle.chain_pools.specs.declared.stages.SweepStage.TheVariants as sweeps
-use Rattle.chain_pools.specs.declared.stages.ClaimStage.{ClaimStage}
-use Rattle.chain_pools.specs.declared.stages.ClaimStage.TheVariants as claims
-use Rattle.chain_pools.specs.declared.stages.RetireStage.{RetireStage}
-use Rattle.chain_pools.specs.declared.stages.RetireStage.TheVariants as retires
-use Rattle.chain_pools.specs.Accesses.{word_of}
-use Rattle.chain_pools.specs.Pools.{Sweep, sweep_begun, sweep_wants_at, sweep_accepts_at, sweep_goes, sweep_ends, sweep_on, warn_next, hazard_next, freeing, status_read, made_ready, pushed, Claim, claim_wants_at, claim_accepts_at, claim_goes, claim_ends, look_ended, look_begun, look_took, sweep_ended, retire_wants_at, retire_accepts_at}
-use Rattle.chain_laws.specs.Memories.{store, put, after_access}
+use Rattle.phase_pools.specs.declared.access.ClaimEnd.TheVariants as ends
+use Rattle.phase_pools.specs.declared.access.SweepEnd.{SweepEnd}
+use Rattle.phase_pools.specs.declared.access.SweepEnd.TheVariants as swept
+use Rattle.phase_pools.specs.declared.stages.SweepStage.{SweepStage}
+use Rattle.phase_pools.specs.declared.stages.SweepStage.TheVariants as sweeps
+use Rattle.phase_pools.specs.declared.stages.ClaimStage.{ClaimStage}
+use Rattle.phase_pools.specs.declared.stages.ClaimStage.TheVariants as claims
+use Rattle.phase_pools.specs.declared.stages.RetireStage.{RetireStage}
+use Rattle.phase_pools.specs.declared.stages.RetireStage.TheVariants as retires
+use Rattle.phase_pools.specs.Accesses.{word_of}
+use Rattle.phase_pools.specs.Pools.{Sweep, sweep_begun, sweep_wants_at, sweep_accepts_at, sweep_goes, sweep_ends, sweep_on, warn_next, hazard_next, freeing, status_read, made_ready, pushed, Claim, claim_wants_at, claim_accepts_at, claim_goes, claim_ends, look_ended, look_begun, look_took, sweep_ended, retire_wants_at, retire_accepts_at}
+use Rattle.oa_words.specs.Memories.{store}
+use Rattle.chain_laws.specs.Memories.{put, after_access}
 use Rattle.chain_laws.specs.Chains.{Owner, Chained, Taken, Pushing, Outside, Retiring, Retired, Hands, handed, with_top, without_top, stamp, top, SlotHolds, PoolHolds}
 use Rattle.chain_laws.specs.Standing.{ComesAbove, Gone, SweepStands, ClaimStands, RetireStands, MayMove, PoolKept, SweepNext, ClaimNext, RetireNext}
 use Rattle.chain_laws.specs.Machine.{sweep_hands, claim_hands, retire_hands}

@@ -2,11 +2,12 @@
 use Rattle.std.proofs.Common.{ℕ, suc, ◌≡◌, ◌≢◌, ◌≤◌, ◌⊎◌, ◌∙◌, ◌&&◌, Bool, true, false, List, [], ◌∷◌, Option, Some, None, arith, inl, inr, ⊎_elim, sym, subst, refl, if◌then◌else◌}
 use Rattle.std.specs.Prelude.{nat_le}
 use Rattle.std.proofs.lemmas.Bool.Decides.{nat_tests}
-use Rattle.chain_words.specs.Words.{Word, Link, Sizes}
-use Rattle.chain_pools.specs.declared.access.ClaimEnd.{ClaimEnd}
-use Rattle.chain_pools.specs.Accesses.{word_of}
-use Rattle.chain_pools.specs.Pools.{Claim, claim_begun, claim_wants, claim_accepts, Retirement, retire_begun, retire_wants, retire_accepts}
-use Rattle.chain_laws.specs.Memories.{put, after_access, store}
+use Rattle.oa_words.specs.Words.{Word, Link, Sizes}
+use Rattle.phase_pools.specs.declared.access.ClaimEnd.{ClaimEnd}
+use Rattle.phase_pools.specs.Accesses.{word_of}
+use Rattle.phase_pools.specs.Pools.{Claim, claim_begun, claim_wants, claim_accepts, Retirement, retire_begun, retire_wants, retire_accepts}
+use Rattle.oa_words.specs.Memories.{store}
+use Rattle.chain_laws.specs.Memories.{put, after_access}
 use Rattle.chain_laws.specs.Chains.{Owner, Chained, Taken, Pushing, Outside, Retiring, Retired, Hands, handed, stamp}
 use Rattle.chain_laws.specs.Standing.{ComesAbove, Gone, MayMove, PoolKept, ClaimNext, RetireNext, HasOnly, slot_after_claim, slot_after_retirement}
 use Rattle.chain_laws.specs.Machine.{Standing, Elsewhere, Claims, Retires, slot_of, PoolState, PoolEvent, BeginsClaim, BeginsRetirement, Steps, Writes, is_other, is_outside, is_slot, claim_left, retirement_left, begins, stepped, pool_event, run_on, pool_run, claim_hands, retire_hands}

@@ -1,8 +1,8 @@
 -- Accesses that leave the pool's words.
 use Rattle.std.proofs.Common.{ℕ, ◌≡◌, ◌≢◌, ◌==◌, ◌+◌, ◌&&◌, true, false, arith, sym, ap, refl, ⊎_elim, if◌then◌else◌}
 use Rattle.std.proofs.lemmas.Bool.Decides.{nat_tests, eqb_tells}
-use Rattle.chain_words.specs.Words.{Word, Phase, Place, Warning, Hazard, Status, FieldOf, Cell, Head, Link}
-use Rattle.chain_laws.specs.Memories.{store}
+use Rattle.oa_words.specs.Words.{Word, Phase, Place, Warning, Hazard, Status, FieldOf, Cell, Head, Link}
+use Rattle.oa_words.specs.Memories.{store}
 use Rattle.chain_laws.specs.Machine.{is_other}
 use Rattle.chain_laws.proofs.Changes.{Same}
 

@@ -3,10 +3,10 @@ use Rattle.std.proofs.Common.{ℕ, zero, suc, ◌≡◌, ◌≢◌, ◌+◌, ◌
 use Rattle.std.specs.Prelude.{nat_le, nat_lt}
 use Rattle.std.proofs.lemmas.Bool.{cases_eq, cases_lt}
 use Rattle.std.proofs.lemmas.Bool.Decides.{nat_tests}
-use Rattle.chain_words.specs.declared.packed.Kind.TheVariants as kinds
-use Rattle.chain_words.specs.Words.{Word, Sizes, Phase, Head, Link, Status}
-use Rattle.chain_words.specs.Packed.{status_word}
-use Rattle.chain_words.specs.Starts.{Beginning, slot_after, start_link, start_kind, start_word}
+use Rattle.oa_words.specs.declared.packed.Kind.TheVariants as kinds
+use Rattle.oa_words.specs.Words.{Word, Sizes, Phase, Head, Link, Status}
+use Rattle.oa_words.specs.Packed.{status_word}
+use Rattle.oa_words.specs.Starts.{Beginning, slot_after, start_link, start_kind, start_word}
 use Rattle.chain_laws.specs.Chains.{IsChain, times, Owner, Chained, Outside, caller_of, stamp, links, once, SlotHolds, PoolHolds}
 use Rattle.chain_laws.specs.Machine.{slots_from, start_owner, pool_start}
 use Rattle.chain_laws.specs.Laws.{StartsAs, Holds}

@@ -1,15 +1,15 @@
 -- What follows from what holds of the pool.
 use Rattle.std.proofs.Common.{ℕ, ◌≡◌, ◌≢◌, ◌≤◌, ◌<◌, ◌⊎◌, ◌∙◌, List, [], ◌∷◌, Option, Some, None, arith, inl, inr, ⊎_elim, sym, ap, subst, refl}
-use Rattle.chain_words.specs.declared.packed.Kind.TheVariants as kinds
-use Rattle.chain_words.specs.Words.{Word, Phase, Status, Head, Link, Sizes}
-use Rattle.chain_words.specs.Packed.{status_word, head_word}
-use Rattle.chain_pools.specs.declared.stages.SweepStage.{SweepStage}
-use Rattle.chain_pools.specs.declared.stages.SweepStage.TheVariants as sweeps
-use Rattle.chain_pools.specs.declared.stages.ClaimStage.{ClaimStage}
-use Rattle.chain_pools.specs.declared.stages.ClaimStage.TheVariants as claims
-use Rattle.chain_pools.specs.declared.stages.RetireStage.{RetireStage}
-use Rattle.chain_pools.specs.declared.stages.RetireStage.TheVariants as retires
-use Rattle.chain_pools.specs.Pools.{Sweep, Claim, Retirement}
+use Rattle.oa_words.specs.declared.packed.Kind.TheVariants as kinds
+use Rattle.oa_words.specs.Words.{Word, Phase, Status, Head, Link, Sizes}
+use Rattle.oa_words.specs.Packed.{status_word, head_word}
+use Rattle.phase_pools.specs.declared.stages.SweepStage.{SweepStage}
+use Rattle.phase_pools.specs.declared.stages.SweepStage.TheVariants as sweeps
+use Rattle.phase_pools.specs.declared.stages.ClaimStage.{ClaimStage}
+use Rattle.phase_pools.specs.declared.stages.ClaimStage.TheVariants as claims
+use Rattle.phase_pools.specs.declared.stages.RetireStage.{RetireStage}
+use Rattle.phase_pools.specs.declared.stages.RetireStage.TheVariants as retires
+use Rattle.phase_pools.specs.Pools.{Sweep, Claim, Retirement}
 use Rattle.chain_laws.specs.Chains.{IsChain, Owner, Chained, Taken, Pushing, Outside, Retiring, Retired, caller_of, Hands, times, stamp, links, once, IsOf, IsSlot, SlotHolds}
 use Rattle.chain_laws.specs.Standing.{Gone, slot_of_sweep, slot_of_claim, SweepStands, ClaimStands, RetireStands}
 use Rattle.chain_laws.specs.Machine.{Standing, Elsewhere, Claims, Retires, slot_of, PoolState}

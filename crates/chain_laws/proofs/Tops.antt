@@ -1,8 +1,8 @@
 -- The top of the chain, from a load of the head to an exchange that finds it again.
 use Rattle.std.proofs.Common.{ℕ, ◌≡◌, ◌≢◌, ◌≤◌, ◌<◌, ◌∙◌, arith, inl, inr, ⊎_elim, sym, ap, subst}
-use Rattle.chain_words.specs.Words.{Head, Link, Sizes}
-use Rattle.chain_words.specs.Packed.{head_word}
-use Rattle.chain_words.specs.Starts.{Beginning}
+use Rattle.oa_words.specs.Words.{Head, Link, Sizes}
+use Rattle.oa_words.specs.Packed.{head_word}
+use Rattle.oa_words.specs.Starts.{Beginning}
 use Rattle.chain_laws.specs.Chains.{Owner, Chained, stamp, times, once}
 use Rattle.chain_laws.specs.Standing.{ComesAbove, Gone}
 use Rattle.chain_laws.specs.Machine.{PoolState, pool_start}

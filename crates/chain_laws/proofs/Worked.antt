@@ -1,9 +1,9 @@
 -- Runs worked out by hand.
 use Rattle.std.proofs.Common.{ℕ, zero, suc, ◌≡◌, List, [], ◌∷◌, ◌++◌, Option, Some, None, refl}
-use Rattle.chain_words.specs.Words.{Status, Head, Link, Sizes}
-use Rattle.chain_words.specs.Starts.{Beginning, start_word}
-use Rattle.chain_pools.specs.declared.stages.ClaimStage.TheVariants as claims
-use Rattle.chain_pools.specs.Pools.{sweep_begun}
+use Rattle.oa_words.specs.Words.{Status, Head, Link, Sizes}
+use Rattle.oa_words.specs.Starts.{Beginning, start_word}
+use Rattle.phase_pools.specs.declared.stages.ClaimStage.TheVariants as claims
+use Rattle.phase_pools.specs.Pools.{sweep_begun}
 use Rattle.chain_laws.specs.Chains.{Owner, Chained, Taken, Outside}
 use Rattle.chain_laws.specs.Machine.{Standing, Elsewhere, Claims, PoolState, PoolEvent, BeginsClaim, BeginsRetirement, Steps, pool_run, pool_start}
 

@@ -1,9 +1,9 @@
 -- The ready slots as a chain, and who has each slot.
 use Rattle.std.specs.Prelude.{ℕ, suc, ◌≡◌, ◌≢◌, ◌≤◌, List, [], ◌∷◌, Option, Some, None, ◌==◌, if◌then◌else◌}
-use Rattle.chain_words.specs.declared.packed.Kind.{Kind}
-use Rattle.chain_words.specs.declared.packed.Kind.TheVariants as kinds
-use Rattle.chain_words.specs.Words.{Word, Phase, Status, Head, Link, Sizes}
-use Rattle.chain_words.specs.Packed.{status_word, head_parts}
+use Rattle.oa_words.specs.declared.packed.Kind.{Kind}
+use Rattle.oa_words.specs.declared.packed.Kind.TheVariants as kinds
+use Rattle.oa_words.specs.Words.{Word, Phase, Status, Head, Link, Sizes}
+use Rattle.oa_words.specs.Packed.{status_word, head_parts}
 use Rattle.chain_laws.specs.Memories.{put}
 
 -- from a top on each slot's link names the one below it, and 0 stands below the lowest

@@ -1,8 +1,8 @@
 -- What holds of the pool in every run.
 use Rattle.std.specs.Prelude.{ℕ, ◌≡◌, ◌≢◌, ◌≤◌, ◌<◌, true, List, length, Some}
-use Rattle.chain_words.specs.Words.{Word, Head, Link, Sizes, in_row}
-use Rattle.chain_words.specs.Packed.{head_word}
-use Rattle.chain_words.specs.Starts.{Beginning, start_word}
+use Rattle.oa_words.specs.Words.{Word, Head, Link, Sizes, in_row}
+use Rattle.oa_words.specs.Packed.{head_word}
+use Rattle.oa_words.specs.Starts.{Beginning, start_word}
 use Rattle.chain_laws.specs.Chains.{Hands, times, stamp, PoolHolds}
 use Rattle.chain_laws.specs.Standing.{ClaimStands, RetireStands, HasOnly}
 use Rattle.chain_laws.specs.Machine.{Standing, Elsewhere, Claims, Retires, slot_of, PoolState, PoolEvent, pool_run, pool_start}

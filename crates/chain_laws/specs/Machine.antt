@@ -1,20 +1,21 @@
 -- The pool by itself: its words, and callers that claim and retire by its routines. What the rest of the core does is left open: which
 -- used slot a caller retires, and when, and what it stores in words that aren't the pool's.
 use Rattle.std.specs.Prelude.{ℕ, zero, suc, ◌+◌, ◌-◌, ◌&&◌, Bool, true, false, List, [], ◌∷◌, Option, Some, None, length, nat_le, nat_lt, ◌==◌, if◌then◌else◌}
-use Rattle.chain_words.specs.declared.packed.Kind.TheVariants as kinds
-use Rattle.chain_words.specs.Words.{Word, Phase, Place, Warning, Hazard, Status, FieldOf, Cell, Head, Link, Sizes}
-use Rattle.chain_words.specs.Packed.{status_word, head_word}
-use Rattle.chain_words.specs.Starts.{Beginning}
-use Rattle.chain_pools.specs.declared.access.ClaimEnd.{ClaimEnd}
-use Rattle.chain_pools.specs.declared.stages.SweepStage.{SweepStage}
-use Rattle.chain_pools.specs.declared.stages.SweepStage.TheVariants as sweeps
-use Rattle.chain_pools.specs.declared.stages.ClaimStage.{ClaimStage}
-use Rattle.chain_pools.specs.declared.stages.ClaimStage.TheVariants as claims
-use Rattle.chain_pools.specs.declared.stages.RetireStage.{RetireStage}
-use Rattle.chain_pools.specs.declared.stages.RetireStage.TheVariants as retires
-use Rattle.chain_pools.specs.Accesses.{word_of}
-use Rattle.chain_pools.specs.Pools.{Sweep, Claim, claim_begun, claim_wants, claim_accepts, Retirement, retire_begun, retire_wants, retire_accepts}
-use Rattle.chain_laws.specs.Memories.{store, after_access, put}
+use Rattle.oa_words.specs.declared.packed.Kind.TheVariants as kinds
+use Rattle.oa_words.specs.Words.{Word, Phase, Place, Warning, Hazard, Status, FieldOf, Cell, Head, Link, Sizes}
+use Rattle.oa_words.specs.Packed.{status_word, head_word}
+use Rattle.oa_words.specs.Starts.{Beginning}
+use Rattle.phase_pools.specs.declared.access.ClaimEnd.{ClaimEnd}
+use Rattle.phase_pools.specs.declared.stages.SweepStage.{SweepStage}
+use Rattle.phase_pools.specs.declared.stages.SweepStage.TheVariants as sweeps
+use Rattle.phase_pools.specs.declared.stages.ClaimStage.{ClaimStage}
+use Rattle.phase_pools.specs.declared.stages.ClaimStage.TheVariants as claims
+use Rattle.phase_pools.specs.declared.stages.RetireStage.{RetireStage}
+use Rattle.phase_pools.specs.declared.stages.RetireStage.TheVariants as retires
+use Rattle.phase_pools.specs.Accesses.{word_of}
+use Rattle.phase_pools.specs.Pools.{Sweep, Claim, claim_begun, claim_wants, claim_accepts, Retirement, retire_begun, retire_wants, retire_accepts}
+use Rattle.oa_words.specs.Memories.{store}
+use Rattle.chain_laws.specs.Memories.{after_access, put}
 use Rattle.chain_laws.specs.Chains.{Owner, Chained, Taken, Pushing, Outside, Retiring, Retired, Hands, handed, with_top, without_top}
 use Rattle.chain_laws.specs.Standing.{slot_of_claim}
 

@@ -1,12 +1,12 @@
 -- What follows in each state of a run, said of the words and of where the callers stand.
 use Rattle.std.specs.Prelude.{ℕ, ◌≡◌, ◌≢◌, ◌≤◌, ◌<◌, ◌⊎◌, List, [], length, Some}
-use Rattle.chain_words.specs.declared.packed.Kind.TheVariants as kinds
-use Rattle.chain_words.specs.Words.{Word, Phase, Status, Head, Link, Sizes}
-use Rattle.chain_words.specs.Packed.{status_word, head_word}
-use Rattle.chain_words.specs.Starts.{Beginning}
-use Rattle.chain_pools.specs.declared.stages.SweepStage.TheVariants as sweeps
-use Rattle.chain_pools.specs.declared.stages.ClaimStage.TheVariants as claims
-use Rattle.chain_pools.specs.Pools.{Claim, Retirement}
+use Rattle.oa_words.specs.declared.packed.Kind.TheVariants as kinds
+use Rattle.oa_words.specs.Words.{Word, Phase, Status, Head, Link, Sizes}
+use Rattle.oa_words.specs.Packed.{status_word, head_word}
+use Rattle.oa_words.specs.Starts.{Beginning}
+use Rattle.phase_pools.specs.declared.stages.SweepStage.TheVariants as sweeps
+use Rattle.phase_pools.specs.declared.stages.ClaimStage.TheVariants as claims
+use Rattle.phase_pools.specs.Pools.{Claim, Retirement}
 use Rattle.chain_laws.specs.Chains.{Outside, Retired, times, stamp, top, IsOf, IsSlot}
 use Rattle.chain_laws.specs.Laws.{StartsAs}
 use Rattle.chain_laws.specs.Machine.{Standing, Elsewhere, Claims, Retires, slot_of, PoolState, PoolEvent, pool_run, pool_start}

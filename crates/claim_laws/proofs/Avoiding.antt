@@ -19,7 +19,7 @@ use Rattle.guard_words.specs.Guards.{guard_at, pass_check, with_guard}
 use Rattle.oa_words.specs.Words.{Sizes}
 use Rattle.phase_pools.specs.declared.access.ClaimEnd.{ClaimEnd}
 use Rattle.phase_pools.specs.declared.access.ClaimEnd.TheVariants as ends
-use Rattle.phase_pools.specs.Pools.{Claim, claim_begun, claim_accepts, Retirement, retire_begun, retire_accepts, retire_accepts_at}
+use Rattle.phase_pools.specs.Pools.{Claim, claim_begun, claim_takes, claim_accepts, Retirement, retire_begun, retire_accepts, retire_accepts_at}
 use Rattle.caller_parts.specs.declared.call.Reply.TheVariants as replies
 use Rattle.caller_parts.specs.declared.routine.AfterClear.{AfterClear}
 use Rattle.caller_parts.specs.declared.routine.AfterClear.TheVariants as clears
@@ -35,7 +35,7 @@ use Rattle.caller_steps.specs.Entries.{Entry, code_in, instr_in, new_number, cra
 use Rattle.caller_parts.specs.Operands.{with_word, slot_in, register_number, list_of, succeeds, to_retire, with_new}
 use Rattle.caller_steps.specs.Clearing.{restart_next, clear_next, unguarded}
 use Rattle.caller_steps.specs.Signs.{quiet}
-use Rattle.caller_steps.specs.After.{with_routine, with_hand, hand_at, new_on, then_goes, clear_on, cleared, wrap_up_hand, list_ended, list_begun, plain_stop, stops, stopped, settles, goes_on, first_spot, method_begun, restart_on, restarted, is_wrap_up, check_passed, check_failed, checked, with_restart, with_access, list_on, onward_goes, retires_then, cas_failed, cas_ended, plain_accepted, instr_accepted, with_published, entry_ended, list_accepted, retired_on, claim_on, node_made, zeroed, accepted, counted, after}
+use Rattle.caller_steps.specs.After.{with_routine, with_hand, hand_at, new_on, then_goes, clear_on, cleared, wrap_up_hand, list_ended, list_begun, plain_stop, stops, stopped, settles, goes_on, first_spot, method_begun, restart_on, restarted, is_wrap_up, check_passed, check_failed, checked, with_restart, with_access, list_on, onward_goes, retires_then, cas_failed, cas_ended, plain_accepted, instr_accepted, with_published, entry_ended, list_accepted, retired_on, claim_counted, claim_on, node_made, zeroed, accepted, counted, after}
 use Rattle.std.specs.Prelude.{slice_index}
 use Rattle.claim_laws.specs.Untouched.{RegistersAvoid, RoutineAvoids, EntryAvoids}
 use Rattle.claim_laws.proofs.Naming.{null, referred, names_other, first_avoid, run_avoids, retires_other, guard_put, cradle_put, cradle_emptied}
@@ -75,7 +75,7 @@ module _ (target : Target) (sizes : Sizes) (j : ℕ) (some : 1 ≤ j) where
   then_avoids : (next : AfterClear) (e : Entry) → IsFree j e → EntryAvoids j (then_goes target sizes next e)
   then_avoids clears.New e f = of (cradle_of e (new_number target e)) where
     of : (k : ℕ) → EntryAvoids j (new_on sizes (new_number target e) k e)
-    of zero = to e (Claims (claim_begun sizes)) f (λ k d lt. absurd (let none : k < 0 = lt in omega (arith, none)))
+    of zero = to e (Claims (claim_begun sizes)) f ((λ k d lt. absurd (let none : k < 0 = lt in omega (arith, none))), tt)
     of (suc k) = to e (Zeroes (new_number target e) 0) f tt
   then_avoids clears.WrapUp e f = to e (LoadSeen starts.WrapUp) f tt
   then_avoids (clears.Reply reply) e f = record { registers = f.registers; started = f.started; guards = f.guards; cradles = f.cradles; routine = tt }
@@ -326,7 +326,8 @@ step_avoids target setting j word e Restarts some is f a found =
 step_avoids target setting j word e (Clears next) some is f a found =
     cleared_avoids target setting.sizes j some next (with_hand e (unguarded (clear_next target next e) e.hand)) (cleared_free target setting.sizes j some (clear_next target next e) e f)
 step_avoids target setting j word e (Claims claim) some is f a found =
-    let turn = claim_accepts setting.sizes setting.last claim word in claim_avoids target setting.sizes j some turn.claim turn.ended e f found
+    let turn = claim_accepts setting.sizes setting.last claim word in
+    claim_avoids target setting.sizes j some turn.claim turn.ended (claim_counted (claim_takes claim word) e) (record { registers = f.registers; started = f.started; guards = f.guards; cradles = f.cradles }) found
 step_avoids target setting j word e (Zeroes k field) some is f a found = zeroed_avoids target setting.sizes j some k field e f
 
 -- an entry that doesn't name the slot goes on not to, where what it found doesn't

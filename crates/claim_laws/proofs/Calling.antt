@@ -1,5 +1,5 @@
 -- A call of an operation with one `new`: it claims at most once before it has published, and past that it claims no more.
-use Rattle.std.proofs.Common.{◌≡◌, ◌≢◌, ◌⊎◌, inl, inr, ⊎_elim, ℕ, ◌+◌, ◌≤◌, ◌<◌, Bool, true, false, List, [], ◌∷◌, ◌++◌, length, set, Option, Some, None, refl, sym, ◌∙◌, ap, subst, arith, get_or-set_same}
+use Rattle.std.proofs.Common.{◌≡◌, ◌≢◌, ◌⊎◌, inl, inr, ⊎_elim, ℕ, ◌+◌, ◌≤◌, ◌<◌, ◌==◌, if◌then◌else◌, Bool, true, false, List, [], ◌∷◌, ◌++◌, length, set, Option, Some, None, refl, sym, ◌∙◌, ap, subst, arith, get_or-set_same}
 use Rattle.std.specs.Prelude.{slice_get, slice_index}
 use Rattle.std.proofs.lemmas.List.{append_assoc}
 use native.Mathlib.Decide.{ℕ_discrete}
@@ -13,7 +13,10 @@ use Rattle.target_code.specs.declared.target.Target.{Target}
 use Rattle.target_code.specs.TargetLimits.{target_news_in}
 use Rattle.phase_pools.specs.declared.access.ClaimEnd.{ClaimEnd}
 use Rattle.phase_pools.specs.declared.access.ClaimEnd.TheVariants as ends
-use Rattle.phase_pools.specs.Pools.{Claim, ClaimTurn, claim_accepts}
+use Rattle.phase_pools.specs.declared.stages.ClaimStage.{ClaimStage}
+use Rattle.phase_pools.specs.declared.stages.ClaimStage.TheVariants as claims
+use Rattle.phase_pools.specs.Pools.{Claim, ClaimTurn, claim_accepts, claim_accepts_at, claim_ends, claim_goes, claim_takes, takes_at}
+use Rattle.oa_words.specs.Packed.{head_word}
 use Rattle.caller_parts.specs.declared.call.Reply.{Reply}
 use Rattle.caller_parts.specs.declared.call.Reply.TheVariants as replies
 use Rattle.caller_parts.specs.declared.call.Replied.{Replied}
@@ -28,8 +31,8 @@ use Rattle.caller_parts.specs.Settings.{Setting}
 use Rattle.caller_steps.specs.Entries.{Entry, is_idle, code_in, cradle_of, instr_in, new_number}
 use Rattle.caller_parts.specs.Operands.{is_new_at, method_code, news_before}
 use Rattle.caller_steps.specs.Signs.{Moved}
-use Rattle.caller_steps.specs.After.{after, counted, claim_on, is_wrap_up}
-use Rattle.caller_steps.specs.Belongs.{Belongs, RunsAt, Stands}
+use Rattle.caller_steps.specs.After.{after, counted, claim_counted, claim_on, is_wrap_up}
+use Rattle.caller_steps.specs.Belongs.{Belongs, ClaimStands, RunsAt, Stands}
 use Rattle.core_runs.specs.Advances.{RunsOn, Ends}
 use Rattle.core_runs.proofs.Turning.{after_turns}
 use Rattle.target_runs.specs.Sane.{SaneAt}
@@ -149,9 +152,32 @@ abbrev NoClaim : Routine → Type 0
 NoClaim (Claims claim) = ⊥
 NoClaim _ = Unit {0}
 
--- the one cradle holds its slot
+-- a claim has taken its slot, and stores that it is used
+abbrev TookAt : ClaimStage → Type 0
+TookAt claims.ReadHead = ⊥
+TookAt (claims.ReadLink q t) = ⊥
+TookAt (claims.Take q t next) = ⊥
+TookAt (claims.StoreUsed q t) = Unit {0}
+TookAt claims.Sweeps = ⊥
+
+abbrev Took : Routine → Type 0
+Took (Claims claim) = TookAt claim.stage
+Took _ = ⊥
+
+-- the one cradle holds its slot, or gets it with the next access
 abbrev Holds : Entry → Type 0
-Holds e = (cradle_of e 0 ≢ 0) × NoClaim e.routine
+Holds e = ((cradle_of e 0 ≢ 0) × NoClaim e.routine) ⊎ Took e.routine
+
+took_claims : (routine : Routine) → Took routine → IsNoClaim routine → ⊥
+took_claims (Claims claim) took none = none
+took_claims Idle took none = took
+took_claims (LoadSeen why) took none = took
+took_claims At took none = took
+took_claims (InList k) took none = took
+took_claims (Retires retirement go) took none = took
+took_claims Restarts took none = took
+took_claims (Clears next) took none = took
+took_claims (Zeroes k field) took none = took
 
 -- it has claimed nothing, or it has claimed once and holds the slot, or it has published the node and is past its generator
 abbrev HasClaimed : Target → Setting → Entry → List StepMade → Type 0
@@ -265,7 +291,8 @@ module _ (target : Target) (setting : Setting) (sane : Methods target) (few : Ha
 
       -- its cradles are those before, and where it claims now its cradle is empty
       holds_on : later.cradles ≡ e.cradles → ClaimStarts target later later.routine → Holds e → Holds later
-      holds_on same starts holds = (full, by later.routine refl starts) where
+      holds_on same starts (inr took) = absurd (took_claims e.routine took plain)
+      holds_on same starts (inl holds) = inl (full, by later.routine refl starts) where
         full : cradle_of later 0 ≢ 0
         full = subst (λ (l : List ℕ). slice_index l 0 ≢ 0) (sym same) holds.0
 
@@ -300,10 +327,12 @@ module _ (target : Target) (setting : Setting) (sane : Methods target) (few : Ha
 
       -- a step of a list, which may publish
       list_goes : RunsOn (counted e) later → IsPast later → Going target setting e later all
-      list_goes runs past = goes_so runs (λ holds. dite (ℕ_discrete (cradle_of later 0) 0)
-          (λ (empty : cradle_of later 0 ≡ 0). inr (record { before = steps; step = s; later = []; among = refl; publishes = (0, holds.0, empty) }, past))
-          (λ (full : cradle_of later 0 ≢ 0). inl (full, no_claim_past later later.routine refl past)))
-          (λ published was. past)
+      list_goes runs past = goes_so runs on (λ published was. past) where
+        on : Holds e → Holds later ⊎ (HasPublished target setting all × IsPast later)
+        on (inr took) = absurd (took_claims e.routine took plain)
+        on (inl holds) = dite (ℕ_discrete (cradle_of later 0) 0)
+            (λ (empty : cradle_of later 0 ≡ 0). inr (record { before = steps; step = s; later = []; among = refl; publishes = (0, holds.0, empty) }, past))
+            (λ (full : cradle_of later 0 ≢ 0). inl (inl (full, no_claim_past later later.routine refl past)))
 
       busy_goes : RunsOn (counted e) later → Going target setting e later all
       busy_goes runs = by e.routine refl (after_keeps target setting e word) where
@@ -341,45 +370,84 @@ module _ (target : Target) (setting : Setting) (sane : Methods target) (few : Ha
       abbrev Outcome : Entry → Type 0
       Outcome x = Going target setting e x all ⊎ Ended target e x
 
-      later_is : later ≡ (claim_on target turn.claim turn.ended (counted e)).entry
+      later_is : later ≡ (claim_on target turn.claim turn.ended (claim_counted (claim_takes claim word) (counted e))).entry
       later_is = after_is target setting e word ∙ ap (λ (m : Moved). m.entry) (moved_claims target setting e word claim there)
 
+      -- as the claim's stage says
+      later_by : (takes : Bool) (x : ClaimTurn) → claim_takes claim word ≡ takes → turn ≡ x → later ≡ (claim_on target x.claim x.ended (claim_counted takes (counted e))).entry
+      later_by takes x same is =
+          later_is ∙ ap (λ (b : Bool). (claim_on target turn.claim turn.ended (claim_counted b (counted e))).entry) same
+          ∙ ap (λ (y : ClaimTurn). (claim_on target y.claim y.ended (claim_counted takes (counted e))).entry) is
+
       -- nothing was claimed yet
-      none_yet : Standing target setting e steps → e.counts.claims ≤ credits target e.replies
-      none_yet (inl le) = le
-      none_yet (inr claimed) = ⊎_elim
-          (λ (t : Holds e). absurd (subst NoClaim there t.1))
+      none_yet : (TookAt claim.stage → ⊥) → Standing target setting e steps → e.counts.claims ≤ credits target e.replies
+      none_yet other (inl le) = le
+      none_yet other (inr claimed) = ⊎_elim
+          (λ (t : Holds e). absurd (⊎_elim (λ (h : (cradle_of e 0 ≢ 0) × NoClaim e.routine). subst NoClaim there h.1) (λ (took : Took e.routine). other (subst Took there took)) t))
           (λ (t : HasPublished target setting steps × IsPast e). absurd (subst (IsPastAt e) there t.1))
           claimed.2
 
-      by_end : (next : Claim) (o : Option ClaimEnd) → ClaimOn setting o next → Outcome (claim_on target next o (counted e)).entry
-      by_end next None on = inl (record { busy = refl; given = refl; stands = inl (none_yet standing) })
-      by_end next (Some (ends.Claimed j)) on =
-          let only = only_new e claim b there in
-          let few_cradles : 0 < length e.cradles = (let four = b.cradles.count in omega (arith, four)) in
-          let held : slice_index (set e.cradles (new_number target e) j) 0 ≡ j = ap (λ (k : ℕ). slice_index (set e.cradles k j) 0) only.0 ∙ get_or-set_same e.cradles 0 j 0 few_cradles in
-          inl (record {
-            busy = refl;
-            given = refl;
-            stands = inr ((let le = none_yet standing in omega (arith, le)), only.1, inl ((λ null. let z : j ≡ 0 = sym held ∙ null in let low = on.0 in omega (arith, low, z)), tt));
-          })
-      by_end next (Some ends.Full) on = inr (record {
+      only : (new_number target e ≡ 0) × (1 ≤ news_of_call target e.running.call)
+      only = only_new e claim b there
+
+      -- a step that takes no slot and doesn't end with one
+      by_end : e.counts.claims ≤ credits target e.replies → (next : Claim) (o : Option ClaimEnd) → ClaimOn setting o next → Outcome (claim_on target next o (claim_counted false (counted e))).entry
+      by_end none next None on = inl (record { busy = refl; given = refl; stands = inl none })
+      by_end none next (Some (ends.Claimed j)) on = inl (record { busy = refl; given = refl; stands = inl none })
+      by_end none next (Some ends.Full) on = inr (record {
         reply = replies.Full;
         idle = refl;
         given = refl;
-        claims = (let le = none_yet standing in let sum = credits_more target e.replies (replied_by replies.Full (counted e).running) in omega (arith, le, sum));
-        full = λ z. (only_new e claim b there).1;
+        claims = (let sum = credits_more target e.replies (replied_by replies.Full (counted e).running) in omega (arith, none, sum));
+        full = λ z. only.1;
       })
-      by_end next (Some (ends.PhasesOver p)) on = inr (record {
+      by_end none next (Some (ends.PhasesOver p)) on = inr (record {
         reply = replies.Phases p;
         idle = refl;
         given = refl;
-        claims = (let le = none_yet standing in let sum = credits_more target e.replies (replied_by (replies.Phases p) (counted e).running) in omega (arith, le, sum));
+        claims = (let sum = credits_more target e.replies (replied_by (replies.Phases p) (counted e).running) in omega (arith, none, sum));
         full = λ z. absurd cc;
       })
 
+      most_one : Standing target setting e steps → e.counts.claims ≤ credits target e.replies + 1
+      most_one (inl le) = omega (arith, le)
+      most_one (inr claimed) = claimed.0
+
+      -- the slot that was taken goes into the cradle
+      fills : (j : ℕ) → 1 ≤ j → Outcome (claim_on target claim (Some (ends.Claimed j)) (claim_counted false (counted e))).entry
+      fills j low =
+          let few_cradles : 0 < length e.cradles = (let four = b.cradles.count in omega (arith, four)) in
+          let held : slice_index (set e.cradles (new_number target e) j) 0 ≡ j = ap (λ (k : ℕ). slice_index (set e.cradles k j) 0) only.0 ∙ get_or-set_same e.cradles 0 j 0 few_cradles in
+          inl (record { busy = refl; given = refl; stands = inr (most_one standing, only.1, inl (inl ((λ null. let z : j ≡ 0 = sym held ∙ null in omega (arith, low, z)), tt))) })
+
       claim_step : ClaimOn setting turn.ended turn.claim → Outcome later
-      claim_step on = subst Outcome (sym later_is) (by_end turn.claim turn.ended on)
+      claim_step on = of claim.stage refl where
+        stands : ClaimStands setting claim.stage
+        stands = (let all_stands : Stands target setting e (Claims claim) = subst (Stands target setting e) there b.stands in all_stands.1.stands)
+
+        other : (stage : ClaimStage) → claim.stage ≡ stage → takes_at stage word ≡ false → (TookAt stage → ⊥) → Outcome later
+        other stage is takes none = subst Outcome (sym (later_by false turn (ap (λ (x : ClaimStage). takes_at x word) is ∙ takes) refl))
+            (by_end (none_yet (λ took. none (subst TookAt is took)) standing) turn.claim turn.ended on)
+
+        of : (stage : ClaimStage) → claim.stage ≡ stage → Outcome later
+        of claims.ReadHead is = other claims.ReadHead is refl (λ z. z)
+        of (claims.ReadLink q t) is = other (claims.ReadLink q t) is refl (λ z. z)
+        of claims.Sweeps is = other claims.Sweeps is refl (λ z. z)
+        of (claims.StoreUsed q t) is =
+            let low : (1 ≤ t) × (t ≤ setting.sizes.slots) × (q ≤ setting.last) = subst (ClaimStands setting) is stands in
+            subst Outcome (sym (later_by false (claim_ends claim (ends.Claimed t)) (ap (λ (x : ClaimStage). takes_at x word) is) (ap (claim_accepts_at setting.sizes setting.last claim word) is))) (fills t low.0)
+        of (claims.Take q t next) is = by (word == head_word q t) refl where
+          turns_by : (d : Bool) → (word == head_word q t) ≡ d → turn ≡ (if d then claim_goes claim (claims.StoreUsed q t) else claim_goes claim claims.ReadHead)
+          turns_by d same = ap (claim_accepts_at setting.sizes setting.last claim word) is ∙ ap (λ (x : Bool). if x then claim_goes claim (claims.StoreUsed q t) else claim_goes claim claims.ReadHead) same
+
+          by : (d : Bool) → (word == head_word q t) ≡ d → Outcome later
+          by false lost = other (claims.Take q t next) is lost (λ z. z)
+          by true took = subst Outcome (sym (later_by true (claim_goes claim (claims.StoreUsed q t)) (ap (λ (x : ClaimStage). takes_at x word) is ∙ took) (turns_by true took)))
+              (inl (record {
+                busy = refl;
+                given = refl;
+                stands = inr ((let none = none_yet (λ z. subst TookAt is z) standing in omega (arith, none)), only.1, inl (inr tt));
+              }))
 
     pub call_step : ((claim : Claim) → e.routine ≡ Claims claim → (let turn = claim_accepts setting.sizes setting.last claim word in ClaimOn setting turn.ended turn.claim)) → Going target setting e later all ⊎ Ended target e later
     call_step on = of e.routine refl where

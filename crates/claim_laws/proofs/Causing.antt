@@ -1,13 +1,9 @@
 -- A step of a call: either it goes on and has found neither cause, or it ends with a reply that its steps caused.
-use Rattle.std.proofs.Common.{◌≡◌, ◌⊎◌, inl, inr, ⊎_elim, ℕ, zero, suc, ◌≤◌, true, false, List, [], ◌∷◌, ◌++◌, Option, Some, None, refl, sym, ◌∙◌, ap, subst, arith}
+use Rattle.std.proofs.Common.{◌≡◌, ◌⊎◌, inl, inr, ⊎_elim, ℕ, true, false, List, [], ◌∷◌, ◌++◌, Option, Some, None, refl, sym, ◌∙◌, ap, subst}
 use Rattle.target_code.specs.declared.target.Target.{Target}
-use Rattle.oa_words.specs.declared.packed.Kind.TheVariants as kinds
-use Rattle.oa_words.specs.Words.{Status}
-use Rattle.oa_words.specs.Packed.{status_word}
 use Rattle.phase_pools.specs.declared.access.ClaimEnd.{ClaimEnd}
 use Rattle.phase_pools.specs.declared.access.ClaimEnd.TheVariants as ends
-use Rattle.phase_pools.specs.Accesses.{WordAccess, Loads, Exchanges}
-use Rattle.phase_pools.specs.Pools.{Claim, ClaimTurn, claim_accepts}
+use Rattle.phase_pools.specs.Pools.{Claim, ClaimTurn, claim_takes, claim_accepts}
 use Rattle.caller_parts.specs.declared.call.Reply.{Reply}
 use Rattle.caller_parts.specs.declared.call.Reply.TheVariants as replies
 use Rattle.caller_parts.specs.declared.routine.Routine.{Routine}
@@ -16,27 +12,26 @@ use Rattle.caller_parts.specs.Pairing.{replied_by}
 use Rattle.caller_parts.specs.Settings.{Setting}
 use Rattle.caller_steps.specs.Entries.{Entry, is_idle}
 use Rattle.caller_steps.specs.Signs.{Moved}
-use Rattle.caller_steps.specs.After.{after, counted, claim_on}
+use Rattle.caller_steps.specs.After.{after, counted, claim_counted, claim_on}
 use Rattle.core_runs.specs.Advances.{RunsOn, Ends}
 use Rattle.core_runs.proofs.Turning.{after_turns}
 use Rattle.caller_laws.proofs.Equations.{after_is, moved_claims}
 use Rattle.claim_laws.specs.CallSteps.{StepMade}
-use Rattle.claim_laws.specs.Causes.{IsSweepsPhaseLoad, FoundLastPhase, IsMadeInLastLook, IsReadyWord, IsTriedInVain, EndsInVain, EndsInFailedLook, IsCaused, FoundNeither}
-use Rattle.claim_laws.proofs.Lasts.{last_same, last_of_two, last_or_before}
+use Rattle.claim_laws.specs.Causes.{IsSweepsPhaseLoad, FoundLastPhase, FindsNoTop, EndsInFailedLook, IsCaused, FoundNeither}
+use Rattle.claim_laws.proofs.Lasts.{last_same, last_or_before}
 use Rattle.claim_laws.proofs.Onward.{IsAnswer, IsBefore, IsNoClaim, StandsAfter, after_answers}
-use Rattle.claim_laws.proofs.Claiming.{LooksSoFar, GivesAt, claim_gives, phases_end, unready_ends, lost_ends}
+use Rattle.claim_laws.proofs.Claiming.{GivesAt, claim_gives, phases_end, empty_ends}
 
 -- what holds of a call that runs, with the steps that were made for it
 pub record Unfinished (setting : Setting) (e : Entry) (steps : List StepMade) : Type 0 where
   pub before : IsBefore e.routine
   pub neither : FoundNeither setting steps
-  pub looks : (claim : Claim) → e.routine ≡ Claims claim → LooksSoFar setting steps claim
 
 -- a claim of the step ends so
 abbrev pub EndsClaim : Setting → StepMade → ClaimEnd → Type 0
 EndsClaim setting s end = (claim : Claim) × (s.entry.routine ≡ Claims claim) × ((claim_accepts setting.sizes setting.last claim s.found).ended ≡ Some end)
 
-module _ (setting : Setting) (some : 1 ≤ setting.sizes.slots) (steps : List StepMade) (s : StepMade) where
+module _ (setting : Setting) (steps : List StepMade) (s : StepMade) where
   abbrev more : List StepMade
   more = steps ++ s ∷ []
 
@@ -53,27 +48,11 @@ module _ (setting : Setting) (some : 1 ≤ setting.sizes.slots) (steps : List St
       (last_or_before steps f.before f.later s f.step f.among)
 
   -- a failed look that the last step ends
-  tried_full : (before tried : List StepMade) → more ≡ before ++ tried → IsTriedInVain setting.sizes.slots tried → EndsClaim setting s ends.Full
-  tried_full before tried is (inl f) =
-      let same : s ≡ f.load = last_same steps before s f.load (is ∙ ap (λ (l : List StepMade). before ++ l) f.only) in
-      let made : IsMadeInLastLook s (Loads (Status setting.sizes.slots)) = subst (λ (x : StepMade). IsMadeInLastLook x (Loads (Status setting.sizes.slots))) (sym same) f.made in
-      (made.0, made.1, unready_ends setting made.0 s.found made.2 made.0.stage made.3 made.4 (λ q ready. f.found q (subst (λ (x : StepMade). IsReadyWord q x.found) same ready)))
-  tried_full before tried is (inr f) =
-      let same : s ≡ f.exchange = last_of_two steps before s f.load f.exchange (is ∙ ap (λ (l : List StepMade). before ++ l) f.only) in
-      let a : WordAccess = Exchanges (Status setting.sizes.slots) (status_word f.phase kinds.Ready) (status_word f.phase kinds.Used) in
-      let made : IsMadeInLastLook s a = subst (λ (x : StepMade). IsMadeInLastLook x a) (sym same) f.tries in (
-        made.0,
-        made.1,
-        lost_ends setting made.0 s.found made.2 made.0.stage (status_word f.phase kinds.Ready) (status_word f.phase kinds.Used) made.3 made.4
-            (λ e. f.lost (sym (ap (λ (x : StepMade). x.found) same) ∙ e)),
-      )
-
-  in_vain : (n : ℕ) → n ≡ setting.sizes.slots → 1 ≤ n → EndsInVain n more → EndsClaim setting s ends.Full
-  in_vain zero is le vain = absurd (omega (arith, le))
-  in_vain (suc n) is le vain = tried_full vain.0 vain.1 vain.2 (subst (λ (j : ℕ). IsTriedInVain j vain.1) is vain.4)
-
-  pub full_by_last : EndsInFailedLook setting more → EndsClaim setting s ends.Full
-  full_by_last failed = in_vain setting.sizes.slots refl some failed
+  pub full_by_last : EndsInFailedLook more → EndsClaim setting s ends.Full
+  full_by_last failed =
+      let same : s ≡ failed.1 = last_same steps failed.0 s failed.1 failed.2 in
+      let finds : FindsNoTop s = subst FindsNoTop (sym same) failed.3 in
+      (finds.claim, finds.claims, empty_ends setting finds.claim s.found finds.claim.stage finds.looks finds.sweeps finds.empty)
 
   -- a call ends with an answer where the last step found neither
   abbrev FindsNeither : Type 0
@@ -102,7 +81,7 @@ Outcome setting e steps later = GoesOn setting e steps later ⊎ GetsReply setti
 same_claim : (a b : Claim) → Claims a ≡ Claims b → a ≡ b
 same_claim a b is = cc
 
-module _ (target : Target) (setting : Setting) (some : 1 ≤ setting.sizes.slots) (e : Entry) (steps : List StepMade) (word : ℕ) (u : Unfinished setting e steps) where
+module _ (target : Target) (setting : Setting) (e : Entry) (steps : List StepMade) (word : ℕ) (u : Unfinished setting e steps) where
   abbrev s : StepMade
   s = record { entry = e; found = word }
 
@@ -115,32 +94,26 @@ module _ (target : Target) (setting : Setting) (some : 1 ≤ setting.sizes.slots
   no_end plain end ended = subst IsNoClaim ended.1 plain
 
   plain_neither : IsNoClaim e.routine → FoundNeither setting all
-  plain_neither plain = still_neither setting some steps s u.neither ((λ p ended. no_end plain (ends.PhasesOver p) ended), (λ ended. no_end plain ends.Full ended))
+  plain_neither plain = still_neither setting steps s u.neither ((λ p ended. no_end plain (ends.PhasesOver p) ended), (λ ended. no_end plain ends.Full ended))
 
   kept : (later : Entry) → RunsOn (counted e) later ⊎ Ends (counted e) later → is_idle later.routine ≡ false → later.replies ≡ e.replies
   kept later (inl runs) busy = runs.1
   kept later (inr stops) busy = absurd (let z : true ≡ false = sym stops.1 ∙ busy in cc)
 
-  runs_on : (later : Entry) (routine : Routine) → later.routine ≡ routine → is_idle routine ≡ false → IsBefore routine → (later.replies ≡ e.replies) → FoundNeither setting all
-      → ((claim : Claim) → routine ≡ Claims claim → LooksSoFar setting all claim) → Outcome setting e all later
-  runs_on later routine is busy before replies neither looks = inl (
-    ap is_idle is ∙ busy,
-    replies,
-    record { before = subst IsBefore (sym is) before; neither = neither; looks = λ claim c. looks claim (sym is ∙ c) },
-  )
+  runs_on : (later : Entry) (routine : Routine) → later.routine ≡ routine → is_idle routine ≡ false → IsBefore routine → (later.replies ≡ e.replies) → FoundNeither setting all → Outcome setting e all later
+  runs_on later routine is busy before replies neither = inl (ap is_idle is ∙ busy, replies, record { before = subst IsBefore (sym is) before; neither = neither })
 
   by_routine : (later : Entry) (routine : Routine) → later.routine ≡ routine → StandsAfter setting.sizes (counted e) later routine → (is_idle later.routine ≡ false → later.replies ≡ e.replies)
       → FoundNeither setting all → Outcome setting e all later
-  by_routine later Idle is stands stay neither = inr (ap is_idle is, stands.0, stands.2, answer_caused setting some steps s stands.0 stands.1 neither)
+  by_routine later Idle is stands stay neither = inr (ap is_idle is, stands.0, stands.2, answer_caused setting steps s stands.0 stands.1 neither)
   by_routine later (Claims began) is stands stay neither = runs_on later (Claims began) is refl tt (stay (ap is_idle is)) neither
-      (λ claim c two. absurd (let z : 0 ≡ 2 = sym (ap (λ (x : Claim). x.sweeps) (sym (same_claim began claim c) ∙ stands)) ∙ two in omega (arith, z)))
-  by_routine later (Clears next) is stands stay neither = runs_on later (Clears next) is refl stands (stay (ap is_idle is)) neither (λ claim c. absurd cc)
-  by_routine later (LoadSeen why) is stands stay neither = runs_on later (LoadSeen why) is refl tt (stay (ap is_idle is)) neither (λ claim c. absurd cc)
-  by_routine later At is stands stay neither = runs_on later At is refl tt (stay (ap is_idle is)) neither (λ claim c. absurd cc)
-  by_routine later (InList k) is stands stay neither = runs_on later (InList k) is refl tt (stay (ap is_idle is)) neither (λ claim c. absurd cc)
-  by_routine later (Retires retirement go) is stands stay neither = runs_on later (Retires retirement go) is refl tt (stay (ap is_idle is)) neither (λ claim c. absurd cc)
-  by_routine later Restarts is stands stay neither = runs_on later Restarts is refl tt (stay (ap is_idle is)) neither (λ claim c. absurd cc)
-  by_routine later (Zeroes k field) is stands stay neither = runs_on later (Zeroes k field) is refl tt (stay (ap is_idle is)) neither (λ claim c. absurd cc)
+  by_routine later (Clears next) is stands stay neither = runs_on later (Clears next) is refl stands (stay (ap is_idle is)) neither
+  by_routine later (LoadSeen why) is stands stay neither = runs_on later (LoadSeen why) is refl tt (stay (ap is_idle is)) neither
+  by_routine later At is stands stay neither = runs_on later At is refl tt (stay (ap is_idle is)) neither
+  by_routine later (InList k) is stands stay neither = runs_on later (InList k) is refl tt (stay (ap is_idle is)) neither
+  by_routine later (Retires retirement go) is stands stay neither = runs_on later (Retires retirement go) is refl tt (stay (ap is_idle is)) neither
+  by_routine later Restarts is stands stay neither = runs_on later Restarts is refl tt (stay (ap is_idle is)) neither
+  by_routine later (Zeroes k field) is stands stay neither = runs_on later (Zeroes k field) is refl tt (stay (ap is_idle is)) neither
 
   plain_step : IsNoClaim e.routine → is_idle e.routine ≡ false → Outcome setting e all (after target setting e word)
   plain_step plain busy =
@@ -153,7 +126,10 @@ module _ (target : Target) (setting : Setting) (some : 1 ≤ setting.sizes.slots
     abbrev turn : ClaimTurn
     turn = claim_accepts setting.sizes setting.last claim word
 
-    later_is : after target setting e word ≡ (claim_on target turn.claim turn.ended (counted e)).entry
+    abbrev counts : Entry
+    counts = claim_counted (claim_takes claim word) (counted e)
+
+    later_is : after target setting e word ≡ (claim_on target turn.claim turn.ended counts).entry
     later_is = after_is target setting e word ∙ ap (λ (m : Moved). m.entry) (moved_claims target setting e word claim there)
 
     -- the claim has one end
@@ -161,34 +137,18 @@ module _ (target : Target) (setting : Setting) (some : 1 ≤ setting.sizes.slots
     one_end end ended = subst (λ (c : Claim). (claim_accepts setting.sizes setting.last c word).ended ≡ Some end) (same_claim ended.0 claim (sym ended.1 ∙ there)) ended.2
 
     still : (o : Option ClaimEnd) → turn.ended ≡ o → ((p : ℕ) → o ≡ Some (ends.PhasesOver p) → ⊥) → (o ≡ Some ends.Full → ⊥) → FoundNeither setting all
-    still o is no_phases no_full = still_neither setting some steps s u.neither ((λ p ended. no_phases p (sym is ∙ one_end (ends.PhasesOver p) ended)), (λ ended. no_full (sym is ∙ one_end ends.Full ended)))
+    still o is no_phases no_full = still_neither setting steps s u.neither ((λ p ended. no_phases p (sym is ∙ one_end (ends.PhasesOver p) ended)), (λ ended. no_full (sym is ∙ one_end ends.Full ended)))
 
-    by_end : (next : Claim) (o : Option ClaimEnd) → turn.ended ≡ o → GivesAt setting some steps s claim there next o → Outcome setting e all (claim_on target next o (counted e)).entry
-    by_end next None is gives = inl (
-      refl,
-      refl,
-      record {
-        before = tt;
-        neither = still None is (λ p z. cc) (λ z. cc);
-        looks = λ c here. subst (LooksSoFar setting all) (same_claim next c here) gives;
-      },
-    )
-    by_end next (Some (ends.Claimed j)) is gives = inl (
-      refl,
-      refl,
-      record {
-        before = tt;
-        neither = still (Some (ends.Claimed j)) is (λ p z. cc) (λ z. cc);
-        looks = λ c here. absurd cc;
-      },
-    )
+    by_end : (next : Claim) (o : Option ClaimEnd) → turn.ended ≡ o → GivesAt setting s claim there o → Outcome setting e all (claim_on target next o counts).entry
+    by_end next None is gives = inl (refl, refl, record { before = tt; neither = still None is (λ p z. cc) (λ z. cc) })
+    by_end next (Some (ends.Claimed j)) is gives = inl (refl, refl, record { before = tt; neither = still (Some (ends.Claimed j)) is (λ p z. cc) (λ z. cc) })
     by_end next (Some ends.Full) is gives = inr (
       refl,
       replies.Full,
       refl,
       record {
-        phases = λ p. ((λ z. absurd cc), (λ found. absurd (let z : Some ends.Full ≡ Some (ends.PhasesOver p) = sym is ∙ one_end (ends.PhasesOver p) (over_by_last setting some steps s p (u.neither.phases p) found) in cc)));
-        full = ((λ z. gives), (λ failed. refl));
+        phases = λ p. ((λ z. absurd cc), (λ found. absurd (let z : Some ends.Full ≡ Some (ends.PhasesOver p) = sym is ∙ one_end (ends.PhasesOver p) (over_by_last setting steps s p (u.neither.phases p) found) in cc)));
+        full = ((λ z. (steps, s, refl, gives)), (λ failed. refl));
       },
     )
     by_end next (Some (ends.PhasesOver p)) is gives = inr (
@@ -196,15 +156,15 @@ module _ (target : Target) (setting : Setting) (some : 1 ≤ setting.sizes.slots
       replies.Phases p,
       refl,
       record {
-        phases = λ q. ((λ z. found_here q (let same : p ≡ q = cc in same)), (λ found. let z : Some (ends.PhasesOver p) ≡ Some (ends.PhasesOver q) = sym is ∙ one_end (ends.PhasesOver q) (over_by_last setting some steps s q (u.neither.phases q) found) in cc));
-        full = ((λ z. absurd cc), (λ failed. absurd (let z : Some (ends.PhasesOver p) ≡ Some ends.Full = sym is ∙ one_end ends.Full (full_by_last setting some steps s failed) in cc)));
+        phases = λ q. ((λ z. found_here q (let same : p ≡ q = cc in same)), (λ found. let z : Some (ends.PhasesOver p) ≡ Some (ends.PhasesOver q) = sym is ∙ one_end (ends.PhasesOver q) (over_by_last setting steps s q (u.neither.phases q) found) in cc));
+        full = ((λ z. absurd cc), (λ failed. absurd (let z : Some (ends.PhasesOver p) ≡ Some ends.Full = sym is ∙ one_end ends.Full (full_by_last setting steps s failed) in cc)));
       },
     ) where
       found_here : (q : ℕ) → p ≡ q → FoundLastPhase setting q all
       found_here q same = record { before = steps; step = s; later = []; among = refl; loads = (claim, there, gives.2); found = gives.1 ∙ same; last = sym same ∙ gives.0 }
 
     claim_step : Outcome setting e all (after target setting e word)
-    claim_step = subst (Outcome setting e all) (sym later_is) (by_end turn.claim turn.ended refl (claim_gives setting some steps s claim there (u.looks claim there)))
+    claim_step = subst (Outcome setting e all) (sym later_is) (by_end turn.claim turn.ended refl (claim_gives setting s claim there))
 
   pub step_caused : is_idle e.routine ≡ false → Outcome setting e all (after target setting e word)
   step_caused busy = of e.routine refl where

@@ -11,10 +11,13 @@ use Rattle.target_code.specs.TargetLimits.{IsTargetWithinLimits}
 use Rattle.norm_lang.specs.declared.text.Text.{Text}
 use Rattle.target_runs.specs.Runnable.{IsRunnable}
 use Rattle.oa_words.specs.declared.packed.Kind.TheVariants as statuses
-use Rattle.oa_words.specs.Words.{Word, Phase, Place, Warning, Hazard, Status, FieldOf, Cell, in_row}
+use Rattle.oa_words.specs.Words.{Word, Phase, Place, Warning, Hazard, Status, FieldOf, Cell, Head, Link, in_row}
 use Rattle.oa_words.specs.Packed.{status_word}
 use Rattle.oa_words.specs.Starts.{start_kind, start_word, slot_word}
+use Rattle.oa_words.specs.Memories.{seen}
 use Rattle.guard_words.specs.Guards.{guard_at, no_guards, has_slot}
+use Rattle.claim_order.specs.Frontier.{IsOrdered, Fits as StandingFits}
+use Rattle.claim_order.proofs.Frontier.{start_open}
 use Rattle.caller_parts.specs.declared.call.Reply.TheVariants as replies
 use Rattle.caller_parts.specs.declared.call.Replied.{Replied}
 use Rattle.caller_parts.specs.Settings.{Setting, Fits, IsSetting}
@@ -22,10 +25,12 @@ use Rattle.caller_steps.specs.Entries.{Entry, idle_entry}
 use Rattle.caller_steps.specs.Lawful.{LawfulValue}
 use Rattle.core_runs.specs.Machine.{CoreState, Reachable, core_start, beginning_of, node_words, root_word}
 use Rattle.core_runs.proofs.Reaching.{induct_reached}
+use Rattle.core_runs.proofs.Starting.{start_is_seen}
 use Rattle.caller_laws.specs.Laws.{ForRuns}
 use Rattle.caller_laws.proofs.Methods.{setting_sane}
 use Rattle.caller_laws.proofs.Together.{methods}
-use Rattle.core_sound.proofs.StartSound.{nodes_lawful, roots_lawful, filled, rooted, named, idle_at}
+use Rattle.core_sound.specs.Standing.{standing_of}
+use Rattle.core_sound.proofs.StartSound.{nodes_lawful, roots_lawful, filled, rooted, named, suits, idle_at}
 use Rattle.core_sound.proofs.Reached.{states_are_sound}
 use Rattle.claim_laws.specs.Untouched.{ValueAvoids, WordAvoids, EntryAvoids, IsUntouched}
 use Rattle.claim_laws.specs.Full.{claims_in, FullTakesClaims}
@@ -79,7 +84,7 @@ module _ {target : Target} {setting : Setting} (within : IsTargetWithinLimits ta
     slot_avoids (suc i) g = node_avoids j (length target.nodes) (field_kind target.fields g) (slot_word (map node_words target.nodes) (suc i) g) past_nodes
         (nodes_lawful (length target.nodes) (length target.nodes) target.fields target.nodes i g (omega arith) (filled within own fits))
 
-    start_avoids : (w : Word) → WordAvoids target j w (start_word (beginning_of target setting) w)
+    start_avoids : (w : Word) → WordAvoids target j w (start_word setting.sizes (beginning_of target setting) w)
     start_avoids Phase = tt
     start_avoids (Place c) = tt
     start_avoids (Warning c) = tt
@@ -88,6 +93,8 @@ module _ {target : Target} {setting : Setting} (within : IsTargetWithinLimits ta
     start_avoids (FieldOf i g) = slot_avoids i g
     start_avoids (Cell x) = node_avoids j (length target.nodes) (root_kind target.roots x) (slice_index (map root_word target.roots) x) past_nodes
         (roots_lawful (length target.nodes) (length target.nodes) target.roots x (omega arith) (rooted within own fits))
+    start_avoids Head = tt
+    start_avoids (Link i) = tt
 
     ready_there : start_kind (length (map node_words target.nodes)) j ≡ statuses.Ready
     ready_there =
@@ -105,18 +112,32 @@ module _ {target : Target} {setting : Setting} (within : IsTargetWithinLimits ta
       entries = λ c e is. (let there = idle_at 0 setting.sizes.callers c e is in subst (EntryAvoids j) (sym there.1) (idle_avoids j (0 + c) some));
     }
 
-  start_pool : Pool target setting (core_start target setting) []
+  nodes_same : length (map node_words target.nodes) ≡ setting.nodes
+  nodes_same = length-map target.nodes node_words ∙ sym fits.nodes
+
+  -- the words at the start, in which no slot was claimed
+  start_ordered : IsOrdered setting.sizes setting.nodes setting.first (seen setting.sizes (core_start target setting).words) (setting.nodes + 1)
+  start_ordered = subst (λ (n : ℕ). IsOrdered setting.sizes n setting.first (seen setting.sizes (core_start target setting).words) (n + 1)) nodes_same
+      (start_open setting.sizes (beginning_of target setting) (seen setting.sizes (core_start target setting).words) own.sizes.3 (let most = own.nodes in let same = nodes_same in omega (arith, most, same))
+      ((start_is_seen target setting).memory (suits within own fits))).words
+
+  start_pool : Pool target setting (core_start target setting) [] (setting.nodes + 1)
   start_pool = record {
     untouched = λ j u. start_untouched j u.0 u.1;
+    past = λ j low lt. absurd (omega (arith, low, lt));
+    ahead = λ j from. refl;
+    words = start_ordered;
+    fits = λ c e is. (let there = idle_at 0 setting.sizes.callers c e is in
+        subst (λ (x : Entry). StandingFits setting.sizes.slots (seen setting.sizes (core_start target setting).words) (setting.nodes + 1) (standing_of x.routine)) (sym there.1) tt);
     callers = λ c e is. (let there = idle_at 0 setting.sizes.callers c e is in
-        subst (CallerPool setting []) (sym there.1) (record { before = tt; touched = tt; full = inl (λ i r got full. let z : None ≡ Some r = got in cc) }));
+        subst (CallerPool setting []) (sym there.1) (record { before = tt; full = inl (λ i r got full. let z : None ≡ Some r = got in cc) }));
     count = omega arith;
   }
 
 -- ---- every state
 
 pub reached_pool : (target : Target) (text : Text) (setting : Setting) → IsRunnable target text → IsSetting setting → Fits target setting → (state : CoreState) → Reachable target setting state → IsPooled target setting state
-reached_pool target text setting runs own fits state reached = induct_reached target setting (IsPooled target setting) ([], start_pool runs.within own fits)
+reached_pool target text setting runs own fits state reached = induct_reached target setting (IsPooled target setting) (record { slots = []; frontier = setting.nodes + 1; pool = start_pool runs.within own fits })
     (λ now later event was pool goes. event_pool target setting (methods target text runs) (setting_sane setting own) fits now later event (states_are_sound target text setting now runs own fits was) pool goes) state reached
 
 pub full_takes : ForRuns FullTakesClaims
@@ -135,11 +156,11 @@ full_takes target text setting runs own fits = record { each = λ state c i e re
 
   enough : (state : CoreState) (c i : ℕ) (e : Entry) (replied : Replied) → Reachable target setting state → slice_get state.entries c ≡ Some e → slice_get e.replies i ≡ Some replied
       → replied.reply ≡ replies.Full → setting.sizes.slots ≤ setting.nodes + claims_in state.entries
-  enough state c i e replied reached there got full = of ((all state reached).1.callers c e there).full where
-    of : NoneFull e.replies ⊎ AllTouched setting (all state reached).0 → setting.sizes.slots ≤ setting.nodes + claims_in state.entries
+  enough state c i e replied reached there got full = of ((all state reached).pool.callers c e there).full where
+    of : NoneFull e.replies ⊎ AllTouched setting (all state reached).slots → setting.sizes.slots ≤ setting.nodes + claims_in state.entries
     of (inl none) = absurd (none i replied got full)
     of (inr touched) =
-        let enough_slots = fills (all state reached).0 touched in
-        let count = (all state reached).1.count in
+        let enough_slots = fills (all state reached).slots touched in
+        let count = (all state reached).pool.count in
         let few : setting.sizes.slots ≤ 4096 = own.sizes.3 in
         omega (arith, enough_slots, count, few)

@@ -1,5 +1,5 @@
 -- Along a run: each reply of a caller stands beside the steps of its call, and a call that runs beside those made so far.
-use Rattle.std.proofs.Common.{◌≡◌, ◌≢◌, inl, inr, ◌≤◌, ◌==◌, ◌&&◌, ℕ, zero, suc, ◌+◌, eq-eqb, ne_eqb, Bool, true, false, List, [], ◌∷◌, ◌++◌, length, set, Option, Some, None, refl, sym, ap, ◌∙◌, subst, ⊎_elim, arith, if◌then◌else◌}
+use Rattle.std.proofs.Common.{◌≡◌, ◌≢◌, ◌==◌, ◌&&◌, ℕ, zero, suc, ◌+◌, eq-eqb, ne_eqb, Bool, true, false, List, [], ◌∷◌, ◌++◌, length, set, Option, Some, None, refl, sym, ap, ◌∙◌, subst, ⊎_elim, if◌then◌else◌}
 use Rattle.std.proofs.lemmas.List.{append-nil}
 use Rattle.std.specs.Prelude.{slice_get, slice_set, slice_index_or}
 use mathlib.Core.Logic.{dite}
@@ -19,7 +19,7 @@ use Rattle.core_runs.proofs.Reaching.{some_is}
 use Rattle.core_runs.proofs.Keeping.{idle_wants, got_same, got_other, run_count}
 use Rattle.caller_laws.specs.Laws.{ForRuns}
 use Rattle.claim_laws.specs.CallSteps.{StepMade, steps_wanted, steps_by, with_steps, event_steps, steps_on, events_steps, call_steps}
-use Rattle.claim_laws.specs.Causes.{IsCaused, FoundNeither, IsTriedInVain, EndsInVain, RepliesAreCaused}
+use Rattle.claim_laws.specs.Causes.{IsCaused, FoundNeither, RepliesAreCaused}
 use Rattle.claim_laws.proofs.Lasts.{never_nil}
 use Rattle.claim_laws.proofs.Causing.{Unfinished, GoesOn, GetsReply, step_caused}
 
@@ -66,7 +66,7 @@ with_last [] steps more = refl
 with_last (x ∷ []) steps more = refl
 with_last (x ∷ y ∷ rest) steps more = ap (λ (l : List (List StepMade)). x ∷ l) (with_last (y ∷ rest) steps more)
 
-module _ (target : Target) (setting : Setting) (some : 1 ≤ setting.sizes.slots) where
+module _ (target : Target) (setting : Setting) where
   step_follows : (e : Entry) (word : ℕ) (calls : List (List StepMade)) → is_idle e.routine ≡ false → Follows setting e calls false
       → (let later = after target setting e word in Follows setting later (with_steps calls (record { entry = e; found = word } ∷ [])) (is_idle later.routine))
   step_follows e word calls busy f = ⊎_elim
@@ -76,7 +76,7 @@ module _ (target : Target) (setting : Setting) (some : 1 ≤ setting.sizes.slots
       (subst (λ (l : List Replied). AreCaused setting l more) (sym t.2)
       (subst (AreCaused setting (e.replies ++ replied_by t.1 (counted e).running ∷ [])) (sym more_is)
       (one_more_caused setting e.replies f.0 (replied_by t.1 (counted e).running) all f.3 t.3))))
-      (step_caused target setting some e f.1 word f.4 busy) where
+      (step_caused target setting e f.1 word f.4 busy) where
         s : StepMade
         s = record { entry = e; found = word }
 
@@ -95,16 +95,10 @@ module _ (target : Target) (setting : Setting) (some : 1 ≤ setting.sizes.slots
   -- ---- a call is taken
 
   nothing_found : FoundNeither setting []
-  nothing_found = record { phases = λ p found. never_nil found.before found.step found.later found.among; full = λ failed. of setting.sizes.slots refl failed } where
-    of : (n : ℕ) → n ≡ setting.sizes.slots → EndsInVain n [] → ⊥
-    of zero is vain = omega (arith, is, some)
-    of (suc n) is vain = tried vain.0 vain.1 vain.2 vain.4 where
-      tried : (before last : List StepMade) → [] ≡ before ++ last → IsTriedInVain (suc n) last → ⊥
-      tried before last is (inl f) = never_nil before f.load [] (is ∙ ap (λ (l : List StepMade). before ++ l) f.only)
-      tried before last is (inr f) = never_nil before f.load (f.exchange ∷ []) (is ∙ ap (λ (l : List StepMade). before ++ l) f.only)
+  nothing_found = record { phases = λ p found. never_nil found.before found.step found.later found.among; full = λ failed. never_nil failed.0 failed.1 [] failed.2 }
 
   take_follows : (e : Entry) (call : Call) (calls : List (List StepMade)) → AreCaused setting e.replies calls → Follows setting (taken call e) (calls ++ [] ∷ []) false
-  take_follows e call calls are = (calls, [], refl, are, record { before = tt; neither = nothing_found; looks = λ claim c. absurd cc })
+  take_follows e call calls are = (calls, [], refl, are, record { before = tt; neither = nothing_found })
 
   -- ---- an event
 
@@ -194,6 +188,6 @@ module _ (target : Target) (setting : Setting) (some : 1 ≤ setting.sizes.slots
 
 pub replies_caused : ForRuns RepliesAreCaused
 replies_caused target text setting runs own fits = record {
-  ended = λ events state c i e replied run there is. ended_caused target setting own.sizes.2 (call_steps target setting events c) e i replied (is_idle e.routine) (followed target setting own.sizes.2 events state c e run there) is;
-  running = λ events state c e run there busy. running_found target setting own.sizes.2 (call_steps target setting events c) e (subst (Follows setting e (call_steps target setting events c)) busy (followed target setting own.sizes.2 events state c e run there));
+  ended = λ events state c i e replied run there is. ended_caused target setting (call_steps target setting events c) e i replied (is_idle e.routine) (followed target setting events state c e run there) is;
+  running = λ events state c e run there busy. running_found target setting (call_steps target setting events c) e (subst (Follows setting e (call_steps target setting events c)) busy (followed target setting events state c e run there));
 }

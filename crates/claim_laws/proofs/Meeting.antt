@@ -1,5 +1,5 @@
 -- What a caller finds and what it writes, where nothing in the row names a slot.
-use Rattle.std.proofs.Common.{◌≡◌, ◌≢◌, ℕ, zero, suc, ◌+◌, ◌≤◌, ◌<◌, ◌==◌, ◌&&◌, ◌||◌, not, Bool, true, false, List, [], ◌∷◌, length, Option, Some, None, refl, sym, ◌∙◌, subst, ap, arith, if◌then◌else◌}
+use Rattle.std.proofs.Common.{◌≡◌, ◌≢◌, ℕ, zero, suc, ◌-◌, ◌≤◌, ◌<◌, ◌==◌, ◌&&◌, ◌||◌, not, Bool, true, false, List, [], ◌∷◌, length, Option, Some, None, refl, sym, ◌∙◌, subst, ap, arith, if◌then◌else◌}
 use Rattle.std.specs.Prelude.{slice_get, nat_le, nat_lt}
 use Rattle.std.specs.List.{All, list_any}
 use Rattle.std.proofs.lemmas.Bool.Decides.{nat_tests}
@@ -20,7 +20,7 @@ use Rattle.target_code.specs.declared.target.Target.{Target}
 use Rattle.oa_words.specs.declared.packed.Kind.{Kind}
 use Rattle.oa_words.specs.declared.packed.Kind.TheVariants as statuses
 use Rattle.oa_words.specs.Words.{Word, FieldOf, Cell}
-use Rattle.oa_words.specs.Packed.{StatusParts, status_parts, status_word}
+use Rattle.oa_words.specs.Packed.{StatusParts, status_parts, status_word, HeadParts, head_parts, head_word}
 use Rattle.guard_words.specs.Guards.{has_slot}
 use Rattle.phase_pools.specs.declared.access.ClaimEnd.TheVariants as ends
 use Rattle.phase_pools.specs.declared.access.SweepEnd.{SweepEnd}
@@ -32,7 +32,7 @@ use Rattle.phase_pools.specs.declared.stages.ClaimStage.TheVariants as claims
 use Rattle.phase_pools.specs.declared.stages.RetireStage.{RetireStage}
 use Rattle.phase_pools.specs.declared.stages.RetireStage.TheVariants as retires
 use Rattle.phase_pools.specs.Accesses.{WordAccess, word_of, word_after, Exchanges}
-use Rattle.phase_pools.specs.Pools.{Sweep, sweep_begun, sweep_goes, sweep_ends, sweep_on, sweep_accepts, sweep_accepts_at, sweep_wants_at, freeing, status_read, Claim, ClaimTurn, claim_accepts, claim_accepts_at, claim_goes, claim_ends, claim_wants_at, look_on, look_ended, look_kind, look_read, sweep_ended, retire_wants_at}
+use Rattle.phase_pools.specs.Pools.{Sweep, sweep_begun, has_lower, sweep_goes, sweep_ends, sweep_on, sweep_accepts, sweep_accepts_at, sweep_wants_at, freeing, status_read, Claim, ClaimTurn, claim_accepts_at, claim_goes, claim_ends, claim_wants_at, look_begun, sweep_ended, retire_wants_at}
 use Rattle.caller_parts.specs.declared.routine.Routine.{Routine}
 use Rattle.caller_parts.specs.declared.routine.Routine.TheVariants.{Idle, LoadSeen, At, InList, Retires, Restarts, Clears, Claims, Zeroes}
 use Rattle.caller_parts.specs.Settings.{Setting}
@@ -47,7 +47,7 @@ use Rattle.caller_laws.proofs.Stopping.{Here, site_of}
 use Rattle.caller_laws.proofs.Going.{pick_kind, remainder_below}
 use Rattle.caller_laws.proofs.Instructions.{parts}
 use Rattle.caller_laws.proofs.Safety.{neither, unnegated, list_there}
-use Rattle.claim_laws.specs.Untouched.{ValueAvoids, WordAvoids, RegistersAvoid, RoutineAvoids, EntryAvoids}
+use Rattle.claim_laws.specs.Untouched.{ValueAvoids, WordAvoids, RegistersAvoid, StageAvoids, RoutineAvoids, EntryAvoids}
 use Rattle.claim_laws.proofs.Naming.{null, names_other, worded, register_avoids, zero_avoids, gathered}
 use Rattle.claim_laws.proofs.Avoiding.{LoadAvoids, InstrAvoids, ClaimAvoids, StepAvoids}
 
@@ -64,10 +64,17 @@ abbrev pub LeavesOther : Target → ℕ → Option WordAccess → Type 0
 LeavesOther target j None = Unit {0}
 LeavesOther target j (Some a) = (found : ℕ) → WordAvoids target j (word_of a) found → WordAvoids target j (word_of a) (word_after a found)
 
--- a claim of the step doesn't end with the slot
-abbrev pub ClaimsOther : Setting → ℕ → ℕ → Routine → Type 0
-ClaimsOther setting j word (Claims claim) = (claim_accepts setting.sizes setting.last claim word).ended ≡ Some (ends.Claimed j) → ⊥
-ClaimsOther setting j word _ = Unit {0}
+-- the step's exchange doesn't take the slot
+abbrev pub TakesOther : ℕ → ClaimStage → ℕ → Type 0
+TakesOther j claims.ReadHead word = Unit {0}
+TakesOther j (claims.ReadLink q t) word = Unit {0}
+TakesOther j (claims.Take q t next) word = (word == head_word q t) ≡ true → t ≢ j
+TakesOther j (claims.StoreUsed q t) word = Unit {0}
+TakesOther j claims.Sweeps word = Unit {0}
+
+abbrev pub ClaimsOther : ℕ → ℕ → Routine → Type 0
+ClaimsOther j word (Claims claim) = TakesOther j claim.stage word
+ClaimsOther j word _ = Unit {0}
 
 at_least : (a b : ℕ) → nat_le a b ≡ true → a ≤ b
 at_least a b e = grind (arith, nat_tests)
@@ -129,8 +136,8 @@ module _ (target : Target) (setting : Setting) (sane : Methods target) (j : ℕ)
   Others slots = All (λ (slot : ℕ). slot ≢ j) slots
 
   on_others : (sweep : Sweep) (k : ℕ) → Others sweep.gathered → Others (sweep_on setting.sizes sweep k).sweep.gathered
-  on_others sweep k all = of (nat_lt k setting.sizes.slots) where
-    of : (b : Bool) → Others (if b then sweep_goes sweep (sweeps.ReadStatus (k + 1)) else sweep_ends sweep swept.Swept).sweep.gathered
+  on_others sweep k all = of (has_lower setting.sizes k) where
+    of : (b : Bool) → Others (if b then sweep_goes sweep (sweeps.ReadStatus (k - 1)) else sweep_ends sweep swept.Swept).sweep.gathered
     of true = all
     of false = all
 
@@ -156,53 +163,52 @@ module _ (target : Target) (setting : Setting) (sane : Methods target) (j : ℕ)
   sweep_others sweep word (sweeps.Warn c) all told = all
   sweep_others sweep word (sweeps.ReadHazard c r) all told = gathered j some sweep.gathered word told all
   sweep_others sweep word (sweeps.ReadStatus k) all told = status_others sweep k (status_parts word) all
-  sweep_others sweep word (sweeps.MakeReady k q) all told = on_others sweep k all
+  sweep_others sweep word (sweeps.MakeReady k q) all told = of (word == status_word q statuses.Retired) where
+    of : (b : Bool) → Others (if b then sweep_goes sweep (sweeps.PushHead k) else sweep_on setting.sizes sweep k).sweep.gathered
+    of true = all
+    of false = on_others sweep k all
+  sweep_others sweep word (sweeps.PushHead k) all told = all
+  sweep_others sweep word (sweeps.PushLink k q t) all told = all
+  sweep_others sweep word (sweeps.PushTop k q t) all told = of (word == head_word q t) where
+    of : (b : Bool) → Others (if b then sweep_on setting.sizes sweep k else sweep_goes sweep (sweeps.PushHead k)).sweep.gathered
+    of true = on_others sweep k all
+    of false = all
 
   none_gathered : Others []
   none_gathered k d lt = let none : k < 0 = lt in omega (arith, none)
 
-  -- where the claim doesn't end with the slot
+  -- what a claim's step leaves
   abbrev Goes : ClaimTurn → Type 0
-  Goes turn = (turn.ended ≡ Some (ends.Claimed j) → ⊥) → ClaimAvoids j turn.claim turn.ended
+  Goes turn = ClaimAvoids j turn.claim turn.ended
 
-  look_goes : (claim : Claim) (k : ℕ) → Others claim.sweep.gathered → Goes (look_on setting.sizes claim k)
-  look_goes claim k all = of (nat_lt k setting.sizes.slots) where
-    last : (b : Bool) → Goes (if b then claim_ends claim ends.Full else record { claim = record claim { stage = claims.Sweeps; sweep = sweep_begun }; ended = None })
-    last true other = tt
-    last false other = none_gathered
+  begun_goes : (claim : Claim) (head : HeadParts) → Others claim.sweep.gathered → Goes (look_begun claim head)
+  begun_goes claim head all = of (head.top == 0) (claim.sweeps == 2) where
+    of : (b d : Bool) → Goes (if b then (if d then claim_ends claim ends.Full else record { claim = record claim { stage = claims.Sweeps; sweep = sweep_begun }; ended = None }) else claim_goes claim (claims.ReadLink head.phase head.top))
+    of true true = tt
+    of true false = (none_gathered, tt)
+    of false d = (all, tt)
 
-    of : (b : Bool) → Goes (if b then claim_goes claim (claims.ReadStatus (k + 1)) else look_ended claim)
-    of true = λ other. all
-    of false = last (claim.sweeps == 2)
+  swept_goes : (claim : Claim) (next : Sweep) (end : Option SweepEnd) → claim.stage ≡ claims.Sweeps → Others next.gathered → Goes (sweep_ended claim next end)
+  swept_goes claim next None is all = (all, subst (λ (stage : ClaimStage). StageAvoids j stage) (sym is) tt)
+  swept_goes claim next (Some swept.Swept) is all = (all, tt)
+  swept_goes claim next (Some (swept.PhasesOver p)) is all = tt
 
-  kind_goes : (claim : Claim) (k q : ℕ) (kind : Kind) → Others claim.sweep.gathered → Goes (look_kind setting.sizes claim k q kind)
-  kind_goes claim k q statuses.Ready all = λ other. all
-  kind_goes claim k q statuses.Used all = look_goes claim k all
-  kind_goes claim k q statuses.Retired all = look_goes claim k all
-
-  read_goes : (claim : Claim) (k : ℕ) (o : Option StatusParts) → Others claim.sweep.gathered → Goes (look_read setting.sizes claim k o)
-  read_goes claim k None all = look_goes claim k all
-  read_goes claim k (Some p) all = kind_goes claim k p.phase p.kind all
-
-  swept_goes : (claim : Claim) (next : Sweep) (end : Option SweepEnd) → Others next.gathered → Goes (sweep_ended setting.sizes claim next end)
-  swept_goes claim next None all = λ other. all
-  swept_goes claim next (Some swept.Swept) all = λ other. all
-  swept_goes claim next (Some (swept.PhasesOver p)) all = λ other. tt
-
-  claim_goes_on : (claim : Claim) (word : ℕ) (stage : ClaimStage) → Others claim.sweep.gathered → FoundAvoids target j (claim_wants_at claim.sweep stage) word
-      → Goes (claim_accepts_at setting.sizes setting.last claim word stage)
-  claim_goes_on claim word (claims.ReadStatus k) all told = read_goes claim k (status_parts word) all
-  claim_goes_on claim word (claims.Take k q) all told = of (word == status_word q statuses.Ready) where
-    of : (b : Bool) → Goes (if b then claim_ends claim (ends.Claimed k) else look_on setting.sizes claim k)
-    of true = λ other is. other (ap (λ (i : ℕ). Some (ends.Claimed i)) is)
-    of false = look_goes claim k all
-  claim_goes_on claim word claims.Sweeps all told =
-      let turn = sweep_accepts setting.sizes setting.last claim.sweep word in swept_goes claim turn.sweep turn.ended (sweep_others claim.sweep word claim.sweep.stage all told)
+  claim_goes_on : (claim : Claim) (word : ℕ) (stage : ClaimStage) → claim.stage ≡ stage → Others claim.sweep.gathered → StageAvoids j stage → FoundAvoids target j (claim_wants_at claim.sweep stage) word
+      → TakesOther j stage word → Goes (claim_accepts_at setting.sizes setting.last claim word stage)
+  claim_goes_on claim word claims.ReadHead is all taken told other = begun_goes claim (head_parts word) all
+  claim_goes_on claim word (claims.ReadLink q t) is all taken told other = (all, tt)
+  claim_goes_on claim word (claims.Take q t next) is all taken told other = of (word == head_word q t) refl where
+    of : (b : Bool) → (word == head_word q t) ≡ b → Goes (if b then claim_goes claim (claims.StoreUsed q t) else claim_goes claim claims.ReadHead)
+    of true same = (all, other same)
+    of false same = (all, tt)
+  claim_goes_on claim word (claims.StoreUsed q t) is all taken told other = taken
+  claim_goes_on claim word claims.Sweeps is all taken told other =
+      let turn = sweep_accepts setting.sizes setting.last claim.sweep word in swept_goes claim turn.sweep turn.ended is (sweep_others claim.sweep word claim.sweep.stage all told)
 
   -- ---- each step
 
   found_step : (e : Entry) (word : ℕ) (routine : Routine) → Belongs target setting e → RunsAt target e routine → RegistersAvoid j e.hand.registers → RoutineAvoids j routine
-      → ToldAvoids target j (wanted target e routine) word → ClaimsOther setting j word routine → StepAvoids target setting j e word routine
+      → ToldAvoids target j (wanted target e routine) word → ClaimsOther j word routine → StepAvoids target setting j e word routine
   found_step e word Idle b reaches s a told other = tt
   found_step e word (LoadSeen why) b reaches s a told other = tt
   found_step e word At b reaches s a told other = instr_found e (instr_in target e) word (record { reached = reaches; names = b.hand.registers }) refl s told
@@ -210,10 +216,10 @@ module _ (target : Target) (setting : Setting) (sane : Methods target) (j : ℕ)
   found_step e word (Retires retirement go) b reaches s a told other = tt
   found_step e word Restarts b reaches s a told other = tt
   found_step e word (Clears next) b reaches s a told other = tt
-  found_step e word (Claims claim) b reaches s a told other = claim_goes_on claim word claim.stage a told other
+  found_step e word (Claims claim) b reaches s a told other = claim_goes_on claim word claim.stage refl a.0 a.1 told other
   found_step e word (Zeroes k field) b reaches s a told other = tt
 
-  pub step_found : (e : Entry) (word : ℕ) → Belongs target setting e → EntryAvoids j e → ToldAvoids target j (wants target e) word → ClaimsOther setting j word e.routine → StepAvoids target setting j e word e.routine
+  pub step_found : (e : Entry) (word : ℕ) → Belongs target setting e → EntryAvoids j e → ToldAvoids target j (wants target e) word → ClaimsOther j word e.routine → StepAvoids target setting j e word e.routine
   unfolding wants
   step_found e word b a told other = found_step e word e.routine b b.reaches a.registers a.routine told other
 
@@ -305,10 +311,15 @@ module _ (target : Target) (setting : Setting) (sane : Methods target) (j : ℕ)
   sweep_leaves bound (sweeps.ReadHazard c r) = λ found was. was
   sweep_leaves bound (sweeps.ReadStatus k) = λ found was. tt
   sweep_leaves bound (sweeps.MakeReady k q) = λ found was. tt
+  sweep_leaves bound (sweeps.PushHead k) = λ found was. tt
+  sweep_leaves bound (sweeps.PushLink k q t) = λ found was. tt
+  sweep_leaves bound (sweeps.PushTop k q t) = λ found was. tt
 
   claim_leaves : (sweep : Sweep) (stage : ClaimStage) → LeavesOther target j (Some (claim_wants_at sweep stage))
-  claim_leaves sweep (claims.ReadStatus k) = λ found was. tt
-  claim_leaves sweep (claims.Take k q) = λ found was. tt
+  claim_leaves sweep claims.ReadHead = λ found was. tt
+  claim_leaves sweep (claims.ReadLink q t) = λ found was. tt
+  claim_leaves sweep (claims.Take q t next) = λ found was. tt
+  claim_leaves sweep (claims.StoreUsed q t) = λ found was. tt
   claim_leaves sweep claims.Sweeps = sweep_leaves sweep.bound sweep.stage
 
   leaves_step : (e : Entry) (routine : Routine) → Belongs target setting e → RunsAt target e routine → Stands target setting e routine → RegistersAvoid j e.hand.registers → LeavesOther target j (wanted target e routine)

@@ -1,48 +1,69 @@
--- Every event keeps that slots which were never claimed are ready and named nowhere, and that claims are counted.
-use Rattle.std.proofs.Common.{◌≡◌, ◌≢◌, ◌⊎◌, inl, inr, ⊎_elim, ℕ, zero, suc, ◌+◌, ◌≤◌, ◌<◌, ◌==◌, ◌&&◌, Bool, true, false, List, [], ◌∷◌, ◌++◌, length, set, Option, Some, None, refl, sym, ◌∙◌, ap, subst, arith, get_or-set_other, get_or-set_same, if◌then◌else◌}
+-- Every event keeps that slots which were never claimed are ready and named by the chain alone, that claims take them in ascending order,
+-- and that claims are counted.
+use Rattle.std.proofs.Common.{◌≡◌, ◌≢◌, ◌⊎◌, inl, inr, ⊎_elim, ℕ, zero, suc, ◌+◌, ◌≤◌, ◌<◌, ◌==◌, ◌&&◌, ◌||◌, Bool, true, false, List, [], ◌∷◌, ◌++◌, length, set, Option, Some, None, refl, sym, ◌∙◌, ap, subst, arith, get_or-set_other, get_or-set_same, if◌then◌else◌}
 use Rattle.std.specs.Prelude.{slice_get, slice_set, slice_index}
+use Rattle.std.proofs.lemmas.Bool.{cases_lt}
 use Rattle.std.proofs.lemmas.Bool.Decides.{nat_tests, eqb_tells}
 use Rattle.target_code.specs.declared.target.Target.{Target}
 use Rattle.oa_words.specs.declared.packed.Kind.TheVariants as kinds
-use Rattle.oa_words.specs.Words.{Word, Status, address_of, in_row, word_count}
-use Rattle.oa_words.specs.Packed.{status_word}
+use Rattle.oa_words.specs.Words.{Word, Status, Head, address_of, in_row, word_count}
+use Rattle.oa_words.specs.Packed.{head_parts, head_word, status_word}
+use Rattle.oa_words.specs.Memories.{seen, store}
 use Rattle.oa_words.proofs.Places.{apart, within}
+use Rattle.guard_words.specs.Guards.{has_slot}
 use Rattle.phase_pools.specs.declared.access.ClaimEnd.{ClaimEnd}
 use Rattle.phase_pools.specs.declared.access.ClaimEnd.TheVariants as ends
+use Rattle.phase_pools.specs.declared.stages.ClaimStage.{ClaimStage}
+use Rattle.phase_pools.specs.declared.stages.ClaimStage.TheVariants as claims
 use Rattle.phase_pools.specs.Accesses.{WordAccess, word_of, word_after}
-use Rattle.phase_pools.specs.Pools.{Claim, ClaimTurn, claim_accepts, claim_wants}
+use Rattle.phase_pools.specs.Pools.{Claim, ClaimTurn, claim_accepts, claim_takes, claim_wants, Retirement, retire_wants, takes_at}
+use Rattle.chain_laws.specs.Chains.{top}
+use Rattle.chain_laws.specs.Machine.{Elsewhere}
+use Rattle.chain_laws.specs.Memories.{after_access}
+use Rattle.chain_laws.proofs.Same.{same_written}
+use Rattle.claim_order.specs.Frontier.{ClaimFits, Fits, IsOrdered, frontier_at}
+use Rattle.claim_order.proofs.Frontier.{ClaimOn, Moves, Stays, claim_open, fits_later, ordered_same, retire_open}
 use Rattle.caller_parts.specs.declared.call.Call.{Call}
 use Rattle.caller_parts.specs.declared.call.Reply.{Reply}
 use Rattle.caller_parts.specs.declared.call.Reply.TheVariants as replies
 use Rattle.caller_parts.specs.declared.call.Replied.{Replied}
 use Rattle.caller_parts.specs.declared.call.Running.{Running}
+use Rattle.caller_parts.specs.declared.routine.AfterRetire.{AfterRetire}
 use Rattle.caller_parts.specs.declared.routine.Routine.{Routine}
 use Rattle.caller_parts.specs.declared.routine.Routine.TheVariants.{Idle, LoadSeen, At, InList, Retires, Restarts, Clears, Claims, Zeroes}
 use Rattle.caller_parts.specs.Pairing.{replied_by}
-use Rattle.caller_parts.specs.Settings.{Setting, Fits}
+use Rattle.caller_parts.specs.Settings.{Setting, Fits as FitsTarget}
 use Rattle.caller_steps.specs.Entries.{Entry, is_idle, one_more}
 use Rattle.caller_parts.specs.Calls.{is_call}
 use Rattle.caller_steps.specs.Signs.{Moved}
 use Rattle.caller_steps.specs.Wants.{wants}
-use Rattle.caller_steps.specs.After.{after, taken, counted, claim_on}
-use Rattle.caller_steps.specs.Lawful.{AsksSafely, IsSafe}
+use Rattle.caller_steps.specs.After.{after, taken, claim_counted, claim_on, counted}
+use Rattle.caller_steps.specs.Lawful.{AsksSafely, IsSafe, MayBeTold}
 use Rattle.caller_steps.specs.Belongs.{Belongs, Stands}
 use Rattle.core_runs.specs.Machine.{CoreState, CoreEvent, Takes, Steps, core_event, event_by, found_by, made, stepped, word_at}
 use Rattle.core_runs.specs.Advances.{RunsOn, Ends}
 use Rattle.core_runs.proofs.Reaching.{some_is}
+use Rattle.core_runs.proofs.Seeing.{found_is, seen_set}
 use Rattle.core_runs.proofs.Turning.{after_turns}
 use Rattle.core_runs.proofs.Keeping.{idle_wants}
 use Rattle.caller_laws.proofs.Methods.{Methods, SettingSane}
-use Rattle.caller_laws.proofs.Equations.{after_is, moved_claims, wants_claims}
+use Rattle.caller_laws.proofs.Equations.{after_is, moved_claims, wants_claims, wants_retires}
+use Rattle.caller_laws.proofs.Routed.{HoldsAsGoesOn, HoldsAtBegins, after_routed}
 use Rattle.caller_laws.proofs.Safety.{wants_safe}
+use Rattle.caller_laws.proofs.Steps.{after_belongs}
 use Rattle.core_sound.specs.Sound.{IsSound}
-use Rattle.core_sound.proofs.Machine.{set_got}
-use Rattle.claim_laws.specs.Untouched.{WordAvoids, EntryAvoids, IsUntouched}
+use Rattle.core_sound.specs.Standing.{standing_of}
+use Rattle.core_sound.proofs.Machine.{found_told, set_got}
+use Rattle.core_sound.proofs.Stamping.{elsewhere_wants}
+use Rattle.claim_laws.specs.Untouched.{WordAvoids, EntryAvoids, IsUntouched, RoutineAvoids}
+use Rattle.claim_laws.specs.Causes.{FindsNoTop}
+use Rattle.claim_laws.specs.CallSteps.{StepMade}
 use Rattle.claim_laws.proofs.Onward.{IsAnswer, IsBefore, IsNoClaim, StandsAfter, after_answers}
 use Rattle.claim_laws.proofs.Avoiding.{after_avoids}
-use Rattle.claim_laws.proofs.Meeting.{ClaimsOther, ToldAvoids, LeavesOther, step_found, step_leaves}
+use Rattle.claim_laws.proofs.Claiming.{GivesAt, claim_gives}
+use Rattle.claim_laws.proofs.Meeting.{ClaimsOther, TakesOther, ToldAvoids, LeavesOther, step_found, step_leaves}
 use Rattle.claim_laws.proofs.Counting.{IsCounted, counts_same, counts_more}
-use Rattle.claim_laws.proofs.Touching.{LeavesReady, step_leaves_ready, IsUntaken, AllTouched, RoutineTouched, TouchesAt, FindsReady, touched_more, untaken_before, routine_more, claim_touches}
+use Rattle.claim_laws.proofs.Touching.{LeavesReady, step_leaves_ready, IsUntaken, AllTouched, touched_more, untaken_before}
 
 -- ---- one word changes
 
@@ -71,24 +92,40 @@ FullOnly setting slots given = NoneFull given ⊎ AllTouched setting slots
 -- of one caller
 pub record CallerPool (setting : Setting) (slots : List ℕ) (e : Entry) : Type 0 where
   pub before : IsBefore e.routine
-  pub touched : RoutineTouched setting slots e.routine
   pub full : FullOnly setting slots e.replies
 
--- the slots that were claimed are among these, and as many claims are counted
-pub record Pool (target : Target) (setting : Setting) (state : CoreState) (slots : List ℕ) : Type 0 where
+-- the slots that were claimed are among these, and as many claims are counted. They are those that held no initial node and stand before v
+pub record Pool (target : Target) (setting : Setting) (state : CoreState) (slots : List ℕ) (v : ℕ) : Type 0 where
   pub untouched : (j : ℕ) → IsUntaken setting slots j → IsUntouched target setting state j
+  pub past : (j : ℕ) → setting.nodes < j → j < v → has_slot slots j ≡ true
+  pub ahead : (j : ℕ) → v ≤ j → has_slot slots j ≡ false
+  pub words : IsOrdered setting.sizes setting.nodes setting.first (seen setting.sizes state.words) v
+  pub fits : (c : ℕ) (e : Entry) → slice_get state.entries c ≡ Some e → Fits setting.sizes.slots (seen setting.sizes state.words) v (standing_of e.routine)
   pub callers : (c : ℕ) (e : Entry) → slice_get state.entries c ≡ Some e → CallerPool setting slots e
   pub count : IsCounted (length slots) state.entries
 
-abbrev pub IsPooled : Target → Setting → CoreState → Type 0
-IsPooled target setting state = (slots : List ℕ) × Pool target setting state slots
+pub record IsPooled (target : Target) (setting : Setting) (state : CoreState) : Type 0 where
+  pub slots : List ℕ
+  pub frontier : ℕ
+  pub pool : Pool target setting state slots frontier
 
 full_more : (setting : Setting) (slots : List ℕ) (k : ℕ) (given : List Replied) → FullOnly setting slots given → FullOnly setting (k ∷ slots) given
 full_more setting slots k given (inl none) = inl none
 full_more setting slots k given (inr all) = inr (λ i le. touched_more setting slots k i (all i le))
 
 caller_more : (setting : Setting) (slots : List ℕ) (k : ℕ) (e : Entry) → CallerPool setting slots e → CallerPool setting (k ∷ slots) e
-caller_more setting slots k e p = record { before = p.before; touched = routine_more setting slots k e.routine p.touched; full = full_more setting slots k e.replies p.full }
+caller_more setting slots k e p = record { before = p.before; full = full_more setting slots k e.replies p.full }
+
+-- where no slot is on top each was claimed
+all_touched : (setting : Setting) (slots : List ℕ) (m : Word → ℕ) (v : ℕ) → IsOrdered setting.sizes setting.nodes setting.first m v → ((j : ℕ) → setting.nodes < j → j < v → has_slot slots j ≡ true) → top m ≡ 0
+    → AllTouched setting slots
+all_touched setting slots m v o past none i le = ⊎_elim
+    (λ (node : i < setting.nodes + 1). inl (omega (arith, node)))
+    (λ (other : setting.nodes + 1 ≤ i). inr (past i (omega (arith, other)) (let over = beyond o.top_good.0.2 in omega (arith, le, over))))
+    (cases_lt i (setting.nodes + 1)) where
+      beyond : (1 ≤ top m) ⊎ (setting.sizes.slots < v) → setting.sizes.slots < v
+      beyond (inl some) = absurd (omega (arith, some, none))
+      beyond (inr over) = over
 
 -- one more reply
 pub got_last : (given : List Replied) (i : ℕ) (r new : Replied) → slice_get (given ++ new ∷ []) i ≡ Some r → (slice_get given i ≡ Some r) ⊎ (new ≡ r)
@@ -112,83 +149,281 @@ add_reply setting slots given reply run gives (inl other) (inl none) = inl (λ i
     (λ (t : replied_by reply run ≡ r). other (ap (λ (x : Replied). x.reply) t ∙ full))
     (got_last given i r (replied_by reply run) got))
 
-module _ (target : Target) (setting : Setting) (slots : List ℕ) where
-  -- ---- a step that claims no slot
+-- ---- a caller after its step
 
-  -- what it makes of its caller
-  abbrev Outcome : Entry → Entry → Type 0
-  Outcome e later = (later.counts.claims ≡ e.counts.claims) × CallerPool setting slots later
+-- the step's exchange takes a slot
+abbrev pub takes_in : Routine → ℕ → Bool
+takes_in (Claims claim) word = claim_takes claim word
+takes_in _ word = false
 
-  plain_step : (e : Entry) (word : ℕ) → is_idle e.routine ≡ false → IsNoClaim e.routine → CallerPool setting slots e → Outcome e (after target setting e word)
-  plain_step e word busy other p = (answers.0, by later.routine refl answers.1) where
-    later : Entry
+abbrev pub count_after : Bool → ℕ → ℕ
+count_after takes n = if takes then one_more n else n
+
+module _ (target : Target) (setting : Setting) where
+  -- each step counts the slot that it takes
+  pub counts_after : (e : Entry) (word : ℕ) → is_idle e.routine ≡ false → IsBefore e.routine → (after target setting e word).counts.claims ≡ count_after (takes_in e.routine word) e.counts.claims
+  counts_after e word busy before = of e.routine refl where
+    plain : (routine : Routine) → e.routine ≡ routine → IsNoClaim routine → takes_in routine word ≡ false → (after target setting e word).counts.claims ≡ count_after (takes_in e.routine word) e.counts.claims
+    plain routine is other none =
+        (after_answers target setting e word before (subst IsNoClaim (sym is) other)).0 ∙ ap (λ (b : Bool). count_after b e.counts.claims) (sym (ap (λ (r : Routine). takes_in r word) is ∙ none))
+
+    ended : (claim : Claim) (o : Option ClaimEnd) (x : Entry) → (claim_on target claim o x).entry.counts.claims ≡ x.counts.claims
+    ended claim None x = refl
+    ended claim (Some (ends.Claimed k)) x = refl
+    ended claim (Some ends.Full) x = refl
+    ended claim (Some (ends.PhasesOver p)) x = refl
+
+    of : (routine : Routine) → e.routine ≡ routine → (after target setting e word).counts.claims ≡ count_after (takes_in e.routine word) e.counts.claims
+    of Idle is = absurd (let z : true ≡ false = sym (ap is_idle is) ∙ busy in cc)
+    of (Claims claim) is =
+        let turn : ClaimTurn = claim_accepts setting.sizes setting.last claim word in
+        ap (λ (x : Entry). x.counts.claims) (after_is target setting e word ∙ ap (λ (m : Moved). m.entry) (moved_claims target setting e word claim is))
+        ∙ (ended turn.claim turn.ended (claim_counted (claim_takes claim word) (counted e))
+        ∙ ap (λ (b : Bool). count_after b e.counts.claims) (sym (ap (λ (r : Routine). takes_in r word) is)))
+    of (LoadSeen why) is = plain (LoadSeen why) is tt refl
+    of At is = plain At is tt refl
+    of (InList k) is = plain (InList k) is tt refl
+    of (Retires retirement go) is = plain (Retires retirement go) is tt refl
+    of Restarts is = plain Restarts is tt refl
+    of (Clears next) is = plain (Clears next) is tt refl
+    of (Zeroes k field) is = plain (Zeroes k field) is tt refl
+
+  module _ (slots : List ℕ) (e : Entry) (word : ℕ) (busy : is_idle e.routine ≡ false) (p : CallerPool setting slots e) where
+    abbrev later : Entry
     later = after target setting e word
 
-    answers : (later.counts.claims ≡ (counted e).counts.claims) × StandsAfter setting.sizes (counted e) later later.routine
-    answers = after_answers target setting e word p.before other
+    -- a step that isn't one of a claim
+    plain_step : IsNoClaim e.routine → CallerPool setting slots later
+    plain_step other = by later.routine refl answers.1 where
+      answers : (later.counts.claims ≡ (counted e).counts.claims) × StandsAfter setting.sizes (counted e) later later.routine
+      answers = after_answers target setting e word p.before other
 
-    kept : RunsOn (counted e) later ⊎ Ends (counted e) later → is_idle later.routine ≡ false → later.replies ≡ e.replies
-    kept (inl runs) running = runs.1
-    kept (inr stops) running = absurd (let z : true ≡ false = sym stops.1 ∙ running in cc)
+      kept : RunsOn (counted e) later ⊎ Ends (counted e) later → is_idle later.routine ≡ false → later.replies ≡ e.replies
+      kept (inl runs) running = runs.1
+      kept (inr stops) running = absurd (let z : true ≡ false = sym stops.1 ∙ running in cc)
 
-    same : (routine : Routine) → later.routine ≡ routine → is_idle routine ≡ false → IsBefore routine → RoutineTouched setting slots routine → CallerPool setting slots later
-    same routine is running before touched = record {
-      before = subst IsBefore (sym is) before;
-      touched = subst (RoutineTouched setting slots) (sym is) touched;
-      full = subst (FullOnly setting slots) (sym (kept (after_turns target setting e word busy) (ap is_idle is ∙ running))) p.full;
-    }
+      same : (routine : Routine) → later.routine ≡ routine → is_idle routine ≡ false → IsBefore routine → CallerPool setting slots later
+      same routine is running before = record {
+        before = subst IsBefore (sym is) before;
+        full = subst (FullOnly setting slots) (sym (kept (after_turns target setting e word busy) (ap is_idle is ∙ running))) p.full;
+      }
 
-    by : (routine : Routine) → later.routine ≡ routine → StandsAfter setting.sizes (counted e) later routine → CallerPool setting slots later
-    by Idle is stands = record {
-      before = subst IsBefore (sym is) tt;
-      touched = subst (RoutineTouched setting slots) (sym is) tt;
-      full = subst (FullOnly setting slots) (sym stands.2)
-          (add_reply setting slots e.replies stands.0 (counted e).running (λ full. absurd (not_full stands.0 stands.1 full)) (inl (not_full stands.0 stands.1)) p.full);
-    }
-    by (Claims claim) is stands = same (Claims claim) is refl tt (subst (λ (c : Claim). RoutineTouched setting slots (Claims c)) (sym stands) (λ i lt. inl (omega (arith, lt))))
-    by (Clears next) is stands = same (Clears next) is refl stands tt
-    by (LoadSeen why) is stands = same (LoadSeen why) is refl tt tt
-    by At is stands = same At is refl tt tt
-    by (InList k) is stands = same (InList k) is refl tt tt
-    by (Retires retirement go) is stands = same (Retires retirement go) is refl tt tt
-    by Restarts is stands = same Restarts is refl tt tt
-    by (Zeroes k field) is stands = same (Zeroes k field) is refl tt tt
+      by : (routine : Routine) → later.routine ≡ routine → StandsAfter setting.sizes (counted e) later routine → CallerPool setting slots later
+      by Idle is stands = record {
+        before = subst IsBefore (sym is) tt;
+        full = subst (FullOnly setting slots) (sym stands.2)
+            (add_reply setting slots e.replies stands.0 (counted e).running (λ full. absurd (not_full stands.0 stands.1 full)) (inl (not_full stands.0 stands.1)) p.full);
+      }
+      by (Claims claim) is stands = same (Claims claim) is refl tt
+      by (Clears next) is stands = same (Clears next) is refl stands
+      by (LoadSeen why) is stands = same (LoadSeen why) is refl tt
+      by At is stands = same At is refl tt
+      by (InList k) is stands = same (InList k) is refl tt
+      by (Retires retirement go) is stands = same (Retires retirement go) is refl tt
+      by Restarts is stands = same Restarts is refl tt
+      by (Zeroes k field) is stands = same (Zeroes k field) is refl tt
 
-  -- of a claim that goes on or ends without a slot
-  abbrev NoSlot : Option ClaimEnd → Type 0
-  NoSlot (Some (ends.Claimed k)) = ⊥
-  NoSlot _ = Unit {0}
+    -- one of a claim: where it ends with `Full` each slot was claimed
+    claim_end : (next : Claim) (o : Option ClaimEnd) (x : Entry) → (o ≡ Some ends.Full → AllTouched setting slots) → FullOnly setting slots x.replies → CallerPool setting slots (claim_on target next o x).entry
+    claim_end next None x touches full = record { before = tt; full = full }
+    claim_end next (Some (ends.Claimed k)) x touches full = record { before = tt; full = full }
+    claim_end next (Some ends.Full) x touches full = record { before = tt; full = add_reply setting slots x.replies replies.Full x.running (λ is. touches refl) (inr refl) full }
+    claim_end next (Some (ends.PhasesOver q)) x touches full = record { before = tt; full = add_reply setting slots x.replies (replies.Phases q) x.running (λ is. absurd cc) (inl (λ is. cc)) full }
 
-  claim_end : (next : Claim) (o : Option ClaimEnd) (e : Entry) → NoSlot o → TouchesAt setting slots next o → FullOnly setting slots e.replies → Outcome e (claim_on target next o e).entry
-  claim_end next None e slotless touches full = (refl, record { before = tt; touched = touches; full = full })
-  claim_end next (Some (ends.Claimed k)) e slotless touches full = absurd slotless
-  claim_end next (Some ends.Full) e slotless touches full = (refl, record { before = tt; touched = tt; full = add_reply setting slots e.replies replies.Full e.running (λ is. touches) (inr refl) full })
-  claim_end next (Some (ends.PhasesOver p)) e slotless touches full =
-      (refl, record { before = tt; touched = tt; full = add_reply setting slots e.replies (replies.Phases p) e.running (λ is. absurd cc) (inl (λ is. cc)) full })
+    claim_step : (claim : Claim) → e.routine ≡ Claims claim → ((claim_accepts setting.sizes setting.last claim word).ended ≡ Some ends.Full → AllTouched setting slots) → CallerPool setting slots later
+    claim_step claim is touches =
+        let turn : ClaimTurn = claim_accepts setting.sizes setting.last claim word in
+        subst (CallerPool setting slots) (sym (after_is target setting e word ∙ ap (λ (m : Moved). m.entry) (moved_claims target setting e word claim is)))
+        (claim_end turn.claim turn.ended (claim_counted (claim_takes claim word) (counted e)) touches p.full)
 
-  module _ (e : Entry) (word : ℕ) (claim : Claim) (there : e.routine ≡ Claims claim) where
+    -- either
+    pub caller_step : ((claim : Claim) → e.routine ≡ Claims claim → (claim_accepts setting.sizes setting.last claim word).ended ≡ Some ends.Full → AllTouched setting slots) → CallerPool setting slots later
+    caller_step touches = of e.routine refl where
+      of : (routine : Routine) → e.routine ≡ routine → CallerPool setting slots later
+      of Idle is = absurd (let z : true ≡ false = sym (ap is_idle is) ∙ busy in cc)
+      of (Claims claim) is = claim_step claim is (touches claim is)
+      of (LoadSeen why) is = plain_step (subst IsNoClaim (sym is) tt)
+      of At is = plain_step (subst IsNoClaim (sym is) tt)
+      of (InList k) is = plain_step (subst IsNoClaim (sym is) tt)
+      of (Retires retirement go) is = plain_step (subst IsNoClaim (sym is) tt)
+      of Restarts is = plain_step (subst IsNoClaim (sym is) tt)
+      of (Clears next) is = plain_step (subst IsNoClaim (sym is) tt)
+      of (Zeroes k field) is = plain_step (subst IsNoClaim (sym is) tt)
+
+-- ---- the words after a step, and which slots it leaves unclaimed
+
+-- from the words m, of which v is the frontier, by the access a
+pub record Advances (setting : Setting) (m : Word → ℕ) (slots : List ℕ) (v : ℕ) (e : Entry) (a : WordAccess) (slots' : List ℕ) (v' : ℕ) : Type 0 where
+  pub words : IsOrdered setting.sizes setting.nodes setting.first (after_access m a) v'
+  pub moves : Moves setting.sizes.slots m (after_access m a) v v'
+  pub untaken : (j : ℕ) → IsUntaken setting slots' j → IsUntaken setting slots j × ClaimsOther j (m (word_of a)) e.routine
+  pub past : (j : ℕ) → setting.nodes < j → j < v' → has_slot slots' j ≡ true
+  pub ahead : (j : ℕ) → v' ≤ j → has_slot slots' j ≡ false
+  pub on : (claim : Claim) → e.routine ≡ Claims claim → (let turn = claim_accepts setting.sizes setting.last claim (m (word_of a)) in ClaimOn setting.sizes.slots (after_access m a) v' turn.claim turn.ended)
+
+-- it takes no slot, or one
+abbrev pub AdvancesBy : Setting → (Word → ℕ) → List ℕ → ℕ → Entry → WordAccess → Type 0
+AdvancesBy setting m slots v e a =
+    ((takes_in e.routine (m (word_of a)) ≡ false) × Advances setting m slots v e a slots v)
+    ⊎ ((takes_in e.routine (m (word_of a)) ≡ true) × (t : ℕ) × (v' : ℕ) × Advances setting m slots v e a (t ∷ slots) v')
+
+module _ (setting : Setting) (some : SettingSane setting) (m : Word → ℕ) (slots : List ℕ) (v : ℕ) (e : Entry) (ordered : IsOrdered setting.sizes setting.nodes setting.first m v)
+    (past : (j : ℕ) → setting.nodes < j → j < v → has_slot slots j ≡ true) (ahead : (j : ℕ) → v ≤ j → has_slot slots j ≡ false) where
+  -- no claim
+  still : (a : WordAccess) → IsOrdered setting.sizes setting.nodes setting.first (after_access m a) v × Stays setting.sizes.slots v m (after_access m a) → ((j : ℕ) → ClaimsOther j (m (word_of a)) e.routine)
+      → ((claim : Claim) → e.routine ≡ Claims claim → (let turn = claim_accepts setting.sizes setting.last claim (m (word_of a)) in ClaimOn setting.sizes.slots (after_access m a) v turn.claim turn.ended))
+      → Advances setting m slots v e a slots v
+  still a k other on = record { words = k.0; moves = inl (refl, k.1); untaken = λ j u. (u, other j); past = past; ahead = ahead; on = on }
+
+  elsewhere_advances : (target : Target) (a : WordAccess) → standing_of e.routine ≡ Elsewhere → wants target e ≡ Some a → AdvancesBy setting m slots v e a
+  elsewhere_advances target a at want = inl (
+    takes_none e.routine at,
+    still a (ordered_same setting.sizes setting.nodes setting.first m (after_access m a) v (same_written m (word_of a) (word_after a (m (word_of a))) (elsewhere_wants target e a at want)) ordered)
+        (λ j. other_none j e.routine at) (λ claim is. absurd (no_claim claim (sym (ap standing_of is) ∙ at))),
+  ) where
+    no_claim : (claim : Claim) → standing_of (Claims claim) ≡ Elsewhere → ⊥
+    no_claim claim is = cc
+
+    takes_none : (routine : Routine) → standing_of routine ≡ Elsewhere → takes_in routine (m (word_of a)) ≡ false
+    takes_none (Claims claim) is = absurd (no_claim claim is)
+    takes_none (Retires retirement go) is = refl
+    takes_none Idle is = refl
+    takes_none (LoadSeen why) is = refl
+    takes_none At is = refl
+    takes_none (InList k) is = refl
+    takes_none Restarts is = refl
+    takes_none (Clears next) is = refl
+    takes_none (Zeroes k field) is = refl
+
+    other_none : (j : ℕ) (routine : Routine) → standing_of routine ≡ Elsewhere → ClaimsOther j (m (word_of a)) routine
+    other_none j (Claims claim) is = absurd (no_claim claim is)
+    other_none j (Retires retirement go) is = tt
+    other_none j Idle is = tt
+    other_none j (LoadSeen why) is = tt
+    other_none j At is = tt
+    other_none j (InList k) is = tt
+    other_none j Restarts is = tt
+    other_none j (Clears next) is = tt
+    other_none j (Zeroes k field) is = tt
+
+  retires_advances : (retirement : Retirement) (go : AfterRetire) → e.routine ≡ Retires retirement go → retirement.slot < v → AdvancesBy setting m slots v e (retire_wants retirement)
+  retires_advances retirement go is lt = inl (
+    ap (λ (r : Routine). takes_in r (m (word_of (retire_wants retirement)))) is,
+    still (retire_wants retirement) (retire_open setting.sizes setting.nodes setting.first m v retirement.slot retirement.stage lt ordered).0
+        (λ j. subst (ClaimsOther j (m (word_of (retire_wants retirement)))) (sym is) tt) (λ claim claims_is. absurd (let no : Retires retirement go ≡ Claims claim = sym is ∙ claims_is in cc)),
+  )
+
+  module _ (claim : Claim) (is : e.routine ≡ Claims claim) (fits : ClaimFits setting.sizes.slots m v claim.sweep.stage claim.stage) where
+    abbrev told : ℕ
+    told = m (word_of (claim_wants claim))
+
+    abbrev m' : Word → ℕ
+    m' = after_access m (claim_wants claim)
+
     abbrev turn : ClaimTurn
-    turn = claim_accepts setting.sizes setting.last claim word
+    turn = claim_accepts setting.sizes setting.last claim told
 
-    later_is : after target setting e word ≡ (claim_on target turn.claim turn.ended (counted e)).entry
-    later_is = after_is target setting e word ∙ ap (λ (m : Moved). m.entry) (moved_claims target setting e word claim there)
+    same_claim : (a b : Claim) → Claims a ≡ Claims b → a ≡ b
+    same_claim a b both = cc
 
-    claim_step : NoSlot turn.ended → TouchesAt setting slots turn.claim turn.ended → FullOnly setting slots e.replies → Outcome e (after target setting e word)
-    claim_step slotless touches full = subst (Outcome e) (sym later_is) (claim_end turn.claim turn.ended (counted e) slotless touches full)
+    on_of : (v' : ℕ) → ClaimOn setting.sizes.slots m' v' turn.claim turn.ended → (other : Claim) → e.routine ≡ Claims other
+        → (let turn' = claim_accepts setting.sizes setting.last other told in ClaimOn setting.sizes.slots m' v' turn'.claim turn'.ended)
+    on_of v' on other also =
+        subst (λ (c : Claim). let turn' = claim_accepts setting.sizes setting.last c told in ClaimOn setting.sizes.slots m' v' turn'.claim turn'.ended) (same_claim claim other (sym is ∙ also)) on
 
-    -- ---- one that claims a slot
+    takes_is : takes_in e.routine told ≡ takes_at claim.stage told
+    takes_is = ap (λ (r : Routine). takes_in r told) is
 
-    took : (k : ℕ) (o : Option ClaimEnd) → o ≡ Some (ends.Claimed k) → FullOnly setting (k ∷ slots) e.replies
-        → (let later = (claim_on target turn.claim o (counted e)).entry in (later.counts.claims ≡ one_more e.counts.claims) × CallerPool setting (k ∷ slots) later)
-    took k None is full = absurd cc
-    took k (Some (ends.Claimed i)) is full = (refl, record { before = tt; touched = tt; full = full })
-    took k (Some ends.Full) is full = absurd (let same : ends.Full ≡ ends.Claimed k = cc in cc)
-    took k (Some (ends.PhasesOver p)) is full = absurd (let same : ends.PhasesOver p ≡ ends.Claimed k = cc in cc)
+    -- where the exchange takes nothing
+    none_taken : takes_at claim.stage told ≡ false → frontier_at claim.stage m v ≡ v → ((j : ℕ) → TakesOther j claim.stage told) → AdvancesBy setting m slots v e (claim_wants claim)
+    none_taken takes front other =
+        let k = claim_open setting.sizes setting.last setting.nodes setting.first m v 0 claim claim.stage refl some.slots some.few ordered fits in
+        inl (
+          takes_is ∙ takes,
+          record {
+            words = subst (λ (x : ℕ). IsOrdered setting.sizes setting.nodes setting.first m' x) front k.words;
+            moves = subst (λ (x : ℕ). Moves setting.sizes.slots m m' v x) front k.moves;
+            untaken = λ j u. (u, subst (ClaimsOther j told) (sym is) (other j));
+            past = past;
+            ahead = ahead;
+            on = on_of v (subst (λ (x : ℕ). ClaimOn setting.sizes.slots m' x turn.claim turn.ended) front k.on);
+          },
+        )
 
-    slot_step : (k : ℕ) → turn.ended ≡ Some (ends.Claimed k) → FullOnly setting slots e.replies
-        → (let later = after target setting e word in (later.counts.claims ≡ one_more e.counts.claims) × CallerPool setting (k ∷ slots) later)
-    slot_step k is full =
-        subst (λ (later : Entry). (later.counts.claims ≡ one_more e.counts.claims) × CallerPool setting (k ∷ slots) later) (sym later_is) (took k turn.ended is (full_more setting slots k e.replies full))
+    -- where it takes t, which stands before the frontier or at it
+    one_taken : (q t next : ℕ) → claim.stage ≡ claims.Take q t next → t ≤ v → (m Head == head_word q t) ≡ true → AdvancesBy setting m slots v e (claim_wants claim)
+    one_taken q t next at le finds =
+        let k = claim_open setting.sizes setting.last setting.nodes setting.first m v 0 claim claim.stage refl some.slots some.few ordered fits in
+        inr (
+          takes_is ∙ takes,
+          t,
+          on_by (t == v),
+          record {
+            words = subst (λ (x : ℕ). IsOrdered setting.sizes setting.nodes setting.first m' x) front k.words;
+            moves = subst (λ (x : ℕ). Moves setting.sizes.slots m m' v x) front k.moves;
+            untaken = λ j u. (let was = untaken_before setting slots t j u in (was.0, subst (ClaimsOther j told) (sym is) (subst (λ (stage : ClaimStage). TakesOther j stage told) (sym at) (λ took. was.1))));
+            past = λ j low lt. has_past (t == v) refl j low lt;
+            ahead = λ j from. has_ahead (t == v) refl j from;
+            on = on_of (on_by (t == v)) (subst (λ (x : ℕ). ClaimOn setting.sizes.slots m' x turn.claim turn.ended) front k.on);
+          },
+        )
+      where
+        on_by : Bool → ℕ
+        on_by b = if b then v + 1 else v
+
+        told_is_head : told ≡ m Head
+        told_is_head = ap (λ (stage : ClaimStage). m (word_of (claim_wants (record claim { stage = stage })))) at
+
+        takes : takes_at claim.stage told ≡ true
+        takes = ap (λ (stage : ClaimStage). takes_at stage told) at ∙ (ap (λ (n : ℕ). n == head_word q t) told_is_head ∙ finds)
+
+        front : frontier_at claim.stage m v ≡ on_by (t == v)
+        front = ap (λ (stage : ClaimStage). frontier_at stage m v) at ∙ ap (λ (b : Bool). if b then (if t == v then v + 1 else v) else v) finds
+
+        more : (j : ℕ) → has_slot slots j ≡ true → has_slot (t ∷ slots) j ≡ true
+        more j has = of (t == j) (has_slot slots j) has where
+          of : (b d : Bool) → d ≡ true → (b || d) ≡ true
+          of true d has = refl
+          of false d has = has
+
+        here : (j : ℕ) → t ≡ j → has_slot (t ∷ slots) j ≡ true
+        here j same = let one : (t == j) ≡ true = grind (arith, nat_tests) in rw one refl
+
+        has_past : (b : Bool) → (t == v) ≡ b → (j : ℕ) → setting.nodes < j → j < on_by b → has_slot (t ∷ slots) j ≡ true
+        has_past true same j low lt = ⊎_elim
+            (λ (before : j < v). more j (past j low before))
+            (λ (from : v ≤ j). here j (let e : t ≡ v = grind (arith, nat_tests) in omega (arith, e, from, lt)))
+            (cases_lt j v)
+        has_past false same j low lt = more j (past j low lt)
+
+        other : (j : ℕ) → t ≢ j → has_slot slots j ≡ false → has_slot (t ∷ slots) j ≡ false
+        other j ne none = let one : (t == j) ≡ false = grind (arith, nat_tests) in rw (one, none) refl
+
+        has_ahead : (b : Bool) → (t == v) ≡ b → (j : ℕ) → on_by b ≤ j → has_slot (t ∷ slots) j ≡ false
+        has_ahead true same j from = let e : t ≡ v = grind (arith, nat_tests) in other j (λ z. omega (arith, z, e, from)) (ahead j (omega (arith, from)))
+        has_ahead false same j from = let ne : t ≢ v = grind (arith, nat_tests) in other j (λ z. omega (arith, z, ne, from, le)) (ahead j from)
+
+    claims_advance : AdvancesBy setting m slots v e (claim_wants claim)
+    claims_advance = of claim.stage refl fits where
+      of : (stage : ClaimStage) → claim.stage ≡ stage → ClaimFits setting.sizes.slots m v claim.sweep.stage stage → AdvancesBy setting m slots v e (claim_wants claim)
+      of claims.ReadHead at w =
+          none_taken (ap (λ (x : ClaimStage). takes_at x told) at) (ap (λ (x : ClaimStage). frontier_at x m v) at) (λ j. subst (λ (x : ClaimStage). TakesOther j x told) (sym at) tt)
+      of (claims.ReadLink q t) at w =
+          none_taken (ap (λ (x : ClaimStage). takes_at x told) at) (ap (λ (x : ClaimStage). frontier_at x m v) at) (λ j. subst (λ (x : ClaimStage). TakesOther j x told) (sym at) tt)
+      of (claims.StoreUsed q t) at w =
+          none_taken (ap (λ (x : ClaimStage). takes_at x told) at) (ap (λ (x : ClaimStage). frontier_at x m v) at) (λ j. subst (λ (x : ClaimStage). TakesOther j x told) (sym at) tt)
+      of claims.Sweeps at w =
+          none_taken (ap (λ (x : ClaimStage). takes_at x told) at) (ap (λ (x : ClaimStage). frontier_at x m v) at) (λ j. subst (λ (x : ClaimStage). TakesOther j x told) (sym at) tt)
+      of (claims.Take q t next) at w = by (m Head == head_word q t) refl where
+        at_head : told ≡ m Head
+        at_head = ap (λ (stage : ClaimStage). m (word_of (claim_wants (record claim { stage = stage })))) at
+
+        by : (b : Bool) → (m Head == head_word q t) ≡ b → AdvancesBy setting m slots v e (claim_wants claim)
+        by true finds = one_taken q t next at w.1.0.0 finds
+        by false fails = none_taken (ap (λ (x : ClaimStage). takes_at x told) at ∙ lost) (ap (λ (x : ClaimStage). frontier_at x m v) at ∙ ap (λ (b : Bool). if b then (if t == v then v + 1 else v) else v) fails)
+            (λ j. subst (λ (x : ClaimStage). TakesOther j x told) (sym at) (λ took. absurd (let z : false ≡ true = sym lost ∙ took in cc))) where
+              lost : (told == head_word q t) ≡ false
+              lost = ap (λ (n : ℕ). n == head_word q t) at_head ∙ fails
 
 -- ---- events
 
@@ -204,7 +439,12 @@ take_untouched target setting state c call e j there was = record {
       (set_got state.entries c d (taken call e) f got);
 }
 
-module _ (target : Target) (setting : Setting) (sane : Methods target) (some : SettingSane setting) (fits : Fits target setting) where
+-- what a step leaves of claims
+abbrev ClaimsFit : ℕ → (Word → ℕ) → ℕ → Routine → Type 0
+ClaimsFit slots m v (Claims claim) = ClaimFits slots m v claim.sweep.stage claim.stage
+ClaimsFit slots m v _ = Unit {0}
+
+module _ (target : Target) (setting : Setting) (sane : Methods target) (some : SettingSane setting) (fits : FitsTarget target setting) where
   abbrev stepped_state : CoreState → ℕ → Entry → WordAccess → CoreState
   stepped_state state c e a = record { words = made setting state a; entries = set state.entries c (after target setting e (found_by setting state a)) }
 
@@ -220,7 +460,7 @@ module _ (target : Target) (setting : Setting) (sane : Methods target) (some : S
     safe = subst (λ (o : Option WordAccess). AsksSafely target setting o) want (wants_safe target setting e sane some fits own busy)
 
     -- a slot that the step doesn't claim stays untouched
-    pub untouched_stays : (j : ℕ) → 1 ≤ j → in_row setting.sizes (Status j) ≡ true → IsUntouched target setting state j → ClaimsOther setting j found e.routine
+    pub untouched_stays : (j : ℕ) → 1 ≤ j → in_row setting.sizes (Status j) ≡ true → IsUntouched target setting state j → ClaimsOther j found e.routine
         → IsUntouched target setting (stepped_state state c e a) j
     untouched_stays j low row u other = record { status = status; words = words; entries = entries } where
       held : EntryAvoids j e
@@ -239,7 +479,7 @@ module _ (target : Target) (setting : Setting) (sane : Methods target) (some : S
       ready_left : word_of a ≡ Status j → word_after a found ≡ status_word setting.first kinds.Ready
       ready_left is =
           let same : found ≡ status_word setting.first kinds.Ready = ap (word_at setting state) is ∙ u.status in
-          let stays : LeavesReady j setting.first (Some a) = subst (LeavesReady j setting.first) want (step_leaves_ready target setting j e held (subst (λ (n : ℕ). ClaimsOther setting j n e.routine) same other)) in
+          let stays : LeavesReady j setting.first (Some a) = subst (LeavesReady j setting.first) want (step_leaves_ready target setting j e held) in
           ap (word_after a) same ∙ stays is
 
       status : word_at setting (stepped_state state c e a) (Status j) ≡ status_word setting.first kinds.Ready
@@ -256,95 +496,163 @@ module _ (target : Target) (setting : Setting) (sane : Methods target) (some : S
           (λ (t : slice_get state.entries d ≡ Some f). u.entries d f t)
           (set_got state.entries c d (after target setting e found) f got)
 
-    module _ (slots : List ℕ) (pool : Pool target setting state slots) where
+    abbrev m : Word → ℕ
+    m = seen setting.sizes state.words
+
+    found_seen : m (word_of a) ≡ found
+    found_seen = found_is setting state a safe.row
+
+    later_seen : seen setting.sizes (made setting state a) ≡ after_access m a
+    later_seen = seen_set setting.sizes state.words (word_of a) (word_after a found) sound.count safe.row ∙ ap (λ (k : ℕ). store m (word_of a) (word_after a k)) (sym found_seen)
+
+    later_belongs : Belongs target setting (after target setting e found)
+    later_belongs = after_belongs target setting e found sane some own (subst (λ (o : Option WordAccess). MayBeTold target setting o found) (sym want) (found_told target setting state a sound safe))
+
+    module _ (slots : List ℕ) (v : ℕ) (pool : Pool target setting state slots v) where
       mine : CallerPool setting slots e
       mine = pool.callers c e there
 
       status_row : (j : ℕ) → j ≤ setting.sizes.slots → in_row setting.sizes (Status j) ≡ true
       status_row j le = let lt : j < setting.sizes.slots + 1 = omega (arith, le) in grind (arith, nat_tests)
 
-      -- where no slot was claimed
-      same_slots : ((j : ℕ) → ClaimsOther setting j found e.routine)
-          → (let later = after target setting e found in (later.counts.claims ≡ e.counts.claims) × CallerPool setting slots later) → Pool target setting (stepped_state state c e a) slots
-      same_slots other outcome = record {
-        untouched = λ j u. untouched_stays j (let low = u.0 in omega (arith, low)) (status_row j u.1) (pool.untouched j u) (other j);
-        callers = λ d f got. ⊎_elim
-            (λ (t : (d ≡ c) × (f ≡ after target setting e found)). subst (CallerPool setting slots) (sym t.1) outcome.1)
-            (λ (t : slice_get state.entries d ≡ Some f). pool.callers d f t)
-            (set_got state.entries c d (after target setting e found) f got);
-        count = counts_same (length slots) state.entries c e (after target setting e found) there outcome.0 pool.count;
-      }
+      advances : AdvancesBy setting m slots v e a
+      advances = of e.routine refl (pool.fits c e there) where
+        same_access : (x : WordAccess) → wants target e ≡ Some x → x ≡ a
+        same_access x is = let both : Some x ≡ Some a = sym is ∙ want in cc
 
-      -- where one was
-      more_slots : (k : ℕ) → ((j : ℕ) → k ≢ j → ClaimsOther setting j found e.routine)
-          → (let later = after target setting e found in (later.counts.claims ≡ one_more e.counts.claims) × CallerPool setting (k ∷ slots) later) → Pool target setting (stepped_state state c e a) (k ∷ slots)
-      more_slots k other outcome = record {
-        untouched = λ j u. (let was = untaken_before setting slots k j u in
-            untouched_stays j (let low = u.0 in omega (arith, low)) (status_row j u.1) (pool.untouched j was.0) (other j was.1));
-        callers = λ d f got. ⊎_elim
-            (λ (t : (d ≡ c) × (f ≡ after target setting e found)). subst (CallerPool setting (k ∷ slots)) (sym t.1) outcome.1)
-            (λ (t : slice_get state.entries d ≡ Some f). caller_more setting slots k f (pool.callers d f t))
-            (set_got state.entries c d (after target setting e found) f got);
-        count = counts_more (length slots) state.entries c e (after target setting e found) there outcome.0 pool.count;
-      }
+        of : (routine : Routine) → e.routine ≡ routine → Fits setting.sizes.slots m v (standing_of routine) → AdvancesBy setting m slots v e a
+        of (Claims claim) is w =
+            subst (AdvancesBy setting m slots v e) (same_access (claim_wants claim) (wants_claims target e claim is)) (claims_advance setting some m slots v e pool.words pool.past pool.ahead claim is w)
+        of (Retires retirement go) is w =
+            subst (AdvancesBy setting m slots v e) (same_access (retire_wants retirement) (wants_retires target e retirement go is)) (retires_advances setting some m slots v e pool.words pool.past pool.ahead retirement go is w)
+        of Idle is w = elsewhere_advances setting some m slots v e pool.words pool.past pool.ahead target a (ap standing_of is) want
+        of (LoadSeen why) is w = elsewhere_advances setting some m slots v e pool.words pool.past pool.ahead target a (ap standing_of is) want
+        of At is w = elsewhere_advances setting some m slots v e pool.words pool.past pool.ahead target a (ap standing_of is) want
+        of (InList k) is w = elsewhere_advances setting some m slots v e pool.words pool.past pool.ahead target a (ap standing_of is) want
+        of Restarts is w = elsewhere_advances setting some m slots v e pool.words pool.past pool.ahead target a (ap standing_of is) want
+        of (Clears next) is w = elsewhere_advances setting some m slots v e pool.words pool.past pool.ahead target a (ap standing_of is) want
+        of (Zeroes k field) is w = elsewhere_advances setting some m slots v e pool.words pool.past pool.ahead target a (ap standing_of is) want
 
-      plain_pool : (routine : Routine) → e.routine ≡ routine → IsNoClaim routine → ((j : ℕ) → ClaimsOther setting j found routine) → (more : List ℕ) × Pool target setting (stepped_state state c e a) more
-      plain_pool routine is other claims =
-          (slots, same_slots (λ j. subst (ClaimsOther setting j found) (sym is) (claims j)) (plain_step target setting slots e found busy (subst IsNoClaim (sym is) other) mine))
+      -- a third look that found no slot on top
+      touches : (claim : Claim) → e.routine ≡ Claims claim → (claim_accepts setting.sizes setting.last claim found).ended ≡ Some ends.Full → AllTouched setting slots
+      touches claim is full =
+          let s : StepMade = record { entry = e; found = found } in
+          let finds : FindsNoTop s = subst (GivesAt setting s claim is) full (claim_gives setting s claim is) in
+          all_touched setting slots m v pool.words pool.past (at_top finds (wanted finds)) where
+            wanted : FindsNoTop (record { entry = e; found = found }) → word_of a ≡ Head
+            wanted finds =
+                let both : Some (claim_wants finds.claim) ≡ Some a = sym (wants_claims target e finds.claim finds.claims) ∙ want in
+                let same : claim_wants finds.claim ≡ a = cc in
+                ap word_of (sym same) ∙ ap (λ (stage : ClaimStage). word_of (claim_wants (record finds.claim { stage = stage }))) finds.looks
 
-      claim_pool : (claim : Claim) → e.routine ≡ Claims claim → (more : List ℕ) × Pool target setting (stepped_state state c e a) more
-      claim_pool claim is = by turn.ended refl where
-        turn : ClaimTurn
-        turn = claim_accepts setting.sizes setting.last claim found
+            at_top : FindsNoTop (record { entry = e; found = found }) → word_of a ≡ Head → top m ≡ 0
+            at_top finds head = ap (λ (n : ℕ). (head_parts n).top) (ap m (sym head) ∙ found_seen) ∙ finds.empty
 
-        wanted : a ≡ claim_wants claim
-        wanted = let same : Some a ≡ Some (claim_wants claim) = sym want ∙ wants_claims target e claim is in cc
+      module _ (slots' : List ℕ) (v' : ℕ) (adv : Advances setting m slots v e a slots' v') (more : (f : Entry) → CallerPool setting slots f → CallerPool setting slots' f) where
+        untouched_then : (j : ℕ) → IsUntaken setting slots' j → IsUntouched target setting (stepped_state state c e a) j
+        untouched_then j u =
+            let was = adv.untaken j u in
+            untouched_stays j (let low = u.0 in omega (arith, low)) (status_row j u.1) (pool.untouched j was.0) (subst (λ (n : ℕ). ClaimsOther j n e.routine) found_seen was.1)
 
-        finds : (k : ℕ) → word_of (claim_wants claim) ≡ Status k → FindsReady setting slots k found
-        finds k of_slot u = ap (word_at setting state) (ap word_of wanted ∙ of_slot) ∙ (pool.untouched k u).status
+        begins_fit : HoldsAtBegins setting.sizes (ClaimsFit setting.sizes.slots (after_access m a) v')
+        begins_fit = record { idle = tt; seen = λ why. tt; here = tt; lists = λ k. tt; retires = λ j go. tt; restarts = tt; clears = λ next. tt; claims = tt; zeroes = λ k field. tt }
 
-        stands : Stands target setting e (Claims claim)
-        stands = subst (Stands target setting e) is own.stands
+        going_fit : HoldsAsGoesOn setting (m (word_of a)) (ClaimsFit setting.sizes.slots (after_access m a) v') e.routine
+        going_fit = record {
+          claims = λ claim is none. of (claim_accepts setting.sizes setting.last claim (m (word_of a))).claim (claim_accepts setting.sizes setting.last claim (m (word_of a))).ended none (adv.on claim is);
+          retires = λ retirement left go is goes. tt;
+        } where
+          of : (next : Claim) (o : Option ClaimEnd) → o ≡ None → ClaimOn setting.sizes.slots (after_access m a) v' next o → ClaimFits setting.sizes.slots (after_access m a) v' next.sweep.stage next.stage
+          of next None none on = on
+          of next (Some end) none on = absurd cc
 
-        touches : TouchesAt setting slots turn.claim turn.ended
-        touches = claim_touches setting slots claim found claim.stage refl stands.1.stands (subst (RoutineTouched setting slots) is mine.touched) finds
+        claims_fit : ClaimsFit setting.sizes.slots (after_access m a) v' (after target setting e found).routine
+        claims_fit = subst (λ (n : ℕ). ClaimsFit setting.sizes.slots (after_access m a) v' (after target setting e n).routine) found_seen
+            (after_routed target setting (ClaimsFit setting.sizes.slots (after_access m a) v') begins_fit e (m (word_of a)) going_fit)
 
-        others : (o : Option ClaimEnd) → turn.ended ≡ o → (j : ℕ) → (o ≡ Some (ends.Claimed j) → ⊥) → ClaimsOther setting j found e.routine
-        others o ended j never = subst (ClaimsOther setting j found) (sym is) (λ claimed. never (sym ended ∙ claimed))
+        -- what is retired was claimed: nothing names a slot that wasn't
+        own_fits : Fits setting.sizes.slots (after_access m a) v' (standing_of (after target setting e found).routine)
+        own_fits = of (after target setting e found).routine refl claims_fit where
+          later : Entry
+          later = after target setting e found
 
-        none : (o : Option ClaimEnd) → turn.ended ≡ o → NoSlot target setting slots o → ((j : ℕ) → o ≡ Some (ends.Claimed j) → ⊥) → (more : List ℕ) × Pool target setting (stepped_state state c e a) more
-        none o ended slotless never = (slots, same_slots (λ j. others o ended j (never j)) (claim_step target setting slots e found claim is (subst (NoSlot target setting slots) (sym ended) slotless) touches mine.full))
+          got : slice_get (set state.entries c later) c ≡ Some later
+          got = got_here state.entries c e later there where
+            got_here : (l : List Entry) (i : ℕ) (x y : Entry) → slice_get l i ≡ Some x → slice_get (set l i y) i ≡ Some y
+            got_here [] i x y is = absurd (let z : None ≡ Some x = is in cc)
+            got_here (z ∷ zs) zero x y is = refl
+            got_here (z ∷ zs) (suc i) x y is = got_here zs i x y is
 
-        by : (o : Option ClaimEnd) → turn.ended ≡ o → (more : List ℕ) × Pool target setting (stepped_state state c e a) more
-        by None ended = none None ended tt (λ j z. cc)
-        by (Some (ends.Claimed k)) ended = (
-          k ∷ slots,
-          more_slots k (λ j ne. others (Some (ends.Claimed k)) ended j (λ z. ne (let same : ends.Claimed k ≡ ends.Claimed j = cc in cc)))
-              (slot_step target setting slots e found claim is k ended mine.full),
-        )
-        by (Some ends.Full) ended = none (Some ends.Full) ended tt (λ j z. let same : ends.Full ≡ ends.Claimed j = cc in cc)
-        by (Some (ends.PhasesOver p)) ended = none (Some (ends.PhasesOver p)) ended tt (λ j z. let same : ends.PhasesOver p ≡ ends.Claimed j = cc in cc)
+          below : (retirement : Retirement) (go : AfterRetire) → later.routine ≡ Retires retirement go → retirement.slot < v'
+          below retirement go is = ⊎_elim
+              (λ (lt : retirement.slot < v'). lt)
+              (λ (from : v' ≤ retirement.slot).
+              let stands : Stands target setting later (Retires retirement go) = subst (Stands target setting later) is later_belongs.stands in
+              let untaken : IsUntaken setting slots' retirement.slot = ((let low = adv.words.least in omega (arith, low, from)), stands.0.1, adv.ahead retirement.slot from) in
+              let held = (untouched_then retirement.slot untaken).entries c later got in
+              let other : RoutineAvoids retirement.slot (Retires retirement go) = subst (RoutineAvoids retirement.slot) is held.routine in
+              absurd (other refl))
+              (cases_lt retirement.slot v')
 
-      pub step_pool : (more : List ℕ) × Pool target setting (stepped_state state c e a) more
-      step_pool = by e.routine refl where
-        by : (routine : Routine) → e.routine ≡ routine → (more : List ℕ) × Pool target setting (stepped_state state c e a) more
-        by Idle is = absurd (let z : true ≡ false = sym (ap is_idle is) ∙ busy in cc)
-        by (Claims claim) is = claim_pool claim is
-        by (LoadSeen why) is = plain_pool (LoadSeen why) is tt (λ j. tt)
-        by At is = plain_pool At is tt (λ j. tt)
-        by (InList k) is = plain_pool (InList k) is tt (λ j. tt)
-        by (Retires retirement go) is = plain_pool (Retires retirement go) is tt (λ j. tt)
-        by Restarts is = plain_pool Restarts is tt (λ j. tt)
-        by (Clears next) is = plain_pool (Clears next) is tt (λ j. tt)
-        by (Zeroes k field) is = plain_pool (Zeroes k field) is tt (λ j. tt)
+          of : (routine : Routine) → later.routine ≡ routine → ClaimsFit setting.sizes.slots (after_access m a) v' routine → Fits setting.sizes.slots (after_access m a) v' (standing_of routine)
+          of (Claims claim) is w = w
+          of (Retires retirement go) is w = below retirement go is
+          of Idle is w = tt
+          of (LoadSeen why) is w = tt
+          of At is w = tt
+          of (InList k) is w = tt
+          of Restarts is w = tt
+          of (Clears next) is w = tt
+          of (Zeroes k field) is w = tt
+
+        pool_then : IsCounted (length slots') (set state.entries c (after target setting e found)) → Pool target setting (stepped_state state c e a) slots' v'
+        pool_then count = record {
+          untouched = untouched_then;
+          past = adv.past;
+          ahead = adv.ahead;
+          words = subst (λ (w : Word → ℕ). IsOrdered setting.sizes setting.nodes setting.first w v') (sym later_seen) adv.words;
+          fits = λ d f got. subst (λ (w : Word → ℕ). Fits setting.sizes.slots w v' (standing_of f.routine)) (sym later_seen) (⊎_elim
+              (λ (t : (d ≡ c) × (f ≡ after target setting e found)). subst (λ (x : Entry). Fits setting.sizes.slots (after_access m a) v' (standing_of x.routine)) (sym t.1) own_fits)
+              (λ (t : slice_get state.entries d ≡ Some f). fits_later setting.sizes setting.nodes setting.first m (after_access m a) v v' (standing_of f.routine) pool.words adv.moves (pool.fits d f t))
+              (set_got state.entries c d (after target setting e found) f got));
+          callers = λ d f got. ⊎_elim
+              (λ (t : (d ≡ c) × (f ≡ after target setting e found)). subst (CallerPool setting slots') (sym t.1) (more (after target setting e found) (caller_step target setting slots e found busy mine touches)))
+              (λ (t : slice_get state.entries d ≡ Some f). more f (pool.callers d f t))
+              (set_got state.entries c d (after target setting e found) f got);
+          count = count;
+        }
+
+      counts : (b : Bool) → takes_in e.routine (m (word_of a)) ≡ b → (after target setting e found).counts.claims ≡ count_after b e.counts.claims
+      counts b is = counts_after target setting e found busy mine.before ∙ ap (λ (x : Bool). count_after x e.counts.claims) (ap (takes_in e.routine) (sym found_seen) ∙ is)
+
+      pub step_pool : IsPooled target setting (stepped_state state c e a)
+      step_pool = of advances where
+        of : AdvancesBy setting m slots v e a → IsPooled target setting (stepped_state state c e a)
+        of (inl kept) = record {
+          slots = slots;
+          frontier = v;
+          pool = pool_then slots v kept.1 (λ f p. p) (counts_same (length slots) state.entries c e (after target setting e found) there (counts false kept.0) pool.count);
+        }
+        of (inr took) = record {
+          slots = took.1 ∷ slots;
+          frontier = took.2;
+          pool = pool_then (took.1 ∷ slots) took.2 took.3 (λ f p. caller_more setting slots took.1 f p) (counts_more (length slots) state.entries c e (after target setting e found) there (counts true took.0) pool.count);
+        }
 
   -- a call is taken
-  take_pool : (state : CoreState) (c : ℕ) (call : Call) (e : Entry) (slots : List ℕ) → slice_get state.entries c ≡ Some e → Pool target setting state slots
-      → Pool target setting (record state { entries = set state.entries c (taken call e) }) slots
-  take_pool state c call e slots there pool = record {
+  take_pool : (state : CoreState) (c : ℕ) (call : Call) (e : Entry) (slots : List ℕ) (v : ℕ) → slice_get state.entries c ≡ Some e → Pool target setting state slots v
+      → Pool target setting (record state { entries = set state.entries c (taken call e) }) slots v
+  take_pool state c call e slots v there pool = record {
     untouched = λ j u. take_untouched target setting state c call e j there (pool.untouched j u);
+    past = pool.past;
+    ahead = pool.ahead;
+    words = pool.words;
+    fits = λ d f got. ⊎_elim
+        (λ (t : (d ≡ c) × (f ≡ taken call e)). subst (λ (x : Entry). Fits setting.sizes.slots (seen setting.sizes state.words) v (standing_of x.routine)) (sym t.1) tt)
+        (λ (t : slice_get state.entries d ≡ Some f). pool.fits d f t)
+        (set_got state.entries c d (taken call e) f got);
     callers = λ d f got. ⊎_elim
-        (λ (t : (d ≡ c) × (f ≡ taken call e)). subst (CallerPool setting slots) (sym t.1) (record { before = tt; touched = tt; full = (pool.callers c e there).full }))
+        (λ (t : (d ≡ c) × (f ≡ taken call e)). subst (CallerPool setting slots) (sym t.1) (record { before = tt; full = (pool.callers c e there).full }))
         (λ (t : slice_get state.entries d ≡ Some f). pool.callers d f t)
         (set_got state.entries c d (taken call e) f got);
     count = counts_same (length slots) state.entries c e (taken call e) there refl pool.count;
@@ -354,7 +662,7 @@ module _ (target : Target) (setting : Setting) (sane : Methods target) (some : S
   event_pool state later (Takes c call) sound pooled is = of (slice_get state.entries c) refl is where
     by : (e : Entry) → slice_get state.entries c ≡ Some e → (b : Bool)
         → (if b then Some (record state { entries = slice_set state.entries c (taken call e) }) else None) ≡ Some later → IsPooled target setting later
-    by e at true became = subst (IsPooled target setting) (some_is _ later became) (pooled.0, take_pool state c call e pooled.0 at pooled.1)
+    by e at true became = subst (IsPooled target setting) (some_is _ later became) (record { slots = pooled.slots; frontier = pooled.frontier; pool = take_pool state c call e pooled.slots pooled.frontier at pooled.pool })
     by e at false became = absurd (let z : None ≡ Some later = became in cc)
 
     of : (o : Option Entry) → slice_get state.entries c ≡ o → event_by target setting state (Takes c call) o ≡ Some later → IsPooled target setting later
@@ -365,7 +673,7 @@ module _ (target : Target) (setting : Setting) (sane : Methods target) (some : S
         → stepped target setting state c e o ≡ Some later → IsPooled target setting later
     by e at None want i idle became = absurd (let z : None ≡ Some later = became in cc)
     by e at (Some a) want true idle became = absurd (idle_wants target e a idle want)
-    by e at (Some a) want false idle became = subst (IsPooled target setting) (some_is _ later became) (step_pool state c e a sound at idle want pooled.0 pooled.1)
+    by e at (Some a) want false idle became = subst (IsPooled target setting) (some_is _ later became) (step_pool state c e a sound at idle want pooled.slots pooled.frontier pooled.pool)
 
     of : (o : Option Entry) → slice_get state.entries c ≡ o → event_by target setting state (Steps c) o ≡ Some later → IsPooled target setting later
     of None at became = absurd (let z : None ≡ Some later = became in cc)

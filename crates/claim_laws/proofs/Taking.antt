@@ -82,7 +82,7 @@ module _ (target : Target) (text : Text) (setting : Setting) (runs : IsRunnable 
   -- a caller's step
   keeps : StepKeeps target setting (HasRested target) (IsRunning target setting)
   keeps past state k d a steps step own was =
-      by (call_step target setting (methods target text runs) few d found steps belongs belongs_later step.busy (((reached_pool target text setting runs own_setting fits state reached).1.callers k d step.there).before) again was.stands on)
+      by (call_step target setting (methods target text runs) few d found steps belongs belongs_later step.busy (((reached_pool target text setting runs own_setting fits state reached).pool.callers k d step.there).before) again was.stands on)
     where
       found : ℕ
       found = found_by setting state a

@@ -1,6 +1,6 @@
 -- The slots that a run claims: what each step adds to its caller's count, and that all other slots stay untouched.
 use Rattle.std.proofs.Common.{◌≡◌, ◌≢◌, ℕ, ◌+◌, ◌-◌, ◌^◌, ◌≤◌, ◌<◌, ◌==◌, ◌&&◌, ◌||◌, eq-eqb, ne_eqb, Bool, true, false, List, [], ◌∷◌, ◌++◌, length, set, Option, Some, None, refl, sym, ◌∙◌, ap, subst, arith, if◌then◌else◌}
-use Rattle.std.specs.Prelude.{slice_get, slice_set, flat_map, nat_lt, min}
+use Rattle.std.specs.Prelude.{slice_get, slice_set, flat_map, min}
 use Rattle.std.proofs.lemmas.List.{append-nil, length-append}
 use Rattle.std.proofs.lemmas.Bool.Decides.{nat_tests}
 use mathlib.Core.Logic.{dite}
@@ -8,85 +8,35 @@ use native.Mathlib.Decide.{ℕ_discrete}
 use Rattle.norm_lang.specs.declared.text.Text.{Text}
 use Rattle.target_code.specs.declared.target.Target.{Target}
 use Rattle.target_runs.specs.Runnable.{IsRunnable}
-use Rattle.oa_words.specs.declared.packed.Kind.{Kind}
-use Rattle.oa_words.specs.declared.packed.Kind.TheVariants as kinds
 use Rattle.oa_words.specs.Words.{Status, in_row}
-use Rattle.oa_words.specs.Packed.{StatusParts, status_parts, status_word}
+use Rattle.oa_words.specs.Packed.{head_word}
 use Rattle.guard_words.specs.Guards.{has_slot}
-use Rattle.phase_pools.specs.declared.access.ClaimEnd.{ClaimEnd}
-use Rattle.phase_pools.specs.declared.access.ClaimEnd.TheVariants as ends
-use Rattle.phase_pools.specs.declared.access.SweepEnd.{SweepEnd}
-use Rattle.phase_pools.specs.declared.access.SweepEnd.TheVariants as swept
 use Rattle.phase_pools.specs.declared.stages.ClaimStage.{ClaimStage}
 use Rattle.phase_pools.specs.declared.stages.ClaimStage.TheVariants as claims
 use Rattle.phase_pools.specs.Accesses.{WordAccess}
-use Rattle.phase_pools.specs.Pools.{Sweep, sweep_begun, sweep_accepts, Claim, ClaimTurn, claim_accepts, claim_accepts_at, claim_goes, claim_ends, look_on, look_ended, look_kind, look_read, sweep_ended}
+use Rattle.phase_pools.specs.Pools.{takes_at}
 use Rattle.caller_parts.specs.declared.routine.Routine.{Routine}
 use Rattle.caller_parts.specs.declared.routine.Routine.TheVariants.{Idle, LoadSeen, At, InList, Retires, Restarts, Clears, Claims, Zeroes}
 use Rattle.caller_parts.specs.Settings.{Setting, Fits, IsSetting}
 use Rattle.caller_steps.specs.Entries.{Entry, is_idle, one_more}
 use Rattle.caller_parts.specs.Calls.{is_call}
-use Rattle.caller_steps.specs.Signs.{Moved}
 use Rattle.caller_steps.specs.Wants.{wants}
-use Rattle.caller_steps.specs.After.{after, taken, counted, claim_on}
+use Rattle.caller_steps.specs.After.{after, taken}
 use Rattle.core_runs.specs.Machine.{CoreState, CoreEvent, Takes, Steps, Reachable, core_event, core_run, core_start, run_on, event_by, found_by, made, stepped}
 use Rattle.core_runs.proofs.Reaching.{some_is, starts, reaches, run_more, induct_reached}
 use Rattle.core_runs.proofs.Keeping.{idle_wants, got_same, got_other, run_count}
 use Rattle.caller_laws.specs.Laws.{ForRuns}
 use Rattle.caller_laws.proofs.Methods.{setting_sane}
-use Rattle.caller_laws.proofs.Equations.{after_is, moved_claims}
 use Rattle.caller_laws.proofs.Together.{methods}
 use Rattle.core_sound.proofs.StartSound.{idle_at}
 use Rattle.core_sound.proofs.Reached.{states_are_sound}
 use Rattle.claim_laws.specs.CallSteps.{steps_wanted, steps_by}
 use Rattle.claim_laws.specs.Untouched.{IsUntouched}
 use Rattle.claim_laws.specs.Claimed.{taken_at, taken_in, slots_taken, event_claims, claims_on, events_claims, claimed_by, ClaimsAreCounted, UnclaimedIsUntouched}
-use Rattle.claim_laws.proofs.Onward.{IsBefore, IsNoClaim, after_answers}
-use Rattle.claim_laws.proofs.Meeting.{ClaimsOther}
-use Rattle.claim_laws.proofs.Pooling.{take_untouched, untouched_stays}
+use Rattle.claim_laws.proofs.Onward.{IsBefore}
+use Rattle.claim_laws.proofs.Meeting.{ClaimsOther, TakesOther}
+use Rattle.claim_laws.proofs.Pooling.{takes_in, count_after, counts_after, take_untouched, untouched_stays}
 use Rattle.claim_laws.proofs.Filling.{start_untouched, reached_pool}
-
--- ---- a step of a claim
-
--- the slot with which it ends is the one that it took
-abbrev Tells : List ℕ → Option ClaimEnd → Type 0
-Tells slots None = slots ≡ []
-Tells slots (Some (ends.Claimed k)) = slots ≡ k ∷ []
-Tells slots (Some ends.Full) = slots ≡ []
-Tells slots (Some (ends.PhasesOver p)) = slots ≡ []
-
-module _ (setting : Setting) (claim : Claim) where
-  look_tells : (k : ℕ) → Tells [] (look_on setting.sizes claim k).ended
-  look_tells k = of (nat_lt k setting.sizes.slots) where
-    last : (b : Bool) → Tells [] (if b then claim_ends claim ends.Full else record { claim = record claim { stage = claims.Sweeps; sweep = sweep_begun }; ended = None }).ended
-    last true = refl
-    last false = refl
-
-    of : (b : Bool) → Tells [] (if b then claim_goes claim (claims.ReadStatus (k + 1)) else look_ended claim).ended
-    of true = refl
-    of false = last (claim.sweeps == 2)
-
-  kind_tells : (k q : ℕ) (kind : Kind) → Tells [] (look_kind setting.sizes claim k q kind).ended
-  kind_tells k q kinds.Ready = refl
-  kind_tells k q kinds.Used = look_tells k
-  kind_tells k q kinds.Retired = look_tells k
-
-  read_tells : (k : ℕ) (o : Option StatusParts) → Tells [] (look_read setting.sizes claim k o).ended
-  read_tells k None = look_tells k
-  read_tells k (Some p) = kind_tells k p.phase p.kind
-
-  swept_tells : (next : Sweep) (end : Option SweepEnd) → Tells [] (sweep_ended setting.sizes claim next end).ended
-  swept_tells next None = refl
-  swept_tells next (Some swept.Swept) = refl
-  swept_tells next (Some (swept.PhasesOver p)) = refl
-
-  claim_tells : (word : ℕ) (stage : ClaimStage) → Tells (taken_at stage word) (claim_accepts_at setting.sizes setting.last claim word stage).ended
-  claim_tells word (claims.ReadStatus k) = read_tells k (status_parts word)
-  claim_tells word (claims.Take k q) = of (word == status_word q kinds.Ready) where
-    of : (b : Bool) → Tells (if b then k ∷ [] else []) (if b then claim_ends claim (ends.Claimed k) else look_on setting.sizes claim k).ended
-    of true = refl
-    of false = look_tells k
-  claim_tells word claims.Sweeps = let turn = sweep_accepts setting.sizes setting.last claim.sweep word in swept_tells turn.sweep turn.ended
 
 -- ---- counts
 
@@ -103,37 +53,32 @@ stays_count n le = omega (arith, le)
 one_more_grows : (n : ℕ) → IsCount n → Grows n 1 (one_more n)
 one_more_grows n le = omega (arith, le)
 
-module _ (target : Target) (setting : Setting) where
-  by_end : (next : Claim) (o : Option ClaimEnd) (slots : List ℕ) (e : Entry) → IsCount e.counts.claims → Tells slots o → Grows e.counts.claims (length slots) (claim_on target next o e).entry.counts.claims
-  by_end next None slots e le tells = subst (λ (l : List ℕ). Grows e.counts.claims (length l) e.counts.claims) (sym tells) (stays_count e.counts.claims le)
-  by_end next (Some (ends.Claimed k)) slots e le tells = subst (λ (l : List ℕ). Grows e.counts.claims (length l) (one_more e.counts.claims)) (sym tells) (one_more_grows e.counts.claims le)
-  by_end next (Some ends.Full) slots e le tells = subst (λ (l : List ℕ). Grows e.counts.claims (length l) e.counts.claims) (sym tells) (stays_count e.counts.claims le)
-  by_end next (Some (ends.PhasesOver p)) slots e le tells = subst (λ (l : List ℕ). Grows e.counts.claims (length l) e.counts.claims) (sym tells) (stays_count e.counts.claims le)
+-- a claim that takes a slot counts one more
+taken_counts : (routine : Routine) (word n : ℕ) → IsCount n → Grows n (length (taken_in routine word)) (count_after (takes_in routine word) n)
+taken_counts (Claims claim) word n le = of claim.stage where
+  of : (stage : ClaimStage) → Grows n (length (taken_at stage word)) (count_after (takes_at stage word) n)
+  of claims.ReadHead = stays_count n le
+  of (claims.ReadLink q t) = stays_count n le
+  of (claims.Take q t next) = by (word == head_word q t) where
+    by : (b : Bool) → Grows n (length (if b then t ∷ [] else [])) (count_after b n)
+    by true = one_more_grows n le
+    by false = stays_count n le
+  of (claims.StoreUsed q t) = stays_count n le
+  of claims.Sweeps = stays_count n le
+taken_counts Idle word n le = stays_count n le
+taken_counts (LoadSeen why) word n le = stays_count n le
+taken_counts At word n le = stays_count n le
+taken_counts (InList k) word n le = stays_count n le
+taken_counts (Retires retirement go) word n le = stays_count n le
+taken_counts Restarts word n le = stays_count n le
+taken_counts (Clears next) word n le = stays_count n le
+taken_counts (Zeroes k field) word n le = stays_count n le
 
+module _ (target : Target) (setting : Setting) where
   -- each step counts the slot that it took
   step_grows : (e : Entry) (word : ℕ) → is_idle e.routine ≡ false → IsBefore e.routine → IsCount e.counts.claims → Grows e.counts.claims (length (taken_in e.routine word)) (after target setting e word).counts.claims
-  step_grows e word busy before le = of e.routine refl where
-    plain : (routine : Routine) → e.routine ≡ routine → IsNoClaim routine → taken_in routine word ≡ [] → Grows e.counts.claims (length (taken_in e.routine word)) (after target setting e word).counts.claims
-    plain routine is other none =
-        let same : (after target setting e word).counts.claims ≡ e.counts.claims = (after_answers target setting e word before (subst IsNoClaim (sym is) other)).0 in
-        let zero_taken : length (taken_in e.routine word) ≡ 0 = ap (λ (r : Routine). length (taken_in r word)) is ∙ ap length none in
-        omega (arith, same, zero_taken, le)
-
-    of : (routine : Routine) → e.routine ≡ routine → Grows e.counts.claims (length (taken_in e.routine word)) (after target setting e word).counts.claims
-    of Idle is = absurd (let z : true ≡ false = sym (ap is_idle is) ∙ busy in cc)
-    of (Claims claim) is =
-        let turn : ClaimTurn = claim_accepts setting.sizes setting.last claim word in
-        let later_is : after target setting e word ≡ (claim_on target turn.claim turn.ended (counted e)).entry = after_is target setting e word ∙ ap (λ (m : Moved). m.entry) (moved_claims target setting e word claim is) in
-        subst (λ (r : Routine). Grows e.counts.claims (length (taken_in r word)) (after target setting e word).counts.claims) (sym is)
-        (subst (λ (later : Entry). Grows e.counts.claims (length (taken_at claim.stage word)) later.counts.claims) (sym later_is)
-        (by_end turn.claim turn.ended (taken_at claim.stage word) (counted e) le (claim_tells setting claim word claim.stage)))
-    of (LoadSeen why) is = plain (LoadSeen why) is tt refl
-    of At is = plain At is tt refl
-    of (InList k) is = plain (InList k) is tt refl
-    of (Retires retirement go) is = plain (Retires retirement go) is tt refl
-    of Restarts is = plain Restarts is tt refl
-    of (Clears next) is = plain (Clears next) is tt refl
-    of (Zeroes k field) is = plain (Zeroes k field) is tt refl
+  step_grows e word busy before le =
+      subst (λ (n : ℕ). Grows e.counts.claims (length (taken_in e.routine word)) n) (sym (counts_after target setting e word busy before)) (taken_counts e.routine word e.counts.claims le)
 
   -- the caller's entry in a state, with so many more claims than before
   abbrev Tallies : CoreState → ℕ → ℕ → ℕ → Type 0
@@ -205,7 +150,7 @@ module _ (target : Target) (text : Text) (setting : Setting) (runs : IsRunnable 
   counts_within state reached = induct_reached target setting (λ (s : CoreState). (k : ℕ) (d : Entry) → slice_get s.entries k ≡ Some d → IsCount d.counts.claims)
       (λ k d is. let there = idle_at 0 setting.sizes.callers k d is in subst (λ (x : Entry). IsCount x.counts.claims) (sym there.1) (omega arith))
       (λ now later event was counts goes k d is.
-      let known : Known now = (λ i f at. (((reached_pool target text setting runs own fits now was).1.callers i f at).before, counts i f at)) in
+      let known : Known now = (λ i f at. (((reached_pool target text setting runs own fits now was).pool.callers i f at).before, counts i f at)) in
       let first = run_count target setting (event ∷ []) now later k d (run_more target setting [] event now now later refl goes) is in
       let tallies = event_tallies target setting now later event k first.0 known goes first.1 in
       let same : tallies.0 ≡ d = (let at = tallies.1 in cc) in
@@ -213,7 +158,7 @@ module _ (target : Target) (text : Text) (setting : Setting) (runs : IsRunnable 
       subst (λ (x : Entry). IsCount x.counts.claims) same (omega (arith, grows))) state reached
 
   known_in : (state : CoreState) → Reachable target setting state → Known state
-  known_in state reached k d at = (((reached_pool target text setting runs own fits state reached).1.callers k d at).before, counts_within state reached k d at)
+  known_in state reached k d at = (((reached_pool target text setting runs own fits state reached).pool.callers k d at).before, counts_within state reached k d at)
 
   grows_on : (a b c m n : ℕ) → Grows a m b → Grows b n c → Grows a (m + n) c
   grows_on a b c m n first next = omega (arith, first, next)
@@ -251,17 +196,17 @@ module _ (target : Target) (text : Text) (setting : Setting) (runs : IsRunnable 
 
   -- ---- a slot that isn't claimed
 
-  not_claimed : (j word : ℕ) (routine : Routine) → has_slot (taken_in routine word) j ≡ false → ClaimsOther setting j word routine
-  not_claimed j word (Claims claim) none = λ ended. taken (claim_accepts setting.sizes setting.last claim word).ended ended (claim_tells setting claim word claim.stage) where
-    has : (b : Bool) → b ≡ true → (b || false) ≡ true
-    has true is = refl
-    has false is = is
-
-    taken : (o : Option ClaimEnd) → o ≡ Some (ends.Claimed j) → Tells (taken_at claim.stage word) o → ⊥
-    taken o is tells =
-        let slots : taken_at claim.stage word ≡ j ∷ [] = subst (Tells (taken_at claim.stage word)) is tells in
-        let own : (j == j) ≡ true = grind (arith, nat_tests) in
-        let z : false ≡ true = sym none ∙ (ap (λ (l : List ℕ). has_slot l j) slots ∙ has (j == j) own) in cc
+  not_claimed : (j word : ℕ) (routine : Routine) → has_slot (taken_in routine word) j ≡ false → ClaimsOther j word routine
+  not_claimed j word (Claims claim) none = of claim.stage none where
+    of : (stage : ClaimStage) → has_slot (taken_at stage word) j ≡ false → TakesOther j stage word
+    of claims.ReadHead none = tt
+    of (claims.ReadLink q t) none = tt
+    of (claims.Take q t next) none = by (word == head_word q t) none where
+      by : (b : Bool) → has_slot (if b then t ∷ [] else []) j ≡ false → b ≡ true → t ≢ j
+      by true none took same = let own : (t == j) ≡ true = grind (arith, nat_tests) in let z : true ≡ false = sym (ap (λ (d : Bool). d || false) own) ∙ none in cc
+      by false none took same = let z : false ≡ true = took in cc
+    of (claims.StoreUsed q t) none = tt
+    of claims.Sweeps none = tt
   not_claimed j word Idle none = tt
   not_claimed j word (LoadSeen why) none = tt
   not_claimed j word At none = tt

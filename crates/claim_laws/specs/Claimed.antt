@@ -1,8 +1,7 @@
 -- The slots that callers claimed in a run.
 use Rattle.std.specs.Prelude.{◌≡◌, ℕ, ◌-◌, ◌^◌, ◌<◌, ◌≤◌, min, false, List, [], ◌∷◌, ◌++◌, length, flat_map, Option, Some, None, ◌==◌, if◌then◌else◌, slice_get}
 use Rattle.target_code.specs.declared.target.Target.{Target}
-use Rattle.oa_words.specs.declared.packed.Kind.TheVariants as kinds
-use Rattle.oa_words.specs.Packed.{status_word}
+use Rattle.oa_words.specs.Packed.{head_word}
 use Rattle.guard_words.specs.Guards.{has_slot}
 use Rattle.phase_pools.specs.declared.stages.ClaimStage.{ClaimStage}
 use Rattle.phase_pools.specs.declared.stages.ClaimStage.TheVariants as claims
@@ -14,9 +13,9 @@ use Rattle.core_runs.specs.Machine.{CoreState, CoreEvent, Takes, Steps, core_eve
 use Rattle.claim_laws.specs.CallSteps.{StepMade, steps_by}
 use Rattle.claim_laws.specs.Untouched.{IsUntouched}
 
--- a claim's exchange took its slot where it found the status ready that it expected
+-- a claim's exchange took the slot on top where it found the head that it expected
 abbrev pub taken_at : ClaimStage → ℕ → List ℕ
-taken_at (claims.Take j q) found = if found == status_word q kinds.Ready then j ∷ [] else []
+taken_at (claims.Take q t next) found = if found == head_word q t then t ∷ [] else []
 taken_at _ found = []
 
 abbrev pub taken_in : Routine → ℕ → List ℕ
@@ -52,7 +51,7 @@ pub record ClaimsAreCounted (target : Target) (setting : Setting) : Type 0 where
   pub each : (events : List CoreEvent) (state : CoreState) (c : ℕ) (e : Entry) → core_run target setting events (core_start target setting) ≡ Some state → slice_get state.entries c ≡ Some e
       → e.counts.claims ≡ min (length (claimed_by target setting events c)) (2 ^ 64 - 1)
 
--- a slot that held no initial node and was never claimed is ready, with the first phase, and nothing names it
+-- a slot that held no initial node and was never claimed is ready, with the first phase, and only the chain names it
 pub record UnclaimedIsUntouched (target : Target) (setting : Setting) : Type 0 where
   pub each : (events : List CoreEvent) (state : CoreState) (j : ℕ) → core_run target setting events (core_start target setting) ≡ Some state → setting.nodes < j → j ≤ setting.sizes.slots
       → ((c : ℕ) → has_slot (claimed_by target setting events c) j ≡ false) → IsUntouched target setting state j

@@ -1,4 +1,4 @@
--- That nothing in a run names a slot.
+-- That nothing in a run names a slot but the chain of ready slots.
 use Rattle.std.specs.Prelude.{◌≡◌, ◌≢◌, ℕ, true, Option, Some, None, slice_get, slice_index, All}
 use Rattle.norm_lang.specs.declared.text.FieldKind.{FieldKind}
 use Rattle.norm_lang.specs.declared.text.FieldKind.TheVariants as kinds
@@ -8,9 +8,11 @@ use Rattle.norm_lang.specs.Registers.{reference_in}
 use Rattle.norm_lang.specs.InstructionRules.{field_kind, root_kind}
 use Rattle.target_code.specs.declared.target.Target.{Target}
 use Rattle.oa_words.specs.declared.packed.Kind.TheVariants as statuses
-use Rattle.oa_words.specs.Words.{Word, Phase, Place, Warning, Hazard, Status, FieldOf, Cell, in_row}
+use Rattle.oa_words.specs.Words.{Word, Phase, Place, Warning, Hazard, Status, FieldOf, Cell, Head, Link, in_row}
 use Rattle.oa_words.specs.Packed.{slot_part, status_word}
 use Rattle.guard_words.specs.Guards.{guard_at}
+use Rattle.phase_pools.specs.declared.stages.ClaimStage.{ClaimStage}
+use Rattle.phase_pools.specs.declared.stages.ClaimStage.TheVariants as stages
 use Rattle.caller_parts.specs.declared.routine.Routine.{Routine}
 use Rattle.caller_parts.specs.declared.routine.Routine.TheVariants.{Retires, Claims}
 use Rattle.caller_parts.specs.Settings.{Setting}
@@ -23,7 +25,7 @@ ValueAvoids j None word = Unit {0}
 ValueAvoids j (Some kinds.Number) word = Unit {0}
 ValueAvoids j (Some kinds.Reference) word = slot_part word ≢ j
 
--- a word of the row: a hazard, a field or a root that names another slot or null
+-- a word of the row: a hazard, a field or a root that names another slot or null. The head and the links may name it
 abbrev pub WordAvoids : Target → ℕ → Word → ℕ → Type 0
 WordAvoids target j Phase word = Unit {0}
 WordAvoids target j (Place c) word = Unit {0}
@@ -32,14 +34,24 @@ WordAvoids target j (Hazard c r) word = word ≢ j
 WordAvoids target j (Status i) word = Unit {0}
 WordAvoids target j (FieldOf i g) word = ValueAvoids j (field_kind target.fields g) word
 WordAvoids target j (Cell x) word = ValueAvoids j (root_kind target.roots x) word
+WordAvoids target j Head word = Unit {0}
+WordAvoids target j (Link i) word = Unit {0}
 
 abbrev pub RegistersAvoid : ℕ → Registers → Type 0
 RegistersAvoid j registers = (r : ℕ) → (reference_in registers (Ref r)).node ≢ j
 
--- what is retired is another slot, and so is each that a sweep has gathered
+-- the slot that a claim has taken is another
+abbrev pub StageAvoids : ℕ → ClaimStage → Type 0
+StageAvoids j stages.ReadHead = Unit {0}
+StageAvoids j (stages.ReadLink q t) = Unit {0}
+StageAvoids j (stages.Take q t next) = Unit {0}
+StageAvoids j (stages.StoreUsed q t) = t ≢ j
+StageAvoids j stages.Sweeps = Unit {0}
+
+-- what is retired is another slot, and so are the one that a claim has taken, and each that a sweep has gathered
 abbrev pub RoutineAvoids : ℕ → Routine → Type 0
 RoutineAvoids j (Retires retirement go) = retirement.slot ≢ j
-RoutineAvoids j (Claims claim) = All (λ slot. slot ≢ j) claim.sweep.gathered
+RoutineAvoids j (Claims claim) = All (λ slot. slot ≢ j) claim.sweep.gathered × StageAvoids j claim.stage
 RoutineAvoids j _ = Unit {0}
 
 -- nothing that a caller holds names the slot
@@ -50,7 +62,7 @@ pub record EntryAvoids (j : ℕ) (e : Entry) : Type 0 where
   pub cradles : (k : ℕ) → slice_index e.cradles k ≢ j
   pub routine : RoutineAvoids j e.routine
 
--- a slot is ready since the start, and nothing names it
+-- a slot is ready since the start, and only the chain names it
 pub record IsUntouched (target : Target) (setting : Setting) (state : CoreState) (j : ℕ) : Type 0 where
   pub status : word_at setting state (Status j) ≡ status_word setting.first statuses.Ready
   pub words : (w : Word) → in_row setting.sizes w ≡ true → WordAvoids target j w (word_at setting state w)

@@ -21,7 +21,7 @@ pub fn full_takes_claims()
 {}
 
 /// Of the same: each caller has counted the slots that it claimed; and a slot that held no initial node and was never claimed
-/// is ready since the start, and no register, guard, cradle, field, root or routine names it.
+/// is ready since the start, and no register, guard, cradle, field, root or routine names it: only the chain does.
 pub fn slots_are_claimed()
     ensures counted { ForRuns ClaimsAreCounted }
     ensures untouched { ForRuns UnclaimedIsUntouched }

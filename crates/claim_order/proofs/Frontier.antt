@@ -3,25 +3,26 @@ use Rattle.std.proofs.Common.{ℕ, ◌≡◌, ◌≢◌, ◌==◌, ◌+◌, ◌-
 use Rattle.std.specs.Prelude.{nat_le, nat_lt}
 use Rattle.std.proofs.lemmas.Bool.{cases_eq, cases_lt}
 use Rattle.std.proofs.lemmas.Bool.Decides.{nat_tests}
-use Rattle.chain_words.specs.declared.packed.Kind.{Kind}
-use Rattle.chain_words.specs.declared.packed.Kind.TheVariants as kinds
-use Rattle.chain_words.specs.Words.{Word, Phase, Warning, Hazard, Status, Head, Link, Sizes}
-use Rattle.chain_words.specs.Packed.{StatusParts, status_word, status_parts, head_word, head_parts}
-use Rattle.chain_words.specs.Starts.{Beginning, slot_after, start_link, start_word}
+use Rattle.oa_words.specs.declared.packed.Kind.{Kind}
+use Rattle.oa_words.specs.declared.packed.Kind.TheVariants as kinds
+use Rattle.oa_words.specs.Words.{Word, Phase, Warning, Hazard, Status, Head, Link, Sizes}
+use Rattle.oa_words.specs.Packed.{StatusParts, status_word, status_parts, head_word, head_parts}
+use Rattle.oa_words.specs.Starts.{Beginning, slot_after, start_link, start_word}
 use Rattle.guard_words.specs.Guards.{has_slot}
-use Rattle.chain_pools.specs.declared.access.ClaimEnd.{ClaimEnd}
-use Rattle.chain_pools.specs.declared.access.ClaimEnd.TheVariants as ends
-use Rattle.chain_pools.specs.declared.access.SweepEnd.{SweepEnd}
-use Rattle.chain_pools.specs.declared.access.SweepEnd.TheVariants as swept
-use Rattle.chain_pools.specs.declared.stages.SweepStage.{SweepStage}
-use Rattle.chain_pools.specs.declared.stages.SweepStage.TheVariants as sweeps
-use Rattle.chain_pools.specs.declared.stages.ClaimStage.{ClaimStage}
-use Rattle.chain_pools.specs.declared.stages.ClaimStage.TheVariants as claims
-use Rattle.chain_pools.specs.declared.stages.RetireStage.{RetireStage}
-use Rattle.chain_pools.specs.declared.stages.RetireStage.TheVariants as retires
-use Rattle.chain_pools.specs.Accesses.{word_of}
-use Rattle.chain_pools.specs.Pools.{Sweep, sweep_begun, sweep_wants_at, sweep_accepts_at, sweep_goes, sweep_ends, sweep_on, phase_read, phase_raised, warned, hazard_next, hazard_read, warn_next, freeing, status_read, Claim, claim_begun, claim_wants, claim_accepts, claim_wants_at, claim_accepts_at, claim_goes, claim_ends, look_ended, look_begun, sweep_ended, retire_begun, retire_wants, retire_accepts, retire_wants_at, retire_accepts_at}
-use Rattle.chain_laws.specs.Memories.{store, put, after_access}
+use Rattle.phase_pools.specs.declared.access.ClaimEnd.{ClaimEnd}
+use Rattle.phase_pools.specs.declared.access.ClaimEnd.TheVariants as ends
+use Rattle.phase_pools.specs.declared.access.SweepEnd.{SweepEnd}
+use Rattle.phase_pools.specs.declared.access.SweepEnd.TheVariants as swept
+use Rattle.phase_pools.specs.declared.stages.SweepStage.{SweepStage}
+use Rattle.phase_pools.specs.declared.stages.SweepStage.TheVariants as sweeps
+use Rattle.phase_pools.specs.declared.stages.ClaimStage.{ClaimStage}
+use Rattle.phase_pools.specs.declared.stages.ClaimStage.TheVariants as claims
+use Rattle.phase_pools.specs.declared.stages.RetireStage.{RetireStage}
+use Rattle.phase_pools.specs.declared.stages.RetireStage.TheVariants as retires
+use Rattle.phase_pools.specs.Accesses.{word_of}
+use Rattle.phase_pools.specs.Pools.{Sweep, sweep_begun, sweep_wants_at, sweep_accepts_at, sweep_goes, sweep_ends, sweep_on, phase_read, phase_raised, warned, hazard_next, hazard_read, warn_next, freeing, status_read, Claim, claim_begun, claim_wants, claim_accepts, claim_wants_at, claim_accepts_at, claim_goes, claim_ends, look_ended, look_begun, sweep_ended, retire_begun, retire_wants, retire_accepts, retire_wants_at, retire_accepts_at}
+use Rattle.oa_words.specs.Memories.{store}
+use Rattle.chain_laws.specs.Memories.{put, after_access}
 use Rattle.chain_laws.specs.Chains.{top}
 use Rattle.chain_laws.specs.Machine.{Standing, Elsewhere, Claims, Retires, slot_of, PoolEvent, BeginsClaim, BeginsRetirement, Steps, Writes, is_other, claim_left, retirement_left}
 use Rattle.chain_laws.specs.Standing.{slot_of_sweep, slot_of_claim}
@@ -91,7 +92,7 @@ ordered_with n nodes first m m' v o good links statuses =
       stay,
     )
 
-ordered_same : (n : Sizes) (nodes first : ℕ) (m m' : Word → ℕ) (v : ℕ) → Same m m' → IsOrdered n nodes first m v → IsOrdered n nodes first m' v × Stays n.slots v m m'
+pub ordered_same : (n : Sizes) (nodes first : ℕ) (m m' : Word → ℕ) (v : ℕ) → Same m m' → IsOrdered n nodes first m v → IsOrdered n nodes first m' v × Stays n.slots v m m'
 ordered_same n nodes first m m' v same o = ordered_with n nodes first m m' v o (subst (λ (w : ℕ). IsGood n.slots m v (w % 8192)) (sym same.head) o.top_good) (λ j. inl (same.link j)) (λ j. inl (same.status j))
 
 -- a status below the frontier changes
@@ -177,7 +178,7 @@ claim_stays slots v m m' sweep (claims.Take q t next) stay w = (w.0, good_stays 
 claim_stays slots v m m' sweep (claims.StoreUsed q t) stay w = w
 claim_stays slots v m m' sweep claims.Sweeps stay w = sweep_stays slots v m m' sweep stay w
 
-fits_stays : (slots v : ℕ) (m m' : Word → ℕ) (standing : Standing) → Stays slots v m m' → Fits slots m v standing → Fits slots m' v standing
+pub fits_stays : (slots v : ℕ) (m m' : Word → ℕ) (standing : Standing) → Stays slots v m m' → Fits slots m v standing → Fits slots m' v standing
 fits_stays slots v m m' Elsewhere stay w = tt
 fits_stays slots v m m' (Claims claim) stay w = claim_stays slots v m m' claim.sweep.stage claim.stage stay w
 fits_stays slots v m m' (Retires retirement) stay w = w
@@ -314,12 +315,12 @@ sweep_open n last nodes first m v sweep (sweeps.PushTop j q t) some most o w = o
 
 -- ---- claims
 
-abbrev ClaimOn : ℕ → (Word → ℕ) → ℕ → Claim → Option ClaimEnd → Type 0
+abbrev pub ClaimOn : ℕ → (Word → ℕ) → ℕ → Claim → Option ClaimEnd → Type 0
 ClaimOn slots m v claim None = ClaimFits slots m v claim.sweep.stage claim.stage
 ClaimOn slots m v claim (Some end) = Unit {0}
 
 -- the frontier stays, or moves on by one
-abbrev Moves : ℕ → (Word → ℕ) → (Word → ℕ) → ℕ → ℕ → Type 0
+abbrev pub Moves : ℕ → (Word → ℕ) → (Word → ℕ) → ℕ → ℕ → Type 0
 Moves slots m m' v v' = ((v' ≡ v) × Stays slots v m m') ⊎ ((v' ≡ v + 1) × (v ≤ slots) × ((w : ℕ) → m' (Link w) ≡ m (Link w)))
 
 -- what a step of a claim keeps
@@ -408,7 +409,7 @@ tested true o later is = (refl, is)
 tested false o later is = absurd (let z : None ≡ Some later = is in cc)
 
 -- the others, where the frontier stays or moves on
-fits_later : (n : Sizes) (nodes first : ℕ) (m m' : Word → ℕ) (v v' : ℕ) (standing : Standing) → IsOrdered n nodes first m v → Moves n.slots m m' v v' → Fits n.slots m v standing → Fits n.slots m' v' standing
+pub fits_later : (n : Sizes) (nodes first : ℕ) (m m' : Word → ℕ) (v v' : ℕ) (standing : Standing) → IsOrdered n nodes first m v → Moves n.slots m m' v v' → Fits n.slots m v standing → Fits n.slots m' v' standing
 fits_later n nodes first m m' v v' standing o (inl same) w = subst (λ (x : ℕ). Fits n.slots m' x standing) (sym same.0) (fits_stays n.slots v m m' standing same.1 w)
 fits_later n nodes first m m' v v' standing o (inr one) w = subst (λ (x : ℕ). Fits n.slots m' x standing) (sym one.0)
     (fits_stays n.slots (v + 1) m m' standing (λ j near. subst (λ (x : ℕ). IsNear n.slots (v + 1) x) (sym (one.2 j)) near) (fits_up n nodes first m v standing one.1 o w))
@@ -418,7 +419,7 @@ claim_stands slots m v claim None on = on
 claim_stands slots m v claim (Some end) on = tt
 
 -- a retirement below the frontier
-retire_open : (n : Sizes) (nodes first : ℕ) (m : Word → ℕ) (v j : ℕ) (stage : RetireStage) → j < v → IsOrdered n nodes first m v
+pub retire_open : (n : Sizes) (nodes first : ℕ) (m : Word → ℕ) (v j : ℕ) (stage : RetireStage) → j < v → IsOrdered n nodes first m v
     → (IsOrdered n nodes first (after_access m (retire_wants_at j stage)) v × Stays n.slots v m (after_access m (retire_wants_at j stage)))
     × Fits n.slots (after_access m (retire_wants_at j stage)) v (retirement_left (retire_accepts_at j (m (word_of (retire_wants_at j stage))) stage))
 retire_open n nodes first m v j retires.ReadPhase lt o = (ordered_same n nodes first m (store m Phase (m Phase)) v (same_loaded m Phase) o, lt)

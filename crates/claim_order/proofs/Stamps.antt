@@ -3,25 +3,26 @@ use Rattle.std.proofs.Common.{ℕ, ◌≡◌, ◌≢◌, ◌==◌, ◌+◌, ◌-
 use Rattle.std.specs.Prelude.{nat_le, nat_lt}
 use Rattle.std.proofs.lemmas.Bool.{cases_eq, cases_lt}
 use Rattle.std.proofs.lemmas.Bool.Decides.{nat_tests}
-use Rattle.chain_words.specs.declared.packed.Kind.{Kind}
-use Rattle.chain_words.specs.declared.packed.Kind.TheVariants as kinds
-use Rattle.chain_words.specs.Words.{Word, Phase, Warning, Hazard, Status, Head, Link, Sizes}
-use Rattle.chain_words.specs.Packed.{StatusParts, status_word, status_parts, head_word}
-use Rattle.chain_words.specs.Starts.{Beginning, slot_after}
+use Rattle.oa_words.specs.declared.packed.Kind.{Kind}
+use Rattle.oa_words.specs.declared.packed.Kind.TheVariants as kinds
+use Rattle.oa_words.specs.Words.{Word, Phase, Warning, Hazard, Status, Head, Link, Sizes}
+use Rattle.oa_words.specs.Packed.{StatusParts, status_word, status_parts, head_word}
+use Rattle.oa_words.specs.Starts.{Beginning, slot_after}
 use Rattle.guard_words.specs.Guards.{has_slot}
-use Rattle.chain_pools.specs.declared.access.ClaimEnd.{ClaimEnd}
-use Rattle.chain_pools.specs.declared.access.ClaimEnd.TheVariants as ends
-use Rattle.chain_pools.specs.declared.access.SweepEnd.{SweepEnd}
-use Rattle.chain_pools.specs.declared.access.SweepEnd.TheVariants as swept
-use Rattle.chain_pools.specs.declared.stages.SweepStage.{SweepStage}
-use Rattle.chain_pools.specs.declared.stages.SweepStage.TheVariants as sweeps
-use Rattle.chain_pools.specs.declared.stages.ClaimStage.{ClaimStage}
-use Rattle.chain_pools.specs.declared.stages.ClaimStage.TheVariants as claims
-use Rattle.chain_pools.specs.declared.stages.RetireStage.{RetireStage}
-use Rattle.chain_pools.specs.declared.stages.RetireStage.TheVariants as retires
-use Rattle.chain_pools.specs.Accesses.{word_of}
-use Rattle.chain_pools.specs.Pools.{Sweep, sweep_begun, sweep_wants_at, sweep_accepts_at, sweep_goes, sweep_ends, sweep_on, hazard_next, warn_next, freeing, status_read, Claim, claim_begun, claim_wants, claim_accepts, claim_wants_at, claim_accepts_at, claim_goes, claim_ends, look_ended, sweep_ended, Retirement, retire_begun, retire_wants, retire_accepts, retire_wants_at}
-use Rattle.chain_laws.specs.Memories.{store, put, after_access}
+use Rattle.phase_pools.specs.declared.access.ClaimEnd.{ClaimEnd}
+use Rattle.phase_pools.specs.declared.access.ClaimEnd.TheVariants as ends
+use Rattle.phase_pools.specs.declared.access.SweepEnd.{SweepEnd}
+use Rattle.phase_pools.specs.declared.access.SweepEnd.TheVariants as swept
+use Rattle.phase_pools.specs.declared.stages.SweepStage.{SweepStage}
+use Rattle.phase_pools.specs.declared.stages.SweepStage.TheVariants as sweeps
+use Rattle.phase_pools.specs.declared.stages.ClaimStage.{ClaimStage}
+use Rattle.phase_pools.specs.declared.stages.ClaimStage.TheVariants as claims
+use Rattle.phase_pools.specs.declared.stages.RetireStage.{RetireStage}
+use Rattle.phase_pools.specs.declared.stages.RetireStage.TheVariants as retires
+use Rattle.phase_pools.specs.Accesses.{word_of}
+use Rattle.phase_pools.specs.Pools.{Sweep, sweep_begun, sweep_wants_at, sweep_accepts_at, sweep_goes, sweep_ends, sweep_on, hazard_next, warn_next, freeing, status_read, Claim, claim_begun, claim_wants, claim_accepts, claim_wants_at, claim_accepts_at, claim_goes, claim_ends, look_ended, sweep_ended, Retirement, retire_begun, retire_wants, retire_accepts, retire_wants_at}
+use Rattle.oa_words.specs.Memories.{store}
+use Rattle.chain_laws.specs.Memories.{put, after_access}
 use Rattle.chain_laws.specs.Chains.{stamp, top}
 use Rattle.chain_laws.specs.Machine.{Standing, Elsewhere, Claims, Retires, PoolEvent, BeginsClaim, BeginsRetirement, Steps, Writes, is_other, claim_left, retirement_left}
 use Rattle.chain_laws.specs.Laws.{StartsAs, OfAll}
@@ -39,7 +40,7 @@ pub record Within (n : Sizes) (m m' : Word → ℕ) (On : ℕ → Type 0) : Type
   pub words : WordsWithin n m'
   pub on : On (m' Phase)
 
-words_same : (n : Sizes) (m m' : Word → ℕ) → Same m m' → WordsWithin n m → WordsWithin n m'
+pub words_same : (n : Sizes) (m m' : Word → ℕ) → Same m m' → WordsWithin n m → WordsWithin n m'
 words_same n m m' same w = record {
   stamped = omega (arith, w.stamped, same.phase, same.head);
   topped = omega (arith, w.topped, same.head);
@@ -49,6 +50,25 @@ words_same n m m' same w = record {
 within_same : (n : Sizes) (m m' : Word → ℕ) (On : ℕ → Type 0) → Same m m' → WordsWithin n m → On (m' Phase) → Within n m m' On
 within_same n m m' On same w on = record { up = same.phase; words = words_same n m m' same w; on = on }
 
+-- what a routine stores in a link, or puts on top, is a slot or none
+abbrev pub SweepStores : ℕ → SweepStage → Type 0
+SweepStores slots sweeps.ReadPhase = Unit {0}
+SweepStores slots (sweeps.RaisePhase p) = Unit {0}
+SweepStores slots (sweeps.Warn d) = Unit {0}
+SweepStores slots (sweeps.ReadHazard d r) = Unit {0}
+SweepStores slots (sweeps.ReadStatus j) = Unit {0}
+SweepStores slots (sweeps.MakeReady j q) = Unit {0}
+SweepStores slots (sweeps.PushHead j) = Unit {0}
+SweepStores slots (sweeps.PushLink j q t) = t ≤ slots
+SweepStores slots (sweeps.PushTop j q t) = j ≤ slots
+
+abbrev pub ClaimStores : ℕ → SweepStage → ClaimStage → Type 0
+ClaimStores slots stage claims.ReadHead = Unit {0}
+ClaimStores slots stage (claims.ReadLink q t) = Unit {0}
+ClaimStores slots stage (claims.Take q t next) = next ≤ slots
+ClaimStores slots stage (claims.StoreUsed q t) = Unit {0}
+ClaimStores slots stage claims.Sweeps = SweepStores slots stage
+
 -- the head is exchanged
 within_head : (n : Sizes) (m : Word → ℕ) (q t : ℕ) (On : ℕ → Type 0) → n.slots ≤ 4096 → WordsWithin n m → q ≤ m Phase → t ≤ n.slots → On (m Phase) → Within n m (store m Head (head_word q t)) On
 within_head n m q t On most w below le on =
@@ -57,7 +77,7 @@ within_head n m q t On most w below le on =
 
 -- ---- sweeps
 
-abbrev SweepOn : Sweep → Option SweepEnd → ℕ → Type 0
+abbrev pub SweepOn : Sweep → Option SweepEnd → ℕ → Type 0
 SweepOn sweep None phase = SweepBelow phase sweep.bound sweep.stage
 SweepOn sweep (Some end) phase = Unit {0}
 
@@ -92,46 +112,46 @@ warn_on n phase s d up = of (nat_lt (d + 1) n.callers) where
   of true = up
   of false = up
 
-pub sweep_within : (n : Sizes) (last : ℕ) (m : Word → ℕ) (v : ℕ) (sweep : Sweep) (stage : SweepStage) → n.slots ≤ 4096 → WordsWithin n m → SweepFits n.slots m v stage → SweepBelow (m Phase) sweep.bound stage
+pub sweep_within : (n : Sizes) (last : ℕ) (m : Word → ℕ) (sweep : Sweep) (stage : SweepStage) → n.slots ≤ 4096 → WordsWithin n m → SweepStores n.slots stage → SweepBelow (m Phase) sweep.bound stage
     → Within n m (after_access m (sweep_wants_at stage sweep.bound))
     (SweepOn (sweep_accepts_at n last sweep (m (word_of (sweep_wants_at stage sweep.bound))) stage).sweep (sweep_accepts_at n last sweep (m (word_of (sweep_wants_at stage sweep.bound))) stage).ended)
-sweep_within n last m v sweep sweeps.ReadPhase most w fits below = within_same n m (store m Phase (m Phase)) _ (same_loaded m Phase) w (of (m Phase == last)) where
+sweep_within n last m sweep sweeps.ReadPhase most w fits below = within_same n m (store m Phase (m Phase)) _ (same_loaded m Phase) w (of (m Phase == last)) where
   of : (b : Bool) → SweepOn (if b then sweep_ends sweep (swept.PhasesOver (m Phase)) else sweep_goes sweep (sweeps.RaisePhase (m Phase))).sweep (if b then sweep_ends sweep (swept.PhasesOver (m Phase)) else sweep_goes sweep (sweeps.RaisePhase (m Phase))).ended (m Phase)
   of true = tt
   of false = omega arith
-sweep_within n last m v sweep (sweeps.RaisePhase p) most w fits below = within_same n m (store m Phase (if m Phase == p then p + 1 else m Phase)) _ (same_raised m p) w (raised (m Phase) below) where
+sweep_within n last m sweep (sweeps.RaisePhase p) most w fits below = within_same n m (store m Phase (if m Phase == p then p + 1 else m Phase)) _ (same_raised m p) w (raised (m Phase) below) where
   raised : (phase : ℕ) → p ≤ phase → p + 1 ≤ (if phase == p then p + 1 else phase)
   raised phase le = grind (arith, nat_tests)
-sweep_within n last m v sweep (sweeps.Warn d) most w fits below =
+sweep_within n last m sweep (sweeps.Warn d) most w fits below =
     within_same n m (store m (Warning d) (max (m (Warning d)) sweep.bound)) _ (same_written m (Warning d) (max (m (Warning d)) sweep.bound) refl) w (warn_on n (m Phase) sweep.bound d below)
-sweep_within n last m v sweep (sweeps.ReadHazard d r) most w fits below = within_same n m (store m (Hazard d r) (m (Hazard d r))) _ (same_loaded m (Hazard d r)) w (hazard_on n (m Phase) sweep.bound d r below)
-sweep_within n last m v sweep (sweeps.ReadStatus j) most w fits below = within_same n m (store m (Status j) (m (Status j))) _ (same_loaded m (Status j)) w (status_next n (m Phase) sweep j (status_parts (m (Status j))) below)
-sweep_within n last m v sweep (sweeps.MakeReady j q) most w fits below = of (m (Status j) == status_word q kinds.Retired) where
+sweep_within n last m sweep (sweeps.ReadHazard d r) most w fits below = within_same n m (store m (Hazard d r) (m (Hazard d r))) _ (same_loaded m (Hazard d r)) w (hazard_on n (m Phase) sweep.bound d r below)
+sweep_within n last m sweep (sweeps.ReadStatus j) most w fits below = within_same n m (store m (Status j) (m (Status j))) _ (same_loaded m (Status j)) w (status_next n (m Phase) sweep j (status_parts (m (Status j))) below)
+sweep_within n last m sweep (sweeps.MakeReady j q) most w fits below = of (m (Status j) == status_word q kinds.Retired) where
   of : (b : Bool) → Within n m (store m (Status j) (if b then status_word sweep.bound kinds.Ready else m (Status j)))
       (SweepOn (if b then sweep_goes sweep (sweeps.PushHead j) else sweep_on n sweep j).sweep (if b then sweep_goes sweep (sweeps.PushHead j) else sweep_on n sweep j).ended)
   of true = record { up = omega arith; words = record { stamped = w.stamped; topped = w.topped; linked = w.linked }; on = below }
   of false = within_same n m (store m (Status j) (m (Status j))) _ (same_loaded m (Status j)) w (on_next n (m Phase) sweep j below)
-sweep_within n last m v sweep (sweeps.PushHead j) most w fits below = within_same n m (store m Head (m Head)) _ (same_loaded m Head) w (below, w.stamped)
-sweep_within n last m v sweep (sweeps.PushLink j q t) most w fits below = record {
+sweep_within n last m sweep (sweeps.PushHead j) most w fits below = within_same n m (store m Head (m Head)) _ (same_loaded m Head) w (below, w.stamped)
+sweep_within n last m sweep (sweeps.PushLink j q t) most w fits below = record {
   up = omega arith;
   words = record {
     stamped = w.stamped;
     topped = w.topped;
     linked = λ i within. ⊎_elim
-        (λ (z : i ≡ j). subst (λ (k : ℕ). store m (Link j) t (Link k) ≤ n.slots) (sym z) (subst (λ (x : ℕ). x ≤ n.slots) (sym (link_here m j t)) fits.2.0.1))
+        (λ (z : i ≡ j). subst (λ (k : ℕ). store m (Link j) t (Link k) ≤ n.slots) (sym z) (subst (λ (x : ℕ). x ≤ n.slots) (sym (link_here m j t)) fits))
         (λ (ne : i ≢ j). subst (λ (x : ℕ). x ≤ n.slots) (sym (link_other m j t i ne)) (w.linked i within))
         (cases_eq i j);
   };
   on = below;
 }
-sweep_within n last m v sweep (sweeps.PushTop j q t) most w fits below = of (m Head == head_word q t) where
+sweep_within n last m sweep (sweeps.PushTop j q t) most w fits below = of (m Head == head_word q t) where
   of : (b : Bool) → Within n m (store m Head (if b then head_word (max q sweep.bound) j else m Head)) (SweepOn (if b then sweep_on n sweep j else sweep_goes sweep (sweeps.PushHead j)).sweep (if b then sweep_on n sweep j else sweep_goes sweep (sweeps.PushHead j)).ended)
-  of true = within_head n m (max q sweep.bound) j _ most w (let s = below.0 in let p = below.1 in omega (arith, s, p)) fits.1 (on_next n (m Phase) sweep j below.0)
+  of true = within_head n m (max q sweep.bound) j _ most w (let s = below.0 in let p = below.1 in omega (arith, s, p)) fits (on_next n (m Phase) sweep j below.0)
   of false = within_same n m (store m Head (m Head)) _ (same_loaded m Head) w below.0
 
 -- ---- claims
 
-abbrev ClaimOn : Claim → Option ClaimEnd → ℕ → Type 0
+abbrev pub ClaimOn : Claim → Option ClaimEnd → ℕ → Type 0
 ClaimOn claim None phase = ClaimBelow phase claim.sweep claim.stage
 ClaimOn claim (Some end) phase = Unit {0}
 
@@ -148,6 +168,52 @@ look_next phase claim q t below = of (t == 0) where
   of true = look_ends phase claim
   of false = below
 
+pub claim_within : (n : Sizes) (last : ℕ) (m : Word → ℕ) (claim : Claim) (stage : ClaimStage) → claim.stage ≡ stage → n.slots ≤ 4096 → WordsWithin n m → ClaimStores n.slots claim.sweep.stage stage → ClaimBelow (m Phase) claim.sweep stage
+    → Within n m (after_access m (claim_wants_at claim.sweep stage))
+    (ClaimOn (claim_accepts_at n last claim (m (word_of (claim_wants_at claim.sweep stage))) stage).claim (claim_accepts_at n last claim (m (word_of (claim_wants_at claim.sweep stage))) stage).ended)
+claim_within n last m claim claims.ReadHead is most w fits below = within_same n m (store m Head (m Head)) _ (same_loaded m Head) w (look_next (m Phase) claim (stamp m) (top m) w.stamped)
+claim_within n last m claim (claims.ReadLink q t) is most w fits below = within_same n m (store m (Link t) (m (Link t))) _ (same_loaded m (Link t)) w below
+claim_within n last m claim (claims.Take q t next) is most w fits below = of (m Head == head_word q t) where
+  of : (b : Bool) → Within n m (store m Head (if b then head_word q next else m Head)) (ClaimOn (if b then claim_goes claim (claims.StoreUsed q t) else claim_goes claim claims.ReadHead).claim (if b then claim_goes claim (claims.StoreUsed q t) else claim_goes claim claims.ReadHead).ended)
+  of true = within_head n m q next _ most w below fits below
+  of false = within_same n m (store m Head (m Head)) _ (same_loaded m Head) w tt
+claim_within n last m claim (claims.StoreUsed q t) is most w fits below = record { up = omega arith; words = record { stamped = w.stamped; topped = w.topped; linked = w.linked }; on = tt }
+claim_within n last m claim claims.Sweeps is most w fits below =
+    let turn = sweep_accepts_at n last claim.sweep (m (word_of (sweep_wants_at claim.sweep.stage claim.sweep.bound))) claim.sweep.stage in
+    let k = sweep_within n last m claim.sweep claim.sweep.stage most w fits below in
+    record { up = k.up; words = k.words; on = goes_on (after_access m (sweep_wants_at claim.sweep.stage claim.sweep.bound) Phase) turn.sweep turn.ended k.on }
+  where
+    goes_on : (phase : ℕ) (sweep : Sweep) (end : Option SweepEnd) → SweepOn sweep end phase → ClaimOn (sweep_ended claim sweep end).claim (sweep_ended claim sweep end).ended phase
+    goes_on phase sweep None on = subst (λ (stage : ClaimStage). ClaimBelow phase sweep stage) (sym is) on
+    goes_on phase sweep (Some swept.Swept) on = tt
+    goes_on phase sweep (Some (swept.PhasesOver p)) on = tt
+
+-- ---- the others, where the phase rises
+
+pub sweep_up : (phase phase' s : ℕ) (stage : SweepStage) → phase ≤ phase' → SweepBelow phase s stage → SweepBelow phase' s stage
+sweep_up phase phase' s sweeps.ReadPhase up w = tt
+sweep_up phase phase' s (sweeps.RaisePhase p) up w = omega (arith, up, w)
+sweep_up phase phase' s (sweeps.Warn d) up w = omega (arith, up, w)
+sweep_up phase phase' s (sweeps.ReadHazard d r) up w = omega (arith, up, w)
+sweep_up phase phase' s (sweeps.ReadStatus j) up w = omega (arith, up, w)
+sweep_up phase phase' s (sweeps.MakeReady j q) up w = omega (arith, up, w)
+sweep_up phase phase' s (sweeps.PushHead j) up w = omega (arith, up, w)
+sweep_up phase phase' s (sweeps.PushLink j q t) up w = ((let a = w.0 in omega (arith, up, a)), (let b = w.1 in omega (arith, up, b)))
+sweep_up phase phase' s (sweeps.PushTop j q t) up w = ((let a = w.0 in omega (arith, up, a)), (let b = w.1 in omega (arith, up, b)))
+
+pub below_up : (phase phase' : ℕ) (standing : Standing) → phase ≤ phase' → Below phase standing → Below phase' standing
+below_up phase phase' Elsewhere up w = tt
+below_up phase phase' (Retires retirement) up w = tt
+below_up phase phase' (Claims claim) up w = of claim.stage w where
+  of : (stage : ClaimStage) → ClaimBelow phase claim.sweep stage → ClaimBelow phase' claim.sweep stage
+  of claims.ReadHead w = tt
+  of (claims.ReadLink q t) w = omega (arith, up, w)
+  of (claims.Take q t next) w = omega (arith, up, w)
+  of (claims.StoreUsed q t) w = omega (arith, up, w)
+  of claims.Sweeps w = sweep_up phase phase' claim.sweep.bound claim.sweep.stage up w
+
+-- ---- runs
+
 -- the link that a claim has loaded names a slot
 next_within : (slots : ℕ) (m : Word → ℕ) (v : ℕ) (stage : SweepStage) (q t next : ℕ) → ClaimFits slots m v stage (claims.Take q t next) → next ≤ slots
 next_within slots m v stage q t next w = ⊎_elim
@@ -162,51 +228,22 @@ next_within slots m v stage q t next w = ⊎_elim
     (cases_lt t slots))
     (cases_lt t v)
 
-pub claim_within : (n : Sizes) (last : ℕ) (m : Word → ℕ) (v : ℕ) (claim : Claim) (stage : ClaimStage) → claim.stage ≡ stage → n.slots ≤ 4096 → WordsWithin n m → ClaimFits n.slots m v claim.sweep.stage stage → ClaimBelow (m Phase) claim.sweep stage
-    → Within n m (after_access m (claim_wants_at claim.sweep stage))
-    (ClaimOn (claim_accepts_at n last claim (m (word_of (claim_wants_at claim.sweep stage))) stage).claim (claim_accepts_at n last claim (m (word_of (claim_wants_at claim.sweep stage))) stage).ended)
-claim_within n last m v claim claims.ReadHead is most w fits below = within_same n m (store m Head (m Head)) _ (same_loaded m Head) w (look_next (m Phase) claim (stamp m) (top m) w.stamped)
-claim_within n last m v claim (claims.ReadLink q t) is most w fits below = within_same n m (store m (Link t) (m (Link t))) _ (same_loaded m (Link t)) w below
-claim_within n last m v claim (claims.Take q t next) is most w fits below = of (m Head == head_word q t) where
-  of : (b : Bool) → Within n m (store m Head (if b then head_word q next else m Head)) (ClaimOn (if b then claim_goes claim (claims.StoreUsed q t) else claim_goes claim claims.ReadHead).claim (if b then claim_goes claim (claims.StoreUsed q t) else claim_goes claim claims.ReadHead).ended)
-  of true = within_head n m q next _ most w below (next_within n.slots m v claim.sweep.stage q t next fits) below
-  of false = within_same n m (store m Head (m Head)) _ (same_loaded m Head) w tt
-claim_within n last m v claim (claims.StoreUsed q t) is most w fits below = record { up = omega arith; words = record { stamped = w.stamped; topped = w.topped; linked = w.linked }; on = tt }
-claim_within n last m v claim claims.Sweeps is most w fits below =
-    let turn = sweep_accepts_at n last claim.sweep (m (word_of (sweep_wants_at claim.sweep.stage claim.sweep.bound))) claim.sweep.stage in
-    let k = sweep_within n last m v claim.sweep claim.sweep.stage most w fits below in
-    record { up = k.up; words = k.words; on = goes_on (after_access m (sweep_wants_at claim.sweep.stage claim.sweep.bound) Phase) turn.sweep turn.ended k.on }
-  where
-    goes_on : (phase : ℕ) (sweep : Sweep) (end : Option SweepEnd) → SweepOn sweep end phase → ClaimOn (sweep_ended claim sweep end).claim (sweep_ended claim sweep end).ended phase
-    goes_on phase sweep None on = subst (λ (stage : ClaimStage). ClaimBelow phase sweep stage) (sym is) on
-    goes_on phase sweep (Some swept.Swept) on = tt
-    goes_on phase sweep (Some (swept.PhasesOver p)) on = tt
-
--- ---- the others, where the phase rises
-
-sweep_up : (phase phase' s : ℕ) (stage : SweepStage) → phase ≤ phase' → SweepBelow phase s stage → SweepBelow phase' s stage
-sweep_up phase phase' s sweeps.ReadPhase up w = tt
-sweep_up phase phase' s (sweeps.RaisePhase p) up w = omega (arith, up, w)
-sweep_up phase phase' s (sweeps.Warn d) up w = omega (arith, up, w)
-sweep_up phase phase' s (sweeps.ReadHazard d r) up w = omega (arith, up, w)
-sweep_up phase phase' s (sweeps.ReadStatus j) up w = omega (arith, up, w)
-sweep_up phase phase' s (sweeps.MakeReady j q) up w = omega (arith, up, w)
-sweep_up phase phase' s (sweeps.PushHead j) up w = omega (arith, up, w)
-sweep_up phase phase' s (sweeps.PushLink j q t) up w = ((let a = w.0 in omega (arith, up, a)), (let b = w.1 in omega (arith, up, b)))
-sweep_up phase phase' s (sweeps.PushTop j q t) up w = ((let a = w.0 in omega (arith, up, a)), (let b = w.1 in omega (arith, up, b)))
-
-below_up : (phase phase' : ℕ) (standing : Standing) → phase ≤ phase' → Below phase standing → Below phase' standing
-below_up phase phase' Elsewhere up w = tt
-below_up phase phase' (Retires retirement) up w = tt
-below_up phase phase' (Claims claim) up w = of claim.stage w where
-  of : (stage : ClaimStage) → ClaimBelow phase claim.sweep stage → ClaimBelow phase' claim.sweep stage
-  of claims.ReadHead w = tt
-  of (claims.ReadLink q t) w = omega (arith, up, w)
-  of (claims.Take q t next) w = omega (arith, up, w)
-  of (claims.StoreUsed q t) w = omega (arith, up, w)
-  of claims.Sweeps w = sweep_up phase phase' claim.sweep.bound claim.sweep.stage up w
-
--- ---- runs
+fits_stores : (slots : ℕ) (m : Word → ℕ) (v : ℕ) (claim : Claim) (stage : ClaimStage) → ClaimFits slots m v claim.sweep.stage stage → ClaimStores slots claim.sweep.stage stage
+fits_stores slots m v claim claims.ReadHead fits = tt
+fits_stores slots m v claim (claims.ReadLink q t) fits = tt
+fits_stores slots m v claim (claims.Take q t next) fits = next_within slots m v claim.sweep.stage q t next fits
+fits_stores slots m v claim (claims.StoreUsed q t) fits = tt
+fits_stores slots m v claim claims.Sweeps fits = of claim.sweep.stage fits where
+  of : (stage : SweepStage) → SweepFits slots m v stage → SweepStores slots stage
+  of sweeps.ReadPhase fits = tt
+  of (sweeps.RaisePhase p) fits = tt
+  of (sweeps.Warn d) fits = tt
+  of (sweeps.ReadHazard d r) fits = tt
+  of (sweeps.ReadStatus j) fits = tt
+  of (sweeps.MakeReady j q) fits = tt
+  of (sweeps.PushHead j) fits = tt
+  of (sweeps.PushLink j q t) fits = fits.2.0.1
+  of (sweeps.PushTop j q t) fits = fits.1
 
 pub record StampsHold (n : Sizes) (start : Beginning) (state : OpenState) : Type 0 where
   pub open_holds : OpenHolds n start state
@@ -221,7 +258,7 @@ retire_stands : (phase : ℕ) (left : Option Retirement) → Below phase (retire
 retire_stands phase None = tt
 retire_stands phase (Some retirement) = tt
 
-retire_within : (n : Sizes) (m : Word → ℕ) (j : ℕ) (stage : RetireStage) → WordsWithin n m → WordsWithin n (after_access m (retire_wants_at j stage)) × (m Phase ≤ after_access m (retire_wants_at j stage) Phase)
+pub retire_within : (n : Sizes) (m : Word → ℕ) (j : ℕ) (stage : RetireStage) → WordsWithin n m → WordsWithin n (after_access m (retire_wants_at j stage)) × (m Phase ≤ after_access m (retire_wants_at j stage) Phase)
 retire_within n m j retires.ReadPhase w = (words_same n m (store m Phase (m Phase)) (same_loaded m Phase) w, omega arith)
 retire_within n m j (retires.StoreStatus p) w = (record { stamped = w.stamped; topped = w.topped; linked = w.linked }, omega arith)
 
@@ -234,7 +271,7 @@ step_both n last start state later c Elsewhere at most w is = absurd (let z : No
 step_both n last start state later c (Claims claim) at most w is =
     let fits : Fits n.slots state.memory state.frontier (Claims claim) = subst (λ (x : Standing). Fits n.slots state.memory state.frontier x) at (w.open_holds.fits c) in
     let below : Below (state.memory Phase) (Claims claim) = subst (λ (x : Standing). Below (state.memory Phase) x) at (w.below c) in
-    let k = claim_within n last state.memory state.frontier claim claim.stage refl most w.words fits below in
+    let k = claim_within n last state.memory claim claim.stage refl most w.words (fits_stores n.slots state.memory state.frontier claim claim.stage fits) below in
     let turn = claim_accepts n last claim (state.memory (word_of (claim_wants claim))) in
     let m' : Word → ℕ = after_access state.memory (claim_wants claim) in
     subst (λ (x : OpenState). Both n x)
@@ -269,7 +306,7 @@ run_both n last start (event ∷ events) state later some most w is =
     let next = event_both n last start state parts.0 event most w parts.1 in
     run_both n last start events parts.0 later some most (record { open_holds = event_open n last start state parts.0 event some most w.open_holds parts.1; words = next.0; below = next.1 }) parts.2
 
-start_within : (n : Sizes) (start : Beginning) (memory : Word → ℕ) → n.slots ≤ 4096 → StartsAs n start memory → WordsWithin n memory
+pub start_within : (n : Sizes) (start : Beginning) (memory : Word → ℕ) → n.slots ≤ 4096 → StartsAs n start memory → WordsWithin n memory
 start_within n start memory most starts =
     let parts = tells memory start.first (slot_after n.slots (length start.nodes)) (starts Head refl) (after_small n.slots (length start.nodes) most) in
     record {

@@ -1,17 +1,18 @@
 -- Claims take slots that were never claimed in ascending order, whatever is retired: the least of them is the frontier. This needs no chain:
 -- a slot may be retired twice, and the links may make a circle.
 use Rattle.std.specs.Prelude.{ℕ, ◌+◌, ◌≡◌, ◌≤◌, ◌<◌, ◌⊎◌, List, [], ◌∷◌, length, Option, Some, None, nat_lt, ◌==◌, if◌then◌else◌}
-use Rattle.chain_words.specs.declared.packed.Kind.TheVariants as kinds
-use Rattle.chain_words.specs.Words.{Word, Status, Head, Link, Sizes}
-use Rattle.chain_words.specs.Packed.{status_word, head_word}
-use Rattle.chain_words.specs.Starts.{Beginning, slot_after}
-use Rattle.chain_pools.specs.declared.stages.SweepStage.{SweepStage}
-use Rattle.chain_pools.specs.declared.stages.SweepStage.TheVariants as sweeps
-use Rattle.chain_pools.specs.declared.stages.ClaimStage.{ClaimStage}
-use Rattle.chain_pools.specs.declared.stages.ClaimStage.TheVariants as claims
-use Rattle.chain_pools.specs.Accesses.{word_of}
-use Rattle.chain_pools.specs.Pools.{claim_begun, claim_wants, claim_accepts, retire_begun, retire_wants, retire_accepts}
-use Rattle.chain_laws.specs.Memories.{store, after_access, put}
+use Rattle.oa_words.specs.declared.packed.Kind.TheVariants as kinds
+use Rattle.oa_words.specs.Words.{Word, Status, Head, Link, Sizes}
+use Rattle.oa_words.specs.Packed.{status_word, head_word}
+use Rattle.oa_words.specs.Starts.{Beginning, slot_after}
+use Rattle.phase_pools.specs.declared.stages.SweepStage.{SweepStage}
+use Rattle.phase_pools.specs.declared.stages.SweepStage.TheVariants as sweeps
+use Rattle.phase_pools.specs.declared.stages.ClaimStage.{ClaimStage}
+use Rattle.phase_pools.specs.declared.stages.ClaimStage.TheVariants as claims
+use Rattle.phase_pools.specs.Accesses.{word_of}
+use Rattle.phase_pools.specs.Pools.{claim_begun, claim_wants, claim_accepts, retire_begun, retire_wants, retire_accepts}
+use Rattle.oa_words.specs.Memories.{store}
+use Rattle.chain_laws.specs.Memories.{after_access, put}
 use Rattle.chain_laws.specs.Chains.{top}
 use Rattle.chain_laws.specs.Laws.{StartsAs}
 use Rattle.chain_laws.specs.Machine.{Standing, Elsewhere, Claims, Retires, slot_of, PoolEvent, BeginsClaim, BeginsRetirement, Steps, Writes, is_other, claim_left, retirement_left}

@@ -1,12 +1,12 @@
 -- The words of the chain stay within their limits, whatever is retired.
 use Rattle.std.specs.Prelude.{ℕ, ◌≡◌, ◌≤◌, List, length, Some}
-use Rattle.chain_words.specs.Words.{Word, Phase, Link, Sizes}
-use Rattle.chain_words.specs.Starts.{Beginning}
-use Rattle.chain_pools.specs.declared.stages.SweepStage.{SweepStage}
-use Rattle.chain_pools.specs.declared.stages.SweepStage.TheVariants as sweeps
-use Rattle.chain_pools.specs.declared.stages.ClaimStage.{ClaimStage}
-use Rattle.chain_pools.specs.declared.stages.ClaimStage.TheVariants as claims
-use Rattle.chain_pools.specs.Pools.{Sweep}
+use Rattle.oa_words.specs.Words.{Word, Phase, Link, Sizes}
+use Rattle.oa_words.specs.Starts.{Beginning}
+use Rattle.phase_pools.specs.declared.stages.SweepStage.{SweepStage}
+use Rattle.phase_pools.specs.declared.stages.SweepStage.TheVariants as sweeps
+use Rattle.phase_pools.specs.declared.stages.ClaimStage.{ClaimStage}
+use Rattle.phase_pools.specs.declared.stages.ClaimStage.TheVariants as claims
+use Rattle.phase_pools.specs.Pools.{Sweep}
 use Rattle.chain_laws.specs.Chains.{stamp, top}
 use Rattle.chain_laws.specs.Laws.{StartsAs}
 use Rattle.chain_laws.specs.Machine.{Standing, Elsewhere, Claims, Retires, PoolEvent}

@@ -1,14 +1,14 @@
 -- Closed tables show that a text is in normal form.
-use Rattle.std.proofs.Common.{◌≡◌, ℕ, Bool, true, false, not, ◌&&◌, List, [], ◌∷◌, length, zero, suc, Option, Some, None, refl, sym, ap, subst, ◌∙◌}
-use Rattle.std.specs.Prelude.{slice_get, IsTrue, IsSomeAnd}
+use Rattle.std.proofs.Common.{◌≡◌, ℕ, Bool, true, false, ◌&&◌, List, [], ◌∷◌, length, zero, suc, Option, Some, None, refl}
+use Rattle.std.specs.Prelude.{slice_get, IsSomeAnd}
 use Rattle.norm_lang.specs.declared.text.Reg.{Reg}
 use Rattle.norm_lang.specs.declared.text.Instr.{Instr}
 use Rattle.norm_lang.specs.declared.text.Op.{Op}
 use Rattle.norm_lang.specs.declared.text.Text.{Text}
 use Rattle.norm_lang.specs.Kept.{code_of, IsKept}
 use Rattle.norm_lang.specs.InstructionRules.{has_wrong_kind, computes_on_reference, has_wrong_end, has_wrong_retire, has_wrong_range}
-use Rattle.norm_lang.specs.NormalForm.{Rule, N1, N2, N3, N4, N5, N6, N7, N8, N9, N10, N11, N12, N13, N14, Breach, BreaksRule, Breaks, IsNormal}
-use Rattle.closed_tables.specs.Tables.{OpTables, tables_of, all_from, is_closed, keeps_none, keeps_rule, all_rules, method_shown, op_shown, ops_shown, tables_show}
+use Rattle.norm_lang.specs.NormalForm.{Rule, N1, N2, N3, N4, N5, N6, N7, N8, N9, N10, N11, N12, N13, N14, Breach, BreaksRule}
+use Rattle.closed_tables.specs.Tables.{OpTables, tables_of, all_from, is_closed, keeps_none, keeps_rule, all_rules, method_shown, op_shown, ops_shown}
 use Rattle.closed_tables.specs.Laws.{TablesShowNormal}
 use Rattle.closed_tables.proofs.Tests.{and_left, and_right, not_and_true, all_places}
 use Rattle.closed_tables.proofs.Rules.{made_once, puts_right, shows_none, none_kept, leaks_none, reads_set, loops_none}

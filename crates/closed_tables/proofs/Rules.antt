@@ -1,22 +1,21 @@
 -- The tables show that an instruction keeps the rules.
-use Rattle.std.proofs.Common.{◌≡◌, ℕ, ◌⊎◌, inl, inr, Bool, true, false, not, ◌&&◌, ◌||◌, List, [], ◌∷◌, length, Option, Some, None, refl, sym, ap, subst, ◌∙◌}
+use Rattle.std.proofs.Common.{◌≡◌, ℕ, ◌⊎◌, inl, inr, Bool, true, false, not, ◌&&◌, ◌||◌, List, Option, Some, None, refl, sym, ap, ◌∙◌}
 use Rattle.std.specs.Prelude.{slice_get, IsTrue}
 use Rattle.std.specs.List.{list_all}
 use Rattle.norm_lang.specs.declared.text.Reg.{Reg}
 use Rattle.norm_lang.specs.declared.text.Reg.TheVariants.{Num}
-use Rattle.norm_lang.specs.declared.text.CasEntry.{CasEntry}
 use Rattle.norm_lang.specs.declared.text.Instr.{Instr}
 use Rattle.norm_lang.specs.declared.text.Instr.TheVariants as instr
 use Rattle.norm_lang.specs.declared.text.Op.{Op}
 use Rattle.norm_lang.specs.Grammar.{is_new}
 use Rattle.norm_lang.specs.Flow.{IsPath, IsOnCycle, state_along}
-use Rattle.norm_lang.specs.RegisterUse.{same_register, sources, reads, reads_at, set_after}
+use Rattle.norm_lang.specs.RegisterUse.{same_register, sources, reads_at, set_after}
 use Rattle.norm_lang.specs.Freshness.{MayBeFresh, IsSurelyFresh}
 use Rattle.norm_lang.specs.Kept.{code_of, holds_reference, IsKept, is_argument, IsSetAtCommits, StartsSet}
 use Rattle.norm_lang.specs.PathRules.{reads_openly, is_commit, MakesNodesAgain, HasWrongPut, ShowsFresh, LeaksFresh, LoopsBlindly, ReadsUnset}
-use Rattle.closed_tables.specs.Tables.{Tables, OpTables, tables_of, among, registers_at, all_from, is_closed, has_right_put, has_right_exchange, is_set_at_commits, starts_set, keeps_none}
-use Rattle.closed_tables.proofs.Tests.{and_left, and_right, not_and_true, other_holds, all_among, all_places}
-use Rattle.closed_tables.proofs.Tables.{not_or, may_along, surely_along, set_along, set_from, set_stays, new_once, cycle_looks}
+use Rattle.closed_tables.specs.Tables.{Tables, OpTables, tables_of, among, registers_at, is_closed, has_right_put, has_right_exchange, is_set_at_commits, starts_set, keeps_none}
+use Rattle.closed_tables.proofs.Tests.{and_left, and_right, not_and_true, all_among, all_places}
+use Rattle.closed_tables.proofs.Tables.{not_or, may_along, surely_along, set_along, set_stays, new_once, cycle_looks}
 
 -- a register that may be fresh is among those of the table
 pub may_fresh : (t : Tables) (code : List Instr) (r : Reg) (at : ℕ) → is_closed t code ≡ true → MayBeFresh code r at → among r (registers_at t.may_be_fresh at) ≡ true

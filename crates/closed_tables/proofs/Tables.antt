@@ -1,5 +1,5 @@
 -- What closed tables say of every path.
-use Rattle.std.proofs.Common.{◌≡◌, ℕ, ◌≤◌, ◌<◌, Bool, true, false, not, ◌&&◌, ◌||◌, List, [], ◌∷◌, Option, Some, None, refl, sym, ap, subst, ◌∙◌, arith}
+use Rattle.std.proofs.Common.{◌≡◌, ℕ, ◌≤◌, ◌<◌, Bool, true, false, not, ◌&&◌, ◌||◌, List, [], ◌∷◌, Option, Some, None, refl, ap, ◌∙◌, arith}
 use Rattle.std.specs.Prelude.{slice_get, IsTrue, nat_le, nat_lt, if◌then◌else◌}
 use Rattle.std.specs.List.{list_all}
 use Rattle.std.proofs.lemmas.Bool.Decides.{nat_tests}
@@ -11,7 +11,7 @@ use Rattle.norm_lang.specs.RegisterUse.{is_register_named, registers_named, dest
 use Rattle.norm_lang.specs.Freshness.{fresh_after}
 use Rattle.norm_lang.specs.PathRules.{looks, looks_at, is_blind}
 use Rattle.closed_tables.specs.Tables.{Tables, among, registers_at, number_at, keeps_may_be_fresh, keeps_surely_fresh, keeps_set, keeps_level, keeps_rank, keeps_tables, all_from, is_closed}
-use Rattle.closed_tables.proofs.Tests.{and_left, and_right, not_and_true, other_holds, all_among, all_next, all_places}
+use Rattle.closed_tables.proofs.Tests.{and_left, and_right, other_holds, all_among, all_next, all_places}
 use Rattle.closed_tables.proofs.Along.{along, climbs, Blindly, blind_leads}
 
 -- what each instruction keeps

@@ -1,8 +1,9 @@
--- The words at the start in two parts, as they are put one after another.
+-- The words at the start in three parts, as they are put one after another.
 use Rattle.std.specs.Prelude.{ℕ, ◌-◌, ◌*◌, List, ◌∷◌, ◌++◌, map, replicate, flat_map}
 use Rattle.target_code.specs.declared.target.Target.{Target}
 use Rattle.oa_words.specs.Words.{slot_rows}
-use Rattle.oa_words.specs.Starts.{start_statuses}
+use Rattle.oa_words.specs.Packed.{head_word}
+use Rattle.oa_words.specs.Starts.{slot_after, start_links, start_statuses}
 use Rattle.caller_parts.specs.Settings.{Setting}
 use Rattle.core_runs.specs.Machine.{node_words, root_word}
 
@@ -20,3 +21,9 @@ slot_words target setting =
     ++ (flat_map node_words target.nodes
     ++ (replicate ((setting.sizes.slots - setting.nodes) * setting.sizes.fields) 0
     ++ map root_word target.roots)))
+
+-- the pool's head, which names the least slot without an initial node, and the link of each slot
+abbrev pub pool_words : Setting → List ℕ
+pool_words setting =
+    head_word setting.first (slot_after setting.sizes.slots setting.nodes)
+    ∷ start_links setting.sizes.slots setting.nodes 0 (slot_rows setting.sizes)

@@ -11,7 +11,7 @@ ghost use Rattle.caller_steps.specs.After.{after, taken};
 ghost use Rattle.core_runs.specs.Replays.{is_spent, stands_at_check, kind_wanted};
 ghost use Rattle.core_entries.specs.Callers.{BelongsTo, BelongsToAll, BelongsToSome, StaysWithAll, IsInRow};
 
-use crate::kinds::{first_field, instr_at, is_check, kind_at};
+use crate::kinds::{first_field, instr_at, is_check, kind_at, pool_head};
 use crate::loaded::LoadedTarget;
 use crate::prepared::{Prepared, kept};
 use barrier_check::Barred;
@@ -184,7 +184,7 @@ impl Entry {
         }
         match self.pending_in(prepared, setting) {
             None => None,
-            Some(access) => kind_at(first_field(setting), access),
+            Some(access) => kind_at(first_field(setting), pool_head(setting), access),
         }
     }
 

@@ -1,9 +1,9 @@
 //! The kinds of access that turns count.
 
 ghost use Rattle.std.specs.Prelude.{◌≡◌, option_copied, slice_get};
-ghost use Rattle.oa_words.specs.Words.{field_base};
+ghost use Rattle.oa_words.specs.Words.{field_base, head_base};
 ghost use Rattle.caller_steps.specs.Belongs.{is_check_at};
-ghost use Rattle.core_entries.specs.Kinds.{kind_at, kind_from};
+ghost use Rattle.core_entries.specs.Kinds.{kind_at, kind_between};
 
 use caller_steps::Setting;
 use phase_pools::access::Access;
@@ -22,7 +22,7 @@ pub(crate) fn is_check(instr: Option<&TargetInstr>) -> bool
     matches!(instr, Some(TargetInstr::Check))
 }
 
-/// The address of the first field. From there on fields and cells stand.
+/// The address of the first field. From there on fields and cells stand, up to the pool's head.
 pub(crate) fn first_field(setting: &Setting) -> u32
     ensures { result ≡ field_base setting.now.sizes }
 {
@@ -31,19 +31,30 @@ pub(crate) fn first_field(setting: &Setting) -> u32
     shape.field_at(0, 0)
 }
 
-fn kind_from(first: u32, at: u32, kind: StepKind) -> Option<StepKind>
-    ensures { result ≡ kind_from first at kind }
+/// The address of the pool's head, with which the words of the text have ended.
+pub(crate) fn pool_head(setting: &Setting) -> u32
+    ensures { result ≡ head_base setting.now.sizes }
 {
-    if first <= at { Some(kind) } else { None }
+    setting.shape().head_at()
+}
+
+fn kind_between(first: u32, head: u32, at: u32, kind: StepKind) -> Option<StepKind>
+    ensures { result ≡ kind_between first head at kind }
+{
+    if first <= at && at < head {
+        Some(kind)
+    } else {
+        None
+    }
 }
 
 /// The kind of an access: a load or an exchange of a field or a cell.
-pub(crate) fn kind_at(first: u32, access: Access) -> Option<StepKind>
-    ensures { result ≡ kind_at first access }
+pub(crate) fn kind_at(first: u32, head: u32, access: Access) -> Option<StepKind>
+    ensures { result ≡ kind_at first head access }
 {
     match access {
-        Access::Load { at } => kind_from(first, at, StepKind::Load),
-        Access::CompareExchange { at, .. } => kind_from(first, at, StepKind::Exchange),
+        Access::Load { at } => kind_between(first, head, at, StepKind::Load),
+        Access::CompareExchange { at, .. } => kind_between(first, head, at, StepKind::Exchange),
         Access::Store { .. } | Access::FetchMax { .. } => None,
     }
 }

@@ -1,18 +1,18 @@
 //! The words of a row, in a vector.
 
-ghost use Rattle.std.specs.Prelude.{◌≡◌, ◌++◌, ◌+◌, IfOk, map, replicate, flat_map, slice_index};
+ghost use Rattle.std.specs.Prelude.{◌≡◌, ◌≤◌, ◌++◌, ◌+◌, IfOk, map, replicate, flat_map, slice_index};
 ghost use Rattle.oa_words.specs.Packed.{status_word};
-ghost use Rattle.oa_words.specs.Starts.{start_kind, start_statuses};
+ghost use Rattle.oa_words.specs.Starts.{slot_after, start_kind, start_link, start_links, start_statuses};
 ghost use Rattle.caller_parts.specs.Settings.{Fits};
 ghost use Rattle.core_runs.specs.Machine.{value_word, node_words, root_word, core_start};
-ghost use Rattle.core_entries.specs.Starts.{caller_words, slot_words};
+ghost use Rattle.core_entries.specs.Starts.{caller_words, pool_words, slot_words};
 
 use crate::port::{Port, answer_to, at_of, left_by};
 use barrier_check::Barred;
 use caller_steps::Setting;
 use norm_lang::list::Listed;
 use norm_lang::text::{NodeDecl, RootDecl, Start};
-use oa_words::packed::{Kind, ref_word, status_word};
+use oa_words::packed::{Kind, head_word, ref_word, status_word};
 use phase_pools::access::Access;
 use std::alloc::{AllocError, Global};
 use std::marker::Model;
@@ -105,6 +105,47 @@ fn put_statuses(words: &mut Listed<u64>, setting: &Setting) -> Result<(), AllocE
     Ok(())
 }
 
+/// The next greater slot, 0 after the last.
+fn slot_after(slots: u32, slot: u32) -> u32
+    ensures same { result ≡ slot_after slots slot }
+    ensures within { result ≤ slots }
+{
+    if slot < slots { slot + 1 } else { 0 }
+}
+
+/// The slots after those of the initial nodes are chained in ascending order.
+fn start_link(setting: &Setting, slot: u32) -> u64
+    ensures { result ≡ start_link setting.now.sizes.slots setting.now.nodes slot }
+{
+    let slots = setting.shape().slots();
+    if slot <= setting.nodes() {
+        0
+    } else {
+        slot_after(slots, slot) as u64
+    }
+}
+
+fn put_links(words: &mut Listed<u64>, setting: &Setting) -> Result<(), AllocError>
+    ensures { IfOk result (λ _. words.new ≡ words.old ++ start_links setting.now.sizes.slots setting.now.nodes 0 (setting.now.sizes.slots + 1)) }
+{
+    let slots = setting.shape().slots();
+    for slot in 0..slots + 1 {
+        words.push(start_link(setting, slot))?;
+    }
+    Ok(())
+}
+
+/// The pool's head and the links of slots.
+fn put_pool(words: &mut Listed<u64>, setting: &Setting) -> Result<(), AllocError>
+    ensures { IfOk result (λ _. words.new ≡ words.old ++ pool_words setting.now) }
+{
+    let slots = setting.shape().slots();
+    let top = slot_after(slots, setting.nodes());
+    words.push(head_word(setting.first_phase(), top))?;
+    put_links(words, setting)?;
+    Ok(())
+}
+
 /// The first phase, and the words of callers.
 fn put_callers(words: &mut Listed<u64>, setting: &Setting) -> Result<(), AllocError>
     ensures { IfOk result (λ _. words.new ≡ words.old ++ caller_words setting.now) }
@@ -132,8 +173,8 @@ fn put_slots(words: &mut Listed<u64>, target: &Target, setting: &Setting) -> Res
 }
 
 impl PlainWords {
-    /// The words at the start, in the order of their addresses: the phase, places, warnings, hazards, statuses, fields and
-    /// cells. The setting fits the target.
+    /// The words at the start, in the order of their addresses: the phase, places, warnings, hazards, statuses, fields,
+    /// cells, the head and the links. The setting fits the target.
     ///
     /// # Errors
     /// Memory ran out.
@@ -145,6 +186,7 @@ impl PlainWords {
         let mut words = Listed::empty(alloc);
         put_callers(&mut words, setting)?;
         put_slots(&mut words, barred.target(), setting)?;
+        put_pool(&mut words, setting)?;
         Ok(PlainWords { words })
     }
 

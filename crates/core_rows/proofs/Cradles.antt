@@ -9,6 +9,7 @@ unfolding wants after signs
 branch_rows = record {
   second = refl;
   claimed = refl;
+  counted = refl;
   failed = refl;
   first = refl;
   unpublished = refl;

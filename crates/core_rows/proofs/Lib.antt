@@ -11,3 +11,4 @@ pub mod Pairs
 pub mod Shared
 pub mod Replays
 pub mod Combined
+pub mod Chains

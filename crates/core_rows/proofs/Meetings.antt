@@ -26,7 +26,10 @@ race_rows = record {
   sweeps = refl;
   looks = refl;
   lost = refl;
+  counted = refl;
+  other_counted = refl;
   taken = refl;
   late_free = refl;
+  unpushed = refl;
   forgotten = refl;
 }

@@ -15,7 +15,7 @@ use Rattle.caller_parts.specs.Settings.{Setting}
 use Rattle.core_runs.specs.Machine.{CoreEvent}
 use Rattle.core_rows.specs.Short.{n0, n1, n2, n7, r0, r1, r2, r3, no_slots}
 use Rattle.core_rows.specs.ShippedTargets.{enqueue_target, dequeue_target, queue_target}
-use Rattle.core_rows.specs.Stories.{Line, Exchange, gives, story, lines_after, left_after, calls, begins, passes, ends, renews, reads, puts, exchanges, guards, clears, draws, zeroes, looks, takes, retires}
+use Rattle.core_rows.specs.Stories.{Line, Exchange, gives, story, lines_after, left_after, calls, begins, passes, ends, renews, reads, puts, exchanges, guards, clears, draws, zeroes, takes, retires}
 use Rattle.core_rows.specs.ReplayRows.{summary, queue_for, enqueue, dequeue}
 use Rattle.caller_steps.specs.Signs.{Accesses}
 
@@ -105,7 +105,8 @@ alone = queue_for 1 3
 abbrev pub nine_enqueued : List Line
 nine_enqueued = story (
     (begins 0 1 (enqueue 9) ∷ reads (Cell 1) 2 ∷ passes 0 1 ∷ reads (FieldOf 1 1) 0 ∷ passes 0 1 ∷ [])
-    ∷ (looks 1 5 ∷ looks 2 4 ∷ takes 2 4 5 ∷ zeroes 2 0 ∷ draws 2 1 ∷ passes 0 1 ∷ puts (FieldOf 2 0) 9 ∷ [])
+    ∷ takes 2 8194 3 8195 5
+    ∷ (zeroes 2 0 ∷ draws 2 1 ∷ passes 0 1 ∷ puts (FieldOf 2 0) 9 ∷ [])
     ∷ (guards 0 0 1 ∷ guards 0 2 0 ∷ guards 0 3 2 ∷ passes 0 1 ∷ exchanges (FieldOf 1 1) 0 4 0 ∷ [])
     ∷ (clears 0 0 ∷ clears 0 3 ∷ renews 0 1 ∷ [])
     ∷ (reads (Cell 1) 2 ∷ passes 0 1 ∷ reads (FieldOf 1 1) 4 ∷ passes 0 1 ∷ guards 0 0 1 ∷ guards 0 1 2 ∷ passes 0 1 ∷ [])
@@ -126,7 +127,7 @@ abbrev pub nothing_dequeued : List Line
 nothing_dequeued = begins 0 1 dequeue ∷ reads (Cell 0) 2 ∷ reads (Cell 1) 2 ∷ passes 0 1 ∷ reads (FieldOf 1 1) 0 ∷ ends 0 1 ∷ renews 0 1 ∷ []
 
 abbrev pub enqueued : List CoreEvent
-enqueued = calls 0 (enqueue 9) 30
+enqueued = calls 0 (enqueue 9) 31
 
 pub record CombinedRows : Type 0 where
   pub compiled : second_scheme queue_text ≡ combined_queue

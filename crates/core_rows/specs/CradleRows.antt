@@ -9,7 +9,7 @@ use Rattle.caller_steps.specs.Signs.{Accesses}
 use Rattle.core_runs.specs.Machine.{CoreEvent}
 use Rattle.core_rows.specs.Short.{call_of, setting_of, no_slots}
 use Rattle.core_rows.specs.SmallTargets.{branches_target, stale_target}
-use Rattle.core_rows.specs.Stories.{Line, Left, Exchange, gives, story, lines_after, left_after, calls, begins, passes, renews, reads, exchanges, guards, clears, draws, looks, takes, retires, raises, warns, no_hazards, frees}
+use Rattle.core_rows.specs.Stories.{Line, Left, Exchange, gives, story, lines_after, left_after, calls, begins, passes, renews, reads, exchanges, guards, clears, draws, looks, takes, retires, raises, warns, no_hazards, finds, frees, pushes}
 
 -- ---- two `new` in branches
 
@@ -23,14 +23,18 @@ last_setting = setting_of 1 2 1 2 1 1
 -- the second `new` claims slot 2, but the second root is full: the list fails
 abbrev pub second_branch : List Line
 second_branch = story (
-    (begins 0 1 (call_of 0 0) ∷ looks 1 5 ∷ looks 2 4 ∷ takes 2 4 5 ∷ draws 2 0 ∷ passes 0 1 ∷ [])
+    (begins 0 1 (call_of 0 0) ∷ [])
+    ∷ takes 2 8194 3 8195 5
+    ∷ (draws 2 0 ∷ passes 0 1 ∷ [])
     ∷ (guards 0 0 0 ∷ guards 0 2 2 ∷ passes 0 1 ∷ exchanges (Cell 1) 0 4 2 ∷ clears 0 2 ∷ renews 0 1 ∷ [])
     ∷ [])
 
 -- the first `new` claims slot 3, which goes into the empty root
 abbrev pub first_branch : List Line
 first_branch = story (
-    (begins 0 1 (call_of 0 1) ∷ looks 1 5 ∷ looks 2 5 ∷ looks 3 4 ∷ takes 3 4 5 ∷ draws 3 0 ∷ passes 0 1 ∷ [])
+    (begins 0 1 (call_of 0 1) ∷ [])
+    ∷ takes 3 8195 4 8196 5
+    ∷ (draws 3 0 ∷ passes 0 1 ∷ [])
     ∷ (guards 0 0 0 ∷ guards 0 1 3 ∷ passes 0 1 ∷ exchanges (Cell 0) 0 6 0 ∷ clears 0 1 ∷ renews 0 1 ∷ [])
     ∷ [])
 
@@ -42,7 +46,7 @@ second_again = story (
     ∷ [])
 
 abbrev pub one_fill : List CoreEvent
-one_fill = calls 0 (call_of 0 0) 12
+one_fill = calls 0 (call_of 0 0) 13
 
 abbrev pub two_fills : List CoreEvent
 two_fills = one_fill ++ calls 0 (call_of 0 1) 13
@@ -52,7 +56,7 @@ three_fills = two_fills ++ calls 0 (call_of 0 0) 9
 
 -- the first `new` claims slot 4, and the first root is full by now
 abbrev pub four_fills : List CoreEvent
-four_fills = three_fills ++ calls 0 (call_of 0 1) 14
+four_fills = three_fills ++ calls 0 (call_of 0 1) 13
 
 abbrev pub filled : List Reply → List ℕ → ℕ → Option Left
 filled replies cradles claims = Some (record { replies = replies; cradles = cradles; restarts = 0; claims = claims })
@@ -60,7 +64,9 @@ filled replies cradles claims = Some (record { replies = replies; cradles = crad
 pub record BranchRows : Type 0 where
   pub second : lines_after branches_target (branches_setting 4) [] one_fill ≡ second_branch
   -- the second `new` by instruction order is the first that this caller makes: its slot is in cradle 1
-  pub claimed : left_after branches_target (branches_setting 4) (calls 0 (call_of 0 0) 4) 0 ≡ filled [] (0 ∷ 2 ∷ 0 ∷ 0 ∷ []) 1
+  pub claimed : left_after branches_target (branches_setting 4) (calls 0 (call_of 0 0) 5) 0 ≡ filled [] (0 ∷ 2 ∷ 0 ∷ 0 ∷ []) 1
+  -- the exchange before has counted it
+  pub counted : left_after branches_target (branches_setting 4) (calls 0 (call_of 0 0) 4) 0 ≡ filled [] no_slots 1
   pub failed : left_after branches_target (branches_setting 4) one_fill 0 ≡ filled (replies.Number 0 ∷ []) (0 ∷ 2 ∷ 0 ∷ 0 ∷ []) 1
   pub first : lines_after branches_target (branches_setting 4) one_fill (calls 0 (call_of 0 1) 13) ≡ first_branch
   -- the slot is in cradle 0 until the exchange, its eleventh step
@@ -69,12 +75,12 @@ pub record BranchRows : Type 0 where
   pub again : lines_after branches_target (branches_setting 4) two_fills (calls 0 (call_of 0 0) 9) ≡ second_again
   pub four : left_after branches_target (branches_setting 4) four_fills 0
       ≡ filled (replies.Number 0 ∷ replies.Number 1 ∷ replies.Number 0 ∷ replies.Number 0 ∷ []) (4 ∷ 2 ∷ 0 ∷ 0 ∷ []) 3
-  -- with two slots the first `new` gets none: three looks at both slots, with two sweeps of 13 steps between them. Cradle 1
+  -- with two slots the first `new` gets none: three looks, with two sweeps of 13 steps between them. Cradle 1
   -- keeps its slot
-  pub full : left_after branches_target (branches_setting 2) (one_fill ++ calls 0 (call_of 0 1) 33) 0
+  pub full : left_after branches_target (branches_setting 2) (one_fill ++ calls 0 (call_of 0 1) 30) 0
       ≡ filled (replies.Number 0 ∷ replies.Full ∷ []) (0 ∷ 2 ∷ 0 ∷ 0 ∷ []) 1
   -- and where the phases are over, after the look and the load of the phase
-  pub over : left_after branches_target last_setting (one_fill ++ calls 0 (call_of 0 1) 4) 0
+  pub over : left_after branches_target last_setting (one_fill ++ calls 0 (call_of 0 1) 3) 0
       ≡ filled (replies.Number 0 ∷ replies.Phases 1 ∷ []) (0 ∷ 2 ∷ 0 ∷ 0 ∷ []) 1
 
 -- ---- a text that isn't proper
@@ -86,7 +92,8 @@ stale_setting = setting_of 1 2 1 2 1 1000
 abbrev pub renew_lines : List Line
 renew_lines = story (
     (begins 0 1 (call_of 0 0) ∷ reads (Cell 0) 2 ∷ passes 0 1 ∷ [])
-    ∷ (looks 1 5 ∷ looks 2 4 ∷ takes 2 4 5 ∷ draws 2 0 ∷ passes 0 1 ∷ [])
+    ∷ takes 2 8194 0 8192 5
+    ∷ (draws 2 0 ∷ passes 0 1 ∷ [])
     ∷ (guards 0 0 1 ∷ guards 0 1 2 ∷ passes 0 1 ∷ exchanges (Cell 0) 2 4 2 ∷ [])
     ∷ retires 1 1 6
     ∷ (clears 0 0 ∷ clears 0 1 ∷ renews 0 1 ∷ [])
@@ -112,12 +119,14 @@ copy_lines =
 -- the second root still has
 abbrev pub second_renew : List Line
 second_renew = story (
-    (begins 0 1 (call_of 0 0) ∷ reads (Cell 0) 4 ∷ passes 0 1 ∷ looks 1 6 ∷ looks 2 5 ∷ [])
+    (begins 0 1 (call_of 0 0) ∷ reads (Cell 0) 4 ∷ passes 0 1 ∷ looks 8192 ∷ [])
     ∷ raises 1 2
     ∷ (warns 0 2 1 ∷ [])
     ∷ no_hazards 0
-    ∷ (looks 1 6 ∷ frees 1 6 8 ∷ looks 2 5 ∷ [])
-    ∷ (looks 1 8 ∷ takes 1 8 9 ∷ draws 1 0 ∷ renews 0 2 ∷ [])
+    ∷ (finds 2 5 ∷ finds 1 6 ∷ frees 1 6 8 ∷ [])
+    ∷ pushes 1 8192 0 16385
+    ∷ takes 1 16385 0 16384 9
+    ∷ (draws 1 0 ∷ renews 0 2 ∷ [])
     ∷ (reads (Cell 0) 4 ∷ passes 0 2 ∷ draws 1 0 ∷ passes 0 2 ∷ [])
     ∷ (guards 0 0 2 ∷ guards 0 1 1 ∷ passes 0 2 ∷ exchanges (Cell 0) 4 2 4 ∷ [])
     ∷ retires 2 2 10
@@ -127,12 +136,15 @@ second_renew = story (
 -- `hold` sweeps and claims slot 2. Its auxiliary exchange puts what the second root has, slot 2, into the first
 abbrev pub hold_lines : List Line
 hold_lines = story (
-    (begins 0 2 (call_of 2 0) ∷ reads (Cell 0) 2 ∷ passes 0 2 ∷ reads (Cell 1) 4 ∷ passes 0 2 ∷ looks 1 9 ∷ looks 2 10 ∷ [])
+    (begins 0 2 (call_of 2 0) ∷ reads (Cell 0) 2 ∷ passes 0 2 ∷ reads (Cell 1) 4 ∷ passes 0 2 ∷ looks 16384 ∷ [])
     ∷ raises 2 3
     ∷ (warns 0 3 2 ∷ [])
     ∷ no_hazards 0
-    ∷ (looks 1 9 ∷ looks 2 10 ∷ frees 2 10 12 ∷ [])
-    ∷ (looks 1 9 ∷ looks 2 12 ∷ takes 2 12 13 ∷ draws 2 0 ∷ renews 0 3 ∷ [])
+    ∷ (finds 2 10 ∷ frees 2 10 12 ∷ [])
+    ∷ pushes 2 16384 0 24578
+    ∷ (finds 1 9 ∷ [])
+    ∷ takes 2 24578 0 24576 13
+    ∷ (draws 2 0 ∷ renews 0 3 ∷ [])
     ∷ (reads (Cell 0) 2 ∷ passes 0 3 ∷ reads (Cell 1) 4 ∷ passes 0 3 ∷ draws 2 0 ∷ passes 0 3 ∷ [])
     ∷ (guards 0 0 1 ∷ guards 0 2 2 ∷ passes 0 3 ∷ [])
     ∷ (gives (Exchange (Cell 0) 2 4 2) (Accesses ∷ Accesses ∷ []) ∷ clears 0 0 ∷ clears 0 2 ∷ renews 0 3 ∷ [])
@@ -147,16 +159,16 @@ second_hold = story (
     ∷ [])
 
 abbrev pub renewed : List CoreEvent
-renewed = calls 0 (call_of 0 0) 17
+renewed = calls 0 (call_of 0 0) 18
 
 abbrev pub copied : List CoreEvent
 copied = renewed ++ calls 0 (call_of 1 0) 11
 
 abbrev pub renewed_twice : List CoreEvent
-renewed_twice = copied ++ calls 0 (call_of 0 0) 36
+renewed_twice = copied ++ calls 0 (call_of 0 0) 40
 
 abbrev pub held : List CoreEvent
-held = renewed_twice ++ calls 0 (call_of 2 0) 39
+held = renewed_twice ++ calls 0 (call_of 2 0) 42
 
 abbrev pub held_twice : List CoreEvent
 held_twice = held ++ calls 0 (call_of 2 0) 14
@@ -167,8 +179,8 @@ stale_replies = replies.Number 1 ∷ replies.Nothing ∷ replies.Number 1 ∷ re
 pub record StaleRows : Type 0 where
   pub renew : lines_after stale_target stale_setting [] renewed ≡ renew_lines
   pub copy : lines_after stale_target stale_setting renewed (calls 0 (call_of 1 0) 11) ≡ copy_lines
-  pub renew_again : lines_after stale_target stale_setting copied (calls 0 (call_of 0 0) 36) ≡ second_renew
-  pub hold : lines_after stale_target stale_setting renewed_twice (calls 0 (call_of 2 0) 39) ≡ hold_lines
+  pub renew_again : lines_after stale_target stale_setting copied (calls 0 (call_of 0 0) 40) ≡ second_renew
+  pub hold : lines_after stale_target stale_setting renewed_twice (calls 0 (call_of 2 0) 42) ≡ hold_lines
   -- the auxiliary exchange put a reference to the cradle's slot in place, and the cradle isn't emptied
   pub after_hold : left_after stale_target stale_setting held 0
       ≡ Some (record { replies = stale_replies; cradles = 2 ∷ 0 ∷ 0 ∷ 0 ∷ []; restarts = 2; claims = 3 })
@@ -180,7 +192,9 @@ pub record StaleRows : Type 0 where
 abbrev pub late_lines : List Line
 late_lines = story (
     (begins 0 1 (call_of 3 0) ∷ reads (Cell 0) 2 ∷ passes 0 1 ∷ guards 0 0 1 ∷ passes 0 1 ∷ exchanges (Cell 0) 2 2 2 ∷ [])
-    ∷ (clears 0 0 ∷ looks 1 5 ∷ looks 2 4 ∷ takes 2 4 5 ∷ draws 2 0 ∷ passes 0 1 ∷ [])
+    ∷ (clears 0 0 ∷ [])
+    ∷ takes 2 8194 0 8192 5
+    ∷ (draws 2 0 ∷ passes 0 1 ∷ [])
     ∷ (guards 0 0 1 ∷ guards 0 1 2 ∷ passes 0 1 ∷ exchanges (Cell 0) 2 4 2 ∷ [])
     ∷ retires 1 1 6
     ∷ (clears 0 0 ∷ clears 0 1 ∷ renews 0 1 ∷ [])
@@ -191,11 +205,14 @@ late_lines = story (
 abbrev pub late_again : List Line
 late_again = story (
     (begins 0 1 (call_of 3 0) ∷ reads (Cell 0) 4 ∷ passes 0 1 ∷ guards 0 0 2 ∷ passes 0 1 ∷ exchanges (Cell 0) 4 4 4 ∷ [])
-    ∷ (clears 0 0 ∷ looks 1 6 ∷ looks 2 5 ∷ [])
+    ∷ (clears 0 0 ∷ looks 8192 ∷ [])
     ∷ raises 1 2
     ∷ (warns 0 2 1 ∷ [])
     ∷ no_hazards 0
-    ∷ (looks 1 6 ∷ frees 1 6 8 ∷ looks 2 5 ∷ looks 1 8 ∷ takes 1 8 9 ∷ draws 1 0 ∷ renews 0 2 ∷ [])
+    ∷ (finds 2 5 ∷ finds 1 6 ∷ frees 1 6 8 ∷ [])
+    ∷ pushes 1 8192 0 16385
+    ∷ takes 1 16385 0 16384 9
+    ∷ (draws 1 0 ∷ renews 0 2 ∷ [])
     ∷ (reads (Cell 0) 4 ∷ passes 0 2 ∷ guards 0 0 2 ∷ passes 0 2 ∷ exchanges (Cell 0) 4 4 4 ∷ clears 0 0 ∷ draws 1 0 ∷ passes 0 2 ∷ [])
     ∷ (guards 0 0 2 ∷ guards 0 1 1 ∷ passes 0 2 ∷ exchanges (Cell 0) 4 2 4 ∷ [])
     ∷ retires 2 2 10
@@ -203,7 +220,7 @@ late_again = story (
     ∷ [])
 
 pub record LateRows : Type 0 where
-  pub lines : lines_after stale_target stale_setting [] (calls 0 (call_of 3 0) 21) ≡ late_lines
-  pub again : lines_after stale_target stale_setting (calls 0 (call_of 3 0) 21) (calls 0 (call_of 3 0) 44) ≡ late_again
-  pub left : left_after stale_target stale_setting (calls 0 (call_of 3 0) 21 ++ calls 0 (call_of 3 0) 44) 0
+  pub lines : lines_after stale_target stale_setting [] (calls 0 (call_of 3 0) 22) ≡ late_lines
+  pub again : lines_after stale_target stale_setting (calls 0 (call_of 3 0) 22) (calls 0 (call_of 3 0) 48) ≡ late_again
+  pub left : left_after stale_target stale_setting (calls 0 (call_of 3 0) 22 ++ calls 0 (call_of 3 0) 48) 0
       ≡ Some (record { replies = replies.Number 1 ∷ replies.Number 1 ∷ []; cradles = no_slots; restarts = 1; claims = 2 })

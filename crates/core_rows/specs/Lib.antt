@@ -16,3 +16,4 @@ pub mod PairRows
 pub mod SharedRows
 pub mod ReplayRows
 pub mod CombinedRows
+pub mod ChainRows

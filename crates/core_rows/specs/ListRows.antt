@@ -7,7 +7,7 @@ use Rattle.caller_parts.specs.Settings.{Setting}
 use Rattle.core_runs.specs.Machine.{CoreEvent}
 use Rattle.core_rows.specs.Short.{call_of, setting_of, no_slots}
 use Rattle.core_rows.specs.ShippedTargets.{list_target}
-use Rattle.core_rows.specs.Stories.{Line, story, lines_after, left_after, calls, begins, passes, renews, reads, puts, exchanges, guards, clears, draws, zeroes, looks, takes, retires, raises, warns, no_hazards, frees}
+use Rattle.core_rows.specs.Stories.{Line, story, lines_after, left_after, calls, begins, passes, renews, reads, puts, exchanges, guards, clears, draws, zeroes, looks, takes, retires, raises, warns, no_hazards, finds, frees, pushes}
 
 abbrev pub list_setting : Setting
 list_setting = setting_of 1 3 2 1 1 1000000000
@@ -30,7 +30,7 @@ abbrev pub first_insert : List Line
 first_insert = story (
     (begins 0 1 (call_of 0 7) ∷ [])
     ∷ empty_searched 1
-    ∷ (looks 1 5 ∷ looks 2 4 ∷ takes 2 4 5 ∷ [])
+    ∷ takes 2 8194 3 8195 5
     ∷ linked 1 2 4 7
     ∷ [])
 
@@ -45,12 +45,12 @@ removed slot reference = story (
     ∷ (clears 0 0 ∷ clears 0 1 ∷ renews 0 1 ∷ [])
     ∷ [])
 
--- `insert 7` with slot 3, since slot 2 is retired
+-- `insert 7` with slot 3, which slot 2 has left on top
 abbrev pub second_insert : List Line
 second_insert = story (
     (begins 0 1 (call_of 0 7) ∷ [])
     ∷ empty_searched 1
-    ∷ (looks 1 5 ∷ looks 2 6 ∷ looks 3 4 ∷ takes 3 4 5 ∷ [])
+    ∷ takes 3 8195 0 8192 5
     ∷ linked 1 3 6 7
     ∷ [])
 
@@ -60,18 +60,23 @@ abbrev pub third_insert : List Line
 third_insert = story (
     (begins 0 1 (call_of 0 7) ∷ [])
     ∷ empty_searched 1
-    ∷ (looks 1 5 ∷ looks 2 6 ∷ looks 3 6 ∷ [])
+    ∷ (looks 8192 ∷ [])
     ∷ raises 1 2
     ∷ (warns 0 2 1 ∷ [])
     ∷ no_hazards 0
-    ∷ (looks 1 5 ∷ looks 2 6 ∷ frees 2 6 8 ∷ looks 3 6 ∷ frees 3 6 8 ∷ [])
-    ∷ (looks 1 5 ∷ looks 2 8 ∷ takes 2 8 9 ∷ zeroes 2 0 ∷ draws 2 1 ∷ renews 0 2 ∷ [])
+    ∷ (finds 3 6 ∷ frees 3 6 8 ∷ [])
+    ∷ pushes 3 8192 0 16387
+    ∷ (finds 2 6 ∷ frees 2 6 8 ∷ [])
+    ∷ pushes 2 16387 3 16386
+    ∷ (finds 1 5 ∷ [])
+    ∷ takes 2 16386 3 16387 9
+    ∷ (zeroes 2 0 ∷ draws 2 1 ∷ renews 0 2 ∷ [])
     ∷ empty_searched 2
     ∷ linked 2 2 4 7
     ∷ [])
 
 abbrev pub inserted : List CoreEvent
-inserted = calls 0 (call_of 0 7) 21
+inserted = calls 0 (call_of 0 7) 22
 
 abbrev pub one_round : List CoreEvent
 one_round = inserted ++ calls 0 (call_of 1 7) 21
@@ -83,7 +88,7 @@ abbrev pub two_rounds : List CoreEvent
 two_rounds = inserted_again ++ calls 0 (call_of 1 7) 21
 
 abbrev pub third_inserted : List CoreEvent
-third_inserted = two_rounds ++ calls 0 (call_of 0 7) 47
+third_inserted = two_rounds ++ calls 0 (call_of 0 7) 52
 
 abbrev pub one : Reply
 one = replies.Number 1
@@ -93,6 +98,6 @@ pub record ListRows : Type 0 where
   pub remove : lines_after list_target list_setting inserted (calls 0 (call_of 1 7) 21) ≡ removed 2 4
   pub insert_again : lines_after list_target list_setting one_round (calls 0 (call_of 0 7) 22) ≡ second_insert
   pub remove_again : lines_after list_target list_setting inserted_again (calls 0 (call_of 1 7) 21) ≡ removed 3 6
-  pub insert_sweeps : lines_after list_target list_setting two_rounds (calls 0 (call_of 0 7) 47) ≡ third_insert
+  pub insert_sweeps : lines_after list_target list_setting two_rounds (calls 0 (call_of 0 7) 52) ≡ third_insert
   pub left : left_after list_target list_setting third_inserted 0
       ≡ Some (record { replies = one ∷ one ∷ one ∷ one ∷ one ∷ []; cradles = no_slots; restarts = 1; claims = 3 })

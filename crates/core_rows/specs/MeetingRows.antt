@@ -1,20 +1,20 @@
 -- Runs in which two callers meet in their sweeps, claims and loads of the own warning.
-use Rattle.std.specs.Prelude.{◌≡◌, List, [], ◌∷◌, ◌++◌, Some}
-use Rattle.oa_words.specs.Words.{Phase, Warning, Status, FieldOf, Cell}
+use Rattle.std.specs.Prelude.{◌≡◌, ℕ, List, [], ◌∷◌, ◌++◌, Some}
+use Rattle.oa_words.specs.Words.{Phase, Warning, Status, FieldOf, Cell, Head}
 use Rattle.caller_parts.specs.declared.call.Reply.TheVariants as replies
 use Rattle.caller_steps.specs.Signs.{Accesses}
 use Rattle.core_runs.specs.Machine.{CoreEvent}
 use Rattle.core_rows.specs.Short.{call_of, no_slots}
 use Rattle.core_rows.specs.SmallTargets.{swap_target}
 use Rattle.core_rows.specs.SwapRows.{swap_setting, again_setting, peek_setting, overtaken}
-use Rattle.core_rows.specs.Stories.{Line, Exchange, Raise, gives, silent, story, lines_after, left_after, steps, calls, passes, renews, reads, puts, exchanges, guards, clears, draws, looks, takes, retires, raises, warns, no_hazards, frees}
+use Rattle.core_rows.specs.Stories.{Line, Exchange, Raise, gives, silent, story, lines_after, left_after, steps, calls, passes, renews, reads, puts, exchanges, guards, clears, draws, looks, takes, retires, raises, warns, no_hazards, finds, frees, pushes}
 
 -- ---- a slot that is retired in the phase of a sweep under way
 
 -- `swap 7` stands before its guards. The other caller's sweep has raised the phase to 2, warned both and found no guard: it
 -- stands before its first status
 abbrev pub sweeping : List CoreEvent
-sweeping = calls 0 (call_of 0 7) 9 ++ calls 1 (call_of 0 8) 25
+sweeping = calls 0 (call_of 0 7) 10 ++ calls 1 (call_of 0 8) 24
 
 -- the check before the list fails, and in a generator's restart no guard stays, the kept register's neither. The second run
 -- goes through, and retires slot 1 in phase 2
@@ -32,17 +32,20 @@ swap_restarts = story (
 -- the sweep leaves the slot that was retired in the phase it raised to; the next sweep makes it ready
 abbrev pub sweeps_twice : List Line
 sweeps_twice = story (
-    (looks 1 10 ∷ looks 2 5 ∷ looks 1 10 ∷ looks 2 5 ∷ [])
+    (finds 2 5 ∷ finds 1 10 ∷ looks 8192 ∷ [])
     ∷ raises 2 3
     ∷ (warns 0 3 2 ∷ warns 1 3 2 ∷ [])
     ∷ no_hazards 0
     ∷ no_hazards 1
-    ∷ (looks 1 10 ∷ frees 1 10 12 ∷ looks 2 5 ∷ looks 1 12 ∷ takes 1 12 13 ∷ draws 1 0 ∷ renews 1 3 ∷ [])
+    ∷ (finds 2 5 ∷ finds 1 10 ∷ frees 1 10 12 ∷ [])
+    ∷ pushes 1 8192 0 24577
+    ∷ takes 1 24577 0 24576 13
+    ∷ (draws 1 0 ∷ renews 1 3 ∷ [])
     ∷ [])
 
 pub record OwnPhaseRows : Type 0 where
   pub restart : lines_after swap_target swap_setting sweeping (steps 0 28) ≡ swap_restarts
-  pub sweeps : lines_after swap_target swap_setting (sweeping ++ steps 0 28) (steps 1 31) ≡ sweeps_twice
+  pub sweeps : lines_after swap_target swap_setting (sweeping ++ steps 0 28) (steps 1 35) ≡ sweeps_twice
   pub left : left_after swap_target swap_setting (sweeping ++ steps 0 28) 0
       ≡ Some (record { replies = replies.Number 8 ∷ []; cradles = no_slots; restarts = 1; claims = 1 })
 
@@ -50,7 +53,7 @@ pub record OwnPhaseRows : Type 0 where
 
 -- `swap 7` has retired slot 1 and cleared the new node's guard. The other caller sweeps twice and gets nothing
 abbrev pub before_wrap_up : List CoreEvent
-before_wrap_up = calls 0 (call_of 0 7) 16 ++ calls 1 (call_of 0 8) 53
+before_wrap_up = calls 0 (call_of 0 7) 17 ++ calls 1 (call_of 0 8) 50
 
 -- the word found is `seen`: no check fails
 abbrev pub wrap_up_sees : List Line
@@ -61,7 +64,7 @@ wrap_up_sees = story (
 
 -- `swap 7` has cleared its guards for `again`, and another call of the other caller has warned both
 abbrev pub before_again : List CoreEvent
-before_again = overtaken ++ (steps 0 14 ++ calls 1 (call_of 0 9) 10)
+before_again = overtaken ++ (steps 0 14 ++ calls 1 (call_of 0 9) 8)
 
 abbrev pub again_sees : List Line
 again_sees = renews 0 2 ∷ reads (Cell 0) 6 ∷ passes 0 2 ∷ draws 2 0 ∷ passes 0 2 ∷ []
@@ -84,31 +87,39 @@ slow_sweep = story (
     (silent (Exchange Phase 1 2 3) ∷ silent (Raise (Warning 0) 2 3) ∷ silent (Raise (Warning 1) 2 3) ∷ [])
     ∷ no_hazards 0
     ∷ no_hazards 1
-    ∷ (looks 1 5 ∷ looks 1 5 ∷ [])
+    ∷ (finds 1 5 ∷ looks 8192 ∷ [])
     ∷ raises 3 4
     ∷ (warns 0 4 3 ∷ warns 1 4 3 ∷ [])
     ∷ [])
 
--- both callers have loaded the status of slot 2, and the second has taken it
+-- both callers have loaded the head with slot 2 on top, and its link. The second has taken the slot, and hasn't stored that it is used
 abbrev pub outlooked : List CoreEvent
 outlooked = calls 0 (call_of 0 7) 5 ++ calls 1 (call_of 0 8) 6
 
--- the exchange fails, claims nothing, and the look goes on to slot 3
+-- the exchange fails, claims nothing, and the look begins again, with slot 3 on top
 abbrev pub slow_look : List Line
-slow_look = silent (Exchange (Status 2) 4 5 5) ∷ looks 3 4 ∷ takes 3 4 5 ∷ draws 3 0 ∷ []
+slow_look = story (
+    (silent (Exchange Head 8194 8195 8195) ∷ [])
+    ∷ takes 3 8195 0 8192 5
+    ∷ (draws 3 0 ∷ [])
+    ∷ [])
 
 -- a whole `swap 7` has retired slot 1. Both callers' sweeps have loaded its status, and the second, which began in phase 2, has
--- made it ready
-abbrev pub outswept : List CoreEvent
-outswept = calls 0 (call_of 0 7) 27 ++ (calls 0 (call_of 0 9) 26 ++ calls 1 (call_of 0 8) 27)
+-- made it ready with its 27th step, and pushed it with three more
+abbrev pub outswept : ℕ → List CoreEvent
+outswept n = calls 0 (call_of 0 7) 28 ++ (calls 0 (call_of 0 9) 26 ++ calls 1 (call_of 0 8) n)
 
--- the exchange fails, and the sweep goes on; the look after it takes the slot
+-- the exchange fails, so the slot isn't pushed twice, and the sweep has ended; the look after it takes the slot
 abbrev pub slow_free : List Line
-slow_free = silent (Exchange (Status 1) 6 8 12) ∷ looks 2 5 ∷ looks 1 12 ∷ takes 1 12 13 ∷ []
+slow_free = silent (Exchange (Status 1) 6 8 12) ∷ takes 1 24577 0 24576 13
+
+-- and finds none as long as the slot isn't pushed
+abbrev pub not_pushed : List Line
+not_pushed = silent (Exchange (Status 1) 6 8 12) ∷ looks 8192 ∷ []
 
 -- the other caller's first sweep has found slot 1 guarded, and then all guards were cleared
 abbrev pub unguarded : List CoreEvent
-unguarded = calls 0 (call_of 0 7) 23 ++ (calls 1 (call_of 0 8) 29 ++ steps 0 12)
+unguarded = calls 0 (call_of 0 7) 24 ++ (calls 1 (call_of 0 8) 27 ++ steps 0 12)
 
 -- its second sweep gathers nothing, and makes slot 1 ready
 abbrev pub fresh_sweep : List Line
@@ -117,15 +128,23 @@ fresh_sweep = story (
     ∷ (warns 0 3 2 ∷ warns 1 3 2 ∷ [])
     ∷ no_hazards 0
     ∷ no_hazards 1
-    ∷ (looks 1 6 ∷ frees 1 6 12 ∷ looks 2 5 ∷ looks 1 12 ∷ takes 1 12 13 ∷ [])
+    ∷ (finds 2 5 ∷ finds 1 6 ∷ frees 1 6 12 ∷ [])
+    ∷ pushes 1 8192 0 24577
+    ∷ takes 1 24577 0 24576 13
     ∷ [])
 
 pub record RaceRows : Type 0 where
   pub sweeps : lines_after swap_target peek_setting outrun (steps 0 25) ≡ slow_sweep
-  pub looks : lines_after swap_target again_setting outlooked (steps 0 4) ≡ slow_look
+  pub looks : lines_after swap_target again_setting outlooked (steps 0 6) ≡ slow_look
   pub lost : left_after swap_target again_setting (outlooked ++ steps 0 1) 0
       ≡ Some (record { replies = []; cradles = no_slots; restarts = 0; claims = 0 })
-  pub taken : left_after swap_target again_setting (outlooked ++ steps 0 4) 0
+  -- a claim is counted at the exchange that takes its slot, and the cradle is filled with the store after it
+  pub counted : left_after swap_target again_setting (outlooked ++ steps 0 4) 0
+      ≡ Some (record { replies = []; cradles = no_slots; restarts = 0; claims = 1 })
+  pub other_counted : left_after swap_target again_setting outlooked 1
+      ≡ Some (record { replies = []; cradles = no_slots; restarts = 0; claims = 1 })
+  pub taken : left_after swap_target again_setting (outlooked ++ steps 0 6) 0
       ≡ Some (record { replies = []; cradles = 3 ∷ 0 ∷ 0 ∷ 0 ∷ []; restarts = 0; claims = 1 })
-  pub late_free : lines_after swap_target swap_setting outswept (steps 0 4) ≡ slow_free
-  pub forgotten : lines_after swap_target swap_setting unguarded (steps 1 25) ≡ fresh_sweep
+  pub late_free : lines_after swap_target swap_setting (outswept 30) (steps 0 5) ≡ slow_free
+  pub unpushed : lines_after swap_target swap_setting (outswept 27) (steps 0 2) ≡ not_pushed
+  pub forgotten : lines_after swap_target swap_setting unguarded (steps 1 30) ≡ fresh_sweep

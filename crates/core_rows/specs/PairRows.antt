@@ -8,7 +8,7 @@ use Rattle.core_rows.specs.Short.{call_of, setting_of, no_slots}
 use Rattle.core_rows.specs.SmallTargets.{pair_target}
 use Rattle.core_rows.specs.ShippedTargets.{list_target}
 use Rattle.core_rows.specs.ListRows.{list_setting, empty_searched, linked}
-use Rattle.core_rows.specs.Stories.{Line, story, lines_after, left_after, calls, begins, passes, ends, renews, reads, exchanges, guards, clears, looks, takes, retires}
+use Rattle.core_rows.specs.Stories.{Line, story, lines_after, left_after, calls, begins, passes, ends, renews, reads, exchanges, guards, clears, takes, retires}
 
 abbrev pub pair_setting : Setting
 pair_setting = setting_of 1 2 2 1 2 1000
@@ -66,12 +66,12 @@ pub record PairRows : Type 0 where
 abbrev pub fifth_setting : Setting
 fifth_setting = record list_setting { first = 5 }
 
--- used in phase 5 is 21, ready 20
+-- used in phase 5 is 21, and the head of phase 5 is 40960 and the slot on top
 abbrev pub fifth_insert : List Line
 fifth_insert = story (
     (begins 0 5 (call_of 0 7) ∷ [])
     ∷ empty_searched 5
-    ∷ (looks 1 21 ∷ looks 2 20 ∷ takes 2 20 21 ∷ [])
+    ∷ takes 2 40962 3 40963 21
     ∷ linked 5 2 4 7
     ∷ [])
 
@@ -87,5 +87,5 @@ fifth_remove = story (
     ∷ [])
 
 pub record FifthRows : Type 0 where
-  pub insert : lines_after list_target fifth_setting [] (calls 0 (call_of 0 7) 21) ≡ fifth_insert
-  pub remove : lines_after list_target fifth_setting (calls 0 (call_of 0 7) 21) (calls 0 (call_of 1 7) 21) ≡ fifth_remove
+  pub insert : lines_after list_target fifth_setting [] (calls 0 (call_of 0 7) 22) ≡ fifth_insert
+  pub remove : lines_after list_target fifth_setting (calls 0 (call_of 0 7) 22) (calls 0 (call_of 1 7) 21) ≡ fifth_remove

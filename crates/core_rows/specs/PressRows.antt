@@ -7,7 +7,7 @@ use Rattle.caller_parts.specs.Settings.{Setting}
 use Rattle.core_runs.specs.Machine.{CoreEvent}
 use Rattle.core_rows.specs.Short.{call_of, setting_of, no_slots}
 use Rattle.core_rows.specs.SmallTargets.{press_target}
-use Rattle.core_rows.specs.Stories.{Line, story, lines_after, left_after, steps, calls, begins, passes, ends, renews, reads, puts, exchanges, guards, clears, draws, looks, takes, retires, raises, warns, no_hazards, frees}
+use Rattle.core_rows.specs.Stories.{Line, story, lines_after, left_after, steps, calls, begins, passes, ends, renews, reads, puts, exchanges, guards, clears, draws, looks, takes, retires, raises, warns, no_hazards, finds, frees, pushes}
 
 abbrev pub press_setting : ℕ → ℕ → Setting
 press_setting callers slots = setting_of callers slots 1 1 1 1000
@@ -16,7 +16,9 @@ press_setting callers slots = setting_of callers slots 1 1 1 1000
 abbrev pub press_lines : List Line
 press_lines = story (
     (begins 0 1 (call_of 0 5) ∷ reads (Cell 0) 2 ∷ passes 0 1 ∷ guards 0 0 1 ∷ passes 0 1 ∷ exchanges (Cell 0) 2 2 2 ∷ [])
-    ∷ (clears 0 0 ∷ looks 1 5 ∷ looks 2 4 ∷ takes 2 4 5 ∷ draws 2 0 ∷ passes 0 1 ∷ [])
+    ∷ (clears 0 0 ∷ [])
+    ∷ takes 2 8194 0 8192 5
+    ∷ (draws 2 0 ∷ passes 0 1 ∷ [])
     ∷ (puts (FieldOf 2 0) 6 ∷ guards 0 0 1 ∷ guards 0 1 2 ∷ passes 0 1 ∷ exchanges (Cell 0) 2 4 2 ∷ [])
     ∷ retires 1 1 6
     ∷ (clears 0 1 ∷ renews 0 1 ∷ reads (Cell 0) 4 ∷ ends 0 1 ∷ clears 0 0 ∷ [])
@@ -26,11 +28,14 @@ press_lines = story (
 abbrev pub press_restarts : List Line
 press_restarts = story (
     (begins 0 1 (call_of 0 7) ∷ reads (Cell 0) 4 ∷ passes 0 1 ∷ guards 0 0 2 ∷ passes 0 1 ∷ exchanges (Cell 0) 4 4 4 ∷ [])
-    ∷ (clears 0 0 ∷ looks 1 6 ∷ looks 2 5 ∷ [])
+    ∷ (clears 0 0 ∷ looks 8192 ∷ [])
     ∷ raises 1 2
     ∷ (warns 0 2 1 ∷ [])
     ∷ no_hazards 0
-    ∷ (looks 1 6 ∷ frees 1 6 8 ∷ looks 2 5 ∷ looks 1 8 ∷ takes 1 8 9 ∷ draws 1 0 ∷ renews 0 2 ∷ [])
+    ∷ (finds 2 5 ∷ finds 1 6 ∷ frees 1 6 8 ∷ [])
+    ∷ pushes 1 8192 0 16385
+    ∷ takes 1 16385 0 16384 9
+    ∷ (draws 1 0 ∷ renews 0 2 ∷ [])
     ∷ (reads (Cell 0) 4 ∷ passes 0 2 ∷ guards 0 0 2 ∷ passes 0 2 ∷ exchanges (Cell 0) 4 4 4 ∷ clears 0 0 ∷ draws 1 0 ∷ passes 0 2 ∷ [])
     ∷ (puts (FieldOf 1 0) 8 ∷ guards 0 0 2 ∷ guards 0 1 1 ∷ passes 0 2 ∷ exchanges (Cell 0) 4 2 4 ∷ [])
     ∷ retires 2 2 10
@@ -38,11 +43,11 @@ press_restarts = story (
     ∷ [])
 
 abbrev pub pressed : List CoreEvent
-pressed = calls 0 (call_of 0 5) 24
+pressed = calls 0 (call_of 0 5) 25
 
 -- two callers, three slots: caller 0 stands before the list of its `press 7`, and caller 1 makes a whole `press 5`
 abbrev pub overtaken : List CoreEvent
-overtaken = calls 0 (call_of 0 7) 16 ++ calls 1 (call_of 0 5) 25
+overtaken = calls 0 (call_of 0 7) 17 ++ calls 1 (call_of 0 5) 25
 
 -- the exchange fails, and the wrap-up, which has counted to 9, begins again at once: the kept guard is cleared, and the
 -- generator puts 8 once more
@@ -66,8 +71,8 @@ press_again =
 
 pub record PressRows : Type 0 where
   pub lines : lines_after press_target (press_setting 1 2) [] pressed ≡ press_lines
-  pub restart : lines_after press_target (press_setting 1 2) pressed (calls 0 (call_of 0 7) 47) ≡ press_restarts
-  pub left : left_after press_target (press_setting 1 2) (pressed ++ calls 0 (call_of 0 7) 47) 0
+  pub restart : lines_after press_target (press_setting 1 2) pressed (calls 0 (call_of 0 7) 51) ≡ press_restarts
+  pub left : left_after press_target (press_setting 1 2) (pressed ++ calls 0 (call_of 0 7) 51) 0
       ≡ Some (record { replies = replies.Number 7 ∷ replies.Number 9 ∷ []; cradles = no_slots; restarts = 1; claims = 2 })
   pub again : lines_after press_target (press_setting 2 3) overtaken (steps 0 14) ≡ press_again
   pub other_left : left_after press_target (press_setting 2 3) overtaken 1

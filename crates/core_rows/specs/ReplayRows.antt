@@ -207,5 +207,5 @@ pub record KindRows : Type 0 where
   pub full_ended : summary swap_target (setting_of 1 1 1 2 1 1000) ((call_of 0 8 ∷ call_of 1 0 ∷ []) ∷ []) (turns.Ops 0 1 ∷ turns.Step 0 7 ∷ []) ≡ Err (StepOfNobody 36)
   -- and one that got the phase too: 5 steps, and then six
   pub over_ended : summary swap_target (setting_of 1 1 1 2 1 1) ((call_of 0 8 ∷ call_of 1 0 ∷ []) ∷ []) (turns.Ops 0 1 ∷ turns.Step 0 7 ∷ []) ≡ Err (StepOfNobody 11)
-  -- a claim's exchange and a sweep's aren't exchanges of the text: `swap` has two of these, and the second is its 25th step of 27
-  pub text_exchanges : summary swap_target (setting_of 1 2 1 2 1 1000) ((call_of 0 7 ∷ []) ∷ []) (turns.Upto 0 kinds.Exchange 2 ∷ turns.Step 0 4 ∷ []) ≡ Err (StepOfNobody 27)
+  -- a claim's exchange and a sweep's aren't exchanges of the text: `swap` has two of these, and the second is its 26th step of 28
+  pub text_exchanges : summary swap_target (setting_of 1 2 1 2 1 1000) ((call_of 0 7 ∷ []) ∷ []) (turns.Upto 0 kinds.Exchange 2 ∷ turns.Step 0 4 ∷ []) ≡ Err (StepOfNobody 28)

@@ -8,7 +8,7 @@ use Rattle.caller_steps.specs.Signs.{Accesses}
 use Rattle.core_runs.specs.Machine.{CoreEvent}
 use Rattle.core_rows.specs.Short.{call_of, setting_of, no_slots}
 use Rattle.core_rows.specs.ShippedTargets.{list_target}
-use Rattle.core_rows.specs.Stories.{Line, Load, Store, gives, silent, story, lines_after, left_after, steps, calls, begins, passes, ends, renews, reads, exchanges, guards, clears, draws, zeroes, looks, takes, raises, warns, hazards, no_hazards, frees}
+use Rattle.core_rows.specs.Stories.{Line, Load, Store, gives, silent, story, lines_after, left_after, steps, calls, begins, passes, ends, renews, reads, exchanges, guards, clears, draws, zeroes, looks, takes, raises, warns, hazards, no_hazards, finds, frees, pushes}
 use Rattle.core_rows.specs.ListRows.{one, empty_searched, linked}
 
 -- two callers, and so many slots
@@ -31,13 +31,16 @@ abbrev pub recycles : List Line
 recycles = story (
     (begins 0 1 (call_of 0 6) ∷ [])
     ∷ empty_searched 1
-    ∷ (looks 1 5 ∷ looks 2 6 ∷ [])
+    ∷ (looks 8192 ∷ [])
     ∷ raises 1 2
     ∷ (warns 0 2 1 ∷ warns 1 2 1 ∷ [])
     ∷ no_hazards 0
     ∷ no_hazards 1
-    ∷ (looks 1 5 ∷ looks 2 6 ∷ frees 2 6 8 ∷ [])
-    ∷ (looks 1 5 ∷ looks 2 8 ∷ takes 2 8 9 ∷ zeroes 2 0 ∷ draws 2 1 ∷ renews 0 2 ∷ [])
+    ∷ (finds 2 6 ∷ frees 2 6 8 ∷ [])
+    ∷ pushes 2 8192 0 16386
+    ∷ (finds 1 5 ∷ [])
+    ∷ takes 2 16386 0 16384 9
+    ∷ (zeroes 2 0 ∷ draws 2 1 ∷ renews 0 2 ∷ [])
     ∷ empty_searched 2
     ∷ linked 2 2 4 6
     ∷ [])
@@ -52,7 +55,7 @@ contains_ends = story (
     ∷ [])
 
 abbrev pub five_in : List CoreEvent
-five_in = calls 0 (call_of 0 5) 21
+five_in = calls 0 (call_of 0 5) 22
 
 abbrev pub searching : List CoreEvent
 searching = five_in ++ calls 1 (call_of 2 5) 5
@@ -61,11 +64,11 @@ abbrev pub five_out : List CoreEvent
 five_out = searching ++ calls 0 (call_of 1 5) 21
 
 abbrev pub recycled : List CoreEvent
-recycled = five_out ++ calls 0 (call_of 0 6) 53
+recycled = five_out ++ calls 0 (call_of 0 6) 56
 
 pub record RecycledRows : Type 0 where
   pub begun : lines_after list_target (shared_setting 2) five_in (calls 1 (call_of 2 5) 5) ≡ contains_begun
-  pub given_out : lines_after list_target (shared_setting 2) five_out (calls 0 (call_of 0 6) 53) ≡ recycles
+  pub given_out : lines_after list_target (shared_setting 2) five_out (calls 0 (call_of 0 6) 56) ≡ recycles
   pub ended : lines_after list_target (shared_setting 2) recycled (steps 1 11) ≡ contains_ends
   pub left : left_after list_target (shared_setting 2) (recycled ++ steps 1 11) 0
       ≡ Some (record { replies = one ∷ one ∷ one ∷ []; cradles = no_slots; restarts = 1; claims = 2 })
@@ -87,13 +90,16 @@ abbrev pub spares : List Line
 spares = story (
     (begins 0 1 (call_of 0 8) ∷ [])
     ∷ empty_searched 1
-    ∷ (looks 1 5 ∷ looks 2 6 ∷ looks 3 6 ∷ [])
+    ∷ (looks 8192 ∷ [])
     ∷ raises 1 2
     ∷ (warns 0 2 1 ∷ warns 1 2 1 ∷ [])
     ∷ no_hazards 0
     ∷ hazards 1 (1 ∷ 2 ∷ 0 ∷ 0 ∷ 0 ∷ 0 ∷ 0 ∷ 0 ∷ [])
-    ∷ (looks 1 5 ∷ looks 2 6 ∷ looks 3 6 ∷ frees 3 6 8 ∷ [])
-    ∷ (looks 1 5 ∷ looks 2 6 ∷ looks 3 8 ∷ takes 3 8 9 ∷ zeroes 3 0 ∷ draws 3 1 ∷ renews 0 2 ∷ [])
+    ∷ (finds 3 6 ∷ frees 3 6 8 ∷ [])
+    ∷ pushes 3 8192 0 16387
+    ∷ (finds 2 6 ∷ finds 1 5 ∷ [])
+    ∷ takes 3 16387 0 16384 9
+    ∷ (zeroes 3 0 ∷ draws 3 1 ∷ renews 0 2 ∷ [])
     ∷ empty_searched 2
     ∷ linked 2 3 6 8
     ∷ [])
@@ -113,11 +119,11 @@ abbrev pub six_out : List CoreEvent
 six_out = marking ++ (calls 0 (call_of 1 5) 21 ++ (calls 0 (call_of 0 6) 22 ++ calls 0 (call_of 1 6) 21))
 
 abbrev pub spared : List CoreEvent
-spared = six_out ++ calls 0 (call_of 0 8) 56
+spared = six_out ++ calls 0 (call_of 0 8) 57
 
 pub record SparedRows : Type 0 where
   pub begun : lines_after list_target (shared_setting 3) five_in (calls 1 (call_of 1 5) 14) ≡ remove_begun
-  pub kept : lines_after list_target (shared_setting 3) six_out (calls 0 (call_of 0 8) 56) ≡ spares
+  pub kept : lines_after list_target (shared_setting 3) six_out (calls 0 (call_of 0 8) 57) ≡ spares
   pub ended : lines_after list_target (shared_setting 3) spared (steps 1 14) ≡ remove_ends
   pub left : left_after list_target (shared_setting 3) (spared ++ steps 1 14) 0
       ≡ Some (record { replies = one ∷ one ∷ one ∷ one ∷ one ∷ []; cradles = no_slots; restarts = 1; claims = 3 })

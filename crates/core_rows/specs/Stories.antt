@@ -1,7 +1,7 @@
 -- How a run is told: step by step, the access made, the word found there, and the signs given.
 use Rattle.std.specs.Prelude.{ℕ, ◌+◌, Bool, List, [], ◌∷◌, ◌++◌, map, replicate, Option, Some, None, option_map, slice_get}
 use Rattle.guard_words.specs.Guards.{Guards}
-use Rattle.oa_words.specs.Words.{Word, Phase, Warning, Hazard, Status, FieldOf}
+use Rattle.oa_words.specs.Words.{Word, Phase, Warning, Hazard, Status, FieldOf, Head, Link}
 use Rattle.phase_pools.specs.Accesses.{WordAccess, Loads, Stores, Exchanges, Raises}
 use Rattle.target_code.specs.declared.target.Target.{Target}
 use Rattle.caller_parts.specs.declared.call.Call.{Call}
@@ -116,12 +116,13 @@ draws slot field = gives (Store (FieldOf slot field) 0) (Draws slot ∷ [])
 abbrev pub zeroes : ℕ → ℕ → Line
 zeroes slot field = silent (Store (FieldOf slot field) 0)
 
--- a look's load of a status, and its exchange from ready to used, that finds what it expects
-abbrev pub looks : ℕ → ℕ → Line
-looks slot word = silent (Load (Status slot) word)
+-- a look's load of the head: 8192 times its phase, and the slot on top
+abbrev pub looks : ℕ → Line
+looks head = silent (Load Head head)
 
-abbrev pub takes : ℕ → ℕ → ℕ → Line
-takes slot ready used = silent (Exchange (Status slot) ready used ready)
+-- a look that takes the slot on top: the head, the slot's link, the exchange that finds what it expects, and the status
+abbrev pub takes : ℕ → ℕ → ℕ → ℕ → ℕ → List Line
+takes slot head link next used = looks head ∷ silent (Load (Link slot) link) ∷ silent (Exchange Head head next head) ∷ silent (Store (Status slot) used) ∷ []
 
 -- a retirement in a phase
 abbrev pub retires : ℕ → ℕ → ℕ → List Line
@@ -144,6 +145,14 @@ hazards c slots = hazards_from c 0 slots
 
 abbrev pub no_hazards : ℕ → List Line
 no_hazards c = hazards c (0 ∷ 0 ∷ 0 ∷ 0 ∷ 0 ∷ 0 ∷ 0 ∷ 0 ∷ [])
+
+-- a sweep's load of a status
+abbrev pub finds : ℕ → ℕ → Line
+finds slot word = silent (Load (Status slot) word)
+
+-- its push of a slot onto the one on top: the head, the slot's link, and the exchange that finds what it expects
+abbrev pub pushes : ℕ → ℕ → ℕ → ℕ → List Line
+pushes slot head top next = silent (Load Head head) ∷ silent (Store (Link slot) top) ∷ silent (Exchange Head head next head) ∷ []
 
 -- a sweep's exchange of a status to ready
 abbrev pub frees : ℕ → ℕ → ℕ → Line

@@ -1,16 +1,16 @@
 -- Runs of a text whose wrap-up keeps a register: the guard of the old node stays through the wrap-up and through its restart,
 -- and is cleared by `again` and at the end. And wrap-ups that load, claims that are given up.
 use Rattle.std.specs.Prelude.{◌≡◌, ℕ, true, false, List, [], ◌∷◌, ◌++◌, Some, None}
-use Rattle.oa_words.specs.Words.{Phase, Warning, Status, FieldOf, Cell}
+use Rattle.oa_words.specs.Words.{Phase, Warning, FieldOf, Cell, Head}
 use Rattle.caller_parts.specs.declared.call.Reply.TheVariants as replies
 use Rattle.caller_parts.specs.Settings.{Setting}
 use Rattle.caller_steps.specs.Signs.{Begins, Accesses, GivesUp}
 use Rattle.core_runs.specs.Machine.{CoreEvent}
 use Rattle.core_rows.specs.Short.{call_of, setting_of, no_slots}
 use Rattle.core_rows.specs.SmallTargets.{swap_target}
-use Rattle.core_rows.specs.Stories.{Line, Load, Exchange, gives, story, lines_after, left_after, accessed_after, guards_after, steps, calls, begins, passes, ends, renews, reads, puts, exchanges, guards, clears, draws, looks, takes, retires, raises, warns, hazards, no_hazards}
+use Rattle.core_rows.specs.Stories.{Line, Load, Exchange, gives, story, lines_after, left_after, accessed_after, guards_after, steps, calls, begins, passes, ends, renews, reads, puts, exchanges, guards, clears, draws, looks, takes, retires, raises, warns, hazards, no_hazards, finds}
 
--- two callers, and two slots: the second caller finds none that is ready
+-- two callers, and two slots: the second caller finds none on top
 abbrev pub swap_setting : Setting
 swap_setting = setting_of 2 2 1 2 1 1000
 
@@ -19,7 +19,8 @@ swap_setting = setting_of 2 2 1 2 1 1000
 abbrev pub swap_lines : List Line
 swap_lines = story (
     (begins 0 1 (call_of 0 7) ∷ reads (Cell 0) 2 ∷ passes 0 1 ∷ [])
-    ∷ (looks 1 5 ∷ looks 2 4 ∷ takes 2 4 5 ∷ draws 2 0 ∷ passes 0 1 ∷ [])
+    ∷ takes 2 8194 0 8192 5
+    ∷ (draws 2 0 ∷ passes 0 1 ∷ [])
     ∷ (puts (FieldOf 2 0) 7 ∷ guards 0 0 1 ∷ guards 0 1 2 ∷ passes 0 1 ∷ [])
     ∷ (exchanges (Cell 0) 2 4 2 ∷ [])
     ∷ retires 1 1 6
@@ -32,19 +33,17 @@ swap_lines = story (
 abbrev pub other_lines : List Line
 other_lines = story (
     (begins 1 1 (call_of 0 8) ∷ reads (Cell 0) 4 ∷ passes 1 1 ∷ [])
-    ∷ (looks 1 6 ∷ looks 2 5 ∷ [])
+    ∷ (looks 8192 ∷ [])
     ∷ raises 1 2
     ∷ (warns 0 2 1 ∷ warns 1 2 1 ∷ [])
     ∷ hazards 0 (1 ∷ 0 ∷ 2 ∷ 0 ∷ 0 ∷ 0 ∷ 0 ∷ 0 ∷ [])
     ∷ no_hazards 1
-    ∷ (looks 1 6 ∷ looks 2 5 ∷ [])
-    ∷ (looks 1 6 ∷ looks 2 5 ∷ [])
+    ∷ (finds 2 5 ∷ finds 1 6 ∷ looks 8192 ∷ [])
     ∷ raises 2 3
     ∷ (warns 0 3 2 ∷ warns 1 3 2 ∷ [])
     ∷ hazards 0 (1 ∷ 0 ∷ 2 ∷ 0 ∷ 0 ∷ 0 ∷ 0 ∷ 0 ∷ [])
     ∷ no_hazards 1
-    ∷ (looks 1 6 ∷ looks 2 5 ∷ [])
-    ∷ (looks 1 6 ∷ gives (Load (Status 2) 5) (GivesUp None ∷ []) ∷ [])
+    ∷ (finds 2 5 ∷ finds 1 6 ∷ gives (Load Head 8192) (GivesUp None ∷ []) ∷ [])
     ∷ [])
 
 -- the check fails: r2's guard is cleared and r0's stays, and the wrap-up runs once more with the registers of its start, so
@@ -58,14 +57,14 @@ restart_lines = story (
     ∷ [])
 
 abbrev pub swapped : List CoreEvent
-swapped = calls 0 (call_of 0 7) 23
+swapped = calls 0 (call_of 0 7) 24
 
 abbrev pub swept : List CoreEvent
-swept = swapped ++ calls 1 (call_of 0 8) 53
+swept = swapped ++ calls 1 (call_of 0 8) 50
 
 -- between the failed check and its clear the other caller's next call warns once more
 abbrev pub warned_between : List CoreEvent
-warned_between = swept ++ (steps 0 1 ++ calls 1 (call_of 0 8) 8)
+warned_between = swept ++ (steps 0 1 ++ calls 1 (call_of 0 8) 7)
 
 -- `seen` is what the check found, so the next check fails too
 abbrev pub fails_again : List Line
@@ -76,7 +75,7 @@ pub record KeptRows : Type 0 where
   -- the kept guard was validated in the generator; those of the wrap-up wait for a check, and null's never gets one
   pub kept : guards_after swap_target swap_setting swapped 0
       ≡ Some (record { slots = 1 ∷ 0 ∷ 2 ∷ 0 ∷ 0 ∷ 0 ∷ 0 ∷ 0 ∷ []; validated = true ∷ false ∷ false ∷ false ∷ false ∷ false ∷ false ∷ false ∷ [] })
-  pub other : lines_after swap_target swap_setting swapped (calls 1 (call_of 0 8) 53) ≡ other_lines
+  pub other : lines_after swap_target swap_setting swapped (calls 1 (call_of 0 8) 50) ≡ other_lines
   pub restart : lines_after swap_target swap_setting swept (steps 0 12) ≡ restart_lines
   -- right after the failed check, with a guard still to clear: the restart is counted, and the wrap-up run to come has
   -- made no access
@@ -94,7 +93,7 @@ abbrev pub again_setting : Setting
 again_setting = setting_of 2 3 1 2 1 1000
 
 abbrev pub overtaken : List CoreEvent
-overtaken = calls 0 (call_of 0 7) 12 ++ calls 1 (call_of 0 8) 28
+overtaken = calls 0 (call_of 0 7) 13 ++ calls 1 (call_of 0 8) 28
 
 -- the exchange fails, and the cradle keeps its slot. The wrap-up makes its three accesses and begins again: all guards are
 -- cleared, the kept one too. Then the generator runs with its argument, and its `new` takes the cradle's slot
@@ -166,7 +165,7 @@ over_lines =
     begins 0 1 (call_of 0 8)
     ∷ reads (Cell 0) 2
     ∷ passes 0 1
-    ∷ looks 1 5
+    ∷ looks 8192
     ∷ gives (Load Phase 1) (GivesUp (Some 1) ∷ [])
     ∷ []
 
@@ -176,15 +175,15 @@ full_setting = setting_of 1 1 1 2 1 1000
 
 abbrev pub full_lines : List Line
 full_lines = story (
-    (begins 0 1 (call_of 0 8) ∷ reads (Cell 0) 2 ∷ passes 0 1 ∷ looks 1 5 ∷ [])
+    (begins 0 1 (call_of 0 8) ∷ reads (Cell 0) 2 ∷ passes 0 1 ∷ looks 8192 ∷ [])
     ∷ raises 1 2
     ∷ (warns 0 2 1 ∷ [])
     ∷ no_hazards 0
-    ∷ (looks 1 5 ∷ looks 1 5 ∷ [])
+    ∷ (finds 1 5 ∷ looks 8192 ∷ [])
     ∷ raises 2 3
     ∷ (warns 0 3 2 ∷ [])
     ∷ no_hazards 0
-    ∷ (looks 1 5 ∷ gives (Load (Status 1) 5) (GivesUp None ∷ []) ∷ [])
+    ∷ (finds 1 5 ∷ gives (Load Head 8192) (GivesUp None ∷ []) ∷ [])
     ∷ [])
 
 -- with phases 1 and 2 the second sweep can't raise the phase
@@ -193,11 +192,11 @@ second_over_setting = setting_of 1 1 1 2 1 2
 
 abbrev pub second_over_lines : List Line
 second_over_lines = story (
-    (begins 0 1 (call_of 0 8) ∷ reads (Cell 0) 2 ∷ passes 0 1 ∷ looks 1 5 ∷ [])
+    (begins 0 1 (call_of 0 8) ∷ reads (Cell 0) 2 ∷ passes 0 1 ∷ looks 8192 ∷ [])
     ∷ raises 1 2
     ∷ (warns 0 2 1 ∷ [])
     ∷ no_hazards 0
-    ∷ (looks 1 5 ∷ looks 1 5 ∷ gives (Load Phase 2) (GivesUp (Some 2) ∷ []) ∷ [])
+    ∷ (finds 1 5 ∷ looks 8192 ∷ gives (Load Phase 2) (GivesUp (Some 2) ∷ []) ∷ [])
     ∷ [])
 
 -- the next call finds its own warning raised, and is none the worse

@@ -3,6 +3,7 @@
 //! wrong where a row looks breaks that row.
 #![tactic(auto)]
 
+ghost use Rattle.core_rows.specs.ChainRows.{ReturnedRows, CircleRows};
 ghost use Rattle.core_rows.specs.CombinedRows.{CombinedRows};
 ghost use Rattle.core_rows.specs.CompiledRows.{CompiledRows};
 ghost use Rattle.core_rows.specs.CounterRows.{CounterRows, AgainRows, NumberRows};
@@ -84,4 +85,11 @@ pub fn replay_rows()
 /// The queue as `compile` makes it, with checks that loads share: each call alone, whole runs of the queue, and its target by hand.
 pub fn combined_rows()
     ensures { CombinedRows }
+{}
+
+/// The chain of ready slots: a head that comes back under the same phase, and a circle that a text makes which isn't proper, so that
+/// three callers claim one slot.
+pub fn chain_rows()
+    ensures returned { ReturnedRows }
+    ensures circle { CircleRows }
 {}

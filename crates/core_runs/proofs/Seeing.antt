@@ -2,11 +2,10 @@
 use Rattle.std.proofs.Common.{◌≡◌, ◌≢◌, ℕ, zero, suc, ◌<◌, Bool, true, false, ◌==◌, ◌&&◌, List, [], ◌∷◌, set, length, Option, Some, None, refl, sym, ◌∙◌, ap, subst, arith, ⊎_elim, if◌then◌else◌, get_or-set_other, get_or-set_same}
 use Rattle.std.specs.Prelude.{slice_get, slice_index, unwrap_or}
 use Rattle.std.proofs.Math.Path.{fun_ext}
-use Rattle.std.proofs.lemmas.Bool.{and_parts}
-use Rattle.std.proofs.lemmas.Bool.Decides.{nat_tests, eqb_tells}
+use Rattle.std.proofs.lemmas.Bool.Decides.{eqb_tells}
 use Rattle.std.proofs.lemmas.Option.{slice_get_within}
 use Rattle.target_code.specs.declared.target.Target.{Target}
-use Rattle.oa_words.specs.Words.{Word, Phase, Place, Warning, Hazard, Status, FieldOf, Cell, Sizes, address_of, in_row, word_count}
+use Rattle.oa_words.specs.Words.{Word, Sizes, address_of, in_row, word_count}
 use Rattle.oa_words.proofs.Places.{within, apart}
 use Rattle.phase_pools.specs.Accesses.{WordAccess, word_of, word_after}
 use Rattle.caller_parts.specs.declared.call.Call.{Call}
@@ -16,47 +15,11 @@ use Rattle.caller_parts.specs.Calls.{is_call}
 use Rattle.caller_steps.specs.Wants.{wants}
 use Rattle.caller_steps.specs.After.{after, taken, signs}
 use Rattle.core_runs.specs.Machine.{CoreState, CoreEvent, Takes, Steps, found_by, made, stepped, event_by, core_event, OfAll}
-use Rattle.core_runs.specs.Memories.{kind_code, first_code, second_code, same_word, seen, store}
+use Rattle.oa_words.specs.Memories.{same_word, seen, store}
+use Rattle.oa_words.proofs.Names.{same_is, same_itself}
 use Rattle.core_runs.specs.RunSigns.{event_signs, entry_signs, wanted_signs, signed}
 use Rattle.core_runs.specs.Views.{view, put, IsShaped, Moves, EventsAreSeen}
 use Rattle.core_runs.proofs.Reaching.{some_is}
-
--- a name by its three numbers
-word_by : ℕ → ℕ → ℕ → Word
-word_by zero a b = Phase
-word_by (suc zero) a b = Place a
-word_by (suc (suc zero)) a b = Warning a
-word_by (suc (suc (suc zero))) a b = Hazard a b
-word_by (suc (suc (suc (suc zero)))) a b = Status a
-word_by (suc (suc (suc (suc (suc zero))))) a b = FieldOf a b
-word_by (suc (suc (suc (suc (suc (suc k)))))) a b = Cell a
-
-by_codes : (w : Word) → word_by (kind_code w) (first_code w) (second_code w) ≡ w
-unfolding word_by
-by_codes Phase = refl
-by_codes (Place c) = refl
-by_codes (Warning c) = refl
-by_codes (Hazard c r) = refl
-by_codes (Status j) = refl
-by_codes (FieldOf j g) = refl
-by_codes (Cell x) = refl
-
-equal : (a b : ℕ) → (a == b) ≡ true → a ≡ b
-equal a b is = grind (arith, nat_tests)
-
-itself : (a : ℕ) → (a == a) ≡ true
-itself a = grind (arith, nat_tests)
-
-pub same_is : (v w : Word) → same_word v w ≡ true → v ≡ w
-same_is v w is =
-    let one = and_parts (kind_code v == kind_code w) ((first_code v == first_code w) && (second_code v == second_code w)) is in
-    let two = and_parts (first_code v == first_code w) (second_code v == second_code w) one.1 in
-    sym (by_codes v) ∙ ap (λ (k : ℕ). word_by k (first_code v) (second_code v)) (equal (kind_code v) (kind_code w) one.0)
-    ∙ ap (λ (k : ℕ). word_by (kind_code w) k (second_code v)) (equal (first_code v) (first_code w) two.0)
-    ∙ ap (λ (k : ℕ). word_by (kind_code w) (first_code w) k) (equal (second_code v) (second_code w) two.1) ∙ by_codes w
-
-pub same_itself : (v : Word) → same_word v v ≡ true
-same_itself v = rw (itself (kind_code v), itself (first_code v), itself (second_code v)) refl
 
 -- a store to the list of words is one to the words by name
 pub seen_set : (n : Sizes) (words : List ℕ) (v : Word) (x : ℕ) → length words ≡ word_count n → in_row n v ≡ true → seen n (set words (address_of n v) x) ≡ store (seen n words) v x
@@ -85,7 +48,7 @@ other_entry (x ∷ xs) zero (suc d) e f isnt = refl
 other_entry (x ∷ xs) (suc c) zero e f isnt = refl
 other_entry (x ∷ xs) (suc c) (suc d) e f isnt = other_entry xs c d e f (λ is. isnt (ap suc is))
 
-abbrev who_of : List Entry → ℕ → Entry
+abbrev pub who_of : List Entry → ℕ → Entry
 who_of es c = unwrap_or (slice_get es c) (idle_entry c)
 
 pub who_set : (es : List Entry) (c : ℕ) (e : Entry) → c < length es → who_of (set es c e) ≡ put (who_of es) c e
@@ -163,7 +126,7 @@ module _ {target : Target} {setting : Setting} where
     of None at became = absurd cc
     of (Some e) at became = by e at (wants target e) refl became
 
-  caller_there : (state : CoreState) (c : ℕ) → IsShaped target setting state → c < setting.sizes.callers → slice_get state.entries c ≡ Some (who_of state.entries c)
+  pub caller_there : (state : CoreState) (c : ℕ) → IsShaped target setting state → c < setting.sizes.callers → slice_get state.entries c ≡ Some (who_of state.entries c)
   caller_there state c s lt =
       let count = s.callers in
       let there = there_is state.entries c (omega (arith, lt, count)) in

@@ -17,7 +17,7 @@ who_idle i (suc n) zero = ap idle_entry (omega arith)
 who_idle i (suc n) (suc c) = subst (λ (k : ℕ). unwrap_or (slice_get (idle_from (i + 1) n) c) (idle_entry k) ≡ idle_entry k) (let e : (i + 1) + c ≡ i + suc c = omega arith in e) (who_idle (i + 1) n c)
 
 start_memory : (target : Target) (setting : Setting) → Suits setting.sizes (beginning_of target setting) → (w : Word) → in_row setting.sizes w ≡ true
-    → (view setting (core_start target setting)).memory w ≡ start_word (beginning_of target setting) w
+    → (view setting (core_start target setting)).memory w ≡ start_word setting.sizes (beginning_of target setting) w
 start_memory target setting suits w row =
     ap (λ (b : Bool). if b then slice_index (start_words setting.sizes (beginning_of target setting)) (address_of setting.sizes w) else 0) row
     ∙ (starts_as_named setting.sizes (beginning_of target setting) suits).words w row

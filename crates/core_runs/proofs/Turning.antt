@@ -20,7 +20,7 @@ use Rattle.guard_words.specs.Guards.{pass_check, with_guard}
 use Rattle.oa_words.specs.Words.{Sizes}
 use Rattle.phase_pools.specs.declared.access.ClaimEnd.{ClaimEnd}
 use Rattle.phase_pools.specs.declared.access.ClaimEnd.TheVariants as ends
-use Rattle.phase_pools.specs.Pools.{Claim, claim_accepts, Retirement, retire_accepts}
+use Rattle.phase_pools.specs.Pools.{Claim, claim_takes, claim_accepts, Retirement, retire_accepts}
 use Rattle.caller_parts.specs.declared.call.Reply.TheVariants as replies
 use Rattle.caller_parts.specs.declared.routine.AfterClear.{AfterClear}
 use Rattle.caller_parts.specs.declared.routine.AfterClear.TheVariants as clears
@@ -33,7 +33,7 @@ use Rattle.caller_steps.specs.Entries.{Entry, is_idle, code_in, instr_in, new_nu
 use Rattle.caller_parts.specs.Operands.{with_word, slot_in, register_number, list_of, succeeds, to_retire, with_new}
 use Rattle.caller_steps.specs.Clearing.{restart_next, clear_next, unguarded}
 use Rattle.caller_steps.specs.Signs.{quiet}
-use Rattle.caller_steps.specs.After.{with_routine, with_hand, hand_at, new_on, then_goes, clear_on, cleared, wrap_up_hand, list_ended, list_begun, plain_stop, stops, stopped, settles, goes_on, first_spot, method_begun, restart_on, restarted, is_wrap_up, check_passed, check_failed, checked, with_restart, with_access, list_on, onward_goes, retires_then, cas_failed, cas_ended, plain_accepted, instr_accepted, with_published, entry_ended, list_accepted, retired_on, claim_on, node_made, zeroed, accepted, counted, after}
+use Rattle.caller_steps.specs.After.{with_routine, with_hand, hand_at, new_on, then_goes, clear_on, cleared, wrap_up_hand, list_ended, list_begun, plain_stop, stops, stopped, settles, goes_on, first_spot, method_begun, restart_on, restarted, is_wrap_up, check_passed, check_failed, checked, with_restart, with_access, list_on, onward_goes, retires_then, cas_failed, cas_ended, plain_accepted, instr_accepted, with_published, entry_ended, list_accepted, retired_on, claim_counted, claim_on, node_made, zeroed, accepted, counted, after}
 use Rattle.core_runs.specs.Advances.{EndsOrRuns}
 
 abbrev pub Turns : Entry → Entry → Type 0
@@ -217,7 +217,7 @@ step_turns target setting word e (Retires retirement go) busy is = retired_turns
 step_turns target setting word e Restarts busy is = restarted_turns target setting.sizes (with_hand e (unguarded (restart_next target e) e.hand))
 step_turns target setting word e (Clears next) busy is = cleared_turns target setting.sizes next (with_hand e (unguarded (clear_next target next e) e.hand))
 step_turns target setting word e (Claims claim) busy is =
-    let turn = claim_accepts setting.sizes setting.last claim word in claim_turns target setting.sizes turn.claim turn.ended e
+    let turn = claim_accepts setting.sizes setting.last claim word in claim_turns target setting.sizes turn.claim turn.ended (claim_counted (claim_takes claim word) e)
 step_turns target setting word e (Zeroes k field) busy is = zeroed_turns target setting.sizes k field e
 
 turns_by : (target : Target) (setting : Setting) (e : Entry) (word : ℕ) → is_idle e.routine ≡ false → Turns (counted e) (after target setting e word)

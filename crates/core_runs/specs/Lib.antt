@@ -1,5 +1,4 @@
 pub mod Machine
-pub mod Memories
 pub mod Views
 pub mod RunSigns
 pub mod Advances

@@ -11,7 +11,7 @@ use Rattle.caller_parts.specs.Calls.{is_call}
 use Rattle.caller_steps.specs.Wants.{wants}
 use Rattle.caller_steps.specs.After.{after, taken, signs}
 use Rattle.core_runs.specs.Machine.{CoreState, CoreEvent, Takes, Steps, core_event, core_start, beginning_of}
-use Rattle.core_runs.specs.Memories.{store, seen}
+use Rattle.oa_words.specs.Memories.{store, seen}
 use Rattle.core_runs.specs.RunSigns.{event_signs, signed}
 
 pub record CoreView : Type 0 where
@@ -58,5 +58,5 @@ pub record EventsAreSeen (target : Target) (setting : Setting) : Type 0 where
 
 -- the start: each word says what its name does, where the initial nodes have their fields, and each caller is idle
 pub record StartIsSeen (target : Target) (setting : Setting) : Type 0 where
-  pub memory : Suits setting.sizes (beginning_of target setting) → (w : Word) → in_row setting.sizes w ≡ true → (view setting (core_start target setting)).memory w ≡ start_word (beginning_of target setting) w
+  pub memory : Suits setting.sizes (beginning_of target setting) → (w : Word) → in_row setting.sizes w ≡ true → (view setting (core_start target setting)).memory w ≡ start_word setting.sizes (beginning_of target setting) w
   pub who : (c : ℕ) → (view setting (core_start target setting)).who c ≡ idle_entry c

@@ -1,3 +1,4 @@
 pub mod Machine
 pub mod StartSound
+pub mod Stamping
 pub mod Reached

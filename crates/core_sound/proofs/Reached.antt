@@ -1,27 +1,31 @@
 -- Every reachable state is sound, and stays in the row.
-use Rattle.std.proofs.Common.{◌≡◌, ℕ, ◌<◌, Bool, true, false, Option, Some, None, refl, sym, ◌∙◌, subst}
+use Rattle.std.proofs.Common.{◌≡◌, ℕ, ◌≤◌, ◌<◌, Bool, true, false, Option, Some, None, refl, sym, ◌∙◌, subst}
 use Rattle.std.specs.Prelude.{slice_get}
 use Rattle.norm_lang.specs.declared.text.FieldKind.{FieldKind}
 use Rattle.norm_lang.specs.declared.text.FieldKind.TheVariants as kinds
 use Rattle.norm_lang.specs.InstructionRules.{field_kind, root_kind}
+use Rattle.norm_lang.specs.declared.text.Text.{Text}
 use Rattle.target_code.specs.declared.target.Target.{Target}
-use Rattle.oa_words.specs.Words.{Phase, Warning, Hazard, Status, FieldOf, Cell, address_of, in_row, word_count}
+use Rattle.target_runs.specs.Runnable.{IsRunnable}
+use Rattle.oa_words.specs.Words.{Phase, Warning, Hazard, Status, FieldOf, Cell, Head, Link, address_of, in_row, word_count}
+use Rattle.oa_words.specs.Packed.{head_parts}
 use Rattle.phase_pools.specs.Accesses.{WordAccess, word_of}
-use Rattle.caller_parts.specs.Settings.{Fits, Setting}
+use Rattle.caller_parts.specs.Settings.{Fits, IsSetting, Setting}
 use Rattle.caller_steps.specs.Entries.{Entry, is_idle}
 use Rattle.caller_steps.specs.Wants.{wants}
 use Rattle.caller_steps.specs.Lawful.{AsksSafely, IsLawful, IsSafe, LawfulValue, is_place}
-use Rattle.core_runs.specs.Machine.{CoreState, word_at}
-use Rattle.core_runs.proofs.Reaching.{induct}
+use Rattle.core_runs.specs.Machine.{CoreState, Reachable, word_at}
+use Rattle.core_runs.proofs.Reaching.{induct, induct_reached}
 use Rattle.caller_laws.proofs.Methods.{Methods, SettingSane, setting_sane}
 use Rattle.caller_laws.proofs.Together.{idle_wants, methods}
-use Rattle.core_runs.specs.Views.{IsShaped}
+use Rattle.core_runs.specs.Views.{IsShaped, view}
 use Rattle.core_sound.specs.Sound.{IsSound, StaysInRow, StartSuits, Always}
 use Rattle.caller_laws.specs.Laws.{ForRuns}
 use Rattle.oa_words.proofs.Places.{within}
 use Rattle.caller_laws.proofs.Safety.{wants_safe}
 use Rattle.core_sound.proofs.Machine.{event_sound}
 use Rattle.core_sound.proofs.StartSound.{start_sound, suits}
+use Rattle.core_sound.proofs.Stamping.{IsStamped, event_stamped, start_stamped}
 
 reference_lawful : (slots word : ℕ) (kind : Option FieldKind) → kind ≡ Some kinds.Reference → LawfulValue slots kind word → LawfulValue slots (Some kinds.Reference) word
 reference_lawful slots word kind is lawful = subst (λ (k : Option FieldKind). LawfulValue slots k word) is lawful
@@ -31,18 +35,22 @@ wants_busy : (target : Target) (e : Entry) (a : WordAccess) (b : Bool) → is_id
 wants_busy target e a true is want = absurd (let no : None ≡ Some a = sym (idle_wants target e is) ∙ want in cc)
 wants_busy target e a false is want = is
 
-pub sound_stays : (target : Target) (setting : Setting) (state : CoreState) → Methods target → SettingSane setting → Fits target setting → IsSound target setting state → StaysInRow target setting state
-sound_stays target setting state sane some fits s = record {
+pub sound_stays : (target : Target) (setting : Setting) (state : CoreState) → Methods target → SettingSane setting → Fits target setting → IsSound target setting state
+    → (head_parts (word_at setting state Head)).phase ≤ word_at setting state Phase → StaysInRow target setting state
+sound_stays target setting state sane some fits s stamped = record {
   registers = λ c r e is. (s.belong c e is).0.hand.registers.within r;
   started = λ c r e is. (s.belong c e is).0.hand.started.within r;
   fields = λ j g row kind. reference_lawful setting.sizes.slots (word_at setting state (FieldOf j g)) (field_kind target.fields g) kind (s.lawful (FieldOf j g) row);
   roots = λ x row kind. reference_lawful setting.sizes.slots (word_at setting state (Cell x)) (root_kind target.roots x) kind (s.lawful (Cell x) row);
   hazards = λ c r row. s.lawful (Hazard c r) row;
+  links = λ j row. s.lawful (Link j) row;
+  top = (s.lawful Head refl).1;
   words = s.count;
   wanted = λ c e a is want. asked c e a is want;
   phase = s.lawful Phase refl;
   warnings = λ c row. s.lawful (Warning c) row;
   statuses = λ j row. s.lawful (Status j) row;
+  stamped = stamped;
 } where
   safe : (c : ℕ) (e : Entry) (a : WordAccess) → slice_get state.entries c ≡ Some e → wants target e ≡ Some a → IsSafe target setting a
   safe c e a is want = subst (λ (o : Option WordAccess). AsksSafely target setting o) want (wants_safe target setting e sane some fits (s.belong c e is).0 (wants_busy target e a (is_idle e.routine) refl want))
@@ -59,10 +67,6 @@ states_are_sound target text setting state runs own fits reached =
     induct target setting (IsSound target setting) (start_sound target setting own_methods runs.within own fits)
     (λ now later event sound leads. event_sound target setting now later event own_methods (setting_sane setting own) fits sound leads) state reached
 
-pub states_stay : Always StaysInRow
-states_stay target text setting state runs own fits reached =
-    sound_stays target setting state (methods target text runs) (setting_sane setting own) fits (states_are_sound target text setting state runs own fits reached)
-
 pub sound_is_shaped : (target : Target) (setting : Setting) (state : CoreState) → Methods target → SettingSane setting → Fits target setting → IsSound target setting state → IsShaped target setting state
 sound_is_shaped target setting state sane some fits s = record { words = s.count; callers = s.callers; wanted = λ c e a is want. row c e a is want }
   where
@@ -72,6 +76,25 @@ sound_is_shaped target setting state sane some fits s = record { words = s.count
 pub states_are_shaped : Always IsShaped
 states_are_shaped target text setting state runs own fits reached =
     sound_is_shaped target setting state (methods target text runs) (setting_sane setting own) fits (states_are_sound target text setting state runs own fits reached)
+
+-- ---- the head's phase
+
+stamped_in : (setting : Setting) (state : CoreState) → IsStamped setting (view setting state).memory (view setting state).who → (head_parts (word_at setting state Head)).phase ≤ word_at setting state Phase
+stamped_in setting state w = w.words.stamped
+
+states_are_stamped : (target : Target) (text : Text) (setting : Setting) (state : CoreState) → IsRunnable target text → IsSetting setting → Fits target setting → Reachable target setting state
+    → IsStamped setting (view setting state).memory (view setting state).who
+states_are_stamped target text setting state runs own fits reached =
+    let sane = setting_sane setting own in
+    induct_reached target setting (λ (s : CoreState). IsStamped setting (view setting s).memory (view setting s).who)
+    (start_stamped target setting sane (suits runs.within own fits))
+    (λ now later event came w leads.
+    event_stamped target setting sane now later event (states_are_shaped target text setting now runs own fits came) (states_are_sound target text setting now runs own fits came) leads w) state reached
+
+pub states_stay : Always StaysInRow
+states_stay target text setting state runs own fits reached =
+    sound_stays target setting state (methods target text runs) (setting_sane setting own) fits (states_are_sound target text setting state runs own fits reached)
+    (stamped_in setting state (states_are_stamped target text setting state runs own fits reached))
 
 pub start_suits : ForRuns StartSuits
 start_suits target text setting runs own fits = record { suits = suits runs.within own fits }

@@ -1,8 +1,9 @@
 -- The start state is sound.
-use Rattle.std.proofs.Common.{◌≡◌, ℕ, zero, suc, ◌+◌, ◌≤◌, ◌<◌, true, false, ◌&&◌, List, [], ◌∷◌, map, length, Option, Some, None, refl, sym, ◌∙◌, ap, subst, arith}
-use Rattle.std.specs.Prelude.{slice_get, slice_index, IsSomeAnd, All}
+use Rattle.std.proofs.Common.{◌≡◌, ℕ, zero, suc, ◌+◌, ◌≤◌, ◌<◌, Bool, true, false, ◌&&◌, List, [], ◌∷◌, map, length, Option, Some, None, refl, sym, ◌∙◌, ap, subst, arith, if◌then◌else◌}
+use Rattle.std.specs.Prelude.{slice_get, slice_index, nat_le, nat_lt, IsSomeAnd, All}
 use Rattle.std.specs.List.{list_all}
 use Rattle.std.proofs.lemmas.Bool.{and_parts, leb-true}
+use Rattle.std.proofs.lemmas.Bool.Decides.{nat_tests}
 use Rattle.std.proofs.lemmas.List.{length-map}
 use Rattle.norm_lang.specs.declared.text.FieldKind.{FieldKind}
 use Rattle.norm_lang.specs.declared.text.FieldKind.TheVariants as kinds
@@ -16,11 +17,11 @@ use Rattle.norm_lang.specs.Limits.{has_between, is_start, are_starts, is_root, a
 use Rattle.target_code.specs.declared.target.Target.{Target}
 use Rattle.target_code.specs.TargetLimits.{IsTargetWithinLimits}
 use Rattle.target_runs.proofs.Limited.{parts}
-use Rattle.oa_words.specs.Words.{Word, Phase, Place, Warning, Hazard, Status, FieldOf, Cell}
-use Rattle.oa_words.specs.Packed.{StatusParts}
-use Rattle.oa_words.specs.Starts.{Suits, start_kind, field_word, slot_word, start_word}
+use Rattle.oa_words.specs.Words.{Word, Phase, Place, Warning, Hazard, Status, FieldOf, Cell, Head, Link}
+use Rattle.oa_words.specs.Packed.{StatusParts, HeadParts}
+use Rattle.oa_words.specs.Starts.{Suits, start_kind, field_word, slot_word, slot_after, start_word}
 use Rattle.oa_words.specs.Laws.{StartsAsNamed}
-use Rattle.oa_words.proofs.Parts.{status_back}
+use Rattle.oa_words.proofs.Parts.{status_back, head_back}
 use Rattle.oa_words.proofs.StartPlaces.{starts_as_named}
 use Rattle.caller_parts.specs.Settings.{Setting, Fits, IsSetting}
 use Rattle.caller_steps.specs.Entries.{Entry, idle_entry}
@@ -85,6 +86,12 @@ roots_lawful slots nodes (root ∷ roots) (suc x) few are = roots_lawful slots n
 
 -- ---- the words
 
+after_within : (slots j : ℕ) → slot_after slots j ≤ slots
+after_within slots j = of (nat_lt j slots) refl where
+  of : (b : Bool) → nat_lt j slots ≡ b → (if b then j + 1 else 0) ≤ slots
+  of true is = let lt : j < slots = grind (arith, nat_tests) in omega (arith, lt)
+  of false is = omega arith
+
 module _ {target : Target} {setting : Setting} (within : IsTargetWithinLimits target) (own : IsSetting setting) (fits : Fits target setting) where
   pub filled : AreFilled (length target.nodes) target.fields target.nodes
   filled = (and_parts (has_between 0 256 target.nodes) (list_all (λ (node : NodeDecl). are_starts (length target.nodes) target.fields node.values) target.nodes) (parts target within).nodes).1
@@ -110,7 +117,7 @@ module _ {target : Target} {setting : Setting} (within : IsTargetWithinLimits ta
   slot_lawful zero g = null_lawful setting.sizes.slots (field_kind target.fields g)
   slot_lawful (suc i) g = nodes_lawful setting.sizes.slots (length target.nodes) target.fields target.nodes i g few filled
 
-  start_is_lawful : (w : Word) → IsLawful target setting w (start_word (beginning_of target setting) w)
+  start_is_lawful : (w : Word) → IsLawful target setting w (start_word setting.sizes (beginning_of target setting) w)
   start_is_lawful Phase = (omega arith, own.phases)
   start_is_lawful (Place c) = tt
   start_is_lawful (Warning c) = (omega arith, own.phases)
@@ -119,6 +126,14 @@ module _ {target : Target} {setting : Setting} (within : IsTargetWithinLimits ta
       subst (λ (o : Option StatusParts). IsSomeAnd o (λ (parts : StatusParts). parts.phase ≤ setting.last)) (sym (status_back setting.first (start_kind (length (map node_words target.nodes)) j))) own.phases
   start_is_lawful (FieldOf j g) = slot_lawful j g
   start_is_lawful (Cell x) = roots_lawful setting.sizes.slots (length target.nodes) target.roots x few rooted
+  start_is_lawful Head =
+      let top : ℕ = slot_after setting.sizes.slots (length (map node_words target.nodes)) in
+      let le = after_within setting.sizes.slots (length (map node_words target.nodes)) in
+      subst (λ (parts : HeadParts). (parts.phase ≤ setting.last) × (parts.top ≤ setting.sizes.slots)) (sym (head_back setting.first top (let most = own.sizes.3 in omega (arith, le, most)))) (own.phases, le)
+  start_is_lawful (Link j) = of (nat_le j (length (map node_words target.nodes))) where
+    of : (b : Bool) → (if b then 0 else slot_after setting.sizes.slots j) ≤ setting.sizes.slots
+    of true = omega arith
+    of false = after_within setting.sizes.slots j
 
   words_lawful : AreLawful target setting (core_start target setting).words
   words_lawful w row = subst (λ (k : ℕ). IsLawful target setting w k) (sym (named.words w row)) (start_is_lawful w)

@@ -7,8 +7,8 @@ use Rattle.norm_lang.specs.Registers.{reference_in}
 use Rattle.norm_lang.specs.InstructionRules.{field_kind, root_kind}
 use Rattle.target_code.specs.declared.target.Target.{Target}
 use Rattle.target_runs.specs.Runnable.{IsRunnable}
-use Rattle.oa_words.specs.Words.{Word, Phase, Warning, Hazard, Status, FieldOf, Cell, address_of, in_row, word_count}
-use Rattle.oa_words.specs.Packed.{slot_part}
+use Rattle.oa_words.specs.Words.{Word, Phase, Warning, Hazard, Status, FieldOf, Cell, Head, Link, address_of, in_row, word_count}
+use Rattle.oa_words.specs.Packed.{slot_part, head_parts}
 use Rattle.oa_words.specs.Starts.{Suits}
 use Rattle.phase_pools.specs.Accesses.{WordAccess, word_of}
 use Rattle.caller_parts.specs.Settings.{Setting, Fits, IsSetting}
@@ -36,20 +36,24 @@ pub record IsSound (target : Target) (setting : Setting) (state : CoreState) : T
 abbrev pub NamesSlot : Setting → ℕ → Type 0
 NamesSlot setting slot = slot ≤ setting.sizes.slots
 
--- nothing leads out of the row: every reference in a register, a field or a root, and every hazard, names one of its slots or
--- null; every wanted address is that of one of its words, and the word there is lawful; and phases are those of the run
+-- nothing leads out of the row: every reference in a register, a field or a root, every hazard, every link and the head's top name one
+-- of its slots or null; every wanted address is that of one of its words, and the word there is lawful; phases are those of the run,
+-- and the head's phase is one that the phase word has come to
 pub record StaysInRow (target : Target) (setting : Setting) (state : CoreState) : Type 0 where
   pub registers : (c r : ℕ) (e : Entry) → slice_get state.entries c ≡ Some e → NamesSlot setting (reference_in e.hand.registers (Ref r)).node
   pub started : (c r : ℕ) (e : Entry) → slice_get state.entries c ≡ Some e → NamesSlot setting (reference_in e.hand.started (Ref r)).node
   pub fields : (j g : ℕ) → in_row setting.sizes (FieldOf j g) ≡ true → field_kind target.fields g ≡ Some kinds.Reference → NamesSlot setting (slot_part (word_at setting state (FieldOf j g)))
   pub roots : (x : ℕ) → in_row setting.sizes (Cell x) ≡ true → root_kind target.roots x ≡ Some kinds.Reference → NamesSlot setting (slot_part (word_at setting state (Cell x)))
   pub hazards : (c r : ℕ) → in_row setting.sizes (Hazard c r) ≡ true → NamesSlot setting (word_at setting state (Hazard c r))
+  pub links : (j : ℕ) → in_row setting.sizes (Link j) ≡ true → NamesSlot setting (word_at setting state (Link j))
+  pub top : NamesSlot setting (head_parts (word_at setting state Head)).top
   pub words : length state.words ≡ word_count setting.sizes
   pub wanted : (c : ℕ) (e : Entry) (a : WordAccess) → slice_get state.entries c ≡ Some e → wants target e ≡ Some a
       → (address_of setting.sizes (word_of a) < word_count setting.sizes) × (is_place (word_of a) ≡ false) × IsLawful target setting (word_of a) (word_at setting state (word_of a))
   pub phase : LawfulPhase setting (word_at setting state Phase)
   pub warnings : (c : ℕ) → in_row setting.sizes (Warning c) ≡ true → LawfulPhase setting (word_at setting state (Warning c))
   pub statuses : (j : ℕ) → in_row setting.sizes (Status j) ≡ true → LawfulStatus setting.last (word_at setting state (Status j))
+  pub stamped : (head_parts (word_at setting state Head)).phase ≤ word_at setting state Phase
 
 -- the initial nodes and the roots have as many words as the row asks for, so that each word at the start says what its name does
 pub record StartSuits (target : Target) (setting : Setting) : Type 0 where

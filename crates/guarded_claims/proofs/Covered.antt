@@ -1,7 +1,7 @@
 -- A slot that a hazard word names and that isn't given out: it keeps its name while the word is unchanged. This needs the relation's
 -- validated guard only at its begin, so it holds too where a `grd` stores the slot again, after which the relation knows nothing of the
 -- guard until the next check.
-use Rattle.std.proofs.Common.{ℕ, ◌≡◌, ◌≢◌, ◌<◌, ◌∙◌, true, false, List, arith, ⊎_elim, sym, ap, subst}
+use Rattle.std.proofs.Common.{ℕ, ◌≡◌, ◌≢◌, ◌*◌, ◌<◌, ◌∙◌, true, false, List, arith, ⊎_elim, sym, ap, subst}
 use Rattle.std.specs.Prelude.{slice_index}
 use Rattle.oa_words.specs.declared.packed.Kind.TheVariants as kinds
 use Rattle.oa_words.specs.Words.{Hazard, Status}
@@ -19,11 +19,11 @@ use Rattle.caller_parts.specs.declared.routine.Routine.TheVariants.{Idle, LoadSe
 use Rattle.caller_steps.specs.Entries.{cradle_of}
 use Rattle.sim_relation.specs.Views.{Plan, Held, Shared, Caller}
 use Rattle.sim_relation.specs.Shared.{SharedHolds}
-use Rattle.sim_relation.specs.Callers.{SweepAt, ClaimAt, HoldsAt}
+use Rattle.sim_relation.specs.Callers.{Sweeps, SweepAt, ClaimAt, HoldsAt}
 use Rattle.sim_relation.specs.Worlds.{World, Holds}
 use Rattle.sim_relation.proofs.Names.{has_slot_of, none_there, own_private}
 use Rattle.sim_pools.proofs.Slots.{in_pool}
-use Rattle.guarded_claims.proofs.Passing.{KnowsAt, KnowsIn, KnowsWhere}
+use Rattle.guarded_claims.proofs.Passing.{Knows, KnowsAt, KnowsIn, KnowsWhere}
 use Rattle.guarded_claims.proofs.Walking.{Away}
 
 pub record Covered (t : Plan) (w : World) (d r : ℕ) : Type 0 where
@@ -55,25 +55,30 @@ module _ (t : Plan) (w : World) (h : Holds t w) (d r : ℕ) (some : w.shared.pro
   abbrev s : Shared
   s = w.shared
 
+  -- a sweep that is past all hazard words
+  known_all : (p : ℕ) (g : List ℕ) → Sweeps t s p t.setting.sizes.callers (8 * t.setting.sizes.callers) g → Knows s (t.home (s.protects d r)) p g
+  known_all p g k q is below =
+      let gd = h.shared_holds.guard d r some in
+      let lt = gd.caller in
+      let low = gd.register in
+      k.gathered d r q (omega (arith, lt, low)) some (ap s.tag (sym gd.resident) ∙ is) below
+
   known_at : (p : ℕ) (g : List ℕ) (stage : SweepStage) → SweepAt t s p g stage → KnowsAt s d r (t.home (s.protects d r)) p g stage
   known_at p g sweeps.ReadPhase k = tt
   known_at p g (sweeps.RaisePhase q) k = tt
   known_at p g (sweeps.Warn x) k = tt
   known_at p g (sweeps.ReadHazard x i) k = λ past q is below. k.0.gathered d r q past some (ap s.tag (sym (h.shared_holds.guard d r some).resident) ∙ is) below
-  known_at p g (sweeps.ReadStatus i) k = λ q is below.
-      (let gd = h.shared_holds.guard d r some in
-      let lt = gd.caller in
-      let low = gd.register in
-      k.gathered d r q (omega (arith, lt, low)) some (ap s.tag (sym gd.resident) ∙ is) below)
-  known_at p g (sweeps.MakeReady i o) k = λ q is below.
-      (let gd = h.shared_holds.guard d r some in
-      let lt = gd.caller in
-      let low = gd.register in
-      k.0.gathered d r q (omega (arith, lt, low)) some (ap s.tag (sym gd.resident) ∙ is) below)
+  known_at p g (sweeps.ReadStatus i) k = known_all p g k
+  known_at p g (sweeps.MakeReady i q) k = known_all p g k.0
+  known_at p g (sweeps.PushHead i) k = known_all p g k
+  known_at p g (sweeps.PushLink i q top) k = known_all p g k
+  known_at p g (sweeps.PushTop i q top) k = known_all p g k
 
   known_in : (sweep : Sweep) (stage : ClaimStage) → ClaimAt t s sweep stage → KnowsIn s d r (t.home (s.protects d r)) sweep stage
-  known_in sweep (claims.ReadStatus i) k = tt
-  known_in sweep (claims.Take i q) k = tt
+  known_in sweep claims.ReadHead k = tt
+  known_in sweep (claims.ReadLink q i) k = tt
+  known_in sweep (claims.Take q i next) k = tt
+  known_in sweep (claims.StoreUsed q i) k = tt
   known_in sweep claims.Sweeps k = known_at sweep.bound sweep.gathered sweep.stage k
 
   known_where : (e : ℕ) (x : Caller) (routine : Routine) → HoldsAt t s e x routine → KnowsWhere s d r (t.home (s.protects d r)) routine

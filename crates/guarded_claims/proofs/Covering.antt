@@ -3,10 +3,9 @@ use Rattle.std.proofs.Common.{ℕ, zero, suc, ◌≡◌, ◌≢◌, ◌==◌, �
 use Rattle.std.specs.Prelude.{slice_index, nat_lt}
 use Rattle.std.proofs.lemmas.Bool.{cases_eq}
 use Rattle.std.proofs.lemmas.Bool.Decides.{nat_tests}
-use Rattle.oa_words.specs.declared.packed.Kind.{Kind}
 use Rattle.oa_words.specs.declared.packed.Kind.TheVariants as kinds
-use Rattle.oa_words.specs.Words.{Hazard, Status}
-use Rattle.oa_words.specs.Packed.{StatusParts, status_word, status_parts}
+use Rattle.oa_words.specs.Words.{Hazard, Status, Head}
+use Rattle.oa_words.specs.Packed.{HeadParts, status_word, head_word, head_parts}
 use Rattle.guard_words.specs.Guards.{has_slot}
 use Rattle.phase_pools.specs.declared.access.ClaimEnd.{ClaimEnd}
 use Rattle.phase_pools.specs.declared.access.ClaimEnd.TheVariants as ends
@@ -17,7 +16,8 @@ use Rattle.phase_pools.specs.declared.stages.SweepStage.TheVariants as sweeps
 use Rattle.phase_pools.specs.declared.stages.ClaimStage.{ClaimStage}
 use Rattle.phase_pools.specs.declared.stages.ClaimStage.TheVariants as claims
 use Rattle.phase_pools.specs.Accesses.{WordAccess, word_of}
-use Rattle.phase_pools.specs.Pools.{Claim, Sweep, claim_wants, claim_wants_at, claim_accepts, claim_accepts_at, sweep_wants_at, sweep_accepts_at, sweep_begun, sweep_ended, claim_goes, claim_ends, look_ended, look_on, look_kind, look_read, look_took}
+use Rattle.chain_laws.specs.Chains.{IsOf}
+use Rattle.phase_pools.specs.Pools.{Claim, Sweep, claim_wants, claim_wants_at, claim_accepts, claim_accepts_at, sweep_wants_at, sweep_accepts_at, sweep_begun, sweep_ended, claim_goes, claim_ends, look_ended, look_begun, look_took, claim_takes}
 use Rattle.source_machine.specs.MethodRuns.{put}
 use Rattle.source_machine.specs.Proper.{has}
 use Rattle.source_machine.proofs.Places.{each_put, put_other}
@@ -25,14 +25,14 @@ use Rattle.caller_parts.specs.declared.routine.Routine.{Routine}
 use Rattle.caller_parts.specs.declared.routine.Routine.TheVariants.{Idle, LoadSeen, At, InList, Retires, Restarts, Clears, Claims, Zeroes}
 use Rattle.caller_steps.specs.Entries.{Entry, cradle_of, new_number}
 use Rattle.caller_steps.specs.Wants.{wants}
-use Rattle.caller_steps.specs.After.{accepted, claim_on, counted}
+use Rattle.caller_steps.specs.After.{accepted, claim_on, claim_counted, counted}
 use Rattle.caller_steps.specs.After.{moved as after_moves}
 use Rattle.caller_steps.specs.Signs.{Moved}
 use Rattle.run_ahead.specs.Guards.{GuardRow}
 use Rattle.sim_relation.specs.Views.{Plan, Shared, Caller}
 use Rattle.sim_relation.specs.Callers.{Empty, SweepAt, ClaimAt, HoldsAt}
 use Rattle.sim_relation.specs.Naming.{freed_at, freed_in, emptied_at, named_at, present_at}
-use Rattle.sim_relation.specs.Steps.{KeptWith, after_access}
+use Rattle.sim_relation.specs.Steps.{KeptWith, TakenIsReady, TakesReady, after_access}
 use Rattle.sim_relation.specs.Worlds.{World, Holds}
 use Rattle.sim_relation.proofs.Lists.{index_set_other}
 use Rattle.sim_pools.proofs.Core.{after_is, wants_is}
@@ -64,6 +64,9 @@ module _ (t : Plan) (w : World) (h : Holds t w) (c : ℕ) (mover : c < t.setting
   freed_stays sweep (sweeps.Warn i) at k = refl
   freed_stays sweep (sweeps.ReadHazard i m) at k = refl
   freed_stays sweep (sweeps.ReadStatus i) at k = refl
+  freed_stays sweep (sweeps.PushHead i) at k = refl
+  freed_stays sweep (sweeps.PushLink i q top) at k = refl
+  freed_stays sweep (sweeps.PushTop i q top) at k = refl
   freed_stays sweep (sweeps.MakeReady i q) at k = of (s.memory (Status i) == status_word q kinds.Retired) refl where
     other : s.memory (Status i) ≡ status_word q kinds.Retired → v.slot ≢ i
     other is same =
@@ -77,8 +80,10 @@ module _ (t : Plan) (w : World) (h : Holds t w) (c : ℕ) (mover : c < t.setting
     of false is = refl
 
   claimed_stays : (sweep : Sweep) (stage : ClaimStage) → ClaimAt t s sweep stage → KnowsIn s d r v.slot sweep stage → freed_in stage sweep.stage s.memory s.present v.slot ≡ s.present v.slot
-  claimed_stays sweep (claims.ReadStatus i) at k = refl
-  claimed_stays sweep (claims.Take i q) at k = refl
+  claimed_stays sweep claims.ReadHead at k = refl
+  claimed_stays sweep (claims.ReadLink q i) at k = refl
+  claimed_stays sweep (claims.Take q i next) at k = refl
+  claimed_stays sweep (claims.StoreUsed q i) at k = refl
   claimed_stays sweep claims.Sweeps at k = freed_stays sweep sweep.stage at k
 
   -- a caller that stores 0 in the fields of its cradle's slot has no guards
@@ -129,27 +134,32 @@ module _ (t : Plan) (w : World) (h : Holds t w) (c : ℕ) (mover : c < t.setting
   finds_at p g (sweeps.ReadHazard i m) at = (at.2, λ same there. ap (λ (k : ℕ). s.memory (Hazard k m)) (sym same) ∙ (ap (λ (k : ℕ). s.memory (Hazard d k)) (sym there) ∙ v.word))
   finds_at p g (sweeps.ReadStatus i) at = tt
   finds_at p g (sweeps.MakeReady i q) at = tt
+  finds_at p g (sweeps.PushHead i) at = tt
+  finds_at p g (sweeps.PushLink i q top) at = tt
+  finds_at p g (sweeps.PushTop i q top) at = tt
 
   finds_in : (sweep : Sweep) (stage : ClaimStage) → ClaimAt t s sweep stage → FindsIn d r v.slot (s.memory (word_of (claim_wants_at sweep stage))) sweep stage
-  finds_in sweep (claims.ReadStatus i) at = tt
-  finds_in sweep (claims.Take i q) at = tt
+  finds_in sweep claims.ReadHead at = tt
+  finds_in sweep (claims.ReadLink q i) at = tt
+  finds_in sweep (claims.Take q i next) at = tt
+  finds_in sweep (claims.StoreUsed q i) at = tt
   finds_in sweep claims.Sweeps at = finds_at sweep.bound sweep.gathered sweep.stage at
 
-  -- a slot that is taken was ready
+  -- the slot that a claim ends with is ready before its last store, so it has no name
   abbrev Takes : Option ClaimEnd → Type 0
   Takes o = (i : ℕ) → o ≡ Some (ends.Claimed i) → v.slot ≢ i
 
-  claim_away : (claim : Claim) (o : Option ClaimEnd) → Takes o → Away v.slot x.entry → Away v.slot (claim_on t.target claim o (counted x.entry)).entry
-  claim_away claim None takes a = a
-  claim_away claim (Some (ends.Claimed i)) takes a = λ k is.
+  claim_away : (counts : Bool) (claim : Claim) (o : Option ClaimEnd) → Takes o → Away v.slot x.entry → Away v.slot (claim_on t.target claim o (claim_counted counts (counted x.entry))).entry
+  claim_away counts claim None takes a = a
+  claim_away counts claim (Some (ends.Claimed i)) takes a = λ k is.
       ⊎_elim
       (λ (here : k ≡ new_number t.target x.entry).
       let at : slice_index (set x.entry.cradles k i) k ≡ v.slot = subst (λ (m : ℕ). slice_index (set x.entry.cradles m i) k ≡ v.slot) (sym here) is in
       takes i refl (sym at ∙ filled x.entry.cradles k i (λ z. some (sym at ∙ z))))
       (λ (other : k ≢ new_number t.target x.entry). a k (sym (index_set_other x.entry.cradles (new_number t.target x.entry) i k other) ∙ is))
       (cases_eq k (new_number t.target x.entry))
-  claim_away claim (Some ends.Full) takes a = a
-  claim_away claim (Some (ends.PhasesOver p)) takes a = a
+  claim_away counts claim (Some ends.Full) takes a = a
+  claim_away counts claim (Some (ends.PhasesOver p)) takes a = a
 
   ended_takes : (claim : Claim) → Takes (look_ended claim).ended
   ended_takes claim = of (claim.sweeps == 2) where
@@ -157,73 +167,69 @@ module _ (t : Plan) (w : World) (h : Holds t w) (c : ℕ) (mover : c < t.setting
     of true i is = absurd (let z : Some ends.Full ≡ Some (ends.Claimed i) = is in cc)
     of false i is = absurd (let z : None ≡ Some (ends.Claimed i) = is in cc)
 
-  on_takes : (claim : Claim) (j : ℕ) → Takes (look_on t.setting.sizes claim j).ended
-  on_takes claim j = of (nat_lt j t.setting.sizes.slots) where
-    of : (b : Bool) → Takes (if b then claim_goes claim (claims.ReadStatus (j + 1)) else look_ended claim).ended
+  begun_takes : (claim : Claim) (head : HeadParts) → Takes (look_begun claim head).ended
+  begun_takes claim head = of (head.top == 0) where
+    of : (b : Bool) → Takes (if b then look_ended claim else claim_goes claim (claims.ReadLink head.phase head.top)).ended
+    of true i is = ended_takes claim i is
+    of false i is = absurd (let z : None ≡ Some (ends.Claimed i) = is in cc)
+
+  took_takes : (claim : Claim) (q j word : ℕ) → Takes (look_took claim q j word).ended
+  took_takes claim q j word = of (word == head_word q j) where
+    of : (b : Bool) → Takes (if b then claim_goes claim (claims.StoreUsed q j) else claim_goes claim claims.ReadHead).ended
     of true i is = absurd (let z : None ≡ Some (ends.Claimed i) = is in cc)
-    of false i is = ended_takes claim i is
+    of false i is = absurd (let z : None ≡ Some (ends.Claimed i) = is in cc)
 
-  read_takes : (claim : Claim) (j : ℕ) (parts : Option StatusParts) → Takes (look_read t.setting.sizes claim j parts).ended
-  read_takes claim j None i is = on_takes claim j i is
-  read_takes claim j (Some parts) i is = of parts.kind i is where
-    of : (kind : Kind) → Takes (look_kind t.setting.sizes claim j parts.phase kind).ended
-    of kinds.Ready i is = absurd (let z : None ≡ Some (ends.Claimed i) = is in cc)
-    of kinds.Used i is = on_takes claim j i is
-    of kinds.Retired i is = on_takes claim j i is
+  used_takes : (j : ℕ) → IsOf kinds.Ready (s.memory (Status j)) → Takes (Some (ends.Claimed j))
+  used_takes j ready i is same =
+      let one : Some (ends.Claimed j) ≡ Some (ends.Claimed i) = is in
+      let at : j ≡ i = cc in
+      let pool = in_pool (s.owner j) ready.0 (s.memory (Status j)) (s.present j) (s.tag (s.present j)) (has (s.present j) s.source.retired) (s.public (s.present j)) ready.1 (h.shared_holds.slot j) in
+      v.named (ap s.present (same ∙ sym at) ∙ pool.1)
 
-  took_takes : (claim : Claim) (j q : ℕ) → Takes (look_took t.setting.sizes claim j q (s.memory (Status j))).ended
-  took_takes claim j q = of (s.memory (Status j) == status_word q kinds.Ready) refl where
-    of : (b : Bool) → (s.memory (Status j) == status_word q kinds.Ready) ≡ b → Takes (if b then claim_ends claim (ends.Claimed j) else look_on t.setting.sizes claim j).ended
-    of true found i is same =
-        let ready : s.memory (Status j) ≡ status_word q kinds.Ready = grind (arith, nat_tests) in
-        let one : Some (ends.Claimed j) ≡ Some (ends.Claimed i) = is in
-        let at : j ≡ i = cc in
-        let pool = in_pool (s.owner j) q (s.memory (Status j)) (s.present j) (s.tag (s.present j)) (has (s.present j) s.source.retired) (s.public (s.present j)) ready (h.shared_holds.slot j) in
-        v.named (ap s.present (same ∙ sym at) ∙ pool.1)
-    of false found i is same = on_takes claim j i is same
-
-  swept_takes : (claim : Claim) (sweep : Sweep) (o : Option SweepEnd) → Takes (sweep_ended t.setting.sizes claim sweep o).ended
+  swept_takes : (claim : Claim) (sweep : Sweep) (o : Option SweepEnd) → Takes (sweep_ended claim sweep o).ended
   swept_takes claim sweep None i is = absurd (let z : None ≡ Some (ends.Claimed i) = is in cc)
   swept_takes claim sweep (Some swept.Swept) i is = absurd (let z : None ≡ Some (ends.Claimed i) = is in cc)
   swept_takes claim sweep (Some (swept.PhasesOver p)) i is = absurd (let z : Some (ends.PhasesOver p) ≡ Some (ends.Claimed i) = is in cc)
 
-  accepts_takes : (claim : Claim) (stage : ClaimStage) → Takes (claim_accepts_at t.setting.sizes t.setting.last claim (s.memory (word_of (claim_wants_at claim.sweep stage))) stage).ended
-  accepts_takes claim (claims.ReadStatus j) = read_takes claim j (status_parts (s.memory (Status j)))
-  accepts_takes claim (claims.Take j q) = took_takes claim j q
-  accepts_takes claim claims.Sweeps =
+  accepts_takes : (claim : Claim) (stage : ClaimStage) → TakenIsReady s.memory stage → Takes (claim_accepts_at t.setting.sizes t.setting.last claim (s.memory (word_of (claim_wants_at claim.sweep stage))) stage).ended
+  accepts_takes claim claims.ReadHead ready = begun_takes claim (head_parts (s.memory Head))
+  accepts_takes claim (claims.ReadLink q j) ready = λ i is. absurd (let z : None ≡ Some (ends.Claimed i) = is in cc)
+  accepts_takes claim (claims.Take q j next) ready = took_takes claim q j (s.memory Head)
+  accepts_takes claim (claims.StoreUsed q j) ready = used_takes j ready
+  accepts_takes claim claims.Sweeps ready =
       let turn = sweep_accepts_at t.setting.sizes t.setting.last claim.sweep (s.memory (word_of (sweep_wants_at claim.sweep.stage claim.sweep.bound))) claim.sweep.stage in swept_takes claim turn.sweep turn.ended
 
   -- what holds of the mover's entry afterwards
   abbrev Moves : Shared → Moved → Type 0
   Moves s' m = (c ≢ d → Away v.slot m.entry) × KnowsWhere s' d r v.slot m.entry.routine
 
-  claim_where : (s' : Shared) (claim : Claim) (o : Option ClaimEnd) → ClaimKnows s' d r v.slot claim o → KnowsWhere s' d r v.slot (claim_on t.target claim o (counted x.entry)).entry.routine
-  claim_where s' claim None k = k
-  claim_where s' claim (Some (ends.Claimed i)) k = tt
-  claim_where s' claim (Some ends.Full) k = tt
-  claim_where s' claim (Some (ends.PhasesOver p)) k = tt
+  claim_where : (s' : Shared) (counts : Bool) (claim : Claim) (o : Option ClaimEnd) → ClaimKnows s' d r v.slot claim o → KnowsWhere s' d r v.slot (claim_on t.target claim o (claim_counted counts (counted x.entry))).entry.routine
+  claim_where s' counts claim None k = k
+  claim_where s' counts claim (Some (ends.Claimed i)) k = tt
+  claim_where s' counts claim (Some ends.Full) k = tt
+  claim_where s' counts claim (Some (ends.PhasesOver p)) k = tt
 
-  claim_moves : (s' : Shared) (claim : Claim) → ClaimAt t s claim.sweep claim.stage → KnowsIn s' d r v.slot claim.sweep claim.stage
+  claim_moves : (s' : Shared) (claim : Claim) → TakenIsReady s.memory claim.stage → ClaimAt t s claim.sweep claim.stage → KnowsIn s' d r v.slot claim.sweep claim.stage
       → Moves s' (accepted t.target t.setting (s.memory (word_of (claim_wants claim))) (counted x.entry) (Claims claim))
-  claim_moves s' claim at k =
+  claim_moves s' claim ready at k =
       let word : ℕ = s.memory (word_of (claim_wants claim)) in
       let turn = claim_accepts t.setting.sizes t.setting.last claim word in (
-        λ ne. claim_away turn.claim turn.ended (accepts_takes claim claim.stage) (v.away c mover ne),
-        claim_where s' turn.claim turn.ended (claim_knows t.setting.sizes t.setting.last s' d r v.slot v.register some claim word claim.stage refl v.caller (finds_in claim.sweep claim.stage at) k),
+        λ ne. claim_away (claim_takes claim word) turn.claim turn.ended (accepts_takes claim claim.stage ready) (v.away c mover ne),
+        claim_where s' (claim_takes claim word) turn.claim turn.ended (claim_knows t.setting.sizes t.setting.last s' d r v.slot v.register some claim word claim.stage refl v.caller (finds_in claim.sweep claim.stage at) k),
       )
 
   other_moves : (s' : Shared) (word : ℕ) (routine : Routine) → is_claiming routine ≡ false → KnowsWhere s' d r v.slot x.entry.routine → Moves s' (accepted t.target t.setting word (counted x.entry) routine)
   other_moves s' word routine other k = let keeps = accepted_keeps t.target t.setting s' d r v.slot some word x.entry routine other in (λ ne. keeps.0 (v.away c mover ne), keeps.1 k)
 
-  moves : (s' : Shared) (a : WordAccess) → wants t.target x.entry ≡ Some a → KnowsWhere s' d r v.slot x.entry.routine → Moves s' (after_moves t.target t.setting x.entry (s.memory (word_of a)))
-  moves s' a want k = of x.entry.routine refl where
+  moves : (s' : Shared) (a : WordAccess) → TakesReady s.memory x.entry.routine → wants t.target x.entry ≡ Some a → KnowsWhere s' d r v.slot x.entry.routine → Moves s' (after_moves t.target t.setting x.entry (s.memory (word_of a)))
+  moves s' a ready want k = of x.entry.routine refl where
     on : (routine : Routine) → x.entry.routine ≡ routine → Moves s' (accepted t.target t.setting (s.memory (word_of a)) (counted x.entry) routine)
     on (Claims claim) is =
         let spot : HoldsAt t s c x (Claims claim) = subst (λ (routine : Routine). HoldsAt t s c x routine) is (h.caller_holds c mover).spot in
         let wanted : Some (claim_wants claim) ≡ Some a = sym (wants_is t.target x.entry (Claims claim) is) ∙ want in
         let same : claim_wants claim ≡ a = cc in
         subst (λ (a : WordAccess). Moves s' (accepted t.target t.setting (s.memory (word_of a)) (counted x.entry) (Claims claim))) same
-        (claim_moves s' claim spot.0 (subst (λ (routine : Routine). KnowsWhere s' d r v.slot routine) is k))
+        (claim_moves s' claim (subst (λ (routine : Routine). TakesReady s.memory routine) is ready) spot.0 (subst (λ (routine : Routine). KnowsWhere s' d r v.slot routine) is k))
     on Idle is = other_moves s' (s.memory (word_of a)) Idle refl k
     on (LoadSeen why) is = other_moves s' (s.memory (word_of a)) (LoadSeen why) refl k
     on At is = other_moves s' (s.memory (word_of a)) At refl k
@@ -236,14 +242,14 @@ module _ (t : Plan) (w : World) (h : Holds t w) (c : ℕ) (mover : c < t.setting
     of : (routine : Routine) → x.entry.routine ≡ routine → Moves s' (after_moves t.target t.setting x.entry (s.memory (word_of a)))
     of routine is = subst (Moves s') (sym (after_is t.target t.setting x.entry (s.memory (word_of a)) routine is)) (on routine is)
 
-  pub covered_on : (a : WordAccess) (row : GuardRow) (were : ℕ → Bool) → wants t.target x.entry ≡ Some a
+  pub covered_on : (a : WordAccess) (row : GuardRow) (were : ℕ → Bool) → TakesReady s.memory x.entry.routine → wants t.target x.entry ≡ Some a
       → (k : KeptWith t c s x row were (after_access s.memory a) (after_moves t.target t.setting x.entry (s.memory (word_of a))) (present_at t.setting.sizes s.memory s.unused x.entry x.entry.routine s.present))
       → k.s'.memory (Hazard d r) ≡ s.memory (Hazard d r) → Covered t (record { shared = k.s'; who = put w.who c k.x' }) d r
-  covered_on a row were want k same =
+  covered_on a row were ready want k same =
       let name : k.s'.present v.slot ≡ s.present v.slot = ap (λ (present : ℕ → ℕ). present v.slot) k.present ∙ present_stays x.entry.routine (h.caller_holds c mover).spot (v.known c mover) in
       let stays : (e : ℕ) → e < t.setting.sizes.callers → KnowsWhere k.s' d r v.slot (w.who e).entry.routine =
       λ e lt. stays_where k.s' e (w.who e) (w.who e).entry.routine (stays_in t c s k.s' k.goes d r v.slot name) (h.caller_holds e lt).spot (v.known e lt) in
-      let own = moves k.s' a want (stays c mover) in
+      let own = moves k.s' a ready want (stays c mover) in
       record {
         slot = v.slot;
         word = same ∙ v.word;

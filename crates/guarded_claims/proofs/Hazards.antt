@@ -12,7 +12,7 @@ use Rattle.target_code.specs.declared.target.Target.{Target}
 use Rattle.target_code.specs.declared.target.TargetInstr.{TargetInstr}
 use Rattle.target_code.specs.declared.target.TargetInstr.TheVariants.{Plain, Check, Guard}
 use Rattle.oa_words.specs.Words.{Word, Hazard}
-use Rattle.core_runs.specs.Memories.{store}
+use Rattle.oa_words.specs.Memories.{store}
 use Rattle.phase_pools.specs.declared.stages.SweepStage.{SweepStage}
 use Rattle.phase_pools.specs.declared.stages.SweepStage.TheVariants as sweeps
 use Rattle.phase_pools.specs.declared.stages.ClaimStage.{ClaimStage}
@@ -120,10 +120,15 @@ module _ (m : Word → ℕ) (c r : ℕ) where
   sweep_leaves (sweeps.ReadHazard d i) bound = store_again m (Hazard d i) (Hazard c r)
   sweep_leaves (sweeps.ReadStatus j) bound = refl
   sweep_leaves (sweeps.MakeReady j q) bound = refl
+  sweep_leaves (sweeps.PushHead j) bound = refl
+  sweep_leaves (sweeps.PushLink j q top) bound = refl
+  sweep_leaves (sweeps.PushTop j q top) bound = refl
 
   claim_leaves : (sweep : Sweep) (stage : ClaimStage) → Leaves m c r (Some (claim_wants_at sweep stage))
-  claim_leaves sweep (claims.ReadStatus j) = refl
-  claim_leaves sweep (claims.Take j q) = refl
+  claim_leaves sweep claims.ReadHead = refl
+  claim_leaves sweep (claims.ReadLink q j) = refl
+  claim_leaves sweep (claims.Take q j next) = refl
+  claim_leaves sweep (claims.StoreUsed q j) = refl
   claim_leaves sweep claims.Sweeps = sweep_leaves sweep.stage sweep.bound
 
   pub leaves : (target : Target) (e : Entry) (routine : Routine) → (stored target e routine ≡ Some r → ⊥) → Leaves m c r (wanted target e routine)

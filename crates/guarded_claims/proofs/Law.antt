@@ -4,9 +4,12 @@ use Rattle.std.specs.Prelude.{nat_le}
 use Rattle.norm_lang.specs.declared.text.Text.{Text}
 use Rattle.target_code.specs.declared.target.Target.{Target}
 use Rattle.barrier_check.specs.Paired.{Paired, IsSound}
-use Rattle.oa_words.specs.Words.{Word, Hazard, Status}
+use Rattle.oa_words.specs.Words.{Word, Hazard, Status, Link}
 use Rattle.oa_words.specs.declared.packed.Kind.TheVariants as kinds
 use Rattle.oa_words.specs.Packed.{status_word}
+use Rattle.chain_laws.specs.Chains.{times}
+use Rattle.core_pools.proofs.Pooling.{leads_hold, leads_tell, start_pooled}
+use Rattle.core_sound.specs.Standing.{standing_of}
 use Rattle.caller_laws.proofs.Methods.{setting_sane}
 use Rattle.caller_laws.proofs.Together.{methods}
 use Rattle.caller_parts.specs.Settings.{Setting, Fits, IsSetting}
@@ -28,13 +31,13 @@ use Rattle.sim_starts.proofs.FirstWords.{first_words}
 use Rattle.oa_simulation.proofs.Homes.{home_stays}
 use Rattle.oa_simulation.proofs.Refining.{either, plan_of, start_beside, start_sets_none}
 use Rattle.guarded_claims.specs.Marks.{IsValidated, Absent, Published, Validated, no_marks, run_marks}
-use Rattle.guarded_claims.specs.Guarded.{GuardsAreSpared}
+use Rattle.guarded_claims.specs.Guarded.{TakesSlot, GuardsAreSpared}
 use Rattle.guarded_claims.proofs.Covered.{covered_spares}
-use Rattle.guarded_claims.proofs.Runs.{MarkedBeside, run_marked}
+use Rattle.guarded_claims.proofs.Runs.{MarkedWithPool, run_marked}
 
 -- every state that a run comes to, with the run's marks
 marked : (target : Target) (text : Text) (setting : Setting) → IsRunnable target text → IsSetting setting → Fits target setting → IsProper text → (events : List CoreEvent) (state : CoreState) → core_run target setting events (core_start target setting) ≡ Some state
-    → MarkedBeside (plan_of target text setting events) state (shadow_run text (run_signs target setting events (core_start target setting)) (shadow_start text setting)) (run_marks target setting events (core_start target setting) no_marks)
+    → MarkedWithPool (plan_of target text setting events) state (shadow_run text (run_signs target setting events (core_start target setting)) (shadow_start text setting)) (run_marks target setting events (core_start target setting) no_marks)
 marked target text setting runs own fits proper events state is =
     let t : Plan = plan_of target text setting events in
     let z0 : Shadow = shadow_start text setting in
@@ -48,18 +51,21 @@ marked target text setting runs own fits proper events state is =
       null = homes 0 (omega arith) ∙ either (nat_le 0 setting.nodes);
     } in
     let first = (start_beside t plan own (start_is_seen target setting) (start_suits target text setting runs own fits).suits (first_words t runs own fits homes)).0 in
-    run_marked t plan proper (events_are_seen target setting)
+    run_marked t plan proper (events_are_seen target setting) (setting_sane setting own).few (start_suits target text setting runs own fits).suits
     (λ s sound. sound_is_shaped target setting s (methods target text runs) (setting_sane setting own) fits sound)
     (λ s next event sound at. event_sound target setting s next event (methods target text runs) (setting_sane setting own) fits sound at)
     events (core_start target setting) state z0 no_marks (start_sound target setting (methods target text runs) runs.within own fits)
     (record {
-      beside = first;
-      marked = λ c lt. record {
-        own = record {
-          was_set = start_sets_none t plan own (start_is_seen target setting) (start_suits target text setting runs own fits).suits (first_words t runs own fits homes) c;
-          published = λ r mark. absurd (let z : Absent ≡ Published = mark in cc);
+      pooled = start_pooled target setting (setting_sane setting own).few (start_suits target text setting runs own fits).suits;
+      marked = record {
+        beside = first;
+        marked = λ c lt. record {
+          own = record {
+            was_set = start_sets_none t plan own (start_is_seen target setting) (start_suits target text setting runs own fits).suits (first_words t runs own fits homes) c;
+            published = λ r mark. absurd (let z : Absent ≡ Published = mark in cc);
+          };
+          covered = λ r mark. absurd (let z : Absent ≡ Validated = mark in cc);
         };
-        covered = λ r mark. absurd (let z : Absent ≡ Validated = mark in cc);
       };
     }) is (λ n lt. refl)
 
@@ -67,12 +73,25 @@ spares : (target : Target) (text : Text) (setting : Setting) → IsRunnable targ
 spares target text setting runs own fits proper events state is =
     let t : Plan = plan_of target text setting events in
     let k = marked target text setting runs own fits proper events state is in
-    let b = k.beside in
+    let b = k.marked.beside in
+    let holds = leads_hold target setting (setting_sane setting own).few (start_suits target text setting runs own fits).suits _ k.pooled.1 in
+    let told = leads_tell target setting (setting_sane setting own).few (start_suits target text setting runs own fits).suits _ k.pooled.1 in
+    let taken : (d j : ℕ) (takes : TakesSlot setting state d j) → (times j k.pooled.0.chain ≡ 1) × ((view setting state).memory (Link j) ≡ takes.next) = λ d j takes.
+    told.takes d takes.claim takes.phase j takes.next (ap standing_of takes.at) takes.stage takes.found in
     let not_ready : (c r q : ℕ) → c < setting.sizes.callers → IsValidated target setting events c r → (view setting state).memory (Status ((view setting state).memory (Hazard c r))) ≡ status_word q kinds.Ready → ⊥ = λ c r q lt valid ready.
-    covered_spares t b.w c r q b.holds.shared_holds ((k.marked c lt).covered r valid) (ap (λ (m : Word → ℕ). m (Status (m (Hazard c r)))) b.memory ∙ ready) in
+    covered_spares t b.w c r q b.holds.shared_holds ((k.marked.marked c lt).covered r valid) (ap (λ (m : Word → ℕ). m (Status (m (Hazard c r)))) b.memory ∙ ready) in
     record {
       not_ready = not_ready;
-      not_taken = λ c r d j lt valid takes named. not_ready c r takes.phase lt valid (ap (λ (j : ℕ). (view setting state).memory (Status j)) named ∙ takes.ready);
+      chain = record {
+        chain = k.pooled.0.chain;
+        linked = holds.fine.linked;
+        once = told.once;
+        ready = λ j is. (let slot = told.chained j is in (slot.0, (slot.1.0, slot.1.1)));
+      };
+      from_chain = taken;
+      not_taken = λ c r d j lt valid takes named.
+          (let slot = told.chained j (taken d j takes).0 in
+          not_ready c r slot.1.0 lt valid (ap (λ (j : ℕ). (view setting state).memory (Status j)) named ∙ slot.1.1));
     }
 
 pub no_guarded_claim : (pair : Paired) (setting : Setting) → IsSound pair → IsSetting setting → Fits pair.target setting → GuardsAreSpared pair.target pair.source setting

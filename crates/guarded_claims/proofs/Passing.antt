@@ -1,12 +1,12 @@
 -- What the sweeps under way know of a slot that a hazard word names: one that is past the word has gathered the slot, if the name there
 -- was retired before the sweep's phase.
-use Rattle.std.proofs.Common.{ℕ, ◌≡◌, ◌≢◌, ◌==◌, ◌+◌, ◌*◌, ◌≤◌, ◌<◌, ◌∙◌, ◌&&◌, not, Bool, true, false, List, Option, Some, None, arith, ⊎_elim, sym, ap, subst, refl, if◌then◌else◌}
+use Rattle.std.proofs.Common.{ℕ, ◌≡◌, ◌≢◌, ◌==◌, ◌+◌, ◌-◌, ◌*◌, ◌≤◌, ◌<◌, ◌∙◌, ◌&&◌, not, Bool, true, false, List, Option, Some, None, arith, ⊎_elim, sym, ap, subst, refl, if◌then◌else◌}
 use Rattle.std.specs.Prelude.{nat_lt}
 use Rattle.std.proofs.lemmas.Bool.Decides.{nat_tests}
 use Rattle.oa_words.specs.declared.packed.Kind.{Kind}
 use Rattle.oa_words.specs.declared.packed.Kind.TheVariants as kinds
-use Rattle.oa_words.specs.Words.{Sizes, Phase}
-use Rattle.oa_words.specs.Packed.{StatusParts, status_word, status_parts}
+use Rattle.oa_words.specs.Words.{Sizes, Phase, slot_range}
+use Rattle.oa_words.specs.Packed.{StatusParts, HeadParts, status_word, status_parts, head_word, head_parts}
 use Rattle.guard_words.specs.Guards.{with_slot, has_slot}
 use Rattle.phase_pools.specs.declared.access.ClaimEnd.{ClaimEnd}
 use Rattle.phase_pools.specs.declared.access.ClaimEnd.TheVariants as ends
@@ -16,7 +16,7 @@ use Rattle.phase_pools.specs.declared.stages.SweepStage.{SweepStage}
 use Rattle.phase_pools.specs.declared.stages.SweepStage.TheVariants as sweeps
 use Rattle.phase_pools.specs.declared.stages.ClaimStage.{ClaimStage}
 use Rattle.phase_pools.specs.declared.stages.ClaimStage.TheVariants as claims
-use Rattle.phase_pools.specs.Pools.{Claim, Sweep, sweep_accepts_at, sweep_goes, sweep_ends, sweep_on, freeing, status_read, claim_accepts_at, claim_goes, claim_ends, look_ended, look_on, look_kind, look_read, look_took, sweep_begun, sweep_ended}
+use Rattle.phase_pools.specs.Pools.{Claim, Sweep, sweep_accepts_at, sweep_goes, sweep_ends, sweep_on, has_lower, freeing, status_read, made_ready, pushed, claim_accepts_at, claim_goes, claim_ends, look_ended, look_begun, look_took, sweep_begun, sweep_ended}
 use Rattle.caller_parts.specs.declared.routine.Routine.{Routine}
 use Rattle.caller_parts.specs.declared.routine.Routine.TheVariants.{Idle, LoadSeen, At, InList, Retires, Restarts, Clears, Claims, Zeroes}
 use Rattle.sim_relation.specs.Views.{Plan, Shared}
@@ -35,10 +35,15 @@ KnowsAt s d r j p g (sweeps.Warn c) = Unit {0}
 KnowsAt s d r j p g (sweeps.ReadHazard c i) = 8 * d + r < 8 * c + i → Knows s j p g
 KnowsAt s d r j p g (sweeps.ReadStatus i) = Knows s j p g
 KnowsAt s d r j p g (sweeps.MakeReady i q) = Knows s j p g
+KnowsAt s d r j p g (sweeps.PushHead i) = Knows s j p g
+KnowsAt s d r j p g (sweeps.PushLink i q top) = Knows s j p g
+KnowsAt s d r j p g (sweeps.PushTop i q top) = Knows s j p g
 
 abbrev pub KnowsIn : Shared → ℕ → ℕ → ℕ → Sweep → ClaimStage → Type 0
-KnowsIn s d r j sweep (claims.ReadStatus i) = Unit {0}
-KnowsIn s d r j sweep (claims.Take i q) = Unit {0}
+KnowsIn s d r j sweep claims.ReadHead = Unit {0}
+KnowsIn s d r j sweep (claims.ReadLink q i) = Unit {0}
+KnowsIn s d r j sweep (claims.Take q i next) = Unit {0}
+KnowsIn s d r j sweep (claims.StoreUsed q i) = Unit {0}
 KnowsIn s d r j sweep claims.Sweeps = KnowsAt s d r j sweep.bound sweep.gathered sweep.stage
 
 abbrev pub KnowsWhere : Shared → ℕ → ℕ → ℕ → Routine → Type 0
@@ -68,10 +73,15 @@ module _ (t : Plan) (c : ℕ) (s s' : Shared) (goes : MayChange t c s s') (d r j
   stays_at p g (sweeps.ReadHazard x i) w k = λ past. stays_known p g w.0.raised (k past)
   stays_at p g (sweeps.ReadStatus i) w k = stays_known p g w.raised k
   stays_at p g (sweeps.MakeReady i q) w k = stays_known p g w.0.raised k
+  stays_at p g (sweeps.PushHead i) w k = stays_known p g w.raised k
+  stays_at p g (sweeps.PushLink i q top) w k = stays_known p g w.raised k
+  stays_at p g (sweeps.PushTop i q top) w k = stays_known p g w.raised k
 
   pub stays_in : (sweep : Sweep) (stage : ClaimStage) → ClaimAt t s sweep stage → KnowsIn s d r j sweep stage → KnowsIn s' d r j sweep stage
-  stays_in sweep (claims.ReadStatus i) w k = tt
-  stays_in sweep (claims.Take i q) w k = tt
+  stays_in sweep claims.ReadHead w k = tt
+  stays_in sweep (claims.ReadLink q i) w k = tt
+  stays_in sweep (claims.Take q i next) w k = tt
+  stays_in sweep (claims.StoreUsed q i) w k = tt
   stays_in sweep claims.Sweeps w k = stays_at sweep.bound sweep.gathered sweep.stage w k
 
 -- ---- what a sweep's own step makes of it
@@ -92,16 +102,21 @@ FindsAt d r j word (sweeps.RaisePhase q) = Unit {0}
 FindsAt d r j word (sweeps.Warn c) = Unit {0}
 FindsAt d r j word (sweeps.ReadStatus i) = Unit {0}
 FindsAt d r j word (sweeps.MakeReady i q) = Unit {0}
+FindsAt d r j word (sweeps.PushHead i) = Unit {0}
+FindsAt d r j word (sweeps.PushLink i q top) = Unit {0}
+FindsAt d r j word (sweeps.PushTop i q top) = Unit {0}
 
 abbrev pub FindsIn : ℕ → ℕ → ℕ → ℕ → Sweep → ClaimStage → Type 0
-FindsIn d r j word sweep (claims.ReadStatus i) = Unit {0}
-FindsIn d r j word sweep (claims.Take i q) = Unit {0}
+FindsIn d r j word sweep claims.ReadHead = Unit {0}
+FindsIn d r j word sweep (claims.ReadLink q i) = Unit {0}
+FindsIn d r j word sweep (claims.Take q i next) = Unit {0}
+FindsIn d r j word sweep (claims.StoreUsed q i) = Unit {0}
 FindsIn d r j word sweep claims.Sweeps = FindsAt d r j word sweep.stage
 
 module _ (sizes : Sizes) (last : ℕ) (s : Shared) (d r j : ℕ) (low : r < 8) (some : j ≢ 0) where
   on_knows : (sweep : Sweep) (i : ℕ) → Knows s j sweep.bound sweep.gathered → SweepKnows s d r j (sweep_on sizes sweep i).sweep (sweep_on sizes sweep i).ended
-  on_knows sweep i k = of (nat_lt i sizes.slots) where
-    of : (b : Bool) → SweepKnows s d r j (if b then sweep_goes sweep (sweeps.ReadStatus (i + 1)) else sweep_ends sweep swept.Swept).sweep (if b then sweep_goes sweep (sweeps.ReadStatus (i + 1)) else sweep_ends sweep swept.Swept).ended
+  on_knows sweep i k = of (has_lower sizes i) where
+    of : (b : Bool) → SweepKnows s d r j (if b then sweep_goes sweep (sweeps.ReadStatus (i - 1)) else sweep_ends sweep swept.Swept).sweep (if b then sweep_goes sweep (sweeps.ReadStatus (i - 1)) else sweep_ends sweep swept.Swept).ended
     of true = k
     of false = tt
 
@@ -117,6 +132,18 @@ module _ (sizes : Sizes) (last : ℕ) (s : Shared) (d r j : ℕ) (low : r < 8) (
   status_knows sweep i None k = on_knows sweep i k
   status_knows sweep i (Some parts) k = freeing_knows sweep i parts.phase parts.kind k
 
+  made_knows : (sweep : Sweep) (i q word : ℕ) → Knows s j sweep.bound sweep.gathered → SweepKnows s d r j (made_ready sizes sweep i q word).sweep (made_ready sizes sweep i q word).ended
+  made_knows sweep i q word k = of (word == status_word q kinds.Retired) where
+    of : (b : Bool) → SweepKnows s d r j (if b then sweep_goes sweep (sweeps.PushHead i) else sweep_on sizes sweep i).sweep (if b then sweep_goes sweep (sweeps.PushHead i) else sweep_on sizes sweep i).ended
+    of true = k
+    of false = on_knows sweep i k
+
+  pushed_knows : (sweep : Sweep) (i q top word : ℕ) → Knows s j sweep.bound sweep.gathered → SweepKnows s d r j (pushed sizes sweep i q top word).sweep (pushed sizes sweep i q top word).ended
+  pushed_knows sweep i q top word k = of (word == head_word q top) where
+    of : (b : Bool) → SweepKnows s d r j (if b then sweep_on sizes sweep i else sweep_goes sweep (sweeps.PushHead i)).sweep (if b then sweep_on sizes sweep i else sweep_goes sweep (sweeps.PushHead i)).ended
+    of true = on_knows sweep i k
+    of false = k
+
   gathers : (p x i word : ℕ) (g : List ℕ) → i < 8 → (d ≡ x → r ≡ i → word ≡ j) → (8 * d + r < 8 * x + i → Knows s j p g) → 8 * d + r < 8 * x + i + 1 → Knows s j p (with_slot g word)
   gathers p x i word g lt found k past q is below = ⊎_elim
       (λ (earlier : 8 * d + r < 8 * x + i). has_before g word j (k earlier q is below))
@@ -124,16 +151,16 @@ module _ (sizes : Sizes) (last : ℕ) (s : Shared) (d r j : ℕ) (low : r < 8) (
       (here_or_before d r x i past low lt)
 
   hazard_knows : (p x i : ℕ) (g : List ℕ) → d < sizes.callers → i < 8 → (8 * d + r < 8 * x + i + 1 → Knows s j p g)
-      → KnowsAt s d r j p g (if nat_lt (i + 1) 8 then sweeps.ReadHazard x (i + 1) else (if nat_lt (x + 1) sizes.callers then sweeps.ReadHazard (x + 1) 0 else sweeps.ReadStatus 1))
+      → KnowsAt s d r j p g (if nat_lt (i + 1) 8 then sweeps.ReadHazard x (i + 1) else (if nat_lt (x + 1) sizes.callers then sweeps.ReadHazard (x + 1) 0 else sweeps.ReadStatus (slot_range sizes).last))
   hazard_knows p x i g caller lt k = of (nat_lt (i + 1) 8) refl where
-    ended : (b : Bool) → nat_lt (i + 1) 8 ≡ false → nat_lt (x + 1) sizes.callers ≡ b → KnowsAt s d r j p g (if b then sweeps.ReadHazard (x + 1) 0 else sweeps.ReadStatus 1)
+    ended : (b : Bool) → nat_lt (i + 1) 8 ≡ false → nat_lt (x + 1) sizes.callers ≡ b → KnowsAt s d r j p g (if b then sweeps.ReadHazard (x + 1) 0 else sweeps.ReadStatus (slot_range sizes).last)
     ended true full is = λ past. (let seven : i ≡ 7 = grind (arith, nat_tests) in k (omega (arith, seven, past)))
     ended false full is =
         let seven : i ≡ 7 = grind (arith, nat_tests) in
         let most : sizes.callers ≤ x + 1 = grind (arith, nat_tests) in
         k (omega (arith, seven, most, caller, low))
 
-    of : (b : Bool) → nat_lt (i + 1) 8 ≡ b → KnowsAt s d r j p g (if b then sweeps.ReadHazard x (i + 1) else (if nat_lt (x + 1) sizes.callers then sweeps.ReadHazard (x + 1) 0 else sweeps.ReadStatus 1))
+    of : (b : Bool) → nat_lt (i + 1) 8 ≡ b → KnowsAt s d r j p g (if b then sweeps.ReadHazard x (i + 1) else (if nat_lt (x + 1) sizes.callers then sweeps.ReadHazard (x + 1) 0 else sweeps.ReadStatus (slot_range sizes).last))
     of true is = λ past. k (omega (arith, past))
     of false is = ended (nat_lt (x + 1) sizes.callers) is refl
 
@@ -150,7 +177,10 @@ module _ (sizes : Sizes) (last : ℕ) (s : Shared) (d r j : ℕ) (low : r < 8) (
     of false = λ past. absurd (omega (arith, past))
   sweep_knows sweep word (sweeps.ReadHazard x i) caller found k = hazard_knows sweep.bound x i (with_slot sweep.gathered word) caller found.0 (gathers sweep.bound x i word sweep.gathered found.0 found.1 k)
   sweep_knows sweep word (sweeps.ReadStatus i) caller found k = status_knows sweep i (status_parts word) k
-  sweep_knows sweep word (sweeps.MakeReady i q) caller found k = on_knows sweep i k
+  sweep_knows sweep word (sweeps.MakeReady i q) caller found k = made_knows sweep i q word k
+  sweep_knows sweep word (sweeps.PushHead i) caller found k = k
+  sweep_knows sweep word (sweeps.PushLink i q top) caller found k = k
+  sweep_knows sweep word (sweeps.PushTop i q top) caller found k = pushed_knows sweep i q top word k
 
   -- ---- and a claim's
 
@@ -160,35 +190,28 @@ module _ (sizes : Sizes) (last : ℕ) (s : Shared) (d r j : ℕ) (low : r < 8) (
     of true = tt
     of false = tt
 
-  look_on_knows : (claim : Claim) (i : ℕ) → ClaimKnows s d r j (look_on sizes claim i).claim (look_on sizes claim i).ended
-  look_on_knows claim i = of (nat_lt i sizes.slots) where
-    of : (b : Bool) → ClaimKnows s d r j (if b then claim_goes claim (claims.ReadStatus (i + 1)) else look_ended claim).claim (if b then claim_goes claim (claims.ReadStatus (i + 1)) else look_ended claim).ended
+  look_begun_knows : (claim : Claim) (head : HeadParts) → ClaimKnows s d r j (look_begun claim head).claim (look_begun claim head).ended
+  look_begun_knows claim head = of (head.top == 0) where
+    of : (b : Bool) → ClaimKnows s d r j (if b then look_ended claim else claim_goes claim (claims.ReadLink head.phase head.top)).claim (if b then look_ended claim else claim_goes claim (claims.ReadLink head.phase head.top)).ended
+    of true = look_ended_knows claim
+    of false = tt
+
+  look_took_knows : (claim : Claim) (q i word : ℕ) → ClaimKnows s d r j (look_took claim q i word).claim (look_took claim q i word).ended
+  look_took_knows claim q i word = of (word == head_word q i) where
+    of : (b : Bool) → ClaimKnows s d r j (if b then claim_goes claim (claims.StoreUsed q i) else claim_goes claim claims.ReadHead).claim (if b then claim_goes claim (claims.StoreUsed q i) else claim_goes claim claims.ReadHead).ended
     of true = tt
-    of false = look_ended_knows claim
+    of false = tt
 
-  look_kind_knows : (claim : Claim) (i q : ℕ) (kind : Kind) → ClaimKnows s d r j (look_kind sizes claim i q kind).claim (look_kind sizes claim i q kind).ended
-  look_kind_knows claim i q kinds.Ready = tt
-  look_kind_knows claim i q kinds.Used = look_on_knows claim i
-  look_kind_knows claim i q kinds.Retired = look_on_knows claim i
-
-  look_read_knows : (claim : Claim) (i : ℕ) (parts : Option StatusParts) → ClaimKnows s d r j (look_read sizes claim i parts).claim (look_read sizes claim i parts).ended
-  look_read_knows claim i None = look_on_knows claim i
-  look_read_knows claim i (Some parts) = look_kind_knows claim i parts.phase parts.kind
-
-  look_took_knows : (claim : Claim) (i q word : ℕ) → ClaimKnows s d r j (look_took sizes claim i q word).claim (look_took sizes claim i q word).ended
-  look_took_knows claim i q word = of (word == status_word q kinds.Ready) where
-    of : (b : Bool) → ClaimKnows s d r j (if b then claim_ends claim (ends.Claimed i) else look_on sizes claim i).claim (if b then claim_ends claim (ends.Claimed i) else look_on sizes claim i).ended
-    of true = tt
-    of false = look_on_knows claim i
-
-  swept_knows : (claim : Claim) (sweep : Sweep) (o : Option SweepEnd) → claim.stage ≡ claims.Sweeps → SweepKnows s d r j sweep o → ClaimKnows s d r j (sweep_ended sizes claim sweep o).claim (sweep_ended sizes claim sweep o).ended
+  swept_knows : (claim : Claim) (sweep : Sweep) (o : Option SweepEnd) → claim.stage ≡ claims.Sweeps → SweepKnows s d r j sweep o → ClaimKnows s d r j (sweep_ended claim sweep o).claim (sweep_ended claim sweep o).ended
   swept_knows claim sweep None at k = subst (λ (stage : ClaimStage). KnowsIn s d r j sweep stage) (sym at) k
   swept_knows claim sweep (Some swept.Swept) at k = tt
   swept_knows claim sweep (Some (swept.PhasesOver p)) at k = tt
 
   pub claim_knows : (claim : Claim) (word : ℕ) (stage : ClaimStage) → claim.stage ≡ stage → d < sizes.callers → FindsIn d r j word claim.sweep stage → KnowsIn s d r j claim.sweep stage
       → ClaimKnows s d r j (claim_accepts_at sizes last claim word stage).claim (claim_accepts_at sizes last claim word stage).ended
-  claim_knows claim word (claims.ReadStatus i) at caller found k = look_read_knows claim i (status_parts word)
-  claim_knows claim word (claims.Take i q) at caller found k = look_took_knows claim i q word
+  claim_knows claim word claims.ReadHead at caller found k = look_begun_knows claim (head_parts word)
+  claim_knows claim word (claims.ReadLink q i) at caller found k = tt
+  claim_knows claim word (claims.Take q i next) at caller found k = look_took_knows claim q i word
+  claim_knows claim word (claims.StoreUsed q i) at caller found k = tt
   claim_knows claim word claims.Sweeps at caller found k =
       let turn = sweep_accepts_at sizes last claim.sweep word claim.sweep.stage in swept_knows claim turn.sweep turn.ended at (sweep_knows claim.sweep word claim.sweep.stage caller found k)

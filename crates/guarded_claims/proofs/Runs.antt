@@ -1,9 +1,9 @@
 -- The marks of a run stand beside the relation, event by event.
-use Rattle.std.proofs.Common.{ℕ, ◌≡◌, ◌≢◌, ◌<◌, ◌⊎◌, ◌∙◌, if◌then◌else◌, Bool, true, false, List, length, Option, Some, None, arith, inl, inr, ⊎_elim, sym, ap, subst, refl}
+use Rattle.std.proofs.Common.{ℕ, ◌≡◌, ◌≢◌, ◌≤◌, ◌<◌, ◌⊎◌, ◌∙◌, if◌then◌else◌, Bool, true, false, List, length, Option, Some, None, arith, inl, inr, ⊎_elim, sym, ap, subst, refl}
 use Rattle.std.proofs.lemmas.Bool.{cases_eq}
 use Rattle.std.specs.Prelude.{slice_get, slice_index, unwrap_or}
 use Rattle.target_code.specs.declared.target.Target.{Target}
-use Rattle.oa_words.specs.Words.{Hazard, in_row, address_of}
+use Rattle.oa_words.specs.Words.{Word, Hazard, in_row, address_of}
 use Rattle.phase_pools.specs.Accesses.{WordAccess, word_of}
 use Rattle.local_laws.proofs.Inside.{there_is}
 use Rattle.source_machine.specs.MethodRuns.{put}
@@ -14,20 +14,23 @@ use Rattle.caller_parts.specs.Settings.{Setting}
 use Rattle.caller_steps.specs.Entries.{Entry, idle_entry, is_idle}
 use Rattle.caller_steps.specs.Wants.{wants}
 use Rattle.caller_steps.specs.After.{moved as after_moves}
-use Rattle.core_runs.specs.Machine.{CoreState, CoreEvent, Takes, Steps, core_event, core_run, found_by}
+use Rattle.core_runs.specs.Machine.{CoreState, CoreEvent, Takes, Steps, beginning_of, core_event, core_run, found_by}
 use Rattle.core_runs.specs.RunSigns.{event_signs, run_signs}
 use Rattle.core_runs.specs.Views.{EventsAreSeen, IsShaped, Moves, view}
 use Rattle.core_runs.proofs.Keeping.{idle_wants}
 use Rattle.core_sound.specs.Sound.{IsSound}
 use Rattle.sim_relation.specs.Views.{Plan, IsPlan, Caller}
 use Rattle.sim_relation.specs.Naming.{present_at}
-use Rattle.sim_relation.specs.Steps.{NamesAfter, Stepped, after_access, is_between}
+use Rattle.sim_relation.specs.Steps.{NamesAfter, Stepped, TakesReady, after_access, is_between}
 use Rattle.sim_relation.specs.WasSet.{set_after_access}
 use Rattle.sim_relation.specs.Worlds.{World, Holds}
 use Rattle.sim_steps.proofs.Dispatching.{steps_keep}
 use Rattle.oa_simulation.specs.Shadow.{Shadow, shadow_run}
 use Rattle.oa_simulation.specs.Beside.{Beside}
 use Rattle.oa_simulation.specs.Relation.{HomeIs}
+use Rattle.core_pools.specs.Pooled.{Pooled}
+use Rattle.oa_words.specs.Starts.{Suits}
+use Rattle.oa_simulation.proofs.Pools.{pool_goes, takes_ready}
 use Rattle.oa_simulation.proofs.Induction.{TookCall, Went, along_run, take_went, step_went}
 use Rattle.guarded_claims.specs.Marks.{Marks, Validated, step_marks, wanted_marks, entry_marks, event_marks, marks_on, run_marks}
 use Rattle.guarded_claims.proofs.Passing.{KnowsWhere}
@@ -67,7 +70,12 @@ busy : (target : Target) (e : Entry) (a : WordAccess) (b : Bool) → is_idle e.r
 busy target e a true is want = absurd (idle_wants target e a is want)
 busy target e a false is want = is
 
-module _ (t : Plan) (plan : IsPlan t) (proper : IsProper t.text) (events_seen : EventsAreSeen t.target t.setting) where
+-- and events of the pool lead there
+pub record MarkedWithPool (t : Plan) (state : CoreState) (z : Shadow) (marks : ℕ → Marks) : Type 0 where
+  pub marked : MarkedBeside t state z marks
+  pub pooled : Pooled t.target t.setting state
+
+module _ (t : Plan) (plan : IsPlan t) (proper : IsProper t.text) (events_seen : EventsAreSeen t.target t.setting) (few : t.setting.sizes.slots ≤ 4096) (suits : Suits t.setting.sizes (beginning_of t.target t.setting)) where
   took_marked : (state behind : CoreState) (z : Shadow) (c : ℕ) (call : Call) (b : Beside t state z) (marks : ℕ → Marks) → c < t.setting.sizes.callers → AllMarked t b.w marks → (k : TookCall t state behind z c call b) → MarkedBeside t behind z marks
   took_marked state behind z c call b marks lt all k = record {
     beside = k.beside;
@@ -84,12 +92,12 @@ module _ (t : Plan) (plan : IsPlan t) (proper : IsProper t.text) (events_seen : 
   }
 
   -- a step, in the worlds before and after it
-  step_all : (w : World) (h : Holds t w) (c : ℕ) (a : WordAccess) (marks : ℕ → Marks) → c < t.setting.sizes.callers → AllMarked t w marks → wants t.target (w.who c).entry ≡ Some a
+  step_all : (w : World) (h : Holds t w) (c : ℕ) (a : WordAccess) (marks : ℕ → Marks) → c < t.setting.sizes.callers → AllMarked t w marks → TakesReady w.shared.memory (w.who c).entry.routine → wants t.target (w.who c).entry ≡ Some a
       → (k : Stepped t c w.shared (w.who c) (NamesAfter t w.shared c (w.who c) (w.who c).entry.routine) (set_after_access t.target t.setting.sizes (w.who c).entry (w.who c).entry.routine (w.shared.memory (word_of a)) (w.who c).was_set)
       (after_access w.shared.memory a) (after_moves t.target t.setting (w.who c).entry (w.shared.memory (word_of a))) (present_at t.setting.sizes w.shared.memory w.shared.unused (w.who c).entry (w.who c).entry.routine w.shared.present))
       → Holds t (record { shared = k.kept.s'; who = put w.who c k.kept.x' })
       → AllMarked t (record { shared = k.kept.s'; who = put w.who c k.kept.x' }) (put marks c (step_marks t.target t.setting (w.who c).entry (w.shared.memory (word_of a)) (marks c)))
-  step_all w h c a marks lt all want k h' d below = record { own = own d below; covered = λ r. covered r (cases_eq d c) } where
+  step_all w h c a marks lt all ready want k h' d below = record { own = own d below; covered = λ r. covered r (cases_eq d c) } where
     is_busy : is_idle (w.who c).entry.routine ≡ false
     is_busy = busy t.target (w.who c).entry a (is_idle (w.who c).entry.routine) refl want
 
@@ -101,7 +109,7 @@ module _ (t : Plan) (plan : IsPlan t) (proper : IsProper t.text) (events_seen : 
         (others_marked t w.shared k.kept.s' c d (w.who d) (marks d) k.kept.goes (h.caller_holds d lt).base (all d lt).own))
 
     stays : (d r : ℕ) → Covered t w d r → k.kept.s'.memory (Hazard d r) ≡ w.shared.memory (Hazard d r) → Covered t (record { shared = k.kept.s'; who = put w.who c k.kept.x' }) d r
-    stays d r v same = covered_on t w h c lt d r v a k.row _ want k.kept same
+    stays d r v same = covered_on t w h c lt d r v a k.row _ ready want k.kept same
 
     covered : (r : ℕ) → (d ≡ c) ⊎ (d ≢ c) → (put marks c (step_marks t.target t.setting (w.who c).entry (w.shared.memory (word_of a)) (marks c)) d).hazards r ≡ Validated
         → Covered t (record { shared = k.kept.s'; who = put w.who c k.kept.x' }) d r
@@ -114,12 +122,14 @@ module _ (t : Plan) (plan : IsPlan t) (proper : IsProper t.text) (events_seen : 
     covered r (inr ne) is =
         stays d r ((all d below).covered r (sym (ap (λ (m : Marks). m.hazards r) (put_other marks c d (step_marks t.target t.setting (w.who c).entry (w.shared.memory (word_of a)) (marks c)) ne)) ∙ is)) (k.kept.goes.hazard d r ne)
 
-  went_marked : (state behind : CoreState) (z z' : Shadow) (c : ℕ) (b : Beside t state z) (marks : ℕ → Marks) → c < t.setting.sizes.callers → c < length state.entries → AllMarked t b.w marks → Went t state behind z z' c b
+  went_marked : (state behind : CoreState) (z z' : Shadow) (c : ℕ) (b : Beside t state z) (marks : ℕ → Marks) → c < t.setting.sizes.callers → c < length state.entries → AllMarked t b.w marks → TakesReady (view t.setting state).memory ((view t.setting state).who c).routine → Went t state behind z z' c b
       → MarkedBeside t behind z' (event_marks t.target t.setting state (Steps c) marks)
-  went_marked state behind z z' c b marks lt there all k =
+  went_marked state behind z z' c b marks lt there all ready k =
       let x : Caller = b.w.who c in
       let e : x.entry ≡ (view t.setting state).who c = b.entry c lt in
       let want : wants t.target x.entry ≡ Some k.access = ap (wants t.target) e ∙ k.at in
+      let ready' : TakesReady b.w.shared.memory x.entry.routine =
+      subst (λ (e : Entry). TakesReady b.w.shared.memory e.routine) (sym e) (subst (λ (m : Word → ℕ). TakesReady m ((view t.setting state).who c).routine) (sym b.memory) ready) in
       let mine : Marks = step_marks t.target t.setting x.entry (b.w.shared.memory (word_of k.access)) (marks c) in
       let marks' : event_marks t.target t.setting state (Steps c) marks ≡ put marks c mine =
       marks_are t.target t.setting state c k.access marks there k.at k.there
@@ -129,25 +139,30 @@ module _ (t : Plan) (plan : IsPlan t) (proper : IsProper t.text) (events_seen : 
         beside = k.beside;
         marked = subst (λ (w : World). AllMarked t w (event_marks t.target t.setting state (Steps c) marks)) (sym k.world)
             (subst (λ (marks : ℕ → Marks). AllMarked t (record { shared = k.stepped.kept.s'; who = put b.w.who c k.stepped.kept.x' }) marks) (sym marks')
-            (step_all b.w b.holds c k.access marks lt all want k.stepped (subst (Holds t) k.world k.beside.holds)));
+            (step_all b.w b.holds c k.access marks lt all ready' want k.stepped (subst (Holds t) k.world k.beside.holds)));
       }
 
-  event_marked : (event : CoreEvent) (state behind : CoreState) (z : Shadow) (marks : ℕ → Marks) → IsSound t.target t.setting state → IsShaped t.target t.setting state → MarkedBeside t state z marks → Moves t.target t.setting (view t.setting state) event (view t.setting behind)
+  event_marked : (event : CoreEvent) (state behind : CoreState) (z : Shadow) (marks : ℕ → Marks) → IsSound t.target t.setting state → IsShaped t.target t.setting state → MarkedWithPool t state z marks → Moves t.target t.setting (view t.setting state) event (view t.setting behind)
       → HomeIs t.home (shadow_run t.text (event_signs t.target t.setting state event) z) → MarkedBeside t behind (shadow_run t.text (event_signs t.target t.setting state event) z) (event_marks t.target t.setting state event marks)
   event_marked (Takes c call) state behind z marks sound shaped b m homes =
-      took_marked state behind z c call b.beside marks m.0 b.marked (take_went t plan (λ e. true) (steps_keep t plan) proper events_seen state behind z c call b.beside m)
+      took_marked state behind z c call b.marked.beside marks m.0 b.marked.marked (take_went t plan (λ e. true) (steps_keep t plan) proper events_seen state behind z c call b.marked.beside m)
   event_marked (Steps c) state behind z marks sound shaped b m homes =
       let lt = m.1 in
       let callers = shaped.callers in
-      went_marked state behind z (shadow_run t.text (event_signs t.target t.setting state (Steps c)) z) c b.beside marks lt (omega (arith, lt, callers)) b.marked
-      (step_went t plan (λ e. true) (steps_keep t plan) proper events_seen state behind z c refl sound shaped b.beside m homes)
+      let ready = takes_ready t.target t.setting state c few suits b.pooled in
+      went_marked state behind z (shadow_run t.text (event_signs t.target t.setting state (Steps c)) z) c b.marked.beside marks lt (omega (arith, lt, callers)) b.marked.marked ready
+      (step_went t plan (λ e. true) (steps_keep t plan) proper events_seen state behind z c refl sound shaped b.marked.beside ready m homes)
 
   -- the induction, over what stays sound
   pub run_marked : ((state : CoreState) → IsSound t.target t.setting state → IsShaped t.target t.setting state)
       → ((state behind : CoreState) (event : CoreEvent) → IsSound t.target t.setting state → core_event t.target t.setting state event ≡ Some behind → IsSound t.target t.setting behind)
-      → (events : List CoreEvent) (state behind : CoreState) (z : Shadow) (marks : ℕ → Marks) → IsSound t.target t.setting state → MarkedBeside t state z marks → core_run t.target t.setting events state ≡ Some behind
-      → HomeIs t.home (shadow_run t.text (run_signs t.target t.setting events state) z) → MarkedBeside t behind (shadow_run t.text (run_signs t.target t.setting events state) z) (run_marks t.target t.setting events state marks)
+      → (events : List CoreEvent) (state behind : CoreState) (z : Shadow) (marks : ℕ → Marks) → IsSound t.target t.setting state → MarkedWithPool t state z marks → core_run t.target t.setting events state ≡ Some behind
+      → HomeIs t.home (shadow_run t.text (run_signs t.target t.setting events state) z) → MarkedWithPool t behind (shadow_run t.text (run_signs t.target t.setting events state) z) (run_marks t.target t.setting events state marks)
   run_marked shaped stays events state behind z marks sound b is homes = along_run t (ℕ → Marks) (λ events state z marks. run_marks t.target t.setting events state marks) (λ event state z marks. event_marks t.target t.setting state event marks)
-      (MarkedBeside t) (λ state z marks. refl)
+      (MarkedWithPool t) (λ state z marks. refl)
       (λ event events state next z marks at. ap (λ (o : Option CoreState). marks_on o (run_marks t.target t.setting events) (event_marks t.target t.setting state event marks)) at)
-      shaped stays events_seen event_marked events state behind z marks sound b is homes
+      shaped stays events_seen
+      (λ event state behind z marks sound shaped b m homes.
+      let one = event_marked event state behind z marks sound shaped b m homes in
+      record { marked = one; pooled = pool_goes t state behind _ event few suits shaped m b.pooled one.beside })
+      events state behind z marks sound b is homes

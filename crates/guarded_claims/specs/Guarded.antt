@@ -1,32 +1,44 @@
--- No validated guard names a slot that is ready.
-use Rattle.std.specs.Prelude.{ℕ, ◌≡◌, ◌≢◌, ◌<◌, List, Some, slice_get}
+-- No validated guard names a slot that is ready, and so none names a slot of the chain.
+use Rattle.std.specs.Prelude.{ℕ, ◌≡◌, ◌≢◌, ◌≤◌, ◌<◌, List, Some}
 use Rattle.norm_lang.specs.declared.text.Text.{Text}
 use Rattle.target_code.specs.declared.target.Target.{Target}
 use Rattle.oa_words.specs.declared.packed.Kind.TheVariants as kinds
-use Rattle.oa_words.specs.Words.{Hazard, Status}
-use Rattle.oa_words.specs.Packed.{status_word}
-use Rattle.phase_pools.specs.Accesses.{Exchanges}
+use Rattle.oa_words.specs.Words.{Word, Hazard, Status, Head, Link, Sizes}
+use Rattle.oa_words.specs.Packed.{status_word, head_word}
+use Rattle.phase_pools.specs.declared.stages.ClaimStage.TheVariants as claims
+use Rattle.phase_pools.specs.Pools.{Claim}
+use Rattle.chain_laws.specs.Chains.{IsChain, IsOf, IsSlot, links, times, top}
 use Rattle.source_machine.specs.Proper.{IsProper}
+use Rattle.caller_parts.specs.declared.routine.Routine.TheVariants.{Claims}
 use Rattle.caller_parts.specs.Settings.{Setting}
-use Rattle.caller_steps.specs.Entries.{Entry}
-use Rattle.caller_steps.specs.Wants.{wants}
 use Rattle.core_runs.specs.Machine.{CoreState, CoreEvent, core_start, core_run}
 use Rattle.core_runs.specs.Views.{view}
 use Rattle.guarded_claims.specs.Marks.{IsValidated}
 
--- a caller stands before the exchange of a claim, and the slot is still ready with the phase that it expects
-pub record TakesSlot (target : Target) (setting : Setting) (state : CoreState) (d j : ℕ) : Type 0 where
-  pub entry : Entry
+-- a caller stands before the exchange of a claim, which finds the head that it expects and so takes the slot on top
+pub record TakesSlot (setting : Setting) (state : CoreState) (d j : ℕ) : Type 0 where
+  pub claim : Claim
   pub phase : ℕ
-  pub is : slice_get state.entries d ≡ Some entry
-  pub wanted : wants target entry ≡ Some (Exchanges (Status j) (status_word phase kinds.Ready) (status_word phase kinds.Used))
-  pub ready : (view setting state).memory (Status j) ≡ status_word phase kinds.Ready
+  pub next : ℕ
+  pub at : ((view setting state).who d).routine ≡ Claims claim
+  pub stage : claim.stage ≡ claims.Take phase j next
+  pub found : (view setting state).memory Head ≡ head_word phase j
+
+-- the chain: from the head's top on each slot's link names the one below it
+pub record ReadyChain (n : Sizes) (memory : Word → ℕ) : Type 0 where
+  pub chain : List ℕ
+  pub linked : IsChain (links memory) (top memory) chain
+  pub once : (j : ℕ) → times j chain ≤ 1
+  pub ready : (j : ℕ) → times j chain ≡ 1 → IsSlot n j × IsOf kinds.Ready (memory (Status j))
 
 -- after a run's events, in the state that they lead to
 pub record Spared (target : Target) (setting : Setting) (events : List CoreEvent) (state : CoreState) : Type 0 where
   pub not_ready : (c r q : ℕ) → c < setting.sizes.callers → IsValidated target setting events c r → (view setting state).memory (Status ((view setting state).memory (Hazard c r))) ≢ status_word q kinds.Ready
-  -- no exchange of a claim takes a slot that a validated guard names
-  pub not_taken : (c r d j : ℕ) → c < setting.sizes.callers → IsValidated target setting events c r → TakesSlot target setting state d j → (view setting state).memory (Hazard c r) ≢ j
+  -- each slot of the chain is ready and stands in it once
+  pub chain : ReadyChain setting.sizes (view setting state).memory
+  -- an exchange of a claim takes a slot from the chain, whose link is the one that the claim has loaded, and none that a validated guard names
+  pub from_chain : (d j : ℕ) (takes : TakesSlot setting state d j) → (times j chain.chain ≡ 1) × ((view setting state).memory (Link j) ≡ takes.next)
+  pub not_taken : (c r d j : ℕ) → c < setting.sizes.callers → IsValidated target setting events c r → TakesSlot setting state d j → (view setting state).memory (Hazard c r) ≢ j
 
 -- of a proper text
 abbrev pub GuardsAreSpared : Target → Text → Setting → Type 0

@@ -8,7 +8,8 @@ use caller_steps::Setting;
 use oa_simulation::laws::kept;
 
 /// For a proper text: whatever the callers do and however their steps interleave, in no state does a validated guard name a slot
-/// whose status is ready. So no claim's exchange, which finds a slot ready, takes one that a validated guard names.
+/// whose status is ready. Each slot of the chain is ready and stands in it once, so no claim's exchange takes one from the chain that
+/// a validated guard names.
 pub fn no_guarded_claim(barred: &Barred, setting: &Setting)
     requires fits { Fits barred.now.target setting.now }
     ensures { GuardsAreSpared barred.now.target barred.now.source setting.now }

@@ -5,14 +5,14 @@ use Rattle.oa_words.specs.Words.{Word}
 use Rattle.phase_pools.specs.declared.access.ClaimEnd.{ClaimEnd}
 use Rattle.phase_pools.specs.declared.access.ClaimEnd.TheVariants as ends
 use Rattle.phase_pools.specs.Accesses.{WordAccess, word_of}
-use Rattle.phase_pools.specs.Pools.{Claim, ClaimTurn, claim_wants, claim_accepts}
+use Rattle.phase_pools.specs.Pools.{Claim, ClaimTurn, claim_wants, claim_accepts, claim_takes}
 use Rattle.source_machine.proofs.Places.{each_put}
 use Rattle.caller_parts.specs.declared.routine.Routine.{Routine}
 use Rattle.caller_parts.specs.declared.routine.Routine.TheVariants.{Idle, LoadSeen, At, InList, Retires, Restarts, Clears, Claims, Zeroes}
 use Rattle.caller_parts.specs.Settings.{Setting}
 use Rattle.caller_steps.specs.Entries.{Entry, is_idle}
 use Rattle.caller_steps.specs.Wants.{wants, wanted}
-use Rattle.caller_steps.specs.After.{after, accepted, counted, claim_on}
+use Rattle.caller_steps.specs.After.{after, accepted, counted, claim_counted, claim_on}
 use Rattle.core_runs.specs.Machine.{CoreState, CoreEvent, Takes, Steps, core_event, core_run, run_on}
 use Rattle.core_runs.specs.Views.{CoreView, view, Moves, IsShaped, EventsAreSeen}
 use Rattle.core_sound.specs.Sound.{IsSound}
@@ -29,7 +29,7 @@ abbrev turn_of : Setting → Claim → (Word → ℕ) → ClaimTurn
 turn_of setting claim m = claim_accepts setting.sizes setting.last claim (m (word_of (claim_wants claim)))
 
 claim_after : (target : Target) (setting : Setting) (e : Entry) (claim : Claim) (m : Word → ℕ) → e.routine ≡ Claims claim
-    → after target setting e (m (word_of (claim_wants claim))) ≡ (claim_on target (turn_of setting claim m).claim (turn_of setting claim m).ended (counted e)).entry
+    → after target setting e (m (word_of (claim_wants claim))) ≡ (claim_on target (turn_of setting claim m).claim (turn_of setting claim m).ended (claim_counted (claim_takes claim (m (word_of (claim_wants claim)))) (counted e))).entry
 unfolding after
 claim_after target setting e claim m at = ap (λ (r : Routine). (accepted target setting (m (word_of (claim_wants claim))) (counted e) r).entry) at
 
@@ -57,9 +57,9 @@ claim_moves target setting before later (Steps d) claim claim' lone m at on =
     let own : later.who 0 ≡ after target setting (before.who 0) (before.memory (word_of m.0)) =
     subst (λ (who : ℕ → Entry). who 0 ≡ after target setting (before.who 0) (before.memory (word_of m.0))) (sym m.5)
     (each_put (λ i (e : Entry). i ≡ d → e ≡ after target setting (before.who i) (before.memory (word_of m.0))) before.who d (after target setting (before.who d) (before.memory (word_of m.0))) (λ is. refl) (λ i ne is. absurd (ne is)) 0 (sym first)) in
-    let goes_on : after target setting (before.who 0) (before.memory (word_of m.0)) ≡ (claim_on target (turn_of setting claim before.memory).claim (turn_of setting claim before.memory).ended (counted (before.who 0))).entry =
+    let goes_on : after target setting (before.who 0) (before.memory (word_of m.0)) ≡ (claim_on target (turn_of setting claim before.memory).claim (turn_of setting claim before.memory).ended (claim_counted (claim_takes claim (before.memory (word_of (claim_wants claim)))) (counted (before.who 0)))).entry =
     ap (λ (a : WordAccess). after target setting (before.who 0) (before.memory (word_of a))) (sym wanted_is) ∙ claim_after target setting (before.who 0) claim before.memory at in
-    let end = goes target (turn_of setting claim before.memory).claim claim' (turn_of setting claim before.memory).ended (counted (before.who 0)) (sym (ap (λ (e : Entry). e.routine) (own ∙ goes_on)) ∙ on) in
+    let end = goes target (turn_of setting claim before.memory).claim claim' (turn_of setting claim before.memory).ended (claim_counted (claim_takes claim (before.memory (word_of (claim_wants claim)))) (counted (before.who 0))) (sym (ap (λ (e : Entry). e.routine) (own ∙ goes_on)) ∙ on) in
     (m.4 ∙ ap (made before.memory) (sym wanted_is), end.0, end.1)
 
 both : (a b : Bool) → (a && b) ≡ true → (a ≡ true) × (b ≡ true)

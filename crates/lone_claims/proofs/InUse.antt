@@ -13,9 +13,9 @@ use Rattle.target_code.specs.declared.target.TargetInstr.{TargetInstr}
 use Rattle.target_code.specs.declared.target.TargetInstr.TheVariants.{Plain, Check, Guard}
 use Rattle.oa_words.specs.declared.packed.Kind.{Kind}
 use Rattle.oa_words.specs.declared.packed.Kind.TheVariants as kinds
-use Rattle.oa_words.specs.Words.{Word, Phase, Warning, Hazard, Status, FieldOf}
-use Rattle.oa_words.specs.Packed.{status_word}
-use Rattle.core_runs.specs.Memories.{store}
+use Rattle.oa_words.specs.Words.{Word, Phase, Warning, Hazard, Status, FieldOf, Head, Link}
+use Rattle.oa_words.specs.Packed.{status_word, head_word}
+use Rattle.oa_words.specs.Memories.{store}
 use Rattle.phase_pools.specs.declared.access.ClaimEnd.TheVariants as ends
 use Rattle.phase_pools.specs.declared.stages.SweepStage.{SweepStage}
 use Rattle.phase_pools.specs.declared.stages.SweepStage.TheVariants as sweeps
@@ -24,7 +24,7 @@ use Rattle.phase_pools.specs.declared.stages.ClaimStage.TheVariants as claims
 use Rattle.phase_pools.specs.declared.stages.RetireStage.{RetireStage}
 use Rattle.phase_pools.specs.declared.stages.RetireStage.TheVariants as retires
 use Rattle.phase_pools.specs.Accesses.{WordAccess, Loads, Stores, Exchanges, Raises, word_of}
-use Rattle.phase_pools.specs.Pools.{Claim, claim_wants_at, sweep_wants_at, claim_accepts_at, claim_ends, look_on, retire_wants_at, retire_accepts_at}
+use Rattle.phase_pools.specs.Pools.{Claim, claim_wants_at, sweep_wants_at, claim_accepts_at, claim_ends, takes_at, retire_wants_at, retire_accepts_at}
 use Rattle.source_machine.specs.MethodRuns.{put}
 use Rattle.source_machine.specs.Proper.{has}
 use Rattle.source_machine.proofs.Places.{put_same, put_other}
@@ -36,7 +36,7 @@ use Rattle.caller_parts.specs.Operands.{list_of, slot_in, word_in}
 use Rattle.caller_steps.specs.Clearing.{restart_next, clear_next}
 use Rattle.caller_steps.specs.Signs.{Moved, quiet}
 use Rattle.caller_steps.specs.Wants.{clear_wanted, exchange_wanted, instr_wanted, list_wanted, object_exchange, place_exchange, plain_wanted, wanted}
-use Rattle.caller_steps.specs.After.{accepted, counted, claimed, node_made, retired_on, slot_claimed, with_routine}
+use Rattle.caller_steps.specs.After.{accepted, counted, claim_counted, claimed, node_made, retired_on, slot_claimed, with_routine}
 use Rattle.sim_relation.specs.Views.{Plan, Shared, Caller}
 use Rattle.sim_relation.specs.Shared.{IsOf, SharedHolds}
 use Rattle.sim_relation.specs.Callers.{CallerHolds, HoldsAt}
@@ -213,26 +213,20 @@ module _ (t : Plan) (c : ℕ) (s : Shared) (x : Caller) (memory' : Word → ℕ)
   quietly : memory' (Status j) ≡ s.memory (Status j) → present' ≡ s.present → Before ⊥ → After
   quietly status names before = still t c s x memory' m present' k Other j status (named_as names) before
 
-  -- a claim takes a slot, which goes into the cradle of the `new`
-  taken : (claim : Claim) (i q : ℕ) → m.entry ≡ slot_claimed t.target i (with_routine (counted x.entry) At) → j ≡ i → After
-  taken claim i q made same used =
-      let e : Entry = with_routine (counted x.entry) At in
-      let number : ℕ = new_number t.target (with_routine (counted x.entry) At) in
+  -- the slot that a claim has taken goes into the cradle of the `new`
+  taken : (i : ℕ) → m.entry ≡ slot_claimed t.target i (with_routine (claim_counted false (counted x.entry)) At) → j ≡ i → After
+  taken i made same used =
+      let number : ℕ = new_number t.target (with_routine (claim_counted false (counted x.entry)) At) in
       let at : k.x'.entry.routine ≡ Zeroes number 0 = ap (λ (e : Entry). e.routine) (k.entry ∙ made) in
       let spot : HoldsAt t k.s' c k.x' (Zeroes number 0) = subst (λ (r : Routine). HoldsAt t k.s' c k.x' r) at k.caller_holds.spot in
       let full : slice_index (set x.entry.cradles number i) number ≢ 0 = λ z. spot.0 (ap (λ (e : Entry). cradle_of e number) (k.entry ∙ made) ∙ z) in
       works_on t c s x memory' m present' k Other j (subst (λ (e : Entry). Works e j) (sym made) (filled x.entry.cradles number i full ∙ sym same))
 
-  by_take : (claim : Claim) (i q : ℕ) → claim.stage ≡ claims.Take i q → memory' ≡ after_access s.memory (Exchanges (Status i) (status_word q kinds.Ready) (status_word q kinds.Used))
-      → m ≡ claimed t.target (claim_accepts_at t.setting.sizes t.setting.last claim (s.memory (Status i)) (claims.Take i q)) (counted x.entry) → present' ≡ s.present → Before ⊥ → After
-  by_take claim i q at makes moves names before = of (s.memory (Status i) == status_word q kinds.Ready) makes moves where
-    of : (b : Bool) → memory' ≡ store s.memory (Status i) (if b then status_word q kinds.Used else s.memory (Status i))
-        → m ≡ claimed t.target (if b then claim_ends claim (ends.Claimed i) else look_on t.setting.sizes claim i) (counted x.entry) → After
-    of false makes moves = quietly (idle_store i makes) names before
-    of true makes moves = ⊎_elim
-        (λ (same : ((j == i) ≡ true) × (j ≡ i)). taken claim i q (ap (λ (moved : Moved). moved.entry) moves) same.1)
-        (λ (away : ((j == i) ≡ false) × (j ≢ i)). quietly (other_store i (status_word q kinds.Used) away.1 makes) names before)
-        (eqb_tells j i)
+  by_used : (claim : Claim) (i q : ℕ) → memory' ≡ store s.memory (Status i) (status_word q kinds.Used) → m ≡ claimed t.target (claim_ends claim (ends.Claimed i)) (claim_counted false (counted x.entry)) → present' ≡ s.present → Before ⊥ → After
+  by_used claim i q makes moves names before = ⊎_elim
+      (λ (same : ((j == i) ≡ true) × (j ≡ i)). taken i (ap (λ (moved : Moved). moved.entry) moves) same.1)
+      (λ (away : ((j == i) ≡ false) × (j ≢ i)). quietly (other_store i (status_word q kinds.Used) away.1 makes) names before)
+      (eqb_tells j i)
 
   -- a sweep makes a slot ready, and takes its name
   by_freeing : (i q bound : ℕ) → memory' ≡ after_access s.memory (Exchanges (Status i) (status_word q kinds.Retired) (status_word bound kinds.Ready))
@@ -253,12 +247,18 @@ module _ (t : Plan) (c : ℕ) (s : Shared) (x : Caller) (memory' : Word → ℕ)
   by_sweep (sweeps.ReadHazard d r) bound makes names before = quietly (left (Some (Loads (Hazard d r))) (Loads (Hazard d r)) refl refl makes) names before
   by_sweep (sweeps.ReadStatus i) bound makes names before = quietly (idle_store i makes) names before
   by_sweep (sweeps.MakeReady i q) bound makes names before = by_freeing i q bound makes names before
+  by_sweep (sweeps.PushHead i) bound makes names before = quietly (left (Some (Loads Head)) (Loads Head) refl refl makes) names before
+  by_sweep (sweeps.PushLink i q top) bound makes names before = quietly (left (Some (Stores (Link i) top)) (Stores (Link i) top) refl refl makes) names before
+  by_sweep (sweeps.PushTop i q top) bound makes names before =
+      quietly (left (Some (sweep_wants_at (sweeps.PushTop i q top) bound)) (sweep_wants_at (sweeps.PushTop i q top) bound) refl refl makes) names before
 
   by_claim : (claim : Claim) (stage : ClaimStage) → claim.stage ≡ stage → memory' ≡ after_access s.memory (claim_wants_at claim.sweep stage)
-      → m ≡ claimed t.target (claim_accepts_at t.setting.sizes t.setting.last claim (s.memory (word_of (claim_wants_at claim.sweep stage))) stage) (counted x.entry)
+      → m ≡ claimed t.target (claim_accepts_at t.setting.sizes t.setting.last claim (s.memory (word_of (claim_wants_at claim.sweep stage))) stage) (claim_counted (takes_at stage (s.memory (word_of (claim_wants_at claim.sweep stage)))) (counted x.entry))
       → present' ≡ freed_in stage claim.sweep.stage s.memory s.present → Before ⊥ → After
-  by_claim claim (claims.ReadStatus i) at makes moves names before = quietly (idle_store i makes) names before
-  by_claim claim (claims.Take i q) at makes moves names before = by_take claim i q at makes moves names before
+  by_claim claim claims.ReadHead at makes moves names before = quietly (left (Some (Loads Head)) (Loads Head) refl refl makes) names before
+  by_claim claim (claims.ReadLink q i) at makes moves names before = quietly (left (Some (Loads (Link i))) (Loads (Link i)) refl refl makes) names before
+  by_claim claim (claims.Take q i next) at makes moves names before = quietly (left (Some (Exchanges Head (head_word q i) (head_word q next))) (Exchanges Head (head_word q i) (head_word q next)) refl refl makes) names before
+  by_claim claim (claims.StoreUsed q i) at makes moves names before = by_used claim i q makes moves names before
   by_claim claim claims.Sweeps at makes moves names before = by_sweep claim.sweep.stage claim.sweep.bound makes names before
 
   -- a retirement: the slot is the caller's until its status is retired
@@ -321,7 +321,7 @@ module _ (t : Plan) (c : ℕ) (s : Shared) (x : Caller) (memory' : Word → ℕ)
   by_routine (Claims claim) a want makes moves names before =
       let same : claim_wants_at claim.sweep claim.stage ≡ a = (let both : Some (claim_wants_at claim.sweep claim.stage) ≡ Some a = want in cc) in
       by_claim claim claim.stage refl (makes ∙ ap (after_access s.memory) (sym same))
-      (moves ∙ ap (λ (a : WordAccess). claimed t.target (claim_accepts_at t.setting.sizes t.setting.last claim (s.memory (word_of a)) claim.stage) (counted x.entry)) (sym same)) names before
+      (moves ∙ ap (λ (a : WordAccess). claimed t.target (claim_accepts_at t.setting.sizes t.setting.last claim (s.memory (word_of a)) claim.stage) (claim_counted (takes_at claim.stage (s.memory (word_of a))) (counted x.entry))) (sym same)) names before
   by_routine (Zeroes i field) a want makes moves names before =
       let same : Stores (FieldOf (cradle_of x.entry i) field) 0 ≡ a = (let both : Some (Stores (FieldOf (cradle_of x.entry i) field) 0) ≡ Some a = want in cc) in
       by_zero i field (makes ∙ ap (after_access s.memory) (sym same)) moves names before

@@ -6,6 +6,7 @@ use Rattle.norm_lang.specs.declared.text.Text.{Text}
 use Rattle.target_code.specs.declared.target.Target.{Target}
 use Rattle.oa_words.specs.declared.packed.Kind.TheVariants as kinds
 use Rattle.oa_words.specs.Words.{Word, Status}
+use Rattle.oa_words.specs.Starts.{Suits}
 use Rattle.source_machine.specs.declared.state.Memory.{Memory}
 use Rattle.source_machine.specs.declared.state.SourceMachine.{SourceMachine}
 use Rattle.source_machine.specs.MethodRuns.{put}
@@ -19,7 +20,7 @@ use Rattle.caller_steps.specs.Entries.{Entry, is_idle}
 use Rattle.caller_steps.specs.Wants.{wants}
 use Rattle.caller_laws.proofs.Together.{methods}
 use Rattle.caller_laws.proofs.Methods.{setting_sane}
-use Rattle.core_runs.specs.Machine.{CoreState, CoreEvent, Takes, Steps, core_event, core_run, core_start}
+use Rattle.core_runs.specs.Machine.{CoreState, CoreEvent, Takes, Steps, beginning_of, core_event, core_run, core_start}
 use Rattle.core_runs.specs.RunSigns.{event_signs, run_signs}
 use Rattle.core_runs.specs.Views.{EventsAreSeen, IsShaped, Moves, view}
 use Rattle.core_runs.proofs.Seeing.{events_are_seen}
@@ -28,6 +29,8 @@ use Rattle.core_sound.specs.Sound.{IsSound}
 use Rattle.core_sound.proofs.Machine.{event_sound}
 use Rattle.core_sound.proofs.StartSound.{start_sound}
 use Rattle.core_sound.proofs.Reached.{sound_is_shaped, start_suits}
+use Rattle.core_pools.specs.Pooled.{Pooled}
+use Rattle.core_pools.proofs.Pooling.{start_pooled}
 use Rattle.target_runs.specs.Runnable.{IsRunnable}
 use Rattle.target_runs.proofs.SaneTargets.{runnable_is_sane}
 use Rattle.sim_relation.specs.Views.{Plan, IsPlan, Caller}
@@ -45,6 +48,7 @@ use Rattle.oa_simulation.specs.Present.{first_present, present_after, present_ru
 use Rattle.oa_simulation.proofs.Homes.{home_stays}
 use Rattle.oa_simulation.proofs.Induction.{TookCall, Went, along_run, present_more, take_went, step_went}
 use Rattle.oa_simulation.proofs.Lifting.{machine_is}
+use Rattle.oa_simulation.proofs.Pools.{pool_goes, takes_ready}
 use Rattle.oa_simulation.proofs.Refining.{either, plan_of, start_beside}
 use Rattle.lone_claims.proofs.InUse.{IsNamed, Works, WorksAt, step_settles}
 
@@ -90,7 +94,12 @@ module _ (callers c : ℕ) (who : ℕ → Caller) (x' : Caller) (j : ℕ) where
   own_now : c < callers → Works x'.entry j → SomeWorks callers (put who c x') j
   own_now lt works = (c, lt, subst (λ (y : Caller). Works y.entry j) (sym (put_same who c x')) works)
 
-module _ (t : Plan) (plan : IsPlan t) (proper : IsProper t.text) (events_seen : EventsAreSeen t.target t.setting) where
+-- and events of the pool lead there
+pub record SettledWithPool (t : Plan) (state : CoreState) (z : Shadow) (present : ℕ → ℕ) : Type 0 where
+  pub settled : SettledBeside t state z present
+  pub pooled : Pooled t.target t.setting state
+
+module _ (t : Plan) (plan : IsPlan t) (proper : IsProper t.text) (events_seen : EventsAreSeen t.target t.setting) (few : t.setting.sizes.slots ≤ 4096) (suits : Suits t.setting.sizes (beginning_of t.target t.setting)) where
   abbrev n : ℕ
   n = t.setting.sizes.callers
 
@@ -125,18 +134,18 @@ module _ (t : Plan) (plan : IsPlan t) (proper : IsProper t.text) (events_seen : 
       (λ was. ⊎_elim (λ (named : IsNamed b.w.shared j). inl named) (λ (works : SomeWorks n b.w.who j). inr (own_or_other n c b.w.who k.stepped.kept.x' j works)) (all j le was))
       used))
 
-  event_settled : (event : CoreEvent) (state behind : CoreState) (z : Shadow) (present : ℕ → ℕ) → IsSound t.target t.setting state → IsShaped t.target t.setting state → SettledBeside t state z present → Moves t.target t.setting (view t.setting state) event (view t.setting behind)
+  event_settled : (event : CoreEvent) (state behind : CoreState) (z : Shadow) (present : ℕ → ℕ) → IsSound t.target t.setting state → IsShaped t.target t.setting state → SettledBeside t state z present → Pooled t.target t.setting state → Moves t.target t.setting (view t.setting state) event (view t.setting behind)
       → HomeIs t.home (shadow_run t.text (event_signs t.target t.setting state event) z)
       → SettledBeside t behind (shadow_run t.text (event_signs t.target t.setting state event) z) (present_after t.setting (view t.setting state) event z.unused present)
-  event_settled (Takes c call) state behind z present sound shaped b m homes =
+  event_settled (Takes c call) state behind z present sound shaped b pooled m homes =
       let k = take_went t plan (λ e. true) (steps_keep t plan) proper events_seen state behind z c call b.beside m in
       record {
         beside = k.beside;
         names = ap (λ (w : World). w.shared.present) k.world ∙ b.names;
         settled = took_settled state behind z c call b.beside (ap (λ (e : Entry). is_idle e.routine) (b.beside.entry c m.0) ∙ m.1) b.settled k;
       }
-  event_settled (Steps c) state behind z present sound shaped b m homes =
-      let k = step_went t plan (λ e. true) (steps_keep t plan) proper events_seen state behind z c refl sound shaped b.beside m homes in
+  event_settled (Steps c) state behind z present sound shaped b pooled m homes =
+      let k = step_went t plan (λ e. true) (steps_keep t plan) proper events_seen state behind z c refl sound shaped b.beside (takes_ready t.target t.setting state c few suits pooled) m homes in
       record {
         beside = k.beside;
         names = k.present ∙ ap (present_after t.setting (view t.setting state) (Steps c) z.unused) b.names;
@@ -146,11 +155,14 @@ module _ (t : Plan) (plan : IsPlan t) (proper : IsProper t.text) (events_seen : 
   -- the induction, over what stays sound
   run_settled : ((state : CoreState) → IsSound t.target t.setting state → IsShaped t.target t.setting state)
       → ((state behind : CoreState) (event : CoreEvent) → IsSound t.target t.setting state → core_event t.target t.setting state event ≡ Some behind → IsSound t.target t.setting behind)
-      → (events : List CoreEvent) (state behind : CoreState) (z : Shadow) (present : ℕ → ℕ) → IsSound t.target t.setting state → SettledBeside t state z present → core_run t.target t.setting events state ≡ Some behind
+      → (events : List CoreEvent) (state behind : CoreState) (z : Shadow) (present : ℕ → ℕ) → IsSound t.target t.setting state → SettledWithPool t state z present → core_run t.target t.setting events state ≡ Some behind
       → HomeIs t.home (shadow_run t.text (run_signs t.target t.setting events state) z)
-      → SettledBeside t behind (shadow_run t.text (run_signs t.target t.setting events state) z) (present_run t.target t.text t.setting events state z present)
+      → SettledWithPool t behind (shadow_run t.text (run_signs t.target t.setting events state) z) (present_run t.target t.text t.setting events state z present)
   run_settled shaped stays events state behind z present sound b is homes = along_run t (ℕ → ℕ) (present_run t.target t.text t.setting)
-      (λ event state z present. present_after t.setting (view t.setting state) event z.unused present) (SettledBeside t) (λ state z present. refl) (present_more t) shaped stays events_seen event_settled
+      (λ event state z present. present_after t.setting (view t.setting state) event z.unused present) (SettledWithPool t) (λ state z present. refl) (present_more t) shaped stays events_seen
+      (λ event state behind z present sound shaped b m homes.
+      let one = event_settled event state behind z present sound shaped b.settled b.pooled m homes in
+      record { settled = one; pooled = pool_goes t state behind _ event few suits shaped m b.pooled one.beside })
       events state behind z present sound b is homes
 
 -- at the start initial nodes have their names, and each other slot is ready
@@ -190,8 +202,11 @@ settles target text setting runs own fits proper events state is =
     } in
     let words : IsFirst t (view setting (core_start target setting)).memory = first_words t runs own fits homes in
     let first = start_beside t plan own (start_is_seen target setting) (start_suits target text setting runs own fits).suits words in
-    run_settled t plan proper (events_are_seen target setting)
+    (run_settled t plan proper (events_are_seen target setting) (setting_sane setting own).few (start_suits target text setting runs own fits).suits
     (λ s sound. sound_is_shaped target setting s (methods target text runs) (setting_sane setting own) fits sound)
     (λ s next event sound at. event_sound target setting s next event (methods target text runs) (setting_sane setting own) fits sound at)
     events (core_start target setting) state z0 (first_present setting.nodes) (start_sound target setting (methods target text runs) runs.within own fits)
-    (record { beside = first.0; names = first.1; settled = start_settled t (core_start target setting) setting.sizes.callers first.0 first.1 words }) is (λ n lt. refl)
+    (record {
+      settled = record { beside = first.0; names = first.1; settled = start_settled t (core_start target setting) setting.sizes.callers first.0 first.1 words };
+      pooled = start_pooled target setting (setting_sane setting own).few (start_suits target text setting runs own fits).suits;
+    }) is (λ n lt. refl)).settled

@@ -1,6 +1,6 @@
 -- A lone claim ends with Full exactly where each slot held a name that isn't retired at its begin, which is that each status was used.
-use Rattle.std.proofs.Common.{ℕ, zero, suc, ◌≡◌, ◌≢◌, ◌+◌, ◌≤◌, ◌<◌, ◌⊎◌, ◌∙◌, ◌↔◌, Bool, true, false, List, Option, Some, arith, inl, inr, ⊎_elim, sym, ap, subst, refl}
-use Rattle.std.proofs.lemmas.Bool.{cases_eq}
+use Rattle.std.proofs.Common.{ℕ, zero, suc, ◌≡◌, ◌≢◌, ◌+◌, ◌≤◌, ◌<◌, ◌⊎◌, ◌∙◌, ◌↔◌, Bool, true, false, List, [], ◌∷◌, Option, Some, arith, inl, inr, ⊎_elim, sym, ap, subst, refl}
+use Rattle.std.proofs.lemmas.Bool.{cases_eq, cases_lt}
 use Rattle.norm_lang.specs.declared.text.Text.{Text}
 use Rattle.target_code.specs.declared.target.Target.{Target}
 use Rattle.oa_words.specs.declared.packed.Kind.TheVariants as kinds
@@ -13,6 +13,11 @@ use Rattle.phase_pools.specs.Pools.{claim_begun}
 use Rattle.source_machine.specs.declared.state.Memory.{Memory}
 use Rattle.source_machine.specs.declared.state.SourceMachine.{SourceMachine}
 use Rattle.source_machine.specs.Proper.{has}
+use Rattle.chain_laws.specs.Chains.{IsChain, links, times, top}
+use Rattle.chain_laws.specs.Machine.{slot_of}
+use Rattle.chain_laws.specs.Machine as pool
+use Rattle.chain_laws.specs.Told.{PoolTells, IsClaiming}
+use Rattle.chain_laws.proofs.Lists.{times_here}
 use Rattle.caller_parts.specs.declared.routine.Routine.{Routine}
 use Rattle.caller_parts.specs.declared.routine.Routine.TheVariants.{Claims}
 use Rattle.caller_parts.specs.Settings.{Setting, Fits, IsSetting}
@@ -24,8 +29,12 @@ use Rattle.core_runs.specs.Views.{view, IsShaped}
 use Rattle.core_runs.proofs.Seeing.{events_are_seen}
 use Rattle.core_sound.specs.Sound.{IsSound}
 use Rattle.core_sound.proofs.Machine.{event_sound}
-use Rattle.core_sound.proofs.Reached.{sound_is_shaped}
+use Rattle.core_sound.proofs.Reached.{sound_is_shaped, start_suits}
+use Rattle.core_sound.specs.Standing.{standing_of}
+use Rattle.core_pools.specs.Pooled.{standings, pool_of}
+use Rattle.core_pools.proofs.Pooling.{leads_hold, leads_tell, past_callers}
 use Rattle.target_runs.specs.Runnable.{IsRunnable}
+use Rattle.sim_pools.proofs.Slots.{status_tells}
 use Rattle.sim_relation.specs.Views.{Owner, Null, Pool, Held, Living, Retiring, Dead, Shared}
 use Rattle.sim_relation.specs.Shared.{Slot, IsOf}
 use Rattle.sim_relation.specs.Callers.{HoldsAt}
@@ -35,7 +44,7 @@ use Rattle.oa_simulation.proofs.Lifting.{machine_is}
 use Rattle.oa_simulation.proofs.Refining.{Stood, plan_of, stands}
 use Rattle.lone_claims.specs.Lone.{IsUsed, HoldsName, AreUsed, EndsIn, LoneClaimsAreFull}
 use Rattle.lone_claims.proofs.Pools.{Used, used_on, used_full}
-use Rattle.lone_claims.proofs.Freeing.{IsFree, IsOld, Frees, frees_on, frees_full}
+use Rattle.lone_claims.proofs.Freeing.{IsFree, IsOld, HasTop, Frees, frees_on, frees_full}
 use Rattle.lone_claims.proofs.Claims.{along}
 use Rattle.lone_claims.proofs.InUse.{IsNamed, Works, WorksAt}
 use Rattle.lone_claims.proofs.Settled.{SomeWorks, SettledBeside, settles}
@@ -74,6 +83,12 @@ module _ (target : Target) (text : Text) (setting : Setting) (runs : IsRunnable 
   some_slots : 1 ≤ setting.sizes.slots
   some_slots = own.sizes.2
 
+  few : setting.sizes.slots ≤ 4096
+  few = (setting_sane setting own).few
+
+  told : PoolTells setting.sizes (pool_of (view setting state) k.pooled.0)
+  told = leads_tell target setting few (start_suits target text setting runs own fits).suits _ k.pooled.1
+
   shaped : (s : CoreState) → IsSound target setting s → IsShaped target setting s
   shaped s sound = sound_is_shaped target setting s (methods target text runs) (setting_sane setting own) fits sound
 
@@ -106,6 +121,35 @@ module _ (target : Target) (text : Text) (setting : Setting) (runs : IsRunnable 
       (λ (u : Unused n). inr (u.0, u.1, (let le = u.2 in omega (arith, le)), u.3))
       (search n)
 
+  -- at a claim's begin no caller has taken a slot or pushes one, so that the chain has each ready one
+  nobody : ((view setting state).who 0).routine ≡ Claims (claim_begun setting.sizes) → (j c : ℕ) → 1 ≤ j → slot_of (standings (view setting state).who c) ≡ j → ⊥
+  nobody begun j c least has = ⊎_elim
+      (λ (first : c < setting.sizes.callers).
+      let same : c ≡ 0 = omega (arith, first, lone) in
+      let standing : standings (view setting state).who c ≡ pool.Claims (claim_begun setting.sizes) = ap (standings (view setting state).who) same ∙ ap standing_of begun in
+      let none : 0 ≡ j = sym (ap slot_of standing) ∙ has in omega (arith, none, least))
+      (λ (above : setting.sizes.callers ≤ c).
+      let none : 0 ≡ j = sym (ap slot_of (past_callers target setting state c (shaped state k.sound) above)) ∙ has in omega (arith, none, least))
+      (cases_lt c setting.sizes.callers)
+
+  free_on_top : ((view setting state).who 0).routine ≡ Claims (claim_begun setting.sizes) → (j : ℕ) → 1 ≤ j → j ≤ setting.sizes.slots → IsFree m j → HasTop m
+  free_on_top begun j least most free none = ⊎_elim
+      (λ (stands : times j k.pooled.0.chain ≡ 1). let no : 0 ≡ 1 = sym (ap (times j) (told.empty none)) ∙ stands in let bad : ⊥ = omega (arith, no) in bad)
+      (λ (has : (c : ℕ) × (slot_of (standings (view setting state).who c) ≡ j) × IsClaiming (standings (view setting state).who c)). nobody begun j has.0 least has.1)
+      (told.ready j (least, most) free)
+
+  -- where each is used none is on top
+  used_none : AreUsed setting.sizes m → top m ≡ 0
+  used_none used = of k.pooled.0.chain refl (leads_hold target setting few (start_suits target text setting runs own fits).suits _ k.pooled.1).fine.linked where
+    of : (chain : List ℕ) → k.pooled.0.chain ≡ chain → IsChain (links m) (top m) chain → top m ≡ 0
+    of [] is linked = linked
+    of (j ∷ below) is linked =
+        let at_least : times j (j ∷ below) ≡ suc (times j below) = times_here j below in
+        let at_most : times j (j ∷ below) ≤ 1 = subst (λ (chain : List ℕ). times j chain ≤ 1) is (told.once j) in
+        let slot = told.chained j (ap (times j) is ∙ (let one : times j (j ∷ below) ≡ 1 = omega (arith, at_least, at_most) in one)) in
+        let word = used j slot.0.0 slot.0.1 in
+        absurd (let no : kinds.Ready ≡ kinds.Used = (status_tells slot.1.0 word.0 kinds.Ready kinds.Used (sym slot.1.1 ∙ word.1)).1 in cc)
+
   zeros : ((view setting state).who 0).routine ≡ Claims (claim_begun setting.sizes) → (r : ℕ) → m (Hazard 0 r) ≡ 0
   zeros begun r =
       let told = k.beside.holds.caller_holds 0 one in
@@ -115,13 +159,13 @@ module _ (target : Target) (text : Text) (setting : Setting) (runs : IsRunnable 
 
   never_full : EndsIn target setting state ends.Full → Unused setting.sizes.slots → ⊥
   never_full end u =
-      let start : Frees setting.sizes u.0 u.1 u.2 lone m (claim_begun setting.sizes) = record {
+      let start : Frees setting.sizes u.0 u.1 u.2 few lone m (claim_begun setting.sizes) = record {
         zeros = zeros end.begun;
-        at = ⊎_elim (λ (free : IsFree m u.0). inr (free, u.1)) (λ (old : IsOld m u.0 (m Phase + 1)). inl (refl, old)) u.3;
+        at = ⊎_elim (λ (free : IsFree m u.0). inr (free_on_top end.begun u.0 u.1 u.2 free)) (λ (old : IsOld m u.0 (m Phase + 1)). inl (refl, old)) u.3;
       } in
-      let there = along target setting lone (events_are_seen target setting) shaped keeps (Frees setting.sizes u.0 u.1 u.2 lone) (λ m claim f none. frees_on setting.sizes u.0 u.1 u.2 lone setting.last m claim f none)
+      let there = along target setting lone (events_are_seen target setting) shaped keeps (Frees setting.sizes u.0 u.1 u.2 few lone) (λ m claim f none. frees_on setting.sizes u.0 u.1 u.2 few lone setting.last m claim f none)
       end.more state end.later (claim_begun setting.sizes) end.claim k.sound end.begun start end.runs end.stays end.at in
-      frees_full setting.sizes u.0 u.1 u.2 lone setting.last (view setting end.later).memory end.claim there end.ends
+      frees_full setting.sizes u.0 u.1 u.2 few lone setting.last (view setting end.later).memory end.claim there end.ends
 
   full_here : (end : ClaimEnd) → EndsIn target setting state end → ((p : ℕ) → end ≢ ends.PhasesOver p) → (end ≡ ends.Full) ↔ AreUsed setting.sizes m
   full_here end e never = (
@@ -130,7 +174,7 @@ module _ (target : Target) (text : Text) (setting : Setting) (runs : IsRunnable 
         (λ (u : Unused setting.sizes.slots). absurd (never_full (subst (λ (i : ClaimEnd). EndsIn target setting state i) full e) u))
         (search setting.sizes.slots)),
     (λ used.
-        let start : Used setting.sizes m (claim_begun setting.sizes) = record { used = used; at = (omega arith, some_slots) } in
+        let start : Used setting.sizes m (claim_begun setting.sizes) = record { used = used; none = used_none used; at = tt } in
         let there = along target setting lone (events_are_seen target setting) shaped keeps (Used setting.sizes) (λ m claim u none. used_on setting.sizes setting.last m claim some_slots u none)
         e.more state e.later (claim_begun setting.sizes) e.claim k.sound e.begun start e.runs e.stays e.at in
         used_full setting.sizes setting.last (view setting e.later).memory e.claim end some_slots there e.ends never),

@@ -10,7 +10,6 @@ use Rattle.target_code.specs.TargetSpelling.{target_spelling}
 use Rattle.target_code.specs.Barred.{IsBarred}
 use Rattle.target_code.specs.SecondScheme.{second_scheme}
 use Rattle.norm_parser.specs.FaultShown.{fault_shown}
-use Rattle.line_words.specs.declared.fault.ParseFault.{ParseFault}
 use Rattle.documents.specs.declared.document.Document.{Document}
 use Rattle.documents.specs.DocumentRead.{document_read, IsDocument}
 use Rattle.script_plans.specs.declared.fault.RunFault.{RunFault}

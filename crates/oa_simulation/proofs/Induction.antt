@@ -1,8 +1,9 @@
 -- From the step lemma to every run of the core.
-use Rattle.std.proofs.Common.{if◌then◌else◌, ℕ, ◌≡◌, ◌≢◌, ◌<◌, ◌∙◌, ◌++◌, Bool, true, false, List, [], ◌∷◌, Option, Some, None, ⊎_elim, sym, ap, subst, refl, arith}
+use Rattle.std.proofs.Common.{if◌then◌else◌, ℕ, ◌≡◌, ◌≢◌, ◌≤◌, ◌<◌, ◌∙◌, ◌++◌, Bool, true, false, List, [], ◌∷◌, Option, Some, None, ⊎_elim, sym, ap, subst, refl, arith}
 use Rattle.std.specs.Prelude.{slice_get, unwrap_or}
 use Rattle.target_code.specs.declared.target.Target.{Target}
 use Rattle.oa_words.specs.Words.{Word, in_row}
+use Rattle.oa_words.specs.Starts.{Suits}
 use Rattle.phase_pools.specs.Accesses.{WordAccess, word_of}
 use Rattle.source_machine.specs.MethodRuns.{put}
 use Rattle.source_machine.specs.Proper.{IsProper}
@@ -16,7 +17,7 @@ use Rattle.caller_steps.specs.Wants.{wants}
 use Rattle.caller_steps.specs.After.{after, signs, taken, counted}
 use Rattle.caller_steps.specs.After.{moved as after_moves}
 use Rattle.caller_steps.specs.Belongs.{Belongs}
-use Rattle.core_runs.specs.Machine.{CoreState, CoreEvent, Takes, Steps, core_event, core_run, run_on}
+use Rattle.core_runs.specs.Machine.{CoreState, CoreEvent, Takes, Steps, core_event, core_run, run_on, beginning_of}
 use Rattle.caller_parts.specs.Calls.{is_call}
 use Rattle.core_sound.specs.Sound.{IsSound}
 use Rattle.core_runs.specs.Advances.{RunsOn, Ends, EndsOrRuns}
@@ -31,7 +32,7 @@ use Rattle.std.specs.Prelude.{slice_index}
 use Rattle.sim_relation.specs.Views.{Plan, IsPlan, Shared, Caller}
 use Rattle.sim_relation.specs.Callers.{CallerHolds, HoldsAt}
 use Rattle.sim_relation.specs.Naming.{present_at}
-use Rattle.sim_relation.specs.Steps.{KeptWith, Stepped, NamesAfter, TakeKept, StepsKeep, after_access}
+use Rattle.sim_relation.specs.Steps.{KeptWith, Stepped, NamesAfter, TakeKept, TakesReady, StepsKeep, after_access}
 use Rattle.sim_relation.specs.WasSet.{set_after_access}
 use Rattle.sim_relation.specs.Worlds.{World}
 use Rattle.caller_steps.specs.Signs.{Moved}
@@ -42,6 +43,8 @@ use Rattle.oa_simulation.specs.Present.{present_after, present_on, present_run}
 use Rattle.sim_steps.proofs.Worlds.{holds_on}
 use Rattle.oa_simulation.proofs.Lifting.{Lifted, lift, stays_proper}
 use Rattle.oa_simulation.specs.Relation.{HomeIs}
+use Rattle.core_pools.specs.Pooled.{Pooled}
+use Rattle.oa_simulation.proofs.Pools.{pool_goes, takes_ready}
 use Rattle.oa_simulation.proofs.Homes.{home_before, run_append, draws_home}
 
 idle_is : (r : Routine) → is_idle r ≡ true → r ≡ Idle
@@ -156,6 +159,11 @@ present_more t event events state next z present at = ap (λ (o : Option CoreSta
     present_on o (λ next. present_run t.target t.text t.setting events next (shadow_run t.text (event_signs t.target t.setting state event) z) (present_after t.setting (view t.setting state) event z.unused present))
     (present_after t.setting (view t.setting state) event z.unused present)) at
 
+-- and events of the pool lead there
+pub record PooledBeside (t : Plan) (state : CoreState) (z : Shadow) (present : ℕ → ℕ) : Type 0 where
+  pub named : NamedBeside t state z present
+  pub pooled : Pooled t.target t.setting state
+
 module _ (t : Plan) (plan : IsPlan t) (test : Entry → Bool) (keeps : StepsKeep t test) (proper : IsProper t.text) (events_seen : EventsAreSeen t.target t.setting) where
   abbrev seen : CoreState → CoreView
   seen state = view t.setting state
@@ -213,9 +221,9 @@ module _ (t : Plan) (plan : IsPlan t) (test : Entry → Bool) (keeps : StepsKeep
   past_row : (state : CoreState) (w : Word) → in_row t.setting.sizes w ≡ false → (seen state).memory w ≡ 0
   past_row state w out = ap (λ (b : Bool). if b then slice_index state.words (address_of t.setting.sizes w) else 0) out
 
-  pub step_went : (state behind : CoreState) (z : Shadow) (c : ℕ) → test ((seen state).who c) ≡ true → IsSound t.target t.setting state → IsShaped t.target t.setting state → (b : Beside t state z) → Moves t.target t.setting (seen state) (Steps c) (seen behind)
+  pub step_went : (state behind : CoreState) (z : Shadow) (c : ℕ) → test ((seen state).who c) ≡ true → IsSound t.target t.setting state → IsShaped t.target t.setting state → (b : Beside t state z) → TakesReady (seen state).memory ((seen state).who c).routine → Moves t.target t.setting (seen state) (Steps c) (seen behind)
       → HomeIs t.home (shadow_run t.text (event_signs t.target t.setting state (Steps c)) z) → Went t state behind z (shadow_run t.text (event_signs t.target t.setting state (Steps c)) z) c b
-  step_went state behind z c passes sound shaped b m homes =
+  step_went state behind z c passes sound shaped b ready m homes =
       let a : WordAccess = m.0 in
       let lt = m.1 in
       let s : Shared = b.w.shared in
@@ -236,6 +244,7 @@ module _ (t : Plan) (plan : IsPlan t) (test : Entry → Bool) (keeps : StepsKeep
       let run : is_idle ((seen state).who c).routine ≡ false = busy t.target ((seen state).who c) a (is_idle ((seen state).who c).routine) refl want in
       let stepped : Stepped t c s x (NamesAfter t s c x x.entry.routine) (set_after_access t.target t.setting.sizes x.entry x.entry.routine (s.memory (word_of a)) x.was_set) (after_access s.memory a) made (present_at t.setting.sizes s.memory s.unused x.entry x.entry.routine s.present) =
       keeps.step c s x a (ap test e ∙ passes) lt b.holds.shared_holds (b.holds.caller_holds c lt)
+      (subst (λ (e : Entry). TakesReady s.memory e.routine) (sym e) (subst (λ (k : Word → ℕ). TakesReady k ((seen state).who c).routine) (sym b.memory) ready))
       (subst (λ (e : Entry). Belongs t.target t.setting e) (sym e) (belongs_seen t.target t.setting state c sound lt))
       (ap (λ (e : Entry). is_call t.target e.running.call) e ∙ b.called c lt run)
       (stays_proper t.text n c z b.v (point s x) proper b.sourced placed)
@@ -273,26 +282,28 @@ module _ (t : Plan) (plan : IsPlan t) (test : Entry → Bool) (keeps : StepsKeep
         };
       }
 
-  pub step_beside : (state behind : CoreState) (z : Shadow) (c : ℕ) → test ((seen state).who c) ≡ true → IsSound t.target t.setting state → IsShaped t.target t.setting state → (b : Beside t state z) → Moves t.target t.setting (seen state) (Steps c) (seen behind)
+  pub step_beside : (state behind : CoreState) (z : Shadow) (c : ℕ) → test ((seen state).who c) ≡ true → IsSound t.target t.setting state → IsShaped t.target t.setting state → (b : Beside t state z) → TakesReady (seen state).memory ((seen state).who c).routine → Moves t.target t.setting (seen state) (Steps c) (seen behind)
       → HomeIs t.home (shadow_run t.text (event_signs t.target t.setting state (Steps c)) z)
       → NamedBeside t behind (shadow_run t.text (event_signs t.target t.setting state (Steps c)) z) (present_after t.setting (seen state) (Steps c) z.unused b.w.shared.present)
-  step_beside state behind z c passes sound shaped b m homes = let went = step_went state behind z c passes sound shaped b m homes in (went.beside, went.present)
+  step_beside state behind z c passes sound shaped b ready m homes = let went = step_went state behind z c passes sound shaped b ready m homes in (went.beside, went.present)
 
-  event_beside : ((e : Entry) → test e ≡ true) → (event : CoreEvent) (state behind : CoreState) (z : Shadow) → IsSound t.target t.setting state → IsShaped t.target t.setting state → (b : Beside t state z) → Moves t.target t.setting (seen state) event (seen behind)
+  event_beside : ((e : Entry) → test e ≡ true) → (event : CoreEvent) (state behind : CoreState) (z : Shadow) → IsSound t.target t.setting state → IsShaped t.target t.setting state → (b : Beside t state z) → ((c : ℕ) → TakesReady (seen state).memory ((seen state).who c).routine) → Moves t.target t.setting (seen state) event (seen behind)
       → HomeIs t.home (shadow_run t.text (event_signs t.target t.setting state event) z)
       → NamedBeside t behind (shadow_run t.text (event_signs t.target t.setting state event) z) (present_after t.setting (seen state) event z.unused b.w.shared.present)
-  event_beside all (Takes c call) state behind z sound shaped b m homes = take_beside state behind z c call b m
-  event_beside all (Steps c) state behind z sound shaped b m homes = step_beside state behind z c (all ((seen state).who c)) sound shaped b m homes
+  event_beside all (Takes c call) state behind z sound shaped b ready m homes = take_beside state behind z c call b m
+  event_beside all (Steps c) state behind z sound shaped b ready m homes = step_beside state behind z c (all ((seen state).who c)) sound shaped b (ready c) m homes
 
   -- the induction, over what stays sound
-  pub run_beside : ((e : Entry) → test e ≡ true) → ((state : CoreState) → IsSound t.target t.setting state → IsShaped t.target t.setting state)
+  pub run_beside : t.setting.sizes.slots ≤ 4096 → Suits t.setting.sizes (beginning_of t.target t.setting) → ((e : Entry) → test e ≡ true) → ((state : CoreState) → IsSound t.target t.setting state → IsShaped t.target t.setting state)
       → ((state behind : CoreState) (event : CoreEvent) → IsSound t.target t.setting state → core_event t.target t.setting state event ≡ Some behind → IsSound t.target t.setting behind)
-      → (events : List CoreEvent) (state behind : CoreState) (z : Shadow) (present : ℕ → ℕ) → IsSound t.target t.setting state → NamedBeside t state z present → core_run t.target t.setting events state ≡ Some behind
+      → (events : List CoreEvent) (state behind : CoreState) (z : Shadow) (present : ℕ → ℕ) → IsSound t.target t.setting state → PooledBeside t state z present → core_run t.target t.setting events state ≡ Some behind
       → HomeIs t.home (shadow_run t.text (run_signs t.target t.setting events state) z)
-      → NamedBeside t behind (shadow_run t.text (run_signs t.target t.setting events state) z) (present_run t.target t.text t.setting events state z present)
-  run_beside all shaped stays events state behind z present sound b is homes = along_run t (ℕ → ℕ) (present_run t.target t.text t.setting)
-      (λ event state z present. present_after t.setting (view t.setting state) event z.unused present) (NamedBeside t) (λ state z present. refl)
+      → PooledBeside t behind (shadow_run t.text (run_signs t.target t.setting events state) z) (present_run t.target t.text t.setting events state z present)
+  run_beside few suits all shaped stays events state behind z present sound b is homes = along_run t (ℕ → ℕ) (present_run t.target t.text t.setting)
+      (λ event state z present. present_after t.setting (view t.setting state) event z.unused present) (PooledBeside t) (λ state z present. refl)
       (present_more t)
       shaped stays events_seen
-      (λ event state behind z present sound shaped b m homes. let one = event_beside all event state behind z sound shaped b.0 m homes in (one.0, one.1 ∙ ap (present_after t.setting (view t.setting state) event z.unused) b.1))
+      (λ event state behind z present sound shaped b m homes.
+      let one = event_beside all event state behind z sound shaped b.named.0 (λ c. takes_ready t.target t.setting state c few suits b.pooled) m homes in
+      record { named = (one.0, one.1 ∙ ap (present_after t.setting (view t.setting state) event z.unused) b.named.1); pooled = pool_goes t state behind _ event few suits shaped m b.pooled one.0 })
       events state behind z present sound b is homes

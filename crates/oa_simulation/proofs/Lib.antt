@@ -6,3 +6,4 @@ pub mod QuietSteps
 pub mod Barring
 pub mod Testing
 pub mod FactsHold
+pub mod Pools

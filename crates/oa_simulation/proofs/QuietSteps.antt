@@ -43,7 +43,9 @@ use Rattle.oa_simulation.specs.Relation.{HomeIs, StartIsRelated, QuietStepsKeep,
 use Rattle.oa_simulation.proofs.Homes.{undrawn}
 use Rattle.oa_simulation.proofs.Induction.{step_beside, signs_are}
 use Rattle.sim_starts.proofs.FirstWords.{first_words}
-use Rattle.oa_simulation.proofs.Refining.{start_beside, either}
+use Rattle.oa_simulation.proofs.Refining.{start_beside, either, stands}
+use Rattle.oa_simulation.proofs.Pools.{takes_ready}
+use Rattle.caller_laws.proofs.Methods.{setting_sane}
 
 -- slots of the names make a plan
 abbrev pub planned : Target → Text → Setting → (ℕ → ℕ) → Plan
@@ -91,7 +93,8 @@ quiet_kept target text setting runs own fits proper state later z c reached rela
       null = related.null;
       homes = homes;
       beside = (step_beside t (is_plan target text setting home runs own fits related.null) (is_quiet target setting) (quiet_steps t (is_plan target text setting home runs own fits related.null)) proper seen
-          state later z c quiet sound shaped related.beside m homes).0;
+          state later z c quiet sound shaped related.beside
+          (takes_ready target setting state c (setting_sane setting own).few (start_suits target text setting runs own fits).suits (stands target text setting reached.events state runs own fits proper reached.runs).pooled) m homes).0;
     }
 
 pub runs_begin_unwarned : (target : Target) (text : Text) (setting : Setting) → IsRunnable target text → IsSetting setting → Fits target setting → RunsBeginUnwarned target text setting

@@ -19,6 +19,8 @@ use Rattle.core_sound.proofs.Reached.{states_are_sound, sound_is_shaped, start_s
 use Rattle.core_runs.specs.Views.{StartIsSeen}
 use Rattle.core_runs.proofs.Seeing.{events_are_seen}
 use Rattle.core_runs.proofs.Starting.{start_is_seen}
+use Rattle.core_pools.specs.Pooled.{Pooled}
+use Rattle.core_pools.proofs.Pooling.{start_pooled}
 use Rattle.caller_laws.proofs.Together.{methods}
 use Rattle.target_runs.proofs.SaneTargets.{runnable_is_sane}
 use Rattle.oa_words.specs.Starts.{Suits}
@@ -111,6 +113,7 @@ plan_of target text setting events = record { target = target; text = text; sett
 pub record Stood (target : Target) (text : Text) (setting : Setting) (events : List CoreEvent) (state : CoreState) : Type 0 where
   pub plan : IsPlan (plan_of target text setting events)
   pub sound : IsSound target setting state
+  pub pooled : Pooled target setting state
   pub beside : Beside (plan_of target text setting events) state (shadow target text setting events)
   -- the relation's names are the run's
   pub present : beside.w.shared.present ≡ present_in target text setting events
@@ -134,11 +137,11 @@ stands target text setting events state runs own fits proper is =
     let first = start_beside t plan own (start_is_seen target setting) suits (first_words t runs own fits homes) in
     let sound0 = start_sound target setting (methods target text runs) runs.within own fits in
     let sound = states_are_sound target text setting state runs own fits (record { events = events; runs = is }) in
-    let b = run_beside t plan (λ e. true) (steps_keep t plan) proper (events_are_seen target setting) (λ e. refl)
+    let b = run_beside t plan (λ e. true) (steps_keep t plan) proper (events_are_seen target setting) (setting_sane setting own).few suits (λ e. refl)
     (λ s sound. sound_is_shaped target setting s (methods target text runs) (setting_sane setting own) fits sound)
     (λ s next event sound at. event_sound target setting s next event (methods target text runs) (setting_sane setting own) fits sound at)
-    events (core_start target setting) state z0 (first_present setting.nodes) sound0 first is (λ n lt. refl) in
-    record { plan = plan; sound = sound; beside = b.0; present = b.1 }
+    events (core_start target setting) state z0 (first_present setting.nodes) sound0 (record { named = first; pooled = start_pooled target setting (setting_sane setting own).few suits }) is (λ n lt. refl) in
+    record { plan = plan; sound = sound; pooled = b.pooled; beside = b.named.0; present = b.named.1 }
 
 pub simulates : (target : Target) (text : Text) (setting : Setting) → IsRunnable target text → IsSetting setting → Fits target setting → RunsAreSimulated target text setting
 simulates target text setting runs own fits proper events state is =

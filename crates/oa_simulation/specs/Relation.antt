@@ -80,7 +80,7 @@ QuietIsKept target text setting = IsProper text → KeepsQuiet target text setti
 pub record Simulates (target : Target) (text : Text) (setting : Setting) (events : List CoreEvent) (state : CoreState) : Type 0 where
   pub refined : Refined target text setting events state
   pub related : Related target text setting state (shadow target text setting events)
-  -- no guard that the relation holds to be validated names a slot whose status is ready, so that no claim's exchange succeeds there
+  -- no guard that the relation holds to be validated names a slot whose status is ready, as that of each slot of the chain is
   pub guarded : (c r q : ℕ) → related.beside.w.shared.protects c r ≢ 0 → (view setting state).memory (Status ((view setting state).memory (Hazard c r))) ≢ status_word q kinds.Ready
   pub facts : Facts (record { target = target; text = text; setting = setting; home = related.home }) related.beside.w
 

@@ -4,3 +4,4 @@ pub mod Parts
 pub mod Pieces
 pub mod StartPlaces
 pub mod Worked
+pub mod Names

@@ -4,8 +4,8 @@ use Rattle.std.specs.Prelude.{◌==◌}
 use Rattle.std.proofs.lemmas.Bool.Decides.{nat_tests}
 use Rattle.oa_words.specs.declared.packed.Kind.{Kind}
 use Rattle.oa_words.specs.declared.packed.Kind.TheVariants.{Ready, Used, Retired}
-use Rattle.oa_words.specs.Packed.{mark_bit, ref_word, slot_part, is_marked, kind_of, StatusParts, parts_by, status_word, status_parts}
-use Rattle.oa_words.specs.Laws.{ReferencesSplit, StatusesSplit}
+use Rattle.oa_words.specs.Packed.{mark_bit, ref_word, slot_part, is_marked, kind_of, StatusParts, parts_by, status_word, status_parts, HeadParts, head_word, head_parts}
+use Rattle.oa_words.specs.Laws.{ReferencesSplit, StatusesSplit, HeadsSplit}
 
 -- ---- references
 
@@ -84,3 +84,23 @@ status_none word = let small : word % 4 < 4 = omega arith in none_by (word / 4) 
 
 pub statuses_split : StatusesSplit
 statuses_split = record { parts = status_back; whole = status_whole; equal = status_equal; none = status_none }
+
+-- ---- heads
+
+both_parts : (phase other top also : ℕ) → phase ≡ other → top ≡ also → ◌≡◌ {A = HeadParts} (record { phase = phase; top = top }) (record { phase = other; top = also })
+both_parts phase other top also p t = cc
+
+pub head_back : (phase top : ℕ) → top < 8192 → head_parts (head_word phase top) ≡ record { phase = phase; top = top }
+head_back phase top lt = both_parts (head_word phase top / 8192) phase (head_word phase top % 8192) top (omega (arith, lt)) (omega (arith, lt))
+
+top_small : (word : ℕ) → (head_parts word).top < 8192
+top_small word = omega arith
+
+pub head_whole : (word : ℕ) → head_word (head_parts word).phase (head_parts word).top ≡ word
+head_whole word = omega arith
+
+head_equal : (phase other top also : ℕ) → top < 8192 → also < 8192 → head_word phase top ≡ head_word other also → (phase ≡ other) × (top ≡ also)
+head_equal phase other top also lt less e = (omega (arith, lt, less, e), omega (arith, lt, less, e))
+
+pub heads_split : HeadsSplit
+heads_split = record { parts = head_back; small = top_small; whole = head_whole; equal = head_equal }

@@ -5,9 +5,9 @@ use Rattle.std.proofs.lemmas.Option.{slice_get_past}
 use Rattle.std.proofs.lemmas.Bool.{cases_lt}
 use Rattle.std.proofs.lemmas.List.Elements.{All-tail}
 use Rattle.std.proofs.lemmas.List.{length-replicate, get_or-replicate}
-use Rattle.oa_words.specs.Words.{Word, Phase, Place, Warning, Hazard, Status, FieldOf, Cell, Sizes, slot_rows, status_base, field_base, address_of, in_row, word_count}
+use Rattle.oa_words.specs.Words.{Word, Phase, Place, Warning, Hazard, Status, FieldOf, Cell, Head, Link, Sizes, slot_rows, status_base, field_base, cell_base, head_base, address_of, in_row, word_count}
 use Rattle.oa_words.specs.Packed.{status_word}
-use Rattle.oa_words.specs.Starts.{Beginning, Suits, start_kind, field_word, slot_word, start_word, start_statuses, start_words}
+use Rattle.oa_words.specs.Starts.{Beginning, Suits, start_kind, field_word, slot_word, start_link, start_head, start_word, start_statuses, start_links, start_words}
 use Rattle.oa_words.specs.Laws.{StartsAsNamed}
 use Rattle.oa_words.proofs.Places.{place_below, lt_of, lt_two}
 use Rattle.oa_words.proofs.Pieces.{skip, inside, tail}
@@ -24,6 +24,19 @@ statuses_at first nodes i (suc n) (suc j) lt =
 statuses_length : (first nodes i n : ℕ) → length (start_statuses first nodes i n) ≡ n
 statuses_length first nodes i zero = refl
 statuses_length first nodes i (suc n) = ap suc (statuses_length first nodes (i + 1) n)
+
+-- ---- links
+
+links_at : (slots nodes i n j : ℕ) → j < n → slice_index (start_links slots nodes i n) j ≡ start_link slots nodes (i + j)
+links_at slots nodes i zero j lt = absurd (omega (arith, lt))
+links_at slots nodes i (suc n) zero lt = let at : i ≡ i + 0 = omega arith in ap (start_link slots nodes) at
+links_at slots nodes i (suc n) (suc j) lt =
+    let at : i + 1 + j ≡ i + suc j = omega arith in
+    links_at slots nodes (i + 1) n j (omega (arith, lt)) ∙ ap (start_link slots nodes) at
+
+links_length : (slots nodes i n : ℕ) → length (start_links slots nodes i n) ≡ n
+links_length slots nodes i zero = refl
+links_length slots nodes i (suc n) = ap suc (links_length slots nodes (i + 1) n)
 
 -- ---- the initial nodes
 
@@ -59,8 +72,17 @@ module _ {n : Sizes} {start : Beginning} (suits : Suits n start) where
   abbrev nodes : List ℕ
   nodes = flat_map (λ (node : List ℕ). node) start.nodes
 
+  abbrev links : List ℕ
+  links = start_links n.slots count 0 (slot_rows n)
+
+  abbrev after_cells : List ℕ
+  after_cells = start_head n start ∷ links
+
+  abbrev after_unused : List ℕ
+  after_unused = start.cells ++ after_cells
+
   abbrev after_nodes : List ℕ
-  after_nodes = replicate unused 0 ++ start.cells
+  after_nodes = replicate unused 0 ++ after_unused
 
   abbrev after_null : List ℕ
   after_null = nodes ++ after_nodes
@@ -115,8 +137,11 @@ module _ {n : Sizes} {start : Beginning} (suits : Suits n start) where
       let sum : n.slots ≡ count + (n.slots - count) = omega (arith, le) in
       ap (λ (k : ℕ). (k + 1) * n.fields) sum ∙ omega arith
 
-  cell_at : (x : ℕ) → slice_index words (address_of n (Cell x)) ≡ slice_index start.cells x
-  cell_at x = at_unused (address_of n (Cell x)) (unused + x) (let all = all_fields in omega (arith, all)) ∙ skip (replicate unused 0) start.cells unused (unused + x) x (length-replicate unused 0) refl
+  at_cells : (k m : ℕ) → k ≡ cell_base n + m → slice_index words k ≡ slice_index after_unused m
+  at_cells k m e = at_unused k (unused + m) (let all = all_fields in omega (arith, all, e)) ∙ skip (replicate unused 0) after_unused unused (unused + m) m (length-replicate unused 0) refl
+
+  at_head : (k m : ℕ) → k ≡ head_base n + m → slice_index words k ≡ slice_index after_cells m
+  at_head k m e = at_cells k (n.cells + m) (omega (arith, e)) ∙ skip start.cells after_cells n.cells (n.cells + m) m suits.cells refl
 
   field_at : (j g : ℕ) → j < slot_rows n → g < n.fields → slice_index words (address_of n (FieldOf j g)) ≡ slot_word start.nodes j g
   field_at zero g slot field = at_fields (address_of n (FieldOf zero g)) g (omega arith) ∙ inside (replicate n.fields 0) after_null n.fields g (length-replicate n.fields 0) field ∙ get_or-replicate n.fields g 0 0 field
@@ -134,11 +159,11 @@ module _ {n : Sizes} {start : Beginning} (suits : Suits n start) where
         let le = suits.nodes in
         let lt : (i - count) * n.fields + g < unused = place_below (i - count) (n.slots - count) g n.fields (omega (arith, past, slot, le)) field in
         at_unused (address_of n (FieldOf (suc i) g)) ((i - count) * n.fields + g) (omega (arith, rows))
-        ∙ inside (replicate unused 0) start.cells unused ((i - count) * n.fields + g) (length-replicate unused 0) lt
+        ∙ inside (replicate unused 0) after_unused unused ((i - count) * n.fields + g) (length-replicate unused 0) lt
         ∙ get_or-replicate unused ((i - count) * n.fields + g) 0 0 lt
         ∙ ap (λ (o : Option (List ℕ)). field_word o g) (sym (slice_get_past start.nodes i past))
 
-  words_at : (w : Word) → in_row n w ≡ true → slice_index words (address_of n w) ≡ start_word start w
+  words_at : (w : Word) → in_row n w ≡ true → slice_index words (address_of n w) ≡ start_word n start w
   words_at Phase row = refl
   words_at (Place c) row =
       let lt = lt_of c n.callers row in
@@ -157,7 +182,12 @@ module _ {n : Sizes} {start : Beginning} (suits : Suits n start) where
       at_statuses (address_of n (Status j)) j refl ∙ inside statuses after_statuses (slot_rows n) j (statuses_length start.first count 0 (slot_rows n)) lt
       ∙ statuses_at start.first count 0 (slot_rows n) j lt ∙ ap (λ (k : ℕ). status_word start.first (start_kind count k)) at
   words_at (FieldOf j g) row = let lt = lt_two j (slot_rows n) g n.fields row in field_at j g lt.0 lt.1
-  words_at (Cell x) row = cell_at x
+  words_at (Cell x) row = at_cells (address_of n (Cell x)) x refl ∙ inside start.cells after_cells n.cells x suits.cells (lt_of x n.cells row)
+  words_at Head row = at_head (address_of n Head) 0 (omega arith)
+  words_at (Link j) row =
+      let lt = lt_of j (slot_rows n) row in
+      let at : 0 + j ≡ j = omega arith in
+      at_head (address_of n (Link j)) (j + 1) (omega arith) ∙ tail (start_head n start) links (j + 1) j (omega arith) ∙ links_at n.slots count 0 (slot_rows n) j lt ∙ ap (start_link n.slots count) at
 
   words_count : length words ≡ word_count n
   words_count =
@@ -176,8 +206,10 @@ module _ {n : Sizes} {start : Beginning} (suits : Suits n start) where
       let four = length-append statuses after_statuses in
       let five = length-append (replicate n.fields 0) after_null in
       let six = length-append nodes after_nodes in
-      let seven = length-append (replicate unused 0) start.cells in
-      omega (arith, a, b, c, d, e, f, g, h, all, one, two, three, four, five, six, seven)
+      let i = links_length n.slots count 0 (slot_rows n) in
+      let seven = length-append (replicate unused 0) after_unused in
+      let eight = length-append start.cells after_cells in
+      omega (arith, a, b, c, d, e, f, g, h, i, all, one, two, three, four, five, six, seven, eight)
 
 pub starts_as_named : (n : Sizes) (start : Beginning) → Suits n start → StartsAsNamed n start
 starts_as_named n start suits = record { words = words_at suits; count = words_count suits }

@@ -2,7 +2,7 @@
 use Rattle.std.specs.Prelude.{◌≡◌, ◌↔◌, ℕ, ◌<◌, ◌%◌, Bool, true, Some, None, length, slice_index}
 use Rattle.oa_words.specs.declared.packed.Kind.{Kind}
 use Rattle.oa_words.specs.Words.{Word, Sizes, address_of, in_row, word_count}
-use Rattle.oa_words.specs.Packed.{ref_word, slot_part, is_marked, StatusParts, status_word, status_parts}
+use Rattle.oa_words.specs.Packed.{ref_word, slot_part, is_marked, StatusParts, status_word, status_parts, head_word, head_parts}
 use Rattle.oa_words.specs.Starts.{Beginning, start_word, start_words}
 
 -- each word of the row stands below the count of words, and different words stand at different addresses
@@ -24,7 +24,14 @@ pub record StatusesSplit : Type 0 where
   pub equal : (phase other : ℕ) (kind also : Kind) → status_word phase kind ≡ status_word other also → (phase ≡ other) × (kind ≡ also)
   pub none : (word : ℕ) → (status_parts word ≡ None) ↔ (word % 4 ≡ 3)
 
+-- a head and its parts: each gives back the other, where the top is a slot of some row
+pub record HeadsSplit : Type 0 where
+  pub parts : (phase top : ℕ) → top < 8192 → head_parts (head_word phase top) ≡ record { phase = phase; top = top }
+  pub small : (word : ℕ) → (head_parts word).top < 8192
+  pub whole : (word : ℕ) → head_word (head_parts word).phase (head_parts word).top ≡ word
+  pub equal : (phase other top also : ℕ) → top < 8192 → also < 8192 → head_word phase top ≡ head_word other also → (phase ≡ other) × (top ≡ also)
+
 -- at the start each word says what its name does, and there are no other words
 pub record StartsAsNamed (n : Sizes) (start : Beginning) : Type 0 where
-  pub words : (w : Word) → in_row n w ≡ true → slice_index (start_words n start) (address_of n w) ≡ start_word start w
+  pub words : (w : Word) → in_row n w ≡ true → slice_index (start_words n start) (address_of n w) ≡ start_word n start w
   pub count : length (start_words n start) ≡ word_count n

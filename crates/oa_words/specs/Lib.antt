@@ -3,3 +3,4 @@ pub mod Within
 pub mod Packed
 pub mod Starts
 pub mod Laws
+pub mod Memories

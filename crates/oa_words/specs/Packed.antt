@@ -1,4 +1,4 @@
--- References and statuses as words.
+-- References, statuses and the pool's head as words.
 use Rattle.std.specs.Prelude.{ℕ, ◌+◌, ◌*◌, ◌%◌, ◌/◌, Bool, true, false, Option, Some, None, ◌==◌, if◌then◌else◌}
 use Rattle.oa_words.specs.declared.packed.Kind.{Kind}
 use Rattle.oa_words.specs.declared.packed.Kind.TheVariants.{Ready, Used, Retired}
@@ -38,3 +38,15 @@ parts_by phase (Some kind) = Some (record { phase = phase; kind = kind })
 
 abbrev pub status_parts : ℕ → Option StatusParts
 status_parts word = parts_by (word / 4) (kind_of (word % 4))
+
+-- the phase that the head of the chain of ready slots is stamped with, and the slot on top, 0 for none
+pub record HeadParts : Type 0 where
+  pub phase : ℕ
+  pub top : ℕ
+
+-- a top is below 8192: there are at most 4096 slots
+abbrev pub head_word : ℕ → ℕ → ℕ
+head_word phase top = 8192 * phase + top
+
+abbrev pub head_parts : ℕ → HeadParts
+head_parts word = record { phase = word / 8192; top = word % 8192 }

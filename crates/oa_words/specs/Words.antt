@@ -10,6 +10,8 @@ pub data Word : Type 0 where
   Status : (j : ℕ) → Word
   FieldOf : (j g : ℕ) → Word
   Cell : (x : ℕ) → Word
+  Head : Word
+  Link : (j : ℕ) → Word
 
 -- how many callers, slots other than 0, fields of a slot, and cells there are
 pub record Sizes : Type 0 where
@@ -27,7 +29,7 @@ pub record SlotRange : Type 0 where
 abbrev pub slot_range : Sizes → SlotRange
 slot_range n = record { first = 1; last = n.slots }
 
--- how many slots have a status and fields: null, and those that hold nodes
+-- how many slots have a status, fields and a link: null, and those that hold nodes
 abbrev pub slot_rows : Sizes → ℕ
 slot_rows n = n.slots + 1
 
@@ -40,6 +42,12 @@ field_base n = status_base n + slot_rows n
 abbrev pub cell_base : Sizes → ℕ
 cell_base n = field_base n + slot_rows n * n.fields
 
+abbrev pub head_base : Sizes → ℕ
+head_base n = cell_base n + n.cells
+
+abbrev pub link_base : Sizes → ℕ
+link_base n = head_base n + 1
+
 abbrev pub address_of : Sizes → Word → ℕ
 address_of n Phase = 0
 address_of n (Place c) = 1 + c
@@ -48,9 +56,11 @@ address_of n (Hazard c r) = 1 + 2 * n.callers + 8 * c + r
 address_of n (Status j) = status_base n + j
 address_of n (FieldOf j g) = field_base n + j * n.fields + g
 address_of n (Cell x) = cell_base n + x
+address_of n Head = head_base n
+address_of n (Link j) = link_base n + j
 
 abbrev pub word_count : Sizes → ℕ
-word_count n = cell_base n + n.cells
+word_count n = link_base n + slot_rows n
 
 -- the row has the word
 abbrev pub in_row : Sizes → Word → Bool
@@ -61,3 +71,5 @@ in_row n (Hazard c r) = nat_lt c n.callers && nat_lt r 8
 in_row n (Status j) = nat_lt j (slot_rows n)
 in_row n (FieldOf j g) = nat_lt j (slot_rows n) && nat_lt g n.fields
 in_row n (Cell x) = nat_lt x n.cells
+in_row n Head = true
+in_row n (Link j) = nat_lt j (slot_rows n)

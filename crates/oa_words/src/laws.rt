@@ -1,6 +1,6 @@
 //! What holds of all words, for the crates above.
 
-ghost use Rattle.oa_words.specs.Laws.{WordsStandApart, ReferencesSplit, StatusesSplit, StartsAsNamed};
+ghost use Rattle.oa_words.specs.Laws.{WordsStandApart, ReferencesSplit, StatusesSplit, HeadsSplit, StartsAsNamed};
 ghost use Rattle.oa_words.specs.Starts.{Beginning, Suits};
 
 use crate::shape::Shape;
@@ -23,6 +23,12 @@ pub fn references_split()
 #[tactic(auto, using(crate::proofs::Parts::statuses_split))]
 pub fn statuses_split()
     ensures { StatusesSplit }
+{}
+
+/// The word of a head and its parts give each other back.
+#[tactic(auto, using(crate::proofs::Parts::heads_split))]
+pub fn heads_split()
+    ensures { HeadsSplit }
 {}
 
 /// The list of words at the start says of each word what its name does.

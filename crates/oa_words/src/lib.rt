@@ -5,5 +5,7 @@ pub mod laws;
 pub mod packed;
 pub mod shape;
 
-pub use packed::{Kind, is_marked, ref_word, slot_part, status_parts, status_word};
+pub use packed::{
+    Kind, head_parts, head_word, is_marked, ref_word, slot_part, status_parts, status_word,
+};
 pub use shape::{Shape, ShapeFault};

@@ -1,7 +1,7 @@
-//! References and statuses as words.
+//! References, statuses and the pool's head as words.
 
 ghost use Rattle.std.specs.Prelude.{◌≡◌, ◌≤◌, ◌<◌, ◌^◌, option_map};
-ghost use Rattle.oa_words.specs.Packed.{ref_word, slot_part, is_marked, status_word, status_parts, kind_of, kind_number};
+ghost use Rattle.oa_words.specs.Packed.{ref_word, slot_part, is_marked, status_word, status_parts, kind_of, kind_number, head_word, head_parts};
 
 /// What a slot is.
 #[derive(Clone, Copy, Debug, PartialEq, Eq)]
@@ -76,4 +76,24 @@ pub fn status_parts(word: u64) -> Option<(u64, Kind)>
 {
     let kind = kind_of(word % 4)?;
     Some((word / 4, kind))
+}
+
+/// The word of the pool's head: 8192 times the phase, and the slot on top, 0 for none. The phase is at most 2^50, and the
+/// slot at most 4096.
+///
+/// The phase is a stamp: a slot that was taken from under it is pushed again only under a greater one, so an exchange of
+/// the head can't take a slot for one that stayed.
+pub fn head_word(phase: u64, top: u32) -> u64
+    requires phase { phase ≤ 2 ^ 50 }
+    requires top { top ≤ 4096 }
+    ensures { result ≡ head_word phase top }
+{
+    8192 * phase + top as u64
+}
+
+/// The phase of the pool's head, and the slot on top, 0 for none.
+pub fn head_parts(word: u64) -> (u64, u64)
+    ensures { record { phase = result.0; top = result.1 } ≡ head_parts word }
+{
+    (word / 8192, word % 8192)
 }

@@ -1,7 +1,7 @@
 //! The shape of the row of words, and the address of each word.
 
 ghost use Rattle.std.specs.Prelude.{◌≡◌, ◌≤◌, ◌<◌, Some, None, if◌then◌else◌};
-ghost use Rattle.oa_words.specs.Words.{Phase, Place, Warning, Hazard, Status, FieldOf, Cell, address_of, word_count};
+ghost use Rattle.oa_words.specs.Words.{Phase, Place, Warning, Hazard, Status, FieldOf, Cell, Head, Link, address_of, word_count};
 ghost use Rattle.oa_words.specs.Within.{sizes_or_fault, is_count};
 
 use std::marker::Model;
@@ -172,11 +172,30 @@ impl Shape {
         1 + 10 * self.callers + (self.slots + 1) + (self.slots + 1) * self.fields + cell
     }
 
+    /// The address of the pool's head, which names the ready slot on top of the chain.
+    #[tactic(auto, using(crate::proofs::Products::product))]
+    pub fn head_at(&self) -> u32
+        ensures { result ≡ address_of self.now Head }
+    {
+        1 + 10 * self.callers + (self.slots + 1) + (self.slots + 1) * self.fields + self.cells
+    }
+
+    /// The address of a slot's link, which names the slot below it in the chain of ready slots.
+    #[tactic(auto, using(crate::proofs::Products::product))]
+    pub fn link_at(&self, slot: u32) -> u32
+        requires { slot ≤ self.now.slots }
+        ensures { result ≡ address_of self.now (Link slot) }
+    {
+        let rows = self.slots + 1;
+        1 + 10 * self.callers + rows + rows * self.fields + self.cells + 1 + slot
+    }
+
     /// How many words there are.
     #[tactic(auto, using(crate::proofs::Products::product))]
     pub fn word_count(&self) -> u32
         ensures { result ≡ word_count self.now }
     {
-        1 + 10 * self.callers + (self.slots + 1) + (self.slots + 1) * self.fields + self.cells
+        let rows = self.slots + 1;
+        1 + 10 * self.callers + rows + rows * self.fields + self.cells + 1 + rows
     }
 }

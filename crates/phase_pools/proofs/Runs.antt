@@ -1,4 +1,5 @@
--- A routine that runs alone, on the words of a row: the accesses that it makes, in their order, and how it ends.
+-- A routine that runs alone, on the words of a row, or that is told the words that its accesses find: the accesses that it
+-- makes, in their order, and how it ends.
 use Rattle.std.specs.Prelude.{ℕ, zero, suc, List, [], ◌∷◌, Option, Some, None, slice_index, slice_set}
 use Rattle.oa_words.specs.Words.{Sizes, address_of}
 use Rattle.phase_pools.specs.declared.access.ClaimEnd.{ClaimEnd}
@@ -50,3 +51,28 @@ retire_run n zero (Some retirement) words = stopped words None
 retire_run n (suc k) (Some retirement) words =
     let access = retire_wants retirement in
     also access (retire_run n k (retire_accepts retirement (found_by n words access)) (words_after n words access))
+
+-- ---- with words that other callers left: those that the accesses find, one after another
+
+-- what a routine did: its accesses, the one that it wants next, and its end, if it came to one
+pub record Heard (End : Type 0) : Type 0 where
+  pub accesses : List WordAccess
+  pub next : Option WordAccess
+  pub ended : Option End
+
+abbrev heard_also : {End : Type 0} → WordAccess → Heard End → Heard End
+heard_also access heard = record { accesses = access ∷ heard.accesses; next = heard.next; ended = heard.ended }
+
+abbrev pub sweep_told : Sizes → ℕ → List ℕ → Option SweepEnd → Sweep → Heard SweepEnd
+sweep_told n last words (Some end) sweep = record { accesses = []; next = None; ended = Some end }
+sweep_told n last [] None sweep = record { accesses = []; next = Some (sweep_wants sweep); ended = None }
+sweep_told n last (word ∷ words) None sweep =
+    let turn = sweep_accepts n last sweep word in
+    heard_also (sweep_wants sweep) (sweep_told n last words turn.ended turn.sweep)
+
+abbrev pub claim_told : Sizes → ℕ → List ℕ → Option ClaimEnd → Claim → Heard ClaimEnd
+claim_told n last words (Some end) claim = record { accesses = []; next = None; ended = Some end }
+claim_told n last [] None claim = record { accesses = []; next = Some (claim_wants claim); ended = None }
+claim_told n last (word ∷ words) None claim =
+    let turn = claim_accepts n last claim word in
+    heard_also (claim_wants claim) (claim_told n last words turn.ended turn.claim)

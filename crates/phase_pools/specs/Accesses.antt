@@ -31,9 +31,9 @@ located n (Stores w x) = codes.Store (address_of n w) x
 located n (Exchanges w expected replacement) = codes.CompareExchange (address_of n w) expected replacement
 located n (Raises w x) = codes.FetchMax (address_of n w) x
 
--- phases are numbered from 1 to 2^61
+-- phases are numbered from 1 to 2^50
 abbrev pub IsPhase : ℕ → Type 0
-IsPhase phase = (1 ≤ phase) × (phase ≤ 2 ^ 61)
+IsPhase phase = (1 ≤ phase) × (phase ≤ 2 ^ 50)
 
 -- where the access raises a word, that is to a phase
 abbrev pub RaisesToPhase : Access → Type 0

@@ -1,7 +1,7 @@
 -- Where routines may stand, and which words they may be told.
 use Rattle.std.specs.Prelude.{◌≡◌, ℕ, ◌+◌, ◌*◌, ◌≤◌, ◌<◌, ◌^◌, IsSomeAnd}
 use Rattle.oa_words.specs.Words.{Sizes}
-use Rattle.oa_words.specs.Packed.{StatusParts, status_parts}
+use Rattle.oa_words.specs.Packed.{StatusParts, status_parts, head_parts}
 use Rattle.phase_pools.specs.declared.stages.SweepStage.{SweepStage}
 use Rattle.phase_pools.specs.declared.stages.SweepStage.TheVariants as sweeps
 use Rattle.phase_pools.specs.declared.stages.ClaimStage.{ClaimStage}
@@ -21,34 +21,45 @@ GathersFew (sweeps.Warn c) count = count ≡ 0
 GathersFew (sweeps.ReadHazard c r) count = count ≤ 8 * c + r
 GathersFew (sweeps.ReadStatus j) count = count ≤ 64
 GathersFew (sweeps.MakeReady j q) count = count ≤ 64
+GathersFew (sweeps.PushHead j) count = count ≤ 64
+GathersFew (sweeps.PushLink j q t) count = count ≤ 64
+GathersFew (sweeps.PushTop j q t) count = count ≤ 64
 
--- the phase that the sweep raises to has one after it, and once it is announced it is a phase
+-- the phase that the sweep raises to has one after it, and once it is announced it is a phase; that of a head that was
+-- loaded fits a head
 abbrev pub HasPhase : SweepStage → ℕ → Type 0
 HasPhase sweeps.ReadPhase s = Unit {0}
-HasPhase (sweeps.RaisePhase p) s = p < 2 ^ 61
+HasPhase (sweeps.RaisePhase p) s = p < 2 ^ 50
 HasPhase (sweeps.Warn c) s = IsPhase s
 HasPhase (sweeps.ReadHazard c r) s = IsPhase s
 HasPhase (sweeps.ReadStatus j) s = IsPhase s
 HasPhase (sweeps.MakeReady j q) s = IsPhase s × (q < s)
+HasPhase (sweeps.PushHead j) s = IsPhase s
+HasPhase (sweeps.PushLink j q t) s = IsPhase s × (q ≤ 2 ^ 50)
+HasPhase (sweeps.PushTop j q t) s = IsPhase s × (q ≤ 2 ^ 50)
 
 -- a claim makes at most two sweeps
 abbrev pub SweepsFew : ClaimStage → ℕ → Type 0
-SweepsFew (claims.ReadStatus j) count = count ≤ 2
-SweepsFew (claims.Take j q) count = count ≤ 2
+SweepsFew claims.ReadHead count = count ≤ 2
+SweepsFew (claims.ReadLink q t) count = count ≤ 2
+SweepsFew (claims.Take q t n) count = count ≤ 2
+SweepsFew (claims.StoreUsed q t) count = count ≤ 2
 SweepsFew claims.Sweeps count = count < 2
 
--- a slot is taken from a phase that fits a status
+-- a slot is taken from under a phase that fits a head and a status
 abbrev pub TakesFitting : ClaimStage → Type 0
-TakesFitting (claims.ReadStatus j) = Unit {0}
-TakesFitting (claims.Take j q) = q ≤ 2 ^ 61
+TakesFitting claims.ReadHead = Unit {0}
+TakesFitting (claims.ReadLink q t) = q ≤ 2 ^ 50
+TakesFitting (claims.Take q t n) = q ≤ 2 ^ 50
+TakesFitting (claims.StoreUsed q t) = q ≤ 2 ^ 50
 TakesFitting claims.Sweeps = Unit {0}
 
 -- a retirement stores a phase that fits a status
 abbrev pub StoresFitting : RetireStage → Type 0
 StoresFitting retires.ReadPhase = Unit {0}
-StoresFitting (retires.StoreStatus p) = p ≤ 2 ^ 61
+StoresFitting (retires.StoreStatus p) = p ≤ 2 ^ 50
 
--- ---- the caller, register and slot at which a routine stands are in the row
+-- ---- the caller, register and slots at which a routine stands are in the row
 
 abbrev pub SweepInRange : Sizes → SweepStage → Type 0
 SweepInRange n sweeps.ReadPhase = Unit {0}
@@ -57,10 +68,15 @@ SweepInRange n (sweeps.Warn c) = c < n.callers
 SweepInRange n (sweeps.ReadHazard c r) = (c < n.callers) × (r < 8)
 SweepInRange n (sweeps.ReadStatus j) = j ≤ n.slots
 SweepInRange n (sweeps.MakeReady j q) = j ≤ n.slots
+SweepInRange n (sweeps.PushHead j) = j ≤ n.slots
+SweepInRange n (sweeps.PushLink j q t) = (j ≤ n.slots) × (t ≤ n.slots)
+SweepInRange n (sweeps.PushTop j q t) = (j ≤ n.slots) × (t ≤ n.slots)
 
 abbrev pub ClaimInRange : Sizes → Sweep → ClaimStage → Type 0
-ClaimInRange n sweep (claims.ReadStatus j) = j ≤ n.slots
-ClaimInRange n sweep (claims.Take j q) = j ≤ n.slots
+ClaimInRange n sweep claims.ReadHead = Unit {0}
+ClaimInRange n sweep (claims.ReadLink q t) = t ≤ n.slots
+ClaimInRange n sweep (claims.Take q t next) = (t ≤ n.slots) × (next ≤ n.slots)
+ClaimInRange n sweep (claims.StoreUsed q t) = t ≤ n.slots
 ClaimInRange n sweep claims.Sweeps = SweepInRange n sweep.stage
 
 -- ---- the words that a routine may be told
@@ -69,6 +85,11 @@ ClaimInRange n sweep claims.Sweeps = SweepInRange n sweep.stage
 abbrev pub IsStatus : ℕ → ℕ → Type 0
 IsStatus last word = IsSomeAnd (status_parts word) (λ (parts : StatusParts). parts.phase ≤ last)
 
+-- a head with a phase up to one, and a slot on top or none
+abbrev pub IsHead : Sizes → ℕ → ℕ → Type 0
+IsHead n last word = ((head_parts word).phase ≤ last) × ((head_parts word).top ≤ n.slots)
+
+-- what a store found is no matter
 abbrev pub SweepTold : Sizes → ℕ → SweepStage → ℕ → Type 0
 SweepTold n last sweeps.ReadPhase word = word ≤ last
 SweepTold n last (sweeps.RaisePhase p) word = word ≤ last
@@ -76,13 +97,18 @@ SweepTold n last (sweeps.Warn c) word = word ≤ last
 SweepTold n last (sweeps.ReadHazard c r) word = word ≤ n.slots
 SweepTold n last (sweeps.ReadStatus j) word = IsStatus last word
 SweepTold n last (sweeps.MakeReady j q) word = IsStatus last word
+SweepTold n last (sweeps.PushHead j) word = IsHead n last word
+SweepTold n last (sweeps.PushLink j q t) word = Unit {0}
+SweepTold n last (sweeps.PushTop j q t) word = IsHead n last word
 
 abbrev pub ClaimTold : Sizes → ℕ → Sweep → ClaimStage → ℕ → Type 0
-ClaimTold n last sweep (claims.ReadStatus j) word = IsStatus last word
-ClaimTold n last sweep (claims.Take j q) word = IsStatus last word
+ClaimTold n last sweep claims.ReadHead word = IsHead n last word
+ClaimTold n last sweep (claims.ReadLink q t) word = word ≤ n.slots
+ClaimTold n last sweep (claims.Take q t next) word = IsHead n last word
+ClaimTold n last sweep (claims.StoreUsed q t) word = Unit {0}
 ClaimTold n last sweep claims.Sweeps word = SweepTold n last sweep.stage word
 
 -- a retirement is told a phase; what its store found is no matter
 abbrev pub RetireTold : RetireStage → ℕ → Type 0
-RetireTold retires.ReadPhase word = word ≤ 2 ^ 61
+RetireTold retires.ReadPhase word = word ≤ 2 ^ 50
 RetireTold (retires.StoreStatus p) word = Unit {0}

@@ -1,24 +1,26 @@
-//! A claim: looks for a ready slot, and sweeps between the looks.
+//! A claim: takes the ready slot on top of the chain, and sweeps where there is none.
 
-ghost use Rattle.std.specs.Prelude.{◌≡◌, ◌≤◌, ◌<◌, ◌^◌};
-ghost use Rattle.oa_words.specs.Packed.{status_parts};
-ghost use Rattle.phase_pools.specs.Accesses.{located, RaisesToPhase};
-ghost use Rattle.phase_pools.specs.Pools.{claim_begun, claim_wants, claim_accepts, look_on, look_read, look_took, sweep_ended};
-ghost use Rattle.phase_pools.specs.Ranges.{ClaimInRange, ClaimTold, IsStatus};
+ghost use Rattle.std.specs.Prelude.{◌≡◌, ◌≤◌, ◌<◌, ◌^◌, None};
+ghost use Rattle.oa_words.specs.Packed.{head_parts, head_word};
+ghost use Rattle.oa_words.specs.Words.{Head};
+ghost use Rattle.phase_pools.specs.Accesses.{located, Exchanges, RaisesToPhase};
+ghost use Rattle.phase_pools.specs.Pools.{claim_begun, claim_wants, claim_takes, claim_accepts, look_begun, look_ended, look_took, sweep_ended};
+ghost use Rattle.phase_pools.specs.Ranges.{ClaimInRange, ClaimTold, IsHead};
 
 use crate::access::{Access, ClaimEnd, SweepEnd};
-use crate::slots::{first_slot, last_slot};
 use crate::stages::ClaimStage;
 use crate::sweep::SweepState;
-use oa_words::packed::{Kind, status_parts, status_word};
+use oa_words::packed::{Kind, head_parts, head_word, status_word};
 use oa_words::shape::Shape;
 use std::marker::Model;
 
-/// A claim: where it stands, how many of its sweeps have ended, and its sweep. It looks for a ready slot, and where it
-/// finds none it sweeps and looks again, twice at most.
+/// A claim: where it stands, how many of its sweeps have ended, and its sweep. It takes the slot on top of the chain of
+/// ready slots, and where there is none it sweeps and looks again, twice at most.
 ///
-/// A slot is claimed by the exchange of its status from ready to used, so two callers never claim the same one. A caller
-/// that finds no free node ends the phase, as in the recycling of Cohen and Petrank (SPAA 2015).
+/// The chain is a stack as Treiber's (1986): a slot is taken by an exchange of the head, so two callers never claim the same
+/// one. The head bears a phase beside the top, so a slot that was taken and pushed again meanwhile isn't taken for one that
+/// stayed, since its link may be another by then. A caller that finds no free node ends the phase, as in the recycling of
+/// Cohen and Petrank (SPAA 2015).
 #[derive(Debug, Drop)]
 pub struct ClaimState {
     stage: ClaimStage,
@@ -43,47 +45,75 @@ impl ClaimState {
         ensures same { result ≡ claim_begun shape.now }
         ensures within { ClaimInRange shape.now result.sweep result.stage }
     {
+        let _ = shape;
         ClaimState {
-            stage: ClaimStage::ReadStatus(first_slot(shape)),
+            stage: ClaimStage::ReadHead,
             sweeps: 0,
             sweep: SweepState::begin(),
         }
     }
 
-    /// The one access that the claim wants; a warning is raised to a phase, from 1 to 2^61. The caller, register or slot at
-    /// which it stands is one of the shape's, and the last phase is at most 2^61.
+    /// The one access that the claim wants; a warning is raised to a phase, from 1 to 2^50. The caller, register and slots at
+    /// which it stands are the shape's, and the last phase is at most 2^50.
     pub fn pending(&self, shape: &Shape, last_phase: u64) -> Access
-        requires last { last_phase ≤ 2 ^ 61 }
+        requires last { last_phase ≤ 2 ^ 50 }
         requires range { ClaimInRange shape.now self.now.sweep self.now.stage }
         ensures same { result ≡ located shape.now (claim_wants self.now) }
         ensures raises { RaisesToPhase result }
     {
         match self.stage {
-            ClaimStage::ReadStatus(j) => Access::Load {
-                at: shape.status_at(j),
+            ClaimStage::ReadHead => Access::Load {
+                at: shape.head_at(),
             },
-            ClaimStage::Take(j, q) => Access::CompareExchange {
-                at: shape.status_at(j),
-                expected: status_word(q, Kind::Ready),
-                replacement: status_word(q, Kind::Used),
+            ClaimStage::ReadLink(_, top) => Access::Load {
+                at: shape.link_at(top),
+            },
+            ClaimStage::Take(q, top, next) => take(shape, q, top, next),
+            ClaimStage::StoreUsed(q, top) => Access::Store {
+                at: shape.status_at(top),
+                word: status_word(q, Kind::Used),
             },
             ClaimStage::Sweeps => self.sweep.pending(shape),
         }
     }
 
+    /// Whether the claim takes a slot where its access found this word. It is counted then; it ends with the store after it.
+    pub fn takes(&self, shape: &Shape, word: u64) -> bool
+        requires { ClaimInRange shape.now self.now.sweep self.now.stage }
+        ensures { result ≡ claim_takes self.now word }
+    {
+        let _slots = shape.slots();
+        match self.stage {
+            ClaimStage::Take(q, top, _) => word == head_word(q, top),
+            ClaimStage::ReadHead
+            | ClaimStage::ReadLink(..)
+            | ClaimStage::StoreUsed(..)
+            | ClaimStage::Sweeps => false,
+        }
+    }
+
     /// Takes the word that this access found, and says how the claim ended; none exactly where it goes on. The caller,
-    /// register or slot at which it stands is one of the shape's, phases are at most the last one, which is at most 2^61,
-    /// a hazard is 0 or a slot, and a status has a kind. It stays within the shape.
+    /// register and slots at which it stands are the shape's, phases are at most the last one, which is at most 2^50, a
+    /// hazard, a link and the head's top are 0 or a slot, and a status has a kind. It stays within the shape.
     pub fn accept(&mut self, shape: &Shape, last_phase: u64, word: u64) -> Option<ClaimEnd>
-        requires last { last_phase ≤ 2 ^ 61 }
+        requires last { last_phase ≤ 2 ^ 50 }
         requires range { ClaimInRange shape.now self.old.sweep self.old.stage }
         requires told { ClaimTold shape.now last_phase self.old.sweep self.old.stage word }
         ensures same { claim_accepts shape.now last_phase self.old word ≡ record { claim = self.new; ended = result } }
         ensures stays { ClaimInRange shape.now self.new.sweep self.new.stage }
     {
         match self.stage {
-            ClaimStage::ReadStatus(j) => self.look_read(shape, last_phase, j, word),
-            ClaimStage::Take(j, q) => self.look_took(shape, j, q, word),
+            ClaimStage::ReadHead => self.look_begun(shape, last_phase, word),
+            ClaimStage::ReadLink(q, top) => {
+                let _slots = shape.slots();
+                self.stage = ClaimStage::Take(q, top, word as u32);
+                None
+            }
+            ClaimStage::Take(q, top, _) => {
+                self.look_took(shape, q, top, word);
+                None
+            }
+            ClaimStage::StoreUsed(_, top) => Some(ClaimEnd::Claimed(top)),
             ClaimStage::Sweeps => {
                 let end = self.sweep.accept(shape, last_phase, word);
                 self.swept(shape, end)
@@ -94,74 +124,79 @@ impl ClaimState {
     fn swept(&mut self, shape: &Shape, end: Option<SweepEnd>) -> Option<ClaimEnd>
         requires few { self.old.sweeps < 2 }
         requires range { ClaimInRange shape.now self.old.sweep self.old.stage }
-        ensures same { sweep_ended shape.now self.old self.old.sweep end ≡ record { claim = self.new; ended = result } }
+        ensures same { sweep_ended self.old self.old.sweep end ≡ record { claim = self.new; ended = result } }
         ensures stays { ClaimInRange shape.now self.new.sweep self.new.stage }
     {
         match end {
             None => None,
             Some(SweepEnd::PhasesOver(p)) => Some(ClaimEnd::PhasesOver(p)),
             Some(SweepEnd::Swept) => {
-                self.stage = ClaimStage::ReadStatus(first_slot(shape));
+                self.stage = ClaimStage::ReadHead;
                 self.sweeps += 1;
                 None
             }
         }
     }
 
-    fn look_read(
-        &mut self,
-        shape: &Shape,
-        last_phase: u64,
-        slot: u32,
-        word: u64,
-    ) -> Option<ClaimEnd>
-        requires slot { slot ≤ shape.now.slots }
-        requires range { ClaimInRange shape.now self.old.sweep self.old.stage }
+    fn look_begun(&mut self, shape: &Shape, last_phase: u64, word: u64) -> Option<ClaimEnd>
         requires few { self.old.sweeps ≤ 2 }
-        requires last { last_phase ≤ 2 ^ 61 }
-        requires word { IsStatus last_phase word }
-        ensures same { look_read shape.now self.old slot (status_parts word) ≡ record { claim = self.new; ended = result } }
+        requires range { ClaimInRange shape.now self.old.sweep self.old.stage }
+        requires last { last_phase ≤ 2 ^ 50 }
+        requires word { IsHead shape.now last_phase word }
+        ensures same { look_begun self.old (head_parts word) ≡ record { claim = self.new; ended = result } }
         ensures stays { ClaimInRange shape.now self.new.sweep self.new.stage }
     {
-        match status_parts(word) {
-            Some((q, Kind::Ready)) => {
-                self.stage = ClaimStage::Take(slot, q);
-                None
-            }
-            _ => self.look_on(shape, slot),
+        let _slots = shape.slots();
+        let (q, top) = head_parts(word);
+        if top == 0 {
+            return self.look_ended(shape);
         }
+        self.stage = ClaimStage::ReadLink(q, top as u32);
+        None
     }
 
-    fn look_took(&mut self, shape: &Shape, slot: u32, q: u64, word: u64) -> Option<ClaimEnd>
-        requires slot { slot ≤ shape.now.slots }
-        requires range { ClaimInRange shape.now self.old.sweep self.old.stage }
-        requires phase { q ≤ 2 ^ 61 }
+    fn look_took(&mut self, shape: &Shape, q: u64, top: u32, word: u64)
+        requires top { top ≤ shape.now.slots }
+        requires phase { q ≤ 2 ^ 50 }
         requires few { self.old.sweeps ≤ 2 }
-        ensures same { look_took shape.now self.old slot q word ≡ record { claim = self.new; ended = result } }
+        ensures same { look_took self.old q top word ≡ record { claim = self.new; ended = None } }
         ensures stays { ClaimInRange shape.now self.new.sweep self.new.stage }
     {
-        if word == status_word(q, Kind::Ready) {
-            return Some(ClaimEnd::Claimed(slot));
-        }
-        self.look_on(shape, slot)
+        let _slots = shape.slots();
+        self.stage = if word == head_word(q, top) {
+            ClaimStage::StoreUsed(q, top)
+        } else {
+            ClaimStage::ReadHead
+        };
     }
 
-    fn look_on(&mut self, shape: &Shape, slot: u32) -> Option<ClaimEnd>
-        requires slot { slot ≤ shape.now.slots }
-        requires range { ClaimInRange shape.now self.old.sweep self.old.stage }
+    fn look_ended(&mut self, shape: &Shape) -> Option<ClaimEnd>
         requires few { self.old.sweeps ≤ 2 }
-        ensures same { look_on shape.now self.old slot ≡ record { claim = self.new; ended = result } }
+        requires range { ClaimInRange shape.now self.old.sweep self.old.stage }
+        ensures same { look_ended self.old ≡ record { claim = self.new; ended = result } }
         ensures stays { ClaimInRange shape.now self.new.sweep self.new.stage }
     {
-        if slot < last_slot(shape) {
-            self.stage = ClaimStage::ReadStatus(slot + 1);
-            return None;
-        }
         if self.sweeps == 2 {
             return Some(ClaimEnd::Full);
         }
         self.stage = ClaimStage::Sweeps;
         self.sweep = SweepState::begin();
         None
+    }
+}
+
+/// The exchange that takes the top slot from the chain, and leaves on top what its link named.
+fn take(shape: &Shape, q: u64, top: u32, next: u32) -> Access
+    requires phase { q ≤ 2 ^ 50 }
+    requires top { top ≤ shape.now.slots }
+    requires next { next ≤ shape.now.slots }
+    ensures same { result ≡ located shape.now (Exchanges Head (head_word q top) (head_word q next)) }
+    ensures raises { RaisesToPhase result }
+{
+    let _slots = shape.slots();
+    Access::CompareExchange {
+        at: shape.head_at(),
+        expected: head_word(q, top),
+        replacement: head_word(q, next),
     }
 }

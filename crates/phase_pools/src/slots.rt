@@ -1,11 +1,11 @@
-//! The slots that a look or a sweep goes through, in their order.
+//! The slots that a sweep goes through.
 
 ghost use Rattle.std.specs.Prelude.{◌≡◌, ◌≤◌};
 ghost use Rattle.oa_words.specs.Words.{slot_range};
 
 use oa_words::shape::Shape;
 
-/// The first of them.
+/// The least of them, which is the last that a sweep comes to.
 pub(crate) fn first_slot(shape: &Shape) -> u32
     ensures first { result ≡ (slot_range shape.now).first }
     ensures within { result ≤ shape.now.slots }
@@ -14,7 +14,7 @@ pub(crate) fn first_slot(shape: &Shape) -> u32
     1
 }
 
-/// The last of them.
+/// The greatest of them, from which a sweep goes down.
 pub(crate) fn last_slot(shape: &Shape) -> u32
     ensures last { result ≡ (slot_range shape.now).last }
     ensures few { result ≤ 4096 }

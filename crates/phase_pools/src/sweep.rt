@@ -1,16 +1,18 @@
-//! A sweep: it raises the phase, warns every caller, gathers what is guarded, and makes ready what was retired before.
+//! A sweep: it raises the phase, warns every caller, gathers what is guarded, makes ready what was retired before, and
+//! pushes it onto the chain.
 
-ghost use Rattle.std.specs.Prelude.{◌≡◌, ◌≤◌, ◌<◌, ◌^◌, ◌+◌, ◌*◌, length, None};
-ghost use Rattle.oa_words.specs.Packed.{status_parts};
-ghost use Rattle.phase_pools.specs.Accesses.{located, IsPhase, RaisesToPhase};
-ghost use Rattle.phase_pools.specs.Pools.{sweep_begun, sweep_wants, sweep_accepts, sweep_on, warn_next, hazard_read, hazard_next, status_read, freeing};
-ghost use Rattle.phase_pools.specs.Ranges.{SweepInRange, SweepTold};
+ghost use Rattle.std.specs.Prelude.{◌≡◌, ◌≤◌, ◌<◌, ◌^◌, ◌+◌, ◌*◌, max, length, None};
+ghost use Rattle.oa_words.specs.Packed.{status_parts, head_word, head_parts};
+ghost use Rattle.oa_words.specs.Words.{Head};
+ghost use Rattle.phase_pools.specs.Accesses.{located, Exchanges, IsPhase, RaisesToPhase};
+ghost use Rattle.phase_pools.specs.Pools.{sweep_begun, sweep_wants, sweep_accepts, sweep_on, warn_next, hazard_read, hazard_next, status_read, freeing, made_ready, push_read, pushed};
+ghost use Rattle.phase_pools.specs.Ranges.{SweepInRange, SweepTold, IsHead};
 
 use crate::access::{Access, SweepEnd};
 use crate::slots::{first_slot, last_slot};
 use crate::stages::SweepStage;
 use guard_words::gathered::Gathered;
-use oa_words::packed::{Kind, status_parts, status_word};
+use oa_words::packed::{Kind, head_parts, head_word, status_parts, status_word};
 use oa_words::shape::Shape;
 use std::marker::Model;
 
@@ -18,7 +20,8 @@ use std::marker::Model;
 ///
 /// This is the recycling of Cohen and Petrank (SPAA 2015): a new phase is announced by each caller's warning before the
 /// hazards are read, so a caller that still reads what was retired finds out at its next check, and what it guards is
-/// gathered. Slots that were retired before the phase and weren't gathered become ready.
+/// gathered. Slots that were retired before the phase and weren't gathered become ready, from the greatest down, and each is
+/// pushed onto the chain of ready slots at once: so the least that became ready ends on top.
 #[derive(Debug, Drop)]
 pub struct SweepState {
     stage: SweepStage,
@@ -52,7 +55,7 @@ fn warn_next(shape: &Shape, caller: u32) -> SweepStage
     }
 }
 
-/// The stage after a hazard: registers go first, then callers, and then the slots.
+/// The stage after a hazard: registers go first, then callers, and then the slots from the greatest down.
 fn hazard_next(shape: &Shape, caller: u32, register: u32) -> SweepStage
     requires caller { caller < shape.now.callers }
     requires register { register < 8 }
@@ -65,7 +68,7 @@ fn hazard_next(shape: &Shape, caller: u32, register: u32) -> SweepStage
     } else if caller + 1 < callers {
         SweepStage::ReadHazard(caller + 1, 0)
     } else {
-        SweepStage::ReadStatus(first_slot(shape))
+        SweepStage::ReadStatus(last_slot(shape))
     }
 }
 
@@ -81,8 +84,8 @@ impl SweepState {
         }
     }
 
-    /// The one access that the sweep wants; a warning is raised to a phase, from 1 to 2^61. The caller, register or slot at
-    /// which it stands is one of the shape's.
+    /// The one access that the sweep wants; a warning is raised to a phase, from 1 to 2^50. The caller, register and slots at
+    /// which it stands are the shape's.
     pub fn pending(&self, shape: &Shape) -> Access
         requires { SweepInRange shape.now self.now.stage }
         ensures same { result ≡ located shape.now (sweep_wants self.now) }
@@ -112,14 +115,22 @@ impl SweepState {
                 expected: status_word(q, Kind::Retired),
                 replacement: status_word(self.bound, Kind::Ready),
             },
+            SweepStage::PushHead(_) => Access::Load {
+                at: shape.head_at(),
+            },
+            SweepStage::PushLink(j, _, top) => Access::Store {
+                at: shape.link_at(j),
+                word: top as u64,
+            },
+            SweepStage::PushTop(j, q, top) => push(shape, j, q, top, self.bound),
         }
     }
 
     /// Takes the word that this access found, and says how the sweep ended; none exactly where it goes on. The caller,
-    /// register or slot at which it stands is one of the shape's, phases are at most the last one, which is at most 2^61,
-    /// a hazard is 0 or a slot, and a status has a kind. It stays within the shape.
+    /// register and slots at which it stands are the shape's, phases are at most the last one, which is at most 2^50, a
+    /// hazard and the head's top are 0 or a slot, and a status has a kind. It stays within the shape.
     pub fn accept(&mut self, shape: &Shape, last_phase: u64, word: u64) -> Option<SweepEnd>
-        requires last { last_phase ≤ 2 ^ 61 }
+        requires last { last_phase ≤ 2 ^ 50 }
         requires range { SweepInRange shape.now self.old.stage }
         requires told { SweepTold shape.now last_phase self.old.stage word }
         ensures same { sweep_accepts shape.now last_phase self.old word ≡ record { sweep = self.new; ended = result } }
@@ -148,7 +159,16 @@ impl SweepState {
                 None
             }
             SweepStage::ReadStatus(j) => self.status_read(shape, j, word),
-            SweepStage::MakeReady(j, _) => self.slot_done(shape, j),
+            SweepStage::MakeReady(j, q) => self.made_ready(shape, j, q, word),
+            SweepStage::PushHead(j) => {
+                self.push_read(shape, last_phase, j, word);
+                None
+            }
+            SweepStage::PushLink(j, q, top) => {
+                self.stage = SweepStage::PushTop(j, q, top);
+                None
+            }
+            SweepStage::PushTop(j, q, top) => self.pushed(shape, j, q, top, word),
         }
     }
 
@@ -203,10 +223,75 @@ impl SweepState {
         ensures same { sweep_on shape.now self.old slot ≡ record { sweep = self.new; ended = result } }
         ensures stays { SweepInRange shape.now self.new.stage }
     {
-        if slot < last_slot(shape) {
-            self.stage = SweepStage::ReadStatus(slot + 1);
+        if slot > first_slot(shape) {
+            self.stage = SweepStage::ReadStatus(slot - 1);
             return None;
         }
         Some(SweepEnd::Swept)
+    }
+
+    fn made_ready(&mut self, shape: &Shape, slot: u32, q: u64, word: u64) -> Option<SweepEnd>
+        requires slot { slot ≤ shape.now.slots }
+        requires range { SweepInRange shape.now self.old.stage }
+        requires few { length self.old.gathered ≤ 64 }
+        requires phase { IsPhase self.old.bound }
+        requires retired { q ≤ 2 ^ 50 }
+        ensures same { made_ready shape.now self.old slot q word ≡ record { sweep = self.new; ended = result } }
+        ensures stays { SweepInRange shape.now self.new.stage }
+    {
+        if word == status_word(q, Kind::Retired) {
+            self.stage = SweepStage::PushHead(slot);
+            return None;
+        }
+        self.slot_done(shape, slot)
+    }
+
+    fn push_read(&mut self, shape: &Shape, last_phase: u64, slot: u32, word: u64)
+        requires slot { slot ≤ shape.now.slots }
+        requires few { length self.old.gathered ≤ 64 }
+        requires phase { IsPhase self.old.bound }
+        requires last { last_phase ≤ 2 ^ 50 }
+        requires word { IsHead shape.now last_phase word }
+        ensures same { push_read self.old slot (head_parts word) ≡ record { sweep = self.new; ended = None } }
+        ensures stays { SweepInRange shape.now self.new.stage }
+    {
+        let _slots = shape.slots();
+        let (q, top) = head_parts(word);
+        self.stage = SweepStage::PushLink(slot, q, top as u32);
+    }
+
+    fn pushed(&mut self, shape: &Shape, slot: u32, q: u64, top: u32, word: u64) -> Option<SweepEnd>
+        requires slot { slot ≤ shape.now.slots }
+        requires top { top ≤ shape.now.slots }
+        requires range { SweepInRange shape.now self.old.stage }
+        requires few { length self.old.gathered ≤ 64 }
+        requires phase { IsPhase self.old.bound }
+        requires head { q ≤ 2 ^ 50 }
+        ensures same { pushed shape.now self.old slot q top word ≡ record { sweep = self.new; ended = result } }
+        ensures stays { SweepInRange shape.now self.new.stage }
+    {
+        let _slots = shape.slots();
+        if word == head_word(q, top) {
+            return self.slot_done(shape, slot);
+        }
+        self.stage = SweepStage::PushHead(slot);
+        None
+    }
+}
+
+/// The exchange that puts a slot on top of the chain, under the greater of the head's phase and the sweep's.
+fn push(shape: &Shape, slot: u32, q: u64, top: u32, bound: u64) -> Access
+    requires slot { slot ≤ shape.now.slots }
+    requires top { top ≤ shape.now.slots }
+    requires phase { IsPhase bound }
+    requires head { q ≤ 2 ^ 50 }
+    ensures same { result ≡ located shape.now (Exchanges Head (head_word q top) (head_word (max q bound) slot)) }
+    ensures raises { RaisesToPhase result }
+{
+    let _slots = shape.slots();
+    Access::CompareExchange {
+        at: shape.head_at(),
+        expected: head_word(q, top),
+        replacement: head_word(q.max(bound), slot),
     }
 }

@@ -1,5 +1,5 @@
 -- What a routine may be told follows from the address that it wants.
-use Rattle.std.proofs.Common.{◌≡◌, ℕ, subst, arith}
+use Rattle.std.proofs.Common.{◌≡◌, ℕ, refl, subst, arith}
 use Rattle.oa_words.specs.Words.{Sizes}
 use Rattle.phase_pools.specs.declared.access.Access.{Access}
 use Rattle.phase_pools.specs.declared.stages.SweepStage.{SweepStage}
@@ -16,12 +16,17 @@ sweep_told_at n last word s sweeps.ReadPhase range told = told.phase (omega arit
 sweep_told_at n last word s (sweeps.RaisePhase p) range told = told.phase (omega arith)
 sweep_told_at n last word s (sweeps.Warn c) range told = told.phase (omega (arith, range))
 sweep_told_at n last word s (sweeps.ReadHazard c r) range told = let a = range.0 in let b = range.1 in told.hazard (omega (arith, a, b)) (omega (arith, a, b))
-sweep_told_at n last word s (sweeps.ReadStatus j) range told = told.status (omega arith)
-sweep_told_at n last word s (sweeps.MakeReady j q) range told = told.status (omega arith)
+sweep_told_at n last word s (sweeps.ReadStatus j) range told = told.status (omega arith) (omega (arith, range))
+sweep_told_at n last word s (sweeps.MakeReady j q) range told = told.status (omega arith) (omega (arith, range))
+sweep_told_at n last word s (sweeps.PushHead j) range told = told.head refl
+sweep_told_at n last word s (sweeps.PushLink j q t) range told = tt
+sweep_told_at n last word s (sweeps.PushTop j q t) range told = told.head refl
 
 claim_told_at : (n : Sizes) (last word : ℕ) (sweep : Sweep) (stage : ClaimStage) → ClaimInRange n sweep stage → IsTold n last (address_in (located n (claim_wants_at sweep stage))) word → ClaimTold n last sweep stage word
-claim_told_at n last word sweep (claims.ReadStatus j) range told = told.status (omega arith)
-claim_told_at n last word sweep (claims.Take j q) range told = told.status (omega arith)
+claim_told_at n last word sweep claims.ReadHead range told = told.head refl
+claim_told_at n last word sweep (claims.ReadLink q t) range told = told.link (omega arith)
+claim_told_at n last word sweep (claims.Take q t next) range told = told.head refl
+claim_told_at n last word sweep (claims.StoreUsed q t) range told = tt
 claim_told_at n last word sweep claims.Sweeps range told = sweep_told_at n last word sweep.bound sweep.stage range told
 
 pub sweep_told : (n : Sizes) (last word : ℕ) (sweep : Sweep) (access : Access) → SweepInRange n sweep.stage → access ≡ located n (sweep_wants sweep) → IsTold n last (address_in access) word → SweepTold n last sweep.stage word

@@ -1,9 +1,9 @@
 -- The words that a routine may be told, by the address at which they stand.
-use Rattle.std.specs.Prelude.{ℕ, ◌*◌, ◌≤◌, ◌<◌}
-use Rattle.oa_words.specs.Words.{Sizes}
+use Rattle.std.specs.Prelude.{◌≡◌, ℕ, ◌+◌, ◌*◌, ◌≤◌, ◌<◌}
+use Rattle.oa_words.specs.Words.{Sizes, slot_rows, head_base}
 use Rattle.phase_pools.specs.declared.access.Access.{Access}
 use Rattle.phase_pools.specs.declared.access.Access.TheVariants as codes
-use Rattle.phase_pools.specs.Ranges.{IsStatus}
+use Rattle.phase_pools.specs.Ranges.{IsStatus, IsHead}
 
 abbrev pub address_in : Access → ℕ
 address_in (codes.Load at) = at
@@ -15,4 +15,6 @@ address_in (codes.FetchMax at word) = at
 pub record IsTold (n : Sizes) (last at word : ℕ) : Type 0 where
   pub phase : at ≤ 2 * n.callers → word ≤ last
   pub hazard : 2 * n.callers < at → at ≤ 10 * n.callers → word ≤ n.slots
-  pub status : 10 * n.callers < at → IsStatus last word
+  pub status : 10 * n.callers < at → at ≤ 10 * n.callers + slot_rows n → IsStatus last word
+  pub head : at ≡ head_base n → IsHead n last word
+  pub link : head_base n < at → word ≤ n.slots

@@ -6,22 +6,29 @@ use phase_pools::claim::ClaimState;
 use phase_pools::retire::RetireState;
 use phase_pools::sweep::SweepState;
 
-/// The first slot is ready in phase 1.
+/// Slot 1 is on top, and slot 2 below it, in phase 1.
 #[test]
-fn first_slot_is_claimed(rt: HostRuntime) {
+fn top_slot_is_claimed(rt: HostRuntime) {
     let shape = Shape::new(1, 3, 2, 1).expect(&rt, "the numbers are in range");
     assert!(rt; shape.slots() == 3);
     let mut claim = ClaimState::begin(&shape);
-    assert!(rt; claim.pending(&shape, 5) == Access::Load { at: 12 });
-    assert!(rt; claim.accept(&shape, 5, 4).is_none());
+    assert!(rt; claim.pending(&shape, 5) == Access::Load { at: 24 });
+    assert!(rt; claim.accept(&shape, 5, 8193).is_none());
+    assert!(rt; claim.pending(&shape, 5) == Access::Load { at: 26 });
+    assert!(rt; claim.accept(&shape, 5, 2).is_none());
     assert!(rt;
         claim.pending(&shape, 5)
             == Access::CompareExchange {
-                at: 12,
-                expected: 4,
-                replacement: 5
+                at: 24,
+                expected: 8193,
+                replacement: 8194
             }
     );
+    assert!(rt; !claim.takes(&shape, 8194));
+    assert!(rt; claim.takes(&shape, 8193));
+    assert!(rt; claim.accept(&shape, 5, 8193).is_none());
+    assert!(rt; claim.pending(&shape, 5) == Access::Store { at: 12, word: 5 });
+    assert!(rt; !claim.takes(&shape, 8193));
     assert!(rt; claim.accept(&shape, 5, 4) == Some(ClaimEnd::Claimed(1)));
 }
 

@@ -1,27 +1,36 @@
 //! Whole sweeps and claims, against lists of accesses that were worked out by hand.
 
-ghost use Rattle.std.specs.Prelude.{◌≤◌};
-
-use crate::runs::{claims, sweeps};
+use crate::runs::{claims, claims_on, sweeps, sweeps_on};
 use oa_words::shape::Shape;
 use phase_pools::access::{Access, ClaimEnd, SweepEnd};
+use phase_pools::claim::ClaimState;
+use phase_pools::sweep::SweepState;
 
-/// The words of a row of 1 caller, 3 slots, 2 fields and 1 cell, all 0 but the phase, the warning, the first hazard and the
-/// statuses: 4 times a phase, and 0 for ready, 1 for used, 2 for retired.
-fn row(phase: u64, hazard: u64, statuses: [u64; 4]) -> [u64; 24] {
-    let mut words = [0; 24];
+/// The words of a row of 1 caller, 3 slots, 2 fields and 1 cell, all 0 but the phase, the warning, the first hazard, the
+/// statuses of slots 1 to 3 and of null, the head, and the links of slots 1 to 3. A status is 4 times a phase, and 0 for
+/// ready, 1 for used, 2 for retired; a head is 8192 times a phase, and the slot on top.
+fn row(phase: u64, hazard: u64, statuses: [u64; 3], chain: [u64; 4]) -> [u64; 29] {
+    let mut words = [0; 29];
     words[0] = phase;
     words[2] = phase;
     words[3] = hazard;
-    words[11] = statuses[0];
-    words[12] = statuses[1];
-    words[13] = statuses[2];
-    words[14] = statuses[3];
+    words[11] = 5;
+    words[12] = statuses[0];
+    words[13] = statuses[1];
+    words[14] = statuses[2];
+    words[24] = chain[0];
+    words[26] = chain[1];
+    words[27] = chain[2];
+    words[28] = chain[3];
     words
 }
 
 fn load(at: u32) -> Access {
     Access::Load { at }
+}
+
+fn store(at: u32, word: u64) -> Access {
+    Access::Store { at, word }
 }
 
 fn exchange(at: u32, expected: u64, replacement: u64) -> Access {
@@ -37,7 +46,7 @@ fn raise(at: u32, word: u64) -> Access {
 }
 
 /// The accesses of the first sweep, which frees slot 2: slot 3 is guarded.
-fn first_sweep() -> [Access; 15] {
+fn first_sweep() -> [Access; 18] {
     [
         load(0),
         exchange(0, 1, 2),
@@ -50,15 +59,18 @@ fn first_sweep() -> [Access; 15] {
         load(8),
         load(9),
         load(10),
-        load(12),
+        load(14),
         load(13),
         exchange(13, 6, 8),
-        load(14),
+        load(24),
+        store(27, 0),
+        exchange(24, 8192, 16386),
+        load(12),
     ]
 }
 
-/// The accesses of the second sweep, which frees slots 1 and 3.
-fn second_sweep() -> [Access; 16] {
+/// The accesses of the second sweep, which frees slots 3 and 1.
+fn second_sweep() -> [Access; 22] {
     [
         load(0),
         exchange(0, 2, 3),
@@ -71,33 +83,77 @@ fn second_sweep() -> [Access; 16] {
         load(8),
         load(9),
         load(10),
-        load(12),
-        exchange(12, 10, 12),
-        load(13),
         load(14),
         exchange(14, 6, 12),
+        load(24),
+        store(28, 2),
+        exchange(24, 16386, 24579),
+        load(13),
+        load(12),
+        exchange(12, 10, 12),
+        load(24),
+        store(26, 3),
+        exchange(24, 24579, 24577),
     ]
 }
 
 /// Slot 1 is used, slots 2 and 3 were retired in phase 1, and slot 3 is guarded. Then slot 1 is retired in phase 2, and
-/// slot 3 isn't guarded any more.
+/// slot 3 isn't guarded any more: it is pushed onto slot 2, and slot 1 onto it.
 #[test]
 fn two_sweeps_free_what_no_guard_names(rt: HostRuntime) {
     let shape = Shape::new(1, 3, 2, 1).expect(&rt, "the numbers are in range");
-    let mut words = row(1, 3, [5, 5, 6, 6]);
+    let mut words = row(1, 3, [5, 6, 6], [8192, 0, 0, 0]);
     assert!(rt; sweeps(&rt, &shape, 5, &mut words, &first_sweep()) == Some(SweepEnd::Swept));
-    assert!(rt; words == row(2, 3, [5, 5, 8, 6]));
-    words = row(2, 0, [5, 10, 8, 6]);
+    assert!(rt; words == row(2, 3, [5, 8, 6], [16386, 0, 0, 0]));
+    words = row(2, 0, [10, 8, 6], [16386, 0, 0, 0]);
     assert!(rt; sweeps(&rt, &shape, 5, &mut words, &second_sweep()) == Some(SweepEnd::Swept));
-    assert!(rt; words == row(3, 0, [5, 12, 8, 12]));
+    assert!(rt; words == row(3, 0, [12, 8, 12], [24577, 3, 0, 2]));
+}
+
+/// Slot 3 is on top when the head is loaded, and is claimed before the exchange; then the head has a greater phase than the
+/// sweep announces.
+#[test]
+fn push_begins_again_where_head_has_changed(rt: HostRuntime) {
+    let shape = Shape::new(1, 3, 2, 1).expect(&rt, "the numbers are in range");
+    let mut words = row(1, 0, [6, 5, 4], [8195, 0, 0, 0]);
+    let mut sweep = SweepState::begin();
+    let until_exchange = [
+        load(0),
+        exchange(0, 1, 2),
+        raise(2, 2),
+        load(3),
+        load(4),
+        load(5),
+        load(6),
+        load(7),
+        load(8),
+        load(9),
+        load(10),
+        load(14),
+        load(13),
+        load(12),
+        exchange(12, 6, 8),
+        load(24),
+        store(26, 3),
+    ];
+    assert!(rt; sweeps_on(&rt, &shape, 5, &mut sweep, &mut words, &until_exchange).is_none());
+    words = row(3, 0, [8, 12, 5], [24578, 3, 0, 0]);
+    let failed = [exchange(24, 8195, 16385), load(24), store(26, 2)];
+    assert!(rt; sweeps_on(&rt, &shape, 5, &mut sweep, &mut words, &failed).is_none());
+    assert!(rt; words == row(3, 0, [8, 12, 5], [24578, 2, 0, 0]));
+    let pushed = [exchange(24, 24578, 24577)];
+    assert!(rt;
+        sweeps_on(&rt, &shape, 5, &mut sweep, &mut words, &pushed) == Some(SweepEnd::Swept)
+    );
+    assert!(rt; words == row(3, 0, [8, 12, 5], [24577, 2, 0, 0]));
 }
 
 /// All hazards name slot 1 but the last, which names slot 2; slots 1 to 3 were retired in phase 1.
 #[test]
 fn sixty_four_hazards_are_gathered(rt: HostRuntime) {
     let shape = Shape::new(8, 3, 1, 1).expect(&rt, "the numbers are in range");
-    let mut words = [0; 90];
-    let mut expected = [load(0); 78];
+    let mut words = [0; 95];
+    let mut expected = [load(0); 81];
     words[0] = 1;
     expected[1] = exchange(0, 1, 2);
     for c in 0..8u32 {
@@ -113,80 +169,55 @@ fn sixty_four_hazards_are_gathered(rt: HostRuntime) {
     words[82] = 6;
     words[83] = 6;
     words[84] = 6;
-    expected[74] = load(82);
-    expected[75] = load(83);
-    expected[76] = load(84);
-    expected[77] = exchange(84, 6, 8);
+    words[90] = 8192;
+    expected[74] = load(84);
+    expected[75] = exchange(84, 6, 8);
+    expected[76] = load(90);
+    expected[77] = store(94, 0);
+    expected[78] = exchange(90, 8192, 16387);
+    expected[79] = load(83);
+    expected[80] = load(82);
     assert!(rt; sweeps(&rt, &shape, 5, &mut words, &expected) == Some(SweepEnd::Swept));
     assert_eq!(rt; words[0], 2);
     assert_eq!(rt; words[16], 2);
     assert_eq!(rt; words[82], 6);
     assert_eq!(rt; words[83], 6);
     assert_eq!(rt; words[84], 8);
+    assert_eq!(rt; words[90], 16387);
 }
 
-/// A look, which finds none of the three slots ready.
-fn put_look(accesses: &mut [Access; 37], at: usize)
-    requires { at ≤ 34 }
-{
-    accesses[at] = load(12);
-    accesses[at + 1] = load(13);
-    accesses[at + 2] = load(14);
+/// Slots 2 and 3 are chained; another claim takes slot 2 before the exchange.
+#[test]
+fn claims_go_down_the_chain(rt: HostRuntime) {
+    let shape = Shape::new(1, 3, 2, 1).expect(&rt, "the numbers are in range");
+    let mut words = row(1, 0, [5, 4, 4], [8194, 0, 3, 0]);
+    let mut late = ClaimState::begin(&shape);
+    let until_exchange = [load(24), load(27)];
+    assert!(rt; claims_on(&rt, &shape, 5, &mut late, &mut words, &until_exchange).is_none());
+    let whole = [load(24), load(27), exchange(24, 8194, 8195), store(13, 5)];
+    assert!(rt; claims(&rt, &shape, 5, &mut words, &whole) == Some(ClaimEnd::Claimed(2)));
+    assert!(rt; words == row(1, 0, [5, 5, 4], [8195, 0, 3, 0]));
+    let from_exchange = [
+        exchange(24, 8194, 8195),
+        load(24),
+        load(28),
+        exchange(24, 8195, 8192),
+        store(14, 5),
+    ];
+    assert!(rt;
+        claims_on(&rt, &shape, 5, &mut late, &mut words, &from_exchange)
+            == Some(ClaimEnd::Claimed(3))
+    );
+    assert!(rt; words == row(1, 0, [5, 5, 5], [8192, 0, 3, 0]));
 }
 
-/// A sweep after a phase, which finds no hazard and frees no slot.
-fn put_sweep(accesses: &mut [Access; 37], at: usize, phase: u64)
-    requires at { at ≤ 23 }
-    requires phase { phase ≤ 2 }
-{
-    accesses[at] = load(0);
-    accesses[at + 1] = exchange(0, phase, phase + 1);
-    accesses[at + 2] = raise(2, phase + 1);
-    for h in 0..8u32 {
-        accesses[at + 3 + h as usize] = load(3 + h);
-    }
-    put_look(accesses, at + 11);
-}
-
-/// The accesses of a claim that finds every slot used.
-fn vain_claim() -> [Access; 37] {
-    let mut accesses = [load(0); 37];
-    put_look(&mut accesses, 0);
-    put_sweep(&mut accesses, 3, 1);
-    put_look(&mut accesses, 17);
-    put_sweep(&mut accesses, 20, 2);
-    put_look(&mut accesses, 34);
-    accesses
-}
-
-/// A list whose three slots are used up: look, sweep, look, sweep, look.
+/// A list whose three slots are used up, so that none is on top: look, sweep, look, sweep, look.
 #[test]
 fn claim_of_a_full_list(rt: HostRuntime) {
     let shape = Shape::new(1, 3, 2, 1).expect(&rt, "the numbers are in range");
-    let mut words = row(1, 0, [5, 5, 5, 5]);
-    assert!(rt; claims(&rt, &shape, 1000, &mut words, &vain_claim()) == Some(ClaimEnd::Full));
-    assert!(rt; words == row(3, 0, [5, 5, 5, 5]));
-}
-
-/// Slots 2 and 3 were retired in the last phase.
-#[test]
-fn claim_when_phases_are_over(rt: HostRuntime) {
-    let shape = Shape::new(1, 3, 2, 1).expect(&rt, "the numbers are in range");
-    let mut words = row(2, 0, [5, 5, 10, 10]);
-    let expected = [load(12), load(13), load(14), load(0)];
-    assert!(rt; claims(&rt, &shape, 2, &mut words, &expected) == Some(ClaimEnd::PhasesOver(2)));
-    assert!(rt; words == row(2, 0, [5, 5, 10, 10]));
-}
-
-/// Slots 2 and 3 were retired in phase 1: the sweep makes both ready, and the look after it takes slot 2.
-#[test]
-fn claim_of_a_recycled_slot(rt: HostRuntime) {
-    let shape = Shape::new(1, 3, 2, 1).expect(&rt, "the numbers are in range");
-    let mut words = row(1, 0, [5, 5, 6, 6]);
+    let mut words = row(1, 0, [5, 5, 5], [8192, 0, 0, 0]);
     let expected = [
-        load(12),
-        load(13),
-        load(14),
+        load(24),
         load(0),
         exchange(0, 1, 2),
         raise(2, 2),
@@ -198,15 +229,74 @@ fn claim_of_a_recycled_slot(rt: HostRuntime) {
         load(8),
         load(9),
         load(10),
-        load(12),
+        load(14),
         load(13),
-        exchange(13, 6, 8),
+        load(12),
+        load(24),
+        load(0),
+        exchange(0, 2, 3),
+        raise(2, 3),
+        load(3),
+        load(4),
+        load(5),
+        load(6),
+        load(7),
+        load(8),
+        load(9),
+        load(10),
+        load(14),
+        load(13),
+        load(12),
+        load(24),
+    ];
+    assert!(rt; claims(&rt, &shape, 1000, &mut words, &expected) == Some(ClaimEnd::Full));
+    assert!(rt; words == row(3, 0, [5, 5, 5], [8192, 0, 0, 0]));
+}
+
+/// Slots 2 and 3 were retired in the last phase.
+#[test]
+fn claim_when_phases_are_over(rt: HostRuntime) {
+    let shape = Shape::new(1, 3, 2, 1).expect(&rt, "the numbers are in range");
+    let mut words = row(2, 0, [5, 10, 10], [8192, 0, 0, 0]);
+    let expected = [load(24), load(0)];
+    assert!(rt; claims(&rt, &shape, 2, &mut words, &expected) == Some(ClaimEnd::PhasesOver(2)));
+    assert!(rt; words == row(2, 0, [5, 10, 10], [8192, 0, 0, 0]));
+}
+
+/// Slots 2 and 3 were retired in phase 1: the sweep makes both ready, slot 2 ends on top, and the look after it takes that.
+#[test]
+fn claim_of_a_recycled_slot(rt: HostRuntime) {
+    let shape = Shape::new(1, 3, 2, 1).expect(&rt, "the numbers are in range");
+    let mut words = row(1, 0, [5, 6, 6], [8192, 0, 0, 0]);
+    let expected = [
+        load(24),
+        load(0),
+        exchange(0, 1, 2),
+        raise(2, 2),
+        load(3),
+        load(4),
+        load(5),
+        load(6),
+        load(7),
+        load(8),
+        load(9),
+        load(10),
         load(14),
         exchange(14, 6, 8),
-        load(12),
+        load(24),
+        store(28, 0),
+        exchange(24, 8192, 16387),
         load(13),
-        exchange(13, 8, 9),
+        exchange(13, 6, 8),
+        load(24),
+        store(27, 3),
+        exchange(24, 16387, 16386),
+        load(12),
+        load(24),
+        load(27),
+        exchange(24, 16386, 16387),
+        store(13, 9),
     ];
     assert!(rt; claims(&rt, &shape, 2, &mut words, &expected) == Some(ClaimEnd::Claimed(2)));
-    assert!(rt; words == row(2, 0, [5, 5, 9, 8]));
+    assert!(rt; words == row(2, 0, [5, 9, 8], [16387, 0, 3, 0]));
 }

@@ -1,10 +1,10 @@
 //! Routines that run alone on the words of a row, against the accesses that they have to make.
 
 ghost use Rattle.std.specs.Prelude.{◌≡◌, ◌≤◌, ◌^◌, IsTrue};
-ghost use Rattle.phase_pools.specs.Ranges.{SweepInRange, ClaimInRange, IsStatus};
+ghost use Rattle.phase_pools.specs.Ranges.{SweepInRange, ClaimInRange, IsStatus, IsHead};
 ghost use Rattle.pool_tests.specs.Told.{address_in, IsTold};
 
-use oa_words::packed::status_parts;
+use oa_words::packed::{head_parts, status_parts};
 use oa_words::shape::Shape;
 use phase_pools::access::{Access, ClaimEnd, SweepEnd};
 use phase_pools::claim::ClaimState;
@@ -51,6 +51,14 @@ fn is_status(last_phase: u64, word: u64) -> bool
     }
 }
 
+fn is_head(shape: &Shape, last_phase: u64, word: u64) -> bool
+    ensures { IsTrue result → IsHead shape.now last_phase word }
+{
+    let slots = shape.slots();
+    let (phase, top) = head_parts(word);
+    phase <= last_phase && top <= slots as u64
+}
+
 /// Whether a routine may be told the word, by the address at which it stands.
 fn is_told(shape: &Shape, last_phase: u64, at: u32, word: u64) -> bool
     ensures { IsTrue result → IsTold shape.now last_phase at word }
@@ -63,7 +71,13 @@ fn is_told(shape: &Shape, last_phase: u64, at: u32, word: u64) -> bool
     if at <= 10 * callers {
         return word <= slots as u64;
     }
-    is_status(last_phase, word)
+    if at <= 10 * callers + (slots + 1) {
+        return is_status(last_phase, word);
+    }
+    if at == shape.head_at() {
+        return is_head(shape, last_phase, word);
+    }
+    word <= slots as u64
 }
 
 /// The word at an address; the program stops where there is none, or a routine may not be told it.
@@ -95,7 +109,7 @@ fn sweep_step(
     words: &mut [u64],
     expected: Access,
 ) -> Option<SweepEnd>
-    requires last { last_phase ≤ 2 ^ 61 }
+    requires last { last_phase ≤ 2 ^ 50 }
     requires range { SweepInRange shape.now sweep.old.stage }
     ensures { SweepInRange shape.now sweep.new.stage }
 {
@@ -116,7 +130,7 @@ fn claim_step(
     words: &mut [u64],
     expected: Access,
 ) -> Option<ClaimEnd>
-    requires last { last_phase ≤ 2 ^ 61 }
+    requires last { last_phase ≤ 2 ^ 50 }
     requires range { ClaimInRange shape.now claim.old.sweep claim.old.stage }
     ensures { ClaimInRange shape.now claim.new.sweep claim.new.stage }
 {
@@ -127,6 +141,27 @@ fn claim_step(
     claim.accept(shape, last_phase, found)
 }
 
+/// A sweep goes on with the expected accesses, and ends with the last of them, or not yet.
+pub(crate) fn sweeps_on(
+    rt: &impl Abort,
+    shape: &Shape,
+    last_phase: u64,
+    sweep: &mut SweepState,
+    words: &mut [u64],
+    expected: &[Access],
+) -> Option<SweepEnd>
+    requires last { last_phase ≤ 2 ^ 50 }
+    requires range { SweepInRange shape.now sweep.old.stage }
+    ensures { SweepInRange shape.now sweep.new.stage }
+{
+    let mut end = None;
+    for access in expected {
+        assert!(rt; end.is_none());
+        end = sweep_step(rt, shape, last_phase, sweep, words, *access);
+    }
+    end
+}
+
 /// A whole sweep makes the expected accesses, and ends with the last of them.
 pub(crate) fn sweeps(
     rt: &impl Abort,
@@ -135,13 +170,29 @@ pub(crate) fn sweeps(
     words: &mut [u64],
     expected: &[Access],
 ) -> Option<SweepEnd>
-    requires { last_phase ≤ 2 ^ 61 }
+    requires { last_phase ≤ 2 ^ 50 }
 {
     let mut sweep = SweepState::begin();
+    sweeps_on(rt, shape, last_phase, &mut sweep, words, expected)
+}
+
+/// A claim goes on with the expected accesses, and ends with the last of them, or not yet.
+pub(crate) fn claims_on(
+    rt: &impl Abort,
+    shape: &Shape,
+    last_phase: u64,
+    claim: &mut ClaimState,
+    words: &mut [u64],
+    expected: &[Access],
+) -> Option<ClaimEnd>
+    requires last { last_phase ≤ 2 ^ 50 }
+    requires range { ClaimInRange shape.now claim.old.sweep claim.old.stage }
+    ensures { ClaimInRange shape.now claim.new.sweep claim.new.stage }
+{
     let mut end = None;
     for access in expected {
         assert!(rt; end.is_none());
-        end = sweep_step(rt, shape, last_phase, &mut sweep, words, *access);
+        end = claim_step(rt, shape, last_phase, claim, words, *access);
     }
     end
 }
@@ -154,13 +205,8 @@ pub(crate) fn claims(
     words: &mut [u64],
     expected: &[Access],
 ) -> Option<ClaimEnd>
-    requires { last_phase ≤ 2 ^ 61 }
+    requires { last_phase ≤ 2 ^ 50 }
 {
     let mut claim = ClaimState::begin(shape);
-    let mut end = None;
-    for access in expected {
-        assert!(rt; end.is_none());
-        end = claim_step(rt, shape, last_phase, &mut claim, words, *access);
-    }
-    end
+    claims_on(rt, shape, last_phase, &mut claim, words, expected)
 }

@@ -1,6 +1,8 @@
-//! Addresses, references, statuses and shapes.
+//! Addresses, references, statuses, heads and shapes.
 
-use oa_words::packed::{Kind, is_marked, ref_word, slot_part, status_parts, status_word};
+use oa_words::packed::{
+    Kind, head_parts, head_word, is_marked, ref_word, slot_part, status_parts, status_word,
+};
 use oa_words::shape::{Shape, ShapeFault};
 
 /// A row of 1 caller, 3 slots, 2 fields and 1 cell.
@@ -19,7 +21,18 @@ fn words_stand_where_the_layout_says(rt: HostRuntime) {
     assert_eq!(rt; shape.status_at(1), 12);
     assert_eq!(rt; shape.field_at(2, 1), 20);
     assert_eq!(rt; shape.cell_at(0), 23);
-    assert_eq!(rt; shape.word_count(), 24);
+    assert_eq!(rt; shape.head_at(), 24);
+    assert_eq!(rt; shape.link_at(0), 25);
+    assert_eq!(rt; shape.link_at(3), 28);
+    assert_eq!(rt; shape.word_count(), 29);
+}
+
+/// No row has more than 25,000 words.
+#[test]
+fn greatest_row_has_so_many_words(rt: HostRuntime) {
+    let shape = Shape::new(8, 4096, 4, 256).expect(&rt, "the numbers are in range");
+    assert_eq!(rt; shape.head_at(), 20822);
+    assert_eq!(rt; shape.word_count(), 24920);
 }
 
 #[test]
@@ -33,6 +46,16 @@ fn references_and_statuses_are_packed(rt: HostRuntime) {
     assert!(rt; status_parts(28) == Some((7, Kind::Ready)));
     assert!(rt; status_parts(29) == Some((7, Kind::Used)));
     assert!(rt; status_parts(7).is_none());
+}
+
+#[test]
+fn heads_are_packed(rt: HostRuntime) {
+    assert_eq!(rt; head_word(3, 2), 24578);
+    assert!(rt; head_parts(24578) == (3, 2));
+    assert_eq!(rt; head_word(1, 0), 8192);
+    assert!(rt; head_parts(8192) == (1, 0));
+    assert_eq!(rt; head_word(1125899906842624, 4096), 9223372036854779904);
+    assert!(rt; head_parts(9223372036854779904) == (1125899906842624, 4096));
 }
 
 fn fault_of(callers: u64, slots: u64, fields: u64, cells: u64) -> Option<ShapeFault> {

@@ -70,11 +70,11 @@ module _ (document : Document) (runs : IsRunnable document) where
   phased : (are_phases document.first document.last ≡ true) × (first_of rest ≡ None)
   phased = passed 6 (are_phases document.first document.last) rest filled.1
 
-  first : (1 ≤ document.first) × ((nat_le document.first document.last && nat_le document.last (2 ^ 61)) ≡ true)
-  first = let parts = both_true (nat_le 1 document.first) (nat_le document.first document.last && nat_le document.last (2 ^ 61)) phased.0 in (at_most 1 document.first parts.0, parts.1)
+  first : (1 ≤ document.first) × ((nat_le document.first document.last && nat_le document.last (2 ^ 50)) ≡ true)
+  first = let parts = both_true (nat_le 1 document.first) (nat_le document.first document.last && nat_le document.last (2 ^ 50)) phased.0 in (at_most 1 document.first parts.0, parts.1)
 
-  later : (document.first ≤ document.last) × (document.last ≤ 2 ^ 61)
-  later = let parts = both_true (nat_le document.first document.last) (nat_le document.last (2 ^ 61)) first.1 in (at_most document.first document.last parts.0, at_most document.last (2 ^ 61) parts.1)
+  later : (document.first ≤ document.last) × (document.last ≤ 2 ^ 50)
+  later = let parts = both_true (nat_le document.first document.last) (nat_le document.last (2 ^ 50)) first.1 in (at_most document.first document.last parts.0, at_most document.last (2 ^ 50) parts.1)
 
   pub setting_is : IsSetting (setting_of document)
   setting_is = record { sizes = sizes; first = first.0; phases = later.0; last = later.1; nodes = nodes }

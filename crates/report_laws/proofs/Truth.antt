@@ -102,7 +102,7 @@ module _ (document : Document) (events : List CoreEvent) (state : CoreState) (co
       runs_on = let parts = runs_true (is_idle e.routine) i (length (map reply_of e.replies)) is in record { busy = parts.0; last = parts.1 ∙ length-map e.replies reply_of }
 
       neither : FoundNeither setting (steps_of_call target setting events c i)
-      neither = running_found target setting own.sizes.2 events state runs c e there caused i runs_on
+      neither = running_found target setting events state runs c e there caused i runs_on
     untold none false is = record {
       phases = λ p. ((λ z. absurd cc), (λ found. absurd (neither.phases p found)));
       full = ((λ z. absurd cc), (λ failed. absurd (neither.full failed)));
@@ -113,10 +113,10 @@ module _ (document : Document) (events : List CoreEvent) (state : CoreState) (co
       stopped on = runs_false (is_idle e.routine) i (length (map reply_of e.replies)) is on.busy (on.last ∙ sym (length-map e.replies reply_of))
 
       never : slice_get (calls_in c events) i ≡ None
-      never = never_taken target setting own.sizes.2 events state runs c e there i none stopped
+      never = never_taken target setting events state runs c e there i none stopped
 
       neither : FoundNeither setting (steps_of_call target setting events c i)
-      neither = finds_nothing target setting own.sizes.2 events state runs c e there i never
+      neither = finds_nothing target setting events state runs c e there i never
 
     true_answer : IsTrueAnswer document events state c i (answer_in state c i)
     true_answer = subst (IsTrueAnswer document events state c i) (sym (answer_is state c e there i)) (of (slice_get e.replies i) refl) where

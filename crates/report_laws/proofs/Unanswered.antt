@@ -1,5 +1,5 @@
 -- A call without a reply has found neither cause of one, also where it was never taken.
-use Rattle.std.proofs.Common.{◌≡◌, inl, inr, ◌≤◌, ℕ, zero, suc, Bool, true, false, List, [], ◌∷◌, ◌++◌, length, map, Some, None, refl, sym, ap, ◌∙◌, subst, arith}
+use Rattle.std.proofs.Common.{◌≡◌, ℕ, zero, suc, Bool, true, false, List, [], ◌∷◌, ◌++◌, length, map, Some, None, refl, sym, ap, ◌∙◌, subst}
 use Rattle.std.specs.Prelude.{slice_get, slice_index_or}
 use Rattle.target_code.specs.declared.target.Target.{Target}
 use Rattle.caller_parts.specs.declared.call.Replied.{Replied}
@@ -11,20 +11,14 @@ use Rattle.core_runs.specs.Machine.{CoreState, CoreEvent, core_run, core_start}
 use Rattle.core_runs.specs.Histories.{running_of, calls_of, calls_in}
 use Rattle.core_runs.proofs.Keeping.{kept_calls}
 use Rattle.claim_laws.specs.CallSteps.{StepMade, call_steps, steps_of_call, count_of}
-use Rattle.claim_laws.specs.Causes.{FoundNeither, IsTriedInVain, EndsInVain, RepliesAreCaused}
+use Rattle.claim_laws.specs.Causes.{FoundNeither, RepliesAreCaused}
 use Rattle.claim_laws.proofs.Lasts.{never_nil}
 use Rattle.claim_laws.proofs.Stepping.{steps_are_counted}
 use Rattle.report_laws.specs.Fuel.{RunsStill}
 
 -- no steps find nothing
-nothing_found : (setting : Setting) → 1 ≤ setting.sizes.slots → FoundNeither setting []
-nothing_found setting some = record { phases = λ p found. never_nil found.before found.step found.later found.among; full = λ failed. of setting.sizes.slots some failed } where
-  of : (n : ℕ) → 1 ≤ n → EndsInVain n [] → ⊥
-  of zero le vain = omega (arith, le)
-  of (suc n) le vain = tried vain.0 vain.1 vain.2 vain.4 where
-    tried : (before last : List StepMade) → [] ≡ before ++ last → IsTriedInVain (suc n) last → ⊥
-    tried before last is (inl f) = never_nil before f.load [] (is ∙ ap (λ (l : List StepMade). before ++ l) f.only)
-    tried before last is (inr f) = never_nil before f.load (f.exchange ∷ []) (is ∙ ap (λ (l : List StepMade). before ++ l) f.only)
+nothing_found : (setting : Setting) → FoundNeither setting []
+nothing_found setting = record { phases = λ p found. never_nil found.before found.step found.later found.among; full = λ failed. never_nil failed.0 failed.1 [] failed.2 }
 
 -- past those that have a reply, and the one that runs, an entry keeps no call
 none_idle : (xs : List Replied) (i : ℕ) → slice_get xs i ≡ None → slice_get (map run_of xs ++ []) i ≡ None
@@ -48,7 +42,7 @@ no_steps (x ∷ xs) [] i same none = absurd (let z : count_of x ∷ map count_of
 no_steps (x ∷ xs) (y ∷ ys) zero same none = absurd (let z : Some y ≡ None = none in cc)
 no_steps (x ∷ xs) (y ∷ ys) (suc i) same none = no_steps xs ys i (let z : count_of x ∷ map count_of xs ≡ y.steps ∷ map steps_counted ys = same in cc) none
 
-module _ (target : Target) (setting : Setting) (some : 1 ≤ setting.sizes.slots) (events : List CoreEvent) (state : CoreState) (runs : core_run target setting events (core_start target setting) ≡ Some state)
+module _ (target : Target) (setting : Setting) (events : List CoreEvent) (state : CoreState) (runs : core_run target setting events (core_start target setting) ≡ Some state)
     (c : ℕ) (e : Entry) (there : slice_get state.entries c ≡ Some e) where
   kept : calls_of e ≡ calls_in c events
   kept = kept_calls target setting events state c e runs there
@@ -62,7 +56,7 @@ module _ (target : Target) (setting : Setting) (some : 1 ≤ setting.sizes.slots
 
   pub finds_nothing : (i : ℕ) → slice_get (calls_in c events) i ≡ None → FoundNeither setting (steps_of_call target setting events c i)
   finds_nothing i none = subst (FoundNeither setting)
-      (sym (no_steps (call_steps target setting events c) (calls_in c events) i ((steps_are_counted target setting).each events state c runs) none)) (nothing_found setting some)
+      (sym (no_steps (call_steps target setting events c) (calls_in c events) i ((steps_are_counted target setting).each events state c runs) none)) (nothing_found setting)
 
   pub running_found : RepliesAreCaused target setting → (i : ℕ) → RunsStill e i → FoundNeither setting (steps_of_call target setting events c i)
   running_found caused i still = subst (λ (j : ℕ). FoundNeither setting (steps_of_call target setting events c j)) (sym still.last) (caused.running events state c e runs there still.busy)

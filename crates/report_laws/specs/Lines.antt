@@ -29,12 +29,11 @@ steps_for document events caller index = steps_of_call (target_of document) (set
 abbrev pub WasNeverTaken : List CoreEvent → ℕ → ℕ → Type 0
 WasNeverTaken events caller index = slice_get (calls_in caller events) index ≡ None
 
--- why a call has no result, each exactly where this is so: a sweep of the call found the last phase; its claim made two sweeps, and
--- then found each slot not ready or lost its exchange; all the steps that it may make were made, and it hasn't ended; or its caller
--- never took it
+-- why a call has no result, each exactly where this is so: a sweep of the call found the last phase; its claim made two sweeps, and then
+-- found no slot on top; all the steps that it may make were made, and it hasn't ended; or its caller never took it
 pub record IsTrueAnswer (document : Document) (events : List CoreEvent) (state : CoreState) (caller index : ℕ) (answer : Answer) : Type 0 where
   pub phases : (p : ℕ) → (answer ≡ answers.Replied (replies.Phases p)) ↔ FoundLastPhase (setting_of document) p (steps_for document events caller index)
-  pub full : (answer ≡ answers.Replied replies.Full) ↔ EndsInFailedLook (setting_of document) (steps_for document events caller index)
+  pub full : (answer ≡ answers.Replied replies.Full) ↔ EndsInFailedLook (steps_for document events caller index)
   pub spent : (answer ≡ answers.Spent) ↔ IsOutOfFuel document.fuel events state caller index
   pub unreached : (answer ≡ answers.Unreached) ↔ WasNeverTaken events caller index
 

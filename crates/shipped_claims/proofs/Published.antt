@@ -1,5 +1,5 @@
 -- Along a run: where no wrap-up leads to `again` after an exchange has succeeded, a call that has published a node doesn't begin again.
-use Rattle.std.proofs.Common.{◌≡◌, ◌≢◌, ◌⊎◌, inl, inr, ⊎_elim, ℕ, ◌≤◌, ◌<◌, true, false, List, [], ◌∷◌, ◌++◌, length, set, Option, Some, None, refl, sym, ◌∙◌, ap, subst, arith, get_or-set_same, get_or-set_other}
+use Rattle.std.proofs.Common.{◌≡◌, ◌≢◌, ◌⊎◌, inl, inr, ⊎_elim, ℕ, ◌≤◌, ◌<◌, Bool, true, false, List, [], ◌∷◌, ◌++◌, length, set, Option, Some, None, refl, sym, ◌∙◌, ap, subst, arith, get_or-set_same, get_or-set_other}
 use Rattle.std.specs.Prelude.{slice_index}
 use Rattle.std.proofs.lemmas.Bool.{cases_lt}
 use Rattle.std.proofs.lemmas.List.{get_or_past}
@@ -11,7 +11,7 @@ use Rattle.target_code.specs.declared.target.Target.{Target}
 use Rattle.target_runs.specs.Runnable.{IsRunnable}
 use Rattle.phase_pools.specs.declared.access.ClaimEnd.{ClaimEnd}
 use Rattle.phase_pools.specs.declared.access.ClaimEnd.TheVariants as ends
-use Rattle.phase_pools.specs.Pools.{Claim, ClaimTurn, claim_accepts}
+use Rattle.phase_pools.specs.Pools.{Claim, ClaimTurn, claim_accepts, claim_takes}
 use Rattle.caller_parts.specs.declared.routine.MethodStart.TheVariants as starts
 use Rattle.caller_parts.specs.declared.routine.AfterRetire.TheVariants as retires
 use Rattle.caller_parts.specs.declared.routine.Routine.{Routine}
@@ -20,7 +20,7 @@ use Rattle.caller_parts.specs.Settings.{Setting, Fits, IsSetting}
 use Rattle.caller_steps.specs.Entries.{Entry, is_idle, cradle_of, new_number}
 use Rattle.caller_parts.specs.Operands.{code_at}
 use Rattle.caller_steps.specs.Signs.{Moved}
-use Rattle.caller_steps.specs.After.{after, counted, claim_on}
+use Rattle.caller_steps.specs.After.{after, claim_counted, counted, claim_on}
 use Rattle.caller_steps.specs.Belongs.{Belongs}
 use Rattle.core_runs.specs.Machine.{found_by}
 use Rattle.caller_laws.proofs.Equations.{after_is, moved_claims}
@@ -49,11 +49,11 @@ module _ (target : Target) (setting : Setting) (e : Entry) (word : ℕ) where
   leaves_cradles same p = p.1 (sym (ap (λ (l : List ℕ). slice_index l p.0) same) ∙ p.2)
 
   -- a claim fills a cradle, and empties none
-  claim_fills : (next : Claim) (o : Option ClaimEnd) (k : ℕ) → ClaimOn setting o next → cradle_of e k ≢ 0 → cradle_of (claim_on target next o (counted e)).entry k ≡ 0 → ⊥
-  claim_fills next None k on full empty = full empty
-  claim_fills next (Some ends.Full) k on full empty = full empty
-  claim_fills next (Some (ends.PhasesOver p)) k on full empty = full empty
-  claim_fills next (Some (ends.Claimed j)) k on full empty = dite (ℕ_discrete k n)
+  claim_fills : (takes : Bool) (next : Claim) (o : Option ClaimEnd) (k : ℕ) → ClaimOn setting o next → cradle_of e k ≢ 0 → cradle_of (claim_on target next o (claim_counted takes (counted e))).entry k ≡ 0 → ⊥
+  claim_fills takes next None k on full empty = full empty
+  claim_fills takes next (Some ends.Full) k on full empty = full empty
+  claim_fills takes next (Some (ends.PhasesOver p)) k on full empty = full empty
+  claim_fills takes next (Some (ends.Claimed j)) k on full empty = dite (ℕ_discrete k n)
       (λ (q : k ≡ n).
       let inside : n < length e.cradles = below (λ past. full (ap (λ (i : ℕ). slice_index e.cradles i) q ∙ get_or_past e.cradles n 0 past)) in
       let held : slice_index (set e.cradles n j) n ≡ j = get_or-set_same e.cradles n j 0 inside in
@@ -70,8 +70,8 @@ module _ (target : Target) (setting : Setting) (e : Entry) (word : ℕ) where
   claim_publishes : (claim : Claim) → e.routine ≡ Claims claim → (let turn = claim_accepts setting.sizes setting.last claim word in ClaimOn setting turn.ended turn.claim) → Publishes target setting made → ⊥
   claim_publishes claim is on p =
       let turn : ClaimTurn = claim_accepts setting.sizes setting.last claim word in
-      let later_is : later ≡ (claim_on target turn.claim turn.ended (counted e)).entry = after_is target setting e word ∙ ap (λ (m : Moved). m.entry) (moved_claims target setting e word claim is) in
-      claim_fills turn.claim turn.ended p.0 on p.1 (sym (ap (λ (x : Entry). cradle_of x p.0) later_is) ∙ p.2)
+      let later_is : later ≡ (claim_on target turn.claim turn.ended (claim_counted (claim_takes claim word) (counted e))).entry = after_is target setting e word ∙ ap (λ (m : Moved). m.entry) (moved_claims target setting e word claim is) in
+      claim_fills (claim_takes claim word) turn.claim turn.ended p.0 on p.1 (sym (ap (λ (x : Entry). cradle_of x p.0) later_is) ∙ p.2)
 
   -- only a list publishes
   lists_publish : is_idle e.routine ≡ false → ((claim : Claim) → e.routine ≡ Claims claim → (let turn = claim_accepts setting.sizes setting.last claim word in ClaimOn setting turn.ended turn.claim))

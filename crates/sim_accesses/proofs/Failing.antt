@@ -11,7 +11,7 @@ use Rattle.norm_lang.specs.Local.{Spot}
 use Rattle.target_code.specs.declared.target.TargetInstr.TheVariants.{Plain}
 use Rattle.target_code.specs.Erasing.{source_place}
 use Rattle.oa_words.specs.Words.{Word, FieldOf, Cell}
-use Rattle.core_runs.specs.Memories.{store}
+use Rattle.oa_words.specs.Memories.{store}
 use Rattle.phase_pools.specs.Accesses.{word_of}
 use Rattle.source_machine.specs.declared.event.SourceEvent.TheVariants as events
 use Rattle.source_machine.specs.Memory.{exchange, auxiliary}

@@ -21,7 +21,7 @@ use Rattle.norm_lang.specs.RegisterUse.{reads, destination}
 use Rattle.target_code.specs.declared.target.TargetInstr.TheVariants.{Plain}
 use Rattle.target_code.specs.Erasing.{source_place, redirected}
 use Rattle.oa_words.specs.Words.{Word, FieldOf, Cell}
-use Rattle.core_runs.specs.Memories.{store}
+use Rattle.oa_words.specs.Memories.{store}
 use Rattle.oa_words.specs.Packed.{ref_word, slot_part, is_marked}
 use Rattle.phase_pools.specs.Accesses.{Loads}
 use Rattle.source_machine.specs.declared.event.SourceEvent.TheVariants as events

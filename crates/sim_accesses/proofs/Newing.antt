@@ -5,8 +5,8 @@ use Rattle.norm_lang.specs.declared.text.Reg.TheVariants.{Ref}
 use Rattle.norm_lang.specs.declared.text.Instr.TheVariants as instr
 use Rattle.target_code.specs.declared.target.TargetInstr.{TargetInstr}
 use Rattle.target_code.specs.declared.target.TargetInstr.TheVariants.{Plain}
-use Rattle.oa_words.specs.Words.{Word, Phase, Place, Warning, Hazard, Status, FieldOf, Cell}
-use Rattle.core_runs.specs.Memories.{store}
+use Rattle.oa_words.specs.Words.{Word, Phase, Place, Warning, Hazard, Status, FieldOf, Cell, Head, Link}
+use Rattle.oa_words.specs.Memories.{store}
 use Rattle.guard_words.specs.Guards.{guard_at, with_guard}
 use Rattle.target_code.specs.Keeping.{keeps}
 use Rattle.source_machine.specs.MethodRuns.{put}
@@ -52,6 +52,8 @@ twice_word m j g (Warning c) = refl
 twice_word m j g (Hazard c r) = refl
 twice_word m j g (Status i) = refl
 twice_word m j g (Cell x) = refl
+twice_word m j g Head = refl
+twice_word m j g (Link i) = refl
 
 twice : (m : Word → ℕ) (j g : ℕ) → store (store m (FieldOf j g) 0) (FieldOf j g) 0 ≡ store m (FieldOf j g) 0
 twice m j g = λ i v. twice_word m j g v i

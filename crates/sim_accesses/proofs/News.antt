@@ -14,7 +14,7 @@ use Rattle.target_code.specs.declared.target.TargetInstr.TheVariants.{Plain}
 use Rattle.target_code.specs.Erasing.{source_place}
 use Rattle.target_code.specs.Flaws.{GuardState, dropped, guard_after}
 use Rattle.oa_words.specs.Words.{FieldOf}
-use Rattle.core_runs.specs.Memories.{store}
+use Rattle.oa_words.specs.Memories.{store}
 use Rattle.source_machine.specs.declared.event.SourceEvent.TheVariants as events
 use Rattle.source_machine.specs.MethodRuns.{put, with_name}
 use Rattle.source_machine.specs.Proper.{has}

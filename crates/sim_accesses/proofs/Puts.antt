@@ -13,7 +13,7 @@ use Rattle.norm_lang.specs.RegisterUse.{reads}
 use Rattle.target_code.specs.declared.target.TargetInstr.TheVariants.{Plain}
 use Rattle.target_code.specs.Erasing.{source_place}
 use Rattle.oa_words.specs.Words.{FieldOf}
-use Rattle.core_runs.specs.Memories.{store}
+use Rattle.oa_words.specs.Memories.{store}
 use Rattle.source_machine.specs.declared.event.SourceEvent.TheVariants as events
 use Rattle.source_machine.specs.declared.state.Value.{Value}
 use Rattle.source_machine.specs.Memory.{value_in, blank_fields, fields_named}

@@ -7,7 +7,7 @@ use Rattle.norm_lang.specs.declared.text.FieldDecl.{FieldDecl}
 use Rattle.norm_lang.specs.declared.text.FieldKind.{FieldKind}
 use Rattle.norm_lang.specs.declared.text.FieldKind.TheVariants as field_kinds
 use Rattle.oa_words.specs.Words.{Status, FieldOf}
-use Rattle.core_runs.specs.Memories.{store}
+use Rattle.oa_words.specs.Memories.{store}
 use Rattle.source_machine.specs.declared.state.Value.{Value}
 use Rattle.source_machine.specs.declared.state.NamedNode.{NamedNode}
 use Rattle.source_machine.specs.Memory.{value_at, fields_named, blank_of, blank_field, blank_fields}

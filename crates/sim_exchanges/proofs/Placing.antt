@@ -12,7 +12,7 @@ use Rattle.norm_lang.specs.declared.registers.Registers.{Registers}
 use Rattle.norm_lang.specs.InstructionRules.{place_kind}
 use Rattle.norm_lang.specs.Registers.{reference_in}
 use Rattle.oa_words.specs.Words.{Word, FieldOf, Cell}
-use Rattle.core_runs.specs.Memories.{store}
+use Rattle.oa_words.specs.Memories.{store}
 use Rattle.phase_pools.specs.Accesses.{word_of}
 use Rattle.source_machine.specs.declared.state.Value.{Value}
 use Rattle.source_machine.specs.declared.state.Value.TheVariants.{Number, Node}

@@ -4,7 +4,7 @@ use Rattle.std.specs.Prelude.{option_map, unwrap_or}
 use Rattle.std.proofs.lemmas.Bool.{cases_eq}
 use Rattle.std.proofs.lemmas.Bool.Decides.{nat_tests, eqb_tells}
 use Rattle.oa_words.specs.Words.{Phase, Status, FieldOf, Cell}
-use Rattle.core_runs.specs.Memories.{store}
+use Rattle.oa_words.specs.Memories.{store}
 use Rattle.source_machine.specs.declared.state.Value.{Value}
 use Rattle.source_machine.specs.declared.state.Memory.{Memory}
 use Rattle.source_machine.specs.Memory.{value_at, fields_named, with_field}

@@ -6,7 +6,7 @@ use Rattle.norm_lang.specs.declared.text.Reg.TheVariants.{Ref}
 use Rattle.norm_lang.specs.Local.{Spot}
 use Rattle.target_code.specs.declared.target.TargetInstr.TheVariants.{Check, Guard}
 use Rattle.oa_words.specs.Words.{Warning, Hazard}
-use Rattle.core_runs.specs.Memories.{store}
+use Rattle.oa_words.specs.Memories.{store}
 use Rattle.caller_steps.specs.Entries.{one_more}
 use Rattle.caller_parts.specs.Operands.{slot_in}
 use Rattle.caller_steps.specs.After.{counted, checked, check_passed, check_failed, guarded}

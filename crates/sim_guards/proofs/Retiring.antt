@@ -8,7 +8,7 @@ use Rattle.norm_lang.specs.Local.{Spot}
 use Rattle.target_code.specs.declared.target.TargetInstr.TheVariants.{Plain}
 use Rattle.oa_words.specs.declared.packed.Kind.TheVariants as kinds
 use Rattle.oa_words.specs.Words.{Phase, Status}
-use Rattle.core_runs.specs.Memories.{store}
+use Rattle.oa_words.specs.Memories.{store}
 use Rattle.oa_words.specs.Packed.{status_word}
 use Rattle.phase_pools.specs.declared.stages.RetireStage.TheVariants as retires
 use Rattle.source_machine.specs.MethodRuns.{put}

@@ -9,7 +9,7 @@ use Rattle.target_code.specs.declared.target.TargetOp.{TargetOp}
 use Rattle.target_code.specs.Erasing.{erased_op}
 use Rattle.target_code.specs.Keeping.{keeps}
 use Rattle.oa_words.specs.Words.{Word, Hazard}
-use Rattle.core_runs.specs.Memories.{store}
+use Rattle.oa_words.specs.Memories.{store}
 use Rattle.guard_words.specs.Guards.{is_spared}
 use Rattle.caller_parts.specs.declared.routine.AfterClear.{AfterClear}
 use Rattle.caller_parts.specs.declared.routine.AfterClear.TheVariants as clears

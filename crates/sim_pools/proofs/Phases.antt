@@ -1,7 +1,7 @@
--- Steps that raise the phase or a warning.
-use Rattle.std.proofs.Common.{ℕ, ◌≤◌, arith, inl, refl, max}
-use Rattle.oa_words.specs.Words.{Phase, Warning}
-use Rattle.core_runs.specs.Memories.{store}
+-- Steps that raise the phase or a warning, or store a word of the chain.
+use Rattle.std.proofs.Common.{ℕ, ◌≡◌, ◌≤◌, arith, inl, refl, max}
+use Rattle.oa_words.specs.Words.{Word, Phase, Place, Warning, Hazard, Status, FieldOf, Cell, Head, Link}
+use Rattle.oa_words.specs.Memories.{store}
 use Rattle.sim_relation.specs.Views.{Plan, Shared}
 use Rattle.sim_relation.specs.Shared.{SharedHolds}
 use Rattle.sim_relation.specs.Steps.{GoesForAll}
@@ -74,6 +74,82 @@ pub goes_warning : (t : Plan) (s : Shared) (x p : ℕ) → GoesForAll t s (with_
 goes_warning t s x p y = record {
   phase = omega arith;
   warning = warning_up t s x p;
+  tag = λ n q is. inl is;
+  public = λ n is. is;
+  link = λ n g. inl refl;
+  hazard = λ d r ne. refl;
+  protects = λ d r ne. refl;
+  validated = λ r q some. inl refl;
+  held = λ j d k ne is. (is, refl, (λ g. refl));
+  retiring = λ j d ne is. (is, refl, refl);
+}
+
+-- the head and the links of one memory, and all other words of another
+abbrev pub chain_words : (Word → ℕ) → (Word → ℕ) → Word → ℕ
+chain_words memory chain Phase = memory Phase
+chain_words memory chain (Place c) = memory (Place c)
+chain_words memory chain (Warning c) = memory (Warning c)
+chain_words memory chain (Hazard c r) = memory (Hazard c r)
+chain_words memory chain (Status j) = memory (Status j)
+chain_words memory chain (FieldOf j g) = memory (FieldOf j g)
+chain_words memory chain (Cell x) = memory (Cell x)
+chain_words memory chain Head = chain Head
+chain_words memory chain (Link j) = chain (Link j)
+
+abbrev pub with_chain : Shared → (Word → ℕ) → Shared
+with_chain s chain = record s { memory = chain_words s.memory chain }
+
+pub head_stored : (m : Word → ℕ) (n : ℕ) → chain_words m (store m Head n) ≡ store m Head n
+head_stored m n = λ i w. at w i where
+  at : (w : Word) → chain_words m (store m Head n) w ≡ store m Head n w
+  at Phase = refl
+  at (Place c) = refl
+  at (Warning c) = refl
+  at (Hazard c r) = refl
+  at (Status j) = refl
+  at (FieldOf j g) = refl
+  at (Cell x) = refl
+  at Head = refl
+  at (Link j) = refl
+
+pub link_stored : (m : Word → ℕ) (k n : ℕ) → chain_words m (store m (Link k) n) ≡ store m (Link k) n
+link_stored m k n = λ i w. at w i where
+  at : (w : Word) → chain_words m (store m (Link k) n) w ≡ store m (Link k) n w
+  at Phase = refl
+  at (Place c) = refl
+  at (Warning c) = refl
+  at (Hazard c r) = refl
+  at (Status j) = refl
+  at (FieldOf j g) = refl
+  at (Cell x) = refl
+  at Head = refl
+  at (Link j) = refl
+
+-- nothing that is shared speaks of the chain
+pub fine_chain : (t : Plan) (s : Shared) (chain : Word → ℕ) → SharedHolds t s → SharedHolds t (with_chain s chain)
+fine_chain t s chain f = record {
+  warning = f.warning;
+  tag = f.tag;
+  tagged = f.tagged;
+  slot = f.slot;
+  home = f.home;
+  none_there = f.none_there;
+  null_stays = f.null_stays;
+  gone = f.gone;
+  public = f.public;
+  placed = f.placed;
+  store = f.store;
+  guard = f.guard;
+  mine = f.mine;
+  unused = f.unused;
+  unused_some = f.unused_some;
+  typed = f.typed;
+}
+
+pub goes_chain : (t : Plan) (s : Shared) (chain : Word → ℕ) → GoesForAll t s (with_chain s chain)
+goes_chain t s chain y = record {
+  phase = omega arith;
+  warning = λ d. omega arith;
   tag = λ n q is. inl is;
   public = λ n is. is;
   link = λ n g. inl refl;

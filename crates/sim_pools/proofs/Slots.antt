@@ -5,7 +5,7 @@ use Rattle.std.proofs.lemmas.Bool.Decides.{eqb_tells}
 use Rattle.oa_words.specs.declared.packed.Kind.{Kind}
 use Rattle.oa_words.specs.declared.packed.Kind.TheVariants as kinds
 use Rattle.oa_words.specs.Words.{Phase, Warning, Status, FieldOf}
-use Rattle.core_runs.specs.Memories.{store}
+use Rattle.oa_words.specs.Memories.{store}
 use Rattle.oa_words.specs.Packed.{StatusParts, status_word, status_parts}
 use Rattle.oa_words.proofs.Parts.{status_back}
 use Rattle.guard_words.specs.Guards.{has_slot}
@@ -102,22 +102,22 @@ fine_status t s j o word f un some here = record {
   mine = mine_put t s j o f un;
 }
 
--- a claim takes a ready slot
-pub taken : (t : Plan) (s : Shared) (c k j q : ℕ) → IsPlan t → SharedHolds t s → s.memory (Status j) ≡ status_word q kinds.Ready
+-- a claim stores that the ready slot which it has taken is used
+pub taken : (t : Plan) (s : Shared) (c k j p q : ℕ) → IsPlan t → SharedHolds t s → s.memory (Status j) ≡ status_word p kinds.Ready
     → SharedHolds t (with_status s j (Held c k) (status_word q kinds.Used)) × GoesForAll t s (with_status s j (Held c k) (status_word q kinds.Used))
-taken t s c k j q plan f is =
-    let pool = in_pool (s.owner j) q (s.memory (Status j)) (s.present j) (s.tag (s.present j)) (has (s.present j) s.source.retired) (s.public (s.present j)) is (f.slot j) in (
+taken t s c k j p q plan f is =
+    let pool = in_pool (s.owner j) p (s.memory (Status j)) (s.present j) (s.tag (s.present j)) (has (s.present j) s.source.retired) (s.public (s.present j)) is (f.slot j) in (
       fine_status t s j (Held c k) (status_word q kinds.Used) f (λ d i own. let z : Pool ≡ Held d i = sym pool.0 ∙ own in cc) (λ own. let z : Pool ≡ Null = sym pool.0 ∙ own in cc)
           ((q, refl), ap (λ (n : ℕ). has n s.source.retired) pool.1 ∙ f.null_stays, ap s.public pool.1 ∙ null_private t s plan f),
       λ y. record {
         phase = omega arith;
         warning = λ d. omega arith;
-        tag = λ n p is. inl is;
+        tag = λ n r is. inl is;
         public = λ n is. is;
         link = λ n g. inl refl;
         hazard = λ d r ne. refl;
         protects = λ d r ne. refl;
-        validated = λ r p some. inl refl;
+        validated = λ r x some. inl refl;
         held = λ i d m ne own. (put_other s.owner j i (Held c k) (apart s i j (Held d m) Pool own pool.0 (λ e. cc)) ∙ own, refl, (λ g. refl));
         retiring = λ i d ne own. (put_other s.owner j i (Held c k) (apart s i j (Retiring d) Pool own pool.0 (λ e. cc)) ∙ own, refl, refl);
       },

@@ -162,10 +162,15 @@ stable_sweep t c s s' p l (sweeps.Warn x) g f w = (stable_sweeps t c s s' p x 0 
 stable_sweep t c s s' p l (sweeps.ReadHazard x r) g f w = (stable_sweeps t c s s' p t.setting.sizes.callers (8 * x + r) l g f (omega (arith, w.1, w.2)) w.0, w.1, w.2)
 stable_sweep t c s s' p l (sweeps.ReadStatus j) g f w = stable_sweeps t c s s' p t.setting.sizes.callers (8 * t.setting.sizes.callers) l g f (omega arith) w
 stable_sweep t c s s' p l (sweeps.MakeReady j q) g f w = (stable_sweeps t c s s' p t.setting.sizes.callers (8 * t.setting.sizes.callers) l g f (omega arith) w.0, w.1, w.2)
+stable_sweep t c s s' p l (sweeps.PushHead j) g f w = stable_sweeps t c s s' p t.setting.sizes.callers (8 * t.setting.sizes.callers) l g f (omega arith) w
+stable_sweep t c s s' p l (sweeps.PushLink j q top) g f w = stable_sweeps t c s s' p t.setting.sizes.callers (8 * t.setting.sizes.callers) l g f (omega arith) w
+stable_sweep t c s s' p l (sweeps.PushTop j q top) g f w = stable_sweeps t c s s' p t.setting.sizes.callers (8 * t.setting.sizes.callers) l g f (omega arith) w
 
 pub stable_claim : (t : Plan) (c : ℕ) (s s' : Shared) (sweep : Sweep) (stage : ClaimStage) → MayChange t c s s' → SharedHolds t s' → ClaimAt t s sweep stage → ClaimAt t s' sweep stage
-stable_claim t c s s' sweep (claims.ReadStatus j) g f w = w
-stable_claim t c s s' sweep (claims.Take j q) g f w = w
+stable_claim t c s s' sweep claims.ReadHead g f w = tt
+stable_claim t c s s' sweep (claims.ReadLink q j) g f w = w
+stable_claim t c s s' sweep (claims.Take q j next) g f w = w
+stable_claim t c s s' sweep (claims.StoreUsed q j) g f w = w
 stable_claim t c s s' sweep claims.Sweeps g f w = stable_sweep t c s s' sweep.bound sweep.gathered sweep.stage g f w
 
 pub stable_running : (t : Plan) (c d : ℕ) (s s' : Shared) (x : Caller) (core : Spot) → IsPlan t → MayChange t c s s' → SharedHolds t s → SharedHolds t s' → d ≢ c → Base t s d x → Running t s d x core → Running t s' d x core

@@ -1,8 +1,8 @@
 -- Words told apart by their names, and memory changed at one word.
 use Rattle.std.proofs.Common.{ℕ, ◌≡◌, ◌≢◌, ◌∙◌, ◌==◌, ◌&&◌, true, false, sym, ap, subst, refl, ⊎_elim, if◌then◌else◌}
 use Rattle.std.proofs.lemmas.Bool.Decides.{eqb_tells}
-use Rattle.oa_words.specs.Words.{Word, Phase, Place, Warning, Hazard, Status, FieldOf, Cell}
-use Rattle.core_runs.specs.Memories.{store}
+use Rattle.oa_words.specs.Words.{Word, Phase, Place, Warning, Hazard, Status, FieldOf, Cell, Head, Link}
+use Rattle.oa_words.specs.Memories.{store}
 
 -- what holds at the word, and at each other one, holds at each
 pub each_warning : (P : ℕ → ℕ → Type 0) (m : Word → ℕ) (c v : ℕ) → P c v → ((i : ℕ) → i ≢ c → P i (m (Warning i))) → (i : ℕ) → P i (store m (Warning c) v (Warning i))
@@ -65,6 +65,8 @@ store_again m Phase (Hazard c r) = refl
 store_again m Phase (Status j) = refl
 store_again m Phase (FieldOf j g) = refl
 store_again m Phase (Cell x) = refl
+store_again m Phase Head = refl
+store_again m Phase (Link j) = refl
 store_again m (Place a) Phase = refl
 store_again m (Place a) (Place c) = one_again m Place a c
 store_again m (Place a) (Warning c) = refl
@@ -72,6 +74,8 @@ store_again m (Place a) (Hazard c r) = refl
 store_again m (Place a) (Status j) = refl
 store_again m (Place a) (FieldOf j g) = refl
 store_again m (Place a) (Cell x) = refl
+store_again m (Place a) Head = refl
+store_again m (Place a) (Link j) = refl
 store_again m (Warning a) Phase = refl
 store_again m (Warning a) (Place c) = refl
 store_again m (Warning a) (Warning c) = one_again m Warning a c
@@ -79,6 +83,8 @@ store_again m (Warning a) (Hazard c r) = refl
 store_again m (Warning a) (Status j) = refl
 store_again m (Warning a) (FieldOf j g) = refl
 store_again m (Warning a) (Cell x) = refl
+store_again m (Warning a) Head = refl
+store_again m (Warning a) (Link j) = refl
 store_again m (Hazard a b) Phase = refl
 store_again m (Hazard a b) (Place c) = refl
 store_again m (Hazard a b) (Warning c) = refl
@@ -86,6 +92,8 @@ store_again m (Hazard a b) (Hazard c r) = two_again m Hazard a b c r
 store_again m (Hazard a b) (Status j) = refl
 store_again m (Hazard a b) (FieldOf j g) = refl
 store_again m (Hazard a b) (Cell x) = refl
+store_again m (Hazard a b) Head = refl
+store_again m (Hazard a b) (Link j) = refl
 store_again m (Status a) Phase = refl
 store_again m (Status a) (Place c) = refl
 store_again m (Status a) (Warning c) = refl
@@ -93,6 +101,8 @@ store_again m (Status a) (Hazard c r) = refl
 store_again m (Status a) (Status j) = one_again m Status a j
 store_again m (Status a) (FieldOf j g) = refl
 store_again m (Status a) (Cell x) = refl
+store_again m (Status a) Head = refl
+store_again m (Status a) (Link j) = refl
 store_again m (FieldOf a b) Phase = refl
 store_again m (FieldOf a b) (Place c) = refl
 store_again m (FieldOf a b) (Warning c) = refl
@@ -100,6 +110,8 @@ store_again m (FieldOf a b) (Hazard c r) = refl
 store_again m (FieldOf a b) (Status j) = refl
 store_again m (FieldOf a b) (FieldOf j g) = two_again m FieldOf a b j g
 store_again m (FieldOf a b) (Cell x) = refl
+store_again m (FieldOf a b) Head = refl
+store_again m (FieldOf a b) (Link j) = refl
 store_again m (Cell a) Phase = refl
 store_again m (Cell a) (Place c) = refl
 store_again m (Cell a) (Warning c) = refl
@@ -107,6 +119,26 @@ store_again m (Cell a) (Hazard c r) = refl
 store_again m (Cell a) (Status j) = refl
 store_again m (Cell a) (FieldOf j g) = refl
 store_again m (Cell a) (Cell x) = one_again m Cell a x
+store_again m (Cell a) Head = refl
+store_again m (Cell a) (Link j) = refl
+store_again m Head Phase = refl
+store_again m Head (Place c) = refl
+store_again m Head (Warning c) = refl
+store_again m Head (Hazard c r) = refl
+store_again m Head (Status j) = refl
+store_again m Head (FieldOf j g) = refl
+store_again m Head (Cell x) = refl
+store_again m Head Head = refl
+store_again m Head (Link j) = refl
+store_again m (Link a) Phase = refl
+store_again m (Link a) (Place c) = refl
+store_again m (Link a) (Warning c) = refl
+store_again m (Link a) (Hazard c r) = refl
+store_again m (Link a) (Status j) = refl
+store_again m (Link a) (FieldOf j g) = refl
+store_again m (Link a) (Cell x) = refl
+store_again m (Link a) Head = refl
+store_again m (Link a) (Link j) = one_again m Link a j
 
 pub store_idle : (m : Word → ℕ) (w : Word) → m ≡ store m w (m w)
 store_idle m w = λ i v. sym (store_again m w v) i

@@ -271,10 +271,15 @@ SweepAt t s p g (sweeps.Warn c) = Sweeps t s p c 0 g × (c < t.setting.sizes.cal
 SweepAt t s p g (sweeps.ReadHazard c r) = Sweeps t s p t.setting.sizes.callers (8 * c + r) g × (c < t.setting.sizes.callers) × (r < 8)
 SweepAt t s p g (sweeps.ReadStatus j) = Sweeps t s p t.setting.sizes.callers (8 * t.setting.sizes.callers) g
 SweepAt t s p g (sweeps.MakeReady j q) = Sweeps t s p t.setting.sizes.callers (8 * t.setting.sizes.callers) g × (q < p) × (has_slot g j ≡ false)
+SweepAt t s p g (sweeps.PushHead j) = Sweeps t s p t.setting.sizes.callers (8 * t.setting.sizes.callers) g
+SweepAt t s p g (sweeps.PushLink j q top) = Sweeps t s p t.setting.sizes.callers (8 * t.setting.sizes.callers) g
+SweepAt t s p g (sweeps.PushTop j q top) = Sweeps t s p t.setting.sizes.callers (8 * t.setting.sizes.callers) g
 
 abbrev pub ClaimAt : Plan → Shared → Sweep → ClaimStage → Type 0
-ClaimAt t s sweep (claims.ReadStatus j) = 1 ≤ j
-ClaimAt t s sweep (claims.Take j q) = 1 ≤ j
+ClaimAt t s sweep claims.ReadHead = Unit {0}
+ClaimAt t s sweep (claims.ReadLink q j) = 1 ≤ j
+ClaimAt t s sweep (claims.Take q j next) = 1 ≤ j
+ClaimAt t s sweep (claims.StoreUsed q j) = 1 ≤ j
 ClaimAt t s sweep claims.Sweeps = SweepAt t s sweep.bound sweep.gathered sweep.stage
 
 -- the fields before one are 0

@@ -20,11 +20,16 @@ freed_at (sweeps.RaisePhase p) memory present = present
 freed_at (sweeps.Warn c) memory present = present
 freed_at (sweeps.ReadHazard c r) memory present = present
 freed_at (sweeps.ReadStatus j) memory present = present
+freed_at (sweeps.PushHead j) memory present = present
+freed_at (sweeps.PushLink j q t) memory present = present
+freed_at (sweeps.PushTop j q t) memory present = present
 
 abbrev pub freed_in : ClaimStage → SweepStage → (Word → ℕ) → (ℕ → ℕ) → ℕ → ℕ
 freed_in claims.Sweeps stage memory present = freed_at stage memory present
-freed_in (claims.ReadStatus j) stage memory present = present
-freed_in (claims.Take j q) stage memory present = present
+freed_in claims.ReadHead stage memory present = present
+freed_in (claims.ReadLink q t) stage memory present = present
+freed_in (claims.Take q t next) stage memory present = present
+freed_in (claims.StoreUsed q t) stage memory present = present
 
 -- the first store of 0 of a `new` takes the name away that the slot of its cradle has
 abbrev pub emptied_at : ℕ → ℕ → (ℕ → ℕ) → ℕ → ℕ

@@ -1,5 +1,7 @@
 -- What a step keeps.
 use Rattle.std.specs.Prelude.{ℕ, ◌≡◌, ◌≢◌, ◌<◌, ◌==◌, ◌||◌, not, Bool, true, false, List, length, Option, Some, None, ◌⊎◌}
+use Rattle.phase_pools.specs.declared.stages.ClaimStage.{ClaimStage}
+use Rattle.phase_pools.specs.declared.stages.ClaimStage.TheVariants as claims
 use Rattle.phase_pools.specs.Pools.{retire_begun}
 use Rattle.caller_parts.specs.declared.routine.AfterRetire.{AfterRetire}
 use Rattle.source_machine.specs.Proper.{has}
@@ -7,8 +9,9 @@ use Rattle.norm_lang.specs.declared.text.Reg.TheVariants.{Ref}
 use Rattle.norm_lang.specs.Local.{Spot}
 use Rattle.target_code.specs.declared.target.TargetInstr.{TargetInstr}
 use Rattle.target_code.specs.declared.target.TargetInstr.TheVariants.{Plain, Check, Guard}
-use Rattle.oa_words.specs.Words.{Word, Warning, Hazard}
-use Rattle.core_runs.specs.Memories.{store}
+use Rattle.oa_words.specs.declared.packed.Kind.TheVariants as kinds
+use Rattle.oa_words.specs.Words.{Word, Warning, Hazard, Status}
+use Rattle.oa_words.specs.Memories.{store}
 use Rattle.guard_words.specs.Guards.{with_guard}
 use Rattle.run_ahead.specs.Agreeing.{node_in}
 use Rattle.run_ahead.specs.Guards.{GuardRow, validated}
@@ -32,7 +35,7 @@ use Rattle.caller_steps.specs.After.{moved as after_moves}
 use Rattle.caller_steps.specs.Belongs.{Belongs}
 use Rattle.sim_relation.specs.Points.{StaysProper, DrawsHome}
 use Rattle.sim_relation.specs.Views.{Plan, Shared, Caller, protected, settled_names}
-use Rattle.sim_relation.specs.Shared.{SharedHolds}
+use Rattle.sim_relation.specs.Shared.{SharedHolds, IsOf}
 use Rattle.sim_relation.specs.Callers.{Calm, CallerHolds}
 use Rattle.sim_relation.specs.MayChange.{MayChange}
 use Rattle.sim_relation.specs.Naming.{present_at}
@@ -196,10 +199,29 @@ pub record TakeKept (t : Plan) (c : ℕ) (s : Shared) (x : Caller) (call : Call)
   pub watch : x'.watch ≡ x.watch
   pub caller_holds : CallerHolds t s c x'
 
+-- what a claim has taken is ready until the claim stores that it is used
+abbrev pub TakenIsReady : (Word → ℕ) → ClaimStage → Type 0
+TakenIsReady memory claims.ReadHead = Unit {0}
+TakenIsReady memory (claims.ReadLink q j) = Unit {0}
+TakenIsReady memory (claims.Take q j next) = Unit {0}
+TakenIsReady memory (claims.StoreUsed q j) = IsOf kinds.Ready (memory (Status j))
+TakenIsReady memory claims.Sweeps = Unit {0}
+
+abbrev pub TakesReady : (Word → ℕ) → Routine → Type 0
+TakesReady memory Idle = Unit {0}
+TakesReady memory (LoadSeen why) = Unit {0}
+TakesReady memory At = Unit {0}
+TakesReady memory (InList k) = Unit {0}
+TakesReady memory (Retires retirement go) = Unit {0}
+TakesReady memory Restarts = Unit {0}
+TakesReady memory (Clears next) = Unit {0}
+TakesReady memory (Claims claim) = TakenIsReady memory claim.stage
+TakesReady memory (Zeroes k field) = Unit {0}
+
 -- each step of each caller whose entry passes a test is kept, where its source's text owes what a proper one does at each point to
 -- which the step leads
 pub record StepsKeep (t : Plan) (test : Entry → Bool) : Type 0 where
-  pub step : (c : ℕ) (s : Shared) (x : Caller) (a : WordAccess) → test x.entry ≡ true → c < t.setting.sizes.callers → SharedHolds t s → CallerHolds t s c x → Belongs t.target t.setting x.entry
+  pub step : (c : ℕ) (s : Shared) (x : Caller) (a : WordAccess) → test x.entry ≡ true → c < t.setting.sizes.callers → SharedHolds t s → CallerHolds t s c x → TakesReady s.memory x.entry.routine → Belongs t.target t.setting x.entry
       → is_call t.target x.entry.running.call ≡ true → StaysProper t.text c (point s x) → wants t.target x.entry ≡ Some a → in_row t.setting.sizes (word_of a) ≡ true
       → ((w : Word) → in_row t.setting.sizes w ≡ false → s.memory w ≡ 0)
       → DrawsHome t.home (after_moves t.target t.setting x.entry (s.memory (word_of a))).signs s.unused

@@ -36,7 +36,7 @@ pub record IsPlan (t : Plan) : Type 0 where
 -- who may change a slot
 pub data Owner : Type 0 where
   Null : Owner  -- slot 0
-  Pool : Owner  -- may be claimed
+  Pool : Owner  -- is ready: it stands in the chain, or a claim has taken it, or a sweep pushes it
   Held : (c k : ℕ) → Owner  -- in cradle k of caller c
   Living : Owner  -- its name is published, and isn't retired
   Retiring : (c : ℕ) → Owner  -- its name is retired, and c is in the retire routine on it

@@ -127,7 +127,7 @@ module _ (t : Plan) (runs : IsRunnable t.target t.text) (own : IsSetting t.setti
   abbrev memory : Word → ℕ
   memory = (view t.setting (core_start t.target t.setting)).memory
 
-  in_it : (w : Word) → in_row t.setting.sizes w ≡ true → memory w ≡ start_word (beginning_of t.target t.setting) w
+  in_it : (w : Word) → in_row t.setting.sizes w ≡ true → memory w ≡ start_word t.setting.sizes (beginning_of t.target t.setting) w
   in_it w row = (start_is_seen t.target t.setting).memory (start_suits t.target t.text t.setting runs own fits).suits w row
 
   out_of_it : (w : Word) → in_row t.setting.sizes w ≡ false → memory w ≡ 0
@@ -183,8 +183,8 @@ module _ (t : Plan) (runs : IsRunnable t.target t.text) (own : IsSetting t.setti
 
   field_is : (j g : ℕ) (n : Initial j) → memory (FieldOf j g) ≡ slice_index (map value_word n.node.values) g
   field_is j g n = of (in_row t.setting.sizes (FieldOf j g)) refl where
-    word : start_word (beginning_of t.target t.setting) (FieldOf j g) ≡ slice_index (map value_word n.node.values) g
-    word = ap (λ (k : ℕ). start_word (beginning_of t.target t.setting) (FieldOf k g)) (n.is ∙ (let e : 1 + n.place ≡ suc n.place = omega arith in e))
+    word : start_word t.setting.sizes (beginning_of t.target t.setting) (FieldOf j g) ≡ slice_index (map value_word n.node.values) g
+    word = ap (λ (k : ℕ). start_word t.setting.sizes (beginning_of t.target t.setting) (FieldOf k g)) (n.is ∙ (let e : 1 + n.place ≡ suc n.place = omega arith in e))
         ∙ ap (λ (o : Option (List ℕ)). field_word o g)
         (ap (λ (nodes : List NodeDecl). slice_get (map node_words nodes) n.place) nodes_same ∙ (slice_get-map node_words t.text.nodes n.place ∙ ap (option_map node_words) n.there))
 

@@ -12,7 +12,7 @@ use Rattle.source_machine.specs.declared.event.SourceEvent.TheVariants as events
 use Rattle.source_machine.specs.declared.state.SourceCaller.{SourceCaller}
 use Rattle.source_machine.specs.Run.{is_call_of}
 use Rattle.source_machine.specs.MethodRuns.{run_begun}
-use Rattle.core_runs.specs.Memories.{store}
+use Rattle.oa_words.specs.Memories.{store}
 use Rattle.caller_parts.specs.declared.routine.MethodStart.TheVariants as starts
 use Rattle.caller_parts.specs.Calls.{is_call, is_call_of as is_core_call_of}
 use Rattle.caller_steps.specs.Signs.{Begins as BeginsCall}

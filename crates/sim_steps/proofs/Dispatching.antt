@@ -44,7 +44,7 @@ use Rattle.sim_relation.specs.Callers.{CallerHolds, HoldsAt, Trail, Walks, Runni
 use Rattle.sim_relation.specs.Points.{StaysProper, DrawsHome, point}
 use Rattle.sim_relation.specs.Naming.{present_at}
 use Rattle.sim_relation.specs.WasSet.{set_after_access, set_at, set_begun, set_plain}
-use Rattle.sim_relation.specs.Steps.{KeptWith, KeptBy, KeptSetting, Stepped, StepsKeep, StepKeeps, NamesAt, NamesCleared, NamesAfter, checked_names, with_names, after_access}
+use Rattle.sim_relation.specs.Steps.{KeptWith, KeptBy, KeptSetting, Stepped, StepsKeep, StepKeeps, TakesReady, NamesAt, NamesCleared, NamesAfter, checked_names, with_names, after_access}
 use Rattle.sim_relation.proofs.Codes.{instr_is, new_there}
 use Rattle.sim_walks.proofs.Quieting.{sane_here}
 use Rattle.sim_walks.proofs.Restarting.{seen_kept, begins_restart}
@@ -67,6 +67,7 @@ pub record Stepping (t : Plan) (c : ℕ) (s : Shared) (x : Caller) : Type 0 wher
   pub below : c < t.setting.sizes.callers
   pub shared_holds : SharedHolds t s
   pub caller_holds : CallerHolds t s c x
+  pub ready : TakesReady s.memory x.entry.routine
   pub belongs : Belongs t.target t.setting x.entry
   pub called : is_call t.target x.entry.running.call ≡ true
   pub proper : StaysProper t.text c (point s x)
@@ -242,7 +243,7 @@ module _ (t : Plan) (c : ℕ) (s : Shared) (x : Caller) (w : Stepping t c s x) w
       (let below : news_before (code_in t.target x.entry) x.entry.hand.at < target_news_in (code_in t.target x.entry) = new_below (code_in t.target x.entry) x.entry.hand.at there.0 there.1 in
       let most = ((methods_of t.target w.plan.sane).code x.entry.running.call.op x.entry.hand.wrapup).news in
       let four = w.belongs.cradles.count in omega (arith, below, most, four)) in
-      λ row draws. claims_keep t c s x claim claim.stage refl w.plan w.shared_holds (record { base = w.caller_holds.base; running = spot.1; empty = spot.2; at_new = at_new; generator = gen }) few spot.0
+      λ row draws. claims_keep t c s x claim claim.stage refl w.plan w.shared_holds (record { base = w.caller_holds.base; running = spot.1; empty = spot.2; at_new = at_new; generator = gen }) few (subst (λ (r : Routine). TakesReady s.memory r) is w.ready) spot.0
 
   -- a store of 0 at a `new`
   by_zero : (k field : ℕ) → x.entry.routine ≡ Zeroes k field → KeptAt t c s x (Zeroes k field)
@@ -270,8 +271,8 @@ module _ (t : Plan) (c : ℕ) (s : Shared) (x : Caller) (w : Stepping t c s x) w
 pub quiet_steps : (t : Plan) → IsPlan t → StepsKeep t (is_quiet t.target t.setting)
 unfolding wants
 quiet_steps t plan = record {
-  step = λ c s x a quiet below f told belongs called proper want row beyond draws.
-      (let w : Stepping t c s x = record { plan = plan; below = below; shared_holds = f; caller_holds = told; belongs = belongs; called = called; proper = proper; beyond = beyond } in
+  step = λ c s x a quiet below f told ready belongs called proper want row beyond draws.
+      (let w : Stepping t c s x = record { plan = plan; below = below; shared_holds = f; caller_holds = told; ready = ready; belongs = belongs; called = called; proper = proper; beyond = beyond } in
       subst (λ (o : Option WordAccess). SteppedAs t c s x (NamesAfter t s c x x.entry.routine) o (sets_at t x x.entry.routine) (λ word. after_moves t.target t.setting x.entry word) (present_at t.setting.sizes s.memory s.unused x.entry x.entry.routine s.present)) want
       (by_routine t c s x w (no_plain t c s x w quiet) (no_entry t c s x w quiet) x.entry.routine refl) row draws);
 }
@@ -292,8 +293,8 @@ entry_keeps t c s x w k exchange at here = λ row draws. entry_step t c s x k ex
 pub steps_keep : (t : Plan) → IsPlan t → StepKeeps t
 unfolding wants
 steps_keep t plan = record {
-  step = λ c s x a all below f told belongs called proper want row beyond draws.
-      (let w : Stepping t c s x = record { plan = plan; below = below; shared_holds = f; caller_holds = told; belongs = belongs; called = called; proper = proper; beyond = beyond } in
+  step = λ c s x a all below f told ready belongs called proper want row beyond draws.
+      (let w : Stepping t c s x = record { plan = plan; below = below; shared_holds = f; caller_holds = told; ready = ready; belongs = belongs; called = called; proper = proper; beyond = beyond } in
       subst (λ (o : Option WordAccess). SteppedAs t c s x (NamesAfter t s c x x.entry.routine) o (sets_at t x x.entry.routine) (λ word. after_moves t.target t.setting x.entry word) (present_at t.setting.sizes s.memory s.unused x.entry x.entry.routine s.present)) want
       (by_routine t c s x w (plain_keeps t c s x w) (entry_keeps t c s x w) x.entry.routine refl) row draws);
 }

@@ -14,7 +14,7 @@ use Rattle.target_code.specs.declared.target.Target.{Target}
 use Rattle.oa_words.specs.Words.{Sizes}
 use Rattle.phase_pools.specs.declared.access.ClaimEnd.{ClaimEnd}
 use Rattle.phase_pools.specs.declared.access.ClaimEnd.TheVariants as ends
-use Rattle.phase_pools.specs.Pools.{Claim, Retirement, claim_accepts, retire_accepts}
+use Rattle.phase_pools.specs.Pools.{Claim, Retirement, claim_accepts, claim_takes, retire_accepts}
 use Rattle.caller_parts.specs.declared.routine.MethodStart.TheVariants as starts
 use Rattle.caller_parts.specs.declared.routine.AfterRetire.{AfterRetire}
 use Rattle.caller_parts.specs.declared.routine.AfterRetire.TheVariants as onward
@@ -24,7 +24,7 @@ use Rattle.caller_parts.specs.Settings.{Setting}
 use Rattle.caller_steps.specs.Entries.{Entry, code_in, instr_in, cradle_of}
 use Rattle.caller_parts.specs.Operands.{register_number, slot_in}
 use Rattle.caller_steps.specs.Clearing.{restart_next, unguarded}
-use Rattle.caller_steps.specs.After.{stops, plain_stop, settles, restart_on, check_passed, check_failed, onward_goes, retired_on, claim_on, instr_accepted, accepted, counted, node_made, with_routine, with_hand, hand_at, goes_on, method_begun, first_spot, with_restart}
+use Rattle.caller_steps.specs.After.{stops, plain_stop, settles, restart_on, check_passed, check_failed, onward_goes, retired_on, claim_counted, claim_on, instr_accepted, accepted, counted, node_made, with_routine, with_hand, hand_at, goes_on, method_begun, first_spot, with_restart}
 use Rattle.caller_steps.specs.After.{moved as after_moves}
 use Rattle.caller_steps.specs.Signs.{Sign, Accesses, Draws, quiet}
 use Rattle.sim_steps.specs.Quiet.{is_quiet_instr, is_quiet_at, is_quiet}
@@ -110,7 +110,7 @@ at_routine target setting word e (Retires retirement go) is = retired_draws targ
 at_routine target setting word e Restarts is =
     let cleared : Entry = with_hand (counted e) (unguarded (restart_next target e) e.hand) in restart_draws target setting.sizes (restart_next target cleared) cleared
 at_routine target setting word e (Clears next) is = refl
-at_routine target setting word e (Claims claim) is = claim_draws target setting.sizes (claim_accepts setting.sizes setting.last claim word).claim (claim_accepts setting.sizes setting.last claim word).ended (counted e)
+at_routine target setting word e (Claims claim) is = claim_draws target setting.sizes (claim_accepts setting.sizes setting.last claim word).claim (claim_accepts setting.sizes setting.last claim word).ended (claim_counted (claim_takes claim word) (counted e))
 at_routine target setting word e (Zeroes k field) is = zero_draws target setting.sizes (nat_lt (field + 1) setting.sizes.fields) k field (counted e) is
 
 pub quiet_draws_none : (target : Target) (setting : Setting) (e : Entry) (word : ℕ) → is_quiet target setting e ≡ true → DrawsNone (after_moves target setting e word).signs

@@ -19,7 +19,7 @@ use Rattle.oa_words.specs.Words.{Sizes, Warning}
 use Rattle.phase_pools.specs.Accesses.{Loads}
 use Rattle.phase_pools.specs.declared.access.ClaimEnd.{ClaimEnd}
 use Rattle.phase_pools.specs.declared.access.ClaimEnd.TheVariants as ends
-use Rattle.phase_pools.specs.Pools.{Claim, claim_accepts, Retirement, retire_accepts}
+use Rattle.phase_pools.specs.Pools.{Claim, claim_accepts, claim_takes, Retirement, retire_accepts}
 use Rattle.caller_parts.specs.declared.call.Reply.TheVariants as replies
 use Rattle.caller_parts.specs.declared.routine.AfterClear.{AfterClear}
 use Rattle.caller_parts.specs.declared.routine.AfterClear.TheVariants as clears
@@ -34,7 +34,7 @@ use Rattle.caller_parts.specs.Operands.{with_word, slot_in, register_number, lis
 use Rattle.caller_steps.specs.Clearing.{restart_next, clear_next, unguarded}
 use Rattle.caller_steps.specs.Signs.{quiet}
 use Rattle.caller_steps.specs.Wants.{wants, instr_wanted}
-use Rattle.caller_steps.specs.After.{after, check_failed, check_passed, is_wrap_up, with_restart, with_routine, with_hand, hand_at, new_on, then_goes, clear_on, cleared, wrap_up_hand, list_ended, list_begun, plain_stop, stops, stopped, settles, goes_on, first_spot, method_begun, restart_on, restarted, with_access, list_on, onward_goes, retires_then, cas_failed, cas_ended, plain_accepted, instr_accepted, with_published, entry_ended, list_accepted, retired_on, claim_on, node_made, zeroed, accepted, counted}
+use Rattle.caller_steps.specs.After.{after, check_failed, check_passed, is_wrap_up, with_restart, with_routine, with_hand, hand_at, new_on, then_goes, clear_on, cleared, wrap_up_hand, list_ended, list_begun, plain_stop, stops, stopped, settles, goes_on, first_spot, method_begun, restart_on, restarted, with_access, list_on, onward_goes, retires_then, cas_failed, cas_ended, plain_accepted, instr_accepted, with_published, entry_ended, list_accepted, retired_on, claim_counted, claim_on, node_made, zeroed, accepted, counted}
 use Rattle.sim_pools.proofs.Core.{wants_is}
 use Rattle.sim_steps.specs.Renewing.{fails_at, renews, renews_at}
 
@@ -230,7 +230,7 @@ stays_seen target setting word e (Retires retirement go) other = retired_seen ta
 stays_seen target setting word e Restarts other = restarted_seen target setting.sizes (with_hand (counted e) (unguarded (restart_next target e) e.hand)) ∙ unguarded_seen (restart_next target e) e.hand
 stays_seen target setting word e (Clears next) other = cleared_seen target setting.sizes next (with_hand (counted e) (unguarded (clear_next target next e) e.hand)) ∙ unguarded_seen (clear_next target next e) e.hand
 stays_seen target setting word e (Claims claim) other =
-    let turn = claim_accepts setting.sizes setting.last claim word in claim_seen target setting.sizes turn.claim turn.ended (counted e)
+    let turn = claim_accepts setting.sizes setting.last claim word in claim_seen target setting.sizes turn.claim turn.ended (claim_counted (claim_takes claim word) (counted e))
 stays_seen target setting word e (Zeroes k field) other = zeroed_seen target setting.sizes k field (counted e)
 
 no_check : (o : Option TargetInstr) (seen word : ℕ) → is_check o ≡ false → fails_at o seen word ≡ false

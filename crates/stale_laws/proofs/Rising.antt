@@ -12,8 +12,8 @@ use Rattle.target_code.specs.declared.target.TargetInstr.TheVariants.{Plain, Che
 use Rattle.target_code.specs.declared.target.Target.{Target}
 use Rattle.norm_lang.specs.Registers.{number_in}
 use Rattle.norm_lang.specs.Local.{remainder}
-use Rattle.oa_words.specs.Words.{Word, Phase, Warning, Hazard, Status, FieldOf, Cell}
-use Rattle.core_runs.specs.Memories.{store}
+use Rattle.oa_words.specs.Words.{Word, Phase, Warning, Hazard, Status, FieldOf, Cell, Head, Link}
+use Rattle.oa_words.specs.Memories.{store}
 use Rattle.phase_pools.specs.declared.stages.SweepStage.{SweepStage}
 use Rattle.phase_pools.specs.declared.stages.SweepStage.TheVariants as sweeps
 use Rattle.phase_pools.specs.declared.stages.ClaimStage.{ClaimStage}
@@ -96,10 +96,15 @@ by_sweep (sweeps.Warn c) bound = λ m d. each_warning (λ i n. m (Warning i) ≤
 by_sweep (sweeps.ReadHazard c r) bound = loads (Hazard c r)
 by_sweep (sweeps.ReadStatus j) bound = loads (Status j)
 by_sweep (sweeps.MakeReady j q) bound = λ m d. omega arith
+by_sweep (sweeps.PushHead j) bound = loads Head
+by_sweep (sweeps.PushLink j q t) bound = λ m d. omega arith
+by_sweep (sweeps.PushTop j q t) bound = λ m d. omega arith
 
 by_claim : (sweep : Sweep) (stage : ClaimStage) → Rises (claim_wants_at sweep stage)
-by_claim sweep (claims.ReadStatus j) = loads (Status j)
-by_claim sweep (claims.Take j q) = λ m d. omega arith
+by_claim sweep claims.ReadHead = loads Head
+by_claim sweep (claims.ReadLink q t) = loads (Link t)
+by_claim sweep (claims.Take q t next) = λ m d. omega arith
+by_claim sweep (claims.StoreUsed q t) = λ m d. omega arith
 by_claim sweep claims.Sweeps = by_sweep sweep.stage sweep.bound
 
 by_retirement : (slot : ℕ) (stage : RetireStage) → Rises (retire_wants_at slot stage)

@@ -21,7 +21,7 @@ use Rattle.lone_claims.specs.Lone.{HoldsName}
 abbrev pub name_after : List CoreEvent → ℕ → ℕ
 name_after events j = present_in list_target (set_text 1) (shared_setting 2) events j
 
--- `insert 6` after so many of its 53 steps
+-- `insert 6` after so many of its 56 steps
 abbrev pub inserting : ℕ → List CoreEvent
 inserting n = five_out ++ calls 0 (call_of 0 6) n
 
@@ -29,15 +29,15 @@ pub record RecycledNames : Type 0 where
   pub sentinel : name_after recycled 1 ≡ 1
   pub given : name_after five_in 2 ≡ 2
   -- a name that is retired stays in its slot
-  pub retired : name_after (inserting 29) 2 ≡ 2
+  pub retired : name_after (inserting 27) 2 ≡ 2
   -- until the exchange of the sweep
-  pub freed : name_after (inserting 30) 2 ≡ 0
+  pub freed : name_after (inserting 28) 2 ≡ 0
   -- the claim and the first store of 0 give none
-  pub claimed : name_after (inserting 34) 2 ≡ 0
-  pub drawn : name_after (inserting 35) 2 ≡ 3
+  pub claimed : name_after (inserting 37) 2 ≡ 0
+  pub drawn : name_after (inserting 38) 2 ≡ 3
   -- the first store of 0 from the cradle takes it away
-  pub emptied : name_after (inserting 41) 2 ≡ 0
-  pub again : name_after (inserting 42) 2 ≡ 4
+  pub emptied : name_after (inserting 44) 2 ≡ 0
+  pub again : name_after (inserting 45) 2 ≡ 4
 
 -- which slots hold a name that isn't retired
 abbrev pub Holds : List CoreEvent → ℕ → Type 0
@@ -49,9 +49,9 @@ pub record HeldNames : Type 0 where
   -- the name of the node that was taken out is still there, but retired
   pub retired : ¬ Holds five_out 2
   -- no name is there after the sweep's exchange, nor while the stores of 0 go on
-  pub freed : ¬ Holds (inserting 30) 2
-  pub claimed : ¬ Holds (inserting 34) 2
-  pub drawn : Holds (inserting 35) 2
+  pub freed : ¬ Holds (inserting 28) 2
+  pub claimed : ¬ Holds (inserting 37) 2
+  pub drawn : Holds (inserting 38) 2
 
 abbrev pub state_after : List CoreEvent → CoreState
 state_after events = unwrap_or (core_run list_target (shared_setting 2) events (core_start list_target (shared_setting 2))) (core_start list_target (shared_setting 2))

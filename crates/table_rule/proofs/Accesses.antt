@@ -1,9 +1,9 @@
 -- Each access, as the code makes it, keeps the rule.
-use Rattle.std.proofs.Common.{◌≡◌, ◌≢◌, ℕ, zero, suc, ◌+◌, ◌≤◌, ◌<◌, ◌==◌, max, Bool, true, false, List, [], ◌∷◌, Some, None, refl, sym, ap, ◌∙◌, subst, arith, if◌then◌else◌}
+use Rattle.std.proofs.Common.{◌≡◌, ℕ, ◌<◌, ◌==◌, max, Bool, true, false, Some, None, refl, sym, subst, if◌then◌else◌}
 use Rattle.std.specs.Prelude.{Option}
 use prog.Atomic.{either}
-use Rattle.atomic_table.specs.Table.{State, Me, Allows}
-use Rattle.oa_words.specs.Words.{Word, address_of, word_count}
+use Rattle.atomic_table.specs.Table.{Me}
+use Rattle.oa_words.specs.Words.{address_of, word_count}
 use Rattle.phase_pools.specs.declared.access.Access.{Access}
 use Rattle.phase_pools.specs.declared.access.Access.TheVariants as codes
 use Rattle.phase_pools.specs.Accesses.{WordAccess, Loads, Stores, Exchanges, Raises, word_of, word_after, located}
@@ -11,8 +11,7 @@ use Rattle.caller_steps.specs.Asking.{located_option}
 use Rattle.caller_steps.specs.Entries.{Entry}
 use Rattle.oa_words.proofs.Places.{within}
 use Rattle.table_rule.specs.Seen.{Fixed, IsGround, SeatView}
-use Rattle.table_rule.specs.Rule.{Holds}
-use Rattle.table_rule.specs.Plays.{wish, Made, CanGo, CanStep}
+use Rattle.table_rule.specs.Plays.{wish, Made, CanStep}
 use Rattle.table_rule.specs.Laws.{Free, MayMake}
 use Rattle.table_rule.proofs.Moves.{place_of, CanMake, safe, step_allowed, store_allowed}
 

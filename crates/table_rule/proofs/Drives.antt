@@ -1,12 +1,12 @@
 -- Steps one after another.
-use Rattle.std.proofs.Common.{◌≡◌, ◌≢◌, ◌⊎◌, ℕ, zero, suc, ◌+◌, ◌-◌, ◌≤◌, ◌<◌, List, [], ◌∷◌, ◌++◌, length, refl, sym, ap, ◌∙◌, subst, inl, inr, ⊎_elim, arith, length-append}
+use Rattle.std.proofs.Common.{◌≡◌, ℕ, ◌+◌, ◌-◌, ◌<◌, List, [], ◌∷◌, ◌++◌, length, refl, sym, ap, ◌∙◌, subst, inl, arith, length-append}
 use Rattle.atomic_table.specs.Table.{Me}
-use Rattle.std.proofs.Common.{true, false, Bool}
+use Rattle.std.proofs.Common.{false}
 use Rattle.caller_steps.specs.Entries.{Entry, RoomyEntry, is_idle}
 use Rattle.core_runs.proofs.Advancing.{advances_more}
 use Rattle.table_rule.specs.Seen.{Fixed, SeatView}
 use Rattle.table_rule.specs.Plays.{with_entry, next, Steps, CanGo}
-use Rattle.table_rule.specs.Drives.{Went, Drove, Driving, Ran}
+use Rattle.table_rule.specs.Drives.{Went, Driving, Ran}
 
 pub can_again : (key : Fixed) (me : Me ℕ SeatView) (e : RoomyEntry) (budget left : ℕ) (me' : Me ℕ SeatView) (e' : RoomyEntry) → CanGo key me e.core → Driving key me e budget left me' e' → is_idle e'.core.routine ≡ false → CanGo key me' e'.core
 can_again key me e budget left me' e' can d busy =

@@ -1,27 +1,20 @@
 -- A step of a caller keeps the rule.
-use Rattle.std.proofs.Common.{◌≡◌, ◌≢◌, ◌⊎◌, ℕ, zero, suc, ◌+◌, ◌≤◌, ◌<◌, ◌==◌, max, Bool, true, false, List, [], ◌∷◌, ◌++◌, length, set, get_or, Some, None, refl, sym, ap, ◌∙◌, subst, inl, inr, ⊎_elim, arith, if◌then◌else◌}
+use Rattle.std.proofs.Common.{◌≡◌, ◌≢◌, ◌⊎◌, ℕ, zero, suc, ◌+◌, ◌<◌, true, false, List, [], ◌∷◌, length, set, get_or, Some, refl, sym, ap, ◌∙◌, subst, ⊎_elim, arith}
 use Rattle.std.specs.Prelude.{Option, slice_get, slice_index, slice_set}
 use Rattle.std.proofs.Math.ListN.{length-set}
-use Rattle.std.proofs.lemmas.List.{get_or-set_same, get_or-set_other}
-use mathlib.Core.Option.{some, some-injective, some-ne-none}
+use Rattle.std.proofs.lemmas.List.{get_or-set_other}
+use mathlib.Core.Option.{some}
 use lib.ListN.{get_elem?}
-use prog.Atomic.{either}
-use Rattle.atomic_table.specs.Table.{State, Me, Step, Act, keeps, Allows}
+use Rattle.atomic_table.specs.Table.{State, Me, keeps, Allows}
 use Rattle.atomic_table.proofs.Lists.{at_set}
-use Rattle.target_code.specs.declared.target.Target.{Target}
-use Rattle.oa_words.specs.Words.{Word, Sizes, address_of, word_count, in_row}
-use Rattle.phase_pools.specs.declared.access.Access.{Access}
-use Rattle.phase_pools.specs.declared.access.Access.TheVariants as codes
-use Rattle.phase_pools.specs.Accesses.{WordAccess, Loads, Stores, Exchanges, Raises, word_of, word_after, located}
-use Rattle.caller_steps.specs.Asking.{located_option}
+use Rattle.oa_words.specs.Words.{Word, address_of}
+use Rattle.phase_pools.specs.Accesses.{WordAccess, Stores, word_of, word_after}
 use Rattle.caller_parts.specs.Calls.{is_call}
 use Rattle.caller_parts.specs.declared.call.Call.{Call}
-use Rattle.caller_parts.specs.Settings.{Setting}
-use Rattle.caller_steps.specs.Entries.{Entry, idle_entry, is_idle}
-use Rattle.caller_steps.specs.Wants.{wants}
-use Rattle.caller_steps.specs.After.{after, taken}
-use Rattle.caller_steps.specs.Lawful.{IsLawful, Accepts, MayBeTold, IsSafe, AsksSafely, is_place}
-use Rattle.core_runs.specs.Machine.{CoreState, CoreEvent, Takes, Steps as StepsOf, found_by, made, Reachable}
+use Rattle.caller_steps.specs.Entries.{Entry, is_idle}
+use Rattle.caller_steps.specs.After.{taken}
+use Rattle.caller_steps.specs.Lawful.{IsLawful, Accepts, MayBeTold, IsSafe, AsksSafely}
+use Rattle.core_runs.specs.Machine.{CoreState, Takes, Steps as StepsOf, found_by, made}
 use Rattle.core_sound.specs.Sound.{IsSound}
 use Rattle.core_sound.proofs.Reached.{states_are_sound}
 use Rattle.caller_laws.proofs.Together.{safe as asks_safe}
@@ -33,8 +26,8 @@ use Rattle.caller_laws.proofs.Stored.{after_store}
 use Rattle.table_rule.proofs.Rows.{no_place, told_lawful}
 use Rattle.core_entries.proofs.Calling.{runnable}
 use Rattle.table_rule.specs.Seen.{Fixed, IsGround, SeatView}
-use Rattle.table_rule.specs.Rule.{IsReached, callers_of, IsPlace, total, times, held, AllHere, IsSeen, Shows, Holds}
-use Rattle.table_rule.specs.Plays.{wish, next, IsTold, Belonging, with_entry, Made, InHand, CanGo, CanStep}
+use Rattle.table_rule.specs.Rule.{IsReached, callers_of, IsPlace, times, held, AllHere, IsSeen, Shows, Holds}
+use Rattle.table_rule.specs.Plays.{wish, next, IsTold, Belonging, with_entry, Made, InHand, CanGo}
 use Rattle.table_rule.proofs.Sums.{total_set, total_at, total_two, times_self, times_number, here_set, same_set, slice_get_set_same, slice_get_set_other, set_set, set_again}
 
 -- where a word stands in the table

@@ -1,23 +1,22 @@
 -- The entries in the order of their numbers are those of the machine.
-use Rattle.std.proofs.Common.{◌≡◌, ◌≢◌, ◌⊎◌, ℕ, zero, suc, ◌+◌, ◌-◌, ◌≤◌, ◌<◌, ◌==◌, eqb, eq-eqb, ne_eqb, Bool, true, false, List, [], ◌∷◌, ◌++◌, length, drop, Some, None, refl, sym, ap, ◌∙◌, subst, inl, inr, ⊎_elim, arith, zero-add}
+use Rattle.std.proofs.Common.{◌≡◌, ◌≢◌, ◌⊎◌, ℕ, zero, suc, ◌+◌, ◌-◌, ◌≤◌, ◌<◌, ◌==◌, eq-eqb, ne_eqb, Bool, List, [], ◌∷◌, length, drop, Some, refl, sym, ap, ◌∙◌, subst, inl, inr, ⊎_elim, arith, zero-add}
 use Rattle.std.specs.Prelude.{slice_get, slice_index, slice_index_or, if◌then◌else◌, All}
 use Rattle.std.specs.List.{sum_by}
 use Rattle.std.specs.List.Sorted.{IsPermutation, IsNonDecreasingBy}
-use Rattle.std.proofs.lemmas.List.Sorted.{All-permutation, sum_by-IsPermutation, length_permutation}
+use Rattle.std.proofs.lemmas.List.Sorted.{All-permutation, sum_by-IsPermutation}
 use Rattle.std.proofs.lemmas.List.Sums.{sum_by-cons}
 use mathlib.Core.Option.{some, some-injective, some-ne-none}
 use mathlib.Core.Logic.{dite}
 use native.Mathlib.Decide.{ℕ_discrete, dec_le}
 use lib.ListN.{get_elem?}
 use Rattle.caller_steps.specs.Entries.{Entry, RoomyEntry}
-use Rattle.core_runs.specs.Machine.{CoreState}
 use Rattle.table_rule.proofs.Moves.{sound}
 use Rattle.table_rule.specs.Seen.{Fixed, SeatView}
 use Rattle.table_rule.specs.Rule.{times, AllHere}
 use Rattle.table_rule.specs.Plays.{AllBelow, Apart}
 use Rattle.table_rule.specs.Seats.{cores}
 use Rattle.table_rule.specs.Closing.{IsClosed, Shut}
-use Rattle.table_rule.proofs.Counts.{apart_few, apart_full}
+use Rattle.table_rule.proofs.Counts.{apart_full}
 use Rattle.table_rule.proofs.Merged.{length_cores}
 use Rattle.table_rule.proofs.Others.{Closes}
 

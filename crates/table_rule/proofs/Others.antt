@@ -1,30 +1,30 @@
 -- The steps that are no step of the machine keep the rule: taking a place, splitting, joining and looking. And the table at the start and at the end.
-use Rattle.std.proofs.Common.{◌≡◌, ◌≢◌, ◌⊎◌, ℕ, zero, suc, ◌+◌, ◌-◌, ◌≤◌, ◌<◌, ◌==◌, eqb, eq-eqb, ne_eqb, Bool, true, false, true≢false, List, [], ◌∷◌, ◌++◌, map, length, set, get_or, Some, None, refl, sym, ap, ◌∙◌, subst, inl, inr, ⊎_elim, arith, append-nil}
+use Rattle.std.proofs.Common.{◌≡◌, ◌≢◌, ◌⊎◌, ℕ, zero, suc, ◌+◌, ◌-◌, ◌≤◌, ◌<◌, ◌==◌, ne_eqb, Bool, true, false, true≢false, List, [], ◌∷◌, ◌++◌, length, set, get_or, Some, refl, sym, ap, ◌∙◌, subst, ⊎_elim, arith}
 use mathlib.Core.Option.{none}
 use mathlib.Core.Logic.{dite}
 use native.Mathlib.Decide.{ℕ_discrete}
 use Rattle.std.proofs.lemmas.Bool.Decides.{nat_tests}
-use Rattle.std.specs.Prelude.{slice_get, slice_index, slice_set, if◌then◌else◌, replicate, MatchBool}
+use Rattle.std.specs.Prelude.{slice_index, slice_set, if◌then◌else◌, MatchBool}
 use Rattle.std.proofs.Math.ListN.{length-set}
 use Rattle.std.proofs.lemmas.List.{get_or-set_same, get_or-set_other, set-get_or}
 use mathlib.Core.Option.{some, some-injective, some-ne-none}
 use lib.ListN.{get_elem?}
 use prog.Atomic.{either}
-use Rattle.atomic_table.specs.Table.{State, Me, Step, step, Act, keeps, Valid, carried_after, Allows, Splits, Joins, opening, stepped, Final, Seen}
+use Rattle.atomic_table.specs.Table.{State, Me, step, Act, keeps, Valid, carried_after, Allows, Splits, Joins, opening, stepped, Final, Seen}
 use Rattle.atomic_table.proofs.Lists.{at_set, at_snoc, set_again}
 use Rattle.oa_words.specs.Words.{word_count}
 use Rattle.caller_steps.specs.Entries.{Entry, idle_entry}
-use Rattle.core_runs.specs.Machine.{CoreState, core_start, idle_from}
+use Rattle.core_runs.specs.Machine.{CoreState, core_start}
 use Rattle.core_sound.specs.Sound.{IsSound}
 use Rattle.core_runs.proofs.Reaching.{starts}
 use Rattle.core_runs.proofs.Keeping.{idle_there}
 use Rattle.table_rule.proofs.Rows.{place_free}
 use Rattle.core_entries.proofs.Calling.{runnable}
 use Rattle.table_rule.specs.Seen.{Fixed, IsGround, SeatView, nobody, newcomer}
-use Rattle.table_rule.specs.Rule.{IsReached, callers_of, IsPlace, total, times, held, AllHere, IsSeen, Shows, Holds}
+use Rattle.table_rule.specs.Rule.{IsReached, callers_of, IsPlace, times, held, AllHere, IsSeen, Shows, Holds}
 use Rattle.table_rule.specs.Plays.{with_entry, cut_off, joined, with_found, Tried, AllBelow, Apart, Looked}
 use Rattle.table_rule.proofs.Moves.{sound}
-use Rattle.table_rule.proofs.Sums.{total_set, total_at, total_two, total_append, times_self, times_append}
+use Rattle.table_rule.proofs.Sums.{total_set, total_at, total_append, times_self, times_append}
 
 here_append : (all xs ys : List Entry) → AllHere all xs → AllHere all ys → AllHere all (xs ++ ys)
 here_append all [] ys h k = k

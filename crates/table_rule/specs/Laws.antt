@@ -2,7 +2,7 @@
 use Rattle.std.specs.Prelude.{◌≡◌, ℕ, ◌+◌, ◌<◌, ◌==◌, max, List, [], slice_index}
 use mathlib.Core.Option.{none}
 use prog.Atomic.{either}
-use Rattle.atomic_table.specs.Table.{State, Me, step, Allows, Splits, Joins, opening, Final, Seen}
+use Rattle.atomic_table.specs.Table.{Me, step, Allows, Splits, Joins, opening, Final, Seen}
 use Rattle.oa_words.specs.Words.{word_count}
 use Rattle.phase_pools.specs.declared.access.Access.{Access}
 use Rattle.phase_pools.specs.declared.access.Access.TheVariants as codes

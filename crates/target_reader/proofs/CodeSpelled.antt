@@ -1,9 +1,9 @@
 -- How the grammar reads a method of a target that the spelling writes.
-use Rattle.std.specs.Prelude.{◌≡◌, ℕ, zero, suc, ◌+◌, ◌<◌, ◌≤◌, ◌&&◌, Bool, true, false, not, List, [], ◌∷◌, ◌++◌, map, length, Result, Ok, Err, codes, nat_le, nat_lt}
+use Rattle.std.specs.Prelude.{◌≡◌, ℕ, zero, suc, ◌+◌, ◌≤◌, true, false, List, [], ◌∷◌, ◌++◌, map, length, Result, Ok, Err, codes, nat_le}
 use Rattle.std.specs.List.{list_all, AllByRecursion}
 use Rattle.std.specs.Str.{bytes_eq}
 use Rattle.std.proofs.Common.{refl, ap, ◌∙◌, sym, arith, append_assoc, length-append, cond}
-use Rattle.std.proofs.lemmas.Bool.{and_parts, not-true, lt-ltb, le-ltb}
+use Rattle.std.proofs.lemmas.Bool.{and_parts, lt-ltb, le-ltb}
 use Rattle.std.proofs.lemmas.List.{append-nil}
 use Rattle.oa_text.specs.Lines.{numbered}
 use Rattle.norm_lang.specs.declared.text.Reg.{Reg}
@@ -30,7 +30,7 @@ use Rattle.target_code.specs.declared.target.TargetInstr.TheVariants.{Plain, Che
 use Rattle.target_code.specs.declared.target.TargetOp.{TargetOp}
 use Rattle.target_code.specs.TargetSpelling.{target_instr_lines, target_code_lines}
 use Rattle.target_code.specs.TargetLimits.{is_target_new, target_news_in, target_news_of, is_target_instr}
-use Rattle.target_reader.specs.TargetGrammar.{Part, Outside, Begun, Generator, WrapUp, OpsDraft, with_target_instr, with_one_more, has_place, is_fifth_target_new, with_target_entries, with_target_step, after_target_words, after_target_lines}
+use Rattle.target_reader.specs.TargetGrammar.{Part, Generator, WrapUp, OpsDraft, with_target_instr, has_place, is_fifth_target_new, with_target_entries, with_target_step, after_target_words, after_target_lines}
 
 -- the draft after the lines' words
 abbrev pub after_spelled : List FieldDecl → List RootDecl → OpsDraft → List (List (List ℕ)) → Result OpsDraft ℕ

@@ -1,27 +1,22 @@
 -- What the lines so far say of a target's operations is within the limits, whichever line comes next.
-use Rattle.std.specs.Prelude.{◌≡◌, ℕ, zero, suc, ◌+◌, ◌≤◌, Bool, true, false, not, ◌&&◌, List, [], ◌∷◌, ◌++◌, map, length, Option, Some, None, Result, Ok, Err, IfOk, nat_lt, nat_le, codes, ⊤, ◌==◌, if◌then◌else◌}
-use Rattle.std.specs.List.{list_all, list_any}
+use Rattle.std.specs.Prelude.{◌≡◌, ℕ, zero, suc, ◌+◌, Bool, true, false, not, ◌&&◌, List, [], ◌∷◌, ◌++◌, map, length, Option, Some, None, Result, Ok, Err, IfOk, nat_lt, nat_le, codes, ⊤, ◌==◌, if◌then◌else◌}
+use Rattle.std.specs.List.{list_all}
 use Rattle.std.specs.Str.{bytes_eq}
 use Rattle.std.proofs.Common.{refl, ap, sym, ◌∙◌, arith, length-append}
 use Rattle.std.proofs.lemmas.Bool.{and_from, and_parts, not-true}
 use Rattle.std.proofs.lemmas.Bool.Decides.{nat_tests}
-use Rattle.std.proofs.lemmas.Result.{IfOk-at_ok}
 use Rattle.oa_text.specs.Lines.{TextLine}
-use Rattle.norm_lang.specs.declared.text.Reg.{Reg}
-use Rattle.norm_lang.specs.declared.text.Reg.TheVariants.{Num, Ref}
 use Rattle.norm_lang.specs.declared.text.FieldDecl.{FieldDecl}
 use Rattle.norm_lang.specs.declared.text.RootDecl.{RootDecl}
 use Rattle.norm_lang.specs.declared.text.CasEntry.{CasEntry}
-use Rattle.norm_lang.specs.declared.text.Instr.{Instr}
 use Rattle.norm_lang.specs.declared.text.Instr.TheVariants as instr
 use Rattle.norm_lang.specs.declared.text.Op.{Op}
-use Rattle.norm_lang.specs.Faults.{LineFault, ◌>>=◌, at_line, form_fault, too_many, demand}
+use Rattle.norm_lang.specs.Faults.{◌>>=◌, at_line, form_fault, too_many}
 use Rattle.norm_lang.specs.LineWords.{is_name, end_at}
 use Rattle.norm_lang.specs.Declarations.{op_line, is_reserved}
-use Rattle.norm_lang.specs.Instructions.{Step, Whole, Commits, one_register, step_line, entry_line}
-use Rattle.norm_lang.specs.Grammar.{is_new}
+use Rattle.norm_lang.specs.Instructions.{Step, Whole, Commits, step_line, entry_line}
 use Rattle.norm_lang.specs.Kept.{holds_reference}
-use Rattle.norm_lang.specs.Limits.{has_between, are_different, is_register, is_instr, is_entry}
+use Rattle.norm_lang.specs.Limits.{is_register, is_entry}
 use Rattle.text_laws.proofs.Readings.{then_has, anyhow, demanded, either}
 use Rattle.text_laws.proofs.Declared.{SoFar, IsNext, pushed, all_pushed, whole_list}
 use Rattle.text_laws.proofs.DeclarationLimits.{NextOp, op_fits}
@@ -32,7 +27,7 @@ use Rattle.target_code.specs.declared.target.TargetInstr.{TargetInstr}
 use Rattle.target_code.specs.declared.target.TargetInstr.TheVariants.{Plain, Check, Guard}
 use Rattle.target_code.specs.declared.target.TargetOp.{TargetOp}
 use Rattle.target_code.specs.TargetLimits.{is_target_new, target_news_in, target_news_of, is_target_instr, is_target_op, are_target_ops}
-use Rattle.target_reader.specs.TargetGrammar.{Part, Outside, Begun, Generator, WrapUp, OpsDraft, no_ops, opened, begun, target_op_at, target_op_line, with_whole_target_op, target_code_so_far, with_target_instr, with_one_more, has_place, is_fifth_target_new, with_target_entries, with_target_step, plain_line, with_added, guarded_at, added_line, in_outside, in_begun_op, in_target_generator, next_target_op, in_target_wrap_up, own_line, or_plain, in_target_place, after_target_words, after_target_line, after_target_lines, finished_ops_in, finished_ops, ops_read}
+use Rattle.target_reader.specs.TargetGrammar.{Part, Outside, Begun, Generator, WrapUp, OpsDraft, no_ops, opened, begun, target_op_at, target_op_line, with_whole_target_op, target_code_so_far, with_target_instr, with_one_more, has_place, is_fifth_target_new, with_target_entries, with_target_step, plain_line, guarded_at, added_line, in_outside, in_begun_op, in_target_generator, in_target_wrap_up, or_plain, in_target_place, after_target_words, after_target_line, after_target_lines, finished_ops_in, ops_read}
 use Rattle.target_reader.proofs.Opened.{opened_same}
 
 -- a method's instructions so far

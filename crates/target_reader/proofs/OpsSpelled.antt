@@ -15,7 +15,7 @@ use Rattle.target_code.specs.declared.target.TargetInstr.{TargetInstr}
 use Rattle.target_code.specs.declared.target.TargetOp.{TargetOp}
 use Rattle.target_code.specs.TargetSpelling.{spelled_target_op, target_code_lines, target_op_lines}
 use Rattle.target_code.specs.TargetLimits.{target_news_of, is_target_instr, is_target_method, is_target_op}
-use Rattle.target_reader.specs.TargetGrammar.{Part, Outside, Begun, Generator, WrapUp, OpsDraft, no_target_op, no_ops, opened, target_op_at, finished_ops}
+use Rattle.target_reader.specs.TargetGrammar.{Begun, Generator, WrapUp, OpsDraft, no_ops, opened, target_op_at, finished_ops}
 use Rattle.target_reader.proofs.Opened.{opened_same}
 use Rattle.target_reader.proofs.CodeSpelled.{after_spelled, line_then, lines_then, in_code, with_code, code_read}
 

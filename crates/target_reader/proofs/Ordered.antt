@@ -1,10 +1,10 @@
 -- Lines with their numbers in order, up to the last.
-use Rattle.std.proofs.Common.{◌≡◌, ℕ, suc, ◌+◌, ◌<◌, ◌≤◌, List, [], ◌∷◌, ◌++◌, map, length, refl, sym, ap, ◌∙◌, arith, true, false, Bool}
-use Rattle.std.specs.Prelude.{nat_lt, Option, Some, None, MatchOption, ◌^◌}
+use Rattle.std.proofs.Common.{◌≡◌, ℕ, suc, ◌+◌, ◌<◌, ◌≤◌, List, [], ◌∷◌, ◌++◌, length, refl, sym, ap, ◌∙◌, arith, true, false, Bool}
+use Rattle.std.specs.Prelude.{nat_lt, Option, Some, None, MatchOption}
 use Rattle.std.proofs.lemmas.Bool.{lt-ltb, le-ltb}
 use Rattle.std.proofs.lemmas.Bool.Decides.{nat_tests}
 use Rattle.oa_text.specs.declared.line.Line.{Line}
-use Rattle.oa_text.specs.Lines.{TextLine, lines_of, numbered}
+use Rattle.oa_text.specs.Lines.{TextLine, numbered}
 use Rattle.oa_text.specs.Shown.{line_shown}
 use Rattle.norm_parser.specs.Instruction.{AreFrom, AreLeftOf}
 use Rattle.norm_parser.specs.FrontRead.{from_line}

@@ -1,37 +1,35 @@
 -- The spelling of a target within the limits spells it.
-use Rattle.std.specs.Prelude.{◌≡◌, ℕ, suc, ◌+◌, ◌<◌, ◌≤◌, ◌&&◌, Bool, true, false, List, [], ◌∷◌, ◌++◌, map, length, Result, Ok, codes, nat_le, nat_lt}
+use Rattle.std.specs.Prelude.{◌≡◌, ℕ, ◌+◌, ◌≤◌, ◌&&◌, Bool, true, false, List, [], ◌∷◌, ◌++◌, map, length, Result, Ok, codes, nat_le, nat_lt}
 use Rattle.std.specs.List.{list_all, flat_map, AllByRecursion}
-use Rattle.std.proofs.Common.{refl, ap, ◌∙◌, sym, arith}
+use Rattle.std.proofs.Common.{refl, ap, ◌∙◌, arith}
 use Rattle.std.proofs.lemmas.Bool.{and_parts, ltb-true, leb-true, lt-ltb}
-use Rattle.oa_text.specs.Lines.{TextLine, lines_of, numbered}
+use Rattle.oa_text.specs.Lines.{numbered}
 use Rattle.norm_lang.specs.declared.text.Reg.{Reg}
 use Rattle.norm_lang.specs.declared.text.FieldDecl.{FieldDecl}
 use Rattle.norm_lang.specs.declared.text.RootDecl.{RootDecl}
-use Rattle.norm_lang.specs.declared.text.NodeDecl.{NodeDecl}
 use Rattle.norm_lang.specs.declared.text.Instr.{Instr}
 use Rattle.norm_lang.specs.declared.text.Instr.TheVariants as instr
 use Rattle.norm_lang.specs.Faults.{LineFault, ◌>>=◌}
 use Rattle.norm_lang.specs.LineWords.{is_name}
 use Rattle.norm_lang.specs.Kept.{holds_reference}
 use Rattle.norm_lang.specs.Spelling.{joined_words, register_word, spelled_field, spelled_nodes, spelled_node, spelled_root, spelled_entry, entries_of, declaration_lines}
-use Rattle.norm_lang.specs.Grammar.{Opening, Fields, Roots, Draft, draft_at, after_lines}
+use Rattle.norm_lang.specs.Grammar.{Opening, Fields, Roots, draft_at, after_lines}
 use Rattle.norm_lang.specs.Limits.{has_between, are_different, is_register, is_entry, is_instr, is_start, are_starts, are_fields, are_nodes, is_root, are_roots}
-use Rattle.norm_lang.proofs.SpelledLines.{is_visible, IsWord, IsLine, lines_found, words_found, no_line_fault}
+use Rattle.norm_lang.proofs.SpelledLines.{is_visible, IsWord, IsLine, lines_found, words_found}
 use Rattle.text_laws.proofs.LinesSpelled.{gen_is, wrap_is, field_is, nodes_is, node_line_is, root_is, op_is, entry_is, instr_is}
 use Rattle.text_laws.proofs.WordsRead.{AreFields, AreRoots}
 use Rattle.text_laws.proofs.SpelledFolds as text
 use Rattle.text_laws.proofs.TextRead.{declared, fields_read, among_nodes, nodes_read_line, nodes_read, roots_read}
 use Rattle.norm_parser.specs.declared.head.Head.{Head}
-use Rattle.norm_parser.specs.Instruction.{AreFrom}
 use Rattle.norm_parser.specs.FrontRead.{from_line, front_of, ends_head, head_lines, after_head, head_in}
-use Rattle.norm_parser.proofs.LinesLeft.{first_from, numbered_from}
+use Rattle.norm_parser.proofs.LinesLeft.{numbered_from}
 use Rattle.target_code.specs.declared.target.TargetInstr.{TargetInstr}
 use Rattle.target_code.specs.declared.target.TargetInstr.TheVariants.{Plain, Check, Guard}
 use Rattle.target_code.specs.declared.target.TargetOp.{TargetOp}
 use Rattle.target_code.specs.declared.target.Target.{Target}
 use Rattle.target_code.specs.TargetSpelling.{spelled_target_version, spelled_check, spelled_target_op, target_instr_lines, target_code_lines, target_op_lines, declared_by, spelled_target}
 use Rattle.target_code.specs.TargetLimits.{is_target_instr, is_target_op, are_target_ops, is_target_within_limits}
-use Rattle.target_reader.specs.TargetGrammar.{WrapUp, OpsDraft, no_ops, opened, after_target_lines, finished_ops, ops_read, version_end, target_of}
+use Rattle.target_reader.specs.TargetGrammar.{WrapUp, no_ops, opened, after_target_lines, ops_read, version_end, target_of}
 use Rattle.target_reader.specs.Laws.{SpellingsSpell}
 use Rattle.target_reader.proofs.Ordered.{all_left}
 use Rattle.target_reader.proofs.CodeSpelled.{after_spelled, lines_then, lines_read, in_code}

@@ -1,5 +1,4 @@
 -- What holds of targets that bytes spell.
-use Rattle.std.specs.Prelude.{◌≡◌, ℕ, List}
 use Rattle.target_code.specs.declared.target.Target.{Target}
 use Rattle.target_code.specs.TargetSpelling.{target_spelling}
 use Rattle.target_code.specs.TargetLimits.{IsTargetWithinLimits}

@@ -1,8 +1,8 @@
 -- A caller that has just entered, and the end of all.
-use Rattle.std.proofs.Common.{◌≡◌, ◌≤◌, ◌<◌, ◌^◌, ℕ, List, [], length, sym, subst, ap, ◌∙◌, arith}
+use Rattle.std.proofs.Common.{◌≡◌, ◌≤◌, ◌<◌, ◌^◌, ℕ, List, [], subst, ap, ◌∙◌, arith}
 use Rattle.std.proofs.lemmas.List.Sorted.{All-permutation}
 use Rattle.caller_parts.specs.declared.call.Call.{Call}
-use Rattle.caller_steps.specs.Entries.{Entry, RoomyEntry, idle_entry}
+use Rattle.caller_steps.specs.Entries.{RoomyEntry, idle_entry}
 use Rattle.core_runs.specs.Scripts.{SuitScripts}
 use Rattle.table_rule.specs.Seen.{Fixed}
 use Rattle.table_rule.specs.Closing.{IsClosed}

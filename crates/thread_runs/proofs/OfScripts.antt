@@ -1,27 +1,25 @@
 -- A whole run of scripts is a complete core run of them.
-use Rattle.std.proofs.Common.{◌≡◌, ◌⊎◌, ◌≤◌, ◌<◌, ◌+◌, ◌^◌, min, ℕ, zero, suc, Bool, true, false, List, [], ◌∷◌, ◌++◌, map, length, Option, Some, None, refl, sym, ap, ◌∙◌, subst, ⊎_elim, arith, append_assoc}
-use Rattle.std.specs.Prelude.{slice_get, slice_index, All}
+use Rattle.std.proofs.Common.{◌≡◌, ◌⊎◌, ◌≤◌, ◌<◌, ◌+◌, ◌^◌, ℕ, zero, suc, Bool, true, false, List, [], ◌∷◌, ◌++◌, map, length, Some, None, refl, sym, ap, ◌∙◌, subst, ⊎_elim, arith, append_assoc}
+use Rattle.std.specs.Prelude.{slice_get, All}
 use Rattle.std.proofs.lemmas.List.{map-append, append-nil}
 use Rattle.caller_parts.specs.declared.call.Call.{Call}
 use Rattle.caller_parts.specs.declared.call.Running.{Running}
 use Rattle.caller_parts.specs.Pairing.{run_of, replied_by}
 use Rattle.caller_steps.specs.Entries.{Entry, RoomyEntry, idle_entry, one_more, is_idle}
 use Rattle.caller_steps.specs.After.{taken}
-use Rattle.core_runs.specs.Machine.{CoreState, CoreEvent}
+use Rattle.core_runs.specs.Machine.{CoreState}
 use Rattle.core_runs.specs.Advances.{Stays, Stops, counted_on}
 use Rattle.core_runs.specs.Histories.{running_of, calls_of, calls_in}
-use Rattle.core_runs.specs.Scripts.{script_of, AreOfScript, HasEnded, last_steps, IsCompleteRun}
+use Rattle.core_runs.specs.Scripts.{script_of, AreOfScript, HasEnded, IsCompleteRun}
 use Rattle.core_runs.proofs.Advancing.{runs_end}
 use Rattle.core_runs.proofs.Keeping.{kept_calls}
 use Rattle.core_sound.specs.Sound.{IsSound}
 use Rattle.table_rule.specs.Seen.{Fixed}
-use Rattle.table_rule.specs.Rule.{IsReached, callers_of}
+use Rattle.table_rule.specs.Rule.{IsReached}
 use Rattle.table_rule.specs.Seats.{cores}
-use Rattle.table_rule.specs.Closing.{IsClosed}
-use Rattle.table_rule.proofs.Moves.{sound}
 use Rattle.word_runner.specs.Shown.{Operated}
 use Rattle.thread_runs.specs.Scripts.{Took, Ended}
-use Rattle.thread_runs.specs.Whole.{AllEnded, IsFinalOf}
+use Rattle.thread_runs.specs.Whole.{AllEnded}
 
 counted_exact : (n : ℕ) (ws : List ℕ) → n + length ws < 2 ^ 64 → counted_on n ws ≡ n + length ws
 counted_exact n [] lt = omega arith

@@ -1,8 +1,7 @@
 -- What an outcome says, from the steps that were made.
-use Rattle.std.proofs.Common.{◌≡◌, ◌≢◌, ◌⊎◌, ℕ, ◌+◌, ◌<◌, Bool, true, false, List, [], ◌∷◌, ◌++◌, length, Option, Some, None, refl, sym, ap, ◌∙◌, subst, inl, inr, ⊎_elim, arith}
+use Rattle.std.proofs.Common.{◌≡◌, ◌⊎◌, ℕ, ◌+◌, true, false, List, [], ◌∷◌, ◌++◌, Option, Some, None, refl, sym, ap, ◌∙◌, subst, ⊎_elim}
 use Rattle.caller_parts.specs.declared.call.Call.{Call}
 use Rattle.caller_parts.specs.declared.call.Reply.{Reply}
-use Rattle.caller_parts.specs.declared.call.Replied.{Replied}
 use Rattle.caller_parts.specs.declared.call.Running.{Running}
 use Rattle.caller_parts.specs.Pairing.{replied_by}
 use Rattle.caller_steps.specs.Entries.{Entry, is_idle}

@@ -1,11 +1,10 @@
 -- What an outcome says of the entry.
-use Rattle.std.specs.Prelude.{ℕ, ◌≡◌, ◌++◌, ◌∷◌, true, false, List, [], Option, Some, None, map}
+use Rattle.std.specs.Prelude.{◌≡◌, ◌++◌, ◌∷◌, true, false, List, [], Option, Some, None}
 use Rattle.caller_parts.specs.declared.call.Call.{Call}
 use Rattle.caller_parts.specs.declared.call.Reply.{Reply}
 use Rattle.caller_parts.specs.declared.call.Reply.TheVariants as replies
 use Rattle.caller_parts.specs.declared.call.Replied.{Replied}
 use Rattle.caller_steps.specs.Entries.{Entry, is_idle}
-use Rattle.caller_parts.specs.Pairing.{reply_of}
 use Rattle.word_runner.specs.declared.caller.Outcome.{Outcome}
 use Rattle.word_runner.specs.declared.caller.Outcome.TheVariants as outcomes
 

@@ -1,0 +1,136 @@
+-- The laws of the chain of ready slots in the runs of all callers.
+use Rattle.std.proofs.Common.{ℕ, ◌≡◌, ◌≢◌, ◌≤◌, ◌<◌, ◌∙◌, ◌++◌, List, [], ◌∷◌, Option, Some, None, arith, sym, ap, refl}
+use Rattle.norm_lang.specs.declared.text.Text.{Text}
+use Rattle.target_code.specs.declared.target.Target.{Target}
+use Rattle.barrier_check.specs.Paired.{Paired, IsSound}
+use Rattle.oa_words.specs.Words.{Head}
+use Rattle.oa_words.specs.Packed.{head_parts}
+use Rattle.oa_words.specs.Starts.{Suits}
+use Rattle.chain_laws.specs.Chains.{stamp}
+use Rattle.chain_laws.proofs.Told.{pool_tells}
+use Rattle.source_machine.specs.Proper.{IsProper}
+use Rattle.target_runs.specs.Runnable.{IsRunnable}
+use Rattle.caller_parts.specs.Settings.{Setting, Fits, IsSetting}
+use Rattle.caller_laws.proofs.Methods.{setting_sane}
+use Rattle.caller_laws.proofs.Together.{methods}
+use Rattle.core_runs.specs.Machine.{CoreState, CoreEvent, Steps, beginning_of, core_event, core_run, core_start, run_on}
+use Rattle.core_runs.specs.Views.{IsShaped}
+use Rattle.core_runs.proofs.Reaching.{run_both, run_more}
+use Rattle.core_sound.proofs.Reached.{sound_is_shaped, start_suits}
+use Rattle.oa_simulation.specs.Shadow.{shadow}
+use Rattle.oa_simulation.proofs.Pools.{retires_used}
+use Rattle.oa_simulation.proofs.Refining.{plan_of, stands}
+use Rattle.chain_runs.specs.Slots.{Chained, PutsOnTop, SlotsAreChained, TakesTop, words}
+use Rattle.chain_runs.specs.Tops.{Moment, NotAfter, StepsNext, LastLoad, StandsAsBefore, Stood, TopsHaveStood}
+use Rattle.chain_runs.proofs.Chains.{is_in, none_in, stands_in}
+use Rattle.chain_runs.proofs.Going.{pool_with}
+use Rattle.chain_runs.proofs.Runs.{AllRetiring, PoolAt, Three, known, pool_at}
+use Rattle.chain_runs.proofs.Carrying.{chained, taken_slot}
+use Rattle.chain_runs.proofs.Loads.{expects, whole}
+
+-- a run's first event, and the others
+first_event : (target : Target) (setting : Setting) (event : CoreEvent) (more : List CoreEvent) (state later : CoreState) → core_run target setting (event ∷ more) state ≡ Some later
+    → (next : CoreState) × (core_event target setting state event ≡ Some next) × (core_run target setting more next ≡ Some later)
+first_event target setting event more state later is = of (core_event target setting state event) refl is where
+  of : (o : Option CoreState) → core_event target setting state event ≡ o → run_on o (core_run target setting more) ≡ Some later → (next : CoreState) × (core_event target setting state event ≡ Some next) × (core_run target setting more next ≡ Some later)
+  of None at rest = absurd (let z : None ≡ Some later = rest in cc)
+  of (Some next) at rest = (next, at, rest)
+
+-- from one moment to another
+from_to : (target : Target) (setting : Setting) (before between all : List CoreEvent) (state later : CoreState) → core_run target setting before (core_start target setting) ≡ Some state → core_run target setting all (core_start target setting) ≡ Some later
+    → before ++ between ≡ all → core_run target setting between state ≡ Some later
+from_to target setting before between all state later came goes split =
+    sym (run_both target setting before between (core_start target setting) state came) ∙ (ap (λ (events : List CoreEvent). core_run target setting events (core_start target setting)) split ∙ goes)
+
+small : (word : ℕ) → (head_parts word).top < 8192
+small word = omega arith
+
+module _ (target : Target) (text : Text) (setting : Setting) (runs : IsRunnable target text) (own : IsSetting setting) (fits : Fits target setting) (proper : IsProper text) where
+  few : setting.sizes.slots ≤ 4096
+  few = (setting_sane setting own).few
+
+  suits : Suits setting.sizes (beginning_of target setting)
+  suits = (start_suits target text setting runs own fits).suits
+
+  all : AllRetiring target setting
+  all state reached =
+      let k = stands target text setting reached.events state runs own fits proper reached.runs in
+      record {
+        shaped = sound_is_shaped target setting state (methods target text runs) (setting_sane setting own) fits k.sound;
+        used = retires_used (plan_of target text setting reached.events) state (shadow target text setting reached.events) k.beside;
+      }
+
+  shaped : (events : List CoreEvent) (state : CoreState) → core_run target setting events (core_start target setting) ≡ Some state → IsShaped target setting state
+  shaped events state is = (all state (record { events = events; runs = is })).shaped
+
+  pool : (events : List CoreEvent) (state : CoreState) → core_run target setting events (core_start target setting) ≡ Some state → PoolAt target setting few suits all state
+  pool events state is = pool_at target setting few suits all events state is
+
+  pub slots : (events : List CoreEvent) (state : CoreState) → core_run target setting events (core_start target setting) ≡ Some state → Chained target setting state
+  slots events state is =
+      let here = pool events state is in
+      chained target setting few state here.hands here.holds (shaped events state is)
+      (λ later c goes. (let there = pool (events ++ Steps c ∷ []) later (run_more target setting events (Steps c) (core_start target setting) state later is goes) in (there.hands, there.holds)))
+
+  pub tops : (events : List CoreEvent) (state : CoreState) → core_run target setting events (core_start target setting) ≡ Some state → Stood target setting events state
+  tops events state is = record {
+    expects = expects target setting shaped events state is;
+    stood = λ c found load again some m later. stood c found load again some m later;
+    above = λ c d q j below m next takes puts later goes. above c d q j below m next takes puts later goes;
+  } where
+    stood : (c found : ℕ) (load : LastLoad target setting events c found) → words setting state Head ≡ found → (head_parts found).top ≢ 0
+        → (m : Moment target setting events) → NotAfter target setting events load.at m → StandsAsBefore (words setting load.at.state) (words setting m.state) (head_parts found).top
+    stood c found load again some m later =
+        let q = (head_parts found).phase in
+        let t = (head_parts found).top in
+        let three : Three target setting few suits all q t = record {
+          before = load.at.before;
+          loaded = load.at.state;
+          leads = load.at.leads;
+          head = load.finds ∙ whole found;
+          small = small found;
+          some = some;
+          events = later.0;
+          between = m.state;
+          goes = from_to target setting load.at.before later.0 m.before load.at.state m.state load.at.leads m.leads later.1;
+          more = m.rest;
+          later = state;
+          ends = from_to target setting m.before m.rest events m.state state m.leads is m.split;
+        } in
+        let k = known target setting few suits all q t three in
+        let is = k.stood (again ∙ whole found) in
+        record { stands = stands_in setting.sizes (words setting m.state) k.between t k.between_holds.fine is.0; link = is.1 }
+
+    above : (c d q j below : ℕ) (m : Moment target setting events) → StepsNext target setting events m c → TakesTop setting m.state c q j → PutsOnTop setting state d j below
+        → (later : CoreState) → core_event target setting state (Steps d) ≡ Some later → q < stamp (words setting later)
+    above c d q j below m next takes puts later goes =
+        let run = from_to target setting m.before (Steps c ∷ next.0) events m.state state m.leads is (sym (ap (λ (rest : List CoreEvent). m.before ++ rest) next.1) ∙ m.split) in
+        let first = first_event target setting (Steps c) next.0 m.state state run in
+        let at_m = pool m.before m.state m.leads in
+        let slot = taken_slot target setting few m.state at_m.hands at_m.holds c q j takes in
+        let gone = ((slots m.before m.state m.leads).taken c q j first.0 takes first.1).0 in
+        let back = ((slots events state is).put d j below later puts goes).0 in
+        let three : Three target setting few suits all q j = record {
+          before = m.before;
+          loaded = m.state;
+          leads = m.leads;
+          head = takes.found;
+          small = omega (arith, slot.1, few);
+          some = λ z. omega (arith, slot.0, z);
+          events = Steps c ∷ [];
+          between = first.0;
+          goes = ap (λ (o : Option CoreState). run_on o (core_run target setting [])) first.1;
+          more = next.0 ++ Steps d ∷ [];
+          later = later;
+          ends = run_more target setting next.0 (Steps d) first.0 state later first.2 goes;
+        } in
+        let k = known target setting few suits all q j three in
+        k.above
+        (none_in setting.sizes (words setting first.0) k.between j k.between_holds.fine ((pool_tells setting.sizes (pool_with setting first.0 k.between) k.between_holds).once j) gone)
+        (is_in setting.sizes (words setting later) k.later j k.later_holds.fine back)
+
+pub slots_are_chained : (pair : Paired) (setting : Setting) → IsSound pair → IsSetting setting → Fits pair.target setting → SlotsAreChained pair.target pair.source setting
+slots_are_chained pair setting sound own fits proper events state is = slots pair.target pair.source setting (record { small = sound.small; normal = sound.normal; within = sound.within; barred = sound.barred }) own fits proper events state is
+
+pub tops_have_stood : (pair : Paired) (setting : Setting) → IsSound pair → IsSetting setting → Fits pair.target setting → TopsHaveStood pair.target pair.source setting
+tops_have_stood pair setting sound own fits proper events state is = tops pair.target pair.source setting (record { small = sound.small; normal = sound.normal; within = sound.within; barred = sound.barred }) own fits proper events state is

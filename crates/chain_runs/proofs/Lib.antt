@@ -1,0 +1,6 @@
+pub mod Chains
+pub mod Going
+pub mod Runs
+pub mod Carrying
+pub mod Loads
+pub mod Law

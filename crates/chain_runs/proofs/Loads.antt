@@ -1,0 +1,356 @@
+-- An exchange on the head word expects what its caller's last load of it found: where a caller stands in a look or a push, its last load
+-- found the phase and the top that it has.
+use Rattle.std.proofs.Common.{ℕ, ◌≡◌, ◌≢◌, ◌+◌, ◌-◌, ◌<◌, ◌∙◌, ◌++◌, ◌==◌, ◌&&◌, not, Bool, true, false, List, [], ◌∷◌, Option, Some, None, arith, ⊎_elim, sym, ap, subst, refl, append_assoc, append-nil, if◌then◌else◌}
+use Rattle.std.specs.Prelude.{nat_lt}
+use Rattle.std.proofs.Math.Seq.{append_snoc}
+use Rattle.target_code.specs.declared.target.Target.{Target}
+use Rattle.oa_words.specs.declared.packed.Kind.{Kind}
+use Rattle.oa_words.specs.declared.packed.Kind.TheVariants as kinds
+use Rattle.oa_words.specs.Words.{Word, Phase, Status, Head, Sizes, slot_range}
+use Rattle.oa_words.specs.Packed.{StatusParts, head_parts, head_word, status_parts, status_word}
+use Rattle.guard_words.specs.Guards.{has_slot}
+use Rattle.phase_pools.specs.declared.access.ClaimEnd.{ClaimEnd}
+use Rattle.phase_pools.specs.declared.access.ClaimEnd.TheVariants as ends
+use Rattle.phase_pools.specs.declared.access.SweepEnd.{SweepEnd}
+use Rattle.phase_pools.specs.declared.access.SweepEnd.TheVariants as swept
+use Rattle.phase_pools.specs.declared.stages.SweepStage.{SweepStage}
+use Rattle.phase_pools.specs.declared.stages.SweepStage.TheVariants as sweeps
+use Rattle.phase_pools.specs.declared.stages.ClaimStage.{ClaimStage}
+use Rattle.phase_pools.specs.declared.stages.ClaimStage.TheVariants as claims
+use Rattle.phase_pools.specs.declared.stages.RetireStage.{RetireStage}
+use Rattle.phase_pools.specs.declared.stages.RetireStage.TheVariants as retires
+use Rattle.phase_pools.specs.Accesses.{WordAccess, Loads, Exchanges, word_of}
+use Rattle.phase_pools.specs.Pools.{Sweep, SweepTurn, sweep_begun, sweep_goes, sweep_ends, sweep_on, sweep_wants_at, sweep_accepts_at, hazard_next, warn_next, has_lower, freeing, status_read, Claim, ClaimTurn, claim_goes, claim_ends, claim_wants, claim_wants_at, claim_accepts, claim_accepts_at, look_ended, sweep_ended, retire_wants_at}
+use Rattle.chain_laws.specs.Machine.{Elsewhere}
+use Rattle.chain_laws.proofs.Lists.{each_put}
+use Rattle.caller_parts.specs.declared.routine.Routine.{Routine}
+use Rattle.caller_parts.specs.declared.routine.Routine.TheVariants.{Idle, LoadSeen, At, InList, Retires, Restarts, Clears, Claims, Zeroes}
+use Rattle.caller_parts.specs.Settings.{Setting}
+use Rattle.caller_steps.specs.Entries.{Entry}
+use Rattle.caller_steps.specs.Wants.{wants}
+use Rattle.caller_steps.specs.After.{after, taken}
+use Rattle.core_runs.specs.Machine.{CoreState, CoreEvent, Takes, Steps, core_event, core_run, core_start, run_on}
+use Rattle.core_runs.specs.Views.{IsShaped, Moves, view}
+use Rattle.core_runs.proofs.Reaching.{run_more, some_is}
+use Rattle.core_runs.proofs.Seeing.{events_are_seen}
+use Rattle.core_runs.proofs.Starting.{start_is_seen}
+use Rattle.caller_laws.proofs.Equations.{wants_claims, wants_retires}
+use Rattle.caller_laws.proofs.Routed.{HoldsAtBegins, after_routed}
+use Rattle.core_sound.specs.Standing.{standing_of}
+use Rattle.core_sound.proofs.Stamping.{elsewhere_wants}
+use Rattle.chain_runs.specs.Slots.{words}
+use Rattle.chain_runs.specs.Tops.{Moment, LoadsHead, LastLoad}
+use Rattle.chain_runs.proofs.Chains.{snoc_split}
+use Rattle.chain_runs.proofs.Carrying.{same_access}
+
+steps_same : (c d : ℕ) → Steps c ≡ Steps d → c ≡ d
+steps_same c d is = cc
+
+-- the parts of a head word make it
+pub whole : (word : ℕ) → word ≡ head_word (head_parts word).phase (head_parts word).top
+whole word = omega arith
+
+-- what holds of both holds of the one that a test chooses
+either_way : {A : Type 0} (P : A → Type 0) (b : Bool) (x y : A) → P x → P y → P (if b then x else y)
+either_way P true x y one other = one
+either_way P false x y one other = other
+
+module _ (target : Target) (setting : Setting) where
+  -- ---- one more event
+
+  -- no load of the head by c comes after these events
+  abbrev pub IsLast : List CoreEvent → ℕ → List CoreEvent → Type 0
+  IsLast events c before = (m : Moment target setting events) → LoadsHead target setting events m c → (between : List CoreEvent) × (m.before ++ between ≡ before)
+
+  -- what is made now is the last
+  pub now_last : (past : List CoreEvent) (c : ℕ) → IsLast (past ++ Steps c ∷ []) c past
+  now_last past c m loads = ⊎_elim
+      (λ (last : (m.before ≡ past) × (Steps c ≡ Steps c)). ([], append-nil m.before ∙ last.0))
+      (λ (among : (less : List CoreEvent) × (m.before ++ (Steps c ∷ less) ≡ past)). (Steps c ∷ among.0, among.1))
+      (snoc_split m.before (Steps c) loads.0.0 past (Steps c) (sym (ap (λ (l : List CoreEvent). m.before ++ l) loads.0.1) ∙ m.split))
+
+  -- an event that is no load of the head by c leaves the last one the last
+  pub still_last : (past : List CoreEvent) (state : CoreState) (event : CoreEvent) (c : ℕ) (before : List CoreEvent) → core_run target setting past (core_start target setting) ≡ Some state
+      → (event ≡ Steps c → wants target ((view setting state).who c) ≢ Some (Loads Head)) → IsLast past c before → IsLast (past ++ event ∷ []) c before
+  still_last past state event c before runs none l m loads = ⊎_elim
+      (λ (last : (m.before ≡ past) × (Steps c ≡ event)).
+      let same : m.state ≡ state = some_is m.state state (sym m.leads ∙ (ap (λ (e : List CoreEvent). core_run target setting e (core_start target setting)) last.0 ∙ runs)) in
+      absurd (none (sym last.1) (ap (λ (s : CoreState). wants target ((view setting s).who c)) (sym same) ∙ loads.1)))
+      (λ (among : (less : List CoreEvent) × (m.before ++ (Steps c ∷ less) ≡ past)).
+      l (record { before = m.before; rest = Steps c ∷ among.0; split = among.1; state = m.state; leads = m.leads }) ((among.0, refl), loads.1))
+      (snoc_split m.before (Steps c) loads.0.0 past event (sym (ap (λ (e : List CoreEvent). m.before ++ e) loads.0.1) ∙ m.split))
+
+  loaded_now : (past : List CoreEvent) (state : CoreState) (c found : ℕ) → core_run target setting past (core_start target setting) ≡ Some state → wants target ((view setting state).who c) ≡ Some (Loads Head)
+      → words setting state Head ≡ found → LastLoad target setting (past ++ Steps c ∷ []) c found
+  loaded_now past state c found runs want finds = record {
+    at = record { before = past; rest = Steps c ∷ []; split = refl; state = state; leads = runs };
+    loads = (([], refl), want);
+    finds = finds;
+    last = now_last past c;
+  }
+
+  still_loaded : (past : List CoreEvent) (state : CoreState) (event : CoreEvent) (c found : ℕ) → core_run target setting past (core_start target setting) ≡ Some state → (event ≡ Steps c → wants target ((view setting state).who c) ≢ Some (Loads Head))
+      → LastLoad target setting past c found → LastLoad target setting (past ++ event ∷ []) c found
+  still_loaded past state event c found runs none l = record {
+    at = record { before = l.at.before; rest = l.at.rest ++ event ∷ []; split = sym (append_assoc l.at.before l.at.rest (event ∷ [])) ∙ ap (λ (e : List CoreEvent). e ++ event ∷ []) l.at.split; state = l.at.state; leads = l.at.leads };
+    loads = ((l.loads.0.0 ++ event ∷ [], ap (λ (e : List CoreEvent). e ++ event ∷ []) l.loads.0.1), l.loads.1);
+    finds = l.finds;
+    last = still_last past state event c l.at.before runs none l.last;
+  }
+
+  -- ---- where a caller stands in a look or a push
+
+  abbrev Found : List CoreEvent → ℕ → ℕ → ℕ → Type 0
+  Found events c q t = LastLoad target setting events c (head_word q t)
+
+  abbrev AtSweep : List CoreEvent → ℕ → SweepStage → Type 0
+  AtSweep events c sweeps.ReadPhase = Unit {0}
+  AtSweep events c (sweeps.RaisePhase p) = Unit {0}
+  AtSweep events c (sweeps.Warn d) = Unit {0}
+  AtSweep events c (sweeps.ReadHazard d r) = Unit {0}
+  AtSweep events c (sweeps.ReadStatus j) = Unit {0}
+  AtSweep events c (sweeps.MakeReady j q) = Unit {0}
+  AtSweep events c (sweeps.PushHead j) = Unit {0}
+  AtSweep events c (sweeps.PushLink j q t) = Found events c q t
+  AtSweep events c (sweeps.PushTop j q t) = Found events c q t
+
+  abbrev AtStage : List CoreEvent → ℕ → Sweep → ClaimStage → Type 0
+  AtStage events c sweep claims.ReadHead = Unit {0}
+  AtStage events c sweep (claims.ReadLink q t) = Found events c q t
+  AtStage events c sweep (claims.Take q t next) = Found events c q t
+  AtStage events c sweep (claims.StoreUsed q t) = Unit {0}
+  AtStage events c sweep claims.Sweeps = AtSweep events c sweep.stage
+
+  abbrev AtRoutine : List CoreEvent → ℕ → Routine → Type 0
+  AtRoutine events c Idle = Unit {0}
+  AtRoutine events c (LoadSeen why) = Unit {0}
+  AtRoutine events c At = Unit {0}
+  AtRoutine events c (InList k) = Unit {0}
+  AtRoutine events c (Retires retirement go) = Unit {0}
+  AtRoutine events c Restarts = Unit {0}
+  AtRoutine events c (Clears next) = Unit {0}
+  AtRoutine events c (Claims claim) = AtStage events c claim.sweep claim.stage
+  AtRoutine events c (Zeroes k field) = Unit {0}
+
+  -- what a caller that doesn't move keeps
+  module _ (past more : List CoreEvent) (c : ℕ) (keep : (q t : ℕ) → Found past c q t → Found more c q t) where
+    stays_sweep : (stage : SweepStage) → AtSweep past c stage → AtSweep more c stage
+    stays_sweep sweeps.ReadPhase k = tt
+    stays_sweep (sweeps.RaisePhase p) k = tt
+    stays_sweep (sweeps.Warn d) k = tt
+    stays_sweep (sweeps.ReadHazard d r) k = tt
+    stays_sweep (sweeps.ReadStatus j) k = tt
+    stays_sweep (sweeps.MakeReady j q) k = tt
+    stays_sweep (sweeps.PushHead j) k = tt
+    stays_sweep (sweeps.PushLink j q t) k = keep q t k
+    stays_sweep (sweeps.PushTop j q t) k = keep q t k
+
+    stays_stage : (sweep : Sweep) (stage : ClaimStage) → AtStage past c sweep stage → AtStage more c sweep stage
+    stays_stage sweep claims.ReadHead k = tt
+    stays_stage sweep (claims.ReadLink q t) k = keep q t k
+    stays_stage sweep (claims.Take q t next) k = keep q t k
+    stays_stage sweep (claims.StoreUsed q t) k = tt
+    stays_stage sweep claims.Sweeps k = stays_sweep sweep.stage k
+
+    stays_routine : (r : Routine) → AtRoutine past c r → AtRoutine more c r
+    stays_routine Idle k = tt
+    stays_routine (LoadSeen why) k = tt
+    stays_routine At k = tt
+    stays_routine (InList n) k = tt
+    stays_routine (Retires retirement go) k = tt
+    stays_routine Restarts k = tt
+    stays_routine (Clears next) k = tt
+    stays_routine (Claims claim) k = stays_stage claim.sweep claim.stage k
+    stays_routine (Zeroes n field) k = tt
+
+  -- ---- a step of a claim
+
+  -- what the access that c wants makes of its last load: another access than a load of the head keeps it, a load of the head is it
+  record Turns (past : List CoreEvent) (c : ℕ) (memory : Word → ℕ) (a : WordAccess) : Type 0 where
+    keeps : (q t : ℕ) → a ≢ Loads Head → Found past c q t → Found (past ++ Steps c ∷ []) c q t
+    loads : a ≡ Loads Head → Found (past ++ Steps c ∷ []) c (head_parts (memory Head)).phase (head_parts (memory Head)).top
+
+  turns_by : (past : List CoreEvent) (state : CoreState) (c : ℕ) (a : WordAccess) → core_run target setting past (core_start target setting) ≡ Some state → wants target ((view setting state).who c) ≡ Some a → Turns past c (words setting state) a
+  turns_by past state c a runs want = record {
+    keeps = λ q t other l. still_loaded past state (Steps c) c (head_word q t) runs (λ same load. other (same_access a (Loads Head) (sym want ∙ load))) l;
+    loads = λ is. loaded_now past state c _ runs (want ∙ ap Some is) (whole (words setting state Head));
+  }
+
+  abbrev SweepNow : List CoreEvent → ℕ → SweepTurn → Option SweepEnd → Type 0
+  SweepNow events c turn None = AtSweep events c turn.sweep.stage
+  SweepNow events c turn (Some end) = Unit {0}
+
+  abbrev ClaimNow : List CoreEvent → ℕ → ClaimTurn → Option ClaimEnd → Type 0
+  ClaimNow events c turn None = AtStage events c turn.claim.sweep turn.claim.stage
+  ClaimNow events c turn (Some end) = Unit {0}
+
+  module _ (past : List CoreEvent) (c : ℕ) (memory : Word → ℕ) where
+    abbrev now : List CoreEvent
+    now = past ++ Steps c ∷ []
+
+    abbrev IsSwept : SweepTurn → Type 0
+    IsSwept turn = SweepNow now c turn turn.ended
+
+    abbrev IsClaimed : ClaimTurn → Type 0
+    IsClaimed turn = ClaimNow now c turn turn.ended
+
+    sweep_onward : (n : Sizes) (sweep : Sweep) (j : ℕ) → IsSwept (sweep_on n sweep j)
+    sweep_onward n sweep j = either_way IsSwept (has_lower n j) (sweep_goes sweep (sweeps.ReadStatus (j - 1))) (sweep_ends sweep swept.Swept) tt tt
+
+    hazard_onward : (n : Sizes) (d r : ℕ) → AtSweep now c (hazard_next n d r)
+    hazard_onward n d r = either_way (AtSweep now c) (nat_lt (r + 1) 8) (sweeps.ReadHazard d (r + 1)) (if nat_lt (d + 1) n.callers then sweeps.ReadHazard (d + 1) 0 else sweeps.ReadStatus (slot_range n).last) tt
+        (either_way (AtSweep now c) (nat_lt (d + 1) n.callers) (sweeps.ReadHazard (d + 1) 0) (sweeps.ReadStatus (slot_range n).last) tt tt)
+
+    warn_onward : (n : Sizes) (d : ℕ) → AtSweep now c (warn_next n d)
+    warn_onward n d = either_way (AtSweep now c) (nat_lt (d + 1) n.callers) (sweeps.Warn (d + 1)) (sweeps.ReadHazard 0 0) tt tt
+
+    freeing_onward : (n : Sizes) (sweep : Sweep) (j q : ℕ) (kind : Kind) → IsSwept (freeing n sweep j q kind)
+    freeing_onward n sweep j q kinds.Ready = sweep_onward n sweep j
+    freeing_onward n sweep j q kinds.Used = sweep_onward n sweep j
+    freeing_onward n sweep j q kinds.Retired = either_way IsSwept (nat_lt q sweep.bound && not (has_slot sweep.gathered j)) (sweep_goes sweep (sweeps.MakeReady j q)) (sweep_on n sweep j) tt (sweep_onward n sweep j)
+
+    status_onward : (n : Sizes) (sweep : Sweep) (j : ℕ) (o : Option StatusParts) → IsSwept (status_read n sweep j o)
+    status_onward n sweep j None = sweep_onward n sweep j
+    status_onward n sweep j (Some parts) = freeing_onward n sweep j parts.phase parts.kind
+
+    sweep_onwards : (n : Sizes) (last : ℕ) (sweep : Sweep) (stage : SweepStage) → Turns past c memory (sweep_wants_at stage sweep.bound) → AtSweep past c stage
+        → IsSwept (sweep_accepts_at n last sweep (memory (word_of (sweep_wants_at stage sweep.bound))) stage)
+    sweep_onwards n last sweep sweeps.ReadPhase t k = either_way IsSwept (memory Phase == last) (sweep_ends sweep (swept.PhasesOver (memory Phase))) (sweep_goes sweep (sweeps.RaisePhase (memory Phase))) tt tt
+    sweep_onwards n last sweep (sweeps.RaisePhase p) t k = tt
+    sweep_onwards n last sweep (sweeps.Warn d) t k = warn_onward n d
+    sweep_onwards n last sweep (sweeps.ReadHazard d r) t k = hazard_onward n d r
+    sweep_onwards n last sweep (sweeps.ReadStatus j) t k = status_onward n sweep j (status_parts (memory (Status j)))
+    sweep_onwards n last sweep (sweeps.MakeReady j q) t k = either_way IsSwept (memory (Status j) == status_word q kinds.Retired) (sweep_goes sweep (sweeps.PushHead j)) (sweep_on n sweep j) tt (sweep_onward n sweep j)
+    sweep_onwards n last sweep (sweeps.PushHead j) t k = t.loads refl
+    sweep_onwards n last sweep (sweeps.PushLink j q x) t k = t.keeps q x (λ is. cc) k
+    sweep_onwards n last sweep (sweeps.PushTop j q x) t k = either_way IsSwept (memory Head == head_word q x) (sweep_on n sweep j) (sweep_goes sweep (sweeps.PushHead j)) (sweep_onward n sweep j) tt
+
+    look_onward : (claim : Claim) → IsClaimed (look_ended claim)
+    look_onward claim = either_way IsClaimed (claim.sweeps == 2) (claim_ends claim ends.Full) (record { claim = record claim { stage = claims.Sweeps; sweep = sweep_begun }; ended = None }) tt tt
+
+    swept_onward : (claim : Claim) (turn : SweepTurn) (end : Option SweepEnd) → claim.stage ≡ claims.Sweeps → SweepNow now c turn end → ClaimNow now c (sweep_ended claim turn.sweep end) (sweep_ended claim turn.sweep end).ended
+    swept_onward claim turn None is k = subst (λ (stage : ClaimStage). AtStage now c turn.sweep stage) (sym is) k
+    swept_onward claim turn (Some swept.Swept) is k = tt
+    swept_onward claim turn (Some (swept.PhasesOver p)) is k = tt
+
+    claim_onwards : (n : Sizes) (last : ℕ) (claim : Claim) (stage : ClaimStage) → claim.stage ≡ stage → Turns past c memory (claim_wants_at claim.sweep stage) → AtStage past c claim.sweep stage
+        → IsClaimed (claim_accepts_at n last claim (memory (word_of (claim_wants_at claim.sweep stage))) stage)
+    claim_onwards n last claim claims.ReadHead is t k =
+        let parts = head_parts (memory Head) in either_way IsClaimed (parts.top == 0) (look_ended claim) (claim_goes claim (claims.ReadLink parts.phase parts.top)) (look_onward claim) (t.loads refl)
+    claim_onwards n last claim (claims.ReadLink q x) is t k = t.keeps q x (λ same. cc) k
+    claim_onwards n last claim (claims.Take q x next) is t k = either_way IsClaimed (memory Head == head_word q x) (claim_goes claim (claims.StoreUsed q x)) (claim_goes claim claims.ReadHead) tt tt
+    claim_onwards n last claim (claims.StoreUsed q x) is t k = tt
+    claim_onwards n last claim claims.Sweeps is t k =
+        let turn = sweep_accepts_at n last claim.sweep (memory (word_of (sweep_wants_at claim.sweep.stage claim.sweep.bound))) claim.sweep.stage in
+        swept_onward claim turn turn.ended is (sweep_onwards n last claim.sweep claim.sweep.stage t k)
+
+    -- a claim that goes on hasn't ended
+    not_ended : (turn : ClaimTurn) → turn.ended ≡ None → ClaimNow now c turn turn.ended → AtStage now c turn.claim.sweep turn.claim.stage
+    not_ended turn is k = subst (λ (o : Option ClaimEnd). ClaimNow now c turn o) is k
+
+  -- ---- events
+
+  begins_loadless : (events : List CoreEvent) (c : ℕ) → HoldsAtBegins setting.sizes (AtRoutine events c)
+  begins_loadless events c = record { idle = tt; seen = λ why. tt; here = tt; lists = λ k. tt; retires = λ j go. tt; restarts = tt; clears = λ next. tt; claims = tt; zeroes = λ k field. tt }
+
+  own_step : (past : List CoreEvent) (state : CoreState) (c : ℕ) (a : WordAccess) → core_run target setting past (core_start target setting) ≡ Some state → wants target ((view setting state).who c) ≡ Some a → AtRoutine past c ((view setting state).who c).routine
+      → AtRoutine (past ++ Steps c ∷ []) c (after target setting ((view setting state).who c) (words setting state (word_of a))).routine
+  own_step past state c a runs want k = after_routed target setting (AtRoutine (past ++ Steps c ∷ []) c) (begins_loadless (past ++ Steps c ∷ []) c) ((view setting state).who c) (words setting state (word_of a)) (record {
+    claims = λ claim same goes. goes_on claim same goes;
+    retires = λ retirement left go same goes. tt;
+  }) where
+    goes_on : (claim : Claim) → ((view setting state).who c).routine ≡ Claims claim → (claim_accepts setting.sizes setting.last claim (words setting state (word_of a))).ended ≡ None
+        → AtRoutine (past ++ Steps c ∷ []) c (Claims (claim_accepts setting.sizes setting.last claim (words setting state (word_of a))).claim)
+    goes_on claim same goes =
+        let is : a ≡ claim_wants claim = same_access a (claim_wants claim) (sym want ∙ wants_claims target ((view setting state).who c) claim same) in
+        let here : AtStage past c claim.sweep claim.stage = subst (AtRoutine past c) same k in
+        let turns : Turns past c (words setting state) (claim_wants claim) = subst (Turns past c (words setting state)) is (turns_by past state c a runs want) in
+        let on = claim_onwards past c (words setting state) setting.sizes setting.last claim claim.stage refl turns here in
+        let ended : (claim_accepts setting.sizes setting.last claim (words setting state (word_of (claim_wants claim)))).ended ≡ None =
+        ap (λ (b : WordAccess). (claim_accepts setting.sizes setting.last claim (words setting state (word_of b))).ended) (sym is) ∙ goes in
+        subst (λ (b : WordAccess). AtRoutine (past ++ Steps c ∷ []) c (Claims (claim_accepts setting.sizes setting.last claim (words setting state (word_of b))).claim)) (sym is)
+        (not_ended past c (words setting state) (claim_accepts setting.sizes setting.last claim (words setting state (word_of (claim_wants claim)))) ended on)
+
+  abbrev AllAt : List CoreEvent → CoreState → Type 0
+  AllAt events state = (c : ℕ) → c < setting.sizes.callers → AtRoutine events c ((view setting state).who c).routine
+
+  event_at : (past : List CoreEvent) (state later : CoreState) (event : CoreEvent) → core_run target setting past (core_start target setting) ≡ Some state → Moves target setting (view setting state) event (view setting later) → AllAt past state
+      → AllAt (past ++ event ∷ []) later
+  event_at past state later (Takes d call) runs m all =
+      subst (λ (who : ℕ → Entry). (c : ℕ) → c < setting.sizes.callers → AtRoutine (past ++ Takes d call ∷ []) c (who c).routine) (sym m.4)
+      (each_put (λ c (e : Entry). c < setting.sizes.callers → AtRoutine (past ++ Takes d call ∷ []) c e.routine) (view setting state).who d (taken call ((view setting state).who d)) (λ lt. tt)
+      (λ c ne lt. stays_routine past (past ++ Takes d call ∷ []) c
+      (λ q t l. still_loaded past state (Takes d call) c (head_word q t) runs (λ same. absurd (let no : Takes d call ≡ Steps c = same in cc)) l)
+      ((view setting state).who c).routine (all c lt)))
+  event_at past state later (Steps d) runs m all =
+      subst (λ (who : ℕ → Entry). (c : ℕ) → c < setting.sizes.callers → AtRoutine (past ++ Steps d ∷ []) c (who c).routine) (sym m.5)
+      (each_put (λ c (e : Entry). c < setting.sizes.callers → AtRoutine (past ++ Steps d ∷ []) c e.routine) (view setting state).who d (after target setting ((view setting state).who d) ((view setting state).memory (word_of m.0)))
+      (λ lt. own_step past state d m.0 runs m.2 (all d lt))
+      (λ c ne lt. stays_routine past (past ++ Steps d ∷ []) c
+      (λ q t l. still_loaded past state (Steps d) c (head_word q t) runs (λ same. absurd (ne (sym (steps_same d c same)))) l)
+      ((view setting state).who c).routine (all c lt)))
+
+  -- ---- runs
+
+  start_at : AllAt [] (core_start target setting)
+  start_at c lt = subst (λ (e : Entry). AtRoutine [] c e.routine) (sym ((start_is_seen target setting).who c)) tt
+
+  from : ((past : List CoreEvent) (state : CoreState) → core_run target setting past (core_start target setting) ≡ Some state → IsShaped target setting state)
+      → (more past : List CoreEvent) (now later : CoreState) → core_run target setting past (core_start target setting) ≡ Some now → AllAt past now → core_run target setting more now ≡ Some later → AllAt (past ++ more) later
+  from shaped [] past now later came all is = subst (λ (events : List CoreEvent). AllAt events later) (sym (append-nil past)) (subst (AllAt past) (some_is now later is) all)
+  from shaped (event ∷ more) past now later came all is =
+      of (λ mid at. from shaped more (past ++ event ∷ []) mid later (run_more target setting past event (core_start target setting) now mid came at)
+      (event_at past now mid event came ((events_are_seen target setting).moves now mid event (shaped past now came) at) all)) (core_event target setting now event) refl is where
+        of : ((mid : CoreState) → core_event target setting now event ≡ Some mid → core_run target setting more mid ≡ Some later → AllAt ((past ++ event ∷ []) ++ more) later)
+            → (o : Option CoreState) → core_event target setting now event ≡ o → run_on o (core_run target setting more) ≡ Some later → AllAt (past ++ event ∷ more) later
+        of further None at rest = absurd (let z : None ≡ Some later = rest in cc)
+        of further (Some mid) at rest = subst (λ (events : List CoreEvent). AllAt events later) (append_snoc past event more) (further mid at rest)
+
+  -- ---- what an exchange on the head expects
+
+  elsewhere : (e : Entry) (expected replacement : ℕ) → standing_of e.routine ≡ Elsewhere → wants target e ≡ Some (Exchanges Head expected replacement) → ⊥
+  elsewhere e expected replacement at want = let no : false ≡ true = elsewhere_wants target e (Exchanges Head expected replacement) at want in cc
+
+  retiring : (slot : ℕ) (stage : RetireStage) (expected replacement : ℕ) → retire_wants_at slot stage ≡ Exchanges Head expected replacement → ⊥
+  retiring slot retires.ReadPhase expected replacement is = cc
+  retiring slot (retires.StoreStatus p) expected replacement is = cc
+
+  -- the word that an exchange expects
+  expected_is : (x y expected replacement : ℕ) → Exchanges Head x y ≡ Exchanges Head expected replacement → x ≡ expected
+  expected_is x y expected replacement is = cc
+
+  sweeping : (events : List CoreEvent) (c expected replacement bound : ℕ) (stage : SweepStage) → AtSweep events c stage → sweep_wants_at stage bound ≡ Exchanges Head expected replacement → LastLoad target setting events c expected
+  sweeping events c expected replacement bound sweeps.ReadPhase k is = absurd cc
+  sweeping events c expected replacement bound (sweeps.RaisePhase p) k is = absurd cc
+  sweeping events c expected replacement bound (sweeps.Warn d) k is = absurd cc
+  sweeping events c expected replacement bound (sweeps.ReadHazard d r) k is = absurd cc
+  sweeping events c expected replacement bound (sweeps.ReadStatus j) k is = absurd cc
+  sweeping events c expected replacement bound (sweeps.MakeReady j q) k is = absurd cc
+  sweeping events c expected replacement bound (sweeps.PushHead j) k is = absurd cc
+  sweeping events c expected replacement bound (sweeps.PushLink j q t) k is = absurd cc
+  sweeping events c expected replacement bound (sweeps.PushTop j q t) k is = subst (LastLoad target setting events c) (expected_is (head_word q t) _ expected replacement is) k
+
+  claiming : (events : List CoreEvent) (c expected replacement : ℕ) (sweep : Sweep) (stage : ClaimStage) → AtStage events c sweep stage → claim_wants_at sweep stage ≡ Exchanges Head expected replacement → LastLoad target setting events c expected
+  claiming events c expected replacement sweep claims.ReadHead k is = absurd cc
+  claiming events c expected replacement sweep (claims.ReadLink q t) k is = absurd cc
+  claiming events c expected replacement sweep (claims.Take q t next) k is = subst (LastLoad target setting events c) (expected_is (head_word q t) _ expected replacement is) k
+  claiming events c expected replacement sweep (claims.StoreUsed q t) k is = absurd cc
+  claiming events c expected replacement sweep claims.Sweeps k is = sweeping events c expected replacement sweep.bound sweep.stage k is
+
+  expects_at : (events : List CoreEvent) (c expected replacement : ℕ) (e : Entry) (r : Routine) → e.routine ≡ r → AtRoutine events c r → wants target e ≡ Some (Exchanges Head expected replacement) → LastLoad target setting events c expected
+  expects_at events c expected replacement e Idle at k want = absurd (elsewhere e expected replacement (ap standing_of at) want)
+  expects_at events c expected replacement e (LoadSeen why) at k want = absurd (elsewhere e expected replacement (ap standing_of at) want)
+  expects_at events c expected replacement e At at k want = absurd (elsewhere e expected replacement (ap standing_of at) want)
+  expects_at events c expected replacement e (InList n) at k want = absurd (elsewhere e expected replacement (ap standing_of at) want)
+  expects_at events c expected replacement e (Retires retirement go) at k want =
+      absurd (retiring retirement.slot retirement.stage expected replacement (same_access _ _ (sym (wants_retires target e retirement go at) ∙ want)))
+  expects_at events c expected replacement e Restarts at k want = absurd (elsewhere e expected replacement (ap standing_of at) want)
+  expects_at events c expected replacement e (Clears next) at k want = absurd (elsewhere e expected replacement (ap standing_of at) want)
+  expects_at events c expected replacement e (Claims claim) at k want = claiming events c expected replacement claim.sweep claim.stage k (same_access _ _ (sym (wants_claims target e claim at) ∙ want))
+  expects_at events c expected replacement e (Zeroes n field) at k want = absurd (elsewhere e expected replacement (ap standing_of at) want)
+
+  -- at every state of a run
+  pub expects : ((past : List CoreEvent) (state : CoreState) → core_run target setting past (core_start target setting) ≡ Some state → IsShaped target setting state) → (events : List CoreEvent) (state : CoreState) → core_run target setting events (core_start target setting) ≡ Some state
+      → (c expected replacement : ℕ) → c < setting.sizes.callers → wants target ((view setting state).who c) ≡ Some (Exchanges Head expected replacement) → LastLoad target setting events c expected
+  expects shaped events state is c expected replacement lt want =
+      expects_at events c expected replacement ((view setting state).who c) ((view setting state).who c).routine refl (from shaped events [] (core_start target setting) state refl start_at is c lt) want

@@ -1,0 +1,74 @@
+-- The chain of ready slots in a state of the core, and who has a ready slot that doesn't stand in it.
+use Rattle.std.specs.Prelude.{ℕ, ◌≡◌, ◌≢◌, ◌≤◌, ◌⊎◌, List, Some}
+use Rattle.norm_lang.specs.declared.text.Text.{Text}
+use Rattle.target_code.specs.declared.target.Target.{Target}
+use Rattle.oa_words.specs.declared.packed.Kind.TheVariants as kinds
+use Rattle.oa_words.specs.Words.{Word, Status, Head, Link}
+use Rattle.oa_words.specs.Packed.{status_word, head_word}
+use Rattle.phase_pools.specs.declared.stages.SweepStage.TheVariants as sweeps
+use Rattle.phase_pools.specs.declared.stages.ClaimStage.TheVariants as claims
+use Rattle.phase_pools.specs.Pools.{Claim}
+use Rattle.chain_laws.specs.Chains.{IsChain, IsOf, IsSlot, links, stamp, times, top}
+use Rattle.chain_laws.specs.Standing.{slot_of_claim}
+use Rattle.source_machine.specs.Proper.{IsProper}
+use Rattle.caller_parts.specs.declared.routine.Routine.TheVariants.{Claims}
+use Rattle.caller_parts.specs.Settings.{Setting}
+use Rattle.core_runs.specs.Machine.{CoreState, CoreEvent, Steps, core_event, core_run, core_start}
+use Rattle.core_runs.specs.Views.{view}
+
+-- a slot stands in the chain: from the head's top on each slot's link names the one below it, 0 stands below the lowest, and the slot
+-- is among them once. Words have at most one such chain
+pub record InChain (memory : Word → ℕ) (j : ℕ) : Type 0 where
+  pub chain : List ℕ
+  pub linked : IsChain (links memory) (top memory) chain
+  pub once : times j chain ≡ 1
+
+-- the words of a state by their names
+abbrev pub words : Setting → CoreState → Word → ℕ
+words setting state = (view setting state).memory
+
+-- a claim of c has taken the slot and hasn't stored that it is used, or its sweep pushes the slot
+pub record Carries (setting : Setting) (state : CoreState) (c j : ℕ) : Type 0 where
+  pub claim : Claim
+  pub at : ((view setting state).who c).routine ≡ Claims claim
+  pub slot : slot_of_claim claim.sweep claim.stage ≡ j
+
+-- c stands before the exchange of a claim that takes slot j: it finds the head that it expects, with this phase
+pub record TakesTop (setting : Setting) (state : CoreState) (c phase j : ℕ) : Type 0 where
+  pub claim : Claim
+  pub next : ℕ
+  pub at : ((view setting state).who c).routine ≡ Claims claim
+  pub stage : claim.stage ≡ claims.Take phase j next
+  pub found : words setting state Head ≡ head_word phase j
+
+-- c stands before the exchange of a push of slot j: it finds the head that it expects, with this top
+pub record PutsOnTop (setting : Setting) (state : CoreState) (c j below : ℕ) : Type 0 where
+  pub claim : Claim
+  pub phase : ℕ
+  pub at : ((view setting state).who c).routine ≡ Claims claim
+  pub in_sweep : claim.stage ≡ claims.Sweeps
+  pub stage : claim.sweep.stage ≡ sweeps.PushTop j phase below
+  pub found : words setting state Head ≡ head_word phase below
+
+pub record Chained (target : Target) (setting : Setting) (state : CoreState) : Type 0 where
+  -- there is a chain, and no slot stands in it twice
+  pub chain : List ℕ
+  pub linked : IsChain (links (words setting state)) (top (words setting state)) chain
+  pub single : (j : ℕ) → times j chain ≤ 1
+  -- a slot of the chain is ready, with a phase up to the head's
+  pub stands : (j : ℕ) → InChain (words setting state) j → IsSlot setting.sizes j × ((q : ℕ) × (words setting state (Status j) ≡ status_word q kinds.Ready) × (q ≤ stamp (words setting state)))
+  -- a ready slot stands in the chain, or a caller carries it
+  pub ready : (j : ℕ) → IsSlot setting.sizes j → IsOf kinds.Ready (words setting state (Status j)) → InChain (words setting state) j ⊎ ((c : ℕ) × Carries setting state c j)
+  -- which no two callers do, and none a slot of the chain
+  pub alone : (j c d : ℕ) → j ≢ 0 → Carries setting state c j → Carries setting state d j → c ≡ d
+  pub apart : (j c : ℕ) → j ≢ 0 → Carries setting state c j → ¬ InChain (words setting state) j
+  -- a claim's exchange takes its slot from the chain, and leaves on top what the slot's link names
+  pub takes : (c q j : ℕ) (takes : TakesTop setting state c q j) → InChain (words setting state) j × (words setting state (Link j) ≡ takes.next)
+  pub taken : (c q j : ℕ) (later : CoreState) → TakesTop setting state c q j → core_event target setting state (Steps c) ≡ Some later → (¬ InChain (words setting later) j) × Carries setting later c j
+  -- a push's exchange puts a slot on top that isn't in the chain and is linked to what was on top
+  pub puts : (c j below : ℕ) → PutsOnTop setting state c j below → (¬ InChain (words setting state) j) × (words setting state (Link j) ≡ below)
+  pub put : (c j below : ℕ) (later : CoreState) → PutsOnTop setting state c j below → core_event target setting state (Steps c) ≡ Some later → InChain (words setting later) j × (top (words setting later) ≡ j)
+
+-- of a proper text
+abbrev pub SlotsAreChained : Target → Text → Setting → Type 0
+SlotsAreChained target text setting = IsProper text → (events : List CoreEvent) (state : CoreState) → core_run target setting events (core_start target setting) ≡ Some state → Chained target setting state

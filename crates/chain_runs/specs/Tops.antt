@@ -1,0 +1,62 @@
+-- What stands on top of the chain between a load of the head word and an exchange, and under which phase a slot comes back there.
+use Rattle.std.specs.Prelude.{ℕ, ◌≡◌, ◌≢◌, ◌<◌, List, ◌∷◌, ◌++◌, Some}
+use Rattle.norm_lang.specs.declared.text.Text.{Text}
+use Rattle.target_code.specs.declared.target.Target.{Target}
+use Rattle.oa_words.specs.Words.{Word, Head, Link}
+use Rattle.oa_words.specs.Packed.{head_parts}
+use Rattle.phase_pools.specs.Accesses.{Loads, Exchanges}
+use Rattle.chain_laws.specs.Chains.{stamp}
+use Rattle.source_machine.specs.Proper.{IsProper}
+use Rattle.caller_parts.specs.Settings.{Setting}
+use Rattle.caller_steps.specs.Wants.{wants}
+use Rattle.core_runs.specs.Machine.{CoreState, CoreEvent, Steps, core_event, core_run, core_start}
+use Rattle.core_runs.specs.Views.{view}
+use Rattle.chain_runs.specs.Slots.{InChain, TakesTop, PutsOnTop, words}
+
+-- a moment of a run: the events before it, those after it, and the state
+pub record Moment (target : Target) (setting : Setting) (events : List CoreEvent) : Type 0 where
+  pub before : List CoreEvent
+  pub rest : List CoreEvent
+  pub split : before ++ rest ≡ events
+  pub state : CoreState
+  pub leads : core_run target setting before (core_start target setting) ≡ Some state
+
+-- one moment isn't after another
+abbrev pub NotAfter : (target : Target) (setting : Setting) (events : List CoreEvent) → Moment target setting events → Moment target setting events → Type 0
+NotAfter target setting events m later = (between : List CoreEvent) × (m.before ++ between ≡ later.before)
+
+-- the next event is c's step
+abbrev pub StepsNext : (target : Target) (setting : Setting) (events : List CoreEvent) → Moment target setting events → ℕ → Type 0
+StepsNext target setting events m c = (after : List CoreEvent) × (m.rest ≡ Steps c ∷ after)
+
+-- and it loads the head word
+abbrev pub LoadsHead : (target : Target) (setting : Setting) (events : List CoreEvent) → Moment target setting events → ℕ → Type 0
+LoadsHead target setting events m c = StepsNext target setting events m c × (wants target ((view setting m.state).who c) ≡ Some (Loads Head))
+
+-- the last load of the head word by c in a run, and the word that it found
+pub record LastLoad (target : Target) (setting : Setting) (events : List CoreEvent) (c found : ℕ) : Type 0 where
+  pub at : Moment target setting events
+  pub loads : LoadsHead target setting events at c
+  pub finds : words setting at.state Head ≡ found
+  pub last : (m : Moment target setting events) → LoadsHead target setting events m c → NotAfter target setting events m at
+
+-- a slot as it stood in the chain at a moment, with its link
+pub record StandsAsBefore (before now : Word → ℕ) (j : ℕ) : Type 0 where
+  pub stands : InChain now j
+  pub link : now (Link j) ≡ before (Link j)
+
+-- after a run's events, in the state that they lead to
+pub record Stood (target : Target) (setting : Setting) (events : List CoreEvent) (state : CoreState) : Type 0 where
+  -- an exchange on the head word expects what its caller's last load of it found
+  pub expects : (c expected replacement : ℕ) → c < setting.sizes.callers → wants target ((view setting state).who c) ≡ Some (Exchanges Head expected replacement) → LastLoad target setting events c expected
+  -- where the head word is what that load found, and a slot is on top, that slot has stood in the chain at each moment since the load, and
+  -- its link is unchanged
+  pub stood : (c found : ℕ) (load : LastLoad target setting events c found) → words setting state Head ≡ found → (head_parts found).top ≢ 0
+      → (m : Moment target setting events) → NotAfter target setting events load.at m → StandsAsBefore (words setting load.at.state) (words setting m.state) (head_parts found).top
+  -- a slot that was taken from under a head with phase q is pushed again only under a greater phase
+  pub above : (c d q j below : ℕ) (m : Moment target setting events) → StepsNext target setting events m c → TakesTop setting m.state c q j → PutsOnTop setting state d j below
+      → (later : CoreState) → core_event target setting state (Steps d) ≡ Some later → q < stamp (words setting later)
+
+-- of a proper text
+abbrev pub TopsHaveStood : Target → Text → Setting → Type 0
+TopsHaveStood target text setting = IsProper text → (events : List CoreEvent) (state : CoreState) → core_run target setting events (core_start target setting) ≡ Some state → Stood target setting events state

@@ -1,0 +1,31 @@
+//! Laws of the chain of ready slots, of every run of a barred target of a proper text.
+
+ghost use Rattle.caller_parts.specs.Settings.{Fits};
+ghost use Rattle.chain_runs.specs.Slots.{SlotsAreChained};
+ghost use Rattle.chain_runs.specs.Tops.{TopsHaveStood};
+
+use barrier_check::Barred;
+use caller_steps::Setting;
+use oa_simulation::laws::kept;
+
+/// For a proper text, in each state of each run: a slot is ready exactly where it stands in the chain, or a caller has taken it from
+/// there and hasn't stored that it is used, or a caller pushes it; and that is one caller alone. A claim's exchange that finds the head
+/// as it expects it takes the slot from the chain, and a push's puts its slot there.
+pub fn slots_are_chained(barred: &Barred, setting: &Setting)
+    requires fits { Fits barred.now.target setting.now }
+    ensures { SlotsAreChained barred.now.target barred.now.source setting.now }
+{
+    kept(barred);
+    setting.kept();
+}
+
+/// For a proper text: an exchange on the head word expects what its caller's last load of it found. Where the head word is again what a
+/// caller's last load found, and a slot is on top, that slot has stood in the chain at each moment since, and its link is unchanged.
+/// And a slot that was taken from under a head with a phase is pushed again only under a greater one.
+pub fn tops_have_stood(barred: &Barred, setting: &Setting)
+    requires fits { Fits barred.now.target setting.now }
+    ensures { TopsHaveStood barred.now.target barred.now.source setting.now }
+{
+    kept(barred);
+    setting.kept();
+}

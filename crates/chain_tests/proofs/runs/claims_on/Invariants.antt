@@ -1,5 +1,0 @@
-use Rattle.chain_pools.specs.Ranges.{ClaimInRange}
-use Rattle.chain_tests.proofs.runs.claims_on.Given as goal
-
-abbrev pub invariant-loop-access : goal.invariant-loop-access
-invariant-loop-access g l = ClaimInRange l.shape l.claim.sweep l.claim.stage

@@ -1,5 +1,0 @@
-use Rattle.chain_pools.specs.Ranges.{SweepInRange}
-use Rattle.chain_tests.proofs.runs.sweeps_on.Given as goal
-
-abbrev pub invariant-loop-access : goal.invariant-loop-access
-invariant-loop-access g l = SweepInRange l.shape l.sweep.stage

@@ -1,5 +1,0 @@
-pub mod Words
-pub mod Within
-pub mod Packed
-pub mod Starts
-pub mod Laws
