@@ -57,8 +57,8 @@ for slots in 64 512 4096; do
       for (i = 0; i < pairs; i++) { print "enqueue " i; print "dequeue" }
     }
   }' >"$work/in"
-  "$oa" run <"$work/in" >"$work/out" || true
-  [ "$(tail -n 1 "$work/out" | cut -d ' ' -f 1-4)" = "replies $((2 * total)) short 0" ] || { echo "not all calls ended: $(tail -n 1 "$work/out")"; exit 1; }
+  counts=$("$oa" run <"$work/in" | tail -n 1)
+  [ "$(cut -d ' ' -f 1-4 <<<"$counts")" = "replies $((2 * total)) short 0" ] || { echo "not all calls ended: $counts"; exit 1; }
   spent=$(($(least run "$work/in") - $(least show "$work/in")))
-  echo "queue, $slots slots, 8 callers that claim and retire: $((2 * total * 1000000 / (spent > 0 ? spent : 1))) calls a second, $(tail -n 1 "$work/out" | cut -d ' ' -f 5-)"
+  echo "queue, $slots slots, 8 callers that claim and retire: $((2 * total * 1000000 / (spent > 0 ? spent : 1))) calls a second, $(cut -d ' ' -f 5- <<<"$counts")"
 done
