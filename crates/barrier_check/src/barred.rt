@@ -22,7 +22,7 @@ use std::marker::Model;
 use target_code::target::Target;
 
 /// A target that is barred for its source. Contracts see it as both.
-#[derive(Debug, Drop)]
+#[derive(Drop)]
 pub struct Barred {
     target: Target,
     source: Text,

@@ -1,4 +1,4 @@
--- The word that a store found is no matter.
+-- The word that a store found doesn't matter.
 use Rattle.std.proofs.Common.{◌≡◌, ◌∙◌, ℕ, zero, suc, Bool, Option, Some, None, refl, ap}
 use Rattle.std.specs.Prelude.{slice_get}
 use Rattle.norm_lang.specs.declared.text.Place.{Place}

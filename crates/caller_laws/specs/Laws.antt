@@ -43,7 +43,7 @@ pub record EntriesFitCode (target : Target) (setting : Setting) : Type 0 where
   pub near : (e : Entry) → Belongs target setting e → e.hand.at < 2 ^ 62
   pub slots : (e : Entry) → Belongs target setting e → AreSlots e.hand.registers × AreSlots e.hand.started
 
--- the word that a store found is no matter
+-- the word that a store found doesn't matter
 pub record StoresTellNothing (target : Target) (setting : Setting) : Type 0 where
   pub each : (e : Entry) (w : Word) (x a b : ℕ) → wants target e ≡ Some (Stores w x)
       → (after target setting e a ≡ after target setting e b) × (signs target setting e a ≡ signs target setting e b)

@@ -11,7 +11,7 @@ pub fn entries_belong()
     ensures puts { ForRuns PutsFindNodes }
 {}
 
-/// The word that a store found is no matter to what follows.
+/// The word that a store found doesn't matter to what follows.
 pub fn stores_tell_nothing()
     ensures { ForRuns StoresTellNothing }
 {}

@@ -1,7 +1,7 @@
 //! Calls of operations, and what they get.
 
 /// A call of an operation by its number; the arguments past the operation's count are 0.
-#[derive(Clone, Copy, Debug, PartialEq, Eq)]
+#[derive(Clone, Copy)]
 pub struct Call {
     /// The operation.
     pub op: u8,
@@ -23,7 +23,7 @@ pub enum Reply {
 }
 
 /// A call, and how many steps were made for it; the count stays at 2^64 - 1.
-#[derive(Clone, Copy, Debug, PartialEq, Eq)]
+#[derive(Clone, Copy)]
 pub struct Running {
     /// The call.
     pub call: Call,
@@ -32,7 +32,7 @@ pub struct Running {
 }
 
 /// A reply with the call that got it, and the count of steps that were made for it.
-#[derive(Clone, Copy, Debug, PartialEq, Eq)]
+#[derive(Clone, Copy)]
 pub struct Replied {
     /// The call.
     pub call: Call,

@@ -8,7 +8,7 @@ use std::marker::Model;
 use target_code::target::{Target, TargetInstr, TargetOp};
 
 /// A target, and for each of its operations which of the reference registers r0 to r7 its wrap-up keeps.
-#[derive(Debug, Drop)]
+#[derive(Drop)]
 pub struct Program<'a> {
     target: &'a Target,
     kept: &'a [[bool; 8]],

@@ -9,7 +9,7 @@ use std::alloc::{AllocError, Global};
 use std::marker::Model;
 
 /// Replies in order, each seen with its call and the steps made for it. The room for them is taken when the list is made.
-#[derive(Debug, Drop)]
+#[derive(Drop)]
 pub struct Replies {
     replies: Reserved<Reply>,
     runs: Reserved<Running>,

@@ -5,7 +5,7 @@ use phase_pools::claim::ClaimState;
 use phase_pools::retire::RetireState;
 
 /// The method run that begins with a load of the own warning.
-#[derive(Clone, Copy, Debug, PartialEq, Eq)]
+#[derive(Clone, Copy)]
 pub enum MethodStart {
     /// An operation's first run of its generator.
     Begin,
@@ -16,7 +16,7 @@ pub enum MethodStart {
 }
 
 /// What follows once no guard is left to clear.
-#[derive(Clone, Copy, Debug, PartialEq, Eq)]
+#[derive(Clone, Copy)]
 pub enum AfterClear {
     /// The fields of a `new`, or first its claim.
     New,
@@ -29,7 +29,7 @@ pub enum AfterClear {
 }
 
 /// What follows a retirement.
-#[derive(Clone, Copy, Debug, PartialEq, Eq)]
+#[derive(Clone, Copy)]
 pub enum AfterRetire {
     /// The next instruction.
     Next,
@@ -38,7 +38,7 @@ pub enum AfterRetire {
 }
 
 /// Where a caller stands between two accesses.
-#[derive(Debug, Drop)]
+#[derive(Drop)]
 pub enum Routine {
     /// No call runs.
     Idle,

@@ -17,7 +17,7 @@ pub enum SettingFault {
 
 /// The shape of the row of words, the first and the last phase, and how many initial nodes there are: no more than slots.
 /// Phases are from 1 to 2^50.
-#[derive(Debug, Drop)]
+#[derive(Drop)]
 pub struct Setting {
     shape: Shape,
     first: u64,

@@ -14,7 +14,7 @@ use std::alloc::Global;
 use std::thread::Threads;
 
 /// What a row says of a setting, and for how many replies its callers have room.
-#[derive(Clone, Copy, Debug, PartialEq, Eq)]
+#[derive(Clone, Copy)]
 struct Terms {
     callers: u64,
     slots: u64,

@@ -2,6 +2,7 @@
 
 ghost use Rattle.word_runner.specs.Shown.{CameFrom};
 
+use crate::entries::add_replies;
 use crate::hall::{Hall, one_caller, two_callers};
 use crate::moves::{Who, move_of, who_in};
 use crate::numbers::number;
@@ -11,7 +12,7 @@ use std::alloc::{AllocError, Global};
 use word_runner::{Caller, Final, Outcome};
 
 /// How far a caller goes: with the call at this index of its script, or with the one that runs, by at most so many steps.
-#[derive(Clone, Copy, Debug, PartialEq, Eq)]
+#[derive(Clone, Copy)]
 enum Going {
     Operates { index: u64, budget: u64 },
     Resumes(u64),
@@ -130,15 +131,12 @@ fn go_together(
 
 fn add_entry(alloc: Global, out: &mut String, entry: &Entry) -> Result<(), AllocError> {
     out.push_str(format!(in alloc;
-        "\nclaims {}, restarts {}, replies",
+        "\nclaims {}, restarts {}, ",
         entry.claims(),
         entry.restarts()
     )?
     .as_str())?;
-    for reply in entry.replies() {
-        out.push_str(format!(in alloc; " {reply:?}")?.as_str())?;
-    }
-    Ok(())
+    add_replies(alloc, out, entry)
 }
 
 /// The phase and the entries at the end.

@@ -4,7 +4,7 @@ ghost use Rattle.caller_parts.specs.Settings.{Fits};
 ghost use Rattle.core_entries.specs.Callers.{BelongsTo};
 ghost use Rattle.core_entries.specs.Steps.{WordsSound};
 
-use crate::entries::tell_entry;
+use crate::entries::{add_replies, tell_entry};
 use crate::moves::{Deed, Who, move_in};
 use crate::starts::{entry_of, words_of};
 use crate::steps::{begin, step};
@@ -85,45 +85,22 @@ fn make_move(
     out.push('\n')
 }
 
-/// The callers of a row, one after another: the first, and the last of so many.
-fn make_moves(
+/// The replies of the first caller, and of the last if it is another.
+fn add_all_replies(
     alloc: Global,
-    barred: &Barred,
-    setting: &Setting,
-    first: &mut Entry,
-    last: &mut Entry,
-    words: &mut PlainWords,
-    moves: &str,
     out: &mut String,
-) -> Result<(), RowError>
-    requires first { BelongsTo barred.now setting.now first.old.core }
-    requires last { BelongsTo barred.now setting.now last.old.core }
-    requires lawful { WordsSound barred.now.target setting.now words.old }
-    ensures lawful { WordsSound barred.now.target setting.now words.new }
-{
-    for text in moves.split(", ") {
-        match move_in(text) {
-            Some((Who::First, deed)) => {
-                make_move(alloc, barred, setting, first, words, deed, out)?
-            }
-            Some((Who::Second, deed)) => {
-                make_move(alloc, barred, setting, last, words, deed, out)?
-            }
-            None => return Err(RowError::Wrong),
-        }
+    first: &Entry,
+    last: &Entry,
+) -> Result<(), AllocError> {
+    add_replies(alloc, out, first)?;
+    if last.number() == 0 {
+        return Ok(());
     }
-    Ok(())
+    out.push('\n')?;
+    add_replies(alloc, out, last)
 }
 
-fn add_replies(alloc: Global, out: &mut String, entry: &Entry) -> Result<(), AllocError> {
-    out.push_str("replies")?;
-    for reply in entry.replies() {
-        out.push_str(format!(in alloc; " {reply:?}")?.as_str())?;
-    }
-    Ok(())
-}
-
-/// The moves, and the replies of the first caller, and of the last if it is another.
+/// The moves of a row's callers, the first and the last of so many, and then their replies.
 fn act(
     alloc: Global,
     barred: &Barred,
@@ -138,13 +115,18 @@ fn act(
     requires last { BelongsTo barred.now setting.now last.old.core }
     requires lawful { WordsSound barred.now.target setting.now words.old }
 {
-    make_moves(alloc, barred, setting, first, last, words, moves, out)?;
-    add_replies(alloc, out, first)?;
-    if last.number() > 0 {
-        out.push('\n')?;
-        add_replies(alloc, out, last)?;
+    for text in moves.split(", ") {
+        match move_in(text) {
+            Some((Who::First, deed)) => {
+                make_move(alloc, barred, setting, first, words, deed, out)?
+            }
+            Some((Who::Second, deed)) => {
+                make_move(alloc, barred, setting, last, words, deed, out)?
+            }
+            None => return Err(RowError::Wrong),
+        }
     }
-    Ok(())
+    Ok(add_all_replies(alloc, out, first, last)?)
 }
 
 /// What the first and the last caller of a target do.

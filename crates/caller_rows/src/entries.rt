@@ -18,6 +18,19 @@ pub(crate) fn tell_entry(alloc: Global, entry: &Entry) -> Result<String, AllocEr
     )?)
 }
 
+/// The replies of an entry.
+pub(crate) fn add_replies(
+    alloc: Global,
+    out: &mut String,
+    entry: &Entry,
+) -> Result<(), AllocError> {
+    out.push_str("replies")?;
+    for reply in entry.replies() {
+        out.push_str(format!(in alloc; " {reply:?}")?.as_str())?;
+    }
+    Ok(())
+}
+
 fn made(alloc: Global, number: u32, room: u32, other: u32) -> Result<String, AllocError> {
     let mut entry = Entry::new(alloc, number, room)?;
     let first = tell_entry(alloc, &entry)?;

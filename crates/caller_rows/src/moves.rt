@@ -3,14 +3,14 @@
 use crate::numbers::number;
 
 /// One of the row's callers.
-#[derive(Clone, Copy, Debug, PartialEq, Eq)]
+#[derive(Clone, Copy)]
 pub(crate) enum Who {
     First,
     Second,
 }
 
 /// What a caller does.
-#[derive(Clone, Copy, Debug, PartialEq, Eq)]
+#[derive(Clone, Copy)]
 pub(crate) enum Deed {
     /// It takes a call of this operation with this argument.
     Calls { op: u8, arg: u64 },

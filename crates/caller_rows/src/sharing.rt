@@ -27,7 +27,7 @@ fn run_plan<R: Threads + Sync>(rt: &R, alloc: Global, plan: Plan) -> Option<Fina
 }
 
 /// How often an insertion and a removal answered 1, and how many answers were neither 0 nor 1.
-#[derive(Clone, Copy, Debug, PartialEq, Eq)]
+#[derive(Clone, Copy)]
 struct Tally {
     inserted: u64,
     removed: u64,

@@ -345,15 +345,9 @@ impl Entry {
         self.running.steps = one_more(self.running.steps);
         match &mut self.routine {
             Routine::Idle => {}
-            Routine::LoadSeen(why) => {
-                let why = *why;
-                self.seen_loaded(program, shape, why, word);
-            }
+            &mut Routine::LoadSeen(why) => self.seen_loaded(program, shape, why, word),
             Routine::At => self.instr_accepted(program, shape, word),
-            Routine::InList(k) => {
-                let k = *k;
-                self.list_accepted(program, shape, k, word);
-            }
+            &mut Routine::InList(k) => self.list_accepted(program, shape, k, word),
             Routine::Retires(retirement, onward) => {
                 let onward = *onward;
                 if retirement.accept(shape, word) {
@@ -362,10 +356,7 @@ impl Entry {
                 }
             }
             Routine::Restarts => self.restart_cleared(program, shape),
-            Routine::Clears(next) => {
-                let next = *next;
-                self.then_cleared(program, shape, next);
-            }
+            &mut Routine::Clears(next) => self.then_cleared(program, shape, next),
             Routine::Claims(claim) => {
                 let takes = claim.takes(shape, word);
                 let ended = claim.accept(shape, setting.last_phase(), word);
@@ -375,10 +366,7 @@ impl Entry {
                     self.claim_ended(program, end);
                 }
             }
-            Routine::Zeroes(k, field) => {
-                let (k, field) = (*k, *field);
-                self.zeroed(program, shape, k, field);
-            }
+            &mut Routine::Zeroes(k, field) => self.zeroed(program, shape, k, field),
         }
     }
 }

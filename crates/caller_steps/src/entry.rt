@@ -12,7 +12,7 @@ use std::alloc::{AllocError, Global};
 use std::marker::Model;
 
 /// The method run of a caller, which claims and retirements leave alone.
-#[derive(Debug, Drop)]
+#[derive(Drop)]
 pub struct Hand {
     /// Whether the method is the wrap-up, and not the generator.
     pub wrapup: bool,
@@ -31,7 +31,7 @@ pub struct Hand {
 }
 
 /// What a caller counts over all its calls; a count stays at 2^64 - 1.
-#[derive(Clone, Copy, Debug, PartialEq, Eq)]
+#[derive(Clone, Copy)]
 pub struct Counts {
     /// Checks that failed.
     pub restarts: u64,
@@ -43,7 +43,7 @@ pub struct Counts {
 ///
 /// The parts are nested by what changes them: the call and its steps, the method run, the cradles, where the caller stands,
 /// the replies, and the counts.
-#[derive(Debug, Drop)]
+#[derive(Drop)]
 pub struct Entry {
     /// The caller's number, from 0 on.
     pub number: u32,

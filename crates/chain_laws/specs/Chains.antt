@@ -1,4 +1,4 @@
--- The ready slots as a chain, and who has each slot.
+-- The ready slots as a chain, the stack of Treiber (1986) with a phase as its stamp, and who has each slot.
 use Rattle.std.specs.Prelude.{ℕ, suc, ◌≡◌, ◌≢◌, ◌≤◌, List, [], ◌∷◌, Option, Some, None, ◌==◌, if◌then◌else◌}
 use Rattle.oa_words.specs.declared.packed.Kind.{Kind}
 use Rattle.oa_words.specs.declared.packed.Kind.TheVariants as kinds

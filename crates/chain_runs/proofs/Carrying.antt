@@ -35,7 +35,7 @@ use Rattle.core_sound.specs.Standing.{standing_of}
 use Rattle.core_pools.specs.Pooled.{standings}
 use Rattle.chain_runs.specs.Slots.{Carries, Chained, InChain, PutsOnTop, TakesTop, words}
 use Rattle.chain_runs.proofs.Chains.{is_in, is_out, stands_in}
-use Rattle.chain_runs.proofs.Going.{pool_with}
+use Rattle.core_pools.proofs.Going.{pool_with}
 
 -- who has a slot in a claim carries it
 carries_by : (setting : Setting) (state : CoreState) (c j : ℕ) (r : Routine) → ((view setting state).who c).routine ≡ r → slot_of (standing_of r) ≡ j → IsClaiming (standing_of r) → Carries setting state c j

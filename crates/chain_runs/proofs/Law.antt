@@ -23,7 +23,7 @@ use Rattle.oa_simulation.proofs.Refining.{plan_of, stands}
 use Rattle.chain_runs.specs.Slots.{Chained, PutsOnTop, SlotsAreChained, TakesTop, words}
 use Rattle.chain_runs.specs.Tops.{Moment, NotAfter, StepsNext, LastLoad, StandsAsBefore, Stood, TopsHaveStood}
 use Rattle.chain_runs.proofs.Chains.{is_in, none_in, stands_in}
-use Rattle.chain_runs.proofs.Going.{pool_with}
+use Rattle.core_pools.proofs.Going.{pool_with}
 use Rattle.chain_runs.proofs.Runs.{AllRetiring, PoolAt, Three, known, pool_at}
 use Rattle.chain_runs.proofs.Carrying.{chained, taken_slot}
 use Rattle.chain_runs.proofs.Loads.{expects, whole}

@@ -1,5 +1,4 @@
 pub mod Chains
-pub mod Going
 pub mod Runs
 pub mod Carrying
 pub mod Loads

@@ -17,7 +17,7 @@ use Rattle.core_runs.proofs.Starting.{start_is_seen}
 use Rattle.core_pools.specs.Pooled.{RetiresUsed, standings, first_pool}
 use Rattle.core_pools.proofs.Leading.{RunsTo, run_more}
 use Rattle.core_pools.proofs.Pooling.{leads_hold, start_pooled}
-use Rattle.chain_runs.proofs.Going.{PoolRuns, event_runs, pool_with}
+use Rattle.core_pools.proofs.Going.{PoolRuns, event_runs, pool_with}
 
 -- what is known of each reachable state: its shape, and that what is retired is used and nobody else's
 pub record Retiring (target : Target) (setting : Setting) (state : CoreState) : Type 0 where

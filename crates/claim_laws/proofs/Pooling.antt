@@ -570,7 +570,7 @@ module _ (target : Target) (setting : Setting) (sane : Methods target) (some : S
         claims_fit = subst (λ (n : ℕ). ClaimsFit setting.sizes.slots (after_access m a) v' (after target setting e n).routine) found_seen
             (after_routed target setting (ClaimsFit setting.sizes.slots (after_access m a) v') begins_fit e (m (word_of a)) going_fit)
 
-        -- what is retired was claimed: nothing names a slot that wasn't
+        -- what is retired was claimed: no reference leads to a slot that wasn't
         own_fits : Fits setting.sizes.slots (after_access m a) v' (standing_of (after target setting e found).routine)
         own_fits = of (after target setting e found).routine refl claims_fit where
           later : Entry

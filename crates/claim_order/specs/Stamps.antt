@@ -1,4 +1,4 @@
--- The words of the chain stay within their limits, whatever is retired.
+-- The words of the chain (the stack of Treiber, 1986, whose head has a stamp) stay within their limits, whatever is retired.
 use Rattle.std.specs.Prelude.{ℕ, ◌≡◌, ◌≤◌, List, length, Some}
 use Rattle.oa_words.specs.Words.{Word, Phase, Link, Sizes}
 use Rattle.oa_words.specs.Starts.{Beginning}

@@ -9,7 +9,7 @@ use documents::MOST_CALLS;
 use oa_text::read_numeral;
 
 /// What is done with a document.
-#[derive(Clone, Copy, Debug, PartialEq, Eq)]
+#[derive(Clone, Copy)]
 pub enum Command {
     /// The document's calls are made, and their answers written.
     Run,
@@ -24,7 +24,7 @@ pub enum Command {
 }
 
 /// What the words ask for.
-#[derive(Clone, Copy, Debug, PartialEq, Eq)]
+#[derive(Clone, Copy)]
 pub enum Request {
     /// A command on the document that the source has.
     OfDocument(Command),
@@ -80,14 +80,14 @@ fn count_in(word: &[u8], most: u32) -> Option<u32>
 fn workload_in(words: &[String]) -> Option<Request>
     ensures { result ≡ workload_in (map string_bytes words.now) }
 {
-    let (count, others) = words.split_first()?;
-    let (callers, others) = others.split_first()?;
-    if !others.is_empty() {
-        return None;
+    match words {
+        [count, callers] => {
+            let count = count_in(count.as_bytes(), MOST_CALLS)?;
+            let callers = count_in(callers.as_bytes(), MOST_CALLERS)?;
+            Some(Request::Workload { count, callers })
+        }
+        _ => None,
     }
-    let count = count_in(count.as_bytes(), MOST_CALLS)?;
-    let callers = count_in(callers.as_bytes(), MOST_CALLERS)?;
-    Some(Request::Workload { count, callers })
 }
 
 /// What the words ask for, if they are in the grammar.
@@ -95,14 +95,15 @@ pub fn request_of(words: &[String]) -> Option<Request>
     ensures request { result ≡ request_of (map string_bytes words.now) }
     ensures range { IfSome result IsInRange }
 {
-    let (word, others) = words.split_first()?;
-    if others.is_empty() {
-        let command = command_named(word.as_str())?;
-        return Some(Request::OfDocument(command));
-    }
-    if word.as_str() == "workload" {
-        workload_in(others)
-    } else {
-        None
+    match words {
+        [] => None,
+        [word] => Some(Request::OfDocument(command_named(word.as_str())?)),
+        [word, others @ ..] => {
+            if word.as_str() == "workload" {
+                workload_in(others)
+            } else {
+                None
+            }
+        }
     }
 }

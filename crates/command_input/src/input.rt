@@ -35,7 +35,7 @@ impl From<Failed> for InputError {
 }
 
 /// How the reading of a source stands.
-#[derive(Clone, Copy, Debug, PartialEq, Eq)]
+#[derive(Clone, Copy)]
 enum Standing {
     /// Each read so far gave bytes.
     Open,
@@ -46,7 +46,7 @@ enum Standing {
 }
 
 /// How far a source was read: how it stands, and how many more bytes may be read.
-#[derive(Clone, Copy, Debug, PartialEq, Eq)]
+#[derive(Clone, Copy)]
 struct Reading {
     standing: Standing,
     room: usize,

@@ -1,7 +1,7 @@
 //! What the source gives and the sink takes.
 
 /// How many bytes the source gives and the sink takes a call, and the numbers of the calls that fail, from 1; 0 is none.
-#[derive(Clone, Copy, Debug)]
+#[derive(Clone, Copy)]
 pub(crate) struct World {
     pub(crate) most: usize,
     pub(crate) failing_read: u64,

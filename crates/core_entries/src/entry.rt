@@ -26,7 +26,7 @@ use std::marker::Model;
 /// Cohen and Petrank's optimistic access (SPAA 2015).
 ///
 /// It runs step by step: `pending` is the one access that it makes next, and `accept` takes the word that this access found.
-#[derive(Debug, Drop)]
+#[derive(Drop)]
 pub struct Entry {
     state: State,
     room: u32,

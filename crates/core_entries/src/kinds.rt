@@ -31,7 +31,7 @@ pub(crate) fn first_field(setting: &Setting) -> u32
     shape.field_at(0, 0)
 }
 
-/// The address of the pool's head, with which the words of the text have ended.
+/// The address of the pool's head: the word right after the last cell, so that fields and cells stand below it.
 pub(crate) fn pool_head(setting: &Setting) -> u32
     ensures { result ≡ head_base setting.now.sizes }
 {

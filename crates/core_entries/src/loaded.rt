@@ -8,7 +8,7 @@ use barrier_check::Barred;
 use std::marker::Model;
 
 /// A barred target beside the table of what its wrap-ups keep, which is made here once for all steps of all its callers.
-#[derive(Debug, Drop)]
+#[derive(Drop)]
 pub struct LoadedTarget {
     barred: Barred,
     rows: [[bool; 8]; 16],

@@ -10,7 +10,7 @@ use caller_steps::Program;
 use std::marker::Model;
 
 /// A barred target with the table of what its wrap-ups keep.
-#[derive(Debug, Drop)]
+#[derive(Drop)]
 pub struct Prepared<'a> {
     barred: &'a Barred,
     rows: [[bool; 8]; 16],

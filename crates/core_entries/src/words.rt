@@ -19,7 +19,7 @@ use std::marker::Model;
 use target_code::Target;
 
 /// The words of a row in a vector, for callers that take turns.
-#[derive(Debug, Drop)]
+#[derive(Drop)]
 pub struct PlainWords {
     words: Listed<u64>,
 }
@@ -113,7 +113,8 @@ fn slot_after(slots: u32, slot: u32) -> u32
     if slot < slots { slot + 1 } else { 0 }
 }
 
-/// The slots after those of the initial nodes are chained in ascending order.
+/// The link of a slot at the start: the slot below it in the chain of ready slots, which is the next greater one, and 0 for the
+/// last. Null and the slots of the initial nodes are in no chain, and have 0 too.
 fn start_link(setting: &Setting, slot: u32) -> u64
     ensures { result ≡ start_link setting.now.sizes.slots setting.now.nodes slot }
 {

@@ -1,92 +1,22 @@
--- Each event of the core is at most two of the pool: the access, and the routine that begins after it.
-use Rattle.std.proofs.Common.{ℕ, ◌≡◌, ◌≢◌, ◌+◌, ◌≤◌, ◌<◌, ◌∙◌, ◌++◌, ◌==◌, true, false, [], Option, Some, None, arith, ⊎_elim, sym, ap, subst, refl}
-use Rattle.std.specs.Prelude.{slice_get, unwrap_or}
-use Rattle.std.proofs.lemmas.Bool.{cases_lt}
-use Rattle.std.proofs.lemmas.Bool.Decides.{nat_tests, eqb_tells}
-use Rattle.std.proofs.lemmas.Option.{slice_get_within}
+-- The pool's state beside a core run from the start.
+use Rattle.std.proofs.Common.{ℕ, ◌≤◌, [], Some, refl, sym, ap}
 use Rattle.target_code.specs.declared.target.Target.{Target}
-use Rattle.oa_words.specs.declared.packed.Kind.TheVariants as kinds
-use Rattle.oa_words.specs.Words.{Word, Status, in_row}
 use Rattle.oa_words.specs.Starts.{Suits}
-use Rattle.phase_pools.specs.declared.access.ClaimEnd.{ClaimEnd}
-use Rattle.phase_pools.specs.declared.access.ClaimEnd.TheVariants as ends
-use Rattle.phase_pools.specs.Accesses.{WordAccess, word_of, word_after}
-use Rattle.phase_pools.specs.Pools.{Claim, claim_wants, claim_accepts, claim_takes, Retirement, retire_wants, retire_accepts}
-use Rattle.chain_laws.specs.Memories.{after_access, put}
-use Rattle.chain_laws.specs.Chains.{Hands, IsOf}
-use Rattle.chain_laws.specs.Machine.{Standing, Elsewhere, Claims, Retires, PoolState, claim_left, retirement_left, stepped, claim_hands, retire_hands}
+use Rattle.chain_laws.specs.Machine.{Standing, PoolState}
 use Rattle.chain_laws.specs.Told.{PoolTells}
 use Rattle.chain_laws.specs.Laws.{Holds}
 use Rattle.chain_laws.proofs.Tops.{chains_stand}
 use Rattle.chain_laws.proofs.Told.{pool_tells}
-use Rattle.chain_laws.proofs.Routines.{kinds_apart}
-use Rattle.caller_parts.specs.declared.call.Call.{Call}
-use Rattle.caller_parts.specs.declared.routine.AfterRetire.{AfterRetire}
-use Rattle.caller_parts.specs.declared.routine.Routine.{Routine}
-use Rattle.caller_parts.specs.declared.routine.Routine.TheVariants as routines
 use Rattle.caller_parts.specs.Settings.{Setting}
-use Rattle.caller_steps.specs.Entries.{Entry, idle_entry, is_idle}
-use Rattle.caller_steps.specs.Wants.{wants}
-use Rattle.caller_steps.specs.After.{after, taken, accepted, counted, claim_counted, claim_on, retired_on}
-use Rattle.core_runs.specs.Machine.{CoreState, CoreEvent, Takes, Steps, beginning_of, core_start}
-use Rattle.core_runs.specs.Views.{CoreView, IsShaped, Moves, view}
+use Rattle.caller_steps.specs.Entries.{Entry}
+use Rattle.core_runs.specs.Machine.{CoreState, CoreEvent, beginning_of, core_start}
+use Rattle.core_runs.specs.Views.{IsShaped, Moves, view}
 use Rattle.core_runs.proofs.Starting.{start_is_seen}
-use Rattle.caller_laws.proofs.Equations.{wants_claims, wants_retires}
-use Rattle.caller_laws.proofs.Routed.{HoldsAtBegins, after_routed}
 use Rattle.core_sound.specs.Standing.{standing_of}
-use Rattle.core_sound.proofs.Stamping.{elsewhere_wants}
-use Rattle.core_pools.specs.Pooled.{standings, first_pool, Leads, LeadsTo, Pooled, RetiresUsed}
-use Rattle.core_pools.proofs.Leading.{RunsTo, run_more, Begun, in_none, in_claim, in_retirement, MayRetire, put_again, comes, caller_steps, other_written}
-
-some_same : (a b : WordAccess) → Some a ≡ Some b → a ≡ b
-some_same a b is = cc
-
-elsewhere_idle : (r : Routine) → is_idle r ≡ true → standing_of r ≡ Elsewhere
-elsewhere_idle routines.Idle is = refl
-elsewhere_idle (routines.LoadSeen why) is = refl
-elsewhere_idle routines.At is = refl
-elsewhere_idle (routines.InList k) is = refl
-elsewhere_idle (routines.Retires retirement go) is = absurd (let z : false ≡ true = is in cc)
-elsewhere_idle routines.Restarts is = refl
-elsewhere_idle (routines.Clears next) is = refl
-elsewhere_idle (routines.Claims claim) is = absurd (let z : false ≡ true = is in cc)
-elsewhere_idle (routines.Zeroes k field) is = refl
-
--- an entry that changes, and where the callers stand
-put_entry : (W : ℕ → Standing) (who : ℕ → Entry) (c : ℕ) (e : Entry) → ((d : ℕ) → d ≢ c → W d ≡ standings who d) → put W c (standing_of e.routine) ≡ standings (put who c e)
-put_entry W who c e others = λ i d. at d i where
-  at : (d : ℕ) → put W c (standing_of e.routine) d ≡ standings (put who c e) d
-  at d = ⊎_elim
-      (λ (t : ((d == c) ≡ true) × (d ≡ c)). rw t.0 refl)
-      (λ (t : ((d == c) ≡ false) × (d ≢ c)). rw t.0 (others d t.1))
-      (eqb_tells d c)
-
-put_entry_same : (who : ℕ → Entry) (c : ℕ) (e : Entry) → put who c e c ≡ e
-put_entry_same who c e = let is : (c == c) ≡ true = grind (arith, nat_tests) in rw is refl
-
-put_standing_same : (who : ℕ → Standing) (c : ℕ) (s : Standing) → put who c s c ≡ s
-put_standing_same who c s = let is : (c == c) ≡ true = grind (arith, nat_tests) in rw is refl
-
-put_standing_other : (who : ℕ → Standing) (c d : ℕ) (s : Standing) → d ≢ c → put who c s d ≡ who d
-put_standing_other who c d s ne = let is : (d == c) ≡ false = grind (arith, nat_tests) in rw is refl
-
-put_entry_other : (who : ℕ → Entry) (c d : ℕ) (e : Entry) → d ≢ c → put who c e d ≡ who d
-put_entry_other who c d e ne = let is : (d == c) ≡ false = grind (arith, nat_tests) in rw is refl
-
--- past the callers there are idle ones, and past the row there is 0
-pub past_callers : (target : Target) (setting : Setting) (state : CoreState) (d : ℕ) → IsShaped target setting state → setting.sizes.callers ≤ d → standings (view setting state).who d ≡ Elsewhere
-past_callers target setting state d shaped le = of (slice_get state.entries d) refl where
-  of : (o : Option Entry) → slice_get state.entries d ≡ o → standing_of (unwrap_or o (idle_entry d)).routine ≡ Elsewhere
-  of None none = refl
-  of (Some e) some = let within = slice_get_within state.entries d e some in let callers = shaped.callers in absurd (let z : ⊥ = omega (arith, within, callers, le) in z)
-
-past_row : (setting : Setting) (state : CoreState) (w : Word) → in_row setting.sizes w ≡ false → (view setting state).memory w ≡ 0
-past_row setting state w out = rw out refl
+use Rattle.core_pools.specs.Pooled.{standings, first_pool, Leads, Pooled, RetiresUsed}
+use Rattle.core_pools.proofs.Going.{event_goes}
 
 module _ (target : Target) (setting : Setting) (few : setting.sizes.slots ≤ 4096) (suits : Suits setting.sizes (beginning_of target setting)) where
-  leads_more : (pool later : PoolState) → Leads target setting pool → RunsTo setting.sizes setting.last pool later → Leads target setting later
-  leads_more pool later l r = record { events = l.events ++ r.0; run = run_more setting.sizes setting.last l.events r.0 (first_pool target setting) pool l.run ∙ r.1 }
-
   -- what holds of the pool where events lead, and what it tells
   pub leads_hold : (pool : PoolState) → Leads target setting pool → Holds setting.sizes pool
   leads_hold pool l = chains_stand setting.sizes setting.last (beginning_of target setting) few suits.nodes _ (λ w row. (start_is_seen target setting).memory suits w row) l.events pool l.run
@@ -94,179 +24,16 @@ module _ (target : Target) (setting : Setting) (few : setting.sizes.slots ≤ 40
   pub leads_tell : (pool : PoolState) → Leads target setting pool → PoolTells setting.sizes pool
   leads_tell pool l = pool_tells setting.sizes pool (leads_hold pool l)
 
-  -- ---- where the caller stands after its step
-
-  anywhere : HoldsAtBegins setting.sizes (λ (routine : Routine). Begun setting.sizes (standing_of routine))
-  anywhere = record {
-    idle = in_none;
-    seen = λ why. in_none;
-    here = in_none;
-    lists = λ k. in_none;
-    retires = λ j go. in_retirement j;
-    restarts = in_none;
-    clears = λ next. in_none;
-    claims = in_claim;
-    zeroes = λ k field. in_none;
-  }
-
-  elsewhere_begins : (e : Entry) (word : ℕ) → standing_of e.routine ≡ Elsewhere → Begun setting.sizes (standing_of (after target setting e word).routine)
-  elsewhere_begins e word at = after_routed target setting (λ (routine : Routine). Begun setting.sizes (standing_of routine)) anywhere e word (record {
-    claims = λ claim same goes. absurd (let no : Claims claim ≡ Elsewhere = sym (ap standing_of same) ∙ at in cc);
-    retires = λ retirement left go same goes. absurd (let no : Retires retirement ≡ Elsewhere = sym (ap standing_of same) ∙ at in cc);
-  })
-
-  ended_begins : (e : Entry) (word : ℕ) (own : Retirement) (go : AfterRetire) → e.routine ≡ routines.Retires own go → retire_accepts own word ≡ None → Begun setting.sizes (standing_of (after target setting e word).routine)
-  ended_begins e word own go is ended = after_routed target setting (λ (routine : Routine). Begun setting.sizes (standing_of routine)) anywhere e word (record {
-    claims = λ claim same goes. absurd (let no : routines.Retires own go ≡ routines.Claims claim = sym is ∙ same in cc);
-    retires = λ other left next same goes.
-        (let both : routines.Retires own go ≡ routines.Retires other next = sym is ∙ same in
-        let one : own ≡ other = cc in
-        absurd (let no : None ≡ Some left = sym ended ∙ (ap (λ (x : Retirement). retire_accepts x word) one ∙ goes) in cc));
-  })
-
-  claims_stand : (e : Entry) (word : ℕ) (own : Claim) → e.routine ≡ routines.Claims own
-      → standing_of (after target setting e word).routine ≡ claim_left (claim_accepts setting.sizes setting.last own word).claim (claim_accepts setting.sizes setting.last own word).ended
-  unfolding after
-  claims_stand e word own is =
-      let turn = claim_accepts setting.sizes setting.last own word in
-      ap (λ (r : Routine). standing_of (accepted target setting word (counted e) r).entry.routine) is ∙ of turn.claim turn.ended (claim_counted (claim_takes own word) (counted e)) where
-        of : (next : Claim) (end : Option ClaimEnd) (e : Entry) → standing_of (claim_on target next end e).entry.routine ≡ claim_left next end
-        of next None e = refl
-        of next (Some (ends.Claimed j)) e = refl
-        of next (Some ends.Full) e = refl
-        of next (Some (ends.PhasesOver p)) e = refl
-
-  retires_stand : (e : Entry) (word : ℕ) (own left : Retirement) (go : AfterRetire) → e.routine ≡ routines.Retires own go → retire_accepts own word ≡ Some left → standing_of (after target setting e word).routine ≡ Retires left
-  unfolding after
-  retires_stand e word own left go is goes =
-      ap (λ (r : Routine). standing_of (accepted target setting word (counted e) r).entry.routine) is
-      ∙ ap (λ (o : Option Retirement). standing_of (retired_on target setting.sizes go o (counted e)).entry.routine) goes
-
-  -- ---- a routine begins
-
-  begins_on : (c : ℕ) (pool : PoolState) (who : ℕ → Entry) (e : Entry) → c < setting.sizes.callers → Leads target setting pool → pool.who c ≡ Elsewhere → ((d : ℕ) → d ≢ c → pool.who d ≡ standings who d) → Begun setting.sizes (standing_of e.routine)
-      → RetiresUsed setting pool.memory (standings (put who c e)) → ((d : ℕ) → setting.sizes.callers ≤ d → standings who d ≡ Elsewhere) → ((w : Word) → in_row setting.sizes w ≡ false → pool.memory w ≡ 0)
-      → LeadsTo target setting pool.memory (standings (put who c e))
-  begins_on c pool who e lt leads at others begun used past zero =
-      let k = comes setting.sizes setting.last c pool (standing_of e.routine) at begun (may (standing_of e.routine) refl) in
-      (k.hands, subst (λ (w : ℕ → Standing). Leads target setting (record { memory = pool.memory; hands = k.hands; who = w })) (put_entry pool.who who c e others) (leads_more pool _ leads k.runs)) where
-        in_range : (j : ℕ) → IsOf kinds.Used (pool.memory (Status j)) → j ≤ setting.sizes.slots
-        in_range j word = ⊎_elim
-            (λ (below : j < setting.sizes.slots + 1). omega (arith, below))
-            (λ (above : setting.sizes.slots + 1 ≤ j).
-            let out : in_row setting.sizes (Status j) ≡ false = grind (arith, nat_tests) in
-            kinds_apart _ word.0 0 kinds.Used kinds.Ready (pool.memory (Status j)) (λ e. cc) word.1 (zero (Status j) out))
-            (cases_lt j (setting.sizes.slots + 1))
-
-        nobody : (own : Retirement) → standing_of e.routine ≡ Retires own → (d : ℕ) (other : Retirement) → pool.who d ≡ Retires other → other.slot ≢ own.slot
-        nobody own is d other there same = ⊎_elim
-            (λ (t : ((d == c) ≡ true) × (d ≡ c)). let no : Elsewhere ≡ Retires other = sym at ∙ (ap pool.who (sym t.1) ∙ there) in cc)
-            (λ (t : ((d == c) ≡ false) × (d ≢ c)).
-            let stands : standings who d ≡ Retires other = sym (others d t.1) ∙ there in
-            ⊎_elim
-            (λ (below : d < setting.sizes.callers).
-            t.1 (used.alone d c other own below lt (ap (λ (x : Entry). standing_of x.routine) (put_entry_other who c d e t.1) ∙ stands) (ap (λ (x : Entry). standing_of x.routine) (put_entry_same who c e) ∙ is) same))
-            (λ (above : setting.sizes.callers ≤ d). let no : Elsewhere ≡ Retires other = sym (past d above) ∙ stands in cc)
-            (cases_lt d setting.sizes.callers))
-            (eqb_tells d c)
-
-        may : (standing : Standing) → standing_of e.routine ≡ standing → MayRetire pool setting.sizes standing
-        may Elsewhere is = tt
-        may (Claims claim) is = tt
-        may (Retires own) is =
-            let word = used.used c own lt (ap (λ (x : Entry). standing_of x.routine) (put_entry_same who c e) ∙ is) in
-            let le = in_range own.slot word in
-            (le, (leads_tell pool leads).outside own.slot le word (λ d other there. nobody own is d other there))
-
-  -- ---- steps
-
-  -- the words after an access, and where the callers then stand
-  abbrev Goes : (v : CoreView) (c : ℕ) → WordAccess → Type 0
-  Goes v c a = RetiresUsed setting (after_access v.memory a) (standings (put v.who c (after target setting (v.who c) (v.memory (word_of a)))))
-      → ((w : Word) → in_row setting.sizes w ≡ false → after_access v.memory a w ≡ 0)
-      → LeadsTo target setting (after_access v.memory a) (standings (put v.who c (after target setting (v.who c) (v.memory (word_of a)))))
-
-  claims_go : (v : CoreView) (hands : Hands) (c : ℕ) (own : Claim) → (v.who c).routine ≡ routines.Claims own → Leads target setting (record { memory = v.memory; hands = hands; who = standings v.who }) → Goes v c (claim_wants own)
-  claims_go v hands c own is leads used zero =
-      let pool : PoolState = record { memory = v.memory; hands = hands; who = standings v.who } in
-      let word = v.memory (word_of (claim_wants own)) in
-      let turn = claim_accepts setting.sizes setting.last own word in
-      let e : Entry = after target setting (v.who c) word in
-      let later : PoolState = record { memory = after_access v.memory (claim_wants own); hands = claim_hands c own.sweep own.stage v.memory hands; who = put (standings v.who) c (claim_left turn.claim turn.ended) } in (
-        later.hands,
-        subst (λ (w : ℕ → Standing). Leads target setting (record later { who = w })) (ap (put (standings v.who) c) (sym (claims_stand (v.who c) word own is)) ∙ put_entry (standings v.who) v.who c e (λ d ne. refl))
-            (leads_more pool later leads (caller_steps setting.sizes setting.last c pool later (ap (stepped setting.sizes setting.last pool c) (ap standing_of is)))),
-      )
-
-  abbrev retired_pool : (v : CoreView) → Hands → ℕ → Retirement → Option Retirement → PoolState
-  retired_pool v hands c own left = record { memory = after_access v.memory (retire_wants own); hands = retire_hands c own.slot own.stage v.memory hands; who = put (standings v.who) c (retirement_left left) }
-
-  retires_go : (v : CoreView) (hands : Hands) (c : ℕ) (own : Retirement) (go : AfterRetire) → (v.who c).routine ≡ routines.Retires own go → c < setting.sizes.callers → ((d : ℕ) → setting.sizes.callers ≤ d → standings v.who d ≡ Elsewhere)
-      → Leads target setting (record { memory = v.memory; hands = hands; who = standings v.who }) → Goes v c (retire_wants own)
-  retires_go v hands c own go is lt past leads used zero =
-      let pool : PoolState = record { memory = v.memory; hands = hands; who = standings v.who } in
-      let left = retire_accepts own (v.memory (word_of (retire_wants own))) in
-      of left refl
-      (leads_more pool (retired_pool v hands c own left) leads (caller_steps setting.sizes setting.last c pool (retired_pool v hands c own left) (ap (stepped setting.sizes setting.last pool c) (ap standing_of is)))) where
-        of : (o : Option Retirement) → retire_accepts own (v.memory (word_of (retire_wants own))) ≡ o → Leads target setting (retired_pool v hands c own (retire_accepts own (v.memory (word_of (retire_wants own)))))
-            → LeadsTo target setting (after_access v.memory (retire_wants own)) (standings (put v.who c (after target setting (v.who c) (v.memory (word_of (retire_wants own))))))
-        of (Some left) some goes =
-            let word = v.memory (word_of (retire_wants own)) in
-            let e : Entry = after target setting (v.who c) word in (
-              (retired_pool v hands c own (Some left)).hands,
-              subst (λ (w : ℕ → Standing). Leads target setting (record (retired_pool v hands c own (Some left)) { who = w })) (ap (put (standings v.who) c) (sym (retires_stand (v.who c) word own left go is some)) ∙ put_entry (standings v.who) v.who c e (λ d ne. refl))
-                  (subst (λ (o : Option Retirement). Leads target setting (retired_pool v hands c own o)) some goes),
-            )
-        of None none goes =
-            let word = v.memory (word_of (retire_wants own)) in
-            begins_on c (retired_pool v hands c own None) v.who (after target setting (v.who c) word) lt (subst (λ (o : Option Retirement). Leads target setting (retired_pool v hands c own o)) none goes)
-            (put_standing_same (standings v.who) c Elsewhere) (λ d ne. put_standing_other (standings v.who) c d Elsewhere ne) (ended_begins (v.who c) word own go is none) used past zero
-
-  elsewhere_go : (v : CoreView) (hands : Hands) (c : ℕ) (a : WordAccess) → standing_of (v.who c).routine ≡ Elsewhere → wants target (v.who c) ≡ Some a → c < setting.sizes.callers → ((d : ℕ) → setting.sizes.callers ≤ d → standings v.who d ≡ Elsewhere)
-      → Leads target setting (record { memory = v.memory; hands = hands; who = standings v.who }) → Goes v c a
-  elsewhere_go v hands c a at want lt past leads used zero =
-      let pool : PoolState = record { memory = v.memory; hands = hands; who = standings v.who } in
-      let word = v.memory (word_of a) in
-      let later : PoolState = record pool { memory = after_access v.memory a } in
-      begins_on c later v.who (after target setting (v.who c) word) lt
-      (leads_more pool later leads (other_written setting.sizes setting.last (word_of a) (word_after a word) pool (elsewhere_wants target (v.who c) a at want))) at (λ d ne. refl) (elsewhere_begins (v.who c) word at) used past zero
-
-  step_goes : (v : CoreView) (hands : Hands) (c : ℕ) (a : WordAccess) → wants target (v.who c) ≡ Some a → c < setting.sizes.callers → ((d : ℕ) → setting.sizes.callers ≤ d → standings v.who d ≡ Elsewhere)
-      → Leads target setting (record { memory = v.memory; hands = hands; who = standings v.who }) → Goes v c a
-  step_goes v hands c a want lt past leads = of (v.who c).routine refl where
-    of : (routine : Routine) → (v.who c).routine ≡ routine → Goes v c a
-    of (routines.Claims own) is = subst (Goes v c) (some_same (claim_wants own) a (sym (wants_claims target (v.who c) own is) ∙ want)) (claims_go v hands c own is leads)
-    of (routines.Retires own go) is = subst (Goes v c) (some_same (retire_wants own) a (sym (wants_retires target (v.who c) own go is) ∙ want)) (retires_go v hands c own go is lt past leads)
-    of routines.Idle is = elsewhere_go v hands c a (ap standing_of is) want lt past leads
-    of (routines.LoadSeen why) is = elsewhere_go v hands c a (ap standing_of is) want lt past leads
-    of routines.At is = elsewhere_go v hands c a (ap standing_of is) want lt past leads
-    of (routines.InList k) is = elsewhere_go v hands c a (ap standing_of is) want lt past leads
-    of routines.Restarts is = elsewhere_go v hands c a (ap standing_of is) want lt past leads
-    of (routines.Clears next) is = elsewhere_go v hands c a (ap standing_of is) want lt past leads
-    of (routines.Zeroes k field) is = elsewhere_go v hands c a (ap standing_of is) want lt past leads
-
-  -- ---- events
-
-  taken_goes : (v : CoreView) (c : ℕ) (call : Call) → is_idle (v.who c).routine ≡ true → LeadsTo target setting v.memory (standings v.who) → LeadsTo target setting v.memory (standings (put v.who c (taken call (v.who c))))
-  taken_goes v c call idle l = subst (LeadsTo target setting v.memory)
-      (put_again (standings v.who) c Elsewhere (elsewhere_idle (v.who c).routine idle) ∙ put_entry (standings v.who) v.who c (taken call (v.who c)) (λ d ne. refl)) l
+  -- at the start
+  start_holds : Holds setting.sizes (first_pool target setting)
+  start_holds = leads_hold (first_pool target setting) (record { events = []; run = refl })
 
   -- the state after an event, where what is retired then is used and nobody else's
   pub event_pooled : (state later : CoreState) (event : CoreEvent) → IsShaped target setting state → Moves target setting (view setting state) event (view setting later) → Pooled target setting state
       → RetiresUsed setting (view setting later).memory (standings (view setting later).who) → Pooled target setting later
-  event_pooled state later (Takes c call) shaped m pooled used =
-      let v = view setting state in
-      subst (λ (who : ℕ → Entry). LeadsTo target setting (view setting later).memory (standings who)) (sym m.4)
-      (subst (λ (memory : Word → ℕ). LeadsTo target setting memory (standings (put v.who c (taken call (v.who c))))) (sym m.3) (taken_goes v c call m.1 pooled))
-  event_pooled state later (Steps c) shaped m pooled used =
-      let v = view setting state in
-      let a : WordAccess = m.0 in
-      let who : ℕ → Entry = put v.who c (after target setting (v.who c) (v.memory (word_of a))) in
-      subst (λ (w : ℕ → Entry). LeadsTo target setting (view setting later).memory (standings w)) (sym m.5)
-      (subst (λ (memory : Word → ℕ). LeadsTo target setting memory (standings who)) (sym m.4)
-      (step_goes v pooled.0 c a m.2 m.1 (λ d le. past_callers target setting state d shaped le) pooled.1
-      (subst (λ (memory : Word → ℕ). RetiresUsed setting memory (standings who)) m.4 (subst (λ (w : ℕ → Entry). RetiresUsed setting (view setting later).memory (standings w)) m.5 used))
-      (λ w out. ap (λ (memory : Word → ℕ). memory w) (sym m.4) ∙ past_row setting later w out)))
+  event_pooled state later event shaped m pooled used =
+      let goes = event_goes target setting few (first_pool target setting) start_holds state later event shaped m (pooled.0, (pooled.1.events, pooled.1.run)) used in
+      (goes.0, record { events = goes.1.0; run = goes.1.1 })
 
   -- at the start every caller stands elsewhere
   pub start_pooled : Pooled target setting (core_start target setting)

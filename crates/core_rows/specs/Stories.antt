@@ -14,7 +14,7 @@ use Rattle.caller_steps.specs.After.{signs}
 use Rattle.caller_steps.specs.Signs.{Sign, Begins, Accesses, Draws, Renews}
 use Rattle.core_runs.specs.Machine.{CoreState, CoreEvent, Takes, Steps, core_event, core_run, core_start, found_by}
 
--- an access that was made, with the word that it found; what a store finds is no matter
+-- an access that was made, with the word that it found; what a store finds doesn't matter
 pub data Noted : Type 0 where
   Load : (w : Word) (found : ℕ) → Noted
   Store : (w : Word) (x : ℕ) → Noted

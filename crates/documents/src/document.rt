@@ -23,8 +23,8 @@ pub const DEFAULT_LAST: u64 = 1_000_000_000;
 pub const DEFAULT_FUEL: u64 = 1_000_000;
 
 /// A call of a script: the line that it stands at, the operation's name, and any count of arguments. Whether the text
-/// has such an operation, and with so many arguments, is no matter of the grammar.
-#[derive(Debug, Drop)]
+/// has such an operation, and with so many arguments, is no question of the grammar.
+#[derive(Drop)]
 pub struct ScriptCall {
     pub line: u32,
     pub name: Name,
@@ -43,7 +43,7 @@ pub type Turns = Listed<Turn>;
 /// A document: its text; the slots of the row; the first and the last phase; the steps that an operation may make; the
 /// scripts; and the schedule, which is empty where there is none. Settings that a document leaves out are 64 slots, the
 /// phases from 1 to 1,000,000,000, and 1,000,000 steps.
-#[derive(Debug, Drop)]
+#[derive(Drop)]
 pub struct Document {
     pub text: Text,
     pub slots: u64,

@@ -15,14 +15,14 @@ use std::test::Fail;
 use std::thread::Threads;
 
 /// What is done with a document.
-#[derive(Clone, Copy, Debug, PartialEq, Eq)]
+#[derive(Clone, Copy, PartialEq, Eq)]
 pub(crate) enum Command {
     Run,
     Replay,
 }
 
 /// The text of a report, or why there is none.
-#[derive(Debug, Drop)]
+#[derive(Drop)]
 pub(crate) enum Told {
     Text(Vec<u8>, bool),
     Fault(RunFault),

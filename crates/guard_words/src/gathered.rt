@@ -6,7 +6,7 @@ ghost use Rattle.guard_words.specs.Guards.{with_slot, has_slot};
 use std::marker::Model;
 
 /// A set of at most 64 slots: as many as 8 callers have hazard words. It is seen as the list of what was added.
-#[derive(Debug, Drop)]
+#[derive(Drop)]
 pub struct Gathered {
     slots: [u32; 64],
     count: usize,

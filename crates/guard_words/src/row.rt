@@ -1,7 +1,7 @@
 //! The guards of a caller.
 
-ghost use Rattle.std.specs.Prelude.{◌≡◌, ◌<◌, length};
-ghost use Rattle.guard_words.specs.Guards.{no_guards, guard_at, is_validated, with_guard, pass_check, passed, passed_at, next_to_clear, least_from, is_to_clear, IsRow};
+ghost use Rattle.std.specs.Prelude.{◌≡◌, ◌<◌, length, slice_get, unwrap_or};
+ghost use Rattle.guard_words.specs.Guards.{no_guards, guard_at, is_validated, with_guard, pass_check, passed, passed_at, next_to_clear, least_from, is_spared, is_to_clear, IsRow};
 
 use std::marker::Model;
 
@@ -10,7 +10,7 @@ use std::marker::Model;
 ///
 /// A guard protects as a hazard pointer of Michael does: only once the caller has found, after it was published, that what
 /// it guards wasn't retired before. With optimistic access that is the check of the warning (Cohen and Petrank, SPAA 2015).
-#[derive(Debug, Drop)]
+#[derive(Drop)]
 pub struct GuardRow {
     slots: [u32; 8],
     validated: [bool; 8],
@@ -84,6 +84,20 @@ pub fn rows_have_eight(row: &GuardRow)
     let _ = &row.slots;
 }
 
+/// The slot of a register, 0 past the end.
+fn slot_at(slots: &[u32], r: usize) -> u32
+    ensures { result ≡ unwrap_or (slice_get slots.now r) 0 }
+{
+    slots.get(r).copied().unwrap_or(0)
+}
+
+/// Whether a register is left out; past the end none is.
+fn is_spared(spared: &[bool], r: usize) -> bool
+    ensures { result ≡ is_spared spared.now r }
+{
+    spared.get(r).copied().unwrap_or(false)
+}
+
 #[tactic(auto, using(crate::proofs::Passing::passed_one, crate::proofs::Passing::passed_all))]
 fn pass(slots: &[u32], flags: &mut [bool])
     requires { length flags.old ≡ length slots.now }
@@ -99,7 +113,7 @@ fn pass_one(slots: &[u32], flags: &mut [bool], r: usize)
     ensures at { flags.new ≡ passed_at slots.now flags.old r }
     ensures same { length flags.new ≡ length flags.old }
 {
-    if slots.get(r).copied().unwrap_or(0) != 0 {
+    if slot_at(slots, r) != 0 {
         flags[r] = true;
     }
 }
@@ -107,7 +121,7 @@ fn pass_one(slots: &[u32], flags: &mut [bool], r: usize)
 fn is_to_clear(slots: &[u32], spared: &[bool], r: usize) -> bool
     ensures { result ≡ is_to_clear slots.now spared.now r }
 {
-    slots.get(r).copied().unwrap_or(0) != 0 && !spared.get(r).copied().unwrap_or(false)
+    slot_at(slots, r) != 0 && !is_spared(spared, r)
 }
 
 #[tactic(auto, using(crate::proofs::Least::none_here, crate::proofs::Least::found_here, crate::proofs::Least::none_left))]

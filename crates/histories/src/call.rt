@@ -1,7 +1,7 @@
 //! The calls of a history.
 
 /// What a caller asked for.
-#[derive(Clone, Copy, Debug, PartialEq, Eq)]
+#[derive(Clone, Copy)]
 pub enum Action {
     /// A key is put into the set.
     Insert(u64),
@@ -16,7 +16,7 @@ pub enum Action {
 }
 
 /// What it was told.
-#[derive(Clone, Copy, Debug, PartialEq, Eq)]
+#[derive(Clone, Copy)]
 pub enum Answer {
     /// A number: the value of a queue's call; of a set's, 1 for yes and 0 for no.
     Number(u64),
@@ -29,7 +29,7 @@ pub enum Answer {
 }
 
 /// A call and its answer.
-#[derive(Clone, Copy, Debug, PartialEq, Eq)]
+#[derive(Clone, Copy)]
 pub struct Call {
     pub caller: u32,
     pub action: Action,

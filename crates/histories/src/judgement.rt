@@ -9,7 +9,7 @@ use crate::shared::Shared;
 use std::alloc::{AllocError, Global};
 
 /// What is found of a history.
-#[derive(Clone, Copy, Debug, PartialEq, Eq)]
+#[derive(Clone, Copy)]
 pub enum Judgement {
     /// There is an order in which each answer is right.
     Legal,

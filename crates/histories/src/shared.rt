@@ -69,7 +69,7 @@ fn first_value(values: &[u64]) -> Answer
 }
 
 /// A set of keys, and a queue of values.
-#[derive(Debug, Drop)]
+#[derive(Drop)]
 pub(crate) struct Shared {
     keys: Vec<u64>,
     values: Vec<u64>,

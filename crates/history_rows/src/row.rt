@@ -19,7 +19,7 @@ impl From<AllocError> for RowError {
 }
 
 /// What the callers share.
-#[derive(Clone, Copy, Debug, PartialEq, Eq)]
+#[derive(Clone, Copy)]
 enum Kind {
     Set,
     Queue,

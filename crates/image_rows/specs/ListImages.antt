@@ -35,7 +35,7 @@ links c name = makes c 2 ++ events.Access c name ∷ makes c 3
 abbrev pub links_again : ℕ → ℕ → ℕ → List SourceEvent
 links_again c name again = makes c 2 ++ events.Access c name ∷ events.Restart c ∷ links c again
 
--- a search that finds a node behind the sentinel: the root, the sentinel's `next`, the node's `next` and its key
+-- a search that finds a node after the sentinel: the root, the sentinel's `next`, the node's `next` and its key
 abbrev pub finds : ℕ → List SourceEvent
 finds c = makes c 4
 

@@ -11,7 +11,7 @@ use line_words::words::Words;
 use norm_lang::text::{CasEntry, FieldDecl, Instr, RootDecl};
 
 /// What a line of a method says.
-#[derive(Debug, Drop)]
+#[derive(Drop)]
 pub enum Step {
     /// A whole instruction.
     Whole(Instr),

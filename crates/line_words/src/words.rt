@@ -18,7 +18,7 @@ use std::marker::Model;
 
 /// The words of a line that are left. Each method but `new` takes one word, also where it answers an error or `None`;
 /// where no word is left, none is left after it.
-#[derive(Debug, Drop)]
+#[derive(Drop)]
 pub struct Words<'a> {
     tokens: Tokens<'a>,
 }
@@ -32,7 +32,7 @@ impl<'a> Model for Words<'a> {
 }
 
 /// A first value as it is spelled: a number, `null`, or `@J`. A number that exceeds 2^64 - 1 is none.
-#[derive(Clone, Copy, Debug, PartialEq, Eq)]
+#[derive(Clone, Copy)]
 pub enum StartWord {
     Value(Option<u64>),
     Null,
@@ -231,12 +231,11 @@ fn register_of(letter: u8, number: u8) -> Result<Reg, Fault>
 fn register_in(word: &[u8]) -> Result<Reg, Fault>
     ensures { Reads (λ r. r) result (register_in word.now) }
 {
-    let (letter, rest) = word.split_first().ok_or(Fault::Form)?;
-    let (digit, rest) = rest.split_first().ok_or(Fault::Form)?;
-    if rest.is_empty() && (b'0' <= *digit && *digit <= b'7') {
-        register_of(*letter, *digit - b'0')
-    } else {
-        Err(Fault::Form)
+    match word {
+        [letter, digit] if b'0' <= *digit && *digit <= b'7' => {
+            register_of(*letter, *digit - b'0')
+        }
+        _ => Err(Fault::Form),
     }
 }
 
@@ -256,11 +255,9 @@ fn kind_in(word: &[u8]) -> Result<FieldKind, Fault>
 fn node_in(word: &[u8]) -> Result<StartWord, Fault>
     ensures { Reads start_shown result (node_in word.now) }
 {
-    let (sign, rest) = word.split_first().ok_or(Fault::Form)?;
-    if *sign == b'@' {
-        Ok(StartWord::At(number_in(rest)?))
-    } else {
-        Err(Fault::Form)
+    match word {
+        [b'@', number @ ..] => Ok(StartWord::At(number_in(number)?)),
+        _ => Err(Fault::Form),
     }
 }
 

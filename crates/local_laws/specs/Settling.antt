@@ -66,7 +66,7 @@ abbrev pub MethodsStayInside : Type 0
 MethodsStayInside = (text : Text) (number : ℕ) (op : Op) (wrapup : Bool) → IsNormal text → slice_get text.ops number ≡ Some op → StaysInside (code_of op wrapup)
 
 -- code without such a cycle settles from every spot, within as many steps as it has instructions: the bound is never why it
--- stops. It is no matter whether its other jumps lead back
+-- stops. It doesn't matter whether its other jumps lead back
 abbrev pub CodeSettles : Type 0
 CodeSettles = (code : List Instr) → HasNoBlindCycle code → (here : Spot) → Settles code here (local_run code (length code) here)
 

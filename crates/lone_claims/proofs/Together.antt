@@ -32,7 +32,8 @@ use Rattle.core_sound.proofs.Machine.{event_sound}
 use Rattle.core_sound.proofs.Reached.{sound_is_shaped, start_suits}
 use Rattle.core_sound.specs.Standing.{standing_of}
 use Rattle.core_pools.specs.Pooled.{standings, pool_of}
-use Rattle.core_pools.proofs.Pooling.{leads_hold, leads_tell, past_callers}
+use Rattle.core_pools.proofs.Going.{past_callers}
+use Rattle.core_pools.proofs.Pooling.{leads_hold, leads_tell}
 use Rattle.target_runs.specs.Runnable.{IsRunnable}
 use Rattle.sim_pools.proofs.Slots.{status_tells}
 use Rattle.sim_relation.specs.Views.{Owner, Null, Pool, Held, Living, Retiring, Dead, Shared}

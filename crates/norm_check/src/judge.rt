@@ -19,7 +19,7 @@ use norm_paths::path_rules::{
     exchanges_kept, follows_kept, has_wrong_put, leaks_fresh, loops_blindly, makes_nodes_again,
     reads_unset, sets_kept, shows_fresh,
 };
-use norm_paths::{Kept, OpFacts};
+use norm_paths::{Kept, OpFacts, code_of};
 use std::alloc::{AllocError, Global};
 
 /// An operation of a text by its number, and what was found out about it.
@@ -29,16 +29,6 @@ struct Subject<'a> {
     number: u8,
     op: &'a Op,
     facts: &'a OpFacts,
-}
-
-fn code_of(op: &Op, wrapup: bool) -> &[Instr]
-    ensures { result.now ≡ code_of op.now wrapup }
-{
-    if wrapup {
-        op.wrapup.items()
-    } else {
-        op.generator.items()
-    }
 }
 
 /// The answers of the rules to an instruction, in the order of their numbers: whether it breaks each.

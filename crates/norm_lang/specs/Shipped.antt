@@ -207,14 +207,17 @@ dequeue_wrap_up =
     ∷ instr.Again
     ∷ []
 
+abbrev pub enqueue_op : Op
+enqueue_op = record { name = codes "enqueue"; args = 1; generator = enqueue_generator; wrapup = enqueue_wrap_up }
+
+abbrev pub dequeue_op : Op
+dequeue_op = record { name = codes "dequeue"; args = 0; generator = dequeue_generator; wrapup = dequeue_wrap_up }
+
 -- the queue
 abbrev pub queue_text : Text
 queue_text = record {
   fields = number_field (codes "value") ∷ reference_field (codes "next") ∷ [];
   roots = reference_root (codes "head") 1 ∷ reference_root (codes "tail") 1 ∷ [];
   nodes = sentinel ∷ [];
-  ops =
-      record { name = codes "enqueue"; args = 1; generator = enqueue_generator; wrapup = enqueue_wrap_up }
-      ∷ record { name = codes "dequeue"; args = 0; generator = dequeue_generator; wrapup = dequeue_wrap_up }
-      ∷ [];
+  ops = enqueue_op ∷ dequeue_op ∷ [];
 }

@@ -1,13 +1,31 @@
 //! Local code: what a method does without an access to shared memory.
 
-ghost use Rattle.std.specs.Prelude.{◌≡◌, ◌<◌, ◌≤◌, ◌+◌, ◌^◌, max, length, option_copied, option_map, slice_get, IfSome, IfNone};
+ghost use Rattle.std.specs.Prelude.{◌≡◌, ◌<◌, ◌≤◌, ◌+◌, ◌^◌, if◌then◌else◌, max, length, option_copied, option_map, slice_get, IfSome, IfNone};
 ghost use Rattle.norm_lang.specs.Local.{local_step, local_at, local_run};
+ghost use Rattle.norm_lang.specs.Registers.{with_reference, reference_in};
 
 use crate::registers::{
     NULL, Reference, Registers, copy_register, equal, number_at, put_number, put_reference,
     reference_at,
 };
-use crate::text::{Code, Instr};
+use crate::text::{Code, Instr, Reg};
+
+// The reference of the second register, with its mark set or cleared.
+fn put_marked(registers: &mut Registers, d: Reg, a: Reg, marked: bool)
+    ensures { registers.new ≡ with_reference registers.old d (record { node = (reference_in registers.old a).node; marked = marked }) }
+{
+    let node = reference_at(registers, a).node;
+    put_reference(registers, d, Reference { node, marked });
+}
+
+// Where a test leads: to its instruction where it holds, and else on.
+fn next_place(holds: bool, l: u16, at: usize) -> usize
+    requires { at < usize.MAX }
+    ensures near { result ≤ max (at + 1) 65535 }
+    ensures leads { result ≡ if holds then l else at + 1 }
+{
+    if holds { l as usize } else { at + 1 }
+}
 
 /// Makes a local instruction, and answers the next place; at any other instruction nothing.
 pub fn step(instr: &Instr, at: usize, registers: &mut Registers) -> Option<usize>
@@ -32,36 +50,16 @@ pub fn step(instr: &Instr, at: usize, registers: &mut Registers) -> Option<usize
             put_number(registers, *d, rest);
         }
         Instr::Null(d) => put_reference(registers, *d, NULL),
-        Instr::Mark(d, a) => {
-            let node = reference_at(registers, *a).node;
-            put_reference(registers, *d, Reference { node, marked: true });
-        }
-        Instr::Unmark(d, a) => {
-            let node = reference_at(registers, *a).node;
-            put_reference(
-                registers,
-                *d,
-                Reference {
-                    node,
-                    marked: false,
-                },
-            );
-        }
+        Instr::Mark(d, a) => put_marked(registers, *d, *a, true),
+        Instr::Unmark(d, a) => put_marked(registers, *d, *a, false),
         Instr::Jump(l) => return Some(*l as usize),
-        Instr::IfEq(a, b, l) => {
-            if equal(registers, *a, *b) {
-                return Some(*l as usize);
-            }
-        }
+        Instr::IfEq(a, b, l) => return Some(next_place(equal(registers, *a, *b), *l, at)),
         Instr::IfLess(a, b, l) => {
-            if number_at(registers, *a) < number_at(registers, *b) {
-                return Some(*l as usize);
-            }
+            let is_less = number_at(registers, *a) < number_at(registers, *b);
+            return Some(next_place(is_less, *l, at));
         }
         Instr::IfMarked(a, l) => {
-            if reference_at(registers, *a).marked {
-                return Some(*l as usize);
-            }
+            return Some(next_place(reference_at(registers, *a).marked, *l, at));
         }
         _ => return None,
     }

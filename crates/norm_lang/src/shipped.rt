@@ -2,7 +2,7 @@
 
 ghost use Rattle.std.specs.Prelude.{◌≡◌, ◌≤◌, ◌<◌, [], ◌∷◌, ◌++◌, IfOk, OnOk, codes, decimal, replicate};
 ghost use Rattle.norm_lang.specs.Limits.{IsWithinLimits};
-ghost use Rattle.norm_lang.specs.Shipped.{number_field, reference_field, sentinel, reference_root, next_entry, root_entry, retiring, bucket, buckets_from, search_code, answer_code, insert_code, remove_code, change_wrap_up, insert_op, remove_op, contains_op, set_text, enqueue_generator, enqueue_wrap_up, dequeue_generator, dequeue_wrap_up, queue_text};
+ghost use Rattle.norm_lang.specs.Shipped.{number_field, reference_field, sentinel, reference_root, next_entry, root_entry, retiring, bucket, buckets_from, search_code, answer_code, insert_code, remove_code, change_wrap_up, insert_op, remove_op, contains_op, set_text, enqueue_generator, enqueue_wrap_up, dequeue_generator, dequeue_wrap_up, enqueue_op, dequeue_op, queue_text};
 
 use crate::list::Listed;
 use crate::text::{
@@ -171,16 +171,34 @@ fn operation(
     })
 }
 
+fn insert(alloc: Global, buckets: u16) -> Result<Op, AllocError>
+    ensures { IfOk result (λ op. op ≡ insert_op buckets) }
+{
+    let generator = insert_generator(alloc, buckets)?;
+    operation(alloc, b"insert", 1, generator, change_wrapup(alloc)?)
+}
+
+fn remove(alloc: Global, buckets: u16) -> Result<Op, AllocError>
+    ensures { IfOk result (λ op. op ≡ remove_op buckets) }
+{
+    let generator = remove_generator(alloc, buckets)?;
+    operation(alloc, b"remove", 1, generator, change_wrapup(alloc)?)
+}
+
+fn contains(alloc: Global, buckets: u16) -> Result<Op, AllocError>
+    ensures { IfOk result (λ op. op ≡ contains_op buckets) }
+{
+    let generator = contains_generator(alloc, buckets)?;
+    let wrapup = Listed::from_vec(vec![in alloc; Instr::Return(Reg::Num(2))]?);
+    operation(alloc, b"contains", 1, generator, wrapup)
+}
+
 fn set_operations(alloc: Global, buckets: u16) -> Result<Ops, AllocError>
     ensures { IfOk result (λ ops. ops ≡ insert_op buckets ∷ remove_op buckets ∷ contains_op buckets ∷ []) }
 {
-    let insert = insert_generator(alloc, buckets)?;
-    let insert = operation(alloc, b"insert", 1, insert, change_wrapup(alloc)?)?;
-    let remove = remove_generator(alloc, buckets)?;
-    let remove = operation(alloc, b"remove", 1, remove, change_wrapup(alloc)?)?;
-    let contains = contains_generator(alloc, buckets)?;
-    let wrapup = Listed::from_vec(vec![in alloc; Instr::Return(Reg::Num(2))]?);
-    let contains = operation(alloc, b"contains", 1, contains, wrapup)?;
+    let insert = insert(alloc, buckets)?;
+    let remove = remove(alloc, buckets)?;
+    let contains = contains(alloc, buckets)?;
     Ok(Listed::from_vec(vec![in alloc; insert, remove, contains]?))
 }
 
@@ -339,29 +357,43 @@ pub fn shipped_queue(alloc: Global) -> Result<Text, AllocError>
     Ok(text)
 }
 
-fn queue(alloc: Global) -> Result<Text, AllocError>
-    ensures { IfOk result (λ text. text ≡ queue_text) }
+fn queue_roots(alloc: Global) -> Result<Roots, AllocError>
+    ensures { IfOk result (λ roots. roots ≡ queue_text.roots) }
 {
     let head = queue_root(alloc, b"head")?;
     let tail = queue_root(alloc, b"tail")?;
-    let enqueue = operation(
-        alloc,
-        b"enqueue",
-        1,
-        enqueue_code(alloc)?,
-        enqueue_wrapup(alloc)?,
-    )?;
-    let dequeue = operation(
-        alloc,
-        b"dequeue",
-        0,
-        dequeue_code(alloc)?,
-        dequeue_wrapup(alloc)?,
-    )?;
+    Ok(Listed::from_vec(vec![in alloc; head, tail]?))
+}
+
+fn enqueue(alloc: Global) -> Result<Op, AllocError>
+    ensures { IfOk result (λ op. op ≡ enqueue_op) }
+{
+    let generator = enqueue_code(alloc)?;
+    operation(alloc, b"enqueue", 1, generator, enqueue_wrapup(alloc)?)
+}
+
+fn dequeue(alloc: Global) -> Result<Op, AllocError>
+    ensures { IfOk result (λ op. op ≡ dequeue_op) }
+{
+    let generator = dequeue_code(alloc)?;
+    operation(alloc, b"dequeue", 0, generator, dequeue_wrapup(alloc)?)
+}
+
+fn queue_operations(alloc: Global) -> Result<Ops, AllocError>
+    ensures { IfOk result (λ ops. ops ≡ enqueue_op ∷ dequeue_op ∷ []) }
+{
+    let enqueue = enqueue(alloc)?;
+    let dequeue = dequeue(alloc)?;
+    Ok(Listed::from_vec(vec![in alloc; enqueue, dequeue]?))
+}
+
+fn queue(alloc: Global) -> Result<Text, AllocError>
+    ensures { IfOk result (λ text. text ≡ queue_text) }
+{
     Ok(Text {
         fields: fields(alloc, b"value")?,
-        roots: Listed::from_vec(vec![in alloc; head, tail]?),
+        roots: queue_roots(alloc)?,
         nodes: sentinels(alloc, 1)?,
-        ops: Listed::from_vec(vec![in alloc; enqueue, dequeue]?),
+        ops: queue_operations(alloc)?,
     })
 }

@@ -10,7 +10,7 @@ use crate::text::{
     ByteText, CasEntry, FieldDecl, FieldKind, Instr, NodeDecl, Op, Place, Reg, RootDecl, Start,
     Text,
 };
-use crate::word::Word;
+use crate::word::Word::{self, Bytes, Number, Register};
 use std::alloc::{AllocError, Global};
 
 fn put_number(alloc: Global, out: &mut Vec<u8>, n: u64) -> Result<(), AllocError>
@@ -298,6 +298,38 @@ fn put_entry(
     }
 }
 
+// Lines of a first word and one, two or three others: an array in each arm of `put_instr` makes its proof slow.
+fn put_one(alloc: Global, out: &mut Vec<u8>, first: &[u8], a: Word) -> Result<(), AllocError>
+    ensures { OnOk result (out.new.items ≡ out.old.items ++ line_bytes (first.now ∷ word_bytes a.entry ∷ [])) }
+{
+    put_line(alloc, out, first, &[a])
+}
+
+fn put_two(
+    alloc: Global,
+    out: &mut Vec<u8>,
+    first: &[u8],
+    a: Word,
+    b: Word,
+) -> Result<(), AllocError>
+    ensures { OnOk result (out.new.items ≡ out.old.items ++ line_bytes (first.now ∷ word_bytes a.entry ∷ word_bytes b.entry ∷ [])) }
+{
+    put_line(alloc, out, first, &[a, b])
+}
+
+fn put_three(
+    alloc: Global,
+    out: &mut Vec<u8>,
+    first: &[u8],
+    a: Word,
+    b: Word,
+    c: Word,
+) -> Result<(), AllocError>
+    ensures { OnOk result (out.new.items ≡ out.old.items ++ line_bytes (first.now ∷ word_bytes a.entry ∷ word_bytes b.entry ∷ word_bytes c.entry ∷ [])) }
+{
+    put_line(alloc, out, first, &[a, b, c])
+}
+
 // An instruction, but for a commit's entries.
 fn put_instr(
     alloc: Global,
@@ -309,117 +341,82 @@ fn put_instr(
     ensures { OnOk result (out.new.items ≡ out.old.items ++ line_bytes (spelled_instr fields.now roots.now instr.now)) }
 {
     match instr {
-        Instr::Set(d, n) => put_line(alloc, out, b"set", &[Word::Register(*d), Word::Number(*n)]),
-        Instr::Mov(d, a) => put_line(
-            alloc,
-            out,
-            b"mov",
-            &[Word::Register(*d), Word::Register(*a)],
-        ),
-        Instr::Add(d, a, b) => put_line(
+        Instr::Set(d, n) => put_two(alloc, out, b"set", Register(*d), Number(*n)),
+        Instr::Mov(d, a) => put_two(alloc, out, b"mov", Register(*d), Register(*a)),
+        Instr::Add(d, a, b) => put_three(
             alloc,
             out,
             b"add",
-            &[Word::Register(*d), Word::Register(*a), Word::Register(*b)],
+            Register(*d),
+            Register(*a),
+            Register(*b),
         ),
-        Instr::Sub(d, a, b) => put_line(
+        Instr::Sub(d, a, b) => put_three(
             alloc,
             out,
             b"sub",
-            &[Word::Register(*d), Word::Register(*a), Word::Register(*b)],
+            Register(*d),
+            Register(*a),
+            Register(*b),
         ),
-        Instr::Rem(d, a, n) => put_line(
+        Instr::Rem(d, a, n) => put_three(
             alloc,
             out,
             b"rem",
-            &[Word::Register(*d), Word::Register(*a), Word::Number(*n)],
+            Register(*d),
+            Register(*a),
+            Number(*n),
         ),
-        Instr::Mark(d, a) => put_line(
-            alloc,
-            out,
-            b"mark",
-            &[Word::Register(*d), Word::Register(*a)],
-        ),
-        Instr::Unmark(d, a) => put_line(
-            alloc,
-            out,
-            b"unmark",
-            &[Word::Register(*d), Word::Register(*a)],
-        ),
-        Instr::Null(d) => put_line(alloc, out, b"null", &[Word::Register(*d)]),
-        Instr::LoadRoot(d, x) => put_line(
-            alloc,
-            out,
-            b"root",
-            &[Word::Register(*d), Word::Bytes(name_of_root(roots, *x))],
-        ),
-        Instr::LoadPick(d, x, n, a) => put_line(
-            alloc,
-            out,
-            b"pick",
-            &[
-                Word::Register(*d),
-                Word::Bytes(name_of_root(roots, *x)),
-                Word::Number(*n as u64),
-                Word::Register(*a),
-            ],
-        ),
-        Instr::LoadField(d, a, f) => put_line(
-            alloc,
-            out,
-            b"load",
-            &[
-                Word::Register(*d),
-                Word::Register(*a),
-                Word::Bytes(name_of_field(fields, *f)),
-            ],
-        ),
-        Instr::New(d) => put_line(alloc, out, b"new", &[Word::Register(*d)]),
-        Instr::Put(a, f, b) => put_line(
-            alloc,
-            out,
-            b"put",
-            &[
-                Word::Register(*a),
-                Word::Bytes(name_of_field(fields, *f)),
-                Word::Register(*b),
-            ],
-        ),
+        Instr::Mark(d, a) => put_two(alloc, out, b"mark", Register(*d), Register(*a)),
+        Instr::Unmark(d, a) => put_two(alloc, out, b"unmark", Register(*d), Register(*a)),
+        Instr::Null(d) => put_one(alloc, out, b"null", Register(*d)),
+        Instr::LoadRoot(d, x) => {
+            let root = Bytes(name_of_root(roots, *x));
+            put_two(alloc, out, b"root", Register(*d), root)
+        }
+        Instr::LoadPick(d, x, n, a) => {
+            let (root, count) = (Bytes(name_of_root(roots, *x)), Number(*n as u64));
+            let words = [Register(*d), root, count, Register(*a)];
+            put_line(alloc, out, b"pick", &words)
+        }
+        Instr::LoadField(d, a, f) => {
+            let field = Bytes(name_of_field(fields, *f));
+            put_three(alloc, out, b"load", Register(*d), Register(*a), field)
+        }
+        Instr::New(d) => put_one(alloc, out, b"new", Register(*d)),
+        Instr::Put(a, f, b) => {
+            let field = Bytes(name_of_field(fields, *f));
+            put_three(alloc, out, b"put", Register(*a), field, Register(*b))
+        }
         Instr::Cas(entry, l) => put_cas(alloc, out, fields, roots, entry, *l),
-        Instr::Jump(l) => put_line(alloc, out, b"jump", &[Word::Number(*l as u64)]),
-        Instr::IfEq(a, b, l) => put_line(
-            alloc,
-            out,
-            b"ifeq",
-            &[
-                Word::Register(*a),
-                Word::Register(*b),
-                Word::Number(*l as u64),
-            ],
-        ),
-        Instr::IfLess(a, b, l) => put_line(
-            alloc,
-            out,
-            b"ifless",
-            &[
-                Word::Register(*a),
-                Word::Register(*b),
-                Word::Number(*l as u64),
-            ],
-        ),
-        Instr::IfMarked(a, l) => put_line(
-            alloc,
-            out,
-            b"ifmarked",
-            &[Word::Register(*a), Word::Number(*l as u64)],
-        ),
-        Instr::Commit(entries) => put_line(
-            alloc,
-            out,
-            b"commit",
-            &[Word::Number(entries.items().len() as u64)],
-        ),
-        Instr::Return(a) => put_line(alloc, out, b"return", &[Word::Register(*a)]),
+        Instr::Jump(l) => put_one(alloc, out, b"jump", Number(*l as u64)),
+        Instr::IfEq(a, b, l) => {
+            put_three(
+                alloc,
+                out,
+                b"ifeq",
+                Register(*a),
+                Register(*b),
+                Number(*l as u64),
+            )
+        }
+        Instr::IfLess(a, b, l) => {
+            put_three(
+                alloc,
+                out,
+                b"ifless",
+                Register(*a),
+                Register(*b),
+                Number(*l as u64),
+            )
+        }
+        Instr::IfMarked(a, l) => {
+            put_two(alloc, out, b"ifmarked", Register(*a), Number(*l as u64))
+        }
+        Instr::Commit(entries) => {
+            put_one(alloc, out, b"commit", Number(entries.items().len() as u64))
+        }
+        Instr::Return(a) => put_one(alloc, out, b"return", Register(*a)),
         Instr::ReturnNone => put_line(alloc, out, b"returnnone", &[]),
         Instr::Again => put_line(alloc, out, b"again", &[]),
     }

@@ -29,35 +29,35 @@ pub type Marks = Listed<bool>;
 pub type ByteText = Listed<u8>;
 
 /// A register, 0 to 7: of a number or of a reference.
-#[derive(Clone, Copy, Debug, PartialEq, Eq)]
+#[derive(Clone, Copy, PartialEq, Eq)]
 pub enum Reg {
     Num(u8),
     Ref(u8),
 }
 
 /// What a field or a root holds.
-#[derive(Clone, Copy, Debug, PartialEq, Eq)]
+#[derive(Clone, Copy, PartialEq, Eq)]
 pub enum FieldKind {
     Number,
     Reference,
 }
 
 /// A first value: a number, or an initial node by its number from 1, where 0 is null.
-#[derive(Clone, Copy, Debug, PartialEq, Eq)]
+#[derive(Clone, Copy, PartialEq, Eq)]
 pub enum Start {
     Value(u64),
     Node(u32),
 }
 
 /// A field that every node has.
-#[derive(Debug, Drop)]
+#[derive(Drop)]
 pub struct FieldDecl {
     pub name: Name,
     pub kind: FieldKind,
 }
 
 /// A root, with its first value.
-#[derive(Debug, Drop)]
+#[derive(Drop)]
 pub struct RootDecl {
     pub name: Name,
     pub kind: FieldKind,
@@ -65,13 +65,13 @@ pub struct RootDecl {
 }
 
 /// An initial node: one first value for each field.
-#[derive(Debug, Drop)]
+#[derive(Drop)]
 pub struct NodeDecl {
     pub values: Starts,
 }
 
 /// What an exchange changes: a root by its number, or a field by its number of the node in a register.
-#[derive(Clone, Copy, Debug, PartialEq, Eq)]
+#[derive(Clone, Copy, PartialEq, Eq)]
 pub enum Place {
     Root(u16),
     Field(Reg, u8),
@@ -79,7 +79,7 @@ pub enum Place {
 
 /// An exchange: where the place holds the expected value it takes the replacement, and the node in the
 /// register to retire, if one is named, is retired in the same step.
-#[derive(Clone, Copy, Debug, PartialEq, Eq)]
+#[derive(Clone, Copy, PartialEq, Eq)]
 pub struct CasEntry {
     pub place: Place,
     pub expected: Reg,
@@ -88,7 +88,7 @@ pub struct CasEntry {
 }
 
 /// An instruction. Fields and roots go by their numbers from 0, and jumps by instruction numbers.
-#[derive(Debug, Drop)]
+#[derive(Drop)]
 pub enum Instr {
     /// The register becomes the number.
     Set(Reg, u64),
@@ -136,7 +136,7 @@ pub enum Instr {
 }
 
 /// An operation: its name, its count of arguments, its generator and its wrap-up.
-#[derive(Debug, Drop)]
+#[derive(Drop)]
 pub struct Op {
     pub name: Name,
     pub args: u8,
@@ -145,7 +145,7 @@ pub struct Op {
 }
 
 /// The declarations and operations of a text.
-#[derive(Debug, Drop)]
+#[derive(Drop)]
 pub struct Text {
     pub fields: Fields,
     pub roots: Roots,

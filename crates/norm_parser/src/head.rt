@@ -9,7 +9,7 @@ use norm_lang::text::{Fields, Nodes, Roots};
 use text_drafts::{Draft, Section};
 
 /// What field, nodes, node and root lines declare.
-#[derive(Debug, Drop)]
+#[derive(Drop)]
 pub struct Head {
     pub fields: Fields,
     pub roots: Roots,

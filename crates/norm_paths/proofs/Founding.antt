@@ -8,7 +8,7 @@ use Rattle.norm_lang.specs.declared.text.Text.{Text}
 use Rattle.norm_lang.specs.Limits.{has_between, is_op, are_different, are_fields, are_nodes, are_roots, are_ops, IsWithinLimits}
 use Rattle.norm_lang.specs.Kept.{code_of}
 use Rattle.norm_paths.specs.Found.{Found, IsFound, IsOpWithin, IsSized, AreAllHeld, found_for}
-use Rattle.norm_paths.specs.Started.{AreStarted, carried_below}
+use Rattle.norm_paths.specs.Started.{AreStarted, IsFoundBy, carried_below}
 use Rattle.norm_paths.specs.OpFound.{AreOpFacts}
 use Rattle.norm_paths.proofs.Within.{and_left, and_right, all_get, length_within}
 use Rattle.norm_paths.proofs.Starting.{started_right, kept_right}
@@ -17,30 +17,38 @@ use Rattle.norm_paths.proofs.Starting.{started_right, kept_right}
 pub sized_within : (op : Op) (wrapup : Bool) → IsOpWithin op → IsSized (code_of op wrapup)
 sized_within op wrapup within = let size = length_within within.0 within.1 op wrapup within.2 in (size.0, omega (arith, size.1))
 
--- what was found out about a method, by the facts of the generator and its own
-found_is : (op : Op) (wrapup : Bool) (generator facts : List (List Bool)) (started : List Bool) (found : Found) → found ≡ found_for (code_of op wrapup) facts started
-    → AreAllHeld op.generator generator → AreAllHeld (code_of op wrapup) facts → AreStarted op wrapup generator started → IsFound op wrapup found
-found_is op wrapup generator facts started found is first held are = subst (IsFound op wrapup) (sym is) (record {
-  held = held;
-  starts = started_right op wrapup generator started first are;
+-- what was found out about a method's code is so by the facts of the generator's registers
+pub found_by : (op : Op) (wrapup : Bool) (code : List Instr) (generator facts : List (List Bool)) (started : List Bool) (found : Found) → code ≡ code_of op wrapup
+    → AreAllHeld code facts → AreStarted op wrapup generator started → found ≡ found_for code facts started → IsFoundBy op wrapup generator found
+found_by op wrapup code generator facts started found is held are so = subst (IsFoundBy op wrapup generator) (sym (so ∙ ap (λ c. found_for c facts started) is)) (record {
+  held = subst (λ (c : List Instr). AreAllHeld c facts) is held;
+  starts = are;
   goes = refl;
   blindly = refl;
 })
 
+-- and where those facts are true it is true of the method
+found_is : (op : Op) (wrapup : Bool) (generator : List (List Bool)) (found : Found) → AreAllHeld op.generator generator → IsFoundBy op wrapup generator found → IsFound op wrapup found
+found_is op wrapup generator found true_of by = record {
+  held = by.held;
+  starts = started_right op wrapup generator found.started true_of by.starts;
+  goes = by.goes;
+  blindly = by.blindly;
+}
+
+-- what is found out about a generator is so by any facts
+generator_is : (op : Op) (any : List (List Bool)) (found : Found) → IsFoundBy op false any found → IsFound op false found
+generator_is op any found by = found_is op false found.facts found by.held (record { held = by.held; starts = by.starts; goes = by.goes; blindly = by.blindly })
+
 -- and about an operation
-pub op_facts : (op : Op) (generator_code wrapup_code : List Instr) (generator_facts wrapup_facts : List (List Bool)) (generator_started wrapup_started kept : List Bool) (generator wrapup : Found) → IsOpWithin op
-    → generator_code ≡ op.generator → wrapup_code ≡ op.wrapup → AreAllHeld generator_code generator_facts → AreAllHeld wrapup_code wrapup_facts
-    → AreStarted op false generator_facts generator_started → AreStarted op true generator_facts wrapup_started → kept ≡ carried_below wrapup_code wrapup_facts 8
-    → generator ≡ found_for generator_code generator_facts generator_started → wrapup ≡ found_for wrapup_code wrapup_facts wrapup_started
+pub op_facts : (op : Op) (any : List (List Bool)) (generator wrapup : Found) (kept : List Bool) → IsOpWithin op
+    → IsFoundBy op false any generator → IsFoundBy op true generator.facts wrapup → kept ≡ carried_below op.wrapup wrapup.facts 8
     → AreOpFacts op (record { generator = generator; wrapup = wrapup; kept = kept })
-op_facts op generator_code wrapup_code generator_facts wrapup_facts generator_started wrapup_started kept generator wrapup within one two first second start later keeps found other =
-    let held : AreAllHeld op.generator generator_facts = subst (λ (code : List Instr). AreAllHeld code generator_facts) one first in
-    let wrapup_held : AreAllHeld op.wrapup wrapup_facts = subst (λ (code : List Instr). AreAllHeld code wrapup_facts) two second in
-    record {
-      generator = found_is op false generator_facts generator_facts generator_started generator (found ∙ ap (λ code. found_for code generator_facts generator_started) one) held held start;
-      wrapup = found_is op true generator_facts wrapup_facts wrapup_started wrapup (other ∙ ap (λ code. found_for code wrapup_facts wrapup_started) two) held wrapup_held later;
-      kept = kept_right op wrapup_facts kept within wrapup_held (keeps ∙ ap (λ code. carried_below code wrapup_facts 8) two);
-    }
+op_facts op any generator wrapup kept within first second keeps = record {
+  generator = generator_is op any generator first;
+  wrapup = found_is op true generator.facts wrapup first.held second;
+  kept = kept_right op wrapup.facts kept within second.held keeps;
+}
 
 -- each operation of a text within the limits is within them
 pub op_within : (text : Text) (k : ℕ) (op : Op) → IsWithinLimits text → slice_get text.ops k ≡ Some op → IsOpWithin op

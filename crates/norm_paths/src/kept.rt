@@ -1,6 +1,6 @@
 //! Which references a wrap-up keeps.
 
-ghost use Rattle.std.specs.Prelude.{◌≡◌, IfOk};
+ghost use Rattle.std.specs.Prelude.{◌≡◌};
 ghost use Rattle.norm_lang.specs.declared.text.Op.{Op};
 ghost use Rattle.norm_paths.specs.Found.{IsOpWithin, AreAllHeld, AreKept, is_kept_by};
 ghost use Rattle.norm_paths.specs.Started.{is_carried_by, carried_below};
@@ -9,13 +9,12 @@ use crate::held::is_unset;
 use crate::uses::reads;
 use norm_lang::text::{Instr, Reg};
 use path_facts::Facts;
-use std::alloc::{AllocError, Global};
 use std::marker::Model;
 
 /// The references whose values at the commit a wrap-up uses.
-#[derive(Debug, Drop)]
+#[derive(Clone, Copy, Debug)]
 pub struct Kept {
-    references: Vec<bool>,
+    references: [bool; 8],
 }
 
 impl Model for Kept {
@@ -23,23 +22,28 @@ impl Model for Kept {
 
     ghost Value = { List Bool };
 
-    ghost view = { λ k. k.references.items };
+    ghost view = { λ k. k.references };
+
+    ghost inverse = { λ k. record { references = k } };
 }
 
 impl Kept {
     /// Those of a wrap-up, by the facts of its registers.
-    pub(crate) fn of_wrapup(
-        alloc: Global,
-        code: &[Instr],
-        facts: &[Facts],
-    ) -> Result<Kept, AllocError>
-        ensures { IfOk result (λ kept. kept ≡ carried_below code.now facts.now 8) }
+    pub(crate) fn of_wrapup(code: &[Instr], facts: &[Facts]) -> Kept
+        ensures { result ≡ carried_below code.now facts.now 8 }
     {
-        let mut references = Vec::new(alloc);
-        for register in 0..8u8 {
-            references.push(is_carried(code, facts, Reg::Ref(register)))?;
+        Kept {
+            references: [
+                is_carried(code, facts, Reg::Ref(0)),
+                is_carried(code, facts, Reg::Ref(1)),
+                is_carried(code, facts, Reg::Ref(2)),
+                is_carried(code, facts, Reg::Ref(3)),
+                is_carried(code, facts, Reg::Ref(4)),
+                is_carried(code, facts, Reg::Ref(5)),
+                is_carried(code, facts, Reg::Ref(6)),
+                is_carried(code, facts, Reg::Ref(7)),
+            ],
         }
-        Ok(Kept { references })
     }
 
     /// Whether a register is kept. Registers of numbers aren't.

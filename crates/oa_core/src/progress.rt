@@ -15,7 +15,7 @@ use core_entries::{Entry, PlainWords, Prepared};
 use std::marker::Model;
 
 /// What a caller does next.
-#[derive(Clone, Copy, Debug, PartialEq, Eq)]
+#[derive(Clone, Copy)]
 pub(crate) enum Move {
     /// It takes a call, and makes a step.
     Takes(Call),
@@ -24,7 +24,7 @@ pub(crate) enum Move {
 }
 
 /// Why a replay stops, with the steps made before.
-#[derive(Clone, Copy, Debug, PartialEq, Eq)]
+#[derive(Clone, Copy)]
 pub(crate) enum Stop {
     /// A step is needed of a caller that has none to take, or that doesn't exist.
     StepOfNobody { steps: u64 },
@@ -33,7 +33,7 @@ pub(crate) enum Stop {
 }
 
 /// What is replayed: `fuel` steps at most for each call, and `limit` steps at most in all.
-#[derive(Debug, Drop)]
+#[derive(Drop)]
 pub(crate) struct Terms<'a> {
     pub(crate) prepared: Prepared<'a>,
     pub(crate) setting: &'a Setting,
@@ -51,7 +51,7 @@ impl<'a> Model for Terms<'a> {
 }
 
 /// How far a replay has come: the words, the entries, and how many steps were made.
-#[derive(Debug, Drop)]
+#[derive(Drop)]
 pub(crate) struct Progress {
     pub(crate) words: PlainWords,
     pub(crate) entries: Vec<Entry>,

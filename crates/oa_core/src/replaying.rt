@@ -38,7 +38,7 @@ pub enum ReplayError {
 pub type CallList = Listed<Call>;
 
 /// The words and the entries in which a run of scripts ended.
-#[derive(Debug, Drop)]
+#[derive(Drop)]
 pub struct CoreState {
     pub(crate) words: PlainWords,
     pub(crate) entries: Vec<Entry>,

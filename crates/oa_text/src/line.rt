@@ -9,7 +9,7 @@ use crate::cutting::first_line;
 use std::marker::Model;
 
 /// A line without its newline, with its number from 1.
-#[derive(Clone, Copy, Debug)]
+#[derive(Clone, Copy)]
 pub struct Line<'a> {
     pub(crate) number: u32,
     pub(crate) bytes: &'a [u8],
@@ -32,7 +32,7 @@ impl<'a> Line<'a> {
 }
 
 /// The lines of a text that are left, in order. `lines` makes it.
-#[derive(Debug, Drop)]
+#[derive(Drop)]
 pub struct Lines<'a> {
     rest: &'a [u8],
     number: u32,

@@ -11,14 +11,14 @@ use crate::sink::{Sink, write_all};
 use crate::source::Failed;
 
 /// A piece of a text: a number, which is written in decimal, or bytes as they are.
-#[derive(Clone, Copy, Debug)]
+#[derive(Clone, Copy)]
 pub enum Piece<'a> {
     Number(u64),
     Bytes(&'a [u8]),
 }
 
 /// A part of a text: one piece, or numbers with a space before each.
-#[derive(Clone, Copy, Debug)]
+#[derive(Clone, Copy)]
 pub enum Part<'a> {
     One(Piece<'a>),
     Arguments(&'a [u64]),

@@ -34,7 +34,7 @@ pub trait Sink {
 }
 
 /// A sink into memory, for tests: it takes at most so many bytes a call, and some of its calls fail.
-#[derive(Debug, Drop)]
+#[derive(Drop)]
 pub struct MemorySink {
     bytes: Vec<u8>,
     most: usize,

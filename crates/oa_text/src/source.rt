@@ -35,7 +35,7 @@ pub trait Source {
 }
 
 /// A source over bytes in memory, for tests: it gives at most so many bytes a call, and some of its calls fail.
-#[derive(Debug, Drop)]
+#[derive(Drop)]
 pub struct MemorySource {
     bytes: Vec<u8>,
     at: usize,

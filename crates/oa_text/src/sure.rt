@@ -10,7 +10,7 @@ use crate::source::{Failed, Source};
 use std::marker::Model;
 
 /// A source over bytes in memory. It tells what it has left, and no call of it fails.
-#[derive(Debug, Drop)]
+#[derive(Drop)]
 pub struct SureSource<'a> {
     rest: &'a [u8],
 }
@@ -58,7 +58,7 @@ impl<'a> Source for SureSource<'a> {
 /// It takes no memory: the bytes are known to proofs alone, and no program can read them back. A clause about them says
 /// what code that is generic over `Sink` gave to `write`, piece after piece, and not that they are kept anywhere.
 /// `MemorySink` keeps its bytes.
-#[derive(Debug, Drop)]
+#[derive(Drop)]
 pub struct SureSink {
     ghost bytes: { List ℕ },
 }

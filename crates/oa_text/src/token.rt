@@ -9,7 +9,7 @@ use crate::cutting::first_token;
 use std::marker::Model;
 
 /// A run of bytes other than space and tab, with the column of its first byte, from 1.
-#[derive(Clone, Copy, Debug)]
+#[derive(Clone, Copy)]
 pub struct Token<'a> {
     pub(crate) column: u32,
     pub(crate) bytes: &'a [u8],
@@ -32,7 +32,7 @@ impl<'a> Token<'a> {
 }
 
 /// The tokens of a line that are left, in order. `tokens` makes it.
-#[derive(Debug, Drop)]
+#[derive(Drop)]
 pub struct Tokens<'a> {
     rest: &'a [u8],
     column: u32,

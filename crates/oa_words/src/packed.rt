@@ -4,7 +4,7 @@ ghost use Rattle.std.specs.Prelude.{◌≡◌, ◌≤◌, ◌<◌, ◌^◌, opti
 ghost use Rattle.oa_words.specs.Packed.{ref_word, slot_part, is_marked, status_word, status_parts, kind_of, kind_number, head_word, head_parts};
 
 /// What a slot is.
-#[derive(Clone, Copy, Debug, PartialEq, Eq)]
+#[derive(Clone, Copy, PartialEq, Eq)]
 pub enum Kind {
     /// A claim may take it.
     Ready,
@@ -81,8 +81,9 @@ pub fn status_parts(word: u64) -> Option<(u64, Kind)>
 /// The word of the pool's head: 8192 times the phase, and the slot on top, 0 for none. The phase is at most 2^50, and the
 /// slot at most 4096.
 ///
-/// The phase is a stamp: a slot that was taken from under it is pushed again only under a greater one, so an exchange of
-/// the head can't take a slot for one that stayed.
+/// The ready slots form the stack of Treiber ("Systems Programming: Coping with Parallelism", IBM Almaden RJ 5118, 1986),
+/// whose head is stamped. The stamp is the phase: a slot that was taken from under it is pushed again only under a greater
+/// one, so an exchange of the head can't take a slot for one that stayed.
 pub fn head_word(phase: u64, top: u32) -> u64
     requires phase { phase ≤ 2 ^ 50 }
     requires top { top ≤ 4096 }

@@ -8,7 +8,7 @@ use std::marker::Model;
 
 /// How many callers, slots other than 0, fields of a slot, and cells there are: 1 to 8 callers, 1 to 4096 slots, 1 to 4
 /// fields, and 1 to 256 cells.
-#[derive(Debug, Drop)]
+#[derive(Drop)]
 pub struct Shape {
     callers: u32,
     slots: u32,

@@ -139,7 +139,7 @@ claim_begun n = record { stage = claims.ReadHead; sweeps = 0; sweep = sweep_begu
 abbrev pub claim_wants_at : Sweep → ClaimStage → WordAccess
 claim_wants_at sweep claims.ReadHead = Loads Head
 claim_wants_at sweep (claims.ReadLink q t) = Loads (Link t)
-claim_wants_at sweep (claims.Take q t n) = Exchanges Head (head_word q t) (head_word q n)
+claim_wants_at sweep (claims.Take q t next) = Exchanges Head (head_word q t) (head_word q next)
 claim_wants_at sweep (claims.StoreUsed q t) = Stores (Status t) (status_word q kinds.Used)
 claim_wants_at sweep claims.Sweeps = sweep_wants sweep
 
@@ -170,7 +170,7 @@ look_begun claim head = if head.top == 0 then look_ended claim else claim_goes c
 abbrev pub takes_at : ClaimStage → ℕ → Bool
 takes_at claims.ReadHead word = false
 takes_at (claims.ReadLink q t) word = false
-takes_at (claims.Take q t n) word = word == head_word q t
+takes_at (claims.Take q t next) word = word == head_word q t
 takes_at (claims.StoreUsed q t) word = false
 takes_at claims.Sweeps word = false
 

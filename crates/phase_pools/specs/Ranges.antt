@@ -42,7 +42,7 @@ HasPhase (sweeps.PushTop j q t) s = IsPhase s × (q ≤ 2 ^ 50)
 abbrev pub SweepsFew : ClaimStage → ℕ → Type 0
 SweepsFew claims.ReadHead count = count ≤ 2
 SweepsFew (claims.ReadLink q t) count = count ≤ 2
-SweepsFew (claims.Take q t n) count = count ≤ 2
+SweepsFew (claims.Take q t next) count = count ≤ 2
 SweepsFew (claims.StoreUsed q t) count = count ≤ 2
 SweepsFew claims.Sweeps count = count < 2
 
@@ -50,7 +50,7 @@ SweepsFew claims.Sweeps count = count < 2
 abbrev pub TakesFitting : ClaimStage → Type 0
 TakesFitting claims.ReadHead = Unit {0}
 TakesFitting (claims.ReadLink q t) = q ≤ 2 ^ 50
-TakesFitting (claims.Take q t n) = q ≤ 2 ^ 50
+TakesFitting (claims.Take q t next) = q ≤ 2 ^ 50
 TakesFitting (claims.StoreUsed q t) = q ≤ 2 ^ 50
 TakesFitting claims.Sweeps = Unit {0}
 
@@ -89,7 +89,7 @@ IsStatus last word = IsSomeAnd (status_parts word) (λ (parts : StatusParts). pa
 abbrev pub IsHead : Sizes → ℕ → ℕ → Type 0
 IsHead n last word = ((head_parts word).phase ≤ last) × ((head_parts word).top ≤ n.slots)
 
--- what a store found is no matter
+-- a store may be told any word
 abbrev pub SweepTold : Sizes → ℕ → SweepStage → ℕ → Type 0
 SweepTold n last sweeps.ReadPhase word = word ≤ last
 SweepTold n last (sweeps.RaisePhase p) word = word ≤ last
@@ -108,7 +108,7 @@ ClaimTold n last sweep (claims.Take q t next) word = IsHead n last word
 ClaimTold n last sweep (claims.StoreUsed q t) word = Unit {0}
 ClaimTold n last sweep claims.Sweeps word = SweepTold n last sweep.stage word
 
--- a retirement is told a phase; what its store found is no matter
+-- the load is told a phase, and the store any word
 abbrev pub RetireTold : RetireStage → ℕ → Type 0
 RetireTold retires.ReadPhase word = word ≤ 2 ^ 50
 RetireTold (retires.StoreStatus p) word = Unit {0}

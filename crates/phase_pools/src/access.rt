@@ -34,7 +34,7 @@ pub enum Access {
 }
 
 /// How a claim ended.
-#[derive(Clone, Copy, Debug, PartialEq, Eq)]
+#[derive(Clone, Copy, PartialEq, Eq)]
 pub enum ClaimEnd {
     /// The slot is the caller's.
     Claimed(u32),
@@ -45,7 +45,7 @@ pub enum ClaimEnd {
 }
 
 /// How a sweep ended.
-#[derive(Clone, Copy, Debug, PartialEq, Eq)]
+#[derive(Clone, Copy, PartialEq, Eq)]
 pub enum SweepEnd {
     /// It has looked at every slot.
     Swept,

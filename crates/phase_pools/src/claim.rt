@@ -21,7 +21,7 @@ use std::marker::Model;
 /// one. The head bears a phase beside the top, so a slot that was taken and pushed again meanwhile isn't taken for one that
 /// stayed, since its link may be another by then. A caller that finds no free node ends the phase, as in the recycling of
 /// Cohen and Petrank (SPAA 2015).
-#[derive(Debug, Drop)]
+#[derive(Drop)]
 pub struct ClaimState {
     stage: ClaimStage,
     sweeps: u8,
@@ -121,6 +121,7 @@ impl ClaimState {
         }
     }
 
+    /// The sweep took a word: where it has ended, a look follows, or the claim ends with the phases.
     fn swept(&mut self, shape: &Shape, end: Option<SweepEnd>) -> Option<ClaimEnd>
         requires few { self.old.sweeps < 2 }
         requires range { ClaimInRange shape.now self.old.sweep self.old.stage }
@@ -138,6 +139,7 @@ impl ClaimState {
         }
     }
 
+    /// The head was loaded: the look goes on with the slot on top, and ends where there is none.
     fn look_begun(&mut self, shape: &Shape, last_phase: u64, word: u64) -> Option<ClaimEnd>
         requires few { self.old.sweeps ≤ 2 }
         requires range { ClaimInRange shape.now self.old.sweep self.old.stage }
@@ -155,6 +157,7 @@ impl ClaimState {
         None
     }
 
+    /// The exchange was made that takes the top slot: where it failed, the look begins again.
     fn look_took(&mut self, shape: &Shape, q: u64, top: u32, word: u64)
         requires top { top ≤ shape.now.slots }
         requires phase { q ≤ 2 ^ 50 }
@@ -170,6 +173,7 @@ impl ClaimState {
         };
     }
 
+    /// A look found no slot: a sweep follows, and after two sweeps the claim ends.
     fn look_ended(&mut self, shape: &Shape) -> Option<ClaimEnd>
         requires few { self.old.sweeps ≤ 2 }
         requires range { ClaimInRange shape.now self.old.sweep self.old.stage }

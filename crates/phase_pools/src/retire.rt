@@ -15,7 +15,7 @@ use std::marker::Model;
 ///
 /// It is begun after the exchange that unlinked the node, so the phase that it loads is no earlier than the unlinking: what
 /// was read before a later phase was announced can't lead to the node unnoticed (Cohen and Petrank, SPAA 2015).
-#[derive(Debug, Drop)]
+#[derive(Drop)]
 pub struct RetireState {
     slot: u32,
     stage: RetireStage,

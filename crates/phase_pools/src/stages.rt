@@ -1,7 +1,7 @@
 //! Where a routine stands: before which access.
 
 /// A sweep before an access.
-#[derive(Clone, Copy, Debug, PartialEq, Eq)]
+#[derive(Clone, Copy)]
 pub enum SweepStage {
     /// The load of the phase.
     ReadPhase,
@@ -24,7 +24,7 @@ pub enum SweepStage {
 }
 
 /// A claim before an access: of a look, or of a sweep.
-#[derive(Clone, Copy, Debug, PartialEq, Eq)]
+#[derive(Clone, Copy)]
 pub enum ClaimStage {
     /// The load of the head.
     ReadHead,
@@ -39,7 +39,7 @@ pub enum ClaimStage {
 }
 
 /// A retirement before an access.
-#[derive(Clone, Copy, Debug, PartialEq, Eq)]
+#[derive(Clone, Copy)]
 pub enum RetireStage {
     /// The load of the phase.
     ReadPhase,

@@ -5,7 +5,7 @@ ghost use Rattle.std.specs.Prelude.{◌≡◌, ◌≤◌, ◌<◌, ◌^◌, ◌+
 ghost use Rattle.oa_words.specs.Packed.{status_parts, head_word, head_parts};
 ghost use Rattle.oa_words.specs.Words.{Head};
 ghost use Rattle.phase_pools.specs.Accesses.{located, Exchanges, IsPhase, RaisesToPhase};
-ghost use Rattle.phase_pools.specs.Pools.{sweep_begun, sweep_wants, sweep_accepts, sweep_on, warn_next, hazard_read, hazard_next, status_read, freeing, made_ready, push_read, pushed};
+ghost use Rattle.phase_pools.specs.Pools.{sweep_begun, sweep_wants, sweep_accepts, sweep_on, phase_read, phase_raised, warn_next, hazard_read, hazard_next, status_read, freeing, made_ready, push_read, pushed};
 ghost use Rattle.phase_pools.specs.Ranges.{SweepInRange, SweepTold, IsHead};
 
 use crate::access::{Access, SweepEnd};
@@ -22,7 +22,7 @@ use std::marker::Model;
 /// hazards are read, so a caller that still reads what was retired finds out at its next check, and what it guards is
 /// gathered. Slots that were retired before the phase and weren't gathered become ready, from the greatest down, and each is
 /// pushed onto the chain of ready slots at once: so the least that became ready ends on top.
-#[derive(Debug, Drop)]
+#[derive(Drop)]
 pub struct SweepState {
     stage: SweepStage,
     bound: u64,
@@ -137,17 +137,9 @@ impl SweepState {
         ensures stays { SweepInRange shape.now self.new.stage }
     {
         match self.stage {
-            SweepStage::ReadPhase => {
-                if word == last_phase {
-                    return Some(SweepEnd::PhasesOver(word));
-                }
-                self.stage = SweepStage::RaisePhase(word);
-                None
-            }
+            SweepStage::ReadPhase => self.phase_read(shape, last_phase, word),
             SweepStage::RaisePhase(p) => {
-                let _callers = shape.callers();
-                self.bound = p + 1;
-                self.stage = SweepStage::Warn(0);
+                self.phase_raised(shape, p);
                 None
             }
             SweepStage::Warn(c) => {
@@ -172,6 +164,36 @@ impl SweepState {
         }
     }
 
+    /// The phase was loaded: the last one can't be raised, and ends the sweep.
+    fn phase_read(&mut self, shape: &Shape, last_phase: u64, word: u64) -> Option<SweepEnd>
+        requires last { last_phase ≤ 2 ^ 50 }
+        requires range { SweepInRange shape.now self.old.stage }
+        requires none { length self.old.gathered ≡ 0 }
+        requires word { word ≤ last_phase }
+        ensures same { phase_read last_phase self.old word ≡ record { sweep = self.new; ended = result } }
+        ensures stays { SweepInRange shape.now self.new.stage }
+    {
+        let _ = shape;
+        if word == last_phase {
+            return Some(SweepEnd::PhasesOver(word));
+        }
+        self.stage = SweepStage::RaisePhase(word);
+        None
+    }
+
+    /// The exchange of the phase was made, and this phase is over, whoever raised it: the callers are warned.
+    fn phase_raised(&mut self, shape: &Shape, p: u64)
+        requires none { length self.old.gathered ≡ 0 }
+        requires phase { p < 2 ^ 50 }
+        ensures same { phase_raised self.old p ≡ record { sweep = self.new; ended = None } }
+        ensures stays { SweepInRange shape.now self.new.stage }
+    {
+        let _callers = shape.callers();
+        self.bound = p + 1;
+        self.stage = SweepStage::Warn(0);
+    }
+
+    /// A hazard was loaded, and the slot that it names is gathered.
     fn gather(&mut self, shape: &Shape, caller: u32, register: u32, word: u64)
         requires caller { caller < shape.now.callers }
         requires register { register < 8 }
@@ -186,6 +208,7 @@ impl SweepState {
         self.stage = hazard_next(shape, caller, register);
     }
 
+    /// A slot's status was loaded: only a retired slot may become ready.
     fn status_read(&mut self, shape: &Shape, slot: u32, word: u64) -> Option<SweepEnd>
         requires slot { slot ≤ shape.now.slots }
         requires range { SweepInRange shape.now self.old.stage }
@@ -200,6 +223,7 @@ impl SweepState {
         }
     }
 
+    /// A slot is retired, since this phase: it becomes ready if that was before the sweep's and nothing guards it.
     fn retired_read(&mut self, shape: &Shape, slot: u32, q: u64) -> Option<SweepEnd>
         requires slot { slot ≤ shape.now.slots }
         requires range { SweepInRange shape.now self.old.stage }
@@ -215,6 +239,7 @@ impl SweepState {
         self.slot_done(shape, slot)
     }
 
+    /// Nothing is left to do for a slot: the next lower one follows, and after the least the sweep ends.
     fn slot_done(&mut self, shape: &Shape, slot: u32) -> Option<SweepEnd>
         requires slot { slot ≤ shape.now.slots }
         requires range { SweepInRange shape.now self.old.stage }
@@ -230,6 +255,7 @@ impl SweepState {
         Some(SweepEnd::Swept)
     }
 
+    /// The exchange was made that makes a slot ready: where it succeeded, the slot is pushed.
     fn made_ready(&mut self, shape: &Shape, slot: u32, q: u64, word: u64) -> Option<SweepEnd>
         requires slot { slot ≤ shape.now.slots }
         requires range { SweepInRange shape.now self.old.stage }
@@ -246,6 +272,7 @@ impl SweepState {
         self.slot_done(shape, slot)
     }
 
+    /// The head was loaded, onto which a slot is pushed.
     fn push_read(&mut self, shape: &Shape, last_phase: u64, slot: u32, word: u64)
         requires slot { slot ≤ shape.now.slots }
         requires few { length self.old.gathered ≤ 64 }
@@ -260,6 +287,7 @@ impl SweepState {
         self.stage = SweepStage::PushLink(slot, q, top as u32);
     }
 
+    /// The exchange was made that puts a slot on top: where it failed, the head is loaded again.
     fn pushed(&mut self, shape: &Shape, slot: u32, q: u64, top: u32, word: u64) -> Option<SweepEnd>
         requires slot { slot ≤ shape.now.slots }
         requires top { top ≤ shape.now.slots }

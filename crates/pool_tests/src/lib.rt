@@ -6,6 +6,8 @@ mod guard_tests;
 #[cfg(test)]
 mod routine_tests;
 #[cfg(test)]
+mod rows;
+#[cfg(test)]
 mod run_tests;
 #[cfg(test)]
 mod runs;

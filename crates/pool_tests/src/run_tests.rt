@@ -1,49 +1,11 @@
 //! Whole sweeps and claims, against lists of accesses that were worked out by hand.
 
+use crate::rows::{exchange, load, raise, row, small, store};
 use crate::runs::{claims, claims_on, sweeps, sweeps_on};
 use oa_words::shape::Shape;
 use phase_pools::access::{Access, ClaimEnd, SweepEnd};
 use phase_pools::claim::ClaimState;
 use phase_pools::sweep::SweepState;
-
-/// The words of a row of 1 caller, 3 slots, 2 fields and 1 cell, all 0 but the phase, the warning, the first hazard, the
-/// statuses of slots 1 to 3 and of null, the head, and the links of slots 1 to 3. A status is 4 times a phase, and 0 for
-/// ready, 1 for used, 2 for retired; a head is 8192 times a phase, and the slot on top.
-fn row(phase: u64, hazard: u64, statuses: [u64; 3], chain: [u64; 4]) -> [u64; 29] {
-    let mut words = [0; 29];
-    words[0] = phase;
-    words[2] = phase;
-    words[3] = hazard;
-    words[11] = 5;
-    words[12] = statuses[0];
-    words[13] = statuses[1];
-    words[14] = statuses[2];
-    words[24] = chain[0];
-    words[26] = chain[1];
-    words[27] = chain[2];
-    words[28] = chain[3];
-    words
-}
-
-fn load(at: u32) -> Access {
-    Access::Load { at }
-}
-
-fn store(at: u32, word: u64) -> Access {
-    Access::Store { at, word }
-}
-
-fn exchange(at: u32, expected: u64, replacement: u64) -> Access {
-    Access::CompareExchange {
-        at,
-        expected,
-        replacement,
-    }
-}
-
-fn raise(at: u32, word: u64) -> Access {
-    Access::FetchMax { at, word }
-}
 
 /// The accesses of the first sweep, which frees slot 2: slot 3 is guarded.
 fn first_sweep() -> [Access; 18] {
@@ -101,7 +63,7 @@ fn second_sweep() -> [Access; 22] {
 /// slot 3 isn't guarded any more: it is pushed onto slot 2, and slot 1 onto it.
 #[test]
 fn two_sweeps_free_what_no_guard_names(rt: HostRuntime) {
-    let shape = Shape::new(1, 3, 2, 1).expect(&rt, "the numbers are in range");
+    let shape = small(&rt);
     let mut words = row(1, 3, [5, 6, 6], [8192, 0, 0, 0]);
     assert!(rt; sweeps(&rt, &shape, 5, &mut words, &first_sweep()) == Some(SweepEnd::Swept));
     assert!(rt; words == row(2, 3, [5, 8, 6], [16386, 0, 0, 0]));
@@ -114,7 +76,7 @@ fn two_sweeps_free_what_no_guard_names(rt: HostRuntime) {
 /// sweep announces.
 #[test]
 fn push_begins_again_where_head_has_changed(rt: HostRuntime) {
-    let shape = Shape::new(1, 3, 2, 1).expect(&rt, "the numbers are in range");
+    let shape = small(&rt);
     let mut words = row(1, 0, [6, 5, 4], [8195, 0, 0, 0]);
     let mut sweep = SweepState::begin();
     let until_exchange = [
@@ -148,21 +110,13 @@ fn push_begins_again_where_head_has_changed(rt: HostRuntime) {
     assert!(rt; words == row(3, 0, [8, 12, 5], [24577, 2, 0, 0]));
 }
 
-/// All hazards name slot 1 but the last, which names slot 2; slots 1 to 3 were retired in phase 1.
-#[test]
-fn sixty_four_hazards_are_gathered(rt: HostRuntime) {
-    let shape = Shape::new(8, 3, 1, 1).expect(&rt, "the numbers are in range");
+/// The words of a row of 8 callers, 3 slots, 1 field and 1 cell in phase 1. All hazards name slot 1 but the last, which names
+/// slot 2; slots 1 to 3 were retired in phase 1.
+fn row_of_eight() -> [u64; 95] {
     let mut words = [0; 95];
-    let mut expected = [load(0); 81];
     words[0] = 1;
-    expected[1] = exchange(0, 1, 2);
-    for c in 0..8u32 {
-        words[9 + c as usize] = 1;
-        expected[2 + c as usize] = raise(9 + c, 2);
-    }
-    for h in 0..64u32 {
-        words[17 + h as usize] = 1;
-        expected[10 + h as usize] = load(17 + h);
+    for at in 9..80 {
+        words[at] = 1;
     }
     words[80] = 2;
     words[81] = 5;
@@ -170,26 +124,42 @@ fn sixty_four_hazards_are_gathered(rt: HostRuntime) {
     words[83] = 6;
     words[84] = 6;
     words[90] = 8192;
-    expected[74] = load(84);
-    expected[75] = exchange(84, 6, 8);
-    expected[76] = load(90);
-    expected[77] = store(94, 0);
-    expected[78] = exchange(90, 8192, 16387);
-    expected[79] = load(83);
-    expected[80] = load(82);
-    assert!(rt; sweeps(&rt, &shape, 5, &mut words, &expected) == Some(SweepEnd::Swept));
-    assert_eq!(rt; words[0], 2);
-    assert_eq!(rt; words[16], 2);
-    assert_eq!(rt; words[82], 6);
-    assert_eq!(rt; words[83], 6);
-    assert_eq!(rt; words[84], 8);
-    assert_eq!(rt; words[90], 16387);
+    words
+}
+
+/// The accesses of its sweep, which frees slot 3: after the first two, eight warnings are raised and 64 hazards loaded, at
+/// addresses one after another.
+fn sweep_of_eight() -> [Access; 81] {
+    let mut accesses = [load(0); 81];
+    accesses[1] = exchange(0, 1, 2);
+    for at in 9..81u32 {
+        accesses[at as usize - 7] = if at < 17 { raise(at, 2) } else { load(at) };
+    }
+    accesses[74] = load(84);
+    accesses[75] = exchange(84, 6, 8);
+    accesses[76] = load(90);
+    accesses[77] = store(94, 0);
+    accesses[78] = exchange(90, 8192, 16387);
+    accesses[79] = load(83);
+    accesses[80] = load(82);
+    accesses
+}
+
+#[test]
+fn sixty_four_hazards_are_gathered(rt: HostRuntime) {
+    let shape = Shape::new(8, 3, 1, 1).expect(&rt, "the numbers are in range");
+    let mut words = row_of_eight();
+    assert!(rt; sweeps(&rt, &shape, 5, &mut words, &sweep_of_eight()) == Some(SweepEnd::Swept));
+    let changed = [
+        words[0], words[16], words[82], words[83], words[84], words[90],
+    ];
+    assert!(rt; changed == [2, 2, 6, 6, 8, 16387]);
 }
 
 /// Slots 2 and 3 are chained; another claim takes slot 2 before the exchange.
 #[test]
 fn claims_go_down_the_chain(rt: HostRuntime) {
-    let shape = Shape::new(1, 3, 2, 1).expect(&rt, "the numbers are in range");
+    let shape = small(&rt);
     let mut words = row(1, 0, [5, 4, 4], [8194, 0, 3, 0]);
     let mut late = ClaimState::begin(&shape);
     let until_exchange = [load(24), load(27)];
@@ -214,7 +184,7 @@ fn claims_go_down_the_chain(rt: HostRuntime) {
 /// A list whose three slots are used up, so that none is on top: look, sweep, look, sweep, look.
 #[test]
 fn claim_of_a_full_list(rt: HostRuntime) {
-    let shape = Shape::new(1, 3, 2, 1).expect(&rt, "the numbers are in range");
+    let shape = small(&rt);
     let mut words = row(1, 0, [5, 5, 5], [8192, 0, 0, 0]);
     let expected = [
         load(24),
@@ -256,7 +226,7 @@ fn claim_of_a_full_list(rt: HostRuntime) {
 /// Slots 2 and 3 were retired in the last phase.
 #[test]
 fn claim_when_phases_are_over(rt: HostRuntime) {
-    let shape = Shape::new(1, 3, 2, 1).expect(&rt, "the numbers are in range");
+    let shape = small(&rt);
     let mut words = row(2, 0, [5, 10, 10], [8192, 0, 0, 0]);
     let expected = [load(24), load(0)];
     assert!(rt; claims(&rt, &shape, 2, &mut words, &expected) == Some(ClaimEnd::PhasesOver(2)));
@@ -266,7 +236,7 @@ fn claim_when_phases_are_over(rt: HostRuntime) {
 /// Slots 2 and 3 were retired in phase 1: the sweep makes both ready, slot 2 ends on top, and the look after it takes that.
 #[test]
 fn claim_of_a_recycled_slot(rt: HostRuntime) {
-    let shape = Shape::new(1, 3, 2, 1).expect(&rt, "the numbers are in range");
+    let shape = small(&rt);
     let mut words = row(1, 0, [5, 6, 6], [8192, 0, 0, 0]);
     let expected = [
         load(24),

@@ -8,6 +8,7 @@ use crate::flaws::flaws_answer;
 use crate::instruction::instruction_answer;
 use crate::row::{Judge, Reader, Row};
 use crate::rules::{path_answer, rule_answer};
+use crate::verified::verify_answer;
 use documents::read_document;
 use line_words::fault::ParseError;
 use norm_lang::show;
@@ -96,7 +97,7 @@ fn part_answer(alloc: Global, row: &Row<'_>, bytes: &[u8]) -> Result<String, Row
     if row.first < 1 {
         return Err(RowError::Wrong);
     }
-    if row.reader == Reader::Head {
+    if matches!(row.reader, Reader::Head) {
         ended(alloc, parse_head(alloc, bytes, row.first))
     } else {
         ended(alloc, parse_front(alloc, bytes, row.first))
@@ -162,6 +163,7 @@ pub(crate) fn answer(alloc: Global, row: &Row<'_>, bytes: &[u8]) -> Result<Strin
         Reader::DocumentText => document_text(alloc, bytes),
         Reader::Target => accepted(alloc, read_target(alloc, bytes)),
         Reader::TargetShown => target_shown(alloc, bytes),
+        Reader::Verified => verify_answer(alloc, bytes),
         Reader::Judged(judge) => judged(alloc, row, judge, bytes),
     }
 }

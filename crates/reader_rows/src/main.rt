@@ -1,4 +1,4 @@
-//! Answers rows: each row names a reader of the language, or a rule, and spells the lines that are read.
+//! Answers rows: each row names a reader of the language, a rule, or the verifier, and spells the lines that are read.
 //!
 //! A row is a line of standard input, and its answer, the row after it, is a line of standard output. A line that begins
 //! with `#` is a heading and is written as it stands; an empty line is skipped. `lines NAME SPELLING` names lines that the
@@ -11,6 +11,7 @@ mod flaws;
 mod instruction;
 mod row;
 mod rules;
+mod verified;
 
 use crate::row::Row;
 use row_spelling::{NamedLines, RowError, named_lines, spelled};

@@ -1,7 +1,7 @@
 //! A row: the reader or the rule that it names, the line or the instruction that is meant, and the spelling of all lines.
 
 /// What is asked of an instruction of the first operation.
-#[derive(Clone, Copy, Debug, PartialEq, Eq)]
+#[derive(Clone, Copy)]
 pub(crate) enum Judge {
     /// Which rules over paths it breaks.
     Paths,
@@ -22,7 +22,7 @@ pub(crate) enum Judge {
 }
 
 /// What a row asks for.
-#[derive(Clone, Copy, Debug, PartialEq, Eq)]
+#[derive(Clone, Copy)]
 pub(crate) enum Reader {
     /// Whether the lines are a text.
     Text,
@@ -44,12 +44,14 @@ pub(crate) enum Reader {
     Target,
     /// The canonical spelling of the target that the lines are.
     TargetShown,
+    /// Whether the target after `>` is barred for the text before it.
+    Verified,
     /// What a rule says of an instruction.
     Judged(Judge),
 }
 
 /// A row.
-#[derive(Clone, Copy, Debug)]
+#[derive(Clone, Copy)]
 pub(crate) struct Row<'a> {
     pub(crate) reader: Reader,
     /// The line that is read first, from 1, or the place of the instruction that is judged, from 0.
@@ -87,6 +89,7 @@ fn reader_named(word: &str) -> Option<Reader> {
         "show_document_text" => Some(Reader::DocumentText),
         "target" => Some(Reader::Target),
         "show_target" => Some(Reader::TargetShown),
+        "verify" => Some(Reader::Verified),
         word => Some(Reader::Judged(judge_named(word)?)),
     }
 }

@@ -11,7 +11,7 @@ use crate::error::RowError;
 use std::alloc::{AllocError, Global};
 
 /// Lines with a name.
-#[derive(Debug, Drop)]
+#[derive(Drop)]
 pub struct NamedLines {
     pub name: String,
     pub bytes: Vec<u8>,

@@ -34,7 +34,7 @@ pub same_stand : {target : Target} {text : Text} (walk : Walk target text) (home
     → (f : Follows walk home calm path core mirror accessed caller) → Ahead walk.method home calm' path' core' mirror' f.there → Follows walk home calm' path' core' mirror' accessed caller
 same_stand walk home calm calm' path path' core core' mirror mirror' accessed caller f ahead = record { there = f.there; begun = f.begun; stands = f.stands; unmoved = f.unmoved; ahead = ahead }
 
--- what the core keeps of accesses is no matter to a generator
+-- what the core keeps of accesses doesn't matter to a generator
 pub generator_keeps_none : {target : Target} {text : Text} (walk : Walk target text) (home : ℕ → ℕ) (calm : Type 0) (path : List ℕ) (core : Spot) (mirror : Registers) (accessed accessed' : Bool) (caller : SourceCaller)
     → walk.method.wrapup ≡ false → Follows walk home calm path core mirror accessed caller → Follows walk home calm path core mirror accessed' caller
 generator_keeps_none walk home calm path core mirror accessed accessed' caller generator f =

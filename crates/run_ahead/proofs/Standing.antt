@@ -41,7 +41,7 @@ end_at_is _ = refl
 
 -- ---- where methods begin
 
--- where a wrap-up ends is no matter of what its caller ran before
+-- where a wrap-up ends doesn't depend on what its caller ran before
 pub end_same : (op : Op) (i : Option Instr) (running : Running) (replies : List SourceReply) (was other : Option Running)
     → wrap_up_end op i running (record { replies = replies; running = was }) ≡ wrap_up_end op i running (record { replies = replies; running = other })
 end_same op None running replies was other = refl
@@ -94,7 +94,7 @@ accesses text c name op true started accessed call there memory is access =
     ∙ (ap (λ here. turn_of text (events.Access c name) here memory (goes_on running (caller_of call))) (performs text op running (caller_of call) is)
     ∙ ap (λ b. wrap_up_turn b op started (slice_get op.wrapup there.at) (access_at text name (slice_get op.wrapup there.at) there.at there.registers memory) running memory (goes_on running (caller_of call))) access)
 
--- whether a wrap-up has made an access is no matter to a generator
+-- whether a wrap-up has made an access doesn't matter to a generator
 pub accessed_same : (op : Op) (wrapup : Bool) (started : Registers) (call : Call) (there : Spot) → stands_at op wrapup started true call there ≡ stands_at op wrapup started wrapup call there
 accessed_same op false started call there = refl
 accessed_same op true started call there = refl

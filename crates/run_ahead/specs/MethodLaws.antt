@@ -72,7 +72,7 @@ ListsAreMade =
 -- ---- the wrap-up
 
 -- after a commit with so many exchanges that succeeded the wrap-up begins, on both sides with the registers of the commit and the
--- count, and the source's caller follows the core's. Nothing that it carries over was left unchecked, so it is no matter
+-- count, and the source's caller follows the core's. Nothing that it carries over was left unchecked, so it doesn't matter
 -- whether the caller has been warned
 abbrev pub WrapUpsBegin : Type 0 → Type 0 → Type 0
 WrapUpsBegin calm calm' =

@@ -39,7 +39,7 @@ abbrev pub caller_of : Call → SourceCaller
 caller_of call = record { replies = call.replies; running = None }
 
 -- at a spot of the generator, or of the wrap-up: with the registers of the wrap-up's start, and whether this run of the
--- wrap-up has made an access. Both are no matter to a generator
+-- wrap-up has made an access. Neither matters to a generator
 abbrev pub stands_at : Op → Bool → Registers → Bool → Call → Spot → SourceCaller
 stands_at op false started accessed call there = goes_on (generator_at op there (running_of call)) (caller_of call)
 stands_at op true started accessed call there = wrap_up_at op started accessed there (running_of call) (caller_of call)

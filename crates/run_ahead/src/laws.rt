@@ -85,7 +85,7 @@ pub fn lists_are_made()
 {}
 
 /// A wrap-up is followed from its start, with what it carries over from the commit and the count of exchanges that were made. It
-/// begins with nothing unchecked, so a warning before it is no matter.
+/// begins with nothing unchecked, so a warning before it doesn't matter.
 pub fn wrap_ups_begin<Calm, Later>()
     ensures { WrapUpsBegin Calm Later }
 {}

@@ -6,7 +6,7 @@ use norm_lang::list::Listed;
 use norm_lang::text::Name;
 
 /// What is printed for a call: its reply, `spent` where its steps ran out, and `unreached` after such a call.
-#[derive(Clone, Copy, Debug, PartialEq, Eq)]
+#[derive(Clone, Copy)]
 pub enum Answer {
     Replied(Reply),
     Spent,
@@ -14,7 +14,7 @@ pub enum Answer {
 }
 
 /// A call of a script, by the caller's number and its index among the caller's calls, both from 0 on, with its answer.
-#[derive(Debug, Drop)]
+#[derive(Drop)]
 pub struct ReportLine {
     pub caller: u32,
     pub index: u32,
@@ -28,7 +28,7 @@ pub type ReportLines = Listed<ReportLine>;
 
 /// The answers of a document, the phase at the end, and how many slots were claimed and checks failed over all callers; the
 /// counts stay at 2^64 - 1.
-#[derive(Debug, Drop)]
+#[derive(Drop)]
 pub struct Report {
     pub lines: ReportLines,
     pub phase: u64,

@@ -1,9 +1,9 @@
 //! Documents that are run and replayed.
 
-ghost use Rattle.std.specs.Prelude.{◌≡◌, IfOk};
+ghost use Rattle.std.specs.Prelude.{◌≡◌, Ok, IfOk};
 ghost use Rattle.documents.specs.DocumentLimits.{IsWithinDocumentLimits};
 ghost use Rattle.oa_core.specs.Finals.{Answers};
-ghost use Rattle.script_plans.specs.Plans.{IsReady};
+ghost use Rattle.script_plans.specs.Plans.{IsPlanned, IsReady};
 ghost use Rattle.script_driver.specs.Runs.{IsRan, IsReplayed};
 ghost use Rattle.script_driver.specs.PlanRuns.{fault_of, plan_replayed, EndsPlan};
 
@@ -50,6 +50,20 @@ fn replay_plan(alloc: Global, plan: &Plan, document: &Document) -> Result<CoreSt
     )
 }
 
+/// The report of a document whose plan is replayed.
+fn replay_report(alloc: Global, document: &Document, plan: &Plan) -> Result<Report, RunFault>
+    requires within { IsWithinDocumentLimits document.now }
+    requires planned { IsPlanned document.now (Ok plan.now) }
+    requires ready { IsReady plan.now }
+    ensures { IsReplayed document.now result }
+{
+    let lines = blank_lines(alloc, document.scripts.items())?;
+    match replay_plan(alloc, plan, document) {
+        Ok(state) => Ok(report_of(document, lines, &state)),
+        Err(error) => Err(fault_of(error)),
+    }
+}
+
 /// Replays a document: the turns of its schedule in order, and then each caller to its end, in the order of their numbers. The
 /// report is a function of the document.
 ///
@@ -65,11 +79,7 @@ pub fn replay_document(alloc: Global, document: &Document) -> Result<Report, Run
     ensures { IsReplayed document.now result }
 {
     let plan = plan_of(alloc, document)?;
-    let lines = blank_lines(alloc, document.scripts.items())?;
-    match replay_plan(alloc, &plan, document) {
-        Ok(state) => Ok(report_of(document, lines, &state)),
-        Err(error) => Err(fault_of(error)),
-    }
+    replay_report(alloc, document, &plan)
 }
 
 /// Runs a plan by its callers on threads.

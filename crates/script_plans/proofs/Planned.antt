@@ -25,18 +25,16 @@ shapeless : (told : Option ShapeFault) (asked : Setting) (fault : ShapeFault) �
 shapeless None asked fault is = cc
 shapeless (Some told) asked fault is = let same : told ≡ fault = cc in ap (λ (f : ShapeFault). Some f) same
 
-pub is_planned : (document : Document) (copy normal : Text) (barred : Paired) (setting : Setting) (scripts : List (List Call)) → copy ≡ document.text → (normal ≡ copy) × IsNormal copy
-    → Ok setting ≡ or_fault (shape_fault document) (setting_of document) → barred ≡ record { target = second_scheme normal; source = normal } → scripts ≡ calls_of document
+pub is_planned : (document : Document) (text : Text) (barred : Paired) (setting : Setting) (scripts : List (List Call)) → text ≡ document.text → IsNormal document.text
+    → Ok setting ≡ or_fault (shape_fault document) (setting_of document) → barred ≡ record { target = second_scheme text; source = text } → scripts ≡ calls_of document
     → IsPlanned document (Ok (record { barred = barred; setting = setting; scripts = scripts; fuel = document.fuel }))
-is_planned document copy normal barred setting scripts text checked shaped paired calls =
+is_planned document text barred setting scripts same normal shaped paired calls =
     let shape = shapely (shape_fault document) (setting_of document) setting shaped in
-    let same : normal ≡ document.text = checked.0 ∙ text in
     let code : barred ≡ record { target = second_scheme document.text; source = document.text } = paired ∙ ap (λ (t : Text). record { target = second_scheme t; source = t }) same in
-    (rw (code, shape.1, calls) refl, record { normal = rw (← text) checked.1; shape = shape.0 })
+    (rw (code, shape.1, calls) refl, record { normal = normal; shape = shape.0 })
 
-pub is_misshapen : (document : Document) (copy normal : Text) (fault : ShapeFault) → copy ≡ document.text → (normal ≡ copy) × IsNormal copy
-    → Err fault ≡ or_fault (shape_fault document) (setting_of document) → IsFaultOf document (fault_told fault)
-is_misshapen document copy normal fault text checked shaped = (rw (← text) checked.1, shapeless (shape_fault document) (setting_of document) fault shaped)
+pub is_misshapen : (document : Document) (fault : ShapeFault) → IsNormal document.text → Err fault ≡ or_fault (shape_fault document) (setting_of document) → IsFaultOf document (fault_told fault)
+is_misshapen document fault normal shaped = (normal, shapeless (shape_fault document) (setting_of document) fault shaped)
 
 pub planned_is_ready : (document : Document) (result : Result Plan RunFault) → IsWithinDocumentLimits document → IsPlanned document result → IfOk result (λ plan. IsReady plan)
 planned_is_ready document (Ok plan) within planned = rw planned.0 (plan_is_ready document within planned.1)

@@ -1,6 +1,7 @@
 //! The plan of a document.
 
 ghost use Rattle.std.specs.Prelude.{◌≡◌, ◌<◌, ◌^◌, length, IfOk, IfErr};
+ghost use Rattle.norm_lang.specs.NormalForm.{IsNormal};
 ghost use Rattle.target_code.specs.SecondScheme.{second_scheme};
 ghost use Rattle.documents.specs.DocumentLimits.{IsWithinDocumentLimits};
 ghost use Rattle.script_plans.specs.declared.fault.RunFault.TheVariants as told;
@@ -29,7 +30,7 @@ pub type CallLists = Listed<CallList>;
 
 /// What the callers of a document run: the code that its text compiles to, the setting of the row, the calls of each caller, and
 /// how many steps may be made for each call.
-#[derive(Debug, Drop)]
+#[derive(Drop)]
 pub struct Plan {
     pub barred: Barred,
     pub setting: Setting,
@@ -65,22 +66,32 @@ fn shaped(document: &Document) -> Result<Setting, ShapeFault>
     }
 }
 
-/// The plan of a document, part by part.
+/// The plan of a document whose text is in normal form.
 #[tactic(auto, using(crate::proofs::Limits::few_nodes, crate::proofs::Limits::few_ops))]
-fn planned(alloc: Global, document: &Document) -> Result<Plan, RunFault>
-    requires { IsWithinDocumentLimits document.now }
+fn plan_of_normal(alloc: Global, document: &Document, normal: &Normal) -> Result<Plan, RunFault>
+    requires within { IsWithinDocumentLimits document.now }
+    requires text { normal.now ≡ document.now.text }
+    requires normal { IsNormal document.now.text }
     ensures { IsPlanned document.now result }
 {
-    let normal = check(alloc, document.text.copy(alloc)?)?;
     let setting = shaped(document)?;
-    let barred = barred_of(alloc, &normal)?;
     let scripts = calls_of(alloc, document)?;
+    let barred = barred_of(alloc, normal)?;
     Ok(Plan {
         barred,
         setting,
         scripts,
         fuel: document.fuel,
     })
+}
+
+/// The plan of a document, whose text is judged first.
+fn planned(alloc: Global, document: &Document) -> Result<Plan, RunFault>
+    requires { IsWithinDocumentLimits document.now }
+    ensures { IsPlanned document.now result }
+{
+    let normal = check(alloc, document.text.copy(alloc)?)?;
+    plan_of_normal(alloc, document, &normal)
 }
 
 /// The plan of a document.

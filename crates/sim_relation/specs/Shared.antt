@@ -61,7 +61,7 @@ pub record SharedHolds (t : Plan) (s : Shared) : Type 0 where
   -- a slot with a name is the name's home
   pub home : (j : ℕ) → s.present j ≢ 0 → t.home (s.present j) ≡ j
   pub none_there : s.owner 0 ≡ Null
-  -- each slot of the pool is one that a caller may claim
+  -- null is never retired
   pub null_stays : has 0 s.source.retired ≡ false
   -- a name that was tagged and isn't resident was freed by a sweep that had warned all
   pub gone : (n p c : ℕ) → s.tag n ≡ Some p → (Resident t s n → ⊥) → c < t.setting.sizes.callers → p < s.memory (Warning c)

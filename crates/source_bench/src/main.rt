@@ -67,7 +67,8 @@ fn offer(
     }
 }
 
-/// The next event of a caller, unless it has made its operations.
+/// The next event of a caller, unless it has made its operations: an access that names no node, one that names a new node, or the
+/// begin of an operation.
 fn advance(
     alloc: Global,
     normal: &Normal,
@@ -82,44 +83,43 @@ fn advance(
     ensures callers { length state.new.callers ≡ length state.old.callers }
 {
     let index = state.replies(caller).len();
-    if index >= EACH
-        || offer(
-            alloc,
-            normal,
-            state,
-            events,
-            SourceEvent::Access { caller, name: 0 },
-        )?
-    {
+    if index >= EACH {
         return Ok(());
     }
-    if !offer(
-        alloc,
-        normal,
-        state,
-        events,
+    for event in [
+        SourceEvent::Access { caller, name: 0 },
         SourceEvent::Access { caller, name },
-    )? {
-        offer(alloc, normal, state, events, operation(caller, index))?;
+        operation(caller, index),
+    ] {
+        if offer(alloc, normal, state, events, event)? {
+            return Ok(());
+        }
     }
     Ok(())
 }
 
-/// The events of all operations, where the callers take turns.
+/// The events of all operations are added, where two callers take turns.
+fn take_turns(
+    alloc: Global,
+    normal: &Normal,
+    state: &mut SourceState,
+    events: &mut Vec<SourceEvent>,
+) -> Result<(), StepError>
+    requires runs { IsOfSourceRun normal.now state.old }
+    requires callers { length state.old.callers ≡ 2 }
+{
+    for turn in 0..TURNS {
+        let caller = if turn % 2 == 0 { 0 } else { 1 };
+        advance(alloc, normal, state, events, caller, turn as u64 + 2)?;
+    }
+    Ok(())
+}
+
+/// The events of all operations.
 fn found_events(alloc: Global, normal: &Normal) -> Result<Vec<SourceEvent>, StepError> {
     let mut events = Vec::new(alloc);
     let mut state = SourceState::start(alloc, normal, 2)?;
-    for turn in 0..TURNS {
-        let caller = if turn % 2 == 0 { 0 } else { 1 };
-        advance(
-            alloc,
-            normal,
-            &mut state,
-            &mut events,
-            caller,
-            turn as u64 + 2,
-        )?;
-    }
+    take_turns(alloc, normal, &mut state, &mut events)?;
     Ok(events)
 }
 
@@ -136,27 +136,37 @@ fn are_right(replies: &[SourceReply]) -> bool {
     count(replies, 1) == 375 && count(replies, 0) == 125
 }
 
-/// What became of the operations.
+/// Whether two callers have the replies that they must have.
+fn told_of(state: &SourceState) -> &'static [u8]
+    requires { length state.now.callers ≡ 2 }
+{
+    if are_right(state.replies(0)) && are_right(state.replies(1)) {
+        b"1000 operations\n"
+    } else {
+        b"wrong replies\n"
+    }
+}
+
+/// What becomes of the operations on a text.
+fn run_again(alloc: Global, normal: &Normal) -> &'static [u8] {
+    let Ok(events) = found_events(alloc, normal) else {
+        return b"memory\n";
+    };
+    match run(alloc, normal, 2, &events) {
+        Ok(state) => told_of(&state),
+        Err(RunError::NotEnabled { .. }) => b"not enabled\n",
+        Err(RunError::Memory) => b"memory\n",
+    }
+}
+
+/// What becomes of the operations on the list.
 fn outcome(alloc: Global) -> &'static [u8] {
     let Ok(text) = shipped_set(alloc, 1) else {
         return b"memory\n";
     };
-    let Ok(normal) = check(alloc, text) else {
-        return b"memory\n";
-    };
-    let Ok(events) = found_events(alloc, &normal) else {
-        return b"memory\n";
-    };
-    match run(alloc, &normal, 2, &events) {
-        Ok(state) => {
-            if are_right(state.replies(0)) && are_right(state.replies(1)) {
-                b"1000 operations\n"
-            } else {
-                b"wrong replies\n"
-            }
-        }
-        Err(RunError::NotEnabled { .. }) => b"not enabled\n",
-        Err(RunError::Memory) => b"memory\n",
+    match check(alloc, text) {
+        Ok(normal) => run_again(alloc, &normal),
+        Err(_) => b"memory\n",
     }
 }
 

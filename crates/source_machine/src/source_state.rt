@@ -17,7 +17,7 @@ use std::marker::Model;
 
 /// A state of the source machine: nodes by their names, roots, the retired names in the order of retirement, and the
 /// callers. Contracts see it as that state. A step takes no longer than a search by name does.
-#[derive(Debug, Drop)]
+#[derive(Drop)]
 pub struct SourceState {
     machine: SourceMachine,
 }

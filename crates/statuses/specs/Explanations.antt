@@ -43,7 +43,7 @@ shape_words number =
     else (if number == 3 then codes "its nodes do not have 1 to 4 fields"
     else (if number == 4 then codes "it does not have 1 to 256 roots"
     else (if number == 5 then codes "it has more initial nodes than slots"
-    else (if number == 6 then codes "its phases do not begin at 1 or later and end no earlier, at 1125899906842624 or before"
+    else (if number == 6 then codes "its phases are not 1 to 1125899906842624, with the first no later than the last"
     else (if number == 7 then codes "its fuel is not 1 to 1000000000"
     else (if number == 8 then codes "its text has no operation of that name"
     else (if number == 9 then codes "the operation has another count of arguments"

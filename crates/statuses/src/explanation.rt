@@ -106,7 +106,7 @@ fn shape_words(number: u8) -> &'static [u8]
     } else if number == 5 {
         b"it has more initial nodes than slots"
     } else if number == 6 {
-        b"its phases do not begin at 1 or later and end no earlier, at 1125899906842624 or before"
+        b"its phases are not 1 to 1125899906842624, with the first no later than the last"
     } else if number == 7 {
         b"its fuel is not 1 to 1000000000"
     } else if number == 8 {

@@ -1,4 +1,4 @@
--- Sums over the views, and words behind one another.
+-- Sums over the views, and words one after another.
 use Rattle.std.proofs.Common.{◌≡◌, ◌≢◌, ℕ, zero, suc, ◌+◌, ◌≤◌, ◌==◌, eq-eqb, Bool, List, [], ◌∷◌, ◌++◌, length, set, Some, refl, sym, ap, ◌∙◌, arith}
 use Rattle.std.specs.Prelude.{slice_get, slice_index, if◌then◌else◌}
 use mathlib.Core.Option.{some, some-injective, some-ne-none}

@@ -43,7 +43,7 @@ abbrev pub IsTargetCycle : List TargetInstr → List ℕ → ℕ → Type 0
 IsTargetCycle code [] at = ⊥
 IsTargetCycle code (last ∷ path) at = Leads (IsTargetSuccessor code) at (last ∷ path) at
 
--- it is no matter to a state where jumps lead
+-- it doesn't matter to a state where jumps lead
 abbrev pub IgnoresJumps : {S : Type 0} → (Instr → S → S) → Type 0
 IgnoresJumps {S} after = (place : ℕ → ℕ) (i : Instr) (state : S) → after (redirected place i) state ≡ after i state
 

@@ -13,7 +13,7 @@ use std::alloc::{AllocError, Global};
 use std::mem;
 
 /// Where in a text the next line stands.
-#[derive(Clone, Copy, Debug, PartialEq, Eq)]
+#[derive(Clone, Copy, PartialEq, Eq)]
 pub enum Section {
     /// Before the version line.
     Start,
@@ -37,7 +37,7 @@ pub enum Section {
 
 /// The declarations and the operations that are whole, the operation whose lines stand here, and the entries of a commit
 /// of which `left` lines must follow. `nodes` is the count of initial nodes that its line states.
-#[derive(Debug, Drop)]
+#[derive(Drop)]
 pub struct Draft {
     pub section: Section,
     pub nodes: u32,

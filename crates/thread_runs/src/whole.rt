@@ -1,12 +1,11 @@
 //! A whole run: from the target to the final state.
 
-ghost use Rattle.std.specs.Prelude.{◌≡◌, ◌<◌, ◌≤◌, ◌+◌, [], length, vec_capacity, IfOk, IfSome};
+ghost use Rattle.std.specs.Prelude.{◌≡◌, ◌<◌, ◌+◌, length, IfOk};
 ghost use Rattle.caller_parts.specs.Settings.{Fits};
 ghost use Rattle.core_runs.specs.Scripts.{SuitScripts};
-ghost use Rattle.table_rule.specs.Rule.{callers_of};
 ghost use Rattle.word_runner.specs.Shown.{CameFrom};
 ghost use Rattle.thread_runs.specs.Scripts.{AllFresh, Finished, AllFinished};
-ghost use Rattle.thread_runs.specs.Whole.{AllBlank, AllEnded, HasRooms, AreShort, IsFinalOf};
+ghost use Rattle.thread_runs.specs.Whole.{IsBlank, AllBlank, AllEnded, HasRooms, AreShort, IsFinalOf};
 
 use crate::scripts::{CallList, run_all};
 use barrier_check::Barred;
@@ -33,13 +32,13 @@ fn split_all(
     alloc: Global,
     arena: &Arena,
     mut first: Blank,
-    count: u32,
+    count: usize,
 ) -> Result<Vec<Blank>, AllocError>
     requires came { CameFrom arena.now first.table first.fixed }
     requires count { 0 < count }
     ensures { IfOk result (λ v. AllBlank arena.now first.room v.items × (length v.items ≡ count)) }
 {
-    let mut blanks = Vec::with_capacity(alloc, count as usize)?;
+    let mut blanks = Vec::with_capacity(alloc, count)?;
     let mut left = count - 1;
     while left > 0 {
         let next = first.split(alloc, arena)?;
@@ -50,28 +49,28 @@ fn split_all(
     Ok(blanks)
 }
 
-/// Enters them all, as far as there are places.
+/// Enters them all, as far as there are places. It takes memory before the first.
 fn enter_all(
+    alloc: Global,
     arena: &Arena,
     scripts: &[CallList],
     room: u32,
     mut blanks: Vec<Blank>,
-    mut callers: Vec<Caller>,
-) -> Option<Vec<Caller>>
+) -> Result<Vec<Caller>, AllocError>
     requires blanks { AllBlank arena.now room blanks.items }
     requires suit { SuitScripts arena.now.fixed.target.target arena.now.fixed.setting scripts.now }
     requires rooms { HasRooms scripts.now room }
     requires short { AreShort scripts.now }
-    requires space { (callers.items ≡ []) × (length blanks.items ≤ vec_capacity callers) }
-    ensures { IfSome result (λ v. AllFresh arena.now scripts.now v.items × (length v.items ≡ length blanks.items)) }
+    ensures { IfOk result (λ v. AllFresh arena.now scripts.now v.items × (length v.items ≡ length blanks.items)) }
 {
+    let mut callers = Vec::with_capacity(alloc, blanks.len())?;
     while let Some(blank) = blanks.pop() {
         match blank.enter(arena) {
             Ok(caller) => callers.push_reserved(caller),
-            Err(_) => return None,
+            Err(_) => return Err(AllocError),
         }
     }
-    Some(callers)
+    Ok(callers)
 }
 
 /// Merges them all with the first.
@@ -93,6 +92,36 @@ fn gather(
         rest = rest.merge(caller.rest(), arena);
     }
     rest
+}
+
+/// Enters a caller for each script, runs them all, and merges them.
+fn run_callers<R: Threads + Sync, G: Gate + Sync>(
+    rt: &R,
+    alloc: Global,
+    arena: &Arena,
+    first: Blank,
+    room: u32,
+    scripts: &[CallList],
+    fuel: u64,
+    gate: &G,
+) -> Result<Rest, AllocError>
+    requires first { IsBlank arena.now room first }
+    requires suit { SuitScripts arena.now.fixed.target.target arena.now.fixed.setting scripts.now }
+    requires some { 0 < length scripts.now }
+    requires rooms { HasRooms scripts.now room }
+    requires short { AreShort scripts.now }
+    requires fuel { 0 < fuel }
+    ensures came { IfOk result (λ rest. CameFrom arena.now rest.table rest.fixed) }
+    ensures count { IfOk result (λ rest. length rest.entries ≡ length scripts.now) }
+    ensures ended { IfOk result (λ rest. AllEnded arena.now.fixed scripts.now fuel rest.entries) }
+{
+    let blanks = split_all(alloc, arena, first, scripts.len())?;
+    let mut callers = enter_all(alloc, arena, scripts, room, blanks)?;
+    run_all(rt, arena, gate, scripts, fuel, callers.as_mut_slice());
+    match callers.pop() {
+        Some(first) => Ok(gather(arena, scripts, fuel, first, callers)),
+        None => Err(AllocError),
+    }
 }
 
 /// Runs the scripts by as many callers on threads, half of them in a thread of their own and so on, where threads can be made, and
@@ -120,18 +149,8 @@ pub fn run_scripts<R: Threads + Sync, G: Gate + Sync>(
     ensures { IfOk result (λ f. IsFinalOf (record { target = barred; setting = setting }) scripts.now fuel f.phase f.entries) }
 {
     setting.kept();
-    let count = setting.shape().callers();
     let room = longest(scripts);
     let (arena, first) = Arena::make(alloc, barred, setting, room)?;
-    let callers = Vec::with_capacity(alloc, count as usize)?;
-    let blanks = split_all(alloc, &arena, first, count)?;
-    let Some(mut callers) = enter_all(&arena, scripts, room, blanks, callers) else {
-        return Err(AllocError);
-    };
-    run_all(rt, &arena, gate, scripts, fuel, callers.as_mut_slice());
-    let Some(first) = callers.pop() else {
-        return Err(AllocError);
-    };
-    let rest = gather(&arena, scripts, fuel, first, callers);
+    let rest = run_callers(rt, alloc, &arena, first, room, scripts, fuel, gate)?;
     Ok(arena.close(rest))
 }

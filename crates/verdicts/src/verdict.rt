@@ -7,7 +7,7 @@ use script_driver::Report;
 use workload_runs::WorkloadReport;
 
 /// What was read and judged.
-#[derive(Debug, Drop)]
+#[derive(Drop)]
 pub enum Verdict {
     /// The answers to the document's calls.
     Answered(Report),

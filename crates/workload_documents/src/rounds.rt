@@ -19,7 +19,7 @@ const KEYS: u64 = 50;
 const KEYS_APART: u64 = 1000;
 
 /// A round of a caller: its number of the sequence, its key, and the key of the round before.
-#[derive(Clone, Copy, Debug, PartialEq, Eq)]
+#[derive(Clone, Copy)]
 pub(crate) struct Round {
     seed: u64,
     pub(crate) key: u64,

@@ -42,7 +42,7 @@ fn count_number(n: u64, lines: &[ReportLine]) -> usize
 
 /// What the answers of a part add up to: how many calls there are, how many replied with 1 and how many with 0, and how many have no
 /// answer.
-#[derive(Clone, Copy, Debug, PartialEq, Eq)]
+#[derive(Clone, Copy)]
 pub(crate) struct Tally {
     calls: u64,
     ones: u64,

@@ -14,7 +14,7 @@ use std::alloc::{AllocError, Global};
 use std::thread::Threads;
 
 /// The reports of both parts, and how many callers the first one has.
-#[derive(Debug, Drop)]
+#[derive(Drop)]
 pub struct WorkloadReport {
     pub callers: u32,
     pub first: Report,

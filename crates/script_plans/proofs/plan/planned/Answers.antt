@@ -1,12 +1,9 @@
-use Rattle.std.proofs.lemmas.Result.{err_from_is_err_and}
-use Rattle.script_plans.proofs.Planned.{is_planned, is_misshapen}
+use Rattle.std.proofs.Common.{◌∙◌, subst}
+use Rattle.norm_lang.specs.NormalForm.{IsNormal}
 use Rattle.script_plans.proofs.plan.planned.Goals as goal
 
-pub returns-in_err-setting : goal.returns-in_err-setting
-returns-in_err-setting c =
-    let p = err_from_is_err_and c.from_residual-in_err-setting.result c.from_residual-in_err-setting.ensures.1 in
-    rw (p.1, p.2) (is_misshapen c.args.document.now c.in_ok-copy.field-0 c.in_ok-normal.normal c.in_err-setting.field-0.0 c.in_ok-copy.ensures c.in_ok-normal.ensures c.in_err-setting.ensures)
+pub plan_of_normal-requires-clause-text : goal.plan_of_normal-requires-clause-text
+plan_of_normal-requires-clause-text c = c.in_ok-normal.ensures.0 ∙ c.in_ok-copy.ensures
 
-pub returns : goal.returns
-returns c =
-    is_planned c.args.document.now c.in_ok-copy.field-0 c.in_ok-normal.normal c.in_ok-barred.barred c.in_ok-setting.setting c.in_ok-scripts.scripts c.in_ok-copy.ensures c.in_ok-normal.ensures c.in_ok-setting.ensures c.in_ok-barred.ensures.code c.in_ok-scripts.ensures
+pub plan_of_normal-requires-clause-normal : goal.plan_of_normal-requires-clause-normal
+plan_of_normal-requires-clause-normal c = subst IsNormal c.in_ok-copy.ensures c.in_ok-normal.ensures.1

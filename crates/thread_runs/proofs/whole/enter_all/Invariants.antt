@@ -1,4 +1,4 @@
-use Rattle.std.proofs.Common.{◌≡◌, ◌≤◌, ◌+◌, ℕ, length, vec_len, vec_capacity}
+use Rattle.std.proofs.Common.{◌≡◌, ◌≤◌, ◌+◌, length, vec_len, vec_capacity}
 use Rattle.thread_runs.specs.Whole.{AllBlank}
 use Rattle.thread_runs.specs.Scripts.{AllFresh}
 use Rattle.thread_runs.proofs.whole.enter_all.Given as goal

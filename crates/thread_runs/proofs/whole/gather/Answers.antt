@@ -1,7 +1,7 @@
-use Rattle.std.proofs.Common.{rules, ◌≡◌, ◌≤◌, ◌<◌, ◌+◌, ◌-◌, ◌++◌, ◌∷◌, [], List, length, vec_len, vec_capacity, ℕ, sym, subst, ap, ◌∙◌, arith, length-append}
+use Rattle.std.proofs.Common.{rules, ◌≡◌, ◌+◌, ◌-◌, ◌++◌, ◌∷◌, [], List, length, sym, subst, ap, ◌∙◌, arith}
 use Rattle.std.specs.Prelude.{All}
 use Rattle.std.proofs.lemmas.Grind.{common_steps}
-use Rattle.std.proofs.lemmas.List.Elements.{All-push, All-pop, All-append}
+use Rattle.std.proofs.lemmas.List.Elements.{All-push, All-pop}
 use Rattle.caller_steps.specs.Entries.{RoomyEntry}
 use Rattle.word_runner.specs.Shown.{RestShown}
 use Rattle.thread_runs.specs.Scripts.{Finished, Ended}

@@ -1,4 +1,4 @@
-use Rattle.std.proofs.Common.{◌≡◌, ◌≤◌, ◌+◌, ℕ, length, vec_len}
+use Rattle.std.proofs.Common.{◌≡◌, ◌+◌, length, vec_len}
 use Rattle.word_runner.specs.Shown.{CameFrom}
 use Rattle.thread_runs.specs.Whole.{AllEnded}
 use Rattle.thread_runs.specs.Scripts.{AllFinished}

@@ -1,6 +1,5 @@
-use Rattle.std.proofs.Common.{rules, ◌≡◌, ◌<◌, ◌≤◌, ◌+◌, length, get_or, ℕ, List, arith}
-use Rattle.std.proofs.lemmas.Grind.{common_steps}
-use Rattle.thread_runs.proofs.Longest.{FitFirst, fit_more}
+use Rattle.std.proofs.Common.{rules, ◌≡◌, ◌<◌, ◌≤◌, length, get_or}
+use Rattle.thread_runs.proofs.Longest.{fit_more}
 use Rattle.thread_runs.proofs.whole.longest.Goals as goal
 
 pub loop-script-preserved : goal.loop-script-preserved

@@ -1,8 +1,8 @@
-use Rattle.std.proofs.Common.{rules, ◌≡◌, ◌≤◌, ◌+◌, ◌-◌, length, vec_len, vec_capacity, ℕ, sym, subst, arith, length-append}
+use Rattle.std.proofs.Common.{rules, ◌-◌, sym, subst, arith}
 use Rattle.std.specs.Prelude.{All}
 use Rattle.std.proofs.lemmas.Grind.{common_steps}
 use Rattle.std.proofs.lemmas.List.Elements.{All-push}
-use Rattle.thread_runs.specs.Whole.{IsBlank, AllBlank}
+use Rattle.thread_runs.specs.Whole.{IsBlank}
 use Rattle.thread_runs.proofs.whole.split_all.Goals as goal
 
 pub loop-left-preserved : goal.loop-left-preserved

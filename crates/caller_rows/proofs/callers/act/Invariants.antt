@@ -1,6 +1,6 @@
 use Rattle.core_entries.specs.Callers.{BelongsTo}
 use Rattle.core_entries.specs.Steps.{WordsSound}
-use Rattle.caller_rows.proofs.callers.make_moves.Given as goal
+use Rattle.caller_rows.proofs.callers.act.Given as goal
 
 abbrev pub invariant-loop-text : goal.invariant-loop-text
 invariant-loop-text l = record {

@@ -114,19 +114,31 @@ fn digit(reply: SourceReply) -> u64 {
     }
 }
 
+/// Each of these runs is told so.
+fn expect_told(
+    rt: &(impl Abort + AllocGlobal),
+    normal: &Normal,
+    rows: &[(&[u8], Result<u64, u64>)],
+) {
+    for (bytes, wanted) in rows {
+        assert!(rt; told(rt, normal, bytes) == *wanted);
+    }
+}
+
 #[test]
 fn a_counter_counts(rt: HostRuntime) {
-    let normal = normal_of(&rt, COUNTER);
-    assert!(rt; told(&rt, &normal, b"0.r..") == Ok(5));
-    assert!(rt; told(&rt, &normal, b"0.r..n.") == Ok(57));
+    let rows: [(&[u8], Result<u64, u64>); 2] = [(b"0.r..", Ok(5)), (b"0.r..n.", Ok(57))];
+    expect_told(&rt, &normal_of(&rt, COUNTER), &rows);
 }
 
 #[test]
 fn the_first_event_that_is_not_enabled_is_named(rt: HostRuntime) {
-    let normal = normal_of(&rt, COUNTER);
-    assert!(rt; told(&rt, &normal, b"0.r...") == Err(5));
-    assert!(rt; told(&rt, &normal, b"1") == Err(0));
-    assert!(rt; told(&rt, &normal, b"00") == Err(1));
+    let rows: [(&[u8], Result<u64, u64>); 3] = [
+        (b"0.r...", Err(5)),
+        (b"1", Err(0)),
+        (b"00", Err(1)),
+    ];
+    expect_told(&rt, &normal_of(&rt, COUNTER), &rows);
 }
 
 #[test]
@@ -141,23 +153,29 @@ fn a_further_access_is_refused(rt: HostRuntime) {
 
 #[test]
 fn names_may_be_large(rt: HostRuntime) {
-    let normal = list(&rt);
-    assert!(rt; told(&rt, &normal, b"0..+...2.....1......2...") == Ok(1110));
-    assert!(rt; told(&rt, &normal, b"0..m...2.....") == Ok(11));
+    let rows: [(&[u8], Result<u64, u64>); 2] = [
+        (b"0..+...2.....1......2...", Ok(1110)),
+        (b"0..m...2.....", Ok(11)),
+    ];
+    expect_told(&rt, &list(&rt), &rows);
 }
 
 #[test]
 fn names_are_used_once(rt: HostRuntime) {
-    let normal = list(&rt);
-    assert!(rt; told(&rt, &normal, b"0..s") == Err(3));
-    assert!(rt; told(&rt, &normal, b"0...") == Err(3));
-    assert!(rt; told(&rt, &normal, b"0..m+") == Err(4));
+    let rows: [(&[u8], Result<u64, u64>); 3] = [
+        (b"0..s", Err(3)),
+        (b"0...", Err(3)),
+        (b"0..m+", Err(4)),
+    ];
+    expect_told(&rt, &list(&rt), &rows);
 }
 
 #[test]
 fn a_caller_gives_up_at_a_new_alone(rt: HostRuntime) {
-    let normal = list(&rt);
-    assert!(rt; told(&rt, &normal, b"0.f") == Err(2));
-    assert!(rt; told(&rt, &normal, b"0..f") == Ok(9));
-    assert!(rt; told(&rt, &normal, b"0..ff") == Err(4));
+    let rows: [(&[u8], Result<u64, u64>); 3] = [
+        (b"0.f", Err(2)),
+        (b"0..f", Ok(9)),
+        (b"0..ff", Err(4)),
+    ];
+    expect_told(&rt, &list(&rt), &rows);
 }

@@ -1,8 +1,10 @@
--- The pool's run goes on with each event of a core run, from whichever state of the pool it has come to. `core_pools` says it of runs from
--- the start alone; between a load of the head and an exchange one run has to go on.
+-- The pool's run goes on with each event of a core run, from whichever state of the pool it has come to: each event of the core is at most
+-- two of the pool, the access and the routine that begins after it.
 use Rattle.std.proofs.Common.{ℕ, ◌≡◌, ◌≢◌, ◌+◌, ◌≤◌, ◌<◌, ◌∙◌, ◌++◌, ◌==◌, true, false, [], Option, Some, None, arith, ⊎_elim, sym, ap, subst, refl}
+use Rattle.std.specs.Prelude.{slice_get, unwrap_or}
 use Rattle.std.proofs.lemmas.Bool.{cases_lt}
 use Rattle.std.proofs.lemmas.Bool.Decides.{nat_tests, eqb_tells}
+use Rattle.std.proofs.lemmas.Option.{slice_get_within}
 use Rattle.target_code.specs.declared.target.Target.{Target}
 use Rattle.oa_words.specs.declared.packed.Kind.TheVariants as kinds
 use Rattle.oa_words.specs.Words.{Word, Status, in_row}
@@ -24,7 +26,7 @@ use Rattle.caller_parts.specs.declared.routine.AfterRetire.{AfterRetire}
 use Rattle.caller_parts.specs.declared.routine.Routine.{Routine}
 use Rattle.caller_parts.specs.declared.routine.Routine.TheVariants as routines
 use Rattle.caller_parts.specs.Settings.{Setting}
-use Rattle.caller_steps.specs.Entries.{Entry, is_idle}
+use Rattle.caller_steps.specs.Entries.{Entry, idle_entry, is_idle}
 use Rattle.caller_steps.specs.Wants.{wants}
 use Rattle.caller_steps.specs.After.{after, taken, accepted, counted, claim_counted, claim_on, retired_on}
 use Rattle.core_runs.specs.Machine.{CoreState, CoreEvent, Takes, Steps}
@@ -34,7 +36,6 @@ use Rattle.caller_laws.proofs.Routed.{HoldsAtBegins, after_routed}
 use Rattle.core_sound.specs.Standing.{standing_of}
 use Rattle.core_sound.proofs.Stamping.{elsewhere_wants}
 use Rattle.core_pools.specs.Pooled.{standings, pool_of, RetiresUsed}
-use Rattle.core_pools.proofs.Pooling.{past_callers}
 use Rattle.core_pools.proofs.Leading.{RunsTo, run_more, Begun, in_none, in_claim, in_retirement, MayRetire, put_again, comes, caller_steps, other_written}
 
 some_same : (a b : WordAccess) → Some a ≡ Some b → a ≡ b
@@ -60,7 +61,13 @@ put_entry W who c e others = λ i d. at d i where
       (λ (t : ((d == c) ≡ false) × (d ≢ c)). rw t.0 (others d t.1))
       (eqb_tells d c)
 
--- past the row there is 0
+-- past the callers there are idle ones, and past the row there is 0
+pub past_callers : (target : Target) (setting : Setting) (state : CoreState) (d : ℕ) → IsShaped target setting state → setting.sizes.callers ≤ d → standings (view setting state).who d ≡ Elsewhere
+past_callers target setting state d shaped le = of (slice_get state.entries d) refl where
+  of : (o : Option Entry) → slice_get state.entries d ≡ o → standing_of (unwrap_or o (idle_entry d)).routine ≡ Elsewhere
+  of None none = refl
+  of (Some e) some = let within = slice_get_within state.entries d e some in let callers = shaped.callers in absurd (let z : ⊥ = omega (arith, within, callers, le) in z)
+
 past_row : (setting : Setting) (state : CoreState) (w : Word) → in_row setting.sizes w ≡ false → (view setting state).memory w ≡ 0
 past_row setting state w out = rw out refl
 
@@ -235,7 +242,8 @@ module _ (target : Target) (setting : Setting) (few : setting.sizes.slots ≤ 40
   taken_goes v c call idle l = subst (FromTo v.memory)
       (put_again (standings v.who) c Elsewhere (elsewhere_idle (v.who c).routine idle) ∙ put_entry (standings v.who) v.who c (taken call (v.who c)) (λ d ne. refl)) l
 
-  event_goes : (state later : CoreState) (event : CoreEvent) → IsShaped target setting state → Moves target setting (view setting state) event (view setting later) → FromTo (view setting state).memory (standings (view setting state).who)
+  -- the state after an event, where what is retired then is used and nobody else's
+  pub event_goes : (state later : CoreState) (event : CoreEvent) → IsShaped target setting state → Moves target setting (view setting state) event (view setting later) → FromTo (view setting state).memory (standings (view setting state).who)
       → RetiresUsed setting (view setting later).memory (standings (view setting later).who) → FromTo (view setting later).memory (standings (view setting later).who)
   event_goes state later (Takes c call) shaped m pooled used =
       let v = view setting state in

@@ -97,16 +97,34 @@ fn states(facts: &Facts, at: u32) -> [bool; 4] {
     ]
 }
 
+/// At each of these instructions the facts of moves tell these four answers.
+fn expect_states(
+    rt: &impl Abort,
+    alloc: Global,
+    moves: &[Move],
+    start: u8,
+    rows: &[(u32, [bool; 4])],
+) -> Result<(), AllocError> {
+    let facts = facts_of(rt, alloc, moves, start)?;
+    for (at, wanted) in rows {
+        assert!(rt; states(&facts, *at) == *wanted);
+    }
+    Ok(())
+}
+
 #[test]
 fn a_state_is_that_before_the_instruction(rt: HostRuntime) -> Result<(), AllocError> {
     let moves = [to(1, NEXT), end(NEXT)];
-    let facts = facts_of(&rt, rt.alloc(), &moves, 0)?;
-    assert!(rt; states(&facts, 0) == [true, false, false, false]);
-    assert!(rt; states(&facts, 1) == [false, true, false, false]);
-    let begun_later = facts_of(&rt, rt.alloc(), &moves, 2)?;
-    assert!(rt; states(&begun_later, 0) == [false, false, true, false]);
-    assert!(rt; states(&begun_later, 1) == [false, false, false, true]);
-    Ok(())
+    let rows = [
+        (0, [true, false, false, false]),
+        (1, [false, true, false, false]),
+    ];
+    expect_states(&rt, rt.alloc(), &moves, 0, &rows)?;
+    let begun_later = [
+        (0, [false, false, true, false]),
+        (1, [false, false, false, true]),
+    ];
+    expect_states(&rt, rt.alloc(), &moves, 2, &begun_later)
 }
 
 #[test]
@@ -119,43 +137,47 @@ fn two_paths_join_with_both_states(rt: HostRuntime) -> Result<(), AllocError> {
         to(4, SAME),
         end(SAME),
     ];
-    let facts = facts_of(&rt, rt.alloc(), &moves, 0)?;
-    assert!(rt; states(&facts, 1) == [true, false, false, false]);
-    assert!(rt; states(&facts, 2) == [true, false, false, false]);
-    assert!(rt; states(&facts, 3) == [true, true, false, false]);
-    assert!(rt; states(&facts, 4) == [true, true, false, false]);
-    Ok(())
+    let rows = [
+        (1, [true, false, false, false]),
+        (2, [true, false, false, false]),
+        (3, [true, true, false, false]),
+        (4, [true, true, false, false]),
+    ];
+    expect_states(&rt, rt.alloc(), &moves, 0, &rows)
 }
 
 #[test]
 fn a_cycle_is_gone_round_till_no_state_is_new(rt: HostRuntime) -> Result<(), AllocError> {
     // 0 leads into the cycle of 1 and 2, which counts once a round; 3 is after it.
     let moves = [to(1, SAME), to_both(2, 3, SAME), to(1, NEXT), end(SAME)];
-    let facts = facts_of(&rt, rt.alloc(), &moves, 1)?;
-    assert!(rt; states(&facts, 0) == [false, true, false, false]);
-    assert!(rt; states(&facts, 1) == [false, true, true, true]);
-    assert!(rt; states(&facts, 2) == [false, true, true, true]);
-    assert!(rt; states(&facts, 3) == [false, true, true, true]);
-    Ok(())
+    let rows = [
+        (0, [false, true, false, false]),
+        (1, [false, true, true, true]),
+        (2, [false, true, true, true]),
+        (3, [false, true, true, true]),
+    ];
+    expect_states(&rt, rt.alloc(), &moves, 1, &rows)
 }
 
 #[test]
 fn the_start_may_be_come_back_to(rt: HostRuntime) -> Result<(), AllocError> {
     let moves = [to_both(0, 1, [2, 0, 1, 3]), end(SAME)];
-    let facts = facts_of(&rt, rt.alloc(), &moves, 0)?;
-    assert!(rt; states(&facts, 0) == [true, true, true, false]);
-    assert!(rt; states(&facts, 1) == [true, true, true, false]);
-    Ok(())
+    let rows = [
+        (0, [true, true, true, false]),
+        (1, [true, true, true, false]),
+    ];
+    expect_states(&rt, rt.alloc(), &moves, 0, &rows)
 }
 
 #[test]
 fn an_unreached_instruction_has_no_state(rt: HostRuntime) -> Result<(), AllocError> {
-    // 1 and 2 lead to each other and to 3, and nothing leads to them.
+    // 1 and 2 lead to each other and to 3, and nothing leads to them; there is no 4.
     let moves = [to(3, SAME), to(2, NEXT), to_both(1, 3, NEXT), end(SAME)];
-    let facts = facts_of(&rt, rt.alloc(), &moves, 0)?;
-    assert!(rt; states(&facts, 1) == [false, false, false, false]);
-    assert!(rt; states(&facts, 2) == [false, false, false, false]);
-    assert!(rt; states(&facts, 3) == [true, false, false, false]);
-    assert!(rt; !facts.comes_in(4, 0));
-    Ok(())
+    let rows = [
+        (1, [false; 4]),
+        (2, [false; 4]),
+        (3, [true, false, false, false]),
+        (4, [false; 4]),
+    ];
+    expect_states(&rt, rt.alloc(), &moves, 0, &rows)
 }
