@@ -5,7 +5,7 @@ use histories::{Judgement, judge};
 use std::alloc::Global;
 
 /// What is found of the history that a row spells.
-pub fn answer(alloc: Global, line: &str) -> Result<&'static str, RowError> {
+pub(crate) fn answer(alloc: Global, line: &str) -> Result<&'static str, RowError> {
     let history = history_of(alloc, line)?;
     match judge(alloc, &history)? {
         Judgement::Legal => Ok("legal"),

@@ -5,7 +5,7 @@ use std::alloc::{AllocError, Global};
 
 /// Why a row has no answer.
 #[derive(Debug, Drop)]
-pub enum RowError {
+pub(crate) enum RowError {
     /// Memory ran out.
     Memory(AllocError),
     /// The row isn't spelled as a row.
@@ -116,7 +116,7 @@ fn kind_of(word: &str) -> Result<Kind, RowError> {
 }
 
 /// The calls of all callers, one caller's after another's.
-pub fn history_of(alloc: Global, line: &str) -> Result<Vec<Call>, RowError> {
+pub(crate) fn history_of(alloc: Global, line: &str) -> Result<Vec<Call>, RowError> {
     let mut calls = Vec::new(alloc);
     let Some((word, scripts)) = line.split_once(" | ") else {
         kind_of(line)?;

@@ -13,9 +13,9 @@ pub(crate) fn small(rt: &impl Abort) -> Shape
     Shape::new(1, 3, 2, 1).expect(rt, "the numbers are in range")
 }
 
-/// The words of such a row, all 0 but the phase, the warning, the first hazard, the
-/// statuses of slots 1 to 3 and of null, the head, and the links of slots 1 to 3. A status is 4 times a phase, and 0 for
-/// ready, 1 for used, 2 for retired; a head is 8192 times a phase, and the slot on top.
+/// The words of such a row, all 0 but the phase, the warning, the first hazard, the statuses of slots 1 to 3 and of null, the head,
+/// and the links of slots 1 to 3. A status is 4 times a phase, and 0 for ready, 1 for used, 2 for retired; a head is 8192 times a
+/// phase, and the slot on top.
 pub(crate) fn row(phase: u64, hazard: u64, statuses: [u64; 3], chain: [u64; 4]) -> [u64; 29] {
     let mut words = [0; 29];
     words[0] = phase;
