@@ -1,11 +1,11 @@
 //! Barred targets.
 
-ghost use Rattle.std.specs.Prelude.{◌≡◌, ◌↔◌, ◌<◌, length, slice_get, IsSomeAnd, IsTrue};
+ghost use Rattle.std.specs.Prelude.{◌≡◌, ◌↔◌, ◌<◌, length, slice_get, Err, IsSomeAnd, IsTrue, IfOk, IfErr};
 ghost use Rattle.norm_lang.specs.declared.text.Reg.TheVariants.{Ref};
 ghost use Rattle.norm_lang.specs.Kept.{IsKept};
 ghost use Rattle.norm_lang.specs.Limits.{IsWithinLimits};
 ghost use Rattle.norm_lang.specs.NormalForm.{IsNormal};
-ghost use Rattle.norm_check.specs.KeptTable.{keeps_by};
+ghost use Rattle.norm_check.specs.KeptTable.{AreKeptOf, keeps_by};
 ghost use Rattle.target_code.specs.Barred.{IsBarred};
 ghost use Rattle.target_code.specs.TargetLimits.{IsTargetWithinLimits};
 ghost use Rattle.barrier_check.specs.Verified.{IsVerified};
@@ -46,6 +46,18 @@ impl Model for Barred {
     ghost invariant = { λ b. IsSound (record { target = b.target; source = b.source }) × AreKeptOf b.source b.kept };
 }
 
+/// Judges a target for a text, and answers which references the wrap-up of each of the text's operations keeps.
+#[tactic(auto, using(crate::proofs::Verifying::is_barred))]
+fn judge(alloc: Global, target: &Target, text: &Text) -> Result<Listed<Kept>, VerifyError>
+    requires target { IsTargetWithinLimits target.now }
+    requires text { IsWithinLimits text.now }
+    ensures barred { IfOk result (λ kept. IsBarred target.now text.now × AreKeptOf text.now kept) }
+    ensures refused { IfErr result (λ e. IsVerified target.now text.now (Err e)) }
+{
+    compare(alloc, target, text)?;
+    judge_ops(alloc, target, text)
+}
+
 /// Verifies a target for a text in normal form: it is answered where it is barred for the text, and dropped where it is
 /// refused. How it was compiled isn't asked. The cost grows with the count of instructions.
 ///
@@ -53,14 +65,12 @@ impl Model for Barred {
 /// `Flawed` where the target isn't barred for the text: it tells that erasing gives another text, and where that differs
 /// first; or else the first flaw of an instruction, in the order of operations, then the generator before the wrap-up,
 /// then the order of instructions, then of kinds.
-#[tactic(auto, using(crate::proofs::Verifying::is_barred, crate::proofs::Tables::few_target_ops, crate::proofs::Tables::erased_count, crate::proofs::Verifying::erasing_error, crate::proofs::Verifying::flaw_error))]
 pub fn verify(alloc: Global, target: Target, normal: &Normal) -> Result<Barred, VerifyError>
     requires { IsTargetWithinLimits target }
     ensures { IsVerified target normal.now result }
 {
     let text = normal.text();
-    compare(alloc, &target, text)?;
-    let kept = judge_ops(alloc, &target, text)?;
+    let kept = judge(alloc, &target, text)?;
     let source = text.copy(alloc)?;
     Ok(Barred {
         target,

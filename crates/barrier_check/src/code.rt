@@ -50,13 +50,13 @@ fn is_jump_redirected(places: &Places, instr: &Instr, source: &Instr) -> bool
             matches!(source, Instr::Cas(j, m) if i.is_same(j) && places.at(*l) == *m as usize),
         Instr::Jump(l) => matches!(source, Instr::Jump(m) if places.at(*l) == *m as usize),
         Instr::IfEq(a, b, l) => {
-            matches!(source, Instr::IfEq(f, g, m) if a == f && b == g && places.at(*l) == *m as usize)
+            matches!(source, Instr::IfEq(f, g, m) if (a, b, places.at(*l)) == (f, g, *m as usize))
         }
         Instr::IfLess(a, b, l) => {
-            matches!(source, Instr::IfLess(f, g, m) if a == f && b == g && places.at(*l) == *m as usize)
+            matches!(source, Instr::IfLess(f, g, m) if (a, b, places.at(*l)) == (f, g, *m as usize))
         }
         Instr::IfMarked(a, l) =>
-            matches!(source, Instr::IfMarked(f, m) if a == f && places.at(*l) == *m as usize),
+            matches!(source, Instr::IfMarked(f, m) if (a, places.at(*l)) == (f, *m as usize)),
         _ => false,
     }
 }
@@ -66,13 +66,13 @@ fn is_same_computation(instr: &Instr, source: &Instr) -> bool
     ensures { (place : ℕ → ℕ) → true ≡ computes instr.now → Decides result (redirected place instr.now ≡ source.now) }
 {
     match instr {
-        Instr::Set(d, n) => matches!(source, Instr::Set(e, m) if d == e && n == m),
-        Instr::Mov(d, a) => matches!(source, Instr::Mov(e, f) if d == e && a == f),
-        Instr::Add(d, a, b) => matches!(source, Instr::Add(e, f, g) if d == e && a == f && b == g),
-        Instr::Sub(d, a, b) => matches!(source, Instr::Sub(e, f, g) if d == e && a == f && b == g),
-        Instr::Rem(d, a, n) => matches!(source, Instr::Rem(e, f, m) if d == e && a == f && n == m),
-        Instr::Mark(d, a) => matches!(source, Instr::Mark(e, f) if d == e && a == f),
-        Instr::Unmark(d, a) => matches!(source, Instr::Unmark(e, f) if d == e && a == f),
+        Instr::Set(d, n) => matches!(source, Instr::Set(e, m) if (d, n) == (e, m)),
+        Instr::Mov(d, a) => matches!(source, Instr::Mov(e, f) if (d, a) == (e, f)),
+        Instr::Add(d, a, b) => matches!(source, Instr::Add(e, f, g) if (d, a, b) == (e, f, g)),
+        Instr::Sub(d, a, b) => matches!(source, Instr::Sub(e, f, g) if (d, a, b) == (e, f, g)),
+        Instr::Rem(d, a, n) => matches!(source, Instr::Rem(e, f, m) if (d, a, n) == (e, f, m)),
+        Instr::Mark(d, a) => matches!(source, Instr::Mark(e, f) if (d, a) == (e, f)),
+        Instr::Unmark(d, a) => matches!(source, Instr::Unmark(e, f) if (d, a) == (e, f)),
         Instr::Null(d) => matches!(source, Instr::Null(e) if d == e),
         _ => false,
     }
@@ -83,14 +83,14 @@ fn is_same_access_or_end(instr: &Instr, source: &Instr) -> bool
     ensures { (place : ℕ → ℕ) → false ≡ jumps instr.now → false ≡ computes instr.now → Decides result (redirected place instr.now ≡ source.now) }
 {
     match instr {
-        Instr::LoadRoot(d, x) => matches!(source, Instr::LoadRoot(e, y) if d == e && x == y),
+        Instr::LoadRoot(d, x) => matches!(source, Instr::LoadRoot(e, y) if (d, x) == (e, y)),
         Instr::LoadPick(d, x, n, a) => {
-            matches!(source, Instr::LoadPick(e, y, m, f) if d == e && x == y && n == m && a == f)
+            matches!(source, Instr::LoadPick(e, y, m, f) if (d, x, n, a) == (e, y, m, f))
         }
         Instr::LoadField(d, a, x) =>
-            matches!(source, Instr::LoadField(e, f, y) if d == e && a == f && x == y),
+            matches!(source, Instr::LoadField(e, f, y) if (d, a, x) == (e, f, y)),
         Instr::New(d) => matches!(source, Instr::New(e) if d == e),
-        Instr::Put(a, x, b) => matches!(source, Instr::Put(f, y, g) if a == f && x == y && b == g),
+        Instr::Put(a, x, b) => matches!(source, Instr::Put(f, y, g) if (a, x, b) == (f, y, g)),
         Instr::Commit(i) => matches!(source, Instr::Commit(j) if are_same(i.items(), j.items())),
         Instr::Return(a) => matches!(source, Instr::Return(f) if a == f),
         Instr::ReturnNone => matches!(source, Instr::ReturnNone),
@@ -114,7 +114,7 @@ fn is_redirected(places: &Places, instr: &Instr, source: &Instr) -> bool
 
 /// What is left of a text's code after an instruction of a target, none where the code doesn't begin with what is
 /// left of that.
-fn rest_behind<'a>(places: &Places, instr: &TargetInstr, source: &'a [Instr]) -> Option<&'a [Instr]>
+fn rest_after<'a>(places: &Places, instr: &TargetInstr, source: &'a [Instr]) -> Option<&'a [Instr]>
     ensures { Leaves (place_by places.now) instr.now source.now (option_copied result) }
 {
     match instr {
@@ -135,10 +135,10 @@ fn leaves(places: &Places, code: &[TargetInstr], source: &[Instr]) -> bool
 {
     let mut rest = source;
     for instr in code {
-        let Some(behind) = rest_behind(places, instr, rest) else {
+        let Some(after) = rest_after(places, instr, rest) else {
             return false;
         };
-        rest = behind;
+        rest = after;
     }
     rest.is_empty()
 }

@@ -1,9 +1,12 @@
 //! What a row is answered.
 
+ghost use Rattle.word_runner.specs.Shown.{CameFrom};
+
 use crate::accesses::accesses;
-use crate::budgets::{alone, together};
+use crate::budgets::budgets;
 use crate::callers::callers;
 use crate::entries::{entry_row, setting_row};
+use crate::hall::{Hall, open};
 use crate::numbers::{number, numbers};
 use crate::places::places;
 use crate::sharing::sharing;
@@ -12,6 +15,7 @@ use barrier_check::Barred;
 use row_spelling::{NamedLines, RowError, spelled};
 use std::alloc::Global;
 use std::thread::Threads;
+use word_runner::Blank;
 
 /// What a row says of a setting, and for how many replies its callers have room.
 #[derive(Clone, Copy)]
@@ -78,6 +82,24 @@ fn target_row(
     on_target(alloc, kind, &barred, terms, rest, out)
 }
 
+/// What the callers of a hall do.
+fn hall_row(
+    alloc: Global,
+    kind: &str,
+    hall: Hall,
+    blank: Blank,
+    rest: &str,
+    out: &mut String,
+) -> Result<(), RowError>
+    requires { CameFrom hall.arena blank.table blank.fixed }
+{
+    if kind == "places" {
+        places(alloc, &hall, blank, number(rest).unwrap_or(0), out)
+    } else {
+        budgets(alloc, hall, blank, kind, rest, out)
+    }
+}
+
 /// The row of the callers of a document, each with room for so many replies.
 fn runner_row(
     alloc: Global,
@@ -90,14 +112,9 @@ fn runner_row(
     let Ok(room) = u32::try_from(number(head).unwrap_or(0)) else {
         return Err(RowError::Wrong);
     };
-    if kind == "alone" {
-        alone(alloc, bytes, room, rest, out)
-    } else if kind == "together" {
-        together(alloc, bytes, room, rest, out)
-    } else if kind == "places" {
-        places(alloc, bytes, room, number(rest).unwrap_or(0), out)
-    } else {
-        Err(RowError::Wrong)
+    match open(alloc, bytes, room) {
+        Some((hall, blank)) => hall_row(alloc, kind, hall, blank, rest, out),
+        None => Err(RowError::Wrong),
     }
 }
 

@@ -1,15 +1,17 @@
 //! Callers on the words of a table, call by call and step by step, on one thread.
 
+ghost use Rattle.std.specs.Prelude.{IfOk};
 ghost use Rattle.word_runner.specs.Shown.{CameFrom};
 
 use crate::entries::add_replies;
-use crate::hall::{Hall, one_caller, two_callers};
+use crate::hall::{Hall, both, enter};
 use crate::moves::{Who, move_of, who_in};
 use crate::numbers::number;
+use crate::told::outcome_told;
 use oa_core::Entry;
 use row_spelling::RowError;
 use std::alloc::{AllocError, Global};
-use word_runner::{Caller, Final, Outcome};
+use word_runner::{Blank, Caller, Final, Outcome, Rest};
 
 /// How far a caller goes: with the call at this index of its script, or with the one that runs, by at most so many steps.
 #[derive(Clone, Copy)]
@@ -60,9 +62,10 @@ fn add_outcome(
     outcome: Option<Outcome>,
 ) -> Result<(), AllocError> {
     match outcome {
-        Some(outcome) => out.push_str(format!(in alloc; "{outcome:?}, ")?.as_str()),
-        None => out.push_str("no step, "),
+        Some(outcome) => out.push_str(outcome_told(alloc, outcome)?.as_str())?,
+        None => out.push_str("no step")?,
     }
+    out.push_str(", ")
 }
 
 /// A caller goes on, and its outcome is told, and how it stands.
@@ -155,36 +158,78 @@ fn close(alloc: Global, end: Option<Final>, out: &mut String) -> Result<(), RowE
     }
 }
 
-/// The caller of a document's one script.
-pub(crate) fn alone(
+/// The hall's one caller goes, and then rests.
+fn rest_alone(
     alloc: Global,
-    bytes: &[u8],
-    room: u32,
+    hall: &Hall,
+    blank: Blank,
     moves: &str,
     out: &mut String,
-) -> Result<(), RowError> {
-    let Some((hall, mut caller)) = one_caller(alloc, bytes, room) else {
-        return Err(RowError::Wrong);
-    };
-    match go_alone(alloc, &hall, &mut caller, moves, out) {
-        Ok(()) => close(alloc, hall.close(caller.rest()), out),
-        Err(error) => Err(error),
+) -> Result<Rest, RowError>
+    requires { CameFrom hall.now.arena blank.table blank.fixed }
+    ensures { IfOk result (λ rest. CameFrom hall.now.arena rest.table rest.fixed) }
+{
+    match enter(hall, blank) {
+        Some(mut caller) => {
+            go_alone(alloc, hall, &mut caller, moves, out)?;
+            Ok(caller.rest())
+        }
+        None => Err(RowError::Wrong),
     }
 }
 
-/// The callers of a document's two scripts.
-pub(crate) fn together(
+/// The hall's two callers go, and then rest.
+fn rest_both(
     alloc: Global,
-    bytes: &[u8],
-    room: u32,
+    hall: &Hall,
+    blank: Blank,
     moves: &str,
     out: &mut String,
-) -> Result<(), RowError> {
-    let Some((hall, mut one, mut two)) = two_callers(alloc, bytes, room) else {
-        return Err(RowError::Wrong);
-    };
-    match go_together(alloc, &hall, &mut one, &mut two, moves, out) {
-        Ok(()) => close(alloc, hall.close_both(one, two), out),
-        Err(error) => Err(error),
+) -> Result<Rest, RowError>
+    requires { CameFrom hall.now.arena blank.table blank.fixed }
+    ensures { IfOk result (λ rest. CameFrom hall.now.arena rest.table rest.fixed) }
+{
+    match both(alloc, hall, blank) {
+        Some((mut one, mut two)) => {
+            go_together(alloc, hall, &mut one, &mut two, moves, out)?;
+            Ok(one.rest().merge(two.rest(), &hall.arena))
+        }
+        None => Err(RowError::Wrong),
     }
+}
+
+/// The callers go as the row's kind says, one alone or two together, and then rest.
+fn rest_of(
+    alloc: Global,
+    hall: &Hall,
+    blank: Blank,
+    kind: &str,
+    moves: &str,
+    out: &mut String,
+) -> Result<Rest, RowError>
+    requires { CameFrom hall.now.arena blank.table blank.fixed }
+    ensures { IfOk result (λ rest. CameFrom hall.now.arena rest.table rest.fixed) }
+{
+    if kind == "alone" {
+        rest_alone(alloc, hall, blank, moves, out)
+    } else if kind == "together" {
+        rest_both(alloc, hall, blank, moves, out)
+    } else {
+        Err(RowError::Wrong)
+    }
+}
+
+/// What the hall's callers do, and how they stand at the end.
+pub(crate) fn budgets(
+    alloc: Global,
+    hall: Hall,
+    blank: Blank,
+    kind: &str,
+    moves: &str,
+    out: &mut String,
+) -> Result<(), RowError>
+    requires { CameFrom hall.arena blank.table blank.fixed }
+{
+    let rest = rest_of(alloc, &hall, blank, kind, moves, out)?;
+    close(alloc, hall.close(rest), out)
 }

@@ -8,6 +8,7 @@ use crate::entries::{add_replies, tell_entry};
 use crate::moves::{Deed, Who, move_in};
 use crate::starts::{entry_of, words_of};
 use crate::steps::{begin, step};
+use crate::told::access_told;
 use barrier_check::Barred;
 use oa_core::{Entry, PlainWords, Setting};
 use phase_pools::access::Access;
@@ -16,9 +17,10 @@ use std::alloc::{AllocError, Global};
 
 fn add_access(alloc: Global, out: &mut String, access: Option<Access>) -> Result<(), AllocError> {
     match access {
-        Some(access) => out.push_str(format!(in alloc; "{access:?}, ")?.as_str()),
-        None => out.push_str("no step, "),
+        Some(access) => out.push_str(access_told(alloc, access)?.as_str())?,
+        None => out.push_str("no step")?,
     }
+    out.push_str(", ")
 }
 
 /// A caller makes so many steps, and each access is told.

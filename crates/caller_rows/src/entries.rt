@@ -1,6 +1,7 @@
 //! Entries as they are made, settings, and what is told of both.
 
 use crate::numbers::numbers;
+use crate::told::reply_told;
 use oa_core::{Entry, Setting};
 use oa_words::shape::Shape;
 use row_spelling::RowError;
@@ -26,7 +27,8 @@ pub(crate) fn add_replies(
 ) -> Result<(), AllocError> {
     out.push_str("replies")?;
     for reply in entry.replies() {
-        out.push_str(format!(in alloc; " {reply:?}")?.as_str())?;
+        out.push_str(" ")?;
+        out.push_str(reply_told(alloc, *reply)?.as_str())?;
     }
     Ok(())
 }

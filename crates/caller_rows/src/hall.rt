@@ -89,15 +89,6 @@ pub(crate) fn enter(hall: &Hall, blank: Blank) -> Option<Caller>
     }
 }
 
-/// A hall of a document with one script, and its caller.
-pub(crate) fn one_caller(alloc: Global, input: &[u8], room: u32) -> Option<(Hall, Caller)>
-    ensures { IfSome result (λ p. CameFrom p.0.arena p.1.table p.1.fixed) }
-{
-    let (hall, blank) = open(alloc, input, room)?;
-    let caller = enter(&hall, blank)?;
-    Some((hall, caller))
-}
-
 /// Another blank of the same hall.
 pub(crate) fn second(alloc: Global, hall: &Hall, blank: &mut Blank) -> Option<Blank>
     requires came { CameFrom hall.now.arena blank.old.table blank.old.fixed }
@@ -122,24 +113,13 @@ fn both_enter(hall: &Hall, first: Blank, second: Blank) -> Option<(Caller, Calle
 }
 
 /// A blank and another of its hall become callers.
-fn two_of(alloc: Global, hall: &Hall, blank: Blank) -> Option<(Caller, Caller)>
+pub(crate) fn both(alloc: Global, hall: &Hall, blank: Blank) -> Option<(Caller, Caller)>
     requires came { CameFrom hall.now.arena blank.table blank.fixed }
     ensures { IfSome result (λ p. CameFrom hall.now.arena p.0.table p.0.fixed × CameFrom hall.now.arena p.1.table p.1.fixed) }
 {
     let mut blank = blank;
     let other = second(alloc, hall, &mut blank)?;
     both_enter(hall, blank, other)
-}
-
-/// A hall of a document with two scripts, and its callers 0 and 1.
-pub(crate) fn two_callers(alloc: Global, input: &[u8], room: u32) -> Option<(Hall, Caller, Caller)>
-    ensures { IfSome result (λ p. CameFrom p.0.arena p.1.table p.1.fixed × CameFrom p.0.arena p.2.table p.2.fixed) }
-{
-    let (hall, blank) = open(alloc, input, room)?;
-    match two_of(alloc, &hall, blank) {
-        Some((one, two)) => Some((hall, one, two)),
-        None => None,
-    }
 }
 
 impl Hall {
@@ -182,14 +162,5 @@ impl Hall {
             return None;
         }
         Some(arena.close(rest))
-    }
-
-    /// Closes the arena of two callers.
-    pub(crate) fn close_both(self, one: Caller, two: Caller) -> Option<Final>
-        requires one { CameFrom self.arena one.table one.fixed }
-        requires two { CameFrom self.arena two.table two.fixed }
-    {
-        let rest = one.rest().merge(two.rest(), &self.arena);
-        self.close(rest)
     }
 }

@@ -28,6 +28,7 @@ mod sharing;
 mod starts;
 mod steps;
 mod targets;
+mod told;
 
 use crate::answer::answer;
 use row_spelling::{NamedLines, RowError, named_lines};

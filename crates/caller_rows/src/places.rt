@@ -3,7 +3,7 @@
 ghost use Rattle.std.specs.Prelude.{◌≡◌, IfOk};
 ghost use Rattle.word_runner.specs.Shown.{CameFrom};
 
-use crate::hall::{Hall, open, second};
+use crate::hall::{Hall, second};
 use row_spelling::RowError;
 use std::alloc::{AllocError, Global};
 use word_runner::{Blank, Caller};
@@ -71,8 +71,8 @@ fn find_none(alloc: Global, hall: &Hall, blank: Blank, out: &mut String) -> Resu
     }
 }
 
-/// So many others enter, and the blank finds no place, twice.
-fn fill(
+/// So many other blanks enter; this one finds all places taken, and so again when it is handed back.
+pub(crate) fn places(
     alloc: Global,
     hall: &Hall,
     blank: Blank,
@@ -86,18 +86,4 @@ fn fill(
     let back = find_none(alloc, hall, blank, out)?;
     let again = find_none(alloc, hall, back, out)?;
     Ok(add_found(alloc, out, again.found())?)
-}
-
-/// So many blanks enter; one more finds all places taken, and so again when it is handed back.
-pub(crate) fn places(
-    alloc: Global,
-    bytes: &[u8],
-    room: u32,
-    count: u64,
-    out: &mut String,
-) -> Result<(), RowError> {
-    match open(alloc, bytes, room) {
-        Some((hall, blank)) => fill(alloc, &hall, blank, count, out),
-        None => Err(RowError::Wrong),
-    }
 }

@@ -1,8 +1,8 @@
 //! Reading a source to its end, or to a limit.
 
-ghost use Rattle.std.specs.Prelude.{◌≡◌, ◌+◌, ◌<◌, ◌≤◌, ◌^◌, length, OnOk, IfOk, IsErrOf};
+ghost use Rattle.std.specs.Prelude.{◌≡◌, ℕ, ◌+◌, ◌<◌, ◌≤◌, ◌^◌, true, false, List, ◌++◌, length, OnOk, IfOk, IsErrOf};
 ghost use Rattle.std.specs.Io.{ReadsAtMost};
-ghost use Rattle.std.specs.Io.KnownBytes.{Consumes, IsAtEnd, ReadConsumes};
+ghost use Rattle.std.specs.Io.KnownBytes.{Consumes, IsAtEnd, Keeps, ReadConsumes};
 ghost use Rattle.oa_text.specs.Causes.{HasCause, Rose};
 ghost use Rattle.command_input.specs.Inputs.{ReadsFewer, standing_after};
 ghost use Rattle.command_input.specs.declared.input.InputError.TheVariants.{Memory, Fault};
@@ -73,6 +73,38 @@ impl Reading {
         }
         result
     }
+
+    /// Reads once, no more than there is room for, and adds what came. It answers whether there was any.
+    fn read_more<S: Source>(
+        &mut self,
+        input: &mut S,
+        buffer: &mut [u8],
+        bytes: &mut Vec<u8>,
+    ) -> Result<bool, InputError>
+        requires open { self.old.standing ≡ Open }
+        requires some { 0 < length buffer.old }
+        requires room { 0 < self.old.room }
+        ensures buffer { length buffer.new ≡ length buffer.old }
+        ensures open { IfOk result (λ more. more ≡ true → self.new.standing ≡ Open) }
+        ensures less { IfOk result (λ more. more ≡ true → self.new.room < self.old.room) }
+        ensures room { IfOk result (λ _. length bytes.new.items + self.new.room ≡ length bytes.old.items + self.old.room) }
+        ensures bytes { IfOk result (λ _. (chunk : List ℕ) × Consumes (S.left input.old) (S.left input.new) chunk × (bytes.new.items ≡ bytes.old.items ++ chunk)) }
+        ensures end { IfOk result (λ more. more ≡ false → IsAtEnd (S.left input.new)) }
+        ensures kept { OnOk result (S.faults input.new ≡ S.faults input.old) }
+        ensures failed { IsErrOf result InputError.Fault → Rose (S.faults input.old) (S.faults input.new) }
+        ensures nothing { IsErrOf result InputError.Fault → Keeps (S.left input.old) (S.left input.new) }
+        ensures none_failed { IsErrOf result InputError.Memory → S.faults input.new ≡ S.faults input.old }
+    {
+        let most = self.room.min(buffer.len());
+        match self.read(input, &mut buffer[..most]) {
+            Ok(0) => Ok(false),
+            Ok(count) => {
+                bytes.extend_from_slice(&buffer[..count])?;
+                Ok(true)
+            }
+            Err(_) => Err(InputError::Fault),
+        }
+    }
 }
 
 /// The bytes of a source, no more than so many. No read is made after the end, after a fault, or once so many bytes were
@@ -103,12 +135,9 @@ pub fn read_input<S: Source>(
         room: limit,
     };
     'reads: while reading.room > 0 {
-        let most = reading.room.min(4096);
-        let count = reading.read(input, &mut buffer[..most])?;
-        if count == 0 {
-            return Ok(bytes);
+        if !reading.read_more(input, &mut buffer, &mut bytes)? {
+            break;
         }
-        bytes.extend_from_slice(&buffer[..count])?;
     }
     Ok(bytes)
 }

@@ -23,7 +23,7 @@ pub const DEFAULT_LAST: u64 = 1_000_000_000;
 pub const DEFAULT_FUEL: u64 = 1_000_000;
 
 /// A call of a script: the line that it stands at, the operation's name, and any count of arguments. Whether the text
-/// has such an operation, and with so many arguments, is no question of the grammar.
+/// has such an operation, and with so many arguments, is not a question of the grammar.
 #[derive(Drop)]
 pub struct ScriptCall {
     pub line: u32,

@@ -1,9 +1,10 @@
 //! A line of a method, and an entry line of a commit, by its first word.
 
 ghost use Rattle.std.specs.Prelude.{◌≡◌, ◌≤◌, length};
+ghost use Rattle.std.specs.Str.{bytes_eq};
 ghost use Rattle.norm_lang.specs.Instructions.{step_line, entry_line};
 ghost use Rattle.line_words.specs.Answered.{Reads};
-ghost use Rattle.instruction_lines.specs.Steps.{step_shown, whole_read, access_line, flow_line};
+ghost use Rattle.instruction_lines.specs.Steps.{step_shown, whole_read, instr_line, access_line, flow_line};
 
 use crate::instructions;
 use line_words::fault::Fault;
@@ -19,6 +20,13 @@ pub enum Step {
     Commits(u8),
 }
 
+/// Whether a word is this very one.
+fn says(word: &[u8], wanted: &[u8]) -> bool
+    ensures { result ≡ bytes_eq word.now wanted.now }
+{
+    word == wanted
+}
+
 /// A whole instruction, or the line's fault.
 fn whole(read: Result<Instr, Fault>) -> Result<Step, Fault>
     ensures { result ≡ whole_read read }
@@ -29,65 +37,93 @@ fn whole(read: Result<Instr, Fault>) -> Result<Step, Fault>
     }
 }
 
-/// A jump, a branch, or the end of a method.
-#[tactic(auto, using(crate::proofs::Wholes::whole_reads))]
-fn flow(word: &[u8], words: &mut Words) -> Result<Step, Fault>
-    ensures { Reads step_shown result (flow_line word.now words.old) }
+/// The instruction of a line that jumps, branches or ends a method.
+fn flow(word: &[u8], words: &mut Words) -> Result<Instr, Fault>
+    ensures { Reads (λ i. i) result (flow_line word.now words.old) }
 {
-    if word == b"jump".as_slice() {
-        whole(instructions::jump(words))
-    } else if word == b"ifeq".as_slice() {
-        whole(instructions::if_equal(words))
-    } else if word == b"ifless".as_slice() {
-        whole(instructions::if_less(words))
-    } else if word == b"ifmarked".as_slice() {
-        whole(instructions::if_marked(words))
-    } else if word == b"commit".as_slice() {
-        Ok(Step::Commits(instructions::commit(words)?))
-    } else if word == b"return".as_slice() {
-        whole(instructions::return_number(words))
-    } else if word == b"returnnone".as_slice() {
-        whole(instructions::return_none(words))
-    } else if word == b"again".as_slice() {
-        whole(instructions::again(words))
+    if says(word, b"jump") {
+        instructions::jump(words)
+    } else if says(word, b"ifeq") {
+        instructions::if_equal(words)
+    } else if says(word, b"ifless") {
+        instructions::if_less(words)
+    } else if says(word, b"ifmarked") {
+        instructions::if_marked(words)
+    } else if says(word, b"return") {
+        instructions::return_number(words)
+    } else if says(word, b"returnnone") {
+        instructions::return_none(words)
+    } else if says(word, b"again") {
+        instructions::again(words)
     } else {
         Err(Fault::Form)
     }
 }
 
-/// A load, a fresh node, a put or an exchange, or else a line of `flow`.
-#[tactic(auto, using(crate::proofs::Wholes::whole_reads))]
+/// The instruction of a load, a fresh node, a put or an exchange, or else of a line of `flow`.
 fn access(
     fields: &[FieldDecl],
     roots: &[RootDecl],
     word: &[u8],
     words: &mut Words,
-) -> Result<Step, Fault>
+) -> Result<Instr, Fault>
     requires few_fields { length fields.now ≤ 4 }
     requires few_roots { length roots.now ≤ 256 }
-    ensures { Reads step_shown result (access_line fields.now roots.now word.now words.old) }
+    ensures { Reads (λ i. i) result (access_line fields.now roots.now word.now words.old) }
 {
-    if word == b"root".as_slice() {
-        whole(instructions::load_root(roots, words))
-    } else if word == b"pick".as_slice() {
-        whole(instructions::pick(roots, words))
-    } else if word == b"load".as_slice() {
-        whole(instructions::load_field(fields, words))
-    } else if word == b"new".as_slice() {
-        whole(instructions::fresh(words))
-    } else if word == b"put".as_slice() {
-        whole(instructions::put(fields, words))
-    } else if word == b"cas".as_slice() {
-        whole(instructions::cas(fields, words))
-    } else if word == b"casroot".as_slice() {
-        whole(instructions::cas_root(roots, words))
+    if says(word, b"root") {
+        instructions::load_root(roots, words)
+    } else if says(word, b"pick") {
+        instructions::pick(roots, words)
+    } else if says(word, b"load") {
+        instructions::load_field(fields, words)
+    } else if says(word, b"new") {
+        instructions::fresh(words)
+    } else if says(word, b"put") {
+        instructions::put(fields, words)
+    } else if says(word, b"cas") {
+        instructions::cas(fields, words)
+    } else if says(word, b"casroot") {
+        instructions::cas_root(roots, words)
     } else {
         flow(word, words)
     }
 }
 
-/// A line of a method: one that sets a register from others, or else a line of `access`.
-#[tactic(auto, using(crate::proofs::Wholes::whole_reads))]
+/// The instruction of a line that sets a register from others, or else of a line of `access`.
+fn read_instr(
+    fields: &[FieldDecl],
+    roots: &[RootDecl],
+    word: &[u8],
+    words: &mut Words,
+) -> Result<Instr, Fault>
+    requires few_fields { length fields.now ≤ 4 }
+    requires few_roots { length roots.now ≤ 256 }
+    ensures { Reads (λ i. i) result (instr_line fields.now roots.now word.now words.old) }
+{
+    if says(word, b"set") {
+        instructions::set(words)
+    } else if says(word, b"mov") {
+        instructions::mov(words)
+    } else if says(word, b"add") {
+        instructions::add(words)
+    } else if says(word, b"sub") {
+        instructions::sub(words)
+    } else if says(word, b"rem") {
+        instructions::rem(words)
+    } else if says(word, b"null") {
+        instructions::null(words)
+    } else if says(word, b"mark") {
+        instructions::mark(words)
+    } else if says(word, b"unmark") {
+        instructions::unmark(words)
+    } else {
+        access(fields, roots, word, words)
+    }
+}
+
+/// A line of a method: the beginning of a commit, or an instruction that one line says whole.
+#[tactic(auto, using(crate::proofs::Wholes::commit_begins))]
 pub fn read_step(
     fields: &[FieldDecl],
     roots: &[RootDecl],
@@ -98,24 +134,10 @@ pub fn read_step(
     requires few_roots { length roots.now ≤ 256 }
     ensures { Reads step_shown result (step_line fields.now roots.now word.now words.old) }
 {
-    if word == b"set".as_slice() {
-        whole(instructions::set(words))
-    } else if word == b"mov".as_slice() {
-        whole(instructions::mov(words))
-    } else if word == b"add".as_slice() {
-        whole(instructions::add(words))
-    } else if word == b"sub".as_slice() {
-        whole(instructions::sub(words))
-    } else if word == b"rem".as_slice() {
-        whole(instructions::rem(words))
-    } else if word == b"null".as_slice() {
-        whole(instructions::null(words))
-    } else if word == b"mark".as_slice() {
-        whole(instructions::mark(words))
-    } else if word == b"unmark".as_slice() {
-        whole(instructions::unmark(words))
+    if says(word, b"commit") {
+        Ok(Step::Commits(instructions::commit(words)?))
     } else {
-        access(fields, roots, word, words)
+        whole(read_instr(fields, roots, word, words))
     }
 }
 
@@ -130,9 +152,9 @@ pub fn read_entry(
     requires few_roots { length roots.now ≤ 256 }
     ensures { Reads (λ entry. entry) result (entry_line fields.now roots.now word.now words.old) }
 {
-    if word == b"with".as_slice() {
+    if says(word, b"with") {
         instructions::field_entry(fields, words)
-    } else if word == b"withroot".as_slice() {
+    } else if says(word, b"withroot") {
         instructions::root_entry(roots, words)
     } else {
         Err(Fault::Form)

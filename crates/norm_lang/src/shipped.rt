@@ -104,29 +104,43 @@ fn put_answer(alloc: Global, code: &mut Code, reply: u64) -> Result<(), AllocErr
     code.push(Instr::Commit(Listed::empty(alloc)))
 }
 
-fn insert_generator(alloc: Global, buckets: u16) -> Result<Code, AllocError>
-    ensures { IfOk result (λ code. code ≡ search_code buckets 16 21 ++ (insert_code ++ answer_code 0)) }
+// Makes the node of the key, and commits the exchange that links it.
+fn put_insertion(alloc: Global, code: &mut Code) -> Result<(), AllocError>
+    ensures { OnOk result (code.new ≡ code.old ++ insert_code) }
 {
-    let mut code = search(alloc, buckets, 16, 21)?;
     let link = next_of(Reg::Ref(0), Reg::Ref(1), Reg::Ref(4), None);
     code.push(Instr::Set(Reg::Num(2), 1))?;
     code.push(Instr::New(Reg::Ref(4)))?;
     code.push(Instr::Put(Reg::Ref(4), FIRST, Reg::Num(0)))?;
     code.push(Instr::Put(Reg::Ref(4), NEXT, Reg::Ref(1)))?;
-    code.push(Instr::Commit(Listed::from_slice(alloc, &[link])?))?;
+    code.push(Instr::Commit(Listed::from_slice(alloc, &[link])?))
+}
+
+fn insert_generator(alloc: Global, buckets: u16) -> Result<Code, AllocError>
+    ensures { IfOk result (λ code. code ≡ search_code buckets 16 21 ++ (insert_code ++ answer_code 0)) }
+{
+    let mut code = search(alloc, buckets, 16, 21)?;
+    put_insertion(alloc, &mut code)?;
     put_answer(alloc, &mut code, 0)?;
     Ok(code)
+}
+
+// Commits the exchanges that mark the node of the key and unlink it.
+fn put_removal(alloc: Global, code: &mut Code) -> Result<(), AllocError>
+    ensures { OnOk result (code.new ≡ code.old ++ remove_code) }
+{
+    let mark = next_of(Reg::Ref(1), Reg::Ref(2), Reg::Ref(6), None);
+    let unlink = next_of(Reg::Ref(0), Reg::Ref(1), Reg::Ref(2), Some(Reg::Ref(1)));
+    code.push(Instr::Mark(Reg::Ref(6), Reg::Ref(2)))?;
+    code.push(Instr::Set(Reg::Num(2), 1))?;
+    code.push(Instr::Commit(Listed::from_slice(alloc, &[mark, unlink])?))
 }
 
 fn remove_generator(alloc: Global, buckets: u16) -> Result<Code, AllocError>
     ensures { IfOk result (λ code. code ≡ search_code buckets 19 16 ++ (remove_code ++ answer_code 0)) }
 {
     let mut code = search(alloc, buckets, 19, 16)?;
-    let mark = next_of(Reg::Ref(1), Reg::Ref(2), Reg::Ref(6), None);
-    let unlink = next_of(Reg::Ref(0), Reg::Ref(1), Reg::Ref(2), Some(Reg::Ref(1)));
-    code.push(Instr::Mark(Reg::Ref(6), Reg::Ref(2)))?;
-    code.push(Instr::Set(Reg::Num(2), 1))?;
-    code.push(Instr::Commit(Listed::from_slice(alloc, &[mark, unlink])?))?;
+    put_removal(alloc, &mut code)?;
     put_answer(alloc, &mut code, 0)?;
     Ok(code)
 }

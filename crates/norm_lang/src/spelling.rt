@@ -4,6 +4,7 @@ ghost use Rattle.std.specs.Prelude.{◌≡◌, [], ◌∷◌, ◌++◌, OnOk, On
 ghost use Rattle.std.specs.List.{flat_map};
 ghost use Rattle.norm_lang.specs.Spelling.{spaced, line_bytes, kind_word, retire_words, field_name, root_name, spelled_field, spelled_nodes, spelled_node, spelled_root, spelled_cas, spelled_entry, entries_of, spelled_instr, instr_lines, code_lines, spelled_op, op_lines, declaration_lines, spelling_of, start_word};
 ghost use Rattle.norm_lang.specs.Words.{word_bytes};
+ghost use Rattle.norm_lang.specs.declared.text.Instr.TheVariants.{LoadPick};
 
 use crate::list::Listed;
 use crate::text::{
@@ -330,6 +331,23 @@ fn put_three(
     put_line(alloc, out, first, &[a, b, c])
 }
 
+fn put_pick(
+    alloc: Global,
+    out: &mut Vec<u8>,
+    roots: &[RootDecl],
+    destination: Reg,
+    first: u16,
+    count: u16,
+    number: Reg,
+) -> Result<(), AllocError>
+    ensures { OnOk result (out.new.items ≡ out.old.items ++ line_bytes (spelled_instr [] roots.now (LoadPick destination first count number))) }
+{
+    let root = Bytes(name_of_root(roots, first));
+    let count = Number(count as u64);
+    let words = [Register(destination), root, count, Register(number)];
+    put_line(alloc, out, b"pick", &words)
+}
+
 // An instruction, but for a commit's entries.
 fn put_instr(
     alloc: Global,
@@ -374,11 +392,7 @@ fn put_instr(
             let root = Bytes(name_of_root(roots, *x));
             put_two(alloc, out, b"root", Register(*d), root)
         }
-        Instr::LoadPick(d, x, n, a) => {
-            let (root, count) = (Bytes(name_of_root(roots, *x)), Number(*n as u64));
-            let words = [Register(*d), root, count, Register(*a)];
-            put_line(alloc, out, b"pick", &words)
-        }
+        Instr::LoadPick(d, x, n, a) => put_pick(alloc, out, roots, *d, *x, *n, *a),
         Instr::LoadField(d, a, f) => {
             let field = Bytes(name_of_field(fields, *f));
             put_three(alloc, out, b"load", Register(*d), Register(*a), field)

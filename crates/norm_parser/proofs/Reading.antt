@@ -28,6 +28,10 @@ kept_on draft next line kept read = go (after_line draft line) (line_kept draft 
     go (Ok x) h same = let e : x ≡ next = cc in rw (← e) h
     go (Err fault) h same = absurd (let f : ⊥ = cc in f)
 
+-- all lines from the first on, whatever holds the draft
+pub lines_first : (draft first : Draft) (lines : List TextLine) → draft ≡ first → after_lines draft lines ≡ after_lines first lines
+lines_first draft first lines same = rw same refl
+
 -- before the first line nothing is declared
 pub kept_first : (draft : Draft) → draft ≡ draft_at Start → Kept draft
 kept_first draft first = rw first nothing_declared
@@ -39,9 +43,9 @@ pub kept_fields : (draft : Draft) → draft ≡ draft_at Fields → Kept draft
 kept_fields draft first = rw first (may_have_fields (draft_at Start).text nothing_declared)
 
 -- the draft of what is read
-abbrev drafted : Draft → Result (Draft × LineFault) LineFault → Draft
-drafted other (Ok front) = front.0
-drafted other (Err fault) = other
+abbrev draft_of : Draft → Result (Draft × LineFault) LineFault → Draft
+draft_of other (Ok front) = front.0
+draft_of other (Err fault) = other
 
 -- a draft, and where its lines end
 abbrev with_end : LineFault → Draft → Result (Draft × LineFault) LineFault
@@ -64,7 +68,7 @@ front_is_within lines past draft end text read ended = go (after_lines (draft_at
     go : (r : Result Draft LineFault) → after_lines (draft_at Opening) (text_lines lines) ≡ r
         → (r >>= with_end (end_at (after_text lines) past)) ≡ with_end end draft → IsWithinLimits text
     go (Ok next) same read =
-        let e : next ≡ draft = ap (drafted next) read in
+        let e : next ≡ draft = ap (draft_of next) read in
         finished_within draft text (rw e at (lines_within (draft_at Opening) next (text_lines lines) nothing_declared same)) ended
     go (Err fault) same read = absurd (let f : ⊥ = cc in f)
 
@@ -99,7 +103,7 @@ head_is_within lines past draft end head read ended = go (after_lines (draft_at 
         → (r >>= λ next. before_op next behind past) ≡ with_end end draft → IsHeadWithinLimits head
     go (Ok next) same [] read = absurd (let f : ⊥ = cc in f)
     go (Ok next) same (line ∷ behind) read =
-        let e : next ≡ draft = ap (drafted next) read in
+        let e : next ≡ draft = ap (draft_of next) read in
         let kept : Kept draft = rw e at (lines_within (draft_at Fields) next (head_lines lines) first same) in
         IfOk-at_ok IsHeadWithinLimits ended (whole_within draft.section draft kept)
     go (Err fault) same behind read = absurd (let f : ⊥ = cc in f)

@@ -106,6 +106,12 @@ front_in lines past = do
 abbrev pub front_read : List ℕ → ℕ → Result (Text × ℕ) LineFault
 front_read bytes start = front_in (from_line start (numbered 1 (lines_of bytes))) (length (lines_of bytes) + 1)
 
+-- what a text declares, if it may end with that
+abbrev pub head_of : Text → Bool → Result Head ℕ
+head_of text whole = do
+  done ← demand form_fault whole
+  Ok (record { fields = text.fields; roots = text.roots; nodes = text.nodes })
+
 -- declarations are whole with at least one root after all nodes
 abbrev pub whole_in : Section → Draft → Result Head ℕ
 whole_in Roots draft = do

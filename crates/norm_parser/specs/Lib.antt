@@ -3,3 +3,4 @@ pub mod FrontRead
 pub mod Version
 pub mod FaultShown
 pub mod FrontLaws
+pub mod Drafted

@@ -2,10 +2,10 @@
 
 ghost use Rattle.line_words.specs.Answered.{Reads};
 ghost use Rattle.text_drafts.specs.DraftShown.{draft_shown};
-ghost use Rattle.norm_parser.specs.FrontRead.{whole_head};
+ghost use Rattle.norm_parser.specs.FrontRead.{head_of, whole_head};
 
 use line_words::fault::Fault;
-use norm_lang::text::{Fields, Nodes, Roots};
+use norm_lang::text::{Fields, Nodes, Roots, Text};
 use text_drafts::{Draft, Section};
 
 /// What field, nodes, node and root lines declare.
@@ -16,17 +16,25 @@ pub struct Head {
     pub nodes: Nodes,
 }
 
-/// The declarations of a draft, unless a further line must follow.
-pub(crate) fn whole_head(draft: Draft) -> Result<Head, Fault>
-    ensures { Reads (λ head. head) result (whole_head (draft_shown draft)) }
+/// The declarations of a text, if it may end with them.
+fn head_of(text: Text, whole: bool) -> Result<Head, Fault>
+    ensures { Reads (λ head. head) result (head_of text whole) }
 {
-    if draft.section == Section::Roots && !draft.text.roots.items().is_empty() {
+    if whole {
         Ok(Head {
-            fields: draft.text.fields,
-            roots: draft.text.roots,
-            nodes: draft.text.nodes,
+            fields: text.fields,
+            roots: text.roots,
+            nodes: text.nodes,
         })
     } else {
         Err(Fault::Form)
     }
+}
+
+/// The declarations of a draft, unless a further line must follow.
+pub(crate) fn whole_head(draft: Draft) -> Result<Head, Fault>
+    ensures { Reads (λ head. head) result (whole_head (draft_shown draft)) }
+{
+    let whole = draft.section == Section::Roots && !draft.text.roots.items().is_empty();
+    head_of(draft.text, whole)
 }

@@ -7,6 +7,7 @@ ghost use Rattle.norm_lang.specs.Grammar.{draft_at, after_lines, Start, Opening,
 ghost use Rattle.norm_lang.specs.Limits.{IsWithinLimits};
 ghost use Rattle.line_words.specs.Answered.{Answers};
 ghost use Rattle.text_drafts.specs.DraftShown.{draft_shown};
+ghost use Rattle.norm_parser.specs.Drafted.{drafted};
 ghost use Rattle.norm_parser.specs.FaultShown.{fault_shown};
 ghost use Rattle.norm_parser.specs.FrontRead.{from_line, end_before, end_at, front_end, front_read, head_end, head_read, IsHeadWithinLimits};
 
@@ -18,20 +19,41 @@ use oa_text::{Line, lines};
 use std::alloc::Global;
 use text_drafts::{Draft, Section, read_line};
 
+/// A draft with what was read besides, unless that failed.
+fn drafted<T>(draft: Draft, read: Result<T, ParseError>) -> Result<(Draft, T), ParseError>
+    ensures { result ≡ drafted draft read }
+{
+    match read {
+        Ok(more) => Ok((draft, more)),
+        Err(error) => Err(error),
+    }
+}
+
+/// Adds what all lines declare, and answers the number of the line past the last.
+#[tactic(auto, using(crate::proofs::Reading::few_fields, crate::proofs::Reading::few_roots, crate::proofs::Reading::kept_on, crate::proofs::Reading::past_first, crate::proofs::Reading::kept_first, crate::proofs::Reading::lines_first))]
+fn add_lines(draft: &mut Draft, alloc: Global, input: &[u8]) -> Result<u32, ParseError>
+    requires few { length (lines_of input.now) + 1 < 2 ^ 32 }
+    requires first { draft_shown draft.old ≡ draft_at Start }
+    ensures lines { Answers (λ _. draft_shown draft.new) result (after_lines (draft_at Start) (numbered 1 (lines_of input.now))) }
+    ensures past { IfOk result (λ past. past ≡ length (lines_of input.now) + 1) }
+{
+    let mut past = 1;
+    for line in lines(input) {
+        read_line(draft, alloc, line)?;
+        past += 1;
+    }
+    Ok(past)
+}
+
 /// What all lines declare, and the number of the line past the last.
-#[tactic(auto, using(crate::proofs::Reading::few_fields, crate::proofs::Reading::few_roots, crate::proofs::Reading::kept_on, crate::proofs::Reading::past_first, crate::proofs::Reading::kept_first))]
 fn read_lines(alloc: Global, input: &[u8]) -> Result<(Draft, u32), ParseError>
     requires { length (lines_of input.now) + 1 < 2 ^ 32 }
     ensures lines { Answers (λ read. draft_shown read.0) result (after_lines (draft_at Start) (numbered 1 (lines_of input.now))) }
     ensures past { IfOk result (λ read. read.1 ≡ length (lines_of input.now) + 1) }
 {
     let mut draft = Draft::at(alloc, Section::Start);
-    let mut past = 1;
-    for line in lines(input) {
-        read_line(&mut draft, alloc, line)?;
-        past += 1;
-    }
-    Ok((draft, past))
+    let past = add_lines(&mut draft, alloc, input);
+    drafted(draft, past)
 }
 
 /// The text that the bytes spell: a line `oa 1`, a text, and nothing else but lines that are skipped.
@@ -111,8 +133,8 @@ fn read_front(alloc: Global, input: &[u8], line: u32) -> Result<(Draft, ParseFau
     ensures { Answers (λ front. (draft_shown front.0, fault_shown front.1)) result (front_end (from_line line (numbered 1 (lines_of input.now))) (length (lines_of input.now) + 1)) }
 {
     let mut draft = Draft::at(alloc, Section::Opening);
-    let end = add_front(&mut draft, alloc, input, line)?;
-    Ok((draft, end))
+    let end = add_front(&mut draft, alloc, input, line);
+    drafted(draft, end)
 }
 
 /// The text that begins at a line, after the version line, and the number of the first line after it.
@@ -172,8 +194,8 @@ fn read_head(alloc: Global, input: &[u8], line: u32) -> Result<(Draft, ParseFaul
     ensures { Answers (λ head. (draft_shown head.0, fault_shown head.1)) result (head_end (from_line line (numbered 1 (lines_of input.now))) (length (lines_of input.now) + 1)) }
 {
     let mut draft = Draft::at(alloc, Section::Fields);
-    let end = add_head(&mut draft, alloc, input, line)?;
-    Ok((draft, end))
+    let end = add_head(&mut draft, alloc, input, line);
+    drafted(draft, end)
 }
 
 /// The declarations that begin at a line, after the version line, and the number of the first line whose first word is

@@ -1,7 +1,7 @@
 //! One access to one word, and how routines end.
 
 /// An access to the word at an address.
-#[derive(Clone, Copy, Debug, PartialEq, Eq)]
+#[derive(Clone, Copy, PartialEq, Eq)]
 pub enum Access {
     /// Finds the word.
     Load {

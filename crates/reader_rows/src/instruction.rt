@@ -1,10 +1,10 @@
 //! One instruction on the shipped queue: the fields `value` and `next`, and the roots `head` and `tail`.
 
-ghost use Rattle.std.specs.Prelude.{◌≡◌, ◌<◌, ◌+◌, ◌^◌, false, length, IsTrue, IfSome};
+ghost use Rattle.std.specs.Prelude.{◌≡◌, ◌<◌, ◌+◌, ◌^◌, false, length, IsTrue, OnOk, IfSome};
 ghost use Rattle.oa_text.specs.Lines.{lines_of};
 ghost use Rattle.oa_text.specs.Shown.{line_shown};
 ghost use Rattle.oa_text.specs.Tokens.{words_of};
-ghost use Rattle.norm_parser.specs.Instruction.{are_skipped, AreFrom};
+ghost use Rattle.norm_parser.specs.Instruction.{are_skipped, AreFrom, AreLeftOf};
 
 use crate::answer::refused;
 use norm_lang::shipped_queue;
@@ -46,19 +46,29 @@ fn first_line(bytes: &[u8]) -> Option<(Line<'_>, Lines<'_>)>
     Some((first, rest))
 }
 
+/// Whether a line begins an instruction on the queue.
+fn judged<'a>(alloc: Global, first: Line<'a>, rest: &mut Lines<'a>) -> Result<String, RowError>
+    requires stands { are_skipped (words_of (line_shown first).bytes) ≡ false }
+    requires after { AreFrom ((line_shown first).number + 1) rest.old }
+    requires room { (line_shown first).number + 1 + length rest.old < 2 ^ 32 }
+    ensures left { OnOk result (AreLeftOf rest.old rest.new) }
+{
+    let queue = shipped_queue(alloc)?;
+    match parse_instr(alloc, first, rest, &queue.fields, &queue.roots) {
+        Ok(_) => Ok(format!(in alloc; "ok")?),
+        Err(error) => refused(alloc, error),
+    }
+}
+
 /// Whether the lines begin with an instruction, and how many lines are left after what was read.
 pub(crate) fn instruction_answer(alloc: Global, bytes: &[u8]) -> Result<String, RowError>
     requires { length (lines_of bytes.now) + 1 < 2 ^ 32 }
 {
-    let queue = shipped_queue(alloc)?;
     let (first, mut rest) = first_line(bytes).ok_or(RowError::Wrong)?;
     if !stands(first) {
         return Err(RowError::Wrong);
     }
-    let mut answer = match parse_instr(alloc, first, &mut rest, &queue.fields, &queue.roots) {
-        Ok(_) => format!(in alloc; "ok")?,
-        Err(error) => refused(alloc, error)?,
-    };
+    let mut answer = judged(alloc, first, &mut rest)?;
     let left = rest.count();
     if left > 0 {
         answer.push_str(format!(in alloc; ", {left} left")?.as_str())?;

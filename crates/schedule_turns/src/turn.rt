@@ -1,7 +1,7 @@
 //! The turns in which a schedule has its callers make their steps.
 
 /// A kind of access that a turn counts.
-#[derive(Clone, Copy, Debug, PartialEq, Eq)]
+#[derive(Clone, Copy, PartialEq, Eq)]
 pub enum StepKind {
     /// A load of a root or a field.
     Load,
@@ -12,7 +12,7 @@ pub enum StepKind {
 }
 
 /// What one caller does before another caller's turn. Callers count from 0.
-#[derive(Clone, Copy, Debug, PartialEq, Eq)]
+#[derive(Clone, Copy, PartialEq, Eq)]
 pub enum Turn {
     /// So many steps.
     Step {

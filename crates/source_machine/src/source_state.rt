@@ -3,7 +3,7 @@
 ghost use Rattle.std.specs.Prelude.{◌≡◌, ◌<◌, ◌≤◌, length, OnOk, OnErr, IfOk};
 ghost use Rattle.source_machine.specs.State.{source_start};
 ghost use Rattle.source_machine.specs.Run.{source_replies};
-ghost use Rattle.source_machine.specs.Calls.{IsOfSourceRun, Steps, RunsTo};
+ghost use Rattle.source_machine.specs.Calls.{IsOfSourceRun, Steps, MakesEvents, RunsTo};
 
 use crate::callers::Callers;
 use crate::error::{RunError, StepError};
@@ -83,12 +83,32 @@ pub fn step(
     step_machine(alloc, normal.text(), &mut state.machine, event)
 }
 
+/// Makes events one after another, each enabled in the state that those before it leave.
+fn make_events(
+    alloc: Global,
+    state: &mut SourceState,
+    normal: &Normal,
+    events: &[SourceEvent],
+) -> Result<(), RunError>
+    requires { IsOfSourceRun normal.now state.old }
+    ensures { MakesEvents normal.now state.old events.now state.new result }
+{
+    for (at, event) in events.iter().enumerate() {
+        match step(alloc, state, normal, event) {
+            Ok(()) => {}
+            Err(StepError::Memory) => return Err(RunError::Memory),
+            Err(StepError::NotEnabled) => return Err(RunError::NotEnabled { at: at as u64 }),
+        }
+    }
+    Ok(())
+}
+
 /// The state after a list of events, each enabled in the state that those before it leave, from the start of 1 to 8 idle
 /// callers.
 ///
 /// # Errors
 /// `NotEnabled` with the place of the first event that isn't enabled, and `Memory` where memory runs out.
-#[tactic(auto, using(crate::proofs::Calling::started, crate::proofs::Calling::of_run, crate::proofs::Calling::as_many, crate::proofs::Calling::run_goes_on, crate::proofs::Calling::run_stops))]
+#[tactic(auto, using(crate::proofs::Calling::starts, crate::proofs::Calling::runs_from, crate::proofs::Calling::stops_from, crate::proofs::Calling::of_run, crate::proofs::Calling::as_many))]
 pub fn run(
     alloc: Global,
     normal: &Normal,
@@ -102,12 +122,8 @@ pub fn run(
     ensures callers { IfOk result (λ s. length s.callers ≡ callers) }
 {
     let mut state = SourceState::start(alloc, normal, callers)?;
-    for (at, event) in events.iter().enumerate() {
-        match step(alloc, &mut state, normal, event) {
-            Ok(()) => {}
-            Err(StepError::Memory) => return Err(RunError::Memory),
-            Err(StepError::NotEnabled) => return Err(RunError::NotEnabled { at: at as u64 }),
-        }
+    match make_events(alloc, &mut state, normal, events) {
+        Ok(()) => Ok(state),
+        Err(e) => Err(e),
     }
-    Ok(state)
 }

@@ -50,7 +50,7 @@ fn clean_number(number: bool, reference: bool) -> u8
 }
 
 /// The states after an instruction of the registers with a number, for each state before it.
-pub(crate) fn states_behind(number: u8, instr: &TargetInstr) -> [u8; 4]
+pub(crate) fn states_after(number: u8, instr: &TargetInstr) -> [u8; 4]
     ensures { result ≡ pair_after number instr.now 0 ∷ pair_after number instr.now 1 ∷ pair_after number instr.now 2 ∷ pair_after number instr.now 3 ∷ [] }
 {
     let number_clean = clean_after(Reg::Num(number), instr, true);

@@ -25,7 +25,7 @@ pub(crate) const DROPPED: u8 = 3;
 const SAME: [u8; 4] = [FREE, PUBLISHED, VALIDATED, DROPPED];
 
 /// The states after an instruction of the guard of the reference with a number, for each state before it.
-pub(crate) fn states_behind(number: u8, instr: &TargetInstr) -> [u8; 4]
+pub(crate) fn states_after(number: u8, instr: &TargetInstr) -> [u8; 4]
     ensures { result ≡ guard_number_after (Ref number) instr.now 0 ∷ guard_number_after (Ref number) instr.now 1 ∷ guard_number_after (Ref number) instr.now 2 ∷ guard_number_after (Ref number) instr.now 3 ∷ [] }
 {
     let register = Reg::Ref(number);

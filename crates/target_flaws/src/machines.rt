@@ -36,12 +36,12 @@ fn target_fork_of(count: usize, instr: &TargetInstr, at: usize) -> Fork
 }
 
 /// A machine's states after an instruction, for each state before it.
-fn states_behind(machine: Machine, instr: &TargetInstr) -> [u8; 4]
+fn states_after(machine: Machine, instr: &TargetInstr) -> [u8; 4]
     ensures { result ≡ machine_after machine instr.now 0 ∷ machine_after machine instr.now 1 ∷ machine_after machine instr.now 2 ∷ machine_after machine instr.now 3 ∷ [] }
 {
     match machine {
-        Machine::Checks(number) => checks::states_behind(number, instr),
-        Machine::Guards(number) => guards::states_behind(number, instr),
+        Machine::Checks(number) => checks::states_after(number, instr),
+        Machine::Guards(number) => guards::states_after(number, instr),
     }
 }
 
@@ -54,7 +54,7 @@ fn moves_of(alloc: Global, code: &[TargetInstr], machine: Machine) -> Result<Vec
     for (at, instr) in code.iter().enumerate() {
         moves.push(Move {
             fork: target_fork_of(code.len(), instr, at),
-            after: states_behind(machine, instr),
+            after: states_after(machine, instr),
         })?;
     }
     Ok(moves)

@@ -1,12 +1,11 @@
 //! The arena: a table of words, with the target and the setting of the callers that meet there.
 
-ghost use Rattle.std.specs.Prelude.{◌≡◌, ◌<◌, ◌≤◌, ◌+◌, [], true, false, MatchBool, IfOk, length};
-ghost use Rattle.caller_parts.specs.Settings.{Fits};
+ghost use Rattle.std.specs.Prelude.{◌≡◌, ◌<◌, ◌≤◌, ◌+◌, [], true, false, MatchBool, length};
 ghost use Rattle.caller_steps.specs.Entries.{idle_entry, is_idle};
 ghost use Rattle.caller_parts.specs.Calls.{is_call};
 ghost use Rattle.caller_steps.specs.After.{taken};
-ghost use Rattle.core_runs.specs.Machine.{core_start};
-ghost use Rattle.table_rule.specs.Seen.{newcomer, IsGround};
+ghost use Rattle.oa_words.specs.Words.{word_count};
+ghost use Rattle.table_rule.specs.Seen.{IsGround};
 ghost use Rattle.table_rule.specs.Rule.{callers_of};
 ghost use Rattle.table_rule.specs.Plays.{CanGo, Belonging, cut_off, joined, Looked, with_entry, with_found};
 ghost use Rattle.table_rule.specs.Drives.{Went, Ran};
@@ -14,10 +13,7 @@ ghost use Rattle.table_rule.specs.Closing.{Shut};
 
 use crate::access::access;
 use crate::ground::{Cut, Glue, Ground, Hand, Looks, Place, Tries, Words};
-use barrier_check::Barred;
-use caller_steps::Setting;
-use oa_core::{Entry, LoadedTarget};
-use std::alloc::{AllocError, Global};
+use oa_core::Entry;
 use std::marker::{Brand, Model};
 
 /// A table of words on which the callers of one target meet. Threads share it by `&`: each step is one atomic access, and none
@@ -42,21 +38,13 @@ impl Model for Arena {
 }
 
 impl Arena {
-    pub(crate) fn over(
-        alloc: Global,
-        barred: Barred,
-        setting: Setting,
-        words: &[u64],
-    ) -> Result<(Arena, Place), AllocError>
-        requires fits { Fits barred.target setting }
-        requires words { words.now ≡ (core_start barred.target setting).words }
-        ensures { IfOk result (λ p. (p.0.fixed ≡ record { target = barred; setting = setting }) × (p.1.table_id ≡ p.0.table) × (p.1.me ≡ (newcomer p.0.fixed, []))) }
+    pub(crate) fn over(table: Words, ground: Ground) -> Arena
+        requires key { table.shared.key ≡ ground }
+        requires sizes { (table.shared.table_id.words ≡ word_count ground.setting.sizes) × (table.shared.table_id.slots ≡ 0) }
+        requires good { IsGround ground }
+        ensures { result ≡ record { table = table.shared.table_id; fixed = ground } }
     {
-        setting.kept();
-        let target = LoadedTarget::new(barred);
-        let ground = Ground { target, setting };
-        let (table, place) = Words::of_words(alloc, words, &ground)?;
-        Ok((Arena { table, ground }, place))
+        Arena { table, ground }
     }
 
     pub(crate) fn shut(self, seat: Place) -> u64

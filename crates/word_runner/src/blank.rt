@@ -74,8 +74,7 @@ impl Blank {
         ensures ok { IfOk result (λ b. b ≡ record { table = self.old.table; fixed = self.old.fixed; room = self.old.room; found = 0 }) }
     {
         let room = self.entry.spare();
-        let entry = Entry::new(alloc, 0, room)?;
-        let list = Vec::with_capacity(alloc, arena.callers() as usize)?;
+        let (entry, list) = supplies(alloc, arena.callers(), room)?;
         let place = arena.split(&mut self.place);
         Ok(Blank::over(place, entry, list))
     }
@@ -111,6 +110,20 @@ impl Blank {
             Err(NoPlace { callers, blank })
         }
     }
+}
+
+/// The memory of a blank: the empty entry with room for so many replies, and an empty list with room for the entries of so many callers.
+pub(crate) fn supplies(
+    alloc: Global,
+    callers: u32,
+    room: u32,
+) -> Result<(Entry, Vec<Entry>), AllocError>
+    ensures entry { IfOk result (λ s. s.0 ≡ record { core = idle_entry 0; room = room }) }
+    ensures list { IfOk result (λ s. (s.1.items ≡ []) × (callers ≤ vec_capacity s.1)) }
+{
+    let entry = Entry::new(alloc, 0, room)?;
+    let list = Vec::with_capacity(alloc, callers as usize)?;
+    Ok((entry, list))
 }
 
 // Tries one place after another, and says whether one was won. `found` is then its number.

@@ -18,7 +18,7 @@ use std::marker::Model;
 
 /// How a call of `operate` or `resume` ended: with the operation's number or with nothing; with no slot left after two sweeps of its
 /// claim; with the last phase, which a sweep had loaded; or with the budget used up while the operation runs.
-#[derive(Clone, Copy, Debug, PartialEq, Eq, Drop)]
+#[derive(Clone, Copy, PartialEq, Eq, Drop)]
 pub enum Outcome {
     Replied(Option<u64>),
     Full,

@@ -4,15 +4,18 @@ ghost use Rattle.std.specs.Prelude.{◌≡◌, ◌<◌, ◌≤◌, ◌+◌, [], 
 ghost use Rattle.caller_parts.specs.Settings.{Fits};
 ghost use Rattle.word_runner.specs.Shown.{CameFrom};
 ghost use Rattle.table_rule.specs.Rule.{callers_of};
+ghost use Rattle.oa_words.specs.Words.{word_count};
+ghost use Rattle.table_rule.specs.Seen.{newcomer, IsGround};
 ghost use Rattle.table_rule.specs.Closing.{IsClosed};
 
 use crate::arena::Arena;
-use crate::blank::Blank;
+use crate::blank::{Blank, supplies};
+use crate::ground::{Ground, Place, Words};
 use crate::rest::Rest;
 use barrier_check::Barred;
 use caller_steps::Setting;
 use norm_lang::list::Listed;
-use oa_core::{Entry, PlainWords};
+use oa_core::{Entry, LoadedTarget, PlainWords};
 use std::alloc::{AllocError, Global};
 
 /// Entries of callers.
@@ -41,12 +44,10 @@ impl Arena {
         ensures blank { IfOk result (λ p. p.1 ≡ record { table = p.0.table; fixed = p.0.fixed; room = room; found = 0 }) }
     {
         setting.kept();
-        let callers = setting.shape().callers();
-        let words = PlainWords::new(alloc, &barred, &setting)?;
-        let entry = Entry::new(alloc, 0, room)?;
-        let list = Vec::with_capacity(alloc, callers as usize)?;
-        let (arena, place) = Arena::over(alloc, barred, setting, words.words())?;
-        Ok((arena, Blank::over(place, entry, list)))
+        let target = LoadedTarget::new(barred);
+        let ground = Ground { target, setting };
+        let (table, blank) = begin_on(alloc, &ground, room)?;
+        Ok((Arena::over(table, ground), blank))
     }
 
     /// Closes the table with all its callers at rest. Takes no memory, and waits for nobody.
@@ -64,4 +65,26 @@ impl Arena {
             entries: Listed::from_vec(entries),
         }
     }
+}
+
+/// A table with the words of the start, and its first seat.
+fn table_on(alloc: Global, ground: &Ground) -> Result<(Words, Place), AllocError>
+    requires { IsGround ground.now }
+    ensures table { IfOk result (λ p. (p.0.shared.key ≡ ground.now) × (p.0.shared.table_id.words ≡ word_count ground.now.setting.sizes) × (p.0.shared.table_id.slots ≡ 0)) }
+    ensures place { IfOk result (λ p. (p.1.table_id ≡ p.0.shared.table_id) × (p.1.me ≡ (newcomer ground.now, []))) }
+{
+    let words = PlainWords::new(alloc, ground.target.barred(), &ground.setting)?;
+    Words::of_words(alloc, words.words(), ground)
+}
+
+/// A table with the words of the start, and its first blank.
+fn begin_on(alloc: Global, ground: &Ground, room: u32) -> Result<(Words, Blank), AllocError>
+    requires { IsGround ground.now }
+    ensures table { IfOk result (λ p. (p.0.shared.key ≡ ground.now) × (p.0.shared.table_id.words ≡ word_count ground.now.setting.sizes) × (p.0.shared.table_id.slots ≡ 0)) }
+    ensures blank { IfOk result (λ p. p.1 ≡ record { table = p.0.shared.table_id; fixed = ground.now; room = room; found = 0 }) }
+{
+    ground.setting.kept();
+    let (entry, list) = supplies(alloc, ground.setting.shape().callers(), room)?;
+    let (table, place) = table_on(alloc, ground)?;
+    Ok((table, Blank::over(place, entry, list)))
 }

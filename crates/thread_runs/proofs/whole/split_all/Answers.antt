@@ -19,3 +19,6 @@ returns c =
     let P = IsBlank c.args.arena.now c.args.first.room in
     let all = subst (All P) (sym c.push_reserved-2.ensures.items) (All-push P c.loop-left.blanks.items c.loop-left.first i.0 i.3) in
     (all, grind (arith, common_steps))
+
+pub loop-left-init : goal.loop-left-init
+loop-left-init c = search rules

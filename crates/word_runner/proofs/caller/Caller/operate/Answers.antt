@@ -1,4 +1,4 @@
-use Rattle.std.proofs.Common.{ap, ◌∙◌}
+use Rattle.std.proofs.Common.{rules, ap, ◌∙◌}
 use Rattle.caller_parts.specs.declared.call.Call.{Call}
 use Rattle.caller_steps.specs.Entries.{RoomyEntry}
 use Rattle.caller_steps.specs.After.{taken}
@@ -6,6 +6,9 @@ use Rattle.word_runner.specs.Shown.{CallerShown}
 use Rattle.word_runner.specs.Outcome.{answer_of}
 use Rattle.word_runner.proofs.Ended.{replies_taken}
 use Rattle.word_runner.proofs.caller.Caller.operate.Goals as goal
+
+pub returns-clause-steps : goal.returns-clause-steps
+returns-clause-steps c = search rules
 
 pub returns-clause-outcome : goal.returns-clause-outcome
 returns-clause-outcome c =

@@ -1,0 +1,5 @@
+use Rattle.std.proofs.Common.{rules}
+use Rattle.caller_steps.proofs.entry.Entry.clear_next.Goals as goal
+
+pub returns : goal.returns
+returns c = search rules

@@ -1,0 +1,5 @@
+use Rattle.std.proofs.Common.{rules}
+use Rattle.phase_pools.proofs.claim.ClaimState.pending.Goals as goal
+
+pub returns-in-StoreUsed-clause-same : goal.returns-in-StoreUsed-clause-same
+returns-in-StoreUsed-clause-same c = search rules

@@ -1,0 +1,5 @@
+use Rattle.std.proofs.Common.{rules}
+use Rattle.phase_pools.proofs.claim.ClaimState.swept.Goals as goal
+
+pub returns-in-Some-PhasesOver-clause-same : goal.returns-in-Some-PhasesOver-clause-same
+returns-in-Some-PhasesOver-clause-same c = search rules

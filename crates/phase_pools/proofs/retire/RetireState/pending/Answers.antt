@@ -1,0 +1,5 @@
+use Rattle.std.proofs.Common.{rules}
+use Rattle.phase_pools.proofs.retire.RetireState.pending.Goals as goal
+
+pub returns-in-StoreStatus : goal.returns-in-StoreStatus
+returns-in-StoreStatus c = search rules

@@ -1,0 +1,12 @@
+use Rattle.std.proofs.Common.{rules, ◌≡◌, subst, sym}
+use Rattle.barrier_check.specs.Paired.{Paired}
+use Rattle.caller_steps.specs.Entries.{Entry}
+use Rattle.table_rule.specs.Plays.{Belonging}
+use Rattle.word_runner.proofs.arena.Arena.begin.Goals as goal
+
+pub returns-clause-belongs : goal.returns-clause-belongs
+returns-clause-belongs c =
+    let same : c.barred.result.now ≡ c.args.self.now.fixed.target = search rules in
+    let belonging : Paired → Entry → Type 0 = λ p e. Belonging (record { target = p; setting = c.args.self.now.fixed.setting }) e in
+    subst (λ (p : Paired). belonging p c.begin.new.self.core) same
+    (c.begin.ensures.belongs.each c.args.self.now.fixed.setting (subst (λ (p : Paired). belonging p c.args.entry.now.core) (sym same) c.requires.belongs))
