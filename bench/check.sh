@@ -2,7 +2,7 @@
 # Times `oa check`, `oa compile` and the verifier on texts of 16 operations with 64, 128 and 256 instructions in each method,
 # less the time of the least text. In the one kind of text every second instruction branches, to and fro, so that each leads to
 # each. In the other the generators have commits that need eight registers guarded and the wrap-ups exchanges that need three,
-# so that their targets are up to ten times as long. What the verifier takes is the time of the program `verify_bench` less
+# so that their targets are up to ten times as long. What the verifier takes is the time of the program `oa_bench` less
 # that of the same program where it doesn't verify. Five runs each; the least is taken. It needs the proved program (`./prove`).
 set -eu
 cd "$(dirname "$0")/.."
@@ -82,8 +82,8 @@ accepted() {
   [ "$("$verifier" verify <"$1")" = barred ] || { echo "not barred"; exit 1; }
 }
 
-verifier=crates/verify_bench/out/verify_bench
-[ -x "$verifier" ] || (cd crates/verify_bench && rt run -- verify <stdin >"$work/log" 2>&1) || { tail -n 20 "$work/log"; exit 2; }
+verifier=crates/oa_bench/out/oa_bench
+[ -x "$verifier" ] || (cd crates/oa_bench && rt run -- verify <stdin >"$work/log" 2>&1) || { tail -n 20 "$work/log"; exit 2; }
 
 branches 1 2 >"$work/least"
 accepted "$work/least"

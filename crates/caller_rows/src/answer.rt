@@ -68,6 +68,19 @@ fn on_target(
     }
 }
 
+/// The rows of a target.
+fn barred_row(
+    alloc: Global,
+    kind: &str,
+    barred: &Barred,
+    head: &str,
+    rest: &str,
+    out: &mut String,
+) -> Result<(), RowError> {
+    let terms = terms_in(alloc, head)?;
+    on_target(alloc, kind, barred, terms, rest, out)
+}
+
 /// The rows of a text's target.
 fn target_row(
     alloc: Global,
@@ -77,9 +90,8 @@ fn target_row(
     rest: &str,
     out: &mut String,
 ) -> Result<(), RowError> {
-    let terms = terms_in(alloc, head)?;
     let barred = read(alloc, bytes)?;
-    on_target(alloc, kind, &barred, terms, rest, out)
+    barred_row(alloc, kind, &barred, head, rest, out)
 }
 
 /// What the callers of a hall do.

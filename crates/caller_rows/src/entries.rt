@@ -1,5 +1,8 @@
 //! Entries as they are made, settings, and what is told of both.
 
+ghost use Rattle.std.specs.Prelude.{◌≡◌};
+ghost use Rattle.caller_steps.specs.Entries.{idle_entry};
+
 use crate::numbers::numbers;
 use crate::told::reply_told;
 use oa_core::{Entry, Setting};
@@ -33,13 +36,31 @@ pub(crate) fn add_replies(
     Ok(())
 }
 
+fn add_numbered(alloc: Global, out: &mut String, entry: &Entry) -> Result<(), AllocError> {
+    out.push_str(format!(in alloc; "{}: ", entry.number())?.as_str())?;
+    out.push_str(tell_entry(alloc, entry)?.as_str())
+}
+
+/// An entry with its number, and with another.
+fn add_both(
+    alloc: Global,
+    out: &mut String,
+    entry: &mut Entry,
+    other: u32,
+) -> Result<(), AllocError>
+    requires { entry.old.core ≡ idle_entry entry.old.core.number }
+{
+    add_numbered(alloc, out, entry)?;
+    entry.renumber(other);
+    out.push('\n')?;
+    add_numbered(alloc, out, entry)
+}
+
 fn made(alloc: Global, number: u32, room: u32, other: u32) -> Result<String, AllocError> {
     let mut entry = Entry::new(alloc, number, room)?;
-    let first = tell_entry(alloc, &entry)?;
-    let before = entry.number();
-    entry.renumber(other);
-    let second = tell_entry(alloc, &entry)?;
-    Ok(format!(in alloc; "{before}: {first}\n{}: {second}", entry.number())?)
+    let mut out = String::new(alloc);
+    add_both(alloc, &mut out, &mut entry, other)?;
+    Ok(out)
 }
 
 fn small(number: u64) -> Result<u32, RowError> {

@@ -50,26 +50,46 @@ fn written<R: Threads + Sync>(
     }
 }
 
+/// Takes lines that rows begin with.
+fn take_lines<R: Print>(
+    rt: &R,
+    alloc: Global,
+    named: &mut Vec<NamedLines>,
+    line: &str,
+    rest: &str,
+) -> io::Result<()> {
+    match named_lines(alloc, named, rest) {
+        Ok(lines) => Ok(named.push(lines)?),
+        Err(RowError::Wrong) => println!(rt; "wrong row: {line}"),
+        Err(RowError::Memory(error)) => Err(error.into()),
+    }
+}
+
+/// Takes a line, and writes it with its answer if it is a row.
+fn take_line<R: Print + Threads + Sync>(
+    rt: &R,
+    alloc: Global,
+    named: &mut Vec<NamedLines>,
+    line: &str,
+) -> io::Result<()> {
+    if line.is_empty() {
+        return Ok(());
+    }
+    if let Some(rest) = line.strip_prefix("lines ") {
+        return take_lines(rt, alloc, named, line, rest);
+    }
+    println!(rt; "{line}")?;
+    if line.starts_with('#') {
+        return Ok(());
+    }
+    println!(rt; "{}", written(rt, alloc, named, line)?)
+}
+
 fn main(rt: HostRuntime) -> io::Result<()> {
     let alloc = rt.alloc();
     let mut named = Vec::new(alloc);
     for line in BufReader::new(alloc, rt.reader())?.lines(alloc) {
-        let line = line?;
-        if line.is_empty() {
-            continue;
-        }
-        if let Some(rest) = line.strip_prefix("lines ") {
-            match named_lines(alloc, &named, rest) {
-                Ok(lines) => named.push(lines)?,
-                Err(RowError::Wrong) => println!(rt; "wrong row: {line}")?,
-                Err(RowError::Memory(error)) => return Err(error.into()),
-            }
-            continue;
-        }
-        println!(rt; "{line}")?;
-        if !line.starts_with('#') {
-            println!(rt; "{}", written(&rt, alloc, &named, line.as_str())?)?;
-        }
+        take_line(&rt, alloc, &mut named, line?.as_str())?;
     }
     Ok(())
 }

@@ -12,7 +12,13 @@ fn add_found(alloc: Global, out: &mut String, found: u32) -> Result<(), AllocErr
     out.push_str(format!(in alloc; "found {found}, ")?.as_str())
 }
 
-fn add_entered(alloc: Global, out: &mut String, caller: &Caller) -> Result<(), AllocError> {
+fn add_entered(
+    alloc: Global,
+    out: &mut String,
+    found: u32,
+    caller: &Caller,
+) -> Result<(), AllocError> {
+    add_found(alloc, out, found)?;
     out.push_str(format!(in alloc;
         "caller {}, spare {}\n",
         caller.number(),
@@ -33,9 +39,9 @@ fn enter_one(
     let Some(other) = second(alloc, hall, blank) else {
         return Err(RowError::Wrong);
     };
-    add_found(alloc, out, other.found())?;
+    let found = other.found();
     match other.enter(&hall.arena) {
-        Ok(caller) => Ok(add_entered(alloc, out, &caller)?),
+        Ok(caller) => Ok(add_entered(alloc, out, found, &caller)?),
         Err(_) => Err(RowError::Wrong),
     }
 }
@@ -56,16 +62,21 @@ fn enter_some(
     Ok(())
 }
 
+fn add_none(alloc: Global, out: &mut String, found: u32, callers: u32) -> Result<(), AllocError> {
+    add_found(alloc, out, found)?;
+    out.push_str(format!(in alloc; "none of {callers}\n")?.as_str())
+}
+
 /// A blank that finds no place, and is handed back.
 fn find_none(alloc: Global, hall: &Hall, blank: Blank, out: &mut String) -> Result<Blank, RowError>
     requires came { CameFrom hall.now.arena blank.table blank.fixed }
     ensures { IfOk result (λ back. CameFrom hall.now.arena back.table back.fixed) }
 {
-    add_found(alloc, out, blank.found())?;
+    let found = blank.found();
     match blank.enter(&hall.arena) {
         Ok(_) => Err(RowError::Wrong),
         Err(none) => {
-            out.push_str(format!(in alloc; "none of {}\n", none.callers)?.as_str())?;
+            add_none(alloc, out, found, none.callers)?;
             Ok(none.blank)
         }
     }

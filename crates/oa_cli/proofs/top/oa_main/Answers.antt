@@ -1,4 +1,4 @@
-use Rattle.std.proofs.Common.{map, string_bytes}
+use Rattle.std.proofs.Common.{map, string_bytes, rules}
 use Rattle.command_input.specs.Commands.{request_of}
 use Rattle.oa_cli.proofs.Telling.{told}
 use Rattle.oa_cli.proofs.Completing.{complete}
@@ -17,3 +17,6 @@ returns-clause-complete g c =
     (g.S.Source.faults c.args.input.now) (g.S.Source.faults c.judge-verdict.new.input) c.judge-verdict.result
     (g.K.Sink.written c.args.out.now) (g.K.Sink.written c.say.new.out) (g.K.Sink.faults c.args.out.now) (g.K.Sink.faults c.say.new.out)
     c.say.result c.judge-verdict.ensures c.say.ensures
+
+pub returns-clause-judged : goal.returns-clause-judged
+returns-clause-judged g c = search rules

@@ -9,3 +9,6 @@ loop-script-preserved c =
     let room : c.loop-script.room ≤ c.max-room.result = search rules in
     let long : length c.items.result.now ≤ c.max-room.result = search rules in
     (fit_more c.args.scripts.now c.loop-script.script-index c.loop-script.room c.max-room.result c.items.result.now within item room long c.loop-script.invariant.0, search rules)
+
+pub returns : goal.returns
+returns c = search rules

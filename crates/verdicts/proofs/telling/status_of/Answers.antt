@@ -6,3 +6,6 @@ returns-in-Memory c = search rules
 
 pub returns-else-is_short : goal.returns-else-is_short
 returns-else-is_short c = search rules
+
+pub returns-in-LongInput : goal.returns-in-LongInput
+returns-in-LongInput c = search rules

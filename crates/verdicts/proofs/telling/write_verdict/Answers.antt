@@ -1,3 +1,4 @@
+use Rattle.std.proofs.Common.{rules}
 use Rattle.verdicts.proofs.telling.write_verdict.Goals as goal
 
 pub returns-in-ReadFault-clause-bytes : goal.returns-in-ReadFault-clause-bytes
@@ -8,3 +9,6 @@ returns-in-LongInput-clause-bytes g c = rw c.in-LongInput.is c.write_pieces-in-L
 
 pub returns-in-Worked-clause-bytes : goal.returns-in-Worked-clause-bytes
 returns-in-Worked-clause-bytes g c = rw c.in-Worked.is c.show_workload.ensures.bytes
+
+pub returns-in-Usage-clause-bytes : goal.returns-in-Usage-clause-bytes
+returns-in-Usage-clause-bytes g c = search rules

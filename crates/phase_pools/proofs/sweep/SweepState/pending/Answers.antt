@@ -9,3 +9,6 @@ returns-in-RaisePhase-clause-same c = search rules
 
 pub returns-in-MakeReady-clause-same : goal.returns-in-MakeReady-clause-same
 returns-in-MakeReady-clause-same c = search rules
+
+pub returns-in-Warn-clause-same : goal.returns-in-Warn-clause-same
+returns-in-Warn-clause-same c = search rules

@@ -1,0 +1,8 @@
+use Rattle.std.proofs.Common.{rules}
+use Rattle.oa_words.proofs.packed.kind_of.Goals as goal
+
+pub returns-in_default : goal.returns-in_default
+returns-in_default c = search rules
+
+pub returns-in-2 : goal.returns-in-2
+returns-in-2 c = search rules

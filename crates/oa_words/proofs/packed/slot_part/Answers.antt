@@ -1,0 +1,5 @@
+use Rattle.std.proofs.Common.{rules}
+use Rattle.oa_words.proofs.packed.slot_part.Goals as goal
+
+pub returns : goal.returns
+returns c = search rules
