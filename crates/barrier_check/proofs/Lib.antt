@@ -1,5 +1,6 @@
 mod Answering
 mod Codes
+mod Contents
 mod Counts
 mod Differing
 mod FirstFlaw

@@ -1,5 +1,6 @@
 pub mod SourcePlaces
 pub mod SourceCode
+pub mod Contents
 pub mod FlawsTold
 pub mod Scopes
 pub mod Comparing

@@ -4,6 +4,7 @@
 
 mod barred;
 mod code;
+mod content;
 mod erasing;
 mod flaw;
 mod judge;

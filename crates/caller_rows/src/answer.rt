@@ -3,7 +3,7 @@
 ghost use Rattle.word_runner.specs.Shown.{CameFrom};
 
 use crate::accesses::accesses;
-use crate::budgets::budgets;
+use crate::budgets::{all_rest, close};
 use crate::callers::callers;
 use crate::entries::{entry_row, setting_row};
 use crate::hall::{Hall, open};
@@ -94,8 +94,21 @@ fn target_row(
     barred_row(alloc, kind, &barred, head, rest, out)
 }
 
-/// What the callers of a hall do.
-fn hall_row(
+/// Blanks of a hall enter until they find no place.
+fn places_row(
+    alloc: Global,
+    hall: Hall,
+    blank: Blank,
+    rest: &str,
+    out: &mut String,
+) -> Result<(), RowError>
+    requires { CameFrom hall.arena blank.table blank.fixed }
+{
+    places(alloc, &hall, blank, number(rest).unwrap_or(0), out)
+}
+
+/// What the callers of a hall do, and how they stand at the end.
+fn moves_row(
     alloc: Global,
     kind: &str,
     hall: Hall,
@@ -105,10 +118,9 @@ fn hall_row(
 ) -> Result<(), RowError>
     requires { CameFrom hall.arena blank.table blank.fixed }
 {
-    if kind == "places" {
-        places(alloc, &hall, blank, number(rest).unwrap_or(0), out)
-    } else {
-        budgets(alloc, hall, blank, kind, rest, out)
+    match all_rest(alloc, &hall, blank, kind, rest, out) {
+        Ok(rest) => close(alloc, hall, rest, out),
+        Err(error) => Err(error),
     }
 }
 
@@ -125,7 +137,13 @@ fn runner_row(
         return Err(RowError::Wrong);
     };
     match open(alloc, bytes, room) {
-        Some((hall, blank)) => hall_row(alloc, kind, hall, blank, rest, out),
+        Some((hall, blank)) => {
+            if kind == "places" {
+                places_row(alloc, hall, blank, rest, out)
+            } else {
+                moves_row(alloc, kind, hall, blank, rest, out)
+            }
+        }
         None => Err(RowError::Wrong),
     }
 }

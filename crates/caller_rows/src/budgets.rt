@@ -1,6 +1,7 @@
 //! Callers on the words of a table, call by call and step by step, on one thread.
 
-ghost use Rattle.std.specs.Prelude.{IfOk};
+ghost use Rattle.std.specs.Prelude.{◌≡◌, length, IfOk};
+ghost use Rattle.table_rule.specs.Rule.{callers_of};
 ghost use Rattle.word_runner.specs.Shown.{CameFrom};
 
 use crate::entries::add_replies;
@@ -107,6 +108,27 @@ fn go_alone(
     Ok(())
 }
 
+/// One of two callers goes on.
+fn go_one(
+    alloc: Global,
+    hall: &Hall,
+    one: &mut Caller,
+    two: &mut Caller,
+    text: &str,
+    out: &mut String,
+) -> Result<(), RowError>
+    requires one { CameFrom hall.now.arena one.old.table one.old.fixed }
+    requires two { CameFrom hall.now.arena two.old.table two.old.fixed }
+    ensures one { CameFrom hall.now.arena one.new.table one.new.fixed }
+    ensures two { CameFrom hall.now.arena two.new.table two.new.fixed }
+{
+    match move_in(text) {
+        Some((Who::First, going)) => Ok(go(alloc, hall, one, going, out)?),
+        Some((Who::Second, going)) => Ok(go(alloc, hall, two, going, out)?),
+        None => Err(RowError::Wrong),
+    }
+}
+
 fn go_together(
     alloc: Global,
     hall: &Hall,
@@ -123,11 +145,7 @@ fn go_together(
     add_caller(alloc, out, one)?;
     add_caller(alloc, out, two)?;
     for text in moves.split(", ") {
-        match move_in(text) {
-            Some((Who::First, going)) => go(alloc, hall, one, going, out)?,
-            Some((Who::Second, going)) => go(alloc, hall, two, going, out)?,
-            None => return Err(RowError::Wrong),
-        }
+        go_one(alloc, hall, one, two, text, out)?;
     }
     Ok(())
 }
@@ -149,13 +167,6 @@ fn add_end(alloc: Global, out: &mut String, end: &Final) -> Result<(), AllocErro
         add_entry(alloc, out, entry)?;
     }
     Ok(())
-}
-
-fn close(alloc: Global, end: Option<Final>, out: &mut String) -> Result<(), RowError> {
-    match end {
-        Some(end) => Ok(add_end(alloc, out, &end)?),
-        None => Err(RowError::Wrong),
-    }
 }
 
 /// The hall's one caller goes, and then rests.
@@ -219,17 +230,32 @@ fn rest_of(
     }
 }
 
-/// What the hall's callers do, and how they stand at the end.
-pub(crate) fn budgets(
+/// All callers of the hall go as the row's kind says, and then rest.
+pub(crate) fn all_rest(
     alloc: Global,
-    hall: Hall,
+    hall: &Hall,
     blank: Blank,
     kind: &str,
     moves: &str,
     out: &mut String,
-) -> Result<(), RowError>
-    requires { CameFrom hall.arena blank.table blank.fixed }
+) -> Result<Rest, RowError>
+    requires { CameFrom hall.now.arena blank.table blank.fixed }
+    ensures came { IfOk result (λ rest. CameFrom hall.now.arena rest.table rest.fixed) }
+    ensures all { IfOk result (λ rest. length rest.entries ≡ callers_of hall.now.arena.fixed) }
 {
-    let rest = rest_of(alloc, &hall, blank, kind, moves, out)?;
-    close(alloc, hall.close(rest), out)
+    let rest = rest_of(alloc, hall, blank, kind, moves, out)?;
+    if hall.has_all(&rest) {
+        Ok(rest)
+    } else {
+        Err(RowError::Wrong)
+    }
+}
+
+/// Closes a hall whose callers rest, and tells how they stand at the end.
+pub(crate) fn close(alloc: Global, hall: Hall, rest: Rest, out: &mut String) -> Result<(), RowError>
+    requires came { CameFrom hall.arena rest.table rest.fixed }
+    requires all { length rest.entries ≡ callers_of hall.arena.fixed }
+{
+    let end = hall.close(rest);
+    Ok(add_end(alloc, out, &end)?)
 }

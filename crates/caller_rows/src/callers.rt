@@ -64,6 +64,33 @@ fn take_call(
     }
 }
 
+/// What a caller does.
+fn do_deed(
+    alloc: Global,
+    barred: &Barred,
+    setting: &Setting,
+    entry: &mut Entry,
+    words: &mut PlainWords,
+    deed: Deed,
+    out: &mut String,
+) -> Result<(), AllocError>
+    requires belongs { BelongsTo barred.now setting.now entry.old.core }
+    requires lawful { WordsSound barred.now.target setting.now words.old }
+    ensures belongs { BelongsTo barred.now setting.now entry.new.core }
+    ensures lawful { WordsSound barred.now.target setting.now words.new }
+{
+    match deed {
+        Deed::Calls { op, arg } => take_call(barred, setting, entry, op, arg, out),
+        Deed::Steps(count) => make_steps(alloc, barred, setting, entry, words, count, out),
+    }
+}
+
+/// How an entry stands.
+fn add_entry(alloc: Global, out: &mut String, entry: &Entry) -> Result<(), AllocError> {
+    out.push_str(tell_entry(alloc, entry)?.as_str())?;
+    out.push('\n')
+}
+
 /// What a caller does, and how its entry stands then.
 fn make_move(
     alloc: Global,
@@ -79,12 +106,8 @@ fn make_move(
     ensures belongs { BelongsTo barred.now setting.now entry.new.core }
     ensures lawful { WordsSound barred.now.target setting.now words.new }
 {
-    match deed {
-        Deed::Calls { op, arg } => take_call(barred, setting, entry, op, arg, out)?,
-        Deed::Steps(count) => make_steps(alloc, barred, setting, entry, words, count, out)?,
-    }
-    out.push_str(tell_entry(alloc, entry)?.as_str())?;
-    out.push('\n')
+    do_deed(alloc, barred, setting, entry, words, deed, out)?;
+    add_entry(alloc, out, entry)
 }
 
 /// The replies of the first caller, and of the last if it is another.
@@ -131,6 +154,24 @@ fn act(
     Ok(add_all_replies(alloc, out, first, last)?)
 }
 
+/// The moves of a row's callers on the words of a target at the start.
+fn act_on_words(
+    alloc: Global,
+    barred: &Barred,
+    setting: &Setting,
+    first: &mut Entry,
+    last: &mut Entry,
+    moves: &str,
+    out: &mut String,
+) -> Result<(), RowError>
+    requires fits { Fits barred.now.target setting.now }
+    requires first { BelongsTo barred.now setting.now first.old.core }
+    requires last { BelongsTo barred.now setting.now last.old.core }
+{
+    let mut words = words_of(alloc, barred, setting)?;
+    act(alloc, barred, setting, first, last, &mut words, moves, out)
+}
+
 /// What the first and the last caller of a target do.
 pub(crate) fn callers(
     alloc: Global,
@@ -146,10 +187,7 @@ pub(crate) fn callers(
     if count == 0 {
         return Err(RowError::Wrong);
     }
-    let mut words = words_of(alloc, barred, setting)?;
     let mut first = entry_of(alloc, barred, setting, 0, room)?;
     let mut last = entry_of(alloc, barred, setting, count - 1, room)?;
-    act(
-        alloc, barred, setting, &mut first, &mut last, &mut words, moves, out,
-    )
+    act_on_words(alloc, barred, setting, &mut first, &mut last, moves, out)
 }

@@ -1,6 +1,6 @@
 //! Arenas, each of a document whose scripts its callers follow call by call.
 
-ghost use Rattle.std.specs.Prelude.{◌≡◌, ◌<◌, true, length, All, IfSome};
+ghost use Rattle.std.specs.Prelude.{◌≡◌, ◌<◌, true, length, All, IfSome, IsTrue};
 ghost use Rattle.caller_parts.specs.Calls.{is_call, AreCalls};
 ghost use Rattle.documents.specs.DocumentLimits.{IsWithinDocumentLimits};
 ghost use Rattle.script_plans.specs.Plans.{IsReady};
@@ -153,14 +153,18 @@ impl Hall {
         Some(caller.resume(&self.arena, budget))
     }
 
-    /// Closes the arena where all its callers rest.
-    pub(crate) fn close(self, rest: Rest) -> Option<Final>
-        requires came { CameFrom self.arena rest.table rest.fixed }
+    /// Whether all callers rest.
+    pub(crate) fn has_all(&self, rest: &Rest) -> bool
+        ensures { IsTrue result → length rest.now.entries ≡ callers_of self.now.arena.fixed }
     {
-        let Hall { arena, scripts } = self;
-        if rest.count() as usize != scripts.items().len() {
-            return None;
-        }
-        Some(arena.close(rest))
+        rest.count() as usize == self.scripts.items().len()
+    }
+
+    pub(crate) fn close(self, rest: Rest) -> Final
+        requires came { CameFrom self.arena rest.table rest.fixed }
+        requires all { length rest.entries ≡ callers_of self.arena.fixed }
+    {
+        let Hall { arena, scripts: _ } = self;
+        arena.close(rest)
     }
 }

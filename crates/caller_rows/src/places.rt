@@ -82,7 +82,21 @@ fn find_none(alloc: Global, hall: &Hall, blank: Blank, out: &mut String) -> Resu
     }
 }
 
-/// So many other blanks enter; this one finds all places taken, and so again when it is handed back.
+/// A blank finds all places taken, and so again when it is handed back.
+fn find_none_twice(
+    alloc: Global,
+    hall: &Hall,
+    blank: Blank,
+    out: &mut String,
+) -> Result<(), RowError>
+    requires came { CameFrom hall.now.arena blank.table blank.fixed }
+{
+    let back = find_none(alloc, hall, blank, out)?;
+    let again = find_none(alloc, hall, back, out)?;
+    Ok(add_found(alloc, out, again.found())?)
+}
+
+/// So many other blanks enter; then this one tries it twice.
 pub(crate) fn places(
     alloc: Global,
     hall: &Hall,
@@ -94,7 +108,5 @@ pub(crate) fn places(
 {
     let mut blank = blank;
     enter_some(alloc, hall, &mut blank, count, out)?;
-    let back = find_none(alloc, hall, blank, out)?;
-    let again = find_none(alloc, hall, back, out)?;
-    Ok(add_found(alloc, out, again.found())?)
+    find_none_twice(alloc, hall, blank, out)
 }

@@ -18,7 +18,7 @@ const MOST_PICKED: u64 = 256;
 const MOST_ENTRIES: u64 = 4;
 
 /// `set D 17`
-pub(crate) fn set(words: &mut Words) -> Result<Instr, Fault>
+pub fn set(words: &mut Words) -> Result<Instr, Fault>
     ensures { Reads (λ i. i) result (set_line words.old) }
 {
     let d = words.register()?;
@@ -28,7 +28,7 @@ pub(crate) fn set(words: &mut Words) -> Result<Instr, Fault>
 }
 
 /// `mov D A`
-pub(crate) fn mov(words: &mut Words) -> Result<Instr, Fault>
+pub fn mov(words: &mut Words) -> Result<Instr, Fault>
     ensures { Reads (λ i. i) result (mov_line words.old) }
 {
     let (d, a) = two_registers(words)?;
@@ -36,7 +36,7 @@ pub(crate) fn mov(words: &mut Words) -> Result<Instr, Fault>
 }
 
 /// `add D A B`
-pub(crate) fn add(words: &mut Words) -> Result<Instr, Fault>
+pub fn add(words: &mut Words) -> Result<Instr, Fault>
     ensures { Reads (λ i. i) result (add_line words.old) }
 {
     let (d, a, b) = three_registers(words)?;
@@ -44,7 +44,7 @@ pub(crate) fn add(words: &mut Words) -> Result<Instr, Fault>
 }
 
 /// `sub D A B`
-pub(crate) fn sub(words: &mut Words) -> Result<Instr, Fault>
+pub fn sub(words: &mut Words) -> Result<Instr, Fault>
     ensures { Reads (λ i. i) result (sub_line words.old) }
 {
     let (d, a, b) = three_registers(words)?;
@@ -52,7 +52,7 @@ pub(crate) fn sub(words: &mut Words) -> Result<Instr, Fault>
 }
 
 /// `rem D A 8`: the literal is at least 1.
-pub(crate) fn rem(words: &mut Words) -> Result<Instr, Fault>
+pub fn rem(words: &mut Words) -> Result<Instr, Fault>
     ensures { Reads (λ i. i) result (rem_line words.old) }
 {
     let d = words.register()?;
@@ -63,14 +63,14 @@ pub(crate) fn rem(words: &mut Words) -> Result<Instr, Fault>
 }
 
 /// `null D`
-pub(crate) fn null(words: &mut Words) -> Result<Instr, Fault>
+pub fn null(words: &mut Words) -> Result<Instr, Fault>
     ensures { Reads (λ i. i) result (null_line words.old) }
 {
     Ok(Instr::Null(one_register(words)?))
 }
 
 /// `mark D A`
-pub(crate) fn mark(words: &mut Words) -> Result<Instr, Fault>
+pub fn mark(words: &mut Words) -> Result<Instr, Fault>
     ensures { Reads (λ i. i) result (mark_line words.old) }
 {
     let (d, a) = two_registers(words)?;
@@ -78,7 +78,7 @@ pub(crate) fn mark(words: &mut Words) -> Result<Instr, Fault>
 }
 
 /// `unmark D A`
-pub(crate) fn unmark(words: &mut Words) -> Result<Instr, Fault>
+pub fn unmark(words: &mut Words) -> Result<Instr, Fault>
     ensures { Reads (λ i. i) result (unmark_line words.old) }
 {
     let (d, a) = two_registers(words)?;
@@ -86,7 +86,7 @@ pub(crate) fn unmark(words: &mut Words) -> Result<Instr, Fault>
 }
 
 /// `root D X`
-pub(crate) fn load_root(roots: &[RootDecl], words: &mut Words) -> Result<Instr, Fault>
+pub fn load_root(roots: &[RootDecl], words: &mut Words) -> Result<Instr, Fault>
     requires { length roots.now ≤ 256 }
     ensures { Reads (λ i. i) result (load_root_line roots.now words.old) }
 {
@@ -97,7 +97,7 @@ pub(crate) fn load_root(roots: &[RootDecl], words: &mut Words) -> Result<Instr, 
 }
 
 /// `pick D X 8 A`: the literal is 1 to 256.
-pub(crate) fn pick(roots: &[RootDecl], words: &mut Words) -> Result<Instr, Fault>
+pub fn pick(roots: &[RootDecl], words: &mut Words) -> Result<Instr, Fault>
     requires { length roots.now ≤ 256 }
     ensures { Reads (λ i. i) result (pick_line roots.now words.old) }
 {
@@ -112,7 +112,7 @@ pub(crate) fn pick(roots: &[RootDecl], words: &mut Words) -> Result<Instr, Fault
 }
 
 /// `load D A F`
-pub(crate) fn load_field(fields: &[FieldDecl], words: &mut Words) -> Result<Instr, Fault>
+pub fn load_field(fields: &[FieldDecl], words: &mut Words) -> Result<Instr, Fault>
     requires { length fields.now ≤ 4 }
     ensures { Reads (λ i. i) result (load_field_line fields.now words.old) }
 {
@@ -124,14 +124,14 @@ pub(crate) fn load_field(fields: &[FieldDecl], words: &mut Words) -> Result<Inst
 }
 
 /// `new D`
-pub(crate) fn fresh(words: &mut Words) -> Result<Instr, Fault>
+pub fn fresh(words: &mut Words) -> Result<Instr, Fault>
     ensures { Reads (λ i. i) result (new_line words.old) }
 {
     Ok(Instr::New(one_register(words)?))
 }
 
 /// `put A F B`
-pub(crate) fn put(fields: &[FieldDecl], words: &mut Words) -> Result<Instr, Fault>
+pub fn put(fields: &[FieldDecl], words: &mut Words) -> Result<Instr, Fault>
     requires { length fields.now ≤ 4 }
     ensures { Reads (λ i. i) result (put_line fields.now words.old) }
 {
@@ -142,7 +142,7 @@ pub(crate) fn put(fields: &[FieldDecl], words: &mut Words) -> Result<Instr, Faul
 }
 
 /// `cas A F B D L`, and maybe `retire R`.
-pub(crate) fn cas(fields: &[FieldDecl], words: &mut Words) -> Result<Instr, Fault>
+pub fn cas(fields: &[FieldDecl], words: &mut Words) -> Result<Instr, Fault>
     requires { length fields.now ≤ 4 }
     ensures { Reads (λ i. i) result (cas_line fields.now words.old) }
 {
@@ -165,7 +165,7 @@ pub(crate) fn cas(fields: &[FieldDecl], words: &mut Words) -> Result<Instr, Faul
 }
 
 /// `casroot X B D L`, and maybe `retire R`.
-pub(crate) fn cas_root(roots: &[RootDecl], words: &mut Words) -> Result<Instr, Fault>
+pub fn cas_root(roots: &[RootDecl], words: &mut Words) -> Result<Instr, Fault>
     requires { length roots.now ≤ 256 }
     ensures { Reads (λ i. i) result (casroot_line roots.now words.old) }
 {
@@ -187,14 +187,14 @@ pub(crate) fn cas_root(roots: &[RootDecl], words: &mut Words) -> Result<Instr, F
 }
 
 /// `jump L`
-pub(crate) fn jump(words: &mut Words) -> Result<Instr, Fault>
+pub fn jump(words: &mut Words) -> Result<Instr, Fault>
     ensures { Reads (λ i. i) result (jump_line words.old) }
 {
     Ok(Instr::Jump(last_target(words)?))
 }
 
 /// `ifeq A B L`
-pub(crate) fn if_equal(words: &mut Words) -> Result<Instr, Fault>
+pub fn if_equal(words: &mut Words) -> Result<Instr, Fault>
     ensures { Reads (λ i. i) result (ifeq_line words.old) }
 {
     let a = words.register()?;
@@ -203,7 +203,7 @@ pub(crate) fn if_equal(words: &mut Words) -> Result<Instr, Fault>
 }
 
 /// `ifless A B L`
-pub(crate) fn if_less(words: &mut Words) -> Result<Instr, Fault>
+pub fn if_less(words: &mut Words) -> Result<Instr, Fault>
     ensures { Reads (λ i. i) result (ifless_line words.old) }
 {
     let a = words.register()?;
@@ -212,7 +212,7 @@ pub(crate) fn if_less(words: &mut Words) -> Result<Instr, Fault>
 }
 
 /// `ifmarked A L`
-pub(crate) fn if_marked(words: &mut Words) -> Result<Instr, Fault>
+pub fn if_marked(words: &mut Words) -> Result<Instr, Fault>
     ensures { Reads (λ i. i) result (ifmarked_line words.old) }
 {
     let a = words.register()?;
@@ -220,7 +220,7 @@ pub(crate) fn if_marked(words: &mut Words) -> Result<Instr, Fault>
 }
 
 /// `commit K`: the count of entry lines that follow, at most 4.
-pub(crate) fn commit(words: &mut Words) -> Result<u8, Fault>
+pub fn commit(words: &mut Words) -> Result<u8, Fault>
     ensures { Reads (λ k. Commits k) result (commit_line words.old) }
 {
     let k = words.number()?;
@@ -229,14 +229,14 @@ pub(crate) fn commit(words: &mut Words) -> Result<u8, Fault>
 }
 
 /// `return A`
-pub(crate) fn return_number(words: &mut Words) -> Result<Instr, Fault>
+pub fn return_number(words: &mut Words) -> Result<Instr, Fault>
     ensures { Reads (λ i. i) result (return_line words.old) }
 {
     Ok(Instr::Return(one_register(words)?))
 }
 
 /// `returnnone`
-pub(crate) fn return_none(words: &mut Words) -> Result<Instr, Fault>
+pub fn return_none(words: &mut Words) -> Result<Instr, Fault>
     ensures { Reads (λ i. i) result (returnnone_line words.old) }
 {
     words.end()?;
@@ -244,7 +244,7 @@ pub(crate) fn return_none(words: &mut Words) -> Result<Instr, Fault>
 }
 
 /// `again`
-pub(crate) fn again(words: &mut Words) -> Result<Instr, Fault>
+pub fn again(words: &mut Words) -> Result<Instr, Fault>
     ensures { Reads (λ i. i) result (again_line words.old) }
 {
     words.end()?;
@@ -252,7 +252,7 @@ pub(crate) fn again(words: &mut Words) -> Result<Instr, Fault>
 }
 
 /// `with A F B D`, and maybe `retire R`.
-pub(crate) fn field_entry(fields: &[FieldDecl], words: &mut Words) -> Result<CasEntry, Fault>
+pub fn field_entry(fields: &[FieldDecl], words: &mut Words) -> Result<CasEntry, Fault>
     requires { length fields.now ≤ 4 }
     ensures { Reads (λ entry. entry) result (with_line fields.now words.old) }
 {
@@ -270,7 +270,7 @@ pub(crate) fn field_entry(fields: &[FieldDecl], words: &mut Words) -> Result<Cas
 }
 
 /// `withroot X B D`, and maybe `retire R`.
-pub(crate) fn root_entry(roots: &[RootDecl], words: &mut Words) -> Result<CasEntry, Fault>
+pub fn root_entry(roots: &[RootDecl], words: &mut Words) -> Result<CasEntry, Fault>
     requires { length roots.now ≤ 256 }
     ensures { Reads (λ entry. entry) result (withroot_line roots.now words.old) }
 {

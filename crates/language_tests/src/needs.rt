@@ -42,11 +42,17 @@ fn carrying(alloc: Global) -> Result<Op, AllocError>
     })
 }
 
+fn needs_of(alloc: Global, op: &Op) -> Result<Needs, AllocError>
+    requires within { IsOpWithin op.now }
+    requires sized { IsSized op.now.generator × IsSized op.now.wrapup }
+{
+    Ok(Needs::of_op(op, &OpFacts::of_op(alloc, op)?))
+}
+
 #[test]
 fn what_is_used_of_the_commit(rt: HostRuntime) -> Result<(), AllocError> {
-    let alloc = rt.alloc();
-    let op = carrying(alloc)?;
-    let needs = Needs::of_op(&op, &OpFacts::of_op(alloc, &op)?);
+    let op = carrying(rt.alloc())?;
+    let needs = needs_of(rt.alloc(), &op)?;
     assert!(rt; needs.handed_over == [true, true, true, false, false, false, false, false]);
     assert!(rt; needs.kept == [true, false, false, false, false, false, false, false]);
     Ok(())

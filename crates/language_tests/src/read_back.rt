@@ -55,13 +55,21 @@ fn read(rt: &(impl Abort + AllocGlobal), text: &[u8]) -> Result<Target, ParseErr
     read_target(rt.alloc(), text)
 }
 
+fn expect_text(rt: &(impl Abort + AllocGlobal), text: &Text, spelling: &[u8]) {
+    let spelled = show(rt.alloc(), text).expect(rt, "memory ran out");
+    assert!(rt; spelled.items() == spelling);
+}
+
+fn expect_read_back(rt: &(impl Abort + AllocGlobal), spelling: &[u8]) {
+    let text = read_text(rt, spelling).expect(rt, "it is a text");
+    expect_text(rt, &text, spelling);
+}
+
 #[test]
 fn the_queue_is_read_back(rt: HostRuntime) {
     let queue = shipped_queue(rt.alloc()).expect(&rt, "memory ran out");
-    let spelled = show(rt.alloc(), &queue).expect(&rt, "memory ran out");
-    let read = read_text(&rt, spelled.items()).expect(&rt, "it is a text");
-    let again = show(rt.alloc(), &read).expect(&rt, "memory ran out");
-    assert!(rt; again.items() == spelled.items());
+    let spelling = show(rt.alloc(), &queue).expect(&rt, "memory ran out");
+    expect_read_back(&rt, spelling.items());
 }
 
 /// The instruction of the first operation's generator at a place.
@@ -69,29 +77,37 @@ fn instruction(target: &Target, at: usize) -> Option<&TargetInstr> {
     target.ops.items().first()?.generator.items().get(at)
 }
 
-#[test]
-fn enqueue_is_read_back(rt: HostRuntime) {
-    let target = read(&rt, ENQUEUE).expect(&rt, "it is a target");
+fn expect_instructions(rt: &impl Abort, target: &Target) {
     assert!(rt;
         matches!(
-            instruction(&target, 5),
+            instruction(target, 5),
             Some(TargetInstr::Plain(Instr::IfEq(Reg::Ref(1), Reg::Ref(2), 11)))
         )
     );
     assert!(rt;
         matches!(
-            instruction(&target, 6),
+            instruction(target, 6),
             Some(TargetInstr::Guard(Reg::Ref(0)))
         )
     );
-    assert!(rt; matches!(instruction(&target, 12), Some(TargetInstr::Check)));
+    assert!(rt; matches!(instruction(target, 12), Some(TargetInstr::Check)));
     assert!(rt;
         matches!(
-            instruction(&target, 18),
+            instruction(target, 18),
             Some(TargetInstr::Plain(Instr::Commit(_)))
         )
     );
-    assert!(rt; instruction(&target, 19).is_none());
-    let spelled = show_target(rt.alloc(), &target).expect(&rt, "memory ran out");
-    assert!(rt; spelled.items() == ENQUEUE);
+    assert!(rt; instruction(target, 19).is_none());
+}
+
+fn expect_target(rt: &(impl Abort + AllocGlobal), target: &Target, spelling: &[u8]) {
+    let spelled = show_target(rt.alloc(), target).expect(rt, "memory ran out");
+    assert!(rt; spelled.items() == spelling);
+}
+
+#[test]
+fn enqueue_is_read_back(rt: HostRuntime) {
+    let target = read(&rt, ENQUEUE).expect(&rt, "it is a target");
+    expect_instructions(&rt, &target);
+    expect_target(&rt, &target, ENQUEUE);
 }

@@ -1,9 +1,12 @@
 //! Runs of a counter and of the list.
 
+ghost use Rattle.std.specs.Prelude.{◌≡◌, length};
+ghost use Rattle.source_machine.specs.Calls.{IsOfSourceRun};
+
 use norm_check::{Normal, check};
 use norm_lang::shipped_set;
 use norm_parser::parse;
-use source_machine::{RunError, SourceEvent, SourceReply, StepError, run, step};
+use source_machine::{RunError, SourceEvent, SourceReply, SourceState, StepError, run, step};
 use std::alloc::{AllocError, Global};
 use std::process::Abort;
 
@@ -141,14 +144,32 @@ fn the_first_event_that_is_not_enabled_is_named(rt: HostRuntime) {
     expect_told(&rt, &normal_of(&rt, COUNTER), &rows);
 }
 
-#[test]
-fn a_further_access_is_refused(rt: HostRuntime) {
-    let normal = normal_of(&rt, COUNTER);
-    let events = spelled(rt.alloc(), b"0.r..").expect(&rt, "memory ran out");
-    let mut state = run(rt.alloc(), &normal, 1, &events).expect(&rt, "each is enabled");
-    let refused = step(rt.alloc(), &mut state, &normal, &access(0));
+/// A caller that has its reply makes no access.
+fn expect_refusal(rt: &(impl Abort + AllocGlobal), normal: &Normal, state: &mut SourceState)
+    requires runs { IsOfSourceRun normal.now state.old }
+    requires callers { length state.old.callers ≡ 1 }
+{
+    let refused = step(rt.alloc(), state, normal, &access(0));
     assert!(rt; refused == Err(StepError::NotEnabled));
     assert!(rt; digits(state.replies(0)) == 5);
+}
+
+fn state_of(rt: &(impl Abort + AllocGlobal), normal: &Normal, bytes: &[u8]) -> SourceState
+    ensures runs { IsOfSourceRun normal.now result }
+    ensures callers { length result.callers ≡ 1 }
+{
+    let events = spelled(rt.alloc(), bytes).expect(rt, "memory ran out");
+    run(rt.alloc(), normal, 1, &events).expect(rt, "each is enabled")
+}
+
+fn expect_none_further(rt: &(impl Abort + AllocGlobal), normal: &Normal) {
+    let mut state = state_of(rt, normal, b"0.r..");
+    expect_refusal(rt, normal, &mut state);
+}
+
+#[test]
+fn a_further_access_is_refused(rt: HostRuntime) {
+    expect_none_further(&rt, &normal_of(&rt, COUNTER));
 }
 
 #[test]

@@ -5,6 +5,7 @@ pub mod Local
 pub mod Shipped
 pub mod Spelling
 pub mod Words
+pub mod SpelledLine
 pub mod Faults
 pub mod LineWords
 pub mod Declarations

@@ -3,6 +3,7 @@
 
 pub mod duplicate;
 mod forks;
+mod line;
 pub mod list;
 pub mod local;
 pub mod registers;

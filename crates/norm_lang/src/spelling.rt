@@ -3,9 +3,11 @@
 ghost use Rattle.std.specs.Prelude.{◌≡◌, [], ◌∷◌, ◌++◌, OnOk, OnErr, IfOk, map, codes, decimal};
 ghost use Rattle.std.specs.List.{flat_map};
 ghost use Rattle.norm_lang.specs.Spelling.{spaced, line_bytes, kind_word, retire_words, field_name, root_name, spelled_field, spelled_nodes, spelled_node, spelled_root, spelled_cas, spelled_entry, entries_of, spelled_instr, instr_lines, code_lines, spelled_op, op_lines, declaration_lines, spelling_of, start_word};
+ghost use Rattle.norm_lang.specs.SpelledLine.{present, words_of};
 ghost use Rattle.norm_lang.specs.Words.{word_bytes};
 ghost use Rattle.norm_lang.specs.declared.text.Instr.TheVariants.{LoadPick};
 
+use crate::line::{Line, none, one, three, two};
 use crate::list::Listed;
 use crate::text::{
     ByteText, CasEntry, FieldDecl, FieldKind, Instr, NodeDecl, Op, Place, Reg, RootDecl, Start,
@@ -95,19 +97,31 @@ fn put_retire(alloc: Global, out: &mut Vec<u8>, retire: Option<Reg>) -> Result<(
     }
 }
 
-// The line of an exchange: it ends with what is retired, if anything is.
-#[tactic(auto, using(crate::proofs::SpelledLines::put_in_steps))]
-fn put_exchange(
-    alloc: Global,
-    out: &mut Vec<u8>,
-    first: &[u8],
-    words: &[Word],
-    retire: Option<Reg>,
-) -> Result<(), AllocError>
-    ensures { OnOk result (out.new.items ≡ out.old.items ++ line_bytes (first.now ∷ (map word_bytes words.now ++ retire_words retire))) }
+// Each word that is there after a space.
+fn put_present(alloc: Global, out: &mut Vec<u8>, words: &[Option<Word>]) -> Result<(), AllocError>
+    ensures { OnOk result (out.new.items ≡ out.old.items ++ spaced (present words.now)) }
 {
+    for word in words {
+        if let Some(word) = word {
+            out.push(b' ')?;
+            put_word(alloc, out, word)?;
+        }
+    }
+    Ok(())
+}
+
+// The line ends with what is retired, if anything is.
+#[tactic(auto, using(crate::proofs::SpelledLines::put_in_steps))]
+fn put_whole(alloc: Global, out: &mut Vec<u8>, line: Line) -> Result<(), AllocError>
+    ensures { OnOk result (out.new.items ≡ out.old.items ++ line_bytes (words_of line.entry)) }
+{
+    let Line {
+        first,
+        words,
+        retire,
+    } = line;
     out.extend_from_slice(first)?;
-    put_words(alloc, out, words)?;
+    put_present(alloc, out, &words)?;
     put_retire(alloc, out, retire)?;
     out.push(b'\n')?;
     Ok(())
@@ -223,216 +237,104 @@ fn put_roots(alloc: Global, out: &mut Vec<u8>, roots: &[RootDecl]) -> Result<(),
     Ok(())
 }
 
-fn put_cas(
-    alloc: Global,
-    out: &mut Vec<u8>,
-    fields: &[FieldDecl],
-    roots: &[RootDecl],
-    entry: &CasEntry,
+fn cas_line<'a>(
+    fields: &'a [FieldDecl],
+    roots: &'a [RootDecl],
+    entry: &'a CasEntry,
     l: u16,
-) -> Result<(), AllocError>
-    ensures { OnOk result (out.new.items ≡ out.old.items ++ line_bytes (spelled_cas fields.now roots.now entry.now l)) }
+) -> Line<'a>
+    ensures { words_of result ≡ spelled_cas fields.now roots.now entry.now l }
 {
     let (expected, replacement) = (entry.expected, entry.replacement);
-    match entry.place {
-        Place::Root(x) => put_exchange(
-            alloc,
-            out,
-            b"casroot",
-            &[
-                Word::Bytes(name_of_root(roots, x)),
-                Word::Register(expected),
-                Word::Register(replacement),
-                Word::Number(l as u64),
-            ],
-            entry.retire,
-        ),
-        Place::Field(a, f) => put_exchange(
-            alloc,
-            out,
-            b"cas",
-            &[
-                Word::Register(a),
-                Word::Bytes(name_of_field(fields, f)),
-                Word::Register(expected),
-                Word::Register(replacement),
-                Word::Number(l as u64),
-            ],
-            entry.retire,
-        ),
+    let (first, place, field): (&[u8], Word, Option<Word>) = match entry.place {
+        Place::Root(x) => (b"casroot", Bytes(name_of_root(roots, x)), None),
+        Place::Field(a, f) => (b"cas", Register(a), Some(Bytes(name_of_field(fields, f)))),
+    };
+    Line {
+        first,
+        words: [
+            Some(place),
+            field,
+            Some(Register(expected)),
+            Some(Register(replacement)),
+            Some(Number(l as u64)),
+        ],
+        retire: entry.retire,
     }
 }
 
-fn put_entry(
-    alloc: Global,
-    out: &mut Vec<u8>,
-    fields: &[FieldDecl],
-    roots: &[RootDecl],
-    entry: &CasEntry,
-) -> Result<(), AllocError>
-    ensures { OnOk result (out.new.items ≡ out.old.items ++ line_bytes (spelled_entry fields.now roots.now entry.now)) }
+fn entry_line<'a>(fields: &'a [FieldDecl], roots: &'a [RootDecl], entry: &'a CasEntry) -> Line<'a>
+    ensures { words_of result ≡ spelled_entry fields.now roots.now entry.now }
 {
-    match entry.place {
-        Place::Root(x) => put_exchange(
-            alloc,
-            out,
-            b"withroot",
-            &[
-                Word::Bytes(name_of_root(roots, x)),
-                Word::Register(entry.expected),
-                Word::Register(entry.replacement),
-            ],
-            entry.retire,
-        ),
-        Place::Field(a, f) => put_exchange(
-            alloc,
-            out,
-            b"with",
-            &[
-                Word::Register(a),
-                Word::Bytes(name_of_field(fields, f)),
-                Word::Register(entry.expected),
-                Word::Register(entry.replacement),
-            ],
-            entry.retire,
-        ),
+    let (first, place, field): (&[u8], Word, Option<Word>) = match entry.place {
+        Place::Root(x) => (b"withroot", Bytes(name_of_root(roots, x)), None),
+        Place::Field(a, f) => (b"with", Register(a), Some(Bytes(name_of_field(fields, f)))),
+    };
+    Line {
+        first,
+        words: [
+            Some(place),
+            field,
+            Some(Register(entry.expected)),
+            Some(Register(entry.replacement)),
+            None,
+        ],
+        retire: entry.retire,
     }
 }
 
-// Lines of a first word and one, two or three others: an array in each arm of `put_instr` makes its proof slow.
-fn put_one(alloc: Global, out: &mut Vec<u8>, first: &[u8], a: Word) -> Result<(), AllocError>
-    ensures { OnOk result (out.new.items ≡ out.old.items ++ line_bytes (first.now ∷ word_bytes a.entry ∷ [])) }
-{
-    put_line(alloc, out, first, &[a])
-}
-
-fn put_two(
-    alloc: Global,
-    out: &mut Vec<u8>,
-    first: &[u8],
-    a: Word,
-    b: Word,
-) -> Result<(), AllocError>
-    ensures { OnOk result (out.new.items ≡ out.old.items ++ line_bytes (first.now ∷ word_bytes a.entry ∷ word_bytes b.entry ∷ [])) }
-{
-    put_line(alloc, out, first, &[a, b])
-}
-
-fn put_three(
-    alloc: Global,
-    out: &mut Vec<u8>,
-    first: &[u8],
-    a: Word,
-    b: Word,
-    c: Word,
-) -> Result<(), AllocError>
-    ensures { OnOk result (out.new.items ≡ out.old.items ++ line_bytes (first.now ∷ word_bytes a.entry ∷ word_bytes b.entry ∷ word_bytes c.entry ∷ [])) }
-{
-    put_line(alloc, out, first, &[a, b, c])
-}
-
-fn put_pick(
-    alloc: Global,
-    out: &mut Vec<u8>,
-    roots: &[RootDecl],
+fn pick_line<'a>(
+    roots: &'a [RootDecl],
     destination: Reg,
     first: u16,
     count: u16,
     number: Reg,
-) -> Result<(), AllocError>
-    ensures { OnOk result (out.new.items ≡ out.old.items ++ line_bytes (spelled_instr [] roots.now (LoadPick destination first count number))) }
+) -> Line<'a>
+    ensures { words_of result ≡ spelled_instr [] roots.now (LoadPick destination first count number) }
 {
     let root = Bytes(name_of_root(roots, first));
-    let count = Number(count as u64);
-    let words = [Register(destination), root, count, Register(number)];
-    put_line(alloc, out, b"pick", &words)
+    let (destination, number) = (Some(Register(destination)), Some(Register(number)));
+    let count = Some(Number(count as u64));
+    Line {
+        first: b"pick",
+        words: [destination, Some(root), count, number, None],
+        retire: None,
+    }
 }
 
 // An instruction, but for a commit's entries.
-fn put_instr(
-    alloc: Global,
-    out: &mut Vec<u8>,
-    fields: &[FieldDecl],
-    roots: &[RootDecl],
-    instr: &Instr,
-) -> Result<(), AllocError>
-    ensures { OnOk result (out.new.items ≡ out.old.items ++ line_bytes (spelled_instr fields.now roots.now instr.now)) }
+fn instr_line<'a>(fields: &'a [FieldDecl], roots: &'a [RootDecl], instr: &'a Instr) -> Line<'a>
+    ensures { words_of result ≡ spelled_instr fields.now roots.now instr.now }
 {
     match instr {
-        Instr::Set(d, n) => put_two(alloc, out, b"set", Register(*d), Number(*n)),
-        Instr::Mov(d, a) => put_two(alloc, out, b"mov", Register(*d), Register(*a)),
-        Instr::Add(d, a, b) => put_three(
-            alloc,
-            out,
-            b"add",
-            Register(*d),
-            Register(*a),
-            Register(*b),
-        ),
-        Instr::Sub(d, a, b) => put_three(
-            alloc,
-            out,
-            b"sub",
-            Register(*d),
-            Register(*a),
-            Register(*b),
-        ),
-        Instr::Rem(d, a, n) => put_three(
-            alloc,
-            out,
-            b"rem",
-            Register(*d),
-            Register(*a),
-            Number(*n),
-        ),
-        Instr::Mark(d, a) => put_two(alloc, out, b"mark", Register(*d), Register(*a)),
-        Instr::Unmark(d, a) => put_two(alloc, out, b"unmark", Register(*d), Register(*a)),
-        Instr::Null(d) => put_one(alloc, out, b"null", Register(*d)),
-        Instr::LoadRoot(d, x) => {
-            let root = Bytes(name_of_root(roots, *x));
-            put_two(alloc, out, b"root", Register(*d), root)
-        }
-        Instr::LoadPick(d, x, n, a) => put_pick(alloc, out, roots, *d, *x, *n, *a),
+        Instr::Set(d, n) => two(b"set", Register(*d), Number(*n)),
+        Instr::Mov(d, a) => two(b"mov", Register(*d), Register(*a)),
+        Instr::Add(d, a, b) => three(b"add", Register(*d), Register(*a), Register(*b)),
+        Instr::Sub(d, a, b) => three(b"sub", Register(*d), Register(*a), Register(*b)),
+        Instr::Rem(d, a, n) => three(b"rem", Register(*d), Register(*a), Number(*n)),
+        Instr::Mark(d, a) => two(b"mark", Register(*d), Register(*a)),
+        Instr::Unmark(d, a) => two(b"unmark", Register(*d), Register(*a)),
+        Instr::Null(d) => one(b"null", Register(*d)),
+        Instr::LoadRoot(d, x) => two(b"root", Register(*d), Bytes(name_of_root(roots, *x))),
+        Instr::LoadPick(d, x, n, a) => pick_line(roots, *d, *x, *n, *a),
         Instr::LoadField(d, a, f) => {
             let field = Bytes(name_of_field(fields, *f));
-            put_three(alloc, out, b"load", Register(*d), Register(*a), field)
+            three(b"load", Register(*d), Register(*a), field)
         }
-        Instr::New(d) => put_one(alloc, out, b"new", Register(*d)),
+        Instr::New(d) => one(b"new", Register(*d)),
         Instr::Put(a, f, b) => {
             let field = Bytes(name_of_field(fields, *f));
-            put_three(alloc, out, b"put", Register(*a), field, Register(*b))
+            three(b"put", Register(*a), field, Register(*b))
         }
-        Instr::Cas(entry, l) => put_cas(alloc, out, fields, roots, entry, *l),
-        Instr::Jump(l) => put_one(alloc, out, b"jump", Number(*l as u64)),
-        Instr::IfEq(a, b, l) => {
-            put_three(
-                alloc,
-                out,
-                b"ifeq",
-                Register(*a),
-                Register(*b),
-                Number(*l as u64),
-            )
-        }
-        Instr::IfLess(a, b, l) => {
-            put_three(
-                alloc,
-                out,
-                b"ifless",
-                Register(*a),
-                Register(*b),
-                Number(*l as u64),
-            )
-        }
-        Instr::IfMarked(a, l) => {
-            put_two(alloc, out, b"ifmarked", Register(*a), Number(*l as u64))
-        }
-        Instr::Commit(entries) => {
-            put_one(alloc, out, b"commit", Number(entries.items().len() as u64))
-        }
-        Instr::Return(a) => put_one(alloc, out, b"return", Register(*a)),
-        Instr::ReturnNone => put_line(alloc, out, b"returnnone", &[]),
-        Instr::Again => put_line(alloc, out, b"again", &[]),
+        Instr::Cas(entry, l) => cas_line(fields, roots, entry, *l),
+        Instr::Jump(l) => one(b"jump", Number(*l as u64)),
+        Instr::IfEq(a, b, l) => three(b"ifeq", Register(*a), Register(*b), Number(*l as u64)),
+        Instr::IfLess(a, b, l) => three(b"ifless", Register(*a), Register(*b), Number(*l as u64)),
+        Instr::IfMarked(a, l) => two(b"ifmarked", Register(*a), Number(*l as u64)),
+        Instr::Commit(entries) => one(b"commit", Number(entries.items().len() as u64)),
+        Instr::Return(a) => one(b"return", Register(*a)),
+        Instr::ReturnNone => none(b"returnnone"),
+        Instr::Again => none(b"again"),
     }
 }
 
@@ -446,7 +348,7 @@ fn put_entries(
     ensures { OnOk result (out.new.items ≡ out.old.items ++ flat_map line_bytes (map (spelled_entry fields.now roots.now) entries.now)) }
 {
     for entry in entries {
-        put_entry(alloc, out, fields, roots, entry)?;
+        put_whole(alloc, out, entry_line(fields, roots, entry))?;
     }
     Ok(())
 }
@@ -470,7 +372,7 @@ fn instr_lines_of(
     ensures { IfOk result (λ lines. lines.items ≡ flat_map line_bytes (instr_lines fields.now roots.now instr.now)) }
 {
     let mut lines = Vec::new(alloc);
-    put_instr(alloc, &mut lines, fields, roots, instr)?;
+    put_whole(alloc, &mut lines, instr_line(fields, roots, instr))?;
     put_entries(alloc, &mut lines, fields, roots, entries_in(instr))?;
     Ok(lines)
 }

@@ -40,18 +40,30 @@ fn text_outcome(alloc: Global, document: Document, verifies: bool) -> &'static [
     }
 }
 
-/// What becomes of a text in normal form.
-fn target_outcome(alloc: Global, normal: &Normal, verifies: bool) -> &'static [u8] {
+fn compile_outcome(alloc: Global, normal: &Normal) -> &'static [u8] {
+    match compile(alloc, normal) {
+        Ok(_) => b"compiled\n",
+        Err(_) => MEMORY,
+    }
+}
+
+fn verify_outcome(alloc: Global, normal: &Normal) -> &'static [u8] {
     let Ok(target) = compile(alloc, normal) else {
         return MEMORY;
     };
-    if !verifies {
-        return b"compiled\n";
-    }
     match verify(alloc, target, normal) {
         Ok(_) => b"barred\n",
         Err(VerifyError::Flawed(_)) => b"not barred\n",
         Err(VerifyError::Memory) => MEMORY,
+    }
+}
+
+/// What becomes of a text in normal form.
+fn target_outcome(alloc: Global, normal: &Normal, verifies: bool) -> &'static [u8] {
+    if verifies {
+        verify_outcome(alloc, normal)
+    } else {
+        compile_outcome(alloc, normal)
     }
 }
 

@@ -3,13 +3,13 @@
 ghost use Rattle.std.specs.Prelude.{◌≡◌, ◌≤◌, suc, length, Ok};
 ghost use Rattle.norm_lang.specs.Grammar.{has_room, with_step, in_start, in_opening, in_fields, in_nodes, in_roots, in_begun, in_method, in_generator, next_op, in_wrap_up, in_section, in_place};
 ghost use Rattle.line_words.specs.Answered.{Gives};
-ghost use Rattle.instruction_lines.specs.Steps.{step_shown};
+ghost use Rattle.method_lines.specs.Steps.{step_shown};
 ghost use Rattle.text_drafts.specs.DraftShown.{draft_shown};
 
 use crate::draft::{Draft, Section};
-use instruction_lines::{Step, read_entry, read_step};
 use line_words::fault::{Fault, Stop};
 use line_words::words::Words;
+use method_lines::{Step, read_entry, read_step};
 use norm_lang::text::Instr;
 use std::alloc::Global;
 
