@@ -1,10 +1,10 @@
 -- What is read and judged, and that each fault is told.
-use Rattle.std.specs.Prelude.{◌≡◌, ℕ, ◌<◌, List, ◌⊎◌, length, Option, Some, None, Err, IsTrue, Bool, true, false}
+use Rattle.std.specs.Prelude.{◌≡◌, ℕ, ◌<◌, List, ◌⊎◌, length, Option, Some, None, Result, Ok, Err, IsTrue, Bool, true, false}
 use Rattle.std.specs.Io.KnownBytes.{Consumes, IsAtEnd}
 use Rattle.oa_text.specs.Causes.{Rose}
-use Rattle.norm_lang.specs.declared.text.Text.{Text}
 use Rattle.norm_lang.specs.NormalForm.{IsNormal}
 use Rattle.norm_lang.specs.Spelling.{spelling_of}
+use Rattle.norm_check.specs.declared.refusal.Refusal.{Refusal}
 use Rattle.norm_check.specs.Refusals.{IsRefused}
 use Rattle.target_code.specs.TargetSpelling.{target_spelling}
 use Rattle.target_code.specs.Barred.{IsBarred}
@@ -80,6 +80,11 @@ IsOfDocument command document (verdicts.BadShape number at) = IsShapeRefused com
 IsOfDocument command document verdicts.Memory = Unit {0}
 IsOfDocument command document _ = ⊥
 
+-- what a command finds of a document that it reads: a verdict, or the first rule that its text breaks
+abbrev pub IsFound : Command → Document → Result Verdict Refusal → Type 0
+IsFound command document (Ok verdict) = IsOfDocument command document verdict
+IsFound command document (Err refusal) = IsTrue (takes_rules command) × IsRefused document.text refusal
+
 -- the bytes are a document, and this is what the command makes of it
 abbrev pub IsOfRead : Command → List ℕ → Verdict → Type 0
 IsOfRead command bytes verdict = (document : Document) × IsDocument bytes document × IsOfDocument command document verdict
@@ -90,11 +95,11 @@ IsOfBytes command bytes (verdicts.BadDocument fault) = document_read bytes ≡ E
 IsOfBytes command bytes verdicts.Memory = Unit {0}
 IsOfBytes command bytes verdict = IsOfRead command bytes verdict
 
--- why a document with this text can't be run, as it is told
-abbrev pub fault_verdict : Text → RunFault → Verdict
-fault_verdict text faults.Memory = verdicts.Memory
-fault_verdict text (faults.Refused refusal) = verdicts.Refused text refusal
-fault_verdict text (faults.Shape number at) = verdicts.BadShape number at
+-- why a document can't be run, as it is found
+abbrev pub fault_verdict : RunFault → Result Verdict Refusal
+fault_verdict faults.Memory = Ok verdicts.Memory
+fault_verdict (faults.Refused refusal) = Err refusal
+fault_verdict (faults.Shape number at) = Ok (verdicts.BadShape number at)
 
 -- the verdict of a command on all bytes that the source had; no read failed
 abbrev pub IsOfInput : Command → Option (List ℕ) → Option (List ℕ) → ℕ → ℕ → Verdict → Type 0

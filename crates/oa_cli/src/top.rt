@@ -9,7 +9,7 @@ ghost use Rattle.documents.specs.DocumentLimits.{IsWithinDocumentLimits};
 ghost use Rattle.verdicts.specs.declared.verdict.Verdict.{Verdict};
 ghost use Rattle.command_input.specs.Commands.{request_of};
 ghost use Rattle.oa_cli.specs.Complete.{IsComplete};
-ghost use Rattle.oa_cli.specs.Verdicts.{IsOfDocument, IsOfBytes, IsOfSource, IsOfWorkload, IsJudged, FaultsAreTold, fault_verdict};
+ghost use Rattle.oa_cli.specs.Verdicts.{IsOfDocument, IsFound, IsOfBytes, IsOfSource, IsOfWorkload, IsJudged, FaultsAreTold, fault_verdict};
 ghost use Rattle.verdicts.specs.Telling.{IsSaid, text_for, status_for};
 
 use crate::rules::judge_text;
@@ -18,9 +18,9 @@ use command_input::input::{InputError, read_input};
 use command_input::{Command, Request, request_of};
 use documents::{Document, read_document};
 use line_words::fault::ParseError;
-use norm_check::{CheckError, Normal};
+use norm_check::{CheckError, Normal, Refusal};
 use norm_lang::show;
-use norm_lang::text::{ByteText, Text};
+use norm_lang::text::ByteText;
 use oa_text::{Gate, Sink, Source};
 use report_laws::laws::reports_are_true;
 use script_driver::{replay_document, run_document};
@@ -46,19 +46,36 @@ fn judge_document<R: Threads + Sync, G: Gate + Sync>(
     requires { IsWithinDocumentLimits document }
     ensures { IsOfDocument command document result }
 {
+    match find_verdict(rt, alloc, command, &document, gate) {
+        Ok(verdict) => verdict,
+        Err(refusal) => Verdict::Refused(document.text, refusal),
+    }
+}
+
+/// The verdict of a command on a document, or the first rule that its text breaks.
+fn find_verdict<R: Threads + Sync, G: Gate + Sync>(
+    rt: &R,
+    alloc: Global,
+    command: Command,
+    document: &Document,
+    gate: &G,
+) -> Result<Verdict, Refusal>
+    requires { IsWithinDocumentLimits document.now }
+    ensures { IsFound command document.now result }
+{
     match command {
         Command::Run => run_verdict(rt, alloc, document, gate),
         Command::Replay => replay_verdict(alloc, document),
         Command::Check => check_verdict(alloc, document),
-        Command::Show => show_verdict(alloc, document),
+        Command::Show => Ok(show_verdict(alloc, document)),
         Command::Compile => compile_verdict(alloc, document),
     }
 }
 
 /// Writes out the text of a document.
-fn show_verdict(alloc: Global, document: Document) -> Verdict
-    requires { IsWithinDocumentLimits document }
-    ensures { IsOfDocument Command.Show document result }
+fn show_verdict(alloc: Global, document: &Document) -> Verdict
+    requires { IsWithinDocumentLimits document.now }
+    ensures { IsOfDocument Command.Show document.now result }
 {
     match show(alloc, &document.text) {
         Ok(spelling) => Verdict::Shown(spelling),
@@ -67,29 +84,29 @@ fn show_verdict(alloc: Global, document: Document) -> Verdict
 }
 
 /// Judges the text of a document by the rules.
-fn check_verdict(alloc: Global, document: Document) -> Verdict
-    requires { IsWithinDocumentLimits document }
-    ensures { IsOfDocument Command.Check document result }
+fn check_verdict(alloc: Global, document: &Document) -> Result<Verdict, Refusal>
+    requires { IsWithinDocumentLimits document.now }
+    ensures { IsFound Command.Check document.now result }
 {
     match judge_text(alloc, &document.text) {
-        Ok(_) => Verdict::Accepted,
-        Err(CheckError::Refused(refusal)) => Verdict::Refused(document.text, refusal),
-        Err(CheckError::Memory) => Verdict::Memory,
+        Ok(_) => Ok(Verdict::Accepted),
+        Err(CheckError::Refused(refusal)) => Err(refusal),
+        Err(CheckError::Memory) => Ok(Verdict::Memory),
     }
 }
 
 /// Compiles the text of a document, if the rules accept it.
-fn compile_verdict(alloc: Global, document: Document) -> Verdict
-    requires { IsWithinDocumentLimits document }
-    ensures { IsOfDocument Command.Compile document result }
+fn compile_verdict(alloc: Global, document: &Document) -> Result<Verdict, Refusal>
+    requires { IsWithinDocumentLimits document.now }
+    ensures { IsFound Command.Compile document.now result }
 {
     match judge_text(alloc, &document.text) {
         Ok(normal) => match compiled(alloc, &normal) {
-            Ok(spelling) => Verdict::Compiled(spelling),
-            Err(_) => Verdict::Memory,
+            Ok(spelling) => Ok(Verdict::Compiled(spelling)),
+            Err(_) => Ok(Verdict::Memory),
         },
-        Err(CheckError::Refused(refusal)) => Verdict::Refused(document.text, refusal),
-        Err(CheckError::Memory) => Verdict::Memory,
+        Err(CheckError::Refused(refusal)) => Err(refusal),
+        Err(CheckError::Memory) => Ok(Verdict::Memory),
     }
 }
 
@@ -102,14 +119,14 @@ fn compiled(alloc: Global, normal: &Normal) -> Result<ByteText, AllocError>
     show_target(alloc, &target)
 }
 
-/// Why a document with this text can't be run.
-fn fault_verdict(text: Text, fault: RunFault) -> Verdict
-    ensures { result ≡ fault_verdict text fault }
+/// Why a document can't be run.
+fn fault_verdict(fault: RunFault) -> Result<Verdict, Refusal>
+    ensures { result ≡ fault_verdict fault }
 {
     match fault {
-        RunFault::Memory => Verdict::Memory,
-        RunFault::Refused(refusal) => Verdict::Refused(text, refusal),
-        RunFault::Shape { number, at } => Verdict::BadShape { number, at },
+        RunFault::Memory => Ok(Verdict::Memory),
+        RunFault::Refused(refusal) => Err(refusal),
+        RunFault::Shape { number, at } => Ok(Verdict::BadShape { number, at }),
     }
 }
 
@@ -117,32 +134,32 @@ fn fault_verdict(text: Text, fault: RunFault) -> Verdict
 fn run_verdict<R: Threads + Sync, G: Gate + Sync>(
     rt: &R,
     alloc: Global,
-    document: Document,
+    document: &Document,
     gate: &G,
-) -> Verdict
-    requires { IsWithinDocumentLimits document }
-    ensures { IsOfDocument Command.Run document result }
+) -> Result<Verdict, Refusal>
+    requires { IsWithinDocumentLimits document.now }
+    ensures { IsFound Command.Run document.now result }
 {
-    match run_document(rt, alloc, &document, gate) {
+    match run_document(rt, alloc, document, gate) {
         Ok(report) => {
             reports_are_true();
-            Verdict::Answered(report)
+            Ok(Verdict::Answered(report))
         }
-        Err(fault) => fault_verdict(document.text, fault),
+        Err(fault) => fault_verdict(fault),
     }
 }
 
 /// Makes the calls of a document under its schedule.
-fn replay_verdict(alloc: Global, document: Document) -> Verdict
-    requires { IsWithinDocumentLimits document }
-    ensures { IsOfDocument Command.Replay document result }
+fn replay_verdict(alloc: Global, document: &Document) -> Result<Verdict, Refusal>
+    requires { IsWithinDocumentLimits document.now }
+    ensures { IsFound Command.Replay document.now result }
 {
-    match replay_document(alloc, &document) {
+    match replay_document(alloc, document) {
         Ok(report) => {
             reports_are_true();
-            Verdict::Answered(report)
+            Ok(Verdict::Answered(report))
         }
-        Err(fault) => fault_verdict(document.text, fault),
+        Err(fault) => fault_verdict(fault),
     }
 }
 

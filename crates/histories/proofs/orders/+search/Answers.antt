@@ -1,4 +1,5 @@
 use Rattle.std.proofs.Common.{rules, arith, ◌≡◌, ◌<◌, ◌≤◌, true, false, length, refl}
+use Rattle.std.proofs.lemmas.Grind.{common_steps}
 use Rattle.histories.proofs.Beginnings.{begins_one, none_begins, none_more, some_left}
 use Rattle.histories.proofs.orders.+search.Goals as goal
 
@@ -19,3 +20,9 @@ has_legal_order-returns t c =
     let some : 0 < length c.args.left.now = some_left (length c.args.left.now) c.is_empty.result c.is_empty.ensures not_empty in
     let all : length c.args.left.now ≤ c.loop-at.at = omega arith in
     (λ yes. grind arith, λ order. absurd (none_begins c.args.shared.now c.args.left.now c.loop-at.at some all c.loop-at.invariant order))
+
+pub has_legal_order-loop-at-init : goal.has_legal_order-loop-at-init
+has_legal_order-loop-at-init t c = search rules
+
+pub begins_at-returns : goal.begins_at-returns
+begins_at-returns t c = grind (arith, common_steps)

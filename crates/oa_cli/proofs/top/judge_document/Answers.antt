@@ -1,17 +1,8 @@
 use Rattle.std.proofs.Common.{rules}
 use Rattle.oa_cli.proofs.top.judge_document.Goals as goal
 
-pub returns-in-Run : goal.returns-in-Run
-returns-in-Run g c = search rules
+pub returns-in-Ok : goal.returns-in-Ok
+returns-in-Ok g c = search rules
 
-pub returns-in-Replay : goal.returns-in-Replay
-returns-in-Replay g c = search rules
-
-pub returns-in-Check : goal.returns-in-Check
-returns-in-Check g c = search rules
-
-pub returns-in-Show : goal.returns-in-Show
-returns-in-Show g c = search rules
-
-pub returns-in-Compile : goal.returns-in-Compile
-returns-in-Compile g c = search rules
+pub returns-in-Err : goal.returns-in-Err
+returns-in-Err g c = search rules

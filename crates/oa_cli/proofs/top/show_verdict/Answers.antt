@@ -4,5 +4,5 @@ use Rattle.oa_cli.proofs.top.show_verdict.Goals as goal
 pub returns-in-Ok : goal.returns-in-Ok
 returns-in-Ok c = search rules
 
-pub returns : goal.returns
-returns c = search rules
+pub returns-in-Err : goal.returns-in-Err
+returns-in-Err c = search rules
