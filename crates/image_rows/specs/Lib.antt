@@ -1,2 +1,0 @@
-pub mod ListImages
-pub mod GuardMarks

@@ -1,0 +1,4 @@
+pub mod Images
+pub mod Shadows
+pub mod Tops
+pub mod Names

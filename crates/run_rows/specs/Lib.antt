@@ -1,0 +1,4 @@
+pub mod ListImages
+pub mod GuardMarks
+pub mod ListTops
+pub mod ListNames
