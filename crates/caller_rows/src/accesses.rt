@@ -5,12 +5,13 @@ ghost use Rattle.caller_parts.specs.Settings.{Fits};
 ghost use Rattle.core_entries.specs.Ports.{at_of};
 
 use crate::numbers::numbers;
-use crate::starts::words_of;
+use crate::steps::words_of;
 use barrier_check::Barred;
 use oa_core::{PlainWords, Port, Setting};
 use phase_pools::access::Access;
 use row_spelling::RowError;
 use std::alloc::{AllocError, Global};
+use std::fmt::Write;
 
 fn at_in(access: Access) -> u32
     ensures { result ≡ at_of access }
@@ -24,68 +25,36 @@ fn at_in(access: Access) -> u32
 }
 
 /// What an access to one of so many words answers, through the trait.
-fn answer<P: Port>(port: &mut P, count: u32, access: Access) -> Result<u64, RowError>
+fn answer<P: Port>(port: &mut P, count: u32, access: Access) -> Option<u64>
     requires { length (P.words port.old) ≡ count }
     ensures { length (P.words port.new) ≡ count }
 {
     if at_in(access) < count {
-        Ok(port.access(access))
+        Some(port.access(access))
     } else {
-        Err(RowError::Wrong)
+        None
     }
-}
-
-fn add_word(alloc: Global, out: &mut String, word: u64) -> Result<(), AllocError> {
-    out.push_str(format!(in alloc; " {word}")?.as_str())
-}
-
-/// Tells all words, in the order of their addresses.
-fn add_words(
-    alloc: Global,
-    words: &mut PlainWords,
-    count: u32,
-    out: &mut String,
-) -> Result<(), RowError>
-    requires { length words.old ≡ count }
-    ensures { length words.new ≡ count }
-{
-    for at in 0..count {
-        let word = answer(words, count, Access::Load { at })?;
-        add_word(alloc, out, word)?;
-    }
-    Ok(())
 }
 
 fn access_of(kind: &str, at: u32, words: &[u64]) -> Option<Access> {
-    match words {
-        [] => {
-            if kind == "load" {
-                Some(Access::Load { at })
-            } else {
-                None
-            }
-        }
-        [word] => {
-            if kind == "store" {
-                Some(Access::Store { at, word: *word })
-            } else if kind == "max" {
-                Some(Access::FetchMax { at, word: *word })
-            } else {
-                None
-            }
-        }
-        [expected, replacement] => {
-            if kind == "exchange" {
-                Some(Access::CompareExchange {
-                    at,
-                    expected: *expected,
-                    replacement: *replacement,
-                })
-            } else {
-                None
-            }
-        }
+    match (kind, words) {
+        ("load", []) => Some(Access::Load { at }),
+        ("store", [word]) => Some(Access::Store { at, word: *word }),
+        ("max", [word]) => Some(Access::FetchMax { at, word: *word }),
+        ("exchange", [expected, replacement]) => Some(Access::CompareExchange {
+            at,
+            expected: *expected,
+            replacement: *replacement,
+        }),
         _ => None,
+    }
+}
+
+fn access_at(kind: &str, numbers: &[u64]) -> Option<Access> {
+    let (at, words) = numbers.split_first()?;
+    match u32::try_from(*at) {
+        Ok(at) => access_of(kind, at, words),
+        Err(_) => None,
     }
 }
 
@@ -94,12 +63,24 @@ fn access_in(alloc: Global, text: &str) -> Result<Access, RowError> {
         return Err(RowError::Wrong);
     };
     let numbers = numbers(alloc, rest)?;
-    match numbers.as_slice() {
-        [at, words @ ..] => match u32::try_from(*at) {
-            Ok(at) => access_of(kind, at, words).ok_or(RowError::Wrong),
-            Err(_) => Err(RowError::Wrong),
-        },
-        _ => Err(RowError::Wrong),
+    access_at(kind, &numbers).ok_or(RowError::Wrong)
+}
+
+/// Makes an access, and tells what it finds.
+fn add_answer(
+    alloc: Global,
+    words: &mut PlainWords,
+    count: u32,
+    text: &str,
+    out: &mut String,
+) -> Result<(), RowError>
+    requires { length words.old ≡ count }
+    ensures { length words.new ≡ count }
+{
+    let access = access_in(alloc, text)?;
+    match answer(words, count, access) {
+        Some(word) => Ok(write!(out, " {word}")?),
+        None => Err(RowError::Wrong),
     }
 }
 
@@ -114,11 +95,18 @@ fn add_answers(
     requires { length words.old ≡ count }
 {
     for text in accesses.split(", ") {
-        let access = access_in(alloc, text)?;
-        let word = answer(words, count, access)?;
-        add_word(alloc, out, word)?;
+        add_answer(alloc, words, count, text, out)?;
     }
-    Ok(())
+    Ok(out.push('\n')?)
+}
+
+/// Tells all words, in the order of their addresses.
+fn add_words(out: &mut String, words: &[u64]) -> Result<(), AllocError> {
+    out.push_str("start")?;
+    for word in words {
+        write!(out, " {word}")?;
+    }
+    out.push_str("\nfound")
 }
 
 /// The words of a target at the start, and what accesses to them find.
@@ -132,9 +120,7 @@ pub(crate) fn accesses(
     requires { Fits barred.now.target setting.now }
 {
     let mut words = words_of(alloc, barred, setting)?;
+    add_words(out, words.words())?;
     let count = setting.shape().word_count();
-    out.push_str("start")?;
-    add_words(alloc, &mut words, count, out)?;
-    out.push_str("\nfound")?;
     add_answers(alloc, &mut words, count, accesses, out)
 }

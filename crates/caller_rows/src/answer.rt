@@ -3,10 +3,10 @@
 ghost use Rattle.word_runner.specs.Shown.{CameFrom};
 
 use crate::accesses::accesses;
-use crate::budgets::{all_rest, close};
+use crate::budgets::budgets;
 use crate::callers::callers;
 use crate::entries::{entry_row, setting_row};
-use crate::hall::{Hall, open};
+use crate::hall::{Hall, open, planned};
 use crate::numbers::{number, numbers};
 use crate::places::places;
 use crate::sharing::sharing;
@@ -17,161 +17,102 @@ use std::alloc::Global;
 use std::thread::Threads;
 use word_runner::Blank;
 
-/// What a row says of a setting, and for how many replies its callers have room.
-#[derive(Clone, Copy)]
-struct Terms {
-    callers: u64,
-    slots: u64,
-    phases: (u64, u64),
-    room: u64,
-}
-
-fn terms_of(numbers: &[u64]) -> Option<Terms> {
+/// For how many replies a row's callers have room: what comes after the numbers of the setting.
+fn room_in(numbers: &[u64]) -> Option<u32> {
     match numbers {
-        [callers, slots, first, last] => Some(Terms {
-            callers: *callers,
-            slots: *slots,
-            phases: (*first, *last),
-            room: 0,
-        }),
-        [callers, slots, first, last, room] => Some(Terms {
-            callers: *callers,
-            slots: *slots,
-            phases: (*first, *last),
-            room: *room,
-        }),
-        _ => None,
+        [_, _, _, _, room] => u32::try_from(*room).ok(),
+        _ => Some(0),
     }
 }
 
-fn terms_in(alloc: Global, head: &str) -> Result<Terms, RowError> {
-    let numbers = numbers(alloc, head)?;
-    terms_of(&numbers).ok_or(RowError::Wrong)
+/// What a row says before its text or document.
+#[derive(Clone, Copy)]
+struct Row<'a> {
+    kind: &'a str,
+    head: &'a str,
+    rest: &'a str,
 }
 
 /// Accesses to the words of a target, or what its callers do.
 fn on_target(
     alloc: Global,
-    kind: &str,
+    row: Row<'_>,
     barred: &Barred,
-    terms: Terms,
-    rest: &str,
     out: &mut String,
 ) -> Result<(), RowError> {
-    let setting = setting_for(barred, terms.callers, terms.slots, terms.phases)?;
-    if kind == "words" {
-        return accesses(alloc, barred, &setting, rest, out);
+    let numbers = numbers(alloc, row.head)?;
+    let setting = setting_for(barred, &numbers)?;
+    if row.kind == "words" {
+        return accesses(alloc, barred, &setting, row.rest, out);
     }
-    match u32::try_from(terms.room) {
-        Ok(room) => callers(alloc, barred, &setting, room, rest, out),
-        Err(_) => Err(RowError::Wrong),
-    }
-}
-
-/// The rows of a target.
-fn barred_row(
-    alloc: Global,
-    kind: &str,
-    barred: &Barred,
-    head: &str,
-    rest: &str,
-    out: &mut String,
-) -> Result<(), RowError> {
-    let terms = terms_in(alloc, head)?;
-    on_target(alloc, kind, barred, terms, rest, out)
-}
-
-/// The rows of a text's target.
-fn target_row(
-    alloc: Global,
-    kind: &str,
-    bytes: &[u8],
-    head: &str,
-    rest: &str,
-    out: &mut String,
-) -> Result<(), RowError> {
-    let barred = read(alloc, bytes)?;
-    barred_row(alloc, kind, &barred, head, rest, out)
-}
-
-/// Blanks of a hall enter until they find no place.
-fn places_row(
-    alloc: Global,
-    hall: Hall,
-    blank: Blank,
-    rest: &str,
-    out: &mut String,
-) -> Result<(), RowError>
-    requires { CameFrom hall.arena blank.table blank.fixed }
-{
-    places(alloc, &hall, blank, number(rest).unwrap_or(0), out)
-}
-
-/// What the callers of a hall do, and how they stand at the end.
-fn moves_row(
-    alloc: Global,
-    kind: &str,
-    hall: Hall,
-    blank: Blank,
-    rest: &str,
-    out: &mut String,
-) -> Result<(), RowError>
-    requires { CameFrom hall.arena blank.table blank.fixed }
-{
-    match all_rest(alloc, &hall, blank, kind, rest, out) {
-        Ok(rest) => close(alloc, hall, rest, out),
-        Err(error) => Err(error),
-    }
-}
-
-/// The row of the callers of a document, each with room for so many replies.
-fn runner_row(
-    alloc: Global,
-    kind: &str,
-    bytes: &[u8],
-    head: &str,
-    rest: &str,
-    out: &mut String,
-) -> Result<(), RowError> {
-    let Ok(room) = u32::try_from(number(head).unwrap_or(0)) else {
-        return Err(RowError::Wrong);
-    };
-    match open(alloc, bytes, room) {
-        Some((hall, blank)) => {
-            if kind == "places" {
-                places_row(alloc, hall, blank, rest, out)
-            } else {
-                moves_row(alloc, kind, hall, blank, rest, out)
-            }
-        }
+    match room_in(&numbers) {
+        Some(room) => callers(alloc, barred, &setting, room, row.rest, out),
         None => Err(RowError::Wrong),
     }
 }
 
-/// A row on a text or a document.
-fn bytes_row<R: Threads + Sync>(
-    rt: &R,
+/// The rows of a text's target.
+fn target_row(alloc: Global, row: Row<'_>, bytes: &[u8], out: &mut String) -> Result<(), RowError> {
+    let barred = read(alloc, bytes)?;
+    let answered = on_target(alloc, row, &barred, out);
+    drop(barred);
+    answered
+}
+
+/// What the blanks or the callers of a hall do.
+fn in_hall(
     alloc: Global,
-    kind: &str,
-    bytes: &[u8],
-    row: &str,
+    row: Row<'_>,
+    hall: Hall,
+    blank: Blank,
     out: &mut String,
-) -> Result<(), RowError> {
-    if kind == "sharing" {
-        return sharing(rt, alloc, bytes, out);
-    }
-    let Some((head, rest)) = row.split_once(", ") else {
-        return Err(RowError::Wrong);
-    };
-    if kind == "words" || kind == "callers" {
-        target_row(alloc, kind, bytes, head, rest, out)
+) -> Result<(), RowError>
+    requires { CameFrom hall blank.table blank.fixed }
+{
+    if row.kind == "places" {
+        let count = number(row.rest).unwrap_or(0);
+        let answered = places(alloc, &hall, blank, count, out);
+        drop(hall);
+        answered
     } else {
-        runner_row(alloc, kind, bytes, head, rest, out)
+        budgets(alloc, hall, blank, row.kind, row.rest, out)
     }
 }
 
-/// Adds the lines that answer a row on a text or a document.
-fn add_answer<R: Threads + Sync>(
+/// The row of the callers of a document, each with room for so many replies.
+fn hall_row(alloc: Global, row: Row<'_>, bytes: &[u8], out: &mut String) -> Result<(), RowError> {
+    let Ok(room) = u32::try_from(number(row.head).unwrap_or(0)) else {
+        return Err(RowError::Wrong);
+    };
+    let Some(plan) = planned(alloc, bytes) else {
+        return Err(RowError::Wrong);
+    };
+    match open(alloc, plan, room) {
+        Some((hall, blank)) => in_hall(alloc, row, hall, blank, out),
+        None => Err(RowError::Wrong),
+    }
+}
+
+/// A row on a text or a document, and what it says before that.
+fn bytes_row(
+    alloc: Global,
+    kind: &str,
+    words: &str,
+    bytes: &[u8],
+    out: &mut String,
+) -> Result<(), RowError> {
+    let Some((head, rest)) = words.split_once(", ") else {
+        return Err(RowError::Wrong);
+    };
+    let row = Row { kind, head, rest };
+    match kind {
+        "words" | "callers" => target_row(alloc, row, bytes, out),
+        _ => hall_row(alloc, row, bytes, out),
+    }
+}
+
+/// A row whose last part spells a text or a document.
+fn spelled_row<R: Threads + Sync>(
     rt: &R,
     alloc: Global,
     named: &[NamedLines],
@@ -179,30 +120,30 @@ fn add_answer<R: Threads + Sync>(
     row: &str,
     out: &mut String,
 ) -> Result<(), RowError> {
-    let Some((row, spelling)) = row.split_once("< ") else {
+    let Some((words, spelling)) = row.split_once("< ") else {
         return Err(RowError::Wrong);
     };
     let bytes = spelled(alloc, named, spelling)?;
-    bytes_row(rt, alloc, kind, &bytes, row.trim_end(), out)
+    match kind {
+        "sharing" => sharing(rt, alloc, &bytes, out),
+        _ => bytes_row(alloc, kind, words.trim_end(), &bytes, out),
+    }
 }
 
-/// The lines that answer a row.
+/// Writes the lines that answer a row.
 pub(crate) fn answer<R: Threads + Sync>(
     rt: &R,
     alloc: Global,
     named: &[NamedLines],
     line: &str,
-) -> Result<String, RowError> {
+    out: &mut String,
+) -> Result<(), RowError> {
     let Some((kind, row)) = line.split_once(' ') else {
         return Err(RowError::Wrong);
     };
-    if kind == "entry" {
-        return entry_row(alloc, row);
+    match kind {
+        "entry" => entry_row(alloc, row, out),
+        "setting" => setting_row(alloc, row, out),
+        _ => spelled_row(rt, alloc, named, kind, row, out),
     }
-    if kind == "setting" {
-        return setting_row(alloc, row);
-    }
-    let mut out = String::new(alloc);
-    add_answer(rt, alloc, named, kind, row, &mut out)?;
-    Ok(out)
 }

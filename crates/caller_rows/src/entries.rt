@@ -1,114 +1,102 @@
-//! Entries as they are made, settings, and what is told of both.
+//! Rows of entries as they are made, and of settings.
 
 ghost use Rattle.std.specs.Prelude.{◌≡◌};
 ghost use Rattle.caller_steps.specs.Entries.{idle_entry};
 
 use crate::numbers::numbers;
-use crate::told::reply_told;
+use crate::told::add_entry;
 use oa_core::{Entry, Setting};
 use oa_words::shape::Shape;
 use row_spelling::RowError;
 use std::alloc::{AllocError, Global};
+use std::fmt::Write;
 
-/// How an entry stands.
-pub(crate) fn tell_entry(alloc: Global, entry: &Entry) -> Result<String, AllocError> {
-    let state = if entry.is_idle() { "idle" } else { "runs" };
-    Ok(format!(in alloc;
-        "{state}, replies {}, spare {}, claims {}, restarts {}",
-        entry.replies().len(),
-        entry.spare(),
-        entry.claims(),
-        entry.restarts()
-    )?)
-}
-
-/// The replies of an entry.
-pub(crate) fn add_replies(
-    alloc: Global,
-    out: &mut String,
-    entry: &Entry,
-) -> Result<(), AllocError> {
-    out.push_str("replies")?;
-    for reply in entry.replies() {
-        out.push_str(" ")?;
-        out.push_str(reply_told(alloc, *reply)?.as_str())?;
-    }
-    Ok(())
-}
-
-fn add_numbered(alloc: Global, out: &mut String, entry: &Entry) -> Result<(), AllocError> {
-    out.push_str(format!(in alloc; "{}: ", entry.number())?.as_str())?;
-    out.push_str(tell_entry(alloc, entry)?.as_str())
+fn add_numbered(out: &mut String, entry: &Entry) -> Result<(), AllocError> {
+    let number = entry.number();
+    write!(out, "{number}: ")?;
+    add_entry(out, entry)
 }
 
 /// An entry with its number, and with another.
-fn add_both(
-    alloc: Global,
-    out: &mut String,
-    entry: &mut Entry,
-    other: u32,
-) -> Result<(), AllocError>
+fn add_both(out: &mut String, entry: &mut Entry, other: u32) -> Result<(), AllocError>
     requires { entry.old.core ≡ idle_entry entry.old.core.number }
 {
-    add_numbered(alloc, out, entry)?;
+    add_numbered(out, entry)?;
     entry.renumber(other);
-    out.push('\n')?;
-    add_numbered(alloc, out, entry)
+    add_numbered(out, entry)
 }
 
-fn made(alloc: Global, number: u32, room: u32, other: u32) -> Result<String, AllocError> {
+fn add_made(
+    alloc: Global,
+    number: u32,
+    room: u32,
+    other: u32,
+    out: &mut String,
+) -> Result<(), AllocError> {
     let mut entry = Entry::new(alloc, number, room)?;
-    let mut out = String::new(alloc);
-    add_both(alloc, &mut out, &mut entry, other)?;
-    Ok(out)
+    add_both(out, &mut entry, other)
 }
 
-fn small(number: u64) -> Result<u32, RowError> {
-    u32::try_from(number).map_err(|_| RowError::Wrong)
-}
-
-/// The row of an entry: its number, its room, and another number.
-pub(crate) fn entry_row(alloc: Global, row: &str) -> Result<String, RowError> {
-    match numbers(alloc, row)?.as_slice() {
-        [number, room, other] => {
-            Ok(made(alloc, small(*number)?, small(*room)?, small(*other)?)?)
-        }
+fn add_made_of(alloc: Global, numbers: &[u64], out: &mut String) -> Result<(), RowError> {
+    let [number, room, other] = numbers else {
+        return Err(RowError::Wrong);
+    };
+    match (
+        u32::try_from(*number),
+        u32::try_from(*room),
+        u32::try_from(*other),
+    ) {
+        (Ok(number), Ok(room), Ok(other)) => Ok(add_made(alloc, number, room, other, out)?),
         _ => Err(RowError::Wrong),
     }
 }
 
-fn tell_setting(alloc: Global, setting: &Setting) -> Result<String, AllocError> {
-    Ok(format!(in alloc;
-        "callers {}, first {}, last {}, nodes {}",
-        setting.shape().callers(),
-        setting.first_phase(),
-        setting.last_phase(),
-        setting.nodes()
-    )?)
+/// The row of an entry: its number, its room, and another number.
+pub(crate) fn entry_row(alloc: Global, row: &str, out: &mut String) -> Result<(), RowError> {
+    let numbers = numbers(alloc, row)?;
+    add_made_of(alloc, &numbers, out)
 }
 
-fn set(
-    alloc: Global,
+fn add_setting(out: &mut String, setting: &Setting) -> Result<(), AllocError> {
+    let callers = setting.shape().callers();
+    let first = setting.first_phase();
+    let last = setting.last_phase();
+    let nodes = setting.nodes();
+    writeln!(
+        out,
+        "callers {callers}, first {first}, last {last}, nodes {nodes}"
+    )
+}
+
+/// A setting of a shape, phases and initial nodes, or why it is refused.
+fn add_set(
     shape: Shape,
     first: u64,
     last: u64,
     nodes: u32,
-) -> Result<String, AllocError> {
+    out: &mut String,
+) -> Result<(), AllocError> {
     match Setting::new(shape, first, last, nodes) {
-        Ok(setting) => tell_setting(alloc, &setting),
-        Err(fault) => Ok(format!(in alloc; "refused for its {fault:?}")?),
+        Ok(setting) => add_setting(out, &setting),
+        Err(fault) => writeln!(out, "refused for its {fault:?}"),
+    }
+}
+
+fn add_set_of(numbers: &[u64], out: &mut String) -> Result<(), RowError> {
+    let [callers, slots, fields, roots, first, last, nodes] = numbers else {
+        return Err(RowError::Wrong);
+    };
+    match (
+        Shape::new(*callers, *slots, *fields, *roots),
+        u32::try_from(*nodes),
+    ) {
+        (Ok(shape), Ok(nodes)) => Ok(add_set(shape, *first, *last, nodes, out)?),
+        _ => Err(RowError::Wrong),
     }
 }
 
 /// The row of a setting: callers, slots, fields, roots, the first and the last phase, and initial nodes.
-pub(crate) fn setting_row(alloc: Global, row: &str) -> Result<String, RowError> {
-    match numbers(alloc, row)?.as_slice() {
-        [callers, slots, fields, roots, first, last, nodes] => {
-            match Shape::new(*callers, *slots, *fields, *roots) {
-                Ok(shape) => Ok(set(alloc, shape, *first, *last, small(*nodes)?)?),
-                Err(_) => Err(RowError::Wrong),
-            }
-        }
-        _ => Err(RowError::Wrong),
-    }
+pub(crate) fn setting_row(alloc: Global, row: &str, out: &mut String) -> Result<(), RowError> {
+    let numbers = numbers(alloc, row)?;
+    add_set_of(&numbers, out)
 }

@@ -1,62 +1,60 @@
 //! Arenas, each of a document whose scripts its callers follow call by call.
 
-ghost use Rattle.std.specs.Prelude.{◌≡◌, ◌<◌, true, length, All, IfSome, IsTrue};
-ghost use Rattle.caller_parts.specs.Calls.{is_call, AreCalls};
-ghost use Rattle.documents.specs.DocumentLimits.{IsWithinDocumentLimits};
+ghost use Rattle.std.specs.Prelude.{◌≡◌, true, length, IfSome, IsTrue};
+ghost use Rattle.caller_parts.specs.Calls.{is_call};
 ghost use Rattle.script_plans.specs.Plans.{IsReady};
 ghost use Rattle.table_rule.specs.Rule.{callers_of};
 ghost use Rattle.word_runner.specs.Shown.{CameFrom};
 
 use caller_steps::Call;
-use documents::{Document, read_document};
+use documents::read_document;
+use row_spelling::few;
 use script_plans::{CallLists, Plan, plan_of};
 use std::alloc::Global;
+use std::marker::Model;
 use word_runner::{Arena, Blank, Caller, Final, Outcome, Rest};
 
-/// An arena, and the scripts of its callers.
+/// An arena, and the scripts of its callers. It is seen as the arena.
 #[derive(Drop)]
 pub(crate) struct Hall {
-    pub(crate) arena: Arena,
+    arena: Arena,
     scripts: CallLists,
-    ghost calls: { All (AreCalls arena.fixed.target.target) scripts },
-    ghost count: { length scripts ≡ callers_of arena.fixed },
 }
 
-#[tactic(auto, using(crate::proofs::Counted::few_lines))]
-fn read(alloc: Global, input: &[u8]) -> Option<Document>
-    requires { length input.now < 4096 }
-    ensures { IfSome result (λ document. IsWithinDocumentLimits document) }
-{
-    match read_document(alloc, input) {
-        Ok(document) => Some(document),
-        Err(_) => None,
-    }
-}
+impl Model for Hall {
+    ghost use Rattle.std.specs.Prelude.{◌≡◌, length, All};
+    ghost use Rattle.caller_parts.specs.Calls.{AreCalls};
+    ghost use Rattle.table_rule.specs.Rule.{callers_of};
+    ghost use Rattle.word_runner.specs.Shown.{ArenaShown};
 
-fn plan_for(alloc: Global, document: &Document) -> Option<Plan>
-    requires { IsWithinDocumentLimits document.now }
-    ensures { IfSome result (λ plan. IsReady plan) }
-{
-    match plan_of(alloc, document) {
-        Ok(plan) => Some(plan),
-        Err(_) => None,
-    }
+    ghost Value = { ArenaShown };
+
+    ghost view = { λ h. h.arena };
+
+    ghost invariant = { λ h. All (AreCalls h.arena.fixed.target.target) h.scripts × (length h.scripts ≡ callers_of h.arena.fixed) };
 }
 
 /// The plan of a document.
 pub(crate) fn planned(alloc: Global, input: &[u8]) -> Option<Plan>
     ensures { IfSome result (λ plan. IsReady plan) }
 {
-    if input.len() >= 4096 {
+    if !few(input) {
         return None;
     }
-    let document = read(alloc, input)?;
-    plan_for(alloc, &document)
+    match read_document(alloc, input) {
+        Ok(document) => {
+            let plan = plan_of(alloc, &document).ok();
+            drop(document);
+            plan
+        }
+        Err(_) => None,
+    }
 }
 
-fn opened(alloc: Global, plan: Plan, room: u32) -> Option<(Hall, Blank)>
+/// A hall of a plan, and its first blank, with room for so many replies.
+pub(crate) fn open(alloc: Global, plan: Plan, room: u32) -> Option<(Hall, Blank)>
     requires { IsReady plan }
-    ensures { IfSome result (λ p. CameFrom p.0.arena p.1.table p.1.fixed) }
+    ensures { IfSome result (λ p. CameFrom p.0 p.1.table p.1.fixed) }
 {
     let Plan {
         barred,
@@ -70,18 +68,10 @@ fn opened(alloc: Global, plan: Plan, room: u32) -> Option<(Hall, Blank)>
     }
 }
 
-/// A hall of a document, and its first blank, with room for so many replies.
-pub(crate) fn open(alloc: Global, input: &[u8], room: u32) -> Option<(Hall, Blank)>
-    ensures { IfSome result (λ p. CameFrom p.0.arena p.1.table p.1.fixed) }
-{
-    let plan = planned(alloc, input)?;
-    opened(alloc, plan, room)
-}
-
 /// A blank becomes a caller.
 pub(crate) fn enter(hall: &Hall, blank: Blank) -> Option<Caller>
-    requires came { CameFrom hall.now.arena blank.table blank.fixed }
-    ensures { IfSome result (λ caller. CameFrom hall.now.arena caller.table caller.fixed) }
+    requires came { CameFrom hall.now blank.table blank.fixed }
+    ensures { IfSome result (λ caller. CameFrom hall.now caller.table caller.fixed) }
 {
     match blank.enter(&hall.arena) {
         Ok(caller) => Some(caller),
@@ -91,9 +81,9 @@ pub(crate) fn enter(hall: &Hall, blank: Blank) -> Option<Caller>
 
 /// Another blank of the same hall.
 pub(crate) fn second(alloc: Global, hall: &Hall, blank: &mut Blank) -> Option<Blank>
-    requires came { CameFrom hall.now.arena blank.old.table blank.old.fixed }
+    requires came { CameFrom hall.now blank.old.table blank.old.fixed }
     ensures same { blank.new ≡ blank.old }
-    ensures other { IfSome result (λ other. CameFrom hall.now.arena other.table other.fixed) }
+    ensures other { IfSome result (λ other. CameFrom hall.now other.table other.fixed) }
 {
     match blank.split(alloc, &hall.arena) {
         Ok(other) => Some(other),
@@ -101,30 +91,27 @@ pub(crate) fn second(alloc: Global, hall: &Hall, blank: &mut Blank) -> Option<Bl
     }
 }
 
-/// Two blanks become callers.
-fn both_enter(hall: &Hall, first: Blank, second: Blank) -> Option<(Caller, Caller)>
-    requires first { CameFrom hall.now.arena first.table first.fixed }
-    requires second { CameFrom hall.now.arena second.table second.fixed }
-    ensures { IfSome result (λ p. CameFrom hall.now.arena p.0.table p.0.fixed × CameFrom hall.now.arena p.1.table p.1.fixed) }
-{
-    let one = enter(hall, first)?;
-    let two = enter(hall, second)?;
-    Some((one, two))
-}
-
 /// A blank and another of its hall become callers.
 pub(crate) fn both(alloc: Global, hall: &Hall, blank: Blank) -> Option<(Caller, Caller)>
-    requires came { CameFrom hall.now.arena blank.table blank.fixed }
-    ensures { IfSome result (λ p. CameFrom hall.now.arena p.0.table p.0.fixed × CameFrom hall.now.arena p.1.table p.1.fixed) }
+    requires came { CameFrom hall.now blank.table blank.fixed }
+    ensures { IfSome result (λ p. CameFrom hall.now p.0.table p.0.fixed × CameFrom hall.now p.1.table p.1.fixed) }
 {
     let mut blank = blank;
     let other = second(alloc, hall, &mut blank)?;
-    both_enter(hall, blank, other)
+    let one = enter(hall, blank)?;
+    let two = enter(hall, other)?;
+    Some((one, two))
 }
 
 impl Hall {
+    pub(crate) fn arena(&self) -> &Arena
+        ensures { result.now ≡ self.now }
+    {
+        &self.arena
+    }
+
     fn call(&self, script: usize, index: usize) -> Option<Call>
-        ensures { IfSome result (λ call. is_call self.now.arena.fixed.target.target call ≡ true) }
+        ensures { IfSome result (λ call. is_call self.now.fixed.target.target call ≡ true) }
     {
         let script = self.scripts.items().get(script)?;
         let call = script.items().get(index)?;
@@ -133,8 +120,8 @@ impl Hall {
 
     /// The caller takes the call at this index of its script.
     pub(crate) fn operate(&self, caller: &mut Caller, index: usize, budget: u64) -> Option<Outcome>
-        requires came { CameFrom self.now.arena caller.old.table caller.old.fixed }
-        ensures came { CameFrom self.now.arena caller.new.table caller.new.fixed }
+        requires came { CameFrom self.now caller.old.table caller.old.fixed }
+        ensures came { CameFrom self.now caller.new.table caller.new.fixed }
     {
         if !caller.is_idle() || caller.spare() == 0 || budget == 0 {
             return None;
@@ -144,8 +131,8 @@ impl Hall {
     }
 
     pub(crate) fn resume(&self, caller: &mut Caller, budget: u64) -> Option<Outcome>
-        requires came { CameFrom self.now.arena caller.old.table caller.old.fixed }
-        ensures came { CameFrom self.now.arena caller.new.table caller.new.fixed }
+        requires came { CameFrom self.now caller.old.table caller.old.fixed }
+        ensures came { CameFrom self.now caller.new.table caller.new.fixed }
     {
         if caller.is_idle() || budget == 0 {
             return None;
@@ -155,14 +142,14 @@ impl Hall {
 
     /// Whether all callers rest.
     pub(crate) fn has_all(&self, rest: &Rest) -> bool
-        ensures { IsTrue result → length rest.now.entries ≡ callers_of self.now.arena.fixed }
+        ensures { IsTrue result → length rest.now.entries ≡ callers_of self.now.fixed }
     {
         rest.count() as usize == self.scripts.items().len()
     }
 
     pub(crate) fn close(self, rest: Rest) -> Final
-        requires came { CameFrom self.arena rest.table rest.fixed }
-        requires all { length rest.entries ≡ callers_of self.arena.fixed }
+        requires came { CameFrom self rest.table rest.fixed }
+        requires all { length rest.entries ≡ callers_of self.fixed }
     {
         let Hall { arena, scripts: _ } = self;
         arena.close(rest)

@@ -13,6 +13,9 @@
 //!   steps, `first resumes BUDGET`, and the same of `second`; how each move ends, and at the end the phase and the entries.
 //! - `places ROOM, COUNT < DOCUMENT`: so many blanks enter, and then one more tries it twice.
 //! - `sharing < DOCUMENT`: the document's scripts run on threads, and what their replies add up to.
+//!
+//! A hall, a document and a target, which own much, are dropped by a call of `drop`. That is one call to prove, where a drop at the
+//! end of a scope is proved part by part.
 #![tactic(auto)]
 
 mod accesses;
@@ -25,42 +28,27 @@ mod moves;
 mod numbers;
 mod places;
 mod sharing;
-mod starts;
 mod steps;
 mod targets;
 mod told;
 
 use crate::answer::answer;
-use row_spelling::{NamedLines, RowError, named_lines};
+use row_spelling::{NamedLines, RowError, take_lines};
 use std::alloc::Global;
 use std::io::{self, BufRead, BufReader};
 use std::thread::Threads;
 
-/// The lines that are written after a row, also where the row can't be answered.
-fn written<R: Threads + Sync>(
+/// Writes the lines that answer a row, or that it can't be answered.
+fn write_answer<R: Print + Threads + Sync>(
     rt: &R,
     alloc: Global,
     named: &[NamedLines],
     line: &str,
-) -> io::Result<String> {
-    match answer(rt, alloc, named, line) {
-        Ok(written) => Ok(written),
-        Err(RowError::Wrong) => Ok(format!(in alloc; "wrong row")?),
-        Err(RowError::Memory(error)) => Err(error.into()),
-    }
-}
-
-/// Takes lines that rows begin with.
-fn take_lines<R: Print>(
-    rt: &R,
-    alloc: Global,
-    named: &mut Vec<NamedLines>,
-    line: &str,
-    rest: &str,
 ) -> io::Result<()> {
-    match named_lines(alloc, named, rest) {
-        Ok(lines) => Ok(named.push(lines)?),
-        Err(RowError::Wrong) => println!(rt; "wrong row: {line}"),
+    let mut out = String::new(alloc);
+    match answer(rt, alloc, named, line, &mut out) {
+        Ok(()) => print!(rt; "{out}"),
+        Err(RowError::Wrong) => println!(rt; "wrong row"),
         Err(RowError::Memory(error)) => Err(error.into()),
     }
 }
@@ -82,7 +70,7 @@ fn take_line<R: Print + Threads + Sync>(
     if line.starts_with('#') {
         return Ok(());
     }
-    println!(rt; "{}", written(rt, alloc, named, line)?)
+    write_answer(rt, alloc, named, line)
 }
 
 fn main(rt: HostRuntime) -> io::Result<()> {

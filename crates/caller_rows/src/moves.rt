@@ -1,6 +1,8 @@
 //! What a row has callers do.
 
 use crate::numbers::number;
+use row_spelling::RowError;
+use std::alloc::{AllocError, Global};
 
 /// One of the row's callers.
 #[derive(Clone, Copy)]
@@ -12,50 +14,73 @@ pub(crate) enum Who {
 /// What a caller does.
 #[derive(Clone, Copy)]
 pub(crate) enum Deed {
-    /// It takes a call of this operation with this argument.
-    Calls { op: u8, arg: u64 },
-    /// It makes so many steps.
-    Steps(u64),
+    /// It begins a call: that of this operation with an argument, or that at this index of its script with a budget.
+    Begins { call: u64, with: u64 },
+    /// It goes on by so many steps.
+    GoesOn(u64),
 }
 
-/// The caller that a word names.
-pub(crate) fn who_in(word: &str) -> Option<Who> {
-    if word == "first" {
-        Some(Who::First)
-    } else if word == "second" {
-        Some(Who::Second)
+fn begins_in(numbers: &str) -> Option<Deed> {
+    let (call, with) = numbers.split_once(' ')?;
+    let call = number(call)?;
+    let with = number(with)?;
+    Some(Deed::Begins { call, with })
+}
+
+fn goes_on_in(digits: &str) -> Option<Deed> {
+    match number(digits) {
+        Some(steps) => Some(Deed::GoesOn(steps)),
+        None => None,
+    }
+}
+
+/// What a verb with numbers says that a caller does.
+fn deed_of(verb: &str, numbers: &str, begins: &str, goes_on: &str) -> Option<Deed> {
+    if verb == begins {
+        begins_in(numbers)
+    } else if verb == goes_on {
+        goes_on_in(numbers)
     } else {
         None
     }
 }
 
-fn call_in(numbers: &str) -> Option<Deed> {
-    let (op, arg) = numbers.split_once(' ')?;
-    let op = u8::try_from(number(op)?).ok()?;
-    let arg = number(arg)?;
-    Some(Deed::Calls { op, arg })
-}
-
-fn deed_in(words: &str) -> Option<Deed> {
-    let (word, numbers) = words.split_once(' ')?;
-    if word == "calls" {
-        call_in(numbers)
-    } else if word == "steps" {
-        Some(Deed::Steps(number(numbers)?))
-    } else {
-        None
+fn deed_in(words: &str, begins: &str, goes_on: &str) -> Option<Deed> {
+    match words.split_once(' ') {
+        Some((verb, numbers)) => deed_of(verb, numbers, begins, goes_on),
+        None => None,
     }
 }
 
-/// The first word of a move, and the others.
-pub(crate) fn move_of(text: &str) -> Option<(&str, &str)> {
-    text.split_once(' ')
+/// Who does what.
+fn move_in(text: &str, begins: &str, goes_on: &str) -> Option<(Who, Deed)> {
+    let (word, words) = text.split_once(' ')?;
+    let deed = deed_in(words, begins, goes_on)?;
+    match word {
+        "first" => Some((Who::First, deed)),
+        "second" => Some((Who::Second, deed)),
+        _ => None,
+    }
 }
 
-/// A move: who does what.
-pub(crate) fn move_in(text: &str) -> Option<(Who, Deed)> {
-    let (word, words) = move_of(text)?;
-    let who = who_in(word)?;
-    let deed = deed_in(words)?;
-    Some((who, deed))
+fn add(moves: &mut Vec<(Who, Deed)>, next: (Who, Deed)) -> Result<(), AllocError> {
+    moves.push(next)?;
+    Ok(())
+}
+
+/// The moves of a row that says by these two verbs that a caller begins a call, and that it goes on.
+pub(crate) fn moves_in(
+    alloc: Global,
+    text: &str,
+    begins: &str,
+    goes_on: &str,
+) -> Result<Vec<(Who, Deed)>, RowError> {
+    let mut moves = Vec::new(alloc);
+    for text in text.split(", ") {
+        match move_in(text, begins, goes_on) {
+            Some(next) => add(&mut moves, next)?,
+            None => return Err(RowError::Wrong),
+        }
+    }
+    Ok(moves)
 }

@@ -1,29 +1,18 @@
 //! Places: as many callers enter as the setting has, and no more.
 
-ghost use Rattle.std.specs.Prelude.{◌≡◌, IfOk};
+ghost use Rattle.std.specs.Prelude.{◌≡◌, IfSome};
 ghost use Rattle.word_runner.specs.Shown.{CameFrom};
 
-use crate::hall::{Hall, second};
+use crate::hall::{Hall, enter, second};
 use row_spelling::RowError;
-use std::alloc::{AllocError, Global};
-use word_runner::{Blank, Caller};
+use std::alloc::Global;
+use std::fmt::Write;
+use word_runner::{Blank, Caller, NoPlace};
 
-fn add_found(alloc: Global, out: &mut String, found: u32) -> Result<(), AllocError> {
-    out.push_str(format!(in alloc; "found {found}, ")?.as_str())
-}
-
-fn add_entered(
-    alloc: Global,
-    out: &mut String,
-    found: u32,
-    caller: &Caller,
-) -> Result<(), AllocError> {
-    add_found(alloc, out, found)?;
-    out.push_str(format!(in alloc;
-        "caller {}, spare {}\n",
-        caller.number(),
-        caller.spare()
-    )?.as_str())
+fn add_entered(out: &mut String, found: u32, caller: &Caller) -> Result<(), RowError> {
+    let number = caller.number();
+    let spare = caller.spare();
+    Ok(writeln!(out, "found {found}, caller {number}, spare {spare}")?)
 }
 
 /// Another blank enters, and it is told as whom.
@@ -33,16 +22,18 @@ fn enter_one(
     blank: &mut Blank,
     out: &mut String,
 ) -> Result<(), RowError>
-    requires came { CameFrom hall.now.arena blank.old.table blank.old.fixed }
+    requires came { CameFrom hall.now blank.old.table blank.old.fixed }
     ensures same { blank.new ≡ blank.old }
 {
-    let Some(other) = second(alloc, hall, blank) else {
-        return Err(RowError::Wrong);
-    };
-    let found = other.found();
-    match other.enter(&hall.arena) {
-        Ok(caller) => Ok(add_entered(alloc, out, found, &caller)?),
-        Err(_) => Err(RowError::Wrong),
+    match second(alloc, hall, blank) {
+        Some(other) => {
+            let found = other.found();
+            match enter(hall, other) {
+                Some(caller) => add_entered(out, found, &caller),
+                None => Err(RowError::Wrong),
+            }
+        }
+        None => Err(RowError::Wrong),
     }
 }
 
@@ -53,7 +44,7 @@ fn enter_some(
     count: u64,
     out: &mut String,
 ) -> Result<(), RowError>
-    requires came { CameFrom hall.now.arena blank.old.table blank.old.fixed }
+    requires came { CameFrom hall.now blank.old.table blank.old.fixed }
     ensures same { blank.new ≡ blank.old }
 {
     for _ in 0..count {
@@ -62,38 +53,45 @@ fn enter_some(
     Ok(())
 }
 
-fn add_none(alloc: Global, out: &mut String, found: u32, callers: u32) -> Result<(), AllocError> {
-    add_found(alloc, out, found)?;
-    out.push_str(format!(in alloc; "none of {callers}\n")?.as_str())
+/// Tells how many places a blank found taken at its first try, before its second, and after that.
+fn add_none_twice(
+    out: &mut String,
+    callers: u32,
+    first: u32,
+    second: u32,
+    again: &NoPlace,
+) -> Result<(), RowError> {
+    let most = again.callers;
+    let third = again.blank.found();
+    writeln!(out, "found {first}, none of {callers}")?;
+    Ok(writeln!(out, "found {second}, none of {most}\nfound {third}, ")?)
 }
 
-/// A blank that finds no place, and is handed back.
-fn find_none(alloc: Global, hall: &Hall, blank: Blank, out: &mut String) -> Result<Blank, RowError>
-    requires came { CameFrom hall.now.arena blank.table blank.fixed }
-    ensures { IfOk result (λ back. CameFrom hall.now.arena back.table back.fixed) }
+/// A blank finds no place, and is handed back.
+fn find_none(hall: &Hall, blank: Blank) -> Option<NoPlace>
+    requires { CameFrom hall.now blank.table blank.fixed }
+    ensures { IfSome result (λ none. CameFrom hall.now none.blank.table none.blank.fixed) }
 {
-    let found = blank.found();
-    match blank.enter(&hall.arena) {
-        Ok(_) => Err(RowError::Wrong),
-        Err(none) => {
-            add_none(alloc, out, found, none.callers)?;
-            Ok(none.blank)
-        }
+    match blank.enter(hall.arena()) {
+        Ok(_) => None,
+        Err(none) => Some(none),
     }
 }
 
 /// A blank finds all places taken, and so again when it is handed back.
-fn find_none_twice(
-    alloc: Global,
-    hall: &Hall,
-    blank: Blank,
-    out: &mut String,
-) -> Result<(), RowError>
-    requires came { CameFrom hall.now.arena blank.table blank.fixed }
+fn find_none_twice(hall: &Hall, blank: Blank, out: &mut String) -> Result<(), RowError>
+    requires { CameFrom hall.now blank.table blank.fixed }
 {
-    let back = find_none(alloc, hall, blank, out)?;
-    let again = find_none(alloc, hall, back, out)?;
-    Ok(add_found(alloc, out, again.found())?)
+    let first = blank.found();
+    let Some(none) = find_none(hall, blank) else {
+        return Err(RowError::Wrong);
+    };
+    let callers = none.callers;
+    let second = none.blank.found();
+    let Some(again) = find_none(hall, none.blank) else {
+        return Err(RowError::Wrong);
+    };
+    add_none_twice(out, callers, first, second, &again)
 }
 
 /// So many other blanks enter; then this one tries it twice.
@@ -104,9 +102,9 @@ pub(crate) fn places(
     count: u64,
     out: &mut String,
 ) -> Result<(), RowError>
-    requires came { CameFrom hall.now.arena blank.table blank.fixed }
+    requires came { CameFrom hall.now blank.table blank.fixed }
 {
     let mut blank = blank;
     enter_some(alloc, hall, &mut blank, count, out)?;
-    find_none_twice(alloc, hall, blank, out)
+    find_none_twice(hall, blank, out)
 }

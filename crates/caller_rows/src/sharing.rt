@@ -8,7 +8,8 @@ use oa_core::Entry;
 use oa_text::OpenGate;
 use row_spelling::RowError;
 use script_plans::Plan;
-use std::alloc::{AllocError, Global};
+use std::alloc::Global;
+use std::fmt::Write;
 use std::thread::Threads;
 use thread_runs::run_scripts;
 use word_runner::Final;
@@ -26,33 +27,39 @@ fn run_plan<R: Threads + Sync>(rt: &R, alloc: Global, plan: Plan) -> Option<Fina
     run_scripts(rt, alloc, barred, setting, scripts.items(), fuel, &OpenGate).ok()
 }
 
-/// How often an insertion and a removal answered 1, and how many answers were neither 0 nor 1.
+/// What the entries at the end add up to.
 #[derive(Clone, Copy)]
 struct Tally {
+    /// How often an insertion answered 1.
     inserted: u64,
+    /// How often a removal answered 1.
     removed: u64,
+    /// How many answers were neither 0 nor 1.
     others: u64,
+    /// How many nodes were claimed.
+    claims: u64,
+    /// How many entries have all 48 replies, and run nothing.
+    ended: u64,
 }
 
-fn counted(tally: Tally, index: usize, reply: Reply) -> Tally {
-    let mut after = tally;
+fn counted(before: Tally, index: usize, reply: Reply) -> Tally {
+    let mut tally = before;
     let inserts = index / 8 % 2 == 0;
     match reply {
         Reply::Number(0) => {}
-        Reply::Number(1) => {
-            if inserts {
-                after.inserted = tally.inserted.saturating_add(1);
-            } else {
-                after.removed = tally.removed.saturating_add(1);
-            }
-        }
-        _ => after.others = tally.others.saturating_add(1),
+        Reply::Number(1) if inserts => tally.inserted = before.inserted.saturating_add(1),
+        Reply::Number(1) => tally.removed = before.removed.saturating_add(1),
+        _ => tally.others = before.others.saturating_add(1),
     }
-    after
+    tally
 }
 
 fn tally_of(before: Tally, entry: &Entry) -> Tally {
     let mut tally = before;
+    tally.claims = before.claims.saturating_add(entry.claims());
+    if entry.is_idle() && entry.replies().len() == 48 {
+        tally.ended = before.ended.saturating_add(1);
+    }
     for (index, reply) in entry.replies().iter().enumerate() {
         tally = counted(tally, index, *reply);
     }
@@ -64,28 +71,13 @@ fn tally_of_all(entries: &[Entry]) -> Tally {
         inserted: 0,
         removed: 0,
         others: 0,
+        claims: 0,
+        ended: 0,
     };
     for entry in entries {
         tally = tally_of(tally, entry);
     }
     tally
-}
-
-fn claims_of(entries: &[Entry]) -> u64 {
-    let mut claims = 0u64;
-    for entry in entries {
-        claims = claims.saturating_add(entry.claims());
-    }
-    claims
-}
-
-fn have_ended(entries: &[Entry]) -> bool {
-    for entry in entries {
-        if !entry.is_idle() || entry.replies().len() != 48 {
-            return false;
-        }
-    }
-    entries.len() == 8
 }
 
 /// Each insertion took a node that was claimed for it, and each caller may keep one for its next.
@@ -94,17 +86,17 @@ fn are_claims_for(claims: u64, inserted: u64) -> bool {
 }
 
 /// What is told of the replies. Whoever is the last to touch a key removes it, so at the end as many were removed as inserted.
-fn add_tally(alloc: Global, out: &mut String, entries: &[Entry]) -> Result<(), AllocError> {
+fn add_tally(out: &mut String, entries: &[Entry]) -> Result<(), RowError> {
     let tally = tally_of_all(entries);
-    let ended = have_ended(entries);
+    let ended = tally.ended == 8 && entries.len() == 8;
     let evened = tally.inserted == tally.removed;
     let some = tally.inserted >= 8;
-    let claimed = are_claims_for(claims_of(entries), tally.inserted);
-    out.push_str(format!(in alloc;
-        "ended {ended}, as many removed as inserted {evened}, at least 8 {some}, claims for them {claimed}, other replies {}",
-        tally.others
-    )?
-    .as_str())
+    let claimed = are_claims_for(tally.claims, tally.inserted);
+    let others = tally.others;
+    Ok(writeln!(
+        out,
+        "ended {ended}, as many removed as inserted {evened}, at least 8 {some}, claims for them {claimed}, other replies {others}"
+    )?)
 }
 
 /// Runs a document's scripts on threads, and tells what their replies add up to.
@@ -118,7 +110,7 @@ pub(crate) fn sharing<R: Threads + Sync>(
         return Err(RowError::Wrong);
     };
     match run_plan(rt, alloc, plan) {
-        Some(end) => Ok(add_tally(alloc, out, end.entries.items())?),
+        Some(end) => add_tally(out, end.entries.items()),
         None => Err(RowError::Wrong),
     }
 }

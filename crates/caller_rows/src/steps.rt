@@ -1,16 +1,53 @@
-//! A caller's calls and steps on words in a vector.
+//! A caller's start, its calls and its steps, on words in a vector.
 
-ghost use Rattle.std.specs.Prelude.{◌≡◌, drop, option_copied, ◌==◌};
+ghost use Rattle.std.specs.Prelude.{◌≡◌, ◌<◌, ◌==◌, drop, length, option_copied, IfOk};
 ghost use Rattle.std.specs.List.{list_all};
-ghost use Rattle.caller_parts.specs.Calls.{is_call_of, is_call};
+ghost use Rattle.caller_parts.specs.Calls.{is_call_of};
+ghost use Rattle.caller_parts.specs.Settings.{Fits};
+ghost use Rattle.oa_words.specs.Words.{word_count};
 ghost use Rattle.core_entries.specs.Callers.{BelongsTo};
 ghost use Rattle.core_entries.specs.Steps.{WordsSound};
 
-use crate::starts::kept;
 use barrier_check::Barred;
+use core_entries::prepared::kept;
+use oa_core::laws::runs_in_row;
 use oa_core::{Call, Entry, PlainWords, Port, Setting};
 use phase_pools::access::Access;
+use std::alloc::{AllocError, Global};
 use target_code::target::TargetOp;
+
+/// The words of a target at the start.
+#[tactic(auto, using(crate::proofs::Starting::as_many_at_start))]
+pub(crate) fn words_of(
+    alloc: Global,
+    barred: &Barred,
+    setting: &Setting,
+) -> Result<PlainWords, AllocError>
+    requires { Fits barred.now.target setting.now }
+    ensures sound { IfOk result (λ words. WordsSound barred.now.target setting.now words) }
+    ensures count { IfOk result (λ words. length words ≡ word_count setting.now.sizes) }
+{
+    runs_in_row(barred, setting);
+    let words = PlainWords::new(alloc, barred, setting)?;
+    Ok(words)
+}
+
+/// An idle entry of a caller with this number.
+pub(crate) fn entry_of(
+    alloc: Global,
+    barred: &Barred,
+    setting: &Setting,
+    number: u32,
+    room: u32,
+) -> Result<Entry, AllocError>
+    requires fits { Fits barred.now.target setting.now }
+    requires number { number < setting.now.sizes.callers }
+    ensures { IfOk result (λ e. BelongsTo barred.now setting.now e.core) }
+{
+    kept(barred);
+    let entry = Entry::new(alloc, number, room)?;
+    Ok(entry)
+}
 
 fn are_zero(words: &[u64]) -> bool
     ensures { result ≡ list_all (λ word. word == 0) words.now }
@@ -33,16 +70,6 @@ fn is_call_of(op: Option<&TargetOp>, args: &[u64; 4]) -> bool
     }
 }
 
-/// Whether the target has the operation, and arguments past its count are 0.
-fn is_call(barred: &Barred, call: &Call) -> bool
-    ensures { result ≡ is_call barred.now.target call.now }
-{
-    is_call_of(
-        barred.target().ops.items().get(call.op as usize),
-        &call.args,
-    )
-}
-
 /// Whether the entry takes a call with one argument: it is idle, has room for the reply, and the target has the call.
 pub(crate) fn begin(barred: &Barred, setting: &Setting, entry: &mut Entry, op: u8, arg: u64) -> bool
     requires { BelongsTo barred.now setting.now entry.old.core }
@@ -52,7 +79,8 @@ pub(crate) fn begin(barred: &Barred, setting: &Setting, entry: &mut Entry, op: u
         op,
         args: [arg, 0, 0, 0],
     };
-    if !entry.is_idle() || entry.spare() == 0 || !is_call(barred, &call) {
+    let found = barred.target().ops.items().get(op as usize);
+    if !entry.is_idle() || entry.spare() == 0 || !is_call_of(found, &call.args) {
         return false;
     }
     entry.begin(barred, call.op, call.args);

@@ -1,42 +1,76 @@
-//! How accesses, replies and outcomes are told.
+//! How accesses, entries, replies and outcomes are told.
 
 use caller_steps::Reply;
+use oa_core::Entry;
 use phase_pools::access::Access;
-use std::alloc::{AllocError, Global};
+use std::alloc::AllocError;
+use std::fmt::Write;
 use word_runner::Outcome;
 
-pub(crate) fn access_told(alloc: Global, access: Access) -> Result<String, AllocError> {
+/// What a caller's step accesses, if it makes one.
+pub(crate) fn add_access(out: &mut String, access: Option<Access>) -> Result<(), AllocError> {
+    let Some(access) = access else {
+        return out.push_str("no step, ");
+    };
     match access {
-        Access::Load { at } => format!(in alloc; "Load {{ at: {at} }}"),
-        Access::Store { at, word } => format!(in alloc; "Store {{ at: {at}, word: {word} }}"),
+        Access::Load { at } => write!(out, "Load {{ at: {at} }}, "),
+        Access::Store { at, word } => write!(out, "Store {{ at: {at}, word: {word} }}, "),
         Access::CompareExchange {
             at,
             expected,
             replacement,
-        } => format!(in alloc;
-            "CompareExchange {{ at: {at}, expected: {expected}, replacement: {replacement} }}"
+        } => write!(
+            out,
+            "CompareExchange {{ at: {at}, expected: {expected}, replacement: {replacement} }}, "
         ),
-        Access::FetchMax { at, word } => {
-            format!(in alloc; "FetchMax {{ at: {at}, word: {word} }}")
-        }
+        Access::FetchMax { at, word } => write!(out, "FetchMax {{ at: {at}, word: {word} }}, "),
     }
 }
 
-pub(crate) fn reply_told(alloc: Global, reply: Reply) -> Result<String, AllocError> {
-    match reply {
-        Reply::Number(number) => format!(in alloc; "Number({number})"),
-        Reply::Nothing => format!(in alloc; "Nothing"),
-        Reply::Full => format!(in alloc; "Full"),
-        Reply::Phases(phase) => format!(in alloc; "Phases({phase})"),
-    }
-}
-
-pub(crate) fn outcome_told(alloc: Global, outcome: Outcome) -> Result<String, AllocError> {
+/// How a caller's going on ended, if it could.
+pub(crate) fn add_outcome(out: &mut String, outcome: Option<Outcome>) -> Result<(), AllocError> {
     match outcome {
-        Outcome::Replied(Some(number)) => format!(in alloc; "Replied(Some({number}))"),
-        Outcome::Replied(None) => format!(in alloc; "Replied(None)"),
-        Outcome::Full => format!(in alloc; "Full"),
-        Outcome::PhasesOver(phase) => format!(in alloc; "PhasesOver({phase})"),
-        Outcome::Spent => format!(in alloc; "Spent"),
+        Some(Outcome::Replied(Some(number))) => write!(out, "Replied(Some({number})), "),
+        Some(Outcome::Replied(None)) => out.push_str("Replied(None), "),
+        Some(Outcome::Full) => out.push_str("Full, "),
+        Some(Outcome::PhasesOver(phase)) => write!(out, "PhasesOver({phase}), "),
+        Some(Outcome::Spent) => out.push_str("Spent, "),
+        None => out.push_str("no step, "),
     }
+}
+
+/// Whether a call runs.
+pub(crate) fn state(is_idle: bool) -> &'static str {
+    if is_idle { "idle" } else { "runs" }
+}
+
+/// How an entry stands, in a line.
+pub(crate) fn add_entry(out: &mut String, entry: &Entry) -> Result<(), AllocError> {
+    let state = state(entry.is_idle());
+    let replies = entry.replies().len();
+    let spare = entry.spare();
+    let claims = entry.claims();
+    let restarts = entry.restarts();
+    writeln!(
+        out,
+        "{state}, replies {replies}, spare {spare}, claims {claims}, restarts {restarts}"
+    )
+}
+
+fn add_reply(out: &mut String, reply: Reply) -> Result<(), AllocError> {
+    match reply {
+        Reply::Number(number) => write!(out, " Number({number})"),
+        Reply::Nothing => out.push_str(" Nothing"),
+        Reply::Full => out.push_str(" Full"),
+        Reply::Phases(phase) => write!(out, " Phases({phase})"),
+    }
+}
+
+/// The replies of an entry, to the end of a line.
+pub(crate) fn add_replies(out: &mut String, entry: &Entry) -> Result<(), AllocError> {
+    out.push_str("replies")?;
+    for reply in entry.replies() {
+        add_reply(out, *reply)?;
+    }
+    out.push('\n')
 }

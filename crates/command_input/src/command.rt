@@ -38,18 +38,13 @@ const MOST_CALLERS: u32 = 8;
 fn command_named(word: &str) -> Option<Command>
     ensures { result ≡ command_named word.now }
 {
-    if word == "run" {
-        Some(Command::Run)
-    } else if word == "replay" {
-        Some(Command::Replay)
-    } else if word == "check" {
-        Some(Command::Check)
-    } else if word == "show" {
-        Some(Command::Show)
-    } else if word == "compile" {
-        Some(Command::Compile)
-    } else {
-        None
+    match word {
+        "run" => Some(Command::Run),
+        "replay" => Some(Command::Replay),
+        "check" => Some(Command::Check),
+        "show" => Some(Command::Show),
+        "compile" => Some(Command::Compile),
+        _ => None,
     }
 }
 

@@ -18,18 +18,36 @@ fn words_of(alloc: Global, row: &str) -> Result<Vec<String>, AllocError> {
     Ok(words)
 }
 
-/// Makes the top call, which writes into the sink.
+/// A status and what was written.
+fn told(alloc: Global, status: Status, sink: &MemorySink) -> Result<String, AllocError> {
+    let text = one_line(alloc, sink.bytes())?;
+    format!(in alloc; "{} {status:?}: {text}", status_number(status))
+}
+
+/// Makes the top call on a source, and tells its status and what it writes.
 fn called<R: Threads + Sync>(
     rt: &R,
     alloc: Global,
     world: World,
     words: &[String],
-    bytes: Vec<u8>,
-    sink: &mut MemorySink,
-) -> Result<Status, AllocError> {
+    mut source: MemorySource,
+) -> Result<String, AllocError> {
+    let fails = Vec::from_slice(alloc, &[world.failing_write])?;
+    let mut sink = MemorySink::new(alloc, world.most.max(1), fails);
+    let status = oa_main(rt, alloc, words, &mut source, &mut sink, &OpenGate);
+    told(alloc, status, &sink)
+}
+
+/// The source that gives what a row spells.
+fn source_of(
+    alloc: Global,
+    world: World,
+    named: &[NamedLines],
+    spelling: &str,
+) -> Result<MemorySource, RowError> {
     let fails = Vec::from_slice(alloc, &[world.failing_read])?;
-    let mut source = MemorySource::new(bytes, world.most.max(1), fails);
-    Ok(oa_main(rt, alloc, words, &mut source, sink, &OpenGate))
+    let bytes = spelled(alloc, named, spelling)?;
+    Ok(MemorySource::new(bytes, world.most.max(1), fails))
 }
 
 /// The status of a row and what was written.
@@ -40,13 +58,11 @@ pub(crate) fn answer<R: Threads + Sync>(
     named: &[NamedLines],
     line: &str,
 ) -> Result<String, RowError> {
-    let (row, spelling) = line.split_once('<').ok_or(RowError::Wrong)?;
-    let words = words_of(alloc, row)?;
+    let Some((row, spelling)) = line.split_once('<') else {
+        return Err(RowError::Wrong);
+    };
     let spelling = spelling.strip_prefix(' ').unwrap_or(spelling);
-    let bytes = spelled(alloc, named, spelling)?;
-    let fails = Vec::from_slice(alloc, &[world.failing_write])?;
-    let mut sink = MemorySink::new(alloc, world.most.max(1), fails);
-    let status = called(rt, alloc, world, &words, bytes, &mut sink)?;
-    let text = one_line(alloc, sink.bytes())?;
-    Ok(format!(in alloc; "{} {status:?}: {text}", status_number(status))?)
+    let source = source_of(alloc, world, named, spelling)?;
+    let words = words_of(alloc, row)?;
+    Ok(called(rt, alloc, world, &words, source)?)
 }

@@ -12,24 +12,49 @@ mod world;
 
 use crate::answer::answer;
 use crate::world::World;
-use row_spelling::{NamedLines, RowError, named_lines};
+use row_spelling::{NamedLines, RowError, take_lines};
 use std::alloc::Global;
 use std::io::{self, BufRead, BufReader};
 use std::thread::Threads;
 
-/// The line that is written after a row, also where the row can't be answered.
-fn written<R: Threads + Sync>(
+/// Writes what a row is answered, also where it can't be answered.
+fn take_row<R: Print + Threads + Sync>(
     rt: &R,
     alloc: Global,
     world: World,
     named: &[NamedLines],
     line: &str,
-) -> io::Result<String> {
+) -> io::Result<()> {
     match answer(rt, alloc, world, named, line) {
-        Ok(written) => Ok(written),
-        Err(RowError::Wrong) => Ok(format!(in alloc; "wrong row")?),
+        Ok(answer) => rt.println(answer.as_str()),
+        Err(RowError::Wrong) => rt.println("wrong row"),
         Err(RowError::Memory(error)) => Err(error.into()),
     }
+}
+
+/// Takes a line, and writes a row with its answer.
+fn take_line<R: Print + Threads + Sync>(
+    rt: &R,
+    alloc: Global,
+    world: &mut World,
+    named: &mut Vec<NamedLines>,
+    line: &str,
+) -> io::Result<()> {
+    if line.is_empty() {
+        return Ok(());
+    }
+    if let Some(rest) = line.strip_prefix("lines ") {
+        return take_lines(rt, alloc, named, line, rest);
+    }
+    rt.println(line)?;
+    if let Some(rest) = line.strip_prefix("world ") {
+        *world = World::of_line(rest);
+        return Ok(());
+    }
+    if line.starts_with('#') {
+        return Ok(());
+    }
+    take_row(rt, alloc, *world, named, line)
 }
 
 fn main(rt: HostRuntime) -> io::Result<()> {
@@ -37,24 +62,7 @@ fn main(rt: HostRuntime) -> io::Result<()> {
     let mut named = Vec::new(alloc);
     let mut world = World::KIND;
     for line in BufReader::new(alloc, rt.reader())?.lines(alloc) {
-        let line = line?;
-        if line.is_empty() {
-            continue;
-        }
-        if let Some(rest) = line.strip_prefix("lines ") {
-            match named_lines(alloc, &named, rest) {
-                Ok(lines) => named.push(lines)?,
-                Err(RowError::Wrong) => println!(rt; "wrong row: {line}")?,
-                Err(RowError::Memory(error)) => return Err(error.into()),
-            }
-            continue;
-        }
-        println!(rt; "{line}")?;
-        if let Some(rest) = line.strip_prefix("world ") {
-            world = World::of_line(rest);
-        } else if !line.starts_with('#') {
-            println!(rt; "{}", written(&rt, alloc, world, &named, line.as_str())?)?;
-        }
+        take_line(&rt, alloc, &mut world, &mut named, line?.as_str())?;
     }
     Ok(())
 }

@@ -4,7 +4,7 @@ use histories::{Action, Answer, Call};
 use std::alloc::{AllocError, Global};
 
 /// Why a row has no answer.
-#[derive(Debug, Drop)]
+#[derive(Drop)]
 pub(crate) enum RowError {
     /// Memory ran out.
     Memory(AllocError),
@@ -37,14 +37,11 @@ fn number(digits: &str) -> Result<u64, RowError> {
 fn set_action(words: &str) -> Result<Action, RowError> {
     let (name, key) = words.split_once(' ').ok_or(RowError::Wrong)?;
     let key = number(key)?;
-    if name == "insert" {
-        Ok(Action::Insert(key))
-    } else if name == "remove" {
-        Ok(Action::Remove(key))
-    } else if name == "contains" {
-        Ok(Action::Contains(key))
-    } else {
-        Err(RowError::Wrong)
+    match name {
+        "insert" => Ok(Action::Insert(key)),
+        "remove" => Ok(Action::Remove(key)),
+        "contains" => Ok(Action::Contains(key)),
+        _ => Err(RowError::Wrong),
     }
 }
 
@@ -61,14 +58,12 @@ fn queue_action(words: &str) -> Result<Action, RowError> {
 
 /// What was answered.
 fn answer_of(word: &str) -> Result<Answer, RowError> {
-    if word == "none" {
-        Ok(Answer::Nothing)
-    } else if word == "spent" {
-        Ok(Answer::Spent)
-    } else if word == "full" || word == "unreached" || word.starts_with("phases ") {
-        Ok(Answer::NoEffect)
-    } else {
-        Ok(Answer::Number(number(word)?))
+    match word {
+        "none" => Ok(Answer::Nothing),
+        "spent" => Ok(Answer::Spent),
+        "full" | "unreached" => Ok(Answer::NoEffect),
+        word if word.starts_with("phases ") => Ok(Answer::NoEffect),
+        word => Ok(Answer::Number(number(word)?)),
     }
 }
 
@@ -106,12 +101,10 @@ fn add_call(calls: &mut Vec<Call>, call: Call) -> Result<(), AllocError> {
 }
 
 fn kind_of(word: &str) -> Result<Kind, RowError> {
-    if word == "set" {
-        Ok(Kind::Set)
-    } else if word == "queue" {
-        Ok(Kind::Queue)
-    } else {
-        Err(RowError::Wrong)
+    match word {
+        "set" => Ok(Kind::Set),
+        "queue" => Ok(Kind::Queue),
+        _ => Err(RowError::Wrong),
     }
 }
 

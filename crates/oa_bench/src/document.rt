@@ -5,9 +5,10 @@ ghost use Rattle.norm_lang.specs.Limits.{IsWithinLimits};
 
 use barrier_check::{VerifyError, verify};
 use barrier_compiler::compile;
-use documents::{Document, read_document};
+use documents::read_document;
 use line_words::fault::ParseError;
 use norm_check::{CheckError, Normal, check};
+use norm_lang::text::Text;
 use oa_cli::input::{InputError, read_input};
 use oa_text::StdSource;
 use std::alloc::Global;
@@ -23,17 +24,17 @@ fn outcome(alloc: Global, bytes: &[u8], verifies: bool) -> &'static [u8]
     requires { length bytes.now ≤ LIMIT }
 {
     match read_document(alloc, bytes) {
-        Ok(document) => text_outcome(alloc, document, verifies),
+        Ok(document) => text_outcome(alloc, document.text, verifies),
         Err(ParseError::Fault(_)) => b"no document\n",
         Err(ParseError::Memory) => MEMORY,
     }
 }
 
-/// What becomes of a document that was read.
-fn text_outcome(alloc: Global, document: Document, verifies: bool) -> &'static [u8]
-    requires { IsWithinLimits document.text }
+/// What becomes of a document's text.
+fn text_outcome(alloc: Global, text: Text, verifies: bool) -> &'static [u8]
+    requires { IsWithinLimits text }
 {
-    match check(alloc, document.text) {
+    match check(alloc, text) {
         Ok(normal) => target_outcome(alloc, &normal, verifies),
         Err(CheckError::Refused(_)) => b"refused\n",
         Err(CheckError::Memory) => MEMORY,
@@ -47,14 +48,22 @@ fn compile_outcome(alloc: Global, normal: &Normal) -> &'static [u8] {
     }
 }
 
-fn verify_outcome(alloc: Global, normal: &Normal) -> &'static [u8] {
-    let Ok(target) = compile(alloc, normal) else {
-        return MEMORY;
-    };
-    match verify(alloc, target, normal) {
+/// What the verifier says of a target.
+fn verdict<T>(verified: Result<T, VerifyError>) -> &'static [u8]
+where
+    T: Drop,
+{
+    match verified {
         Ok(_) => b"barred\n",
         Err(VerifyError::Flawed(_)) => b"not barred\n",
         Err(VerifyError::Memory) => MEMORY,
+    }
+}
+
+fn verify_outcome(alloc: Global, normal: &Normal) -> &'static [u8] {
+    match compile(alloc, normal) {
+        Ok(target) => verdict(verify(alloc, target, normal)),
+        Err(_) => MEMORY,
     }
 }
 

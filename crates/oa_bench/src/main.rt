@@ -21,8 +21,10 @@ fn told<R: Input + AllocGlobal>(rt: &R, word: &str) -> &'static [u8] {
 fn main(rt: HostRuntime) {
     let mut sink = StdSink::new(io::writer(&rt));
     match env::args(&rt) {
-        Ok(words) => {
-            for word in words.skip(1) {
+        Ok(mut words) => {
+            // the first is the program's name
+            words.next();
+            for word in words {
                 let _ = write_all(&mut sink, told(&rt, word.as_str()));
             }
         }

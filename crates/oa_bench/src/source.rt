@@ -112,11 +112,20 @@ fn take_turns(
     Ok(())
 }
 
+/// Adds the events of all operations, from the start.
+fn add_events(
+    alloc: Global,
+    normal: &Normal,
+    events: &mut Vec<SourceEvent>,
+) -> Result<(), StepError> {
+    let mut state = SourceState::start(alloc, normal, 2)?;
+    take_turns(alloc, normal, &mut state, events)
+}
+
 /// The events of all operations.
 fn found_events(alloc: Global, normal: &Normal) -> Result<Vec<SourceEvent>, StepError> {
     let mut events = Vec::new(alloc);
-    let mut state = SourceState::start(alloc, normal, 2)?;
-    take_turns(alloc, normal, &mut state, &mut events)?;
+    add_events(alloc, normal, &mut events)?;
     Ok(events)
 }
 
@@ -144,15 +153,20 @@ fn told_of(state: &SourceState) -> &'static [u8]
     }
 }
 
-/// What becomes of the operations on a text.
-fn run_again(alloc: Global, normal: &Normal) -> &'static [u8] {
-    let Ok(events) = found_events(alloc, normal) else {
-        return b"memory\n";
-    };
-    match run(alloc, normal, 2, &events) {
+/// What becomes of events, from the start.
+fn events_outcome(alloc: Global, normal: &Normal, events: &[SourceEvent]) -> &'static [u8] {
+    match run(alloc, normal, 2, events) {
         Ok(state) => told_of(&state),
         Err(RunError::NotEnabled { .. }) => b"not enabled\n",
         Err(RunError::Memory) => b"memory\n",
+    }
+}
+
+/// What becomes of the operations on a text.
+fn run_again(alloc: Global, normal: &Normal) -> &'static [u8] {
+    match found_events(alloc, normal) {
+        Ok(events) => events_outcome(alloc, normal, &events),
+        Err(_) => b"memory\n",
     }
 }
 

@@ -6,7 +6,9 @@ use Rattle.norm_lang.specs.declared.text.Text.{Text}
 use Rattle.norm_lang.specs.InstructionRules.{has_wrong_kind, computes_on_reference, has_wrong_end, has_wrong_retire, has_wrong_range}
 use Rattle.norm_lang.specs.PathRules.{MakesNodesAgain, HasWrongPut, ShowsFresh, LeaksFresh, LoopsBlindly, SetsKept, FollowsKept, ExchangesKept, ReadsUnset}
 use Rattle.norm_lang.specs.Kept.{code_of}
+use Rattle.norm_paths.specs.declared.method.OpFacts.{OpFacts}
 use Rattle.norm_paths.specs.Found.{IsOpWithin}
+use Rattle.norm_paths.specs.OpFound.{AreOpFacts}
 use Rattle.target_code.specs.declared.target.TargetInstr.{TargetInstr}
 use Rattle.target_code.specs.TargetLimits.{is_target_instr}
 use Rattle.target_flaws.specs.declared.needs.Needs.{Needs}
@@ -75,6 +77,10 @@ pub record AreBroken (op : Op) (wrapup : Bool) (at : ℕ) (i : Instr) (broken : 
   pub n10 : IsTrue (slice_index_or broken 6 false) ↔ FollowsKept op wrapup at i
   pub n11 : IsTrue (slice_index_or broken 7 false) ↔ ExchangesKept op wrapup at i
   pub n14 : IsTrue (slice_index_or broken 8 false) ↔ ReadsUnset op wrapup at i
+
+-- which of them an instruction breaks at its place in every operation of which this was found out
+abbrev pub AreBrokenBy : OpFacts → Bool → ℕ → Instr → List Bool → Type 0
+AreBrokenBy facts wrapup at i broken = (op : Op) → IsOpWithin op → AreOpFacts op facts → slice_get (code_of op wrapup) at ≡ Some i → AreBroken op wrapup at i broken
 
 abbrev pub path_rules : List (List ℕ)
 path_rules = codes "N3" ∷ codes "N4" ∷ codes "N5" ∷ codes "N6" ∷ codes "N7" ∷ codes "N9" ∷ codes "N10" ∷ codes "N11" ∷ codes "N14" ∷ []

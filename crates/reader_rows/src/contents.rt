@@ -1,60 +1,97 @@
 //! What a document says besides its text, in one line.
 
-use documents::{Document, Script};
-use row_spelling::RowError;
+use documents::{Document, Script, ScriptCall};
 use schedule_turns::{StepKind, Turn};
 use std::alloc::{AllocError, Global};
 use std::fmt::Write;
 
-/// The word for a kind of step.
+/// The word for a kind of step, after a space.
 fn kind_word(kind: StepKind) -> &'static str {
     match kind {
-        StepKind::Load => "load",
-        StepKind::Check => "check",
-        StepKind::Exchange => "exchange",
+        StepKind::Load => " load",
+        StepKind::Check => " check",
+        StepKind::Exchange => " exchange",
     }
 }
 
-/// A turn, as a schedule spells it.
-fn turn_shown(alloc: Global, turn: Turn) -> Result<String, AllocError> {
-    match turn {
-        Turn::Step { caller, count } => format!(in alloc; ", step {caller} {count}"),
+/// Adds a turn, as a schedule spells it.
+fn add_turn(out: &mut String, turn: Turn) -> Result<(), AllocError> {
+    let (word, caller, kind, count) = match turn {
+        Turn::Step { caller, count } => ("step", caller, "", count),
         Turn::Upto {
             caller,
             kind,
             count,
-        } => format!(in alloc; ", upto {caller} {} {count}", kind_word(kind)),
-        Turn::Ops { caller, count } => format!(in alloc; ", op {caller} {count}"),
-    }
+        } => ("upto", caller, kind_word(kind), count),
+        Turn::Ops { caller, count } => ("op", caller, "", count),
+    };
+    write!(out, ", {word} {caller}{kind} {count}")
 }
 
-/// Adds the calls of a script, each with its line.
-fn add_script(out: &mut String, script: &Script) -> Result<(), RowError> {
-    for call in script.items() {
-        write!(out, ", {} ", call.line)?;
-        for b in call.name.items() {
-            out.push(*b as char)?;
-        }
-        for arg in call.args.items() {
-            write!(out, " {arg}")?;
-        }
+/// Adds a call with its line.
+fn add_call(out: &mut String, call: &ScriptCall) -> Result<(), AllocError> {
+    write!(out, ", {} ", call.line)?;
+    for b in call.name.items() {
+        out.push(*b as char)?;
+    }
+    add_arguments(out, call.args.items())
+}
+
+/// Adds the arguments of a call.
+fn add_arguments(out: &mut String, arguments: &[u64]) -> Result<(), AllocError> {
+    for argument in arguments {
+        write!(out, " {argument}")?;
     }
     Ok(())
 }
 
-/// The settings, the scripts with their calls, and the turns.
-pub(crate) fn contents(alloc: Global, document: &Document) -> Result<String, RowError> {
-    let mut out = format!(in alloc;
-        "slots {} phases {} {} fuel {}",
-        document.slots, document.first, document.last, document.fuel
-    )?;
-    for (i, script) in document.scripts.items().iter().enumerate() {
+/// Adds the scripts with their calls.
+fn add_scripts(out: &mut String, scripts: &[Script]) -> Result<(), AllocError> {
+    for (i, script) in scripts.iter().enumerate() {
         write!(out, "; script {i}")?;
-        add_script(&mut out, script)?;
+        add_calls(out, script.items())?;
     }
-    write!(out, "; turns {}", document.schedule.items().len())?;
-    for turn in document.schedule.items() {
-        out.push_str(turn_shown(alloc, *turn)?.as_str())?;
+    Ok(())
+}
+
+/// Adds the calls of a script.
+fn add_calls(out: &mut String, calls: &[ScriptCall]) -> Result<(), AllocError> {
+    for call in calls {
+        add_call(out, call)?;
     }
+    Ok(())
+}
+
+/// Adds the turns of a schedule, after their count.
+fn add_turns(out: &mut String, turns: &[Turn]) -> Result<(), AllocError> {
+    write!(out, "; turns {}", turns.len())?;
+    for turn in turns {
+        add_turn(out, *turn)?;
+    }
+    Ok(())
+}
+
+/// Adds the settings.
+fn add_settings(out: &mut String, document: &Document) -> Result<(), AllocError> {
+    let Document {
+        slots,
+        first,
+        last,
+        fuel,
+        ..
+    } = document;
+    write!(out, "slots {slots} phases {first} {last} fuel {fuel}")
+}
+
+fn add_document(out: &mut String, document: &Document) -> Result<(), AllocError> {
+    add_settings(out, document)?;
+    add_scripts(out, document.scripts.items())?;
+    add_turns(out, document.schedule.items())
+}
+
+/// The settings, the scripts with their calls, and the turns.
+pub(crate) fn contents(alloc: Global, document: &Document) -> Result<String, AllocError> {
+    let mut out = String::new(alloc);
+    add_document(&mut out, document)?;
     Ok(out)
 }

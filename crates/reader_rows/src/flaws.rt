@@ -71,7 +71,9 @@ pub(crate) fn flaws_answer(
 ) -> Result<String, RowError>
     ensures { IfOk result (λ answer. IsFlawsAnswer (needs_of carried) wrapup (target_code_of op.now wrapup) at (string_bytes answer)) }
 {
-    let instr = code_of(op, wrapup).get(at).ok_or(RowError::Wrong)?;
+    let Some(instr) = code_of(op, wrapup).get(at) else {
+        return Err(RowError::Wrong);
+    };
     let found = found(alloc, op, carried, wrapup, at, instr)?;
     Ok(listed(alloc, &FLAWS, &found)?)
 }

@@ -14,29 +14,44 @@ mod rules;
 mod verified;
 
 use crate::row::Row;
-use row_spelling::{NamedLines, RowError, named_lines, spelled};
+use row_spelling::{NamedLines, RowError, spelled, take_lines};
 use std::alloc::Global;
 use std::io::{self, BufRead, BufReader};
 
 /// What the row's reader answers.
-fn answered(alloc: Global, named: &[NamedLines], row: &Row<'_>) -> Result<String, RowError> {
+fn answered(alloc: Global, named: &[NamedLines], line: &str) -> Result<String, RowError> {
+    let Some(row) = Row::of_line(line) else {
+        return Err(RowError::Wrong);
+    };
     let bytes = spelled(alloc, named, row.spelling)?;
-    answer::answer(alloc, row, &bytes)
+    answer::answer(alloc, &row, &bytes)
 }
 
-/// The line that is written for a row.
-fn outcome(alloc: Global, named: &[NamedLines], line: &str) -> Result<String, RowError> {
-    let row = Row::of_line(line).ok_or(RowError::Wrong)?;
-    let answer = answered(alloc, named, &row)?;
-    Ok(format!(in alloc; "{answer}: {line}")?)
-}
-
-/// The line that is written for a row, also where the row can't be answered.
-fn written(alloc: Global, named: &[NamedLines], line: &str) -> io::Result<String> {
-    match outcome(alloc, named, line) {
-        Ok(written) => Ok(written),
-        Err(RowError::Wrong) => Ok(format!(in alloc; "wrong row: {line}")?),
+/// Writes a row after its answer, also where it can't be answered.
+fn take_row<R: Print>(rt: &R, alloc: Global, named: &[NamedLines], line: &str) -> io::Result<()> {
+    match answered(alloc, named, line) {
+        Ok(answer) => println!(rt; "{answer}: {line}"),
+        Err(RowError::Wrong) => println!(rt; "wrong row: {line}"),
         Err(RowError::Memory(error)) => Err(error.into()),
+    }
+}
+
+/// Takes a line: a row, lines with a name, or a heading.
+fn take_line<R: Print>(
+    rt: &R,
+    alloc: Global,
+    named: &mut Vec<NamedLines>,
+    line: &str,
+) -> io::Result<()> {
+    if line.is_empty() {
+        return Ok(());
+    }
+    if line.starts_with('#') {
+        return rt.println(line);
+    }
+    match line.strip_prefix("lines ") {
+        Some(rest) => take_lines(rt, alloc, named, line, rest),
+        None => take_row(rt, alloc, named, line),
     }
 }
 
@@ -44,21 +59,7 @@ fn main(rt: HostRuntime) -> io::Result<()> {
     let alloc = rt.alloc();
     let mut named = Vec::new(alloc);
     for line in BufReader::new(alloc, rt.reader())?.lines(alloc) {
-        let line = line?;
-        if line.is_empty() {
-            continue;
-        }
-        if line.starts_with('#') {
-            println!(rt; "{line}")?;
-        } else if let Some(rest) = line.strip_prefix("lines ") {
-            match named_lines(alloc, &named, rest) {
-                Ok(lines) => named.push(lines)?,
-                Err(RowError::Wrong) => println!(rt; "wrong row: {line}")?,
-                Err(RowError::Memory(error)) => return Err(error.into()),
-            }
-        } else {
-            println!(rt; "{}", written(alloc, &named, line.as_str())?)?;
-        }
+        take_line(&rt, alloc, &mut named, line?.as_str())?;
     }
     Ok(())
 }

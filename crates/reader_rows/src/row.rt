@@ -61,46 +61,37 @@ pub(crate) struct Row<'a> {
     pub(crate) spelling: &'a str,
 }
 
-/// What a word asks of an instruction.
-fn judge_named(word: &str) -> Option<Judge> {
-    match word {
-        "paths" => Some(Judge::Paths),
-        "kind" => Some(Judge::Kind),
-        "computes" => Some(Judge::Computes),
-        "end" => Some(Judge::End),
-        "retire" => Some(Judge::Retire),
-        "range" => Some(Judge::Range),
-        "flaws" => Some(Judge::Flaws),
-        "carried_flaws" => Some(Judge::CarriedFlaws),
-        _ => None,
-    }
-}
+/// The readers and the rules by their names.
+const READERS: [(&str, Reader); 19] = [
+    ("text", Reader::Text),
+    ("show_text", Reader::TextShown),
+    ("front", Reader::Front),
+    ("head", Reader::Head),
+    ("instr", Reader::Instruction),
+    ("document", Reader::Document),
+    ("show_document", Reader::DocumentShown),
+    ("show_document_text", Reader::DocumentText),
+    ("target", Reader::Target),
+    ("show_target", Reader::TargetShown),
+    ("verify", Reader::Verified),
+    ("paths", Reader::Judged(Judge::Paths)),
+    ("kind", Reader::Judged(Judge::Kind)),
+    ("computes", Reader::Judged(Judge::Computes)),
+    ("end", Reader::Judged(Judge::End)),
+    ("retire", Reader::Judged(Judge::Retire)),
+    ("range", Reader::Judged(Judge::Range)),
+    ("flaws", Reader::Judged(Judge::Flaws)),
+    ("carried_flaws", Reader::Judged(Judge::CarriedFlaws)),
+];
 
 /// The reader that a word names.
 fn reader_named(word: &str) -> Option<Reader> {
-    match word {
-        "text" => Some(Reader::Text),
-        "show_text" => Some(Reader::TextShown),
-        "front" => Some(Reader::Front),
-        "head" => Some(Reader::Head),
-        "instr" => Some(Reader::Instruction),
-        "document" => Some(Reader::Document),
-        "show_document" => Some(Reader::DocumentShown),
-        "show_document_text" => Some(Reader::DocumentText),
-        "target" => Some(Reader::Target),
-        "show_target" => Some(Reader::TargetShown),
-        "verify" => Some(Reader::Verified),
-        word => Some(Reader::Judged(judge_named(word)?)),
+    for (name, reader) in &READERS {
+        if *name == word {
+            return Some(*reader);
+        }
     }
-}
-
-/// Whether a word names the wrap-up, and not the generator.
-fn is_wrapup(word: &str) -> Option<bool> {
-    match word {
-        "gen" => Some(false),
-        "wrap" => Some(true),
-        _ => None,
-    }
+    None
 }
 
 /// What stands before the first space, and what stands after it.
@@ -114,32 +105,44 @@ fn cut(line: &str) -> (&str, &str) {
 /// The row whose number stands before its spelling.
 fn numbered<'a>(reader: Reader, wrapup: bool, rest: &'a str) -> Option<Row<'a>> {
     let (first, spelling) = cut(rest);
-    let first = first.parse::<u32>().ok()?;
-    Some(Row {
-        reader,
-        first,
-        wrapup,
-        spelling,
-    })
+    match first.parse::<u32>() {
+        Ok(first) => Some(Row {
+            reader,
+            first,
+            wrapup,
+            spelling,
+        }),
+        Err(_) => None,
+    }
+}
+
+/// The row whose method stands before its number.
+fn in_method<'a>(reader: Reader, rest: &'a str) -> Option<Row<'a>> {
+    match cut(rest) {
+        ("gen", rest) => numbered(reader, false, rest),
+        ("wrap", rest) => numbered(reader, true, rest),
+        _ => None,
+    }
+}
+
+/// The row of a reader, of what stands after its name.
+fn row_of<'a>(reader: Reader, rest: &'a str) -> Option<Row<'a>> {
+    match reader {
+        Reader::Front | Reader::Head => numbered(reader, false, rest),
+        Reader::Judged(_) => in_method(reader, rest),
+        _ => Some(Row {
+            reader,
+            first: 1,
+            wrapup: false,
+            spelling: rest,
+        }),
+    }
 }
 
 impl<'a> Row<'a> {
     /// The row that a line is.
     pub(crate) fn of_line(line: &'a str) -> Option<Row<'a>> {
         let (word, rest) = cut(line);
-        let reader = reader_named(word)?;
-        match reader {
-            Reader::Front | Reader::Head => numbered(reader, false, rest),
-            Reader::Judged(_) => {
-                let (method, rest) = cut(rest);
-                numbered(reader, is_wrapup(method)?, rest)
-            }
-            _ => Some(Row {
-                reader,
-                first: 1,
-                wrapup: false,
-                spelling: rest,
-            }),
-        }
+        row_of(reader_named(word)?, rest)
     }
 }

@@ -4,7 +4,7 @@ ghost use Rattle.std.specs.Prelude.{◌≡◌, ◌<◌, length, map, Some, slice
 ghost use Rattle.std.specs.String.{string_bytes};
 ghost use Rattle.norm_lang.specs.Kept.{code_of};
 ghost use Rattle.norm_paths.specs.Found.{IsOpWithin, IsSized};
-ghost use Rattle.reader_rows.specs.Answers.{with_answer, listed, AreBroken, IsPathAnswer, is_wrong, wrong_at, verdict};
+ghost use Rattle.reader_rows.specs.Answers.{with_answer, listed, AreBroken, AreBrokenBy, IsPathAnswer, is_wrong, wrong_at, verdict};
 
 use crate::row::Judge;
 use norm_check::ends::has_wrong_end;
@@ -69,20 +69,16 @@ fn code_of(op: &Op, wrapup: bool) -> &[Instr]
     }
 }
 
-/// Which rules over paths an instruction breaks at its place.
-fn broken(
+/// Which rules over paths an instruction breaks at its place, by what was found out about its operation.
+fn broken_by(
     alloc: Global,
-    op: &Op,
+    facts: &OpFacts,
     wrapup: bool,
     at: usize,
     instr: &Instr,
 ) -> Result<[bool; 9], AllocError>
-    requires generator { IsSized op.now.generator }
-    requires wrapup { IsSized op.now.wrapup }
-    requires stands { slice_get (code_of op.now wrapup) at ≡ Some instr.now }
-    ensures { IfOk result (λ broken. IsOpWithin op.now → AreBroken op.now wrapup at instr.now broken) }
+    ensures { IfOk result (λ broken. AreBrokenBy facts.now wrapup at instr.now broken) }
 {
-    let facts = OpFacts::of_op(alloc, op)?;
     let method = facts.method(wrapup);
     let kept = &facts.kept;
     let makes_again = makes_nodes_again(alloc, wrapup, at, instr, method)?;
@@ -100,7 +96,43 @@ fn broken(
     ])
 }
 
-/// The names of the rules over paths that the instruction at a place breaks.
+/// Which rules over paths an instruction breaks at its place.
+fn broken(
+    alloc: Global,
+    op: &Op,
+    wrapup: bool,
+    at: usize,
+    instr: &Instr,
+) -> Result<[bool; 9], AllocError>
+    requires generator { IsSized op.now.generator }
+    requires wrapup { IsSized op.now.wrapup }
+    requires stands { slice_get (code_of op.now wrapup) at ≡ Some instr.now }
+    ensures { IfOk result (λ broken. IsOpWithin op.now → AreBroken op.now wrapup at instr.now broken) }
+{
+    match OpFacts::of_op(alloc, op) {
+        Ok(facts) => broken_by(alloc, &facts, wrapup, at, instr),
+        Err(error) => Err(error),
+    }
+}
+
+/// The names of the rules over paths that an instruction breaks at its place.
+fn broken_names(
+    alloc: Global,
+    op: &Op,
+    wrapup: bool,
+    at: usize,
+    instr: &Instr,
+) -> Result<String, AllocError>
+    requires generator { IsSized op.now.generator }
+    requires wrapup { IsSized op.now.wrapup }
+    requires stands { slice_get (code_of op.now wrapup) at ≡ Some instr.now }
+    ensures { IfOk result (λ answer. IsOpWithin op.now → IsPathAnswer op.now wrapup at (string_bytes answer)) }
+{
+    let broken = broken(alloc, op, wrapup, at, instr)?;
+    listed(alloc, &PATH_RULES, &broken)
+}
+
+/// The same of the instruction that stands at a place.
 pub(crate) fn path_answer(
     alloc: Global,
     op: &Op,
@@ -109,15 +141,12 @@ pub(crate) fn path_answer(
 ) -> Result<String, RowError>
     ensures { IfOk result (λ answer. IsOpWithin op.now → IsPathAnswer op.now wrapup at (string_bytes answer)) }
 {
-    if !is_sized(op.generator.items()) {
-        return Err(RowError::Wrong);
+    match code_of(op, wrapup).get(at) {
+        Some(instr) if is_sized(op.generator.items()) && is_sized(op.wrapup.items()) => {
+            Ok(broken_names(alloc, op, wrapup, at, instr)?)
+        }
+        _ => Err(RowError::Wrong),
     }
-    if !is_sized(op.wrapup.items()) {
-        return Err(RowError::Wrong);
-    }
-    let instr = code_of(op, wrapup).get(at).ok_or(RowError::Wrong)?;
-    let broken = broken(alloc, op, wrapup, at, instr)?;
-    Ok(listed(alloc, &PATH_RULES, &broken)?)
 }
 
 /// Whether the instruction breaks the rule, of those that look at it alone.
@@ -147,9 +176,10 @@ fn is_wrong(
 fn wrong_at(text: &Text, judge: Judge, code: &[Instr], wrapup: bool, at: usize) -> Option<bool>
     ensures { result ≡ wrong_at judge text.now wrapup code.now at (slice_get code.now at) }
 {
-    let count = code.len();
-    let instr = code.get(at)?;
-    is_wrong(text, judge, wrapup, count, at, instr)
+    match code.get(at) {
+        Some(instr) => is_wrong(text, judge, wrapup, code.len(), at, instr),
+        None => None,
+    }
 }
 
 /// Whether the instruction at a place is wrong by a rule that looks at it alone, or right.

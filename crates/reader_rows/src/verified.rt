@@ -1,16 +1,16 @@
 //! What the verifier answers to a target for a text.
 
+ghost use Rattle.std.specs.Prelude.{◌+◌, ◌<◌, ◌^◌, length};
+ghost use Rattle.oa_text.specs.Lines.{lines_of};
 ghost use Rattle.norm_lang.specs.Limits.{IsWithinLimits};
-ghost use Rattle.target_code.specs.TargetLimits.{IsTargetWithinLimits};
 
-use crate::answer::refused;
+use crate::answer::{refused, told};
 use barrier_check::{Flaw, FlawKind, VerifyError, verify};
 use norm_check::{Normal, check};
 use norm_lang::text::Text;
 use norm_parser::parse;
 use row_spelling::{RowError, few};
 use std::alloc::{AllocError, Global};
-use target_code::target::Target;
 use target_reader::read_target;
 
 /// The word for a kind of flaw.
@@ -32,33 +32,34 @@ fn flaw_shown(alloc: Global, flaw: Flaw) -> Result<String, AllocError> {
 }
 
 /// `barred`, or the first flaw.
-fn verdict(alloc: Global, target: Target, normal: &Normal) -> Result<String, AllocError>
-    requires { IsTargetWithinLimits target }
+fn verdict<T>(alloc: Global, verified: Result<T, VerifyError>) -> Result<String, AllocError>
+where
+    T: Drop,
 {
-    match verify(alloc, target, normal) {
-        Ok(_) => format!(in alloc; "barred"),
+    match verified {
+        Ok(_) => String::from_str(alloc, "barred"),
         Err(VerifyError::Flawed(flaw)) => flaw_shown(alloc, flaw),
-        Err(VerifyError::Memory) => format!(in alloc; "memory ran out"),
+        Err(VerifyError::Memory) => String::from_str(alloc, "memory ran out"),
     }
 }
 
 /// What the verifier answers to the target that bytes spell, or the fault of the target.
-fn judged_bytes(alloc: Global, bytes: &[u8], normal: &Normal) -> Result<String, RowError> {
-    if !few(bytes) {
-        return Err(RowError::Wrong);
-    }
+fn target_verdict(alloc: Global, bytes: &[u8], normal: &Normal) -> Result<String, AllocError>
+    requires { length (lines_of bytes.now) + 1 < 2 ^ 32 }
+{
     match read_target(alloc, bytes) {
-        Ok(target) => Ok(verdict(alloc, target, normal)?),
+        Ok(target) => verdict(alloc, verify(alloc, target, normal)),
         Err(error) => refused(alloc, error),
     }
 }
 
 /// The same for a text, which has to be in normal form.
 fn judged_for(alloc: Global, bytes: &[u8], text: Text) -> Result<String, RowError>
-    requires { IsWithinLimits text }
+    requires few { length (lines_of bytes.now) + 1 < 2 ^ 32 }
+    requires within { IsWithinLimits text }
 {
     match check(alloc, text) {
-        Ok(normal) => judged_bytes(alloc, bytes, &normal),
+        Ok(normal) => told(target_verdict(alloc, bytes, &normal)),
         Err(_) => Err(RowError::Wrong),
     }
 }
@@ -66,19 +67,24 @@ fn judged_for(alloc: Global, bytes: &[u8], text: Text) -> Result<String, RowErro
 /// What stands before the first `>`, and what stands after it.
 fn parts(bytes: &[u8]) -> Option<(&[u8], &[u8])> {
     let at = bytes.iter().position(|b| *b == b'>')?;
-    let (before, rest) = bytes.split_at(at);
-    let (_, after) = rest.split_first()?;
-    Some((before, after))
+    Some((&bytes[..at], &bytes[at + 1..]))
+}
+
+/// What the verifier answers to a target for a text, or the first fault.
+fn pair_answer(alloc: Global, before: &[u8], after: &[u8]) -> Result<String, RowError>
+    requires text { length (lines_of before.now) + 1 < 2 ^ 32 }
+    requires target { length (lines_of after.now) + 1 < 2 ^ 32 }
+{
+    match parse(alloc, before) {
+        Ok(text) => judged_for(alloc, after, text),
+        Err(error) => told(refused(alloc, error)),
+    }
 }
 
 /// What the verifier answers to the target after `>` for the text before it, or the first fault.
 pub(crate) fn verify_answer(alloc: Global, bytes: &[u8]) -> Result<String, RowError> {
-    let (before, after) = parts(bytes).ok_or(RowError::Wrong)?;
-    if !few(before) {
-        return Err(RowError::Wrong);
-    }
-    match parse(alloc, before) {
-        Ok(text) => judged_for(alloc, after, text),
-        Err(error) => refused(alloc, error),
+    match parts(bytes) {
+        Some((before, after)) if few(before) && few(after) => pair_answer(alloc, before, after),
+        _ => Err(RowError::Wrong),
     }
 }

@@ -3,7 +3,7 @@
 use std::alloc::AllocError;
 
 /// Why a row has no answer.
-#[derive(Debug, Drop)]
+#[derive(Drop)]
 pub enum RowError {
     /// Memory ran out.
     Memory(AllocError),

@@ -4,7 +4,9 @@
 mod error;
 mod limits;
 mod spelling;
+mod taking;
 
 pub use error::RowError;
 pub use limits::few;
-pub use spelling::{NamedLines, named_lines, one_line, spelled};
+pub use spelling::{NamedLines, one_line, spelled};
+pub use taking::take_lines;

@@ -66,12 +66,12 @@ fn add_escaped(alloc: Global, out: &mut Vec<u8>, bytes: &[u8], copy: u32) -> Res
 
 /// Adds bytes in which no name and no count stands.
 fn add_bytes(alloc: Global, out: &mut Vec<u8>, spelling: &str, copy: u32) -> Result<(), RowError> {
-    for (i, part) in spelling.split('\\').enumerate() {
-        if i == 0 {
-            add_plain(alloc, out, part.as_bytes(), copy)?;
-        } else {
-            add_escaped(alloc, out, part.as_bytes(), copy)?;
-        }
+    let mut parts = spelling.split('\\');
+    if let Some(first) = parts.next() {
+        add_plain(alloc, out, first.as_bytes(), copy)?;
+    }
+    for part in parts {
+        add_escaped(alloc, out, part.as_bytes(), copy)?;
     }
     Ok(())
 }
@@ -87,6 +87,18 @@ fn add_named(out: &mut Vec<u8>, named: &[NamedLines], name: &str) -> Result<(), 
     Err(RowError::Wrong)
 }
 
+/// Adds the lines whose name stands first, and then the bytes after it.
+fn add_after_name(
+    alloc: Global,
+    out: &mut Vec<u8>,
+    named: &[NamedLines],
+    part: &str,
+) -> Result<(), RowError> {
+    let (name, rest) = part.split_once('}').ok_or(RowError::Wrong)?;
+    add_named(out, named, name)?;
+    add_bytes(alloc, out, rest, 0)
+}
+
 /// Adds bytes in which no count stands.
 fn add_lines(
     alloc: Global,
@@ -94,14 +106,12 @@ fn add_lines(
     named: &[NamedLines],
     spelling: &str,
 ) -> Result<(), RowError> {
-    for (i, part) in spelling.split('{').enumerate() {
-        if i == 0 {
-            add_bytes(alloc, out, part, 0)?;
-        } else {
-            let (name, rest) = part.split_once('}').ok_or(RowError::Wrong)?;
-            add_named(out, named, name)?;
-            add_bytes(alloc, out, rest, 0)?;
-        }
+    let mut parts = spelling.split('{');
+    if let Some(first) = parts.next() {
+        add_bytes(alloc, out, first, 0)?;
+    }
+    for part in parts {
+        add_after_name(alloc, out, named, part)?;
     }
     Ok(())
 }
@@ -116,23 +126,44 @@ fn add_copies(alloc: Global, out: &mut Vec<u8>, counted: &str) -> Result<(), Row
     Ok(())
 }
 
+/// Adds the lines whose count stands first, and then the bytes after them.
+fn add_after_count(
+    alloc: Global,
+    out: &mut Vec<u8>,
+    named: &[NamedLines],
+    part: &str,
+) -> Result<(), RowError> {
+    let (counted, rest) = part.split_once(')').ok_or(RowError::Wrong)?;
+    add_copies(alloc, out, counted)?;
+    add_lines(alloc, out, named, rest)
+}
+
+/// Adds the bytes that a row spells.
+fn add_all(
+    alloc: Global,
+    out: &mut Vec<u8>,
+    named: &[NamedLines],
+    spelling: &str,
+) -> Result<(), RowError> {
+    let mut parts = spelling.split('(');
+    if let Some(first) = parts.next() {
+        add_lines(alloc, out, named, first)?;
+    }
+    for part in parts {
+        add_after_count(alloc, out, named, part)?;
+    }
+    Ok(())
+}
+
 /// The bytes that a row spells.
 pub fn spelled(alloc: Global, named: &[NamedLines], spelling: &str) -> Result<Vec<u8>, RowError> {
     let mut out = Vec::new(alloc);
-    for (i, part) in spelling.split('(').enumerate() {
-        if i == 0 {
-            add_lines(alloc, &mut out, named, part)?;
-        } else {
-            let (counted, rest) = part.split_once(')').ok_or(RowError::Wrong)?;
-            add_copies(alloc, &mut out, counted)?;
-            add_lines(alloc, &mut out, named, rest)?;
-        }
-    }
+    add_all(alloc, &mut out, named, spelling)?;
     Ok(out)
 }
 
 /// The lines that a name and their spelling, which stand in one line, name.
-pub fn named_lines(
+pub(crate) fn named_lines(
     alloc: Global,
     named: &[NamedLines],
     line: &str,

@@ -151,6 +151,11 @@ pub fn run_scripts<R: Threads + Sync, G: Gate + Sync>(
     setting.kept();
     let room = longest(scripts);
     let (arena, first) = Arena::make(alloc, barred, setting, room)?;
-    let rest = run_callers(rt, alloc, &arena, first, room, scripts, fuel, gate)?;
-    Ok(arena.close(rest))
+    match run_callers(rt, alloc, &arena, first, room, scripts, fuel, gate) {
+        Ok(rest) => Ok(arena.close(rest)),
+        Err(error) => {
+            drop(arena);
+            Err(error)
+        }
+    }
 }

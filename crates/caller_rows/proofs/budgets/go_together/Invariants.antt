@@ -1,8 +1,8 @@
 use Rattle.word_runner.specs.Shown.{CameFrom}
 use Rattle.caller_rows.proofs.budgets.go_together.Given as goal
 
-abbrev pub invariant-loop-text : goal.invariant-loop-text
-invariant-loop-text l = record {
-  one : CameFrom l.hall.arena l.one.table l.one.fixed;
-  two : CameFrom l.hall.arena l.two.table l.two.fixed;
+abbrev pub invariant-loop-who : goal.invariant-loop-who
+invariant-loop-who l = record {
+  one : CameFrom l.hall l.one.table l.one.fixed;
+  two : CameFrom l.hall l.two.table l.two.fixed;
 }

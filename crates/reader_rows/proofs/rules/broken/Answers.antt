@@ -1,23 +1,6 @@
-use Rattle.norm_paths.specs.OpFound.{IsSite}
-use Rattle.reader_rows.proofs.Sites.{site_of}
+use Rattle.std.proofs.lemmas.Result.{IfOk-weaker}
 use Rattle.reader_rows.proofs.rules.broken.Goals as goal
 
-pub returns : goal.returns
-returns c within =
-    let op = c.args.op.now in
-    let i = c.args.instr.now in
-    let wrapup = c.args.wrapup in
-    let facts = c.in_ok-facts.ensures within in
-    let site : IsSite op wrapup c.args.at i c.method-method.result.now =
-    site_of op c.in_ok-facts.facts wrapup c.args.at i c.method-method.result.now c.method-method.ensures within facts c.requires.stands in
-    record {
-      n3 = c.in_ok-makes_again.ensures op site;
-      n4 = c.has_wrong_put.ensures op site;
-      n5 = c.shows_fresh.ensures op wrapup site;
-      n6 = c.leaks_fresh.ensures op wrapup site facts.kept;
-      n7 = c.in_ok-blind.ensures op wrapup i site;
-      n9 = c.sets_kept.ensures op c.args.at within c.requires.stands facts.kept;
-      n10 = c.follows_kept.ensures op c.args.at within c.requires.stands facts.kept;
-      n11 = c.exchanges_kept.ensures op c.args.at within c.requires.stands facts.kept;
-      n14 = c.reads_unset.ensures op wrapup site;
-    }
+pub returns-in-Ok : goal.returns-in-Ok
+returns-in-Ok c =
+    IfOk-weaker c.broken_by.result _ _ (λ broken by within. by c.args.op.now within (c.in-Ok.ensures within) c.requires.stands) c.broken_by.ensures

@@ -1,5 +1,5 @@
 use Rattle.caller_rows.proofs.Starting.{alone_belongs}
-use Rattle.caller_rows.proofs.starts.entry_of.Goals as goal
+use Rattle.caller_rows.proofs.steps.entry_of.Goals as goal
 
 pub returns : goal.returns
 returns c =
