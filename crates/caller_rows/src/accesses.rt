@@ -10,7 +10,7 @@ use barrier_check::Barred;
 use oa_core::{PlainWords, Port, Setting};
 use phase_pools::access::Access;
 use row_spelling::RowError;
-use std::alloc::{AllocError, Global};
+use std::alloc::Global;
 use std::fmt::Write;
 
 fn at_in(access: Access) -> u32
@@ -67,6 +67,33 @@ fn access_in(alloc: Global, text: &str) -> Result<Access, RowError> {
 }
 
 /// Makes an access, and tells what it finds.
+fn add_found(
+    words: &mut PlainWords,
+    count: u32,
+    access: Access,
+    out: &mut String,
+) -> Result<(), RowError>
+    requires { length words.old ≡ count }
+    ensures { length words.new ≡ count }
+{
+    match answer(words, count, access) {
+        Some(word) => Ok(write!(out, " {word}")?),
+        None => Err(RowError::Wrong),
+    }
+}
+
+/// Tells all words, in the order of their addresses, as loads find them.
+fn add_words(words: &mut PlainWords, count: u32, out: &mut String) -> Result<(), RowError>
+    requires { length words.old ≡ count }
+    ensures { length words.new ≡ count }
+{
+    for at in 0..count {
+        add_found(words, count, Access::Load { at }, out)?;
+    }
+    Ok(())
+}
+
+/// Makes the access that words spell, and tells what it finds.
 fn add_answer(
     alloc: Global,
     words: &mut PlainWords,
@@ -78,10 +105,7 @@ fn add_answer(
     ensures { length words.new ≡ count }
 {
     let access = access_in(alloc, text)?;
-    match answer(words, count, access) {
-        Some(word) => Ok(write!(out, " {word}")?),
-        None => Err(RowError::Wrong),
-    }
+    add_found(words, count, access, out)
 }
 
 /// Tells what accesses find one after another.
@@ -100,15 +124,6 @@ fn add_answers(
     Ok(out.push('\n')?)
 }
 
-/// Tells all words, in the order of their addresses.
-fn add_words(out: &mut String, words: &[u64]) -> Result<(), AllocError> {
-    out.push_str("start")?;
-    for word in words {
-        write!(out, " {word}")?;
-    }
-    out.push_str("\nfound")
-}
-
 /// The words of a target at the start, and what accesses to them find.
 pub(crate) fn accesses(
     alloc: Global,
@@ -120,7 +135,9 @@ pub(crate) fn accesses(
     requires { Fits barred.now.target setting.now }
 {
     let mut words = words_of(alloc, barred, setting)?;
-    add_words(out, words.words())?;
     let count = setting.shape().word_count();
+    out.push_str("start")?;
+    add_words(&mut words, count, out)?;
+    out.push_str("\nfound")?;
     add_answers(alloc, &mut words, count, accesses, out)
 }
