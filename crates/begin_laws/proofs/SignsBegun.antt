@@ -29,7 +29,7 @@ use Rattle.caller_parts.specs.declared.routine.MethodStart.TheVariants as starts
 use Rattle.caller_parts.specs.declared.routine.Routine.{Routine}
 use Rattle.caller_parts.specs.declared.routine.Routine.TheVariants.{Idle, LoadSeen, At, InList, Retires, Restarts, Clears, Claims, Zeroes}
 use Rattle.caller_parts.specs.Settings.{Setting}
-use Rattle.caller_steps.specs.Entries.{Entry, is_idle, code_in, instr_in, new_number, cradle_of}
+use Rattle.caller_steps.specs.Entries.{Entry, is_idle, code_in, instr_in, new_number, zero_count, cradle_of}
 use Rattle.caller_parts.specs.Operands.{with_word, slot_in, register_number, list_of, succeeds, to_retire, with_new}
 use Rattle.caller_steps.specs.Clearing.{restart_next, clear_next, unguarded}
 use Rattle.caller_steps.specs.Signs.{Sign, Begins, Accesses, Moved, quiet}
@@ -208,7 +208,7 @@ module _ (target : Target) (sizes : Sizes) where
   claim_goes claim (Some (ends.PhasesOver p)) e = (refl, refl)
 
   zeroed_on : (k field : ℕ) (e : Entry) → Onward (zeroed target sizes k field e)
-  zeroed_on k field e = of (nat_lt (field + 1) sizes.fields) where
+  zeroed_on k field e = of (nat_lt (field + 1) (zero_count target sizes (instr_in target e))) where
     of : (b : Bool) → Onward (if b then quiet (with_routine e (Zeroes k (field + 1))) else node_made target sizes (cradle_of e k) e)
     of true = (refl, refl)
     of false = code_on (with_new (instr_in target e) (cradle_of e k) e.hand.registers) e

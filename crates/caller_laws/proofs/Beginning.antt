@@ -2,11 +2,13 @@
 use Rattle.std.proofs.Common.{◌≡◌, ℕ, zero, suc, ◌≤◌, ◌<◌, true, false, [], length, replicate, Option, Some, None, refl, arith}
 use Rattle.std.specs.Prelude.{slice_get, slice_index}
 use Rattle.std.proofs.lemmas.Option.{slice_get_within}
+use Rattle.norm_lang.specs.Registers.{first_registers}
 use Rattle.guard_words.specs.Guards.{no_guards, guard_at}
 use Rattle.guard_words.proofs.Rows.{guards_follow}
 use Rattle.target_code.specs.declared.target.TargetOp.{TargetOp}
 use Rattle.target_code.specs.declared.target.Target.{Target}
 use Rattle.caller_parts.specs.declared.call.Call.{Call}
+use Rattle.caller_parts.specs.Operands.{cradle_count}
 use Rattle.caller_parts.specs.Calls.{is_call, is_call_of}
 use Rattle.caller_parts.specs.Settings.{Setting}
 use Rattle.caller_steps.specs.Entries.{Entry, idle_entry, code_in}
@@ -16,7 +18,7 @@ use Rattle.caller_laws.proofs.Methods.{Methods}
 use Rattle.caller_laws.proofs.Reaching.{start_reached}
 use Rattle.caller_laws.proofs.Stopping.{first_names}
 
-no_cradle : (slots k : ℕ) → slice_index (replicate 4 0) k ≤ slots
+no_cradle : (slots k : ℕ) → slice_index (replicate cradle_count 0) k ≤ slots
 no_cradle slots zero = omega arith
 no_cradle slots (suc zero) = omega arith
 no_cradle slots (suc (suc zero)) = omega arith
@@ -54,8 +56,13 @@ pub taken_belongs : (target : Target) (setting : Setting) (call : Call) (e : Ent
 taken_belongs target setting call e methods is b = record {
   number = b.number;
   op = called target call is;
-  hand = record { registers = b.hand.registers; started = b.hand.started; guards = b.hand.guards; seen = b.hand.seen };
+  hand = record {
+    registers = first_names setting.sizes.slots call.args;
+    started = first_names setting.sizes.slots [];
+    guards = b.hand.guards;
+    seen = b.hand.seen;
+  };
   cradles = b.cradles;
-  reaches = start_reached (code_in target (taken call e)) e.hand.registers (methods.some call.op false (called target call is));
+  reaches = start_reached (code_in target (taken call e)) (first_registers call.args) (methods.some call.op false (called target call is));
   stands = (refl, refl);
 }

@@ -29,14 +29,14 @@ use Rattle.caller_parts.specs.declared.routine.AfterRetire.TheVariants as onward
 use Rattle.caller_parts.specs.declared.routine.Routine.{Routine}
 use Rattle.caller_parts.specs.declared.routine.Routine.TheVariants.{Idle, LoadSeen, At, InList, Retires, Restarts, Clears, Claims, Zeroes}
 use Rattle.caller_parts.specs.Settings.{Fits, IsSetting, Setting}
-use Rattle.caller_steps.specs.Entries.{Entry, is_idle, code_in, instr_in, op_of}
+use Rattle.caller_steps.specs.Entries.{Entry, is_idle, code_in, instr_in, op_of, zero_count}
 use Rattle.caller_parts.specs.Operands.{list_of, slot_in, word_in, AreSlots}
 use Rattle.caller_parts.specs.Spared.{restart_spares, then_spares}
 use Rattle.caller_steps.specs.Wants.{exchange_wanted, instr_wanted, list_wanted, object_exchange, place_exchange, plain_wanted, wanted, wants}
 use Rattle.caller_steps.specs.Lawful.{Accepts, AsksSafely, IsSafe, MayBeTold}
 use Rattle.caller_steps.specs.Belongs.{Belongs, NamesSlots, ClaimStands, RetireFits, RunsAt, Stands, SweepBelongs}
 use Rattle.caller_steps.specs.Asking.{CanAccept, CanAsk, CanAskInstr, CanAskList, CanAskPlain, CanExchange, HasField, InstrAccepts, IsNear}
-use Rattle.caller_laws.proofs.Methods.{Methods, setting_sane}
+use Rattle.caller_laws.proofs.Methods.{Methods, setting_sane, zero_count_fits}
 use Rattle.caller_laws.proofs.Stopping.{Here, site_of}
 use Rattle.caller_laws.proofs.Named.{named}
 use Rattle.caller_laws.proofs.Safety.{below, list_there, wants_safe}
@@ -103,6 +103,10 @@ claim_ranges setting sweep (claims.Take q t next) s own = (s.1, s.3)
 claim_ranges setting sweep (claims.StoreUsed q t) s own = s.1
 claim_ranges setting sweep claims.Sweeps s own = sweep_ranges setting sweep.bound sweep.stage own.stands
 
+-- a field to which a `new` stores 0 is in the row
+zeroes_within : (target : Target) (setting : Setting) (i : Option TargetInstr) (field : ℕ) → IsSetting setting → field < zero_count target setting.sizes i → field < setting.sizes.fields
+zeroes_within target setting i field own below = let fits = (zero_count_fits target setting i (setting_sane setting own)).1 in omega (arith, below, fits)
+
 ask_step : (target : Target) (setting : Setting) (e : Entry) (routine : Routine) → Methods target → IsSetting setting → Fits target setting → Belongs target setting e
     → RunsAt target e routine → Stands target setting e routine → (is_idle routine ≡ false → AsksSafely target setting (wanted target e routine)) → CanAsk target setting e routine
 ask_step target setting e Idle sane own fits b reaches stands safe = tt
@@ -113,7 +117,7 @@ ask_step target setting e (Retires retirement go) sane own fits b reaches stands
 ask_step target setting e Restarts sane own fits b reaches stands safe = clears_register e.hand.guards (restart_spares e.hand.wrapup (op_of target e)) b.hand.guards.row.slots
 ask_step target setting e (Clears next) sane own fits b reaches stands safe = clears_register e.hand.guards (then_spares next (op_of target e)) b.hand.guards.row.slots
 ask_step target setting e (Claims claim) sane own fits b reaches stands safe = claim_ranges setting claim.sweep claim.stage stands.1.stands stands.1.sweep
-ask_step target setting e (Zeroes k field) sane own fits b reaches stands safe = (b.cradles.within k, stands.3)
+ask_step target setting e (Zeroes k field) sane own fits b reaches stands safe = (b.cradles.within k, zeroes_within target setting (instr_in target e) field own stands.3)
 
 -- what `pending` needs
 pub can_ask : (target : Target) (setting : Setting) (e : Entry) → Methods target → IsSetting setting → Fits target setting → Belongs target setting e → CanAsk target setting e e.routine
@@ -160,7 +164,7 @@ accept_step target setting e word Restarts sane own fits b reaches stands told =
 accept_step target setting e word (Clears next) sane own fits b reaches stands told = clears_register e.hand.guards (then_spares next (op_of target e)) b.hand.guards.row.slots
 accept_step target setting e word (Claims claim) sane own fits b reaches stands told =
     (claim_ranges setting claim.sweep claim.stage stands.1.stands stands.1.sweep, claim_told target setting claim.sweep word claim.stage told)
-accept_step target setting e word (Zeroes k field) sane own fits b reaches stands told = stands.3
+accept_step target setting e word (Zeroes k field) sane own fits b reaches stands told = zeroes_within target setting (instr_in target e) field own stands.3
 
 -- what `accept` needs
 pub can_accept : (target : Target) (setting : Setting) (e : Entry) (word : ℕ) → Methods target → IsSetting setting → Fits target setting → Belongs target setting e

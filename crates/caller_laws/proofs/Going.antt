@@ -8,22 +8,20 @@ use Rattle.norm_lang.specs.declared.text.Reg.TheVariants.{Num, Ref}
 use Rattle.norm_lang.specs.declared.text.FieldKind.{FieldKind}
 use Rattle.norm_lang.specs.declared.text.FieldKind.TheVariants as kinds
 use Rattle.norm_lang.specs.declared.text.RootDecl.{RootDecl}
-use Rattle.norm_lang.specs.declared.text.Instr.TheVariants as instr
 use Rattle.norm_lang.specs.declared.registers.Registers.{Registers}
 use Rattle.norm_lang.specs.Registers.{reference_in}
 use Rattle.norm_lang.specs.RegisterUse.{same_register}
 use Rattle.norm_lang.specs.InstructionRules.{root_kind, are_roots_of_one_kind, is_of_kind, same_kind}
 use Rattle.norm_lang.specs.Local.{remainder}
 use Rattle.target_code.specs.declared.target.TargetInstr.{TargetInstr}
-use Rattle.target_code.specs.declared.target.TargetInstr.TheVariants.{Plain}
 use Rattle.target_code.specs.declared.target.Target.{Target}
 use Rattle.target_code.specs.Paths.{target_goes_from}
-use Rattle.target_code.specs.TargetLimits.{is_target_new, target_news_in}
+use Rattle.target_code.specs.TargetLimits.{is_target_new}
 use Rattle.guard_words.specs.Guards.{Guards, with_guard}
 use Rattle.guard_words.proofs.Rows.{guards_follow}
 use Rattle.caller_parts.specs.Settings.{Setting}
 use Rattle.caller_steps.specs.Entries.{Entry, code_in, instr_in}
-use Rattle.caller_parts.specs.Operands.{is_new_at, news_before, unpacked, with_word, emptied}
+use Rattle.caller_parts.specs.Operands.{unpacked, with_word, emptied}
 use Rattle.caller_steps.specs.After.{settles}
 use Rattle.caller_steps.specs.Belongs.{GuardsSlots, HoldsSlots, NamesSlots}
 use Rattle.target_runs.specs.Sane.{SaneAt}
@@ -83,41 +81,6 @@ emptied_within slots slot (x ∷ xs) (suc k) le = emptied_within slots slot xs k
 
 pub cradles_emptied : (slots slot : ℕ) (cradles : List ℕ) → HoldsSlots slots cradles → HoldsSlots slots (map (emptied slot) cradles)
 cradles_emptied slots slot cradles h = record { count = emptied_count slot cradles ∙ h.count; within = λ k. emptied_within slots slot cradles k (h.within k) }
-
--- the number of a `new` is below the count of them
-one_if : Bool → ℕ
-one_if true = 1
-one_if false = 0
-
-shifted : (i : TargetInstr) (code : List TargetInstr) (n : ℕ) → news_before (i ∷ code) (suc n) ≡ one_if (is_target_new i) + news_before code n
-unfolding one_if
-shifted i code zero = of (is_target_new i) where
-  of : (b : Bool) → (if b then 0 + 1 else 0) ≡ one_if b + 0
-  of true = refl
-  of false = refl
-shifted i code (suc n) = of (is_new_at (slice_get code n)) (shifted i code n) where
-  of : (b : Bool) → news_before (i ∷ code) (suc n) ≡ one_if (is_target_new i) + news_before code n
-      → (if b then news_before (i ∷ code) (suc n) + 1 else news_before (i ∷ code) (suc n)) ≡ one_if (is_target_new i) + (if b then news_before code n + 1 else news_before code n)
-  of true e = omega (arith, e)
-  of false e = e
-
-counted_by : (i : TargetInstr) (code : List TargetInstr) → target_news_in (i ∷ code) ≡ one_if (is_target_new i) + target_news_in code
-unfolding one_if
-counted_by i code = of (is_target_new i) where
-  of : (b : Bool) → (if b then target_news_in code + 1 else target_news_in code) ≡ one_if b + target_news_in code
-  of true = omega arith
-  of false = omega arith
-
-pub new_below : (code : List TargetInstr) (at : ℕ) (d : Reg) → slice_get code at ≡ Some (Plain (instr.New d)) → news_before code at < target_news_in code
-unfolding one_if
-new_below [] at d is = absurd cc
-new_below (i ∷ code) zero d is = let new : is_target_new i ≡ true = ap is_new_at is in of (is_target_new i) new (counted_by i code) where
-  of : (b : Bool) → b ≡ true → target_news_in (i ∷ code) ≡ one_if b + target_news_in code → 0 < target_news_in (i ∷ code)
-  of true new e = omega (arith, e)
-  of false new e = absurd (let z : false ≡ true = new in cc)
-new_below (i ∷ code) (suc at) d is =
-    let rest : news_before code at < target_news_in code = new_below code at d is in
-    let a = shifted i code at in let b = counted_by i code in omega (arith, rest, a, b)
 
 -- the roots of a pick are of one kind
 kinds_same : (a b : FieldKind) → same_kind a b ≡ true → a ≡ b

@@ -32,6 +32,7 @@ use Rattle.caller_steps.specs.After.{cas_ended, cas_failed, check_failed, check_
 use Rattle.caller_steps.specs.Lawful.{LawfulValue, MayBeTold}
 use Rattle.caller_steps.specs.Belongs.{NamesSlots, RetireFits, cas_of, has_access, has_retire, is_retiring}
 use Rattle.caller_laws.proofs.Methods.{Methods, SettingSane}
+use Rattle.caller_laws.proofs.Fields.{field_value}
 use Rattle.caller_laws.proofs.Named.{named, worded}
 use Rattle.caller_laws.proofs.Reaching.{one_way}
 use Rattle.caller_laws.proofs.Stopping.{Holds, Here, BelongsIn, hand_belongs, restarted_belongs, site_of}
@@ -159,7 +160,8 @@ plain_keeps target setting e (instr.LoadPick d x n a) word sane some s has told 
     loads target setting e (instr.LoadPick d x n a) d (root_kind target.roots x) word sane some s (one_way (e.hand.at + 1)) refl (λ r isnt. isnt)
     (subst (λ (kind : Option FieldKind). LawfulValue setting.sizes.slots kind word) same.0 told) site.own.form.kinds
 plain_keeps target setting e (instr.LoadField d a f) word sane some s has told =
-    loads target setting e (instr.LoadField d a f) d (field_kind target.fields f) word sane some s (one_way (e.hand.at + 1)) refl (λ r isnt. isnt) told
+    loads target setting e (instr.LoadField d a f) d (field_kind target.fields f) word sane some s (one_way (e.hand.at + 1)) refl (λ r isnt. isnt)
+    (field_value target setting (slot_in e.hand.registers a) f word told)
     (second (holds_number a) (is_unlike (field_kind target.fields f) d) (site_of target e setting.sizes.slots (Plain (instr.LoadField d a f)) sane s.here s.is).own.form.kinds)
 plain_keeps target setting e (instr.Put a f b) word sane some s has told = passes target setting e (Plain (instr.Put a f b)) sane some s (one_way (e.hand.at + 1)) refl
 plain_keeps target setting e (instr.Cas exchange l) word sane some s has told =

@@ -1,10 +1,12 @@
 pub mod Methods
 pub mod Named
+pub mod Fields
 pub mod Reaching
 pub mod Settling
 pub mod Pools
 pub mod Stopping
 pub mod Going
+pub mod Cradles
 pub mod Instructions
 pub mod Steps
 pub mod Safety

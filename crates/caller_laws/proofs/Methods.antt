@@ -1,10 +1,12 @@
 -- The methods of a target that callers may run, and what its setting gives.
 use Rattle.std.proofs.Common.{◌≡◌, ℕ, zero, suc, ◌≤◌, ◌<◌, Bool, List, [], ◌∷◌, length, Option, Some, None, refl, arith}
 use Rattle.std.specs.Prelude.{slice_get}
+use Rattle.target_code.specs.declared.target.TargetInstr.{TargetInstr}
 use Rattle.target_code.specs.declared.target.TargetOp.{TargetOp}
 use Rattle.target_code.specs.declared.target.Target.{Target}
 use Rattle.caller_parts.specs.Settings.{Setting, IsSetting}
 use Rattle.caller_parts.specs.Operands.{method_code}
+use Rattle.caller_steps.specs.Entries.{zero_count}
 use Rattle.target_runs.specs.Sane.{SaneCode, Sane}
 
 -- of each operation by its number; where the target has none with that number, its methods are empty
@@ -47,3 +49,8 @@ pub record SettingSane (setting : Setting) : Type 0 where
 
 pub setting_sane : (setting : Setting) → IsSetting setting → SettingSane setting
 setting_sane setting own = record { slots = own.sizes.2; few = own.sizes.3; fields = own.sizes.4; phases = own.phases }
+
+-- a `new` stores 0 to a field or more, and each of them is in the row
+pub zero_count_fits : (target : Target) (setting : Setting) (i : Option TargetInstr) → SettingSane setting
+    → (1 ≤ zero_count target setting.sizes i) × (zero_count target setting.sizes i ≤ setting.sizes.fields)
+zero_count_fits target setting i some = (some.fields, omega arith)

@@ -29,7 +29,7 @@ use Rattle.caller_parts.specs.declared.routine.AfterRetire.TheVariants as retire
 use Rattle.caller_parts.specs.declared.routine.Routine.{Routine}
 use Rattle.caller_parts.specs.declared.routine.Routine.TheVariants.{Idle, LoadSeen, At, InList, Retires, Restarts, Clears, Claims, Zeroes}
 use Rattle.caller_parts.specs.Settings.{Setting}
-use Rattle.caller_steps.specs.Entries.{Entry, code_in, instr_in, new_number, cradle_of}
+use Rattle.caller_steps.specs.Entries.{Entry, code_in, instr_in, new_number, zero_count, cradle_of}
 use Rattle.caller_parts.specs.Operands.{with_word, slot_in, register_number, list_of, succeeds, to_retire, with_new}
 use Rattle.caller_steps.specs.Clearing.{restart_next, clear_next, unguarded}
 use Rattle.caller_steps.specs.Signs.{quiet}
@@ -195,7 +195,7 @@ module _ (target : Target) (sizes : Sizes) (Holds : Routine → Type 0) (h : Hol
   claim_routed claim (Some (ends.PhasesOver p)) e goes = h.idle
 
   zeroed_routed : (k field : ℕ) (e : Entry) → Holds (zeroed target sizes k field e).entry.routine
-  zeroed_routed k field e = of (nat_lt (field + 1) sizes.fields) where
+  zeroed_routed k field e = of (nat_lt (field + 1) (zero_count target sizes (instr_in target e))) where
     of : (b : Bool) → Holds (if b then quiet (with_routine e (Zeroes k (field + 1))) else node_made target sizes (cradle_of e k) e).entry.routine
     of true = h.zeroes k (field + 1)
     of false = on_routed (with_new (instr_in target e) (cradle_of e k) e.hand.registers) e

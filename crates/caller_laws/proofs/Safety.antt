@@ -1,5 +1,5 @@
 -- What an entry that belongs asks for is safe.
-use Rattle.std.proofs.Common.{◌≡◌, ℕ, zero, suc, ◌+◌, ◌*◌, ◌/◌, ◌≤◌, ◌<◌, ◌==◌, ◌&&◌, ◌||◌, not, Bool, true, false, List, [], ◌∷◌, length, Option, Some, None, refl, sym, ◌∙◌, subst, ap, arith, if◌then◌else◌}
+use Rattle.std.proofs.Common.{◌≡◌, ◌≢◌, ℕ, zero, suc, ◌+◌, ◌*◌, ◌/◌, ◌≤◌, ◌<◌, ◌==◌, ◌&&◌, ◌||◌, not, Bool, true, false, List, [], ◌∷◌, length, Option, Some, None, refl, sym, ◌∙◌, subst, ap, arith, if◌then◌else◌}
 use Rattle.std.specs.Prelude.{slice_get, nat_le, nat_lt, max, IsSomeAnd, IfSome, slice_index_or}
 use Rattle.std.specs.List.{list_any, list_all}
 use Rattle.std.proofs.lemmas.Bool.Decides.{nat_tests}
@@ -46,8 +46,9 @@ use Rattle.phase_pools.specs.Ranges.{IsHead}
 use Rattle.caller_parts.specs.declared.routine.Routine.{Routine}
 use Rattle.caller_parts.specs.declared.routine.Routine.TheVariants.{Idle, LoadSeen, At, InList, Retires, Restarts, Clears, Claims, Zeroes}
 use Rattle.target_runs.specs.Sane.{SaneAt}
-use Rattle.caller_laws.proofs.Methods.{Methods, SettingSane}
+use Rattle.caller_laws.proofs.Methods.{Methods, SettingSane, zero_count_fits}
 use Rattle.caller_laws.proofs.Named.{named}
+use Rattle.caller_laws.proofs.Fields.{value_lawful, zero_lawful}
 use Rattle.oa_words.proofs.Parts.{status_back, head_back}
 use Rattle.caller_laws.proofs.Stopping.{Here, site_of}
 use Rattle.caller_laws.proofs.Going.{pick_kind, remainder_below}
@@ -84,11 +85,6 @@ register_lawful slots registers (Some kinds.Number) b s like = tt
 register_lawful slots registers (Some kinds.Reference) (Num b) s like = absurd (let z : true ≡ false = like in cc)
 register_lawful slots registers (Some kinds.Reference) (Ref b) s like =
     subst (λ (n : ℕ). n ≤ slots) (sym (packed_slot (reference_in registers (Ref b)).node (reference_in registers (Ref b)).marked)) (s.within b)
-
-zero_lawful : (slots : ℕ) (kind : Option FieldKind) → LawfulValue slots kind 0
-zero_lawful slots None = tt
-zero_lawful slots (Some kinds.Number) = tt
-zero_lawful slots (Some kinds.Reference) = omega arith
 
 status_lawful : (last q : ℕ) (kind : Kind) → q ≤ last → LawfulStatus last (status_word q kind)
 status_lawful last q kind le = subst (λ (o : Option StatusParts). IsSomeAnd o (λ (p : StatusParts). p.phase ≤ last)) (sym (status_back q kind)) le
@@ -175,6 +171,12 @@ exchange_safe target setting exchange registers fits s limits kinds =
       of (places.Field a f) limit lawful = object (slot_in registers a) f (named setting.sizes.slots registers a s)
           (let lt = below f (length target.fields) (parts (is_register a) (nat_lt f (length target.fields)) limit).1 in omega (arith, lt, fits.fields)) lawful
 
+-- the object of a put is surely fresh, and so isn't null
+pub put_finds : (target : Target) (setting : Setting) (e : Entry) (a b : Reg) (f : ℕ) → Methods target → Here setting.sizes.slots target e → instr_in target e ≡ Some (Plain (instr.Put a f b)) → slot_in e.hand.registers a ≢ 0
+put_finds target setting e (Ref r) b f sane c is = c.reached.fresh r ((sane.code e.running.call.op e.hand.wrapup).puts e.hand.at (Ref r) b f is)
+put_finds target setting e (Num r) b f sane c is =
+    let site = site_of target e setting.sizes.slots (Plain (instr.Put (Num r) f b)) sane c is in absurd (let z : true ≡ false = site.own.form.kinds in cc)
+
 plain_safe : (target : Target) (setting : Setting) (e : Entry) (i : Instr) → Methods target → SettingSane setting → Fits target setting → Here setting.sizes.slots target e → instr_in target e ≡ Some (Plain i)
     → has_access (Some (Plain i)) ≡ true → AsksSafely target setting (plain_wanted i e.hand.registers)
 plain_safe target setting e (instr.LoadRoot d x) sane some fits c is has =
@@ -202,7 +204,8 @@ plain_safe target setting e (instr.Put a f b) sane some fits c is has =
     let like = (neither (holds_number a) (is_unlike (field_kind target.fields f) b) site.own.form.kinds).1 in
     stores_safe target setting (FieldOf (slot_in e.hand.registers a) f) (word_in e.hand.registers b)
     (field_row setting (slot_in e.hand.registers a) f (named setting.sizes.slots e.hand.registers a c.names) (omega (arith, lt, fits.fields))) refl
-    (register_lawful setting.sizes.slots e.hand.registers (field_kind target.fields f) b c.names like)
+    (value_lawful target setting (slot_in e.hand.registers a) f (word_in e.hand.registers b) (put_finds target setting e a b f sane c is)
+    (register_lawful setting.sizes.slots e.hand.registers (field_kind target.fields f) b c.names like))
 plain_safe target setting e (instr.Cas exchange l) sane some fits c is has =
     let site = site_of target e setting.sizes.slots (Plain (instr.Cas exchange l)) sane c is in
     exchange_safe target setting exchange e.hand.registers fits c.names (parts (is_entry (length target.fields) (length target.roots) exchange) (nat_le l 65535) site.limits).0 site.own.form.kinds
@@ -326,7 +329,8 @@ step_safe target setting e Restarts sane some fits b busy reaches stands = clear
 step_safe target setting e (Clears next) sane some fits b busy reaches stands = cleared_safe target setting e.number e.hand.guards (then_spares next (op_of target e)) b.number b.hand.guards.row.slots stands.1
 step_safe target setting e (Claims claim) sane some fits b busy reaches stands = claim_safe target setting claim.sweep claim.stage some stands.1.stands stands.1.sweep
 step_safe target setting e (Zeroes k field) sane some fits b busy reaches stands =
-    stores_safe target setting (FieldOf (cradle_of e k) field) 0 (field_row setting (cradle_of e k) field (b.cradles.within k) stands.3) refl (zero_lawful setting.sizes.slots (field_kind target.fields field))
+    stores_safe target setting (FieldOf (cradle_of e k) field) 0
+    (field_row setting (cradle_of e k) field (b.cradles.within k) (let below = stands.3 in let fits = (zero_count_fits target setting (instr_in target e) some).1 in omega (arith, below, fits))) refl (zero_lawful target setting (cradle_of e k) field)
 
 -- what an entry that belongs wants is one safe access, unless it is idle
 pub wants_safe : (target : Target) (setting : Setting) (e : Entry) → Methods target → SettingSane setting → Fits target setting → Belongs target setting e → is_idle e.routine ≡ false → AsksSafely target setting (wants target e)

@@ -15,7 +15,6 @@ use Rattle.norm_lang.specs.Limits.{is_register}
 use Rattle.target_code.specs.declared.target.TargetInstr.{TargetInstr}
 use Rattle.target_code.specs.declared.target.TargetInstr.TheVariants.{Plain, Check, Guard}
 use Rattle.target_code.specs.declared.target.Target.{Target}
-use Rattle.target_code.specs.TargetLimits.{target_news_in}
 use Rattle.phase_pools.specs.declared.access.ClaimEnd.{ClaimEnd}
 use Rattle.phase_pools.specs.declared.access.ClaimEnd.TheVariants as ends
 use Rattle.phase_pools.specs.declared.stages.RetireStage.{RetireStage}
@@ -27,8 +26,8 @@ use Rattle.caller_parts.specs.declared.routine.AfterClear.TheVariants as clears
 use Rattle.caller_parts.specs.declared.routine.AfterRetire.{AfterRetire}
 use Rattle.caller_parts.specs.declared.routine.AfterRetire.TheVariants as onwards
 use Rattle.caller_parts.specs.Settings.{Setting}
-use Rattle.caller_steps.specs.Entries.{Entry, code_in, cradle_of, instr_in, new_number}
-use Rattle.caller_parts.specs.Operands.{is_new_at, list_of, news_before, slot_in, succeeds, to_retire, with_new}
+use Rattle.caller_steps.specs.Entries.{Entry, code_in, cradle_of, instr_in, new_number, zero_count}
+use Rattle.caller_parts.specs.Operands.{is_new_at, list_of, slot_in, succeeds, to_retire, with_new}
 use Rattle.caller_steps.specs.Clearing.{clear_next, restart_next, unguarded}
 use Rattle.caller_steps.specs.Wants.{wanted, wants}
 use Rattle.caller_steps.specs.After.{accepted, after, claim_counted, claim_on, cleared, counted, entry_made, goes_on, is_wrap_up, list_accepted, list_ended, list_on, node_made, onward_goes, restarted, retired_on, retires_then, seen_loaded, with_hand, with_published, with_routine, zeroed}
@@ -38,12 +37,13 @@ use Rattle.caller_steps.specs.Belongs.{Belongs, ClearStands, RetireFits, RetireS
 use Rattle.caller_parts.specs.declared.routine.Routine.{Routine}
 use Rattle.caller_parts.specs.declared.routine.Routine.TheVariants.{Idle, LoadSeen, At, InList, Retires, Restarts, Clears, Claims, Zeroes}
 use Rattle.target_runs.specs.Sane.{SaneAt}
-use Rattle.caller_laws.proofs.Methods.{Methods, SettingSane}
+use Rattle.caller_laws.proofs.Methods.{Methods, SettingSane, zero_count_fits}
 use Rattle.caller_laws.proofs.Named.{referred, set_hits}
 use Rattle.caller_laws.proofs.Reaching.{Leaves, one_way, other_reference}
 use Rattle.caller_laws.proofs.Pools.{ClaimOn, claim_keeps}
 use Rattle.caller_laws.proofs.Stopping.{Holds, Here, BelongsIn, hand_belongs, cleared_belongs, ended_belongs, begun_belongs, restarted_belongs, site_of}
-use Rattle.caller_laws.proofs.Going.{goes_belongs, guards_put, cradle_put, cradles_emptied, new_below}
+use Rattle.caller_laws.proofs.Going.{goes_belongs, guards_put, cradle_put, cradles_emptied}
+use Rattle.caller_laws.proofs.Cradles.{cradle_number_small}
 use Rattle.caller_laws.proofs.Instructions.{passes, retiring, retire_within, retire_some, two, instr_keeps}
 
 -- on in a list: to its next exchange, or to the wrap-up's start
@@ -208,18 +208,14 @@ claimed_keeps target setting e claim (Some (ends.Claimed j)) sane some h c stand
   hand = hand_belongs target setting e h c.names;
   cradles = cradle_put setting.sizes.slots e.cradles k j h.cradles on.1;
   reaches = c.reached;
-  stands = (stands, refl, (λ null. let z : j ≡ 0 = sym (get_or-set_same e.cradles k j 0 few) ∙ null in omega (arith, on.0, z)), some.fields);
+  stands = (stands, refl, (λ null. let z : j ≡ 0 = sym (get_or-set_same e.cradles k j 0 few) ∙ null in omega (arith, on.0, z)), (zero_count_fits target setting (instr_in target e) some).0);
 } where
   k : ℕ
   k = new_number target e
 
-  there : (d : Reg) × (instr_in target e ≡ Some (Plain (instr.New d)))
-  there = new_there (instr_in target e) stands
-
   few : new_number target e < length e.cradles
-  few = let below : news_before (code_in target e) e.hand.at < target_news_in (code_in target e) = new_below (code_in target e) e.hand.at there.0 there.1 in
-      let most : target_news_in (code_in target e) ≤ 4 = (sane.code e.running.call.op e.hand.wrapup).news in
-      let four : length e.cradles ≡ 4 = h.cradles.count in omega (arith, below, most, four)
+  few = let small = cradle_number_small target e.hand.wrapup (code_in target e) e.hand.at (sane.code e.running.call.op e.hand.wrapup) stands in
+      let count = h.cradles.count in omega (arith, small, count)
 claimed_keeps target setting e claim (Some ends.Full) sane some h c stands on = record {
   number = h.number;
   op = h.op;
@@ -258,8 +254,8 @@ new_leaves slots registers (Ref d) slot kind limit count ne = record {
   of r is = λ null. ne (sym (ap (λ (v : Reference). v.node) (set_hits registers.references d value no_reference lt)) ∙ subst (λ (k : ℕ). (reference_in (with_reference registers (Ref d) value) (Ref k)).node ≡ 0) is null)
 
 zero_keeps : (target : Target) (setting : Setting) (e : Entry) (k field : ℕ) → Methods target → SettingSane setting → Holds target setting e → Here setting.sizes.slots target e
-    → (is_new_at (instr_in target e) ≡ true) × (k ≡ new_number target e) × (cradle_of e k ≢ 0) × (field < setting.sizes.fields) → BelongsIn target setting (zeroed target setting.sizes k field e)
-zero_keeps target setting e k field sane some h c stands = of (nat_lt (field + 1) setting.sizes.fields) refl where
+    → (is_new_at (instr_in target e) ≡ true) × (k ≡ new_number target e) × (cradle_of e k ≢ 0) × (field < zero_count target setting.sizes (instr_in target e)) → BelongsIn target setting (zeroed target setting.sizes k field e)
+zero_keeps target setting e k field sane some h c stands = of (nat_lt (field + 1) (zero_count target setting.sizes (instr_in target e))) refl where
   there : (d : Reg) × (instr_in target e ≡ Some (Plain (instr.New d)))
   there = new_there (instr_in target e) stands.0
 
@@ -283,7 +279,7 @@ zero_keeps target setting e k field sane some h c stands = of (nat_lt (field + 1
       (new_leaves setting.sizes.slots e.hand.registers d slot site.own.form.kinds site.limits c.names.references stands.2)
       (referred setting.sizes.slots e.hand.registers d (record { node = slot; marked = false }) c.names (h.cradles.within k))
 
-  of : (b : Bool) → nat_lt (field + 1) setting.sizes.fields ≡ b
+  of : (b : Bool) → nat_lt (field + 1) (zero_count target setting.sizes (instr_in target e)) ≡ b
       → BelongsIn target setting (if b then quiet (with_routine e (Zeroes k (field + 1))) else node_made target setting.sizes (cradle_of e k) e)
   of true is = record { number = h.number; op = h.op; hand = hand_belongs target setting e h c.names; cradles = h.cradles; reaches = c.reached; stands = (stands.0, stands.1, stands.2, grind (arith, nat_tests)) }
   of false is = subst (λ (registers : Registers). BelongsIn target setting (goes_on target setting.sizes registers e)) (sym sets_it) on

@@ -1,27 +1,22 @@
 -- The laws of one caller together.
-use Rattle.std.proofs.Common.{◌≡◌, ◌≢◌, ℕ, true, false, Some, None, refl, subst}
-use Rattle.norm_lang.specs.declared.text.Reg.{Reg}
-use Rattle.norm_lang.specs.declared.text.Reg.TheVariants.{Num, Ref}
-use Rattle.norm_lang.specs.declared.text.Instr.TheVariants as instr
+use Rattle.std.proofs.Common.{◌≡◌, true, false, None, refl, subst}
 use Rattle.norm_lang.specs.declared.text.Text.{Text}
-use Rattle.target_code.specs.declared.target.TargetInstr.TheVariants.{Plain}
 use Rattle.target_code.specs.declared.target.Target.{Target}
 use Rattle.target_runs.specs.Runnable.{IsRunnable}
 use Rattle.target_runs.proofs.SaneTargets.{runnable_is_sane}
 use Rattle.caller_parts.specs.declared.routine.Routine.{Routine}
 use Rattle.caller_parts.specs.declared.routine.Routine.TheVariants.{Idle, LoadSeen, At, InList, Retires, Restarts, Clears, Claims, Zeroes}
-use Rattle.caller_parts.specs.Settings.{Setting}
-use Rattle.caller_steps.specs.Entries.{Entry, is_idle, instr_in}
-use Rattle.caller_parts.specs.Operands.{slot_in}
+use Rattle.caller_steps.specs.Entries.{Entry, is_idle}
+use Rattle.caller_parts.specs.Operands.{code_at}
 use Rattle.caller_steps.specs.Wants.{wanted, wants}
-use Rattle.caller_steps.specs.Belongs.{Belongs, RunsAt}
-use Rattle.caller_laws.specs.Laws.{ForRuns, EntriesBelong, EntriesAskSafely, EntriesFitCode, StoresTellNothing, PutsFindNodes}
+use Rattle.caller_steps.specs.Belongs.{RunsAt}
+use Rattle.caller_laws.specs.Laws.{ForRuns, EntriesBelong, EntriesAskSafely, EntriesFitCode, StoresTellNothing, PutsFindNodes, NewsHaveCradles}
 use Rattle.caller_laws.proofs.Methods.{Methods, methods_of, setting_sane}
 use Rattle.caller_laws.proofs.Beginning.{idle_belongs, taken_belongs}
 use Rattle.caller_laws.proofs.Conditions.{are_slots, can_ask, can_accept, is_near}
 use Rattle.caller_laws.proofs.Steps.{after_belongs}
-use Rattle.caller_laws.proofs.Safety.{wants_safe}
-use Rattle.caller_laws.proofs.Stopping.{site_of}
+use Rattle.caller_laws.proofs.Safety.{wants_safe, put_finds}
+use Rattle.caller_laws.proofs.Cradles.{cradle_number_small, cradle_numbers_apart}
 use Rattle.caller_laws.proofs.Stored.{after_store}
 
 pub methods : (target : Target) (text : Text) → IsRunnable target text → Methods target
@@ -67,14 +62,15 @@ safe target text setting runs own fits = record {
 pub stores : ForRuns StoresTellNothing
 stores target text setting runs own fits = record { each = λ e w x a b is. after_store target setting e w x a b is }
 
-put_finds : (target : Target) (setting : Setting) (e : Entry) (a b : Reg) (f : ℕ) → Methods target → Belongs target setting e → e.routine ≡ At
-    → instr_in target e ≡ Some (Plain (instr.Put a f b)) → slot_in e.hand.registers a ≢ 0
-put_finds target setting e (Ref r) b f own belongs here is =
-    (subst (λ (routine : Routine). RunsAt target e routine) here belongs.reaches).fresh r ((own.code e.running.call.op e.hand.wrapup).puts e.hand.at (Ref r) b f is)
-put_finds target setting e (Num r) b f own belongs here is =
-    let reached = subst (λ (routine : Routine). RunsAt target e routine) here belongs.reaches in
-    let site = site_of target e setting.sizes.slots (Plain (instr.Put (Num r) f b)) own (record { reached = reached; names = belongs.hand.registers }) is in
-    absurd (let z : true ≡ false = site.own.form.kinds in cc)
-
 pub puts : ForRuns PutsFindNodes
-puts target text setting runs own fits = record { each = λ e a b f belongs here is. put_finds target setting e a b f (methods target text runs) belongs here is }
+puts target text setting runs own fits = record {
+  each = λ e a b f belongs here is. put_finds target setting e a b f (methods target text runs)
+      (record { reached = subst (λ (routine : Routine). RunsAt target e routine) here belongs.reaches; names = belongs.hand.registers })
+      is;
+}
+
+pub cradles : ForRuns NewsHaveCradles
+cradles target text setting runs own fits = record {
+  each = λ op wrapup at is. cradle_number_small target wrapup (code_at target op wrapup) at ((methods target text runs).code op wrapup) is;
+  apart = λ op wrapup a b one two other. cradle_numbers_apart (code_at target op wrapup) a b one two other;
+}

@@ -1,5 +1,5 @@
 -- What holds of a caller of each target that it may run.
-use Rattle.std.specs.Prelude.{◌≡◌, ◌≢◌, ℕ, ◌<◌, ◌^◌, true, false, Some, None}
+use Rattle.std.specs.Prelude.{◌≡◌, ◌≢◌, ℕ, ◌<◌, ◌^◌, Bool, true, false, Some, None}
 use Rattle.norm_lang.specs.declared.text.Reg.{Reg}
 use Rattle.norm_lang.specs.declared.text.Instr.TheVariants as instr
 use Rattle.norm_lang.specs.declared.text.Text.{Text}
@@ -13,7 +13,7 @@ use Rattle.caller_parts.specs.declared.routine.Routine.TheVariants.{At}
 use Rattle.caller_parts.specs.Settings.{Setting, Fits, IsSetting}
 use Rattle.caller_steps.specs.Entries.{Entry, idle_entry, is_idle, instr_in}
 use Rattle.caller_parts.specs.Calls.{is_call}
-use Rattle.caller_parts.specs.Operands.{slot_in, AreSlots}
+use Rattle.caller_parts.specs.Operands.{slot_in, AreSlots, code_at, instr_at, is_new_at, cradle_count, cradle_number}
 use Rattle.caller_steps.specs.Wants.{wants}
 use Rattle.caller_steps.specs.After.{after, signs, taken}
 use Rattle.caller_steps.specs.Lawful.{MayBeTold, AsksSafely}
@@ -52,3 +52,9 @@ pub record StoresTellNothing (target : Target) (setting : Setting) : Type 0 wher
 pub record PutsFindNodes (target : Target) (setting : Setting) : Type 0 where
   pub each : (e : Entry) (a b : Reg) (f : ℕ) → Belongs target setting e → e.routine ≡ At → instr_in target e ≡ Some (Plain (instr.Put a f b))
       → slot_in e.hand.registers a ≢ 0
+
+-- each `new` of a method has a cradle, and different ones have different cradles
+pub record NewsHaveCradles (target : Target) (setting : Setting) : Type 0 where
+  pub each : (op : ℕ) (wrapup : Bool) (at : ℕ) → is_new_at (instr_at target op wrapup at) ≡ true → cradle_number (code_at target op wrapup) at < cradle_count
+  pub apart : (op : ℕ) (wrapup : Bool) (a b : ℕ) → is_new_at (instr_at target op wrapup a) ≡ true → is_new_at (instr_at target op wrapup b) ≡ true → a ≢ b
+      → cradle_number (code_at target op wrapup) a ≢ cradle_number (code_at target op wrapup) b

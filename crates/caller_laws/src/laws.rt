@@ -1,14 +1,16 @@
 //! Laws of one caller of a barred target, with a setting that fits it.
 
-ghost use Rattle.caller_laws.specs.Laws.{ForRuns, EntriesBelong, EntriesAskSafely, EntriesFitCode, StoresTellNothing, PutsFindNodes};
+ghost use Rattle.caller_laws.specs.Laws.{ForRuns, EntriesBelong, EntriesAskSafely, EntriesFitCode, StoresTellNothing, PutsFindNodes, NewsHaveCradles};
 
 /// An entry goes on to belong to the target and the setting; what it wants is one access in the row, which leaves a lawful
-/// word lawful; the code may ask for it and take what it finds; and the object of a put is a node.
+/// word lawful; the code may ask for it and take what it finds; the object of a put is a node; and each `new` of a method has a cradle of
+/// its own.
 pub fn entries_belong()
     ensures belong { ForRuns EntriesBelong }
     ensures safe { ForRuns EntriesAskSafely }
     ensures code { ForRuns EntriesFitCode }
     ensures puts { ForRuns PutsFindNodes }
+    ensures cradles { ForRuns NewsHaveCradles }
 {}
 
 /// The word that a store found doesn't matter to what follows.

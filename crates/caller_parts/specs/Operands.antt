@@ -93,6 +93,14 @@ abbrev pub news_before : List TargetInstr → ℕ → ℕ
 news_before code zero = 0
 news_before code (suc n) = if is_new_at (slice_get code n) then news_before code n + 1 else news_before code n
 
+-- how many cradles a caller has
+abbrev pub cradle_count : ℕ
+cradle_count = 4
+
+-- which of them is that of the `new` at a place: they go by instruction order
+abbrev pub cradle_number : List TargetInstr → ℕ → ℕ
+cradle_number code at = news_before code at
+
 -- the register that a `new` sets gets the unmarked reference
 abbrev pub with_new : Option TargetInstr → ℕ → Registers → Registers
 with_new (Some (Plain (instr.New d))) slot registers = with_reference registers d (record { node = slot; marked = false })

@@ -1,7 +1,7 @@
 //! What an instruction works on: registers as words, slots, exchanges of a list, cradles.
 
 ghost use Rattle.std.specs.Prelude.{◌≡◌, ◌<◌, ◌≤◌, option_copied, slice_get, slice_set, map};
-ghost use Rattle.caller_parts.specs.Operands.{word_in, with_word, slot_in, list_of, is_new_at, news_before, has_object, succeeds, to_retire, emptied, with_new, AreSlots};
+ghost use Rattle.caller_parts.specs.Operands.{word_in, with_word, slot_in, list_of, is_new_at, news_before, cradle_number, has_object, succeeds, to_retire, emptied, with_new, AreSlots};
 
 use crate::local::instr_at;
 use norm_lang::registers::{
@@ -102,7 +102,7 @@ fn is_new_at(instr: Option<&TargetInstr>) -> bool
 }
 
 /// How many `new` stand before a place.
-pub fn news_before(code: &[TargetInstr], at: usize) -> usize
+fn news_before(code: &[TargetInstr], at: usize) -> usize
     ensures { result ≡ news_before code.now at }
 {
     let mut count = 0;
@@ -112,6 +112,13 @@ pub fn news_before(code: &[TargetInstr], at: usize) -> usize
         }
     }
     count
+}
+
+/// The number of the cradle that the `new` at a place has.
+pub fn cradle_number(code: &[TargetInstr], at: usize) -> usize
+    ensures { result ≡ cradle_number code.now at }
+{
+    news_before(code, at)
 }
 
 /// Puts the unmarked reference to a slot into the register that a `new` sets.

@@ -10,6 +10,7 @@ use crate::hall::{Hall, open, planned};
 use crate::numbers::{number, numbers};
 use crate::places::places;
 use crate::sharing::sharing;
+use crate::spent::spent;
 use crate::targets::{read, setting_for};
 use barrier_check::Barred;
 use row_spelling::{NamedLines, RowError, spelled};
@@ -126,6 +127,7 @@ fn spelled_row<R: Threads + Sync>(
     let bytes = spelled(alloc, named, spelling)?;
     match kind {
         "sharing" => sharing(rt, alloc, &bytes, out),
+        "spent" => spent(alloc, &bytes, out),
         _ => bytes_row(alloc, kind, words.trim_end(), &bytes, out),
     }
 }

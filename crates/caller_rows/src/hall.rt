@@ -82,7 +82,7 @@ pub(crate) fn enter(hall: &Hall, blank: Blank) -> Option<Caller>
 /// Another blank of the same hall.
 pub(crate) fn second(alloc: Global, hall: &Hall, blank: &mut Blank) -> Option<Blank>
     requires came { CameFrom hall.now blank.old.table blank.old.fixed }
-    ensures same { blank.new ≡ blank.old }
+    ensures came { CameFrom hall.now blank.new.table blank.new.fixed }
     ensures other { IfSome result (λ other. CameFrom hall.now other.table other.fixed) }
 {
     match blank.split(alloc, &hall.arena) {

@@ -12,6 +12,8 @@
 //!   two, on the words of a table: `first operates INDEX BUDGET` with the call at this index of its script, by at most so many
 //!   steps, `first resumes BUDGET`, and the same of `second`; how each move ends, and at the end the phase and the entries.
 //! - `places ROOM, COUNT < DOCUMENT`: so many blanks enter, and then one more tries it twice.
+//! - `spent < DOCUMENT`: the phase at the end of a replay of the document's scripts without turns, whether each caller has a call that was
+//!   given its fuel of steps and hasn't ended, and its replies.
 //! - `sharing < DOCUMENT`: the document's scripts run on threads, and what their replies add up to.
 //!
 //! A hall, a document and a target, which own much, are dropped by a call of `drop`. That is one call to prove, where a drop at the
@@ -28,6 +30,7 @@ mod moves;
 mod numbers;
 mod places;
 mod sharing;
+mod spent;
 mod steps;
 mod targets;
 mod told;

@@ -1,6 +1,6 @@
 //! Places: as many callers enter as the setting has, and no more.
 
-ghost use Rattle.std.specs.Prelude.{◌≡◌, IfSome};
+ghost use Rattle.std.specs.Prelude.{IfSome};
 ghost use Rattle.word_runner.specs.Shown.{CameFrom};
 
 use crate::hall::{Hall, enter, second};
@@ -23,7 +23,7 @@ fn enter_one(
     out: &mut String,
 ) -> Result<(), RowError>
     requires came { CameFrom hall.now blank.old.table blank.old.fixed }
-    ensures same { blank.new ≡ blank.old }
+    ensures came { CameFrom hall.now blank.new.table blank.new.fixed }
 {
     match second(alloc, hall, blank) {
         Some(other) => {
@@ -45,7 +45,7 @@ fn enter_some(
     out: &mut String,
 ) -> Result<(), RowError>
     requires came { CameFrom hall.now blank.old.table blank.old.fixed }
-    ensures same { blank.new ≡ blank.old }
+    ensures came { CameFrom hall.now blank.new.table blank.new.fixed }
 {
     for _ in 0..count {
         enter_one(alloc, hall, blank, out)?;

@@ -34,7 +34,7 @@ use Rattle.caller_parts.specs.declared.routine.Routine.{Routine}
 use Rattle.caller_parts.specs.declared.routine.Routine.TheVariants.{Idle, LoadSeen, At, InList, Retires, Restarts, Clears, Claims, Zeroes}
 use Rattle.caller_parts.specs.Pairing.{replied_by}
 use Rattle.caller_parts.specs.Settings.{Setting}
-use Rattle.caller_steps.specs.Entries.{Entry, one_more, code_in, instr_in, new_number, cradle_of}
+use Rattle.caller_steps.specs.Entries.{Entry, one_more, code_in, instr_in, new_number, zero_count, cradle_of}
 use Rattle.caller_parts.specs.Operands.{with_word, slot_in, register_number, list_of, succeeds, to_retire, emptied, with_new}
 use Rattle.caller_steps.specs.Clearing.{restart_next, clear_next, unguarded}
 use Rattle.caller_steps.specs.Signs.{Sign, Begins, Accesses, Draws, Renews, GivesUp, Moved, quiet, told}
@@ -304,7 +304,7 @@ node_made target sizes slot e = told (Draws slot ∷ []) (goes_on target sizes (
 
 abbrev pub zeroed : Target → Sizes → ℕ → ℕ → Entry → Moved
 zeroed target sizes k field e =
-    if nat_lt (field + 1) sizes.fields then quiet (with_routine e (Zeroes k (field + 1))) else node_made target sizes (cradle_of e k) e
+    if nat_lt (field + 1) (zero_count target sizes (instr_in target e)) then quiet (with_routine e (Zeroes k (field + 1))) else node_made target sizes (cradle_of e k) e
 
 -- ---- a step
 
@@ -335,10 +335,10 @@ after target setting e word = (moved target setting e word).entry
 unfoldable pub signs : Target → Setting → Entry → ℕ → List Sign
 signs target setting e word = (moved target setting e word).signs
 
--- an idle caller takes a call, and stands at its generator's start
+-- an idle caller takes a call, and stands at its generator's start: what the last call left in the registers is gone
 abbrev pub taken : Call → Entry → Entry
 taken call e = record e {
   running = record { call = call; steps = 0 };
   routine = LoadSeen starts.Begin;
-  hand = record e.hand { wrapup = false; at = 0 };
+  hand = record e.hand { wrapup = false; at = 0; registers = first_registers call.args; started = first_registers [] };
 }

@@ -32,8 +32,8 @@ use Rattle.caller_steps.specs.declared.entry.Hand.{Hand}
 use Rattle.caller_parts.specs.Settings.{Setting}
 use Rattle.caller_parts.specs.declared.routine.Routine.{Routine}
 use Rattle.caller_parts.specs.declared.routine.Routine.TheVariants.{Idle, LoadSeen, At, InList, Retires, Restarts, Clears, Claims, Zeroes}
-use Rattle.caller_steps.specs.Entries.{Entry, code_in, instr_in, new_number, cradle_of}
-use Rattle.caller_parts.specs.Operands.{list_of, is_new_at}
+use Rattle.caller_steps.specs.Entries.{Entry, code_in, instr_in, new_number, zero_count, cradle_of}
+use Rattle.caller_parts.specs.Operands.{list_of, is_new_at, cradle_count}
 use Rattle.caller_steps.specs.Clearing.{restart_next, clear_next}
 
 -- eight registers of each kind, whose references name slots of the row
@@ -52,7 +52,7 @@ GuardsSlots slots guards = record {
 
 abbrev pub HoldsSlots : ℕ → List ℕ → Type 0
 HoldsSlots slots cradles = record {
-  count : length cradles ≡ 4;
+  count : length cradles ≡ cradle_count;
   within : (k : ℕ) → slice_index cradles k ≤ slots;
 }
 
@@ -202,7 +202,7 @@ Stands target setting e Restarts = (is_check_at (instr_in target e) ≡ true) ×
 Stands target setting e (Clears next) = ClearStands (instr_in target e) e.hand next × IsSomeOf (clear_next target next e)
 Stands target setting e (Claims claim) = (is_new_at (instr_in target e) ≡ true) × ClaimBelongs setting claim
 Stands target setting e (Zeroes k field) =
-    (is_new_at (instr_in target e) ≡ true) × (k ≡ new_number target e) × (cradle_of e k ≢ 0) × (field < setting.sizes.fields)
+    (is_new_at (instr_in target e) ≡ true) × (k ≡ new_number target e) × (cradle_of e k ≢ 0) × (field < zero_count target setting.sizes (instr_in target e))
 
 -- where it runs it has come to its instruction
 abbrev pub RunsAt : Target → Entry → Routine → Type 0

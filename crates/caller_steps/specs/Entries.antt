@@ -5,10 +5,11 @@ use Rattle.target_code.specs.declared.target.TargetInstr.{TargetInstr}
 use Rattle.target_code.specs.declared.target.TargetOp.{TargetOp}
 use Rattle.target_code.specs.declared.target.Target.{Target}
 use Rattle.guard_words.specs.Guards.{no_guards}
+use Rattle.oa_words.specs.Words.{Sizes}
 use Rattle.caller_parts.specs.declared.call.Call.{Call}
 use Rattle.caller_parts.specs.declared.call.Running.{Running}
 use Rattle.caller_parts.specs.declared.call.Replied.{Replied}
-use Rattle.caller_parts.specs.Operands.{code_at, instr_at, news_before}
+use Rattle.caller_parts.specs.Operands.{code_at, instr_at, cradle_count, cradle_number}
 use Rattle.caller_steps.specs.declared.entry.Hand.{Hand}
 use Rattle.caller_steps.specs.declared.entry.Counts.{Counts}
 use Rattle.caller_parts.specs.declared.routine.Routine.{Routine}
@@ -21,7 +22,7 @@ pub record Entry : Type 0 where
   pub running : Running
   -- the method run
   pub hand : Hand
-  -- by the number of a `new`: a slot that was claimed and isn't published yet, 0 for none
+  -- a slot that was claimed and isn't published yet, 0 for none
   pub cradles : List ℕ
   -- before which access it stands
   pub routine : Routine
@@ -52,7 +53,7 @@ idle_entry c = record {
   number = c;
   running = record { call = no_call; steps = 0 };
   hand = empty_hand;
-  cradles = replicate 4 0;
+  cradles = replicate cradle_count 0;
   routine = Idle;
   replies = [];
   counts = record { restarts = 0; claims = 0 };
@@ -79,9 +80,13 @@ code_in target e = code_at target e.running.call.op e.hand.wrapup
 abbrev pub instr_in : Target → Entry → Option TargetInstr
 instr_in target e = instr_at target e.running.call.op e.hand.wrapup e.hand.at
 
--- the number of the `new` at which a caller stands, by instruction order
+-- the number of the cradle of the `new` at which a caller stands
 abbrev pub new_number : Target → Entry → ℕ
-new_number target e = news_before (code_in target e) e.hand.at
+new_number target e = cradle_number (code_in target e) e.hand.at
+
+-- how many fields of its node a `new` stores 0 to, from field 0 on: those of the row
+abbrev pub zero_count : Target → Sizes → Option TargetInstr → ℕ
+zero_count target sizes i = sizes.fields
 
 -- the slot in a cradle, 0 for none
 abbrev pub cradle_of : Entry → ℕ → ℕ

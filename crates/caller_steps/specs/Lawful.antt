@@ -1,5 +1,5 @@
 -- Which words may stand where.
-use Rattle.std.specs.Prelude.{◌≡◌, ℕ, ◌≤◌, Bool, true, false, Option, Some, None}
+use Rattle.std.specs.Prelude.{◌≡◌, ℕ, zero, suc, ◌≤◌, Bool, true, false, Option, Some, None}
 use Rattle.norm_lang.specs.declared.text.FieldKind.{FieldKind}
 use Rattle.norm_lang.specs.declared.text.FieldKind.TheVariants as kinds
 use Rattle.norm_lang.specs.InstructionRules.{field_kind, root_kind}
@@ -24,14 +24,16 @@ LawfulPhase setting word = (setting.first ≤ word) × (word ≤ setting.last)
 abbrev pub LawfulStatus : ℕ → ℕ → Type 0
 LawfulStatus last word = IsStatus last word
 
--- of a place, which no caller accesses, and of a field or root that isn't declared, any word is
+-- Of a place, which no caller accesses, any word is, and so of a root that isn't declared, or of a node's field that isn't. Null has no
+-- node: each of its fields is 0, so that a load through null finds null, or the number 0.
 abbrev pub IsLawful : Target → Setting → Word → ℕ → Type 0
 IsLawful target setting Phase word = LawfulPhase setting word
 IsLawful target setting (Place c) word = Unit {0}
 IsLawful target setting (Warning c) word = LawfulPhase setting word
 IsLawful target setting (Hazard c r) word = word ≤ setting.sizes.slots
 IsLawful target setting (Status j) word = LawfulStatus setting.last word
-IsLawful target setting (FieldOf j g) word = LawfulValue setting.sizes.slots (field_kind target.fields g) word
+IsLawful target setting (FieldOf zero g) word = word ≡ 0
+IsLawful target setting (FieldOf (suc j) g) word = LawfulValue setting.sizes.slots (field_kind target.fields g) word
 IsLawful target setting (Cell x) word = LawfulValue setting.sizes.slots (root_kind target.roots x) word
 IsLawful target setting Head word = IsHead setting.sizes setting.last word
 IsLawful target setting (Link j) word = word ≤ setting.sizes.slots

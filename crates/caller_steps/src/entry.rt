@@ -117,13 +117,15 @@ impl Entry {
         self.number = number;
     }
 
-    /// Takes a call: the entry stands at the start of its generator.
+    /// Takes a call: the entry stands at the start of its generator, with the call's arguments in its registers.
     pub fn begin(&mut self, call: Call)
         ensures { self.new ≡ record self.old { core = taken call self.old.core } }
     {
         self.running = Running { call, steps: 0 };
         self.hand.wrapup = false;
         self.hand.at = 0;
+        self.hand.registers = starting_registers(&call.args);
+        self.hand.started = starting_registers(&[0; 4]);
         self.routine = Routine::LoadSeen(MethodStart::Begin);
     }
 

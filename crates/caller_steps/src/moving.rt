@@ -7,7 +7,7 @@ ghost use Rattle.caller_steps.specs.After.{replied, new_on, then_goes, clear_on,
 
 use crate::entry::Entry;
 use caller_parts::local::{instr_at, run_target};
-use caller_parts::operands::news_before;
+use caller_parts::operands::cradle_number;
 use caller_parts::{AfterClear, MethodStart, Program, Reply, Routine};
 use norm_lang::registers::{Registers, number_at, put_count, starting_registers};
 use norm_lang::text::{CasEntry, Instr};
@@ -29,11 +29,11 @@ impl Entry {
         instr_at(self.code_in(program), self.hand.at)
     }
 
-    /// The number of the `new` at which the entry stands.
+    /// The number of the cradle of the `new` at which the entry stands.
     pub(crate) fn new_number(&self, program: &Program) -> usize
         ensures { result ≡ new_number program.now self.now.core }
     {
-        news_before(self.code_in(program), self.hand.at)
+        cradle_number(self.code_in(program), self.hand.at)
     }
 
     /// The slot in a cradle, 0 for none.

@@ -2,11 +2,11 @@
 use Rattle.std.proofs.Common.{ℕ, suc, ◌≡◌, ◌≢◌, ◌==◌, ◌%◌, ◌≤◌, ◌<◌, ◌∙◌, true, false, List, [], ◌∷◌, Option, Some, None, arith, inl, inr, ⊎_elim, sym, ap, subst, refl, max}
 use Rattle.std.proofs.lemmas.Bool.{cases_eq}
 use Rattle.std.proofs.lemmas.Bool.Decides.{eqb_tells}
-use Rattle.oa_words.specs.Words.{Word, Phase, Status, Head, Link, Sizes}
+use Rattle.oa_words.specs.Words.{Word, Phase, Status, Head, Link, Sizes, SlotRange, slot_range, IsSlot}
 use Rattle.oa_words.specs.Packed.{head_word}
 use Rattle.oa_words.specs.Memories.{store}
 use Rattle.chain_laws.specs.Memories.{put}
-use Rattle.chain_laws.specs.Chains.{IsChain, times, below_top, Owner, Chained, Taken, Pushing, Outside, Retiring, Retired, caller_of, Hands, handed, with_top, without_top, stamp, top, links, once, UpTo, IsSlot, SlotHolds, PoolHolds}
+use Rattle.chain_laws.specs.Chains.{IsChain, times, below_top, Owner, Chained, Taken, Pushing, Outside, Retiring, Retired, caller_of, Hands, handed, with_top, without_top, stamp, top, links, once, UpTo, SlotHolds, PoolHolds}
 use Rattle.chain_laws.specs.Standing.{ComesAbove, MayMove}
 use Rattle.chain_laws.proofs.Lists.{each_put, same_test, other_test, put_same, put_other, times_here, times_other, chain_same}
 
@@ -31,31 +31,31 @@ up_to phase phase' None le is = tt
 up_to phase phase' (Some tag) le is = omega (arith, le, is)
 
 -- the head's stamp and the phase rise
-pub slot_up : (n : Sizes) (stamped stamped' phase phase' j word word' : ℕ) (o : Owner) → stamped ≤ stamped' → phase ≤ phase' → word' ≡ word → SlotHolds n stamped phase j word o → SlotHolds n stamped' phase' j word' o
-slot_up n stamped stamped' phase phase' j word word' Chained le up same is = (is.0, (is.1.0, same ∙ is.1.1, omega (arith, le, is.1.2)))
-slot_up n stamped stamped' phase phase' j word word' (Taken c) le up same is = (is.0, (is.1.0, same ∙ is.1.1))
-slot_up n stamped stamped' phase phase' j word word' (Pushing c s) le up same is = (is.0, same ∙ is.1, omega (arith, up, is.2))
-slot_up n stamped stamped' phase phase' j word word' Outside le up same is = λ within. ((is within).0, same ∙ (is within).1)
-slot_up n stamped stamped' phase phase' j word word' (Retiring c tag) le up same is = (is.0, (is.1.0, same ∙ is.1.1), up_to phase phase' tag up is.2)
-slot_up n stamped stamped' phase phase' j word word' (Retired tag) le up same is = (is.0, same ∙ is.1, omega (arith, up, is.2))
+pub slot_up : (range : SlotRange) (stamped stamped' phase phase' j word word' : ℕ) (o : Owner) → stamped ≤ stamped' → phase ≤ phase' → word' ≡ word → SlotHolds range stamped phase j word o → SlotHolds range stamped' phase' j word' o
+slot_up range stamped stamped' phase phase' j word word' Chained le up same is = (is.0, (is.1.0, same ∙ is.1.1, omega (arith, le, is.1.2)))
+slot_up range stamped stamped' phase phase' j word word' (Taken c) le up same is = (is.0, (is.1.0, same ∙ is.1.1))
+slot_up range stamped stamped' phase phase' j word word' (Pushing c s) le up same is = (is.0, same ∙ is.1, omega (arith, up, is.2))
+slot_up range stamped stamped' phase phase' j word word' Outside le up same is = λ within. ((is within).0, same ∙ (is within).1)
+slot_up range stamped stamped' phase phase' j word word' (Retiring c tag) le up same is = (is.0, (is.1.0, same ∙ is.1.1), up_to phase phase' tag up is.2)
+slot_up range stamped stamped' phase phase' j word word' (Retired tag) le up same is = (is.0, same ∙ is.1, omega (arith, up, is.2))
 
 -- a slot of the chain is none of null
-in_chain : (n : Sizes) (stamped phase j word : ℕ) (o : Owner) → once o ≢ 0 → SlotHolds n stamped phase j word o → IsSlot n j
-in_chain n stamped phase j word Chained some is = is.0
-in_chain n stamped phase j word (Taken c) some is = absurd (some refl)
-in_chain n stamped phase j word (Pushing c s) some is = absurd (some refl)
-in_chain n stamped phase j word Outside some is = absurd (some refl)
-in_chain n stamped phase j word (Retiring c tag) some is = absurd (some refl)
-in_chain n stamped phase j word (Retired tag) some is = absurd (some refl)
+in_chain : (range : SlotRange) (stamped phase j word : ℕ) (o : Owner) → once o ≢ 0 → SlotHolds range stamped phase j word o → IsSlot range j
+in_chain range stamped phase j word Chained some is = is.0
+in_chain range stamped phase j word (Taken c) some is = absurd (some refl)
+in_chain range stamped phase j word (Pushing c s) some is = absurd (some refl)
+in_chain range stamped phase j word Outside some is = absurd (some refl)
+in_chain range stamped phase j word (Retiring c tag) some is = absurd (some refl)
+in_chain range stamped phase j word (Retired tag) some is = absurd (some refl)
 
 -- and a caller has none of null
-pub is_callers : (n : Sizes) (stamped phase j word c : ℕ) (o : Owner) → caller_of o ≡ Some c → SlotHolds n stamped phase j word o → IsSlot n j
-is_callers n stamped phase j word c Chained is slot = absurd (let z : None ≡ Some c = is in cc)
-is_callers n stamped phase j word c (Taken x) is slot = slot.0
-is_callers n stamped phase j word c (Pushing x s) is slot = slot.0
-is_callers n stamped phase j word c Outside is slot = absurd (let z : None ≡ Some c = is in cc)
-is_callers n stamped phase j word c (Retiring x tag) is slot = slot.0
-is_callers n stamped phase j word c (Retired tag) is slot = absurd (let z : None ≡ Some c = is in cc)
+pub is_callers : (range : SlotRange) (stamped phase j word c : ℕ) (o : Owner) → caller_of o ≡ Some c → SlotHolds range stamped phase j word o → IsSlot range j
+is_callers range stamped phase j word c Chained is slot = absurd (let z : None ≡ Some c = is in cc)
+is_callers range stamped phase j word c (Taken x) is slot = slot.0
+is_callers range stamped phase j word c (Pushing x s) is slot = slot.0
+is_callers range stamped phase j word c Outside is slot = absurd (let z : None ≡ Some c = is in cc)
+is_callers range stamped phase j word c (Retiring x tag) is slot = slot.0
+is_callers range stamped phase j word c (Retired tag) is slot = absurd (let z : None ≡ Some c = is in cc)
 
 pub is_chained : (o : Owner) → once o ≢ 0 → o ≡ Chained
 is_chained Chained some = refl
@@ -124,7 +124,7 @@ fine_same n memory memory' hands same f = record {
   stamped = omega (arith, f.stamped, same.phase, same.head);
   linked = chain_same (links memory) (links memory') (top memory') hands.chain (λ i some. same.link i) (subst (λ (w : ℕ). IsChain (links memory) (w % 8192) hands.chain) (sym same.head) f.linked);
   stands = f.stands;
-  slot = λ j. slot_up n (stamp memory) (stamp memory') (memory Phase) (memory' Phase) j (memory (Status j)) (memory' (Status j)) (hands.owner j) (omega (arith, same.head)) same.phase (same.status j) (f.slot j);
+  slot = λ j. slot_up (slot_range n) (stamp memory) (stamp memory') (memory Phase) (memory' Phase) j (memory (Status j)) (memory' (Status j)) (hands.owner j) (omega (arith, same.head)) same.phase (same.status j) (f.slot j);
 }
 
 pub goes_same : (c : ℕ) (memory memory' : Word → ℕ) (hands : Hands) → Same memory memory' → MayMove c memory hands memory' hands
@@ -141,13 +141,13 @@ goes_same c memory memory' hands same = record {
 
 -- ---- other words past the row
 
-row_slot : (n : Sizes) (stamped phase j word word' : ℕ) (o : Owner) → (j ≤ n.slots → word' ≡ word) → SlotHolds n stamped phase j word o → SlotHolds n stamped phase j word' o
-row_slot n stamped phase j word word' Chained same is = (is.0, (is.1.0, same is.0.1 ∙ is.1.1, is.1.2))
-row_slot n stamped phase j word word' (Taken c) same is = (is.0, (is.1.0, same is.0.1 ∙ is.1.1))
-row_slot n stamped phase j word word' (Pushing c s) same is = (is.0, same is.0.1 ∙ is.1, is.2)
-row_slot n stamped phase j word word' Outside same is = λ within. ((is within).0, same within ∙ (is within).1)
-row_slot n stamped phase j word word' (Retiring c tag) same is = (is.0, (is.1.0, same is.0.1 ∙ is.1.1), is.2)
-row_slot n stamped phase j word word' (Retired tag) same is = (is.0, same is.0.1 ∙ is.1, is.2)
+row_slot : (range : SlotRange) (stamped phase j word word' : ℕ) (o : Owner) → (j ≤ range.last → word' ≡ word) → SlotHolds range stamped phase j word o → SlotHolds range stamped phase j word' o
+row_slot range stamped phase j word word' Chained same is = (is.0, (is.1.0, same is.0.1 ∙ is.1.1, is.1.2))
+row_slot range stamped phase j word word' (Taken c) same is = (is.0, (is.1.0, same is.0.1 ∙ is.1.1))
+row_slot range stamped phase j word word' (Pushing c s) same is = (is.0, same is.0.1 ∙ is.1, is.2)
+row_slot range stamped phase j word word' Outside same is = λ within. ((is within).0, same within ∙ (is within).1)
+row_slot range stamped phase j word word' (Retiring c tag) same is = (is.0, (is.1.0, same is.0.1 ∙ is.1.1), is.2)
+row_slot range stamped phase j word word' (Retired tag) same is = (is.0, same is.0.1 ∙ is.1, is.2)
 
 -- the pool's words in the row are the same
 pub fine_row : (n : Sizes) (memory memory' : Word → ℕ) (hands : Hands) → memory' Phase ≡ memory Phase → memory' Head ≡ memory Head → ((j : ℕ) → j ≤ n.slots → memory' (Link j) ≡ memory (Link j))
@@ -155,24 +155,24 @@ pub fine_row : (n : Sizes) (memory memory' : Word → ℕ) (hands : Hands) → m
 fine_row n memory memory' hands phase head link status f = record {
   stamped = omega (arith, f.stamped, phase, head);
   linked = chain_same (links memory) (links memory') (top memory') hands.chain
-      (λ i some. link i (in_chain n (stamp memory) (memory Phase) i (memory (Status i)) (hands.owner i) (λ z. some (f.stands i ∙ z)) (f.slot i)).1)
+      (λ i some. link i (in_chain (slot_range n) (stamp memory) (memory Phase) i (memory (Status i)) (hands.owner i) (λ z. some (f.stands i ∙ z)) (f.slot i)).1)
       (subst (λ (w : ℕ). IsChain (links memory) (w % 8192) hands.chain) (sym head) f.linked);
   stands = f.stands;
-  slot = λ j. slot_up n (stamp memory) (stamp memory') (memory Phase) (memory' Phase) j (memory' (Status j)) (memory' (Status j)) (hands.owner j) (omega (arith, head)) (omega (arith, phase)) refl
-      (row_slot n (stamp memory) (memory Phase) j (memory (Status j)) (memory' (Status j)) (hands.owner j) (status j) (f.slot j));
+  slot = λ j. slot_up (slot_range n) (stamp memory) (stamp memory') (memory Phase) (memory' Phase) j (memory' (Status j)) (memory' (Status j)) (hands.owner j) (omega (arith, head)) (omega (arith, phase)) refl
+      (row_slot (slot_range n) (stamp memory) (memory Phase) j (memory (Status j)) (memory' (Status j)) (hands.owner j) (status j) (f.slot j));
 }
 
 -- ---- a slot outside the chain changes hands
 
 pub fine_handed : (n : Sizes) (memory memory' : Word → ℕ) (hands : Hands) (c j : ℕ) (o : Owner) → Near memory memory' j → IsMine c (hands.owner j) → once o ≡ 0
-    → SlotHolds n (stamp memory) (memory' Phase) j (memory' (Status j)) o → PoolHolds n memory hands → PoolHolds n memory' (handed hands j o)
+    → SlotHolds (slot_range n) (stamp memory) (memory' Phase) j (memory' (Status j)) o → PoolHolds n memory hands → PoolHolds n memory' (handed hands j o)
 fine_handed n memory memory' hands c j o near mine none here f = record {
   stamped = omega (arith, f.stamped, near.phase, near.head);
   linked = chain_same (links memory) (links memory') (top memory') hands.chain (λ i some. near.link i) (subst (λ (w : ℕ). IsChain (links memory) (w % 8192) hands.chain) (sym near.head) f.linked);
   stands = each_put (λ i (x : Owner). times i hands.chain ≡ once x) hands.owner j o (f.stands j ∙ (mine_apart c (hands.owner j) mine ∙ sym none)) (λ i ne. f.stands i);
-  slot = each_put (λ i (x : Owner). SlotHolds n (stamp memory') (memory' Phase) i (memory' (Status i)) x) hands.owner j o
-      (slot_up n (stamp memory) (stamp memory') (memory' Phase) (memory' Phase) j (memory' (Status j)) (memory' (Status j)) o (omega (arith, near.head)) (omega arith) refl here)
-      (λ i ne. slot_up n (stamp memory) (stamp memory') (memory Phase) (memory' Phase) i (memory (Status i)) (memory' (Status i)) (hands.owner i) (omega (arith, near.head)) near.phase (near.status i ne) (f.slot i));
+  slot = each_put (λ i (x : Owner). SlotHolds (slot_range n) (stamp memory') (memory' Phase) i (memory' (Status i)) x) hands.owner j o
+      (slot_up (slot_range n) (stamp memory) (stamp memory') (memory' Phase) (memory' Phase) j (memory' (Status j)) (memory' (Status j)) o (omega (arith, near.head)) (omega arith) refl here)
+      (λ i ne. slot_up (slot_range n) (stamp memory) (stamp memory') (memory Phase) (memory' Phase) i (memory (Status i)) (memory' (Status i)) (hands.owner i) (omega (arith, near.head)) near.phase (near.status i ne) (f.slot i));
 }
 
 pub goes_handed : (c : ℕ) (memory memory' : Word → ℕ) (hands : Hands) (j : ℕ) (o : Owner) → Near memory memory' j → IsMine c (hands.owner j) → IsMine c o
@@ -209,12 +209,12 @@ record TakenOff (n : Sizes) (memory : Word → ℕ) (owner : ℕ → Owner) (c t
   linked : IsChain (links memory) next below
   stands : (j : ℕ) → times j below ≡ once (put owner t (Taken c) j)
 
-next_small : (n : Sizes) (memory : Word → ℕ) (owner : ℕ → Owner) (t next : ℕ) (below : List ℕ) → n.slots ≤ 4096 → IsChain (links memory) next below
-    → ((j : ℕ) → times j (t ∷ below) ≡ once (owner j)) → ((j : ℕ) → SlotHolds n (stamp memory) (memory Phase) j (memory (Status j)) (owner j)) → next < 8192
-next_small n memory owner t next [] le is stands slot = omega (arith, is)
-next_small n memory owner t next (j ∷ below) le is stands slot =
+next_small : (range : SlotRange) (memory : Word → ℕ) (owner : ℕ → Owner) (t next : ℕ) (below : List ℕ) → range.last ≤ 4096 → IsChain (links memory) next below
+    → ((j : ℕ) → times j (t ∷ below) ≡ once (owner j)) → ((j : ℕ) → SlotHolds range (stamp memory) (memory Phase) j (memory (Status j)) (owner j)) → next < 8192
+next_small range memory owner t next [] le is stands slot = omega (arith, is)
+next_small range memory owner t next (j ∷ below) le is stands slot =
     let some : once (owner j) ≢ 0 = λ z. times_below_top (stands j ∙ z) in
-    let within = in_chain n (stamp memory) (memory Phase) j (memory (Status j)) (owner j) some (slot j) in
+    let within = in_chain range (stamp memory) (memory Phase) j (memory (Status j)) (owner j) some (slot j) in
     let same : next ≡ j = is.0 in
     omega (arith, within.1, le, same)
   where
@@ -225,22 +225,22 @@ next_small n memory owner t next (j ∷ below) le is stands slot =
         (eqb_tells t j)
 
 take_off : (n : Sizes) (memory : Word → ℕ) (hands : Hands) (c q t next : ℕ) (chain : List ℕ) → Expected n memory hands q t next → IsChain (links memory) (top memory) chain
-    → ((j : ℕ) → times j chain ≡ once (hands.owner j)) → ((j : ℕ) → SlotHolds n (stamp memory) (memory Phase) j (memory (Status j)) (hands.owner j)) → TakenOff n memory hands.owner c t next (below_top chain)
+    → ((j : ℕ) → times j chain ≡ once (hands.owner j)) → ((j : ℕ) → SlotHolds (slot_range n) (stamp memory) (memory Phase) j (memory (Status j)) (hands.owner j)) → TakenOff n memory hands.owner c t next (below_top chain)
 take_off n memory hands c q t next [] e is stands slot = absurd (e.some (sym (tells memory q t e.head e.small).1 ∙ is))
 take_off n memory hands c q t next (j ∷ below) e is stands slot =
     let same : j ≡ t = sym is.0 ∙ (tells memory q t e.head e.small).1 in
     let at : (i : ℕ) → times i (t ∷ below) ≡ once (hands.owner i) = subst (λ (k : ℕ). (i : ℕ) → times i (k ∷ below) ≡ once (hands.owner i)) same stands in
     let linked : IsChain (links memory) next below = subst (λ (k : ℕ). IsChain (links memory) k below) (ap (links memory) same ∙ e.link) is.2 in
     record {
-      small = next_small n memory hands.owner t next below e.slots linked at slot;
+      small = next_small (slot_range n) memory hands.owner t next below e.slots linked at slot;
       linked = linked;
       stands = each_put (λ i (x : Owner). times i below ≡ once x) hands.owner t (Taken c)
           (let one : suc (times t below) ≡ 1 = sym (times_here t below) ∙ (at t ∙ ap once e.own) in omega (arith, one))
           (λ i ne. sym (times_other i t below (λ z. ne (sym z))) ∙ at i);
     }
 
-ready_taken : (n : Sizes) (stamped phase j word c : ℕ) (o : Owner) → o ≡ Chained → SlotHolds n stamped phase j word o → SlotHolds n stamped phase j word (Taken c)
-ready_taken n stamped phase j word c o own is = let slot : SlotHolds n stamped phase j word Chained = subst (λ (x : Owner). SlotHolds n stamped phase j word x) own is in (slot.0, (slot.1.0, slot.1.1))
+ready_taken : (range : SlotRange) (stamped phase j word c : ℕ) (o : Owner) → o ≡ Chained → SlotHolds range stamped phase j word o → SlotHolds range stamped phase j word (Taken c)
+ready_taken range stamped phase j word c o own is = let slot : SlotHolds range stamped phase j word Chained = subst (λ (x : Owner). SlotHolds range stamped phase j word x) own is in (slot.0, (slot.1.0, slot.1.1))
 
 pub fine_taken : (n : Sizes) (memory : Word → ℕ) (hands : Hands) (c q t next : ℕ) → Expected n memory hands q t next → PoolHolds n memory hands
     → PoolHolds n (store memory Head (head_word q next)) (without_top hands c t)
@@ -252,13 +252,13 @@ fine_taken n memory hands c q t next e f =
       stamped = omega (arith, f.stamped, here.0, there.0);
       linked = subst (λ (k : ℕ). IsChain (links memory) k (below_top hands.chain)) (sym there.1) off.linked;
       stands = off.stands;
-      slot = each_put (λ i (x : Owner). SlotHolds n (stamp (store memory Head (head_word q next))) (memory Phase) i (memory (Status i)) x) hands.owner t (Taken c)
-          (ready_taken n (stamp (store memory Head (head_word q next))) (memory Phase) t (memory (Status t)) c (hands.owner t) e.own (up off t))
+      slot = each_put (λ i (x : Owner). SlotHolds (slot_range n) (stamp (store memory Head (head_word q next))) (memory Phase) i (memory (Status i)) x) hands.owner t (Taken c)
+          (ready_taken (slot_range n) (stamp (store memory Head (head_word q next))) (memory Phase) t (memory (Status t)) c (hands.owner t) e.own (up off t))
           (λ i ne. up off i);
     }
   where
-    up : TakenOff n memory hands.owner c t next (below_top hands.chain) → (i : ℕ) → SlotHolds n (stamp (store memory Head (head_word q next))) (memory Phase) i (memory (Status i)) (hands.owner i)
-    up off i = slot_up n (stamp memory) (stamp (store memory Head (head_word q next))) (memory Phase) (memory Phase) i (memory (Status i)) (memory (Status i)) (hands.owner i)
+    up : TakenOff n memory hands.owner c t next (below_top hands.chain) → (i : ℕ) → SlotHolds (slot_range n) (stamp (store memory Head (head_word q next))) (memory Phase) i (memory (Status i)) (hands.owner i)
+    up off i = slot_up (slot_range n) (stamp memory) (stamp (store memory Head (head_word q next))) (memory Phase) (memory Phase) i (memory (Status i)) (memory (Status i)) (hands.owner i)
         (let here = tells memory q t e.head e.small in let there = tells (store memory Head (head_word q next)) q next refl off.small in omega (arith, here.0, there.0)) (omega arith) refl (f.slot i)
 
 pub goes_taken : (n : Sizes) (memory : Word → ℕ) (hands : Hands) (c q t next : ℕ) → Expected n memory hands q t next → PoolHolds n memory hands
@@ -315,14 +315,14 @@ pub record Pushes (n : Sizes) (memory : Word → ℕ) (hands : Hands) (c s j q t
   pub own : hands.owner j ≡ Pushing c s
   pub link : memory (Link j) ≡ t
 
-pushing_slot : (n : Sizes) (stamped phase j word c s : ℕ) (o : Owner) → o ≡ Pushing c s → SlotHolds n stamped phase j word o → SlotHolds n stamped phase j word (Pushing c s)
-pushing_slot n stamped phase j word c s o own is = subst (λ (x : Owner). SlotHolds n stamped phase j word x) own is
+pushing_slot : (range : SlotRange) (stamped phase j word c s : ℕ) (o : Owner) → o ≡ Pushing c s → SlotHolds range stamped phase j word o → SlotHolds range stamped phase j word (Pushing c s)
+pushing_slot range stamped phase j word c s o own is = subst (λ (x : Owner). SlotHolds range stamped phase j word x) own is
 
 pub fine_pushed : (n : Sizes) (memory : Word → ℕ) (hands : Hands) (c s j q t : ℕ) → Pushes n memory hands c s j q t → PoolHolds n memory hands
     → PoolHolds n (store memory Head (head_word (max q s) j)) (with_top hands j)
 fine_pushed n memory hands c s j q t e f =
     let here = tells memory q t e.head e.small in
-    let slot = pushing_slot n (stamp memory) (memory Phase) j (memory (Status j)) c s (hands.owner j) e.own (f.slot j) in
+    let slot = pushing_slot (slot_range n) (stamp memory) (memory Phase) j (memory (Status j)) c s (hands.owner j) e.own (f.slot j) in
     let low : j < 8192 = (let within = slot.0.1 in let most = e.slots in omega (arith, within, most)) in
     let there = tells (store memory Head (head_word (max q s) j)) (max q s) j refl low in
     let none : times j hands.chain ≡ 0 = f.stands j ∙ ap once e.own in
@@ -333,16 +333,16 @@ fine_pushed n memory hands c s j q t e f =
       stands = each_put (λ i (x : Owner). times i (j ∷ hands.chain) ≡ once x) hands.owner j Chained
           (times_here j hands.chain ∙ ap suc none)
           (λ i ne. times_other i j hands.chain (λ z. ne (sym z)) ∙ f.stands i);
-      slot = each_put (λ i (x : Owner). SlotHolds n (stamp (store memory Head (head_word (max q s) j))) (memory Phase) i (memory (Status i)) x) hands.owner j Chained
+      slot = each_put (λ i (x : Owner). SlotHolds (slot_range n) (stamp (store memory Head (head_word (max q s) j))) (memory Phase) i (memory (Status i)) x) hands.owner j Chained
           (slot.0, (s, slot.1, omega (arith, there.0)))
-          (λ i ne. slot_up n (stamp memory) (stamp (store memory Head (head_word (max q s) j))) (memory Phase) (memory Phase) i (memory (Status i)) (memory (Status i)) (hands.owner i) up (omega arith) refl (f.slot i));
+          (λ i ne. slot_up (slot_range n) (stamp memory) (stamp (store memory Head (head_word (max q s) j))) (memory Phase) (memory Phase) i (memory (Status i)) (memory (Status i)) (hands.owner i) up (omega arith) refl (f.slot i));
     }
 
 pub goes_pushed : (n : Sizes) (memory : Word → ℕ) (hands : Hands) (c s j q t : ℕ) → Pushes n memory hands c s j q t → PoolHolds n memory hands
     → MayMove c memory hands (store memory Head (head_word (max q s) j)) (with_top hands j)
 goes_pushed n memory hands c s j q t e f =
     let here = tells memory q t e.head e.small in
-    let slot = pushing_slot n (stamp memory) (memory Phase) j (memory (Status j)) c s (hands.owner j) e.own (f.slot j) in
+    let slot = pushing_slot (slot_range n) (stamp memory) (memory Phase) j (memory (Status j)) c s (hands.owner j) e.own (f.slot j) in
     let low : j < 8192 = (let within = slot.0.1 in let most = e.slots in omega (arith, within, most)) in
     let there = tells (store memory Head (head_word (max q s) j)) (max q s) j refl low in
     record {

@@ -1,7 +1,7 @@
 -- Which slot a caller has after each step.
 use Rattle.std.proofs.Common.{ℕ, ◌≡◌, ◌==◌, ◌∙◌, Bool, true, false, Option, Some, None, arith, sym, subst, refl, if◌then◌else◌}
 use Rattle.oa_words.specs.declared.packed.Kind.TheVariants as kinds
-use Rattle.oa_words.specs.Words.{Word, Phase, Status, Head, Sizes}
+use Rattle.oa_words.specs.Words.{Word, Phase, Status, Head, Sizes, slot_range}
 use Rattle.oa_words.specs.Packed.{status_word, head_word}
 use Rattle.phase_pools.specs.declared.access.SweepEnd.{SweepEnd}
 use Rattle.phase_pools.specs.declared.access.SweepEnd.TheVariants as swept
@@ -23,7 +23,7 @@ use Rattle.chain_laws.proofs.Changes.{is_callers}
 -- a caller that has no slot in its routine has none
 none_has : (n : Sizes) (m : Word → ℕ) (h : Hands) (c : ℕ) (P : Type 0) → PoolHolds n m h → HasOnly h c 0 → (j : ℕ) → caller_of (h.owner j) ≡ Some c → P
 none_has n m h c P f mine j is =
-    let slot = is_callers n (stamp m) (m Phase) j (m (Status j)) c (h.owner j) is (f.slot j) in
+    let slot = is_callers (slot_range n) (stamp m) (m Phase) j (m (Status j)) c (h.owner j) is (f.slot j) in
     let zero_is = mine j is in
     let some = slot.0 in
     let differ : ⊥ = omega (arith, zero_is, some) in absurd differ

@@ -4,7 +4,7 @@ use Rattle.std.specs.Prelude.{nat_lt}
 use Rattle.std.proofs.lemmas.Bool.Decides.{nat_tests}
 use Rattle.oa_words.specs.declared.packed.Kind.{Kind}
 use Rattle.oa_words.specs.declared.packed.Kind.TheVariants as kinds
-use Rattle.oa_words.specs.Words.{Word, Phase, Warning, Hazard, Status, Head, Link, Sizes}
+use Rattle.oa_words.specs.Words.{Word, Phase, Warning, Hazard, Status, Head, Link, Sizes, SlotRange, slot_range}
 use Rattle.oa_words.specs.Packed.{StatusParts, status_word, status_parts, head_word, head_parts}
 use Rattle.oa_words.proofs.Parts.{status_back}
 use Rattle.guard_words.specs.Guards.{has_slot}
@@ -54,13 +54,13 @@ pub kinds_apart : (P : Type 0) (p q : ℕ) (k l : Kind) (word : ℕ) → (k ≡ 
 kinds_apart P p q k l word ne a b = absurd (ne (status_tells p q k l (sym a ∙ b)).1)
 
 -- a slot whose status is retired is nobody's
-pub is_retired : (n : Sizes) (stamped phase j word q : ℕ) (o : Owner) → j ≤ n.slots → word ≡ status_word q kinds.Retired → SlotHolds n stamped phase j word o → o ≡ Retired q
-is_retired n stamped phase j word q Chained le is slot = kinds_apart _ q slot.1.0 kinds.Retired kinds.Ready word (λ e. cc) is slot.1.1
-is_retired n stamped phase j word q (Taken c) le is slot = kinds_apart _ q slot.1.0 kinds.Retired kinds.Ready word (λ e. cc) is slot.1.1
-is_retired n stamped phase j word q (Pushing c s) le is slot = kinds_apart _ q s kinds.Retired kinds.Ready word (λ e. cc) is slot.1
-is_retired n stamped phase j word q Outside le is slot = let used = slot le in kinds_apart _ q used.0 kinds.Retired kinds.Used word (λ e. cc) is used.1
-is_retired n stamped phase j word q (Retiring c tag) le is slot = kinds_apart _ q slot.1.0 kinds.Retired kinds.Used word (λ e. cc) is slot.1.1
-is_retired n stamped phase j word q (Retired tag) le is slot = ap Retired (status_tells tag q kinds.Retired kinds.Retired (sym slot.1 ∙ is)).0
+pub is_retired : (range : SlotRange) (stamped phase j word q : ℕ) (o : Owner) → j ≤ range.last → word ≡ status_word q kinds.Retired → SlotHolds range stamped phase j word o → o ≡ Retired q
+is_retired range stamped phase j word q Chained le is slot = kinds_apart _ q slot.1.0 kinds.Retired kinds.Ready word (λ e. cc) is slot.1.1
+is_retired range stamped phase j word q (Taken c) le is slot = kinds_apart _ q slot.1.0 kinds.Retired kinds.Ready word (λ e. cc) is slot.1.1
+is_retired range stamped phase j word q (Pushing c s) le is slot = kinds_apart _ q s kinds.Retired kinds.Ready word (λ e. cc) is slot.1
+is_retired range stamped phase j word q Outside le is slot = let used = slot le in kinds_apart _ q used.0 kinds.Retired kinds.Used word (λ e. cc) is used.1
+is_retired range stamped phase j word q (Retiring c tag) le is slot = kinds_apart _ q slot.1.0 kinds.Retired kinds.Used word (λ e. cc) is slot.1.1
+is_retired range stamped phase j word q (Retired tag) le is slot = ap Retired (status_tells tag q kinds.Retired kinds.Retired (sym slot.1 ∙ is)).0
 
 -- ---- a sweep
 
@@ -103,8 +103,8 @@ freed : (n : Sizes) (c : ℕ) (m : Word → ℕ) (h : Hands) (s j q : ℕ) → P
     → PoolHolds n (store m (Status j) (status_word s kinds.Ready)) (handed h j (Pushing c s)) × MayMove c m h (store m (Status j) (status_word s kinds.Ready)) (handed h j (Pushing c s))
 freed n c m h s j q f up le lt is =
     let m' : Word → ℕ = store m (Status j) (status_word s kinds.Ready) in
-    let own : h.owner j ≡ Retired q = is_retired n (stamp m) (m Phase) j (m (Status j)) q (h.owner j) le is (f.slot j) in
-    let slot : SlotHolds n (stamp m) (m Phase) j (m (Status j)) (Retired q) = subst (λ (o : Owner). SlotHolds n (stamp m) (m Phase) j (m (Status j)) o) own (f.slot j) in
+    let own : h.owner j ≡ Retired q = is_retired (slot_range n) (stamp m) (m Phase) j (m (Status j)) q (h.owner j) le is (f.slot j) in
+    let slot : SlotHolds (slot_range n) (stamp m) (m Phase) j (m (Status j)) (Retired q) = subst (λ (o : Owner). SlotHolds (slot_range n) (stamp m) (m Phase) j (m (Status j)) o) own (f.slot j) in
     let near : Near m m' j = record { phase = omega arith; head = refl; link = λ i. refl; status = λ i ne. status_other m j (status_word s kinds.Ready) i ne } in
     let mine : IsMine c (h.owner j) = subst (λ (o : Owner). IsMine c o) (sym own) tt in (
       fine_handed n m m' h c j (Pushing c s) near mine refl (slot.0, status_here m j (status_word s kinds.Ready), up) f,
@@ -128,8 +128,8 @@ pushes : (n : Sizes) (c : ℕ) (m : Word → ℕ) (h : Hands) (sweep : Sweep) (j
     → PoolKept n c m h (after_access m (sweep_wants_at (sweeps.PushTop j q t) sweep.bound)) (sweep_hands c sweep.bound (sweeps.PushTop j q t) m h)
     (SweepNext n (after_access m (sweep_wants_at (sweeps.PushTop j q t) sweep.bound)) (sweep_hands c sweep.bound (sweeps.PushTop j q t) m h) c (pushed n sweep j q t (m Head)).sweep (pushed n sweep j q t (m Head)).ended)
 pushes n c m h sweep j q t most f w = of (m Head == head_word q t) refl where
-  slot : SlotHolds n (stamp m) (m Phase) j (m (Status j)) (Pushing c sweep.bound)
-  slot = subst (λ (o : Owner). SlotHolds n (stamp m) (m Phase) j (m (Status j)) o) w.1 (f.slot j)
+  slot : SlotHolds (slot_range n) (stamp m) (m Phase) j (m (Status j)) (Pushing c sweep.bound)
+  slot = subst (λ (o : Owner). SlotHolds (slot_range n) (stamp m) (m Phase) j (m (Status j)) o) w.1 (f.slot j)
 
   of : (b : Bool) → (m Head == head_word q t) ≡ b
       → PoolKept n c m h (store m Head (if b then head_word (max q sweep.bound) j else m Head)) (if b then with_top h j else h)
@@ -262,7 +262,7 @@ retire_step n c m h j retires.ReadPhase f own =
     let same = same_loaded m Phase in
     let near : Near m m' j = record { phase = same.phase; head = same.head; link = same.link; status = λ i ne. same.status i } in
     let mine : IsMine c (h.owner j) = subst (λ (o : Owner). IsMine c o) (sym own) refl in
-    let slot : SlotHolds n (stamp m) (m Phase) j (m (Status j)) (Retiring c None) = subst (λ (o : Owner). SlotHolds n (stamp m) (m Phase) j (m (Status j)) o) own (f.slot j) in
+    let slot : SlotHolds (slot_range n) (stamp m) (m Phase) j (m (Status j)) (Retiring c None) = subst (λ (o : Owner). SlotHolds (slot_range n) (stamp m) (m Phase) j (m (Status j)) o) own (f.slot j) in
     record {
       fine = fine_handed n m m' h c j (Retiring c (Some (m Phase))) near mine refl (slot.0, slot.1, omega arith) f;
       goes = goes_handed c m m' h j (Retiring c (Some (m Phase))) near mine refl (λ p below is. let up = f.stamped in omega (arith, below, up));
@@ -272,7 +272,7 @@ retire_step n c m h j (retires.StoreStatus p) f own =
     let m' : Word → ℕ = store m (Status j) (status_word p kinds.Retired) in
     let near : Near m m' j = record { phase = omega arith; head = refl; link = λ i. refl; status = λ i ne. status_other m j (status_word p kinds.Retired) i ne } in
     let mine : IsMine c (h.owner j) = subst (λ (o : Owner). IsMine c o) (sym own) refl in
-    let slot : SlotHolds n (stamp m) (m Phase) j (m (Status j)) (Retiring c (Some p)) = subst (λ (o : Owner). SlotHolds n (stamp m) (m Phase) j (m (Status j)) o) own (f.slot j) in
+    let slot : SlotHolds (slot_range n) (stamp m) (m Phase) j (m (Status j)) (Retiring c (Some p)) = subst (λ (o : Owner). SlotHolds (slot_range n) (stamp m) (m Phase) j (m (Status j)) o) own (f.slot j) in
     record {
       fine = fine_handed n m m' h c j (Retired p) near mine refl (slot.0, status_here m j (status_word p kinds.Retired), slot.2) f;
       goes = goes_handed c m m' h j (Retired p) near mine tt (λ q below is. subst (λ (o : Owner). ComesAbove q o) own is);
@@ -285,7 +285,7 @@ pub retire_begins : (n : Sizes) (c : ℕ) (m : Word → ℕ) (h : Hands) (j : �
 retire_begins n c m h j f some most own =
     let near : Near m m j = record { phase = omega arith; head = refl; link = λ i. refl; status = λ i ne. refl } in
     let mine : IsMine c (h.owner j) = subst (λ (o : Owner). IsMine c o) (sym own) tt in
-    let slot : SlotHolds n (stamp m) (m Phase) j (m (Status j)) Outside = subst (λ (o : Owner). SlotHolds n (stamp m) (m Phase) j (m (Status j)) o) own (f.slot j) in
+    let slot : SlotHolds (slot_range n) (stamp m) (m Phase) j (m (Status j)) Outside = subst (λ (o : Owner). SlotHolds (slot_range n) (stamp m) (m Phase) j (m (Status j)) o) own (f.slot j) in
     record {
       fine = fine_handed n m m h c j (Retiring c None) near mine refl ((some, most), slot most, tt) f;
       goes = goes_handed c m m h j (Retiring c None) near mine refl (λ q below is. tt);

@@ -2,7 +2,7 @@
 use Rattle.std.proofs.Common.{ℕ, suc, ◌≡◌, ◌≢◌, ◌≤◌, ◌⊎◌, ◌∙◌, ◌&&◌, Bool, true, false, List, [], ◌∷◌, Option, Some, None, arith, inl, inr, ⊎_elim, sym, subst, refl, if◌then◌else◌}
 use Rattle.std.specs.Prelude.{nat_le}
 use Rattle.std.proofs.lemmas.Bool.Decides.{nat_tests}
-use Rattle.oa_words.specs.Words.{Word, Link, Sizes}
+use Rattle.oa_words.specs.Words.{Word, Link, Sizes, slot_range}
 use Rattle.phase_pools.specs.declared.access.ClaimEnd.{ClaimEnd}
 use Rattle.phase_pools.specs.Accesses.{word_of}
 use Rattle.phase_pools.specs.Pools.{Claim, claim_begun, claim_wants, claim_accepts, Retirement, retire_begun, retire_wants, retire_accepts}
@@ -118,8 +118,8 @@ event_kept n last state later (BeginsClaim c) most w is =
     (steps_on n c state state.memory state.hands (Claims (claim_begun n)) (Unit {0}) w (record { fine = w.fine; goes = goes_same c state.memory state.memory state.hands (same_again state.memory); next = tt }) (λ next. tt) (subst (λ (x : Standing). HasOnly state.hands c (slot_of x)) begin.0 (w.has c)))
 event_kept n last state later (BeginsRetirement c j) most w is =
     let begin : PoolState = record state { hands = handed state.hands j (Retiring c None); who = put state.who c (Retires (retire_begun j)) } in
-    let test = tested (is_slot n j && is_outside (state.hands.owner j)) (begins (state.who c) begin) later is in
-    let parts = both (is_slot n j) (is_outside (state.hands.owner j)) test.0 in
+    let test = tested (is_slot (slot_range n) j && is_outside (state.hands.owner j)) (begins (state.who c) begin) later is in
+    let parts = both (is_slot (slot_range n) j) (is_outside (state.hands.owner j)) test.0 in
     let range = both (nat_le 1 j) (nat_le j n.slots) parts.0 in
     let start = begun (state.who c) begin later test.1 in
     subst (λ (x : PoolState). EventKept n state x) start.1

@@ -1,7 +1,7 @@
 -- What follows from what holds of the pool.
 use Rattle.std.proofs.Common.{ℕ, ◌≡◌, ◌≢◌, ◌≤◌, ◌<◌, ◌⊎◌, ◌∙◌, List, [], ◌∷◌, Option, Some, None, arith, inl, inr, ⊎_elim, sym, ap, subst, refl}
 use Rattle.oa_words.specs.declared.packed.Kind.TheVariants as kinds
-use Rattle.oa_words.specs.Words.{Word, Phase, Status, Head, Link, Sizes}
+use Rattle.oa_words.specs.Words.{Word, Phase, Status, Head, Link, Sizes, slot_range, IsSlot}
 use Rattle.oa_words.specs.Packed.{status_word, head_word}
 use Rattle.phase_pools.specs.declared.stages.SweepStage.{SweepStage}
 use Rattle.phase_pools.specs.declared.stages.SweepStage.TheVariants as sweeps
@@ -10,7 +10,7 @@ use Rattle.phase_pools.specs.declared.stages.ClaimStage.TheVariants as claims
 use Rattle.phase_pools.specs.declared.stages.RetireStage.{RetireStage}
 use Rattle.phase_pools.specs.declared.stages.RetireStage.TheVariants as retires
 use Rattle.phase_pools.specs.Pools.{Sweep, Claim, Retirement}
-use Rattle.chain_laws.specs.Chains.{IsChain, Owner, Chained, Taken, Pushing, Outside, Retiring, Retired, caller_of, Hands, times, stamp, links, once, IsOf, IsSlot, SlotHolds}
+use Rattle.chain_laws.specs.Chains.{IsChain, Owner, Chained, Taken, Pushing, Outside, Retiring, Retired, caller_of, Hands, times, stamp, links, once, IsOf, SlotHolds}
 use Rattle.chain_laws.specs.Standing.{Gone, slot_of_sweep, slot_of_claim, SweepStands, ClaimStands, RetireStands}
 use Rattle.chain_laws.specs.Machine.{Standing, Elsewhere, Claims, Retires, slot_of, PoolState}
 use Rattle.chain_laws.specs.Laws.{StandsAt, Holds, OfAll}
@@ -98,14 +98,14 @@ retiring n m h c j tag (Retires retirement) w some is own = (retirement, refl, i
 -- ---- statuses
 
 -- the slot by the owner that it is found to have
-slot_by : (n : Sizes) (state : PoolState) (j : ℕ) (o : Owner) → Holds n state → state.hands.owner j ≡ o → SlotHolds n (stamp state.memory) (state.memory Phase) j (state.memory (Status j)) o
-slot_by n state j o w own = subst (λ (x : Owner). SlotHolds n (stamp state.memory) (state.memory Phase) j (state.memory (Status j)) x) own (w.fine.slot j)
+slot_by : (n : Sizes) (state : PoolState) (j : ℕ) (o : Owner) → Holds n state → state.hands.owner j ≡ o → SlotHolds (slot_range n) (stamp state.memory) (state.memory Phase) j (state.memory (Status j)) o
+slot_by n state j o w own = subst (λ (x : Owner). SlotHolds (slot_range n) (stamp state.memory) (state.memory Phase) j (state.memory (Status j)) x) own (w.fine.slot j)
 
 empty_chain : (link : ℕ → ℕ) (chain : List ℕ) → IsChain link 0 chain → chain ≡ []
 empty_chain link [] is = refl
 empty_chain link (j ∷ below) is = absurd (is.1 (sym is.0))
 
-ready_slot : (n : Sizes) (state : PoolState) (j : ℕ) (o : Owner) → Holds n state → IsSlot n j → IsOf kinds.Ready (state.memory (Status j)) → state.hands.owner j ≡ o
+ready_slot : (n : Sizes) (state : PoolState) (j : ℕ) (o : Owner) → Holds n state → IsSlot (slot_range n) j → IsOf kinds.Ready (state.memory (Status j)) → state.hands.owner j ≡ o
     → (times j state.hands.chain ≡ 1) ⊎ ((c : ℕ) × (slot_of (state.who c) ≡ j) × IsClaiming (state.who c))
 ready_slot n state j Chained w slot is own = inl (w.fine.stands j ∙ ap once own)
 ready_slot n state j (Taken c) w slot is own =
@@ -166,7 +166,7 @@ pool_tells n state w = record {
       → (q < claim.sweep.bound) × (state.memory (Status j) ≡ status_word q kinds.Retired → state.hands.owner j ≡ Retired q)
   freed c claim j q stage k =
       let at : SweepStands n state.memory state.hands c claim.sweep.bound (sweeps.MakeReady j q) = subst (λ (x : SweepStage). SweepStands n state.memory state.hands c claim.sweep.bound x) stage k in
-      (at.2, λ is. is_retired n (stamp state.memory) (state.memory Phase) j (state.memory (Status j)) q (state.hands.owner j) at.1 is (w.fine.slot j))
+      (at.2, λ is. is_retired (slot_range n) (stamp state.memory) (state.memory Phase) j (state.memory (Status j)) q (state.hands.owner j) at.1 is (w.fine.slot j))
 
   pushed : (c : ℕ) (claim : Claim) (j q t : ℕ) → claim.sweep.stage ≡ sweeps.PushTop j q t → SweepStands n state.memory state.hands c claim.sweep.bound claim.sweep.stage → (state.memory (Link j) ≡ t) × (times j state.hands.chain ≡ 0)
   pushed c claim j q t stage k =

@@ -2,7 +2,7 @@
 use Rattle.std.specs.Prelude.{ℕ, suc, ◌≡◌, ◌≢◌, ◌≤◌, List, [], ◌∷◌, Option, Some, None, ◌==◌, if◌then◌else◌}
 use Rattle.oa_words.specs.declared.packed.Kind.{Kind}
 use Rattle.oa_words.specs.declared.packed.Kind.TheVariants as kinds
-use Rattle.oa_words.specs.Words.{Word, Phase, Status, Head, Link, Sizes}
+use Rattle.oa_words.specs.Words.{Word, Phase, Status, Head, Link, Sizes, SlotRange, slot_range, IsSlot}
 use Rattle.oa_words.specs.Packed.{status_word, head_parts}
 use Rattle.chain_laws.specs.Memories.{put}
 
@@ -81,18 +81,14 @@ abbrev pub UpTo : ℕ → Option ℕ → Type 0
 UpTo phase None = Unit {0}
 UpTo phase (Some tag) = tag ≤ phase
 
--- a slot that isn't null
-abbrev pub IsSlot : Sizes → ℕ → Type 0
-IsSlot n j = (1 ≤ j) × (j ≤ n.slots)
-
 -- the status word of a slot by its owner, where the head's stamp and the phase are these
-abbrev pub SlotHolds : Sizes → ℕ → ℕ → ℕ → ℕ → Owner → Type 0
-SlotHolds n stamped phase j word Chained = IsSlot n j × ((q : ℕ) × (word ≡ status_word q kinds.Ready) × (q ≤ stamped))
-SlotHolds n stamped phase j word (Taken c) = IsSlot n j × IsOf kinds.Ready word
-SlotHolds n stamped phase j word (Pushing c s) = IsSlot n j × (word ≡ status_word s kinds.Ready) × (s ≤ phase)
-SlotHolds n stamped phase j word Outside = j ≤ n.slots → IsOf kinds.Used word
-SlotHolds n stamped phase j word (Retiring c tag) = IsSlot n j × IsOf kinds.Used word × UpTo phase tag
-SlotHolds n stamped phase j word (Retired tag) = IsSlot n j × (word ≡ status_word tag kinds.Retired) × (tag ≤ phase)
+abbrev pub SlotHolds : SlotRange → ℕ → ℕ → ℕ → ℕ → Owner → Type 0
+SlotHolds range stamped phase j word Chained = IsSlot range j × ((q : ℕ) × (word ≡ status_word q kinds.Ready) × (q ≤ stamped))
+SlotHolds range stamped phase j word (Taken c) = IsSlot range j × IsOf kinds.Ready word
+SlotHolds range stamped phase j word (Pushing c s) = IsSlot range j × (word ≡ status_word s kinds.Ready) × (s ≤ phase)
+SlotHolds range stamped phase j word Outside = j ≤ range.last → IsOf kinds.Used word
+SlotHolds range stamped phase j word (Retiring c tag) = IsSlot range j × IsOf kinds.Used word × UpTo phase tag
+SlotHolds range stamped phase j word (Retired tag) = IsSlot range j × (word ≡ status_word tag kinds.Retired) × (tag ≤ phase)
 
 -- what holds of the pool's words at each moment
 pub record PoolHolds (n : Sizes) (memory : Word → ℕ) (hands : Hands) : Type 0 where
@@ -103,4 +99,4 @@ pub record PoolHolds (n : Sizes) (memory : Word → ℕ) (hands : Hands) : Type 
   -- each of its slots stands in it once, and no other slot does
   pub stands : (j : ℕ) → times j hands.chain ≡ once (hands.owner j)
   -- each slot has the status that its owner gave it
-  pub slot : (j : ℕ) → SlotHolds n (stamp memory) (memory Phase) j (memory (Status j)) (hands.owner j)
+  pub slot : (j : ℕ) → SlotHolds (slot_range n) (stamp memory) (memory Phase) j (memory (Status j)) (hands.owner j)

@@ -1,10 +1,10 @@
 -- The pool by itself: its words, and callers that claim and retire by its routines. What the rest of the core does is left open: which
 -- used slot a caller retires, and when, and what it stores in words that aren't the pool's.
-use Rattle.std.specs.Prelude.{ℕ, zero, suc, ◌+◌, ◌-◌, ◌&&◌, Bool, true, false, List, [], ◌∷◌, Option, Some, None, length, nat_le, nat_lt, ◌==◌, if◌then◌else◌}
+use Rattle.std.specs.Prelude.{ℕ, zero, suc, ◌+◌, ◌-◌, ◌&&◌, Bool, true, false, List, [], ◌∷◌, Option, Some, None, length, nat_le, ◌==◌, if◌then◌else◌}
 use Rattle.oa_words.specs.declared.packed.Kind.TheVariants as kinds
-use Rattle.oa_words.specs.Words.{Word, Phase, Place, Warning, Hazard, Status, FieldOf, Cell, Head, Link, Sizes}
+use Rattle.oa_words.specs.Words.{Word, Phase, Place, Warning, Hazard, Status, FieldOf, Cell, Head, Link, Sizes, SlotRange, slot_range}
 use Rattle.oa_words.specs.Packed.{status_word, head_word}
-use Rattle.oa_words.specs.Starts.{Beginning}
+use Rattle.oa_words.specs.Starts.{Beginning, first_ready}
 use Rattle.phase_pools.specs.declared.access.ClaimEnd.{ClaimEnd}
 use Rattle.phase_pools.specs.declared.stages.SweepStage.{SweepStage}
 use Rattle.phase_pools.specs.declared.stages.SweepStage.TheVariants as sweeps
@@ -88,8 +88,8 @@ is_outside Outside = true
 is_outside (Retiring c tag) = false
 is_outside (Retired tag) = false
 
-abbrev pub is_slot : Sizes → ℕ → Bool
-is_slot n j = nat_le 1 j && nat_le j n.slots
+abbrev pub is_slot : SlotRange → ℕ → Bool
+is_slot range j = nat_le range.first j && nat_le j range.last
 
 abbrev pub claim_left : Claim → Option ClaimEnd → Standing
 claim_left claim None = Claims claim
@@ -126,7 +126,7 @@ stepped n last state c (Retires retirement) =
 abbrev pub pool_event : Sizes → ℕ → PoolState → PoolEvent → Option PoolState
 pool_event n last state (BeginsClaim c) = begins (state.who c) (record state { who = put state.who c (Claims (claim_begun n)) })
 pool_event n last state (BeginsRetirement c j) =
-    if is_slot n j && is_outside (state.hands.owner j)
+    if is_slot (slot_range n) j && is_outside (state.hands.owner j)
     then begins (state.who c) (record state { hands = handed state.hands j (Retiring c None); who = put state.who c (Retires (retire_begun j)) })
     else None
 pool_event n last state (Steps c) = stepped n last state c (state.who c)
@@ -143,18 +143,22 @@ pool_run n last (event ∷ events) state = run_on (pool_event n last state event
 
 -- ---- the start
 
--- the slots after those of the initial nodes, in ascending order
+-- so many slots in ascending order, from one on
 abbrev pub slots_from : ℕ → ℕ → List ℕ
 slots_from j zero = []
 slots_from j (suc count) = j ∷ slots_from (j + 1) count
 
-abbrev pub start_owner : Sizes → ℕ → ℕ → Owner
-start_owner n nodes j = if nat_lt nodes j && nat_le j n.slots then Chained else Outside
+-- the slots after those of the initial nodes are in the chain
+abbrev pub start_chain : SlotRange → ℕ → List ℕ
+start_chain range nodes = slots_from (first_ready range nodes) (range.last + 1 - first_ready range nodes)
+
+abbrev pub start_owner : SlotRange → ℕ → ℕ → Owner
+start_owner range nodes j = if nat_le (first_ready range nodes) j && nat_le j range.last then Chained else Outside
 
 -- from words that say in the row what they do at the start
 abbrev pub pool_start : Sizes → Beginning → (Word → ℕ) → PoolState
 pool_start n start memory = record {
   memory = memory;
-  hands = record { owner = start_owner n (length start.nodes); chain = slots_from (length start.nodes + 1) (n.slots - length start.nodes) };
+  hands = record { owner = start_owner (slot_range n) (length start.nodes); chain = start_chain (slot_range n) (length start.nodes) };
   who = λ c. Elsewhere;
 }

@@ -1,13 +1,13 @@
 -- What follows in each state of a run, said of the words and of where the callers stand.
 use Rattle.std.specs.Prelude.{ℕ, ◌≡◌, ◌≢◌, ◌≤◌, ◌<◌, ◌⊎◌, List, [], length, Some}
 use Rattle.oa_words.specs.declared.packed.Kind.TheVariants as kinds
-use Rattle.oa_words.specs.Words.{Word, Phase, Status, Head, Link, Sizes}
+use Rattle.oa_words.specs.Words.{Word, Phase, Status, Head, Link, Sizes, slot_range, IsSlot}
 use Rattle.oa_words.specs.Packed.{status_word, head_word}
 use Rattle.oa_words.specs.Starts.{Beginning}
 use Rattle.phase_pools.specs.declared.stages.SweepStage.TheVariants as sweeps
 use Rattle.phase_pools.specs.declared.stages.ClaimStage.TheVariants as claims
 use Rattle.phase_pools.specs.Pools.{Claim, Retirement}
-use Rattle.chain_laws.specs.Chains.{Outside, Retired, times, stamp, top, IsOf, IsSlot}
+use Rattle.chain_laws.specs.Chains.{Outside, Retired, times, stamp, top, IsOf}
 use Rattle.chain_laws.specs.Laws.{StartsAs}
 use Rattle.chain_laws.specs.Machine.{Standing, Elsewhere, Claims, Retires, slot_of, PoolState, PoolEvent, pool_run, pool_start}
 
@@ -26,11 +26,11 @@ pub record PoolTells (n : Sizes) (state : PoolState) : Type 0 where
   pub apart : (j c : ℕ) → j ≢ 0 → slot_of (state.who c) ≡ j → times j state.hands.chain ≡ 0
   pub alone : (j c d : ℕ) → j ≢ 0 → slot_of (state.who c) ≡ j → slot_of (state.who d) ≡ j → c ≡ d
   -- a slot of the chain is ready, with a phase up to the head's
-  pub chained : (j : ℕ) → times j state.hands.chain ≡ 1 → IsSlot n j × ((q : ℕ) × (state.memory (Status j) ≡ status_word q kinds.Ready) × (q ≤ stamp state.memory))
+  pub chained : (j : ℕ) → times j state.hands.chain ≡ 1 → IsSlot (slot_range n) j × ((q : ℕ) × (state.memory (Status j) ≡ status_word q kinds.Ready) × (q ≤ stamp state.memory))
   -- a ready slot stands in the chain, or a caller has taken it or pushes it
-  pub ready : (j : ℕ) → IsSlot n j → IsOf kinds.Ready (state.memory (Status j)) → (times j state.hands.chain ≡ 1) ⊎ ((c : ℕ) × (slot_of (state.who c) ≡ j) × IsClaiming (state.who c))
+  pub ready : (j : ℕ) → IsSlot (slot_range n) j → IsOf kinds.Ready (state.memory (Status j)) → (times j state.hands.chain ≡ 1) ⊎ ((c : ℕ) × (slot_of (state.who c) ≡ j) × IsClaiming (state.who c))
   -- what a claim has taken is ready until it stores that it is used
-  pub taken : (c : ℕ) (claim : Claim) (q t : ℕ) → state.who c ≡ Claims claim → claim.stage ≡ claims.StoreUsed q t → IsSlot n t × IsOf kinds.Ready (state.memory (Status t))
+  pub taken : (c : ℕ) (claim : Claim) (q t : ℕ) → state.who c ≡ Claims claim → claim.stage ≡ claims.StoreUsed q t → IsSlot (slot_range n) t × IsOf kinds.Ready (state.memory (Status t))
   -- where a claim's exchange finds the head that it expects, the top stands in the chain, and its link is the one that was loaded
   pub takes : (c : ℕ) (claim : Claim) (q t next : ℕ) → state.who c ≡ Claims claim → claim.stage ≡ claims.Take q t next → state.memory Head ≡ head_word q t
       → (times t state.hands.chain ≡ 1) × (state.memory (Link t) ≡ next)

@@ -2,7 +2,7 @@
 use Rattle.std.proofs.Common.{ℕ, ◌≡◌, ◌≢◌, ◌≤◌, ◌∙◌, ◌==◌, Bool, true, Option, Some, None, inl, inr, arith, ⊎_elim, sym, ap, subst, refl, max, if◌then◌else◌}
 use Rattle.std.proofs.lemmas.Bool.Decides.{nat_tests}
 use Rattle.target_code.specs.declared.target.Target.{Target}
-use Rattle.oa_words.specs.Words.{Word, Phase, Status, Head, Link}
+use Rattle.oa_words.specs.Words.{Word, Phase, Status, Head, Link, slot_range, IsSlot}
 use Rattle.oa_words.specs.Packed.{head_word}
 use Rattle.phase_pools.specs.declared.access.ClaimEnd.{ClaimEnd}
 use Rattle.phase_pools.specs.declared.stages.SweepStage.{SweepStage}
@@ -12,7 +12,7 @@ use Rattle.phase_pools.specs.declared.stages.ClaimStage.TheVariants as claims
 use Rattle.phase_pools.specs.Accesses.{WordAccess, Exchanges, word_of}
 use Rattle.phase_pools.specs.Pools.{Claim, ClaimTurn, claim_goes, claim_wants, claim_wants_at, claim_accepts, claim_accepts_at, claim_takes, sweep_wants_at}
 use Rattle.chain_laws.specs.Memories.{after_access}
-use Rattle.chain_laws.specs.Chains.{Hands, Owner, IsSlot, SlotHolds, stamp, top, times, once}
+use Rattle.chain_laws.specs.Chains.{Hands, Owner, SlotHolds, stamp, top, times, once}
 use Rattle.chain_laws.specs.Chains as chains
 use Rattle.chain_laws.specs.Standing.{ClaimStands, SweepStands}
 use Rattle.chain_laws.specs.Machine.{slot_of}
@@ -104,7 +104,7 @@ module _ (target : Target) (setting : Setting) (few : setting.sizes.slots ≤ 40
   pub taking : (c q j : ℕ) (takes : TakesTop setting state c q j) → (times j hands.chain ≡ 1) × (m (Link j) ≡ takes.next)
   taking c q j takes = told.takes c takes.claim q j takes.next (ap standing_of takes.at) takes.stage takes.found
 
-  pub taken_slot : (c q j : ℕ) → TakesTop setting state c q j → IsSlot setting.sizes j
+  pub taken_slot : (c q j : ℕ) → TakesTop setting state c q j → IsSlot (slot_range setting.sizes) j
   taken_slot c q j takes = (told.chained j (taking c q j takes).0).0
 
   -- what a push knows before its exchange
@@ -114,10 +114,10 @@ module _ (target : Target) (setting : Setting) (few : setting.sizes.slots ≤ 40
       let in_sweep : ClaimStands setting.sizes m hands c puts.claim.sweep claims.Sweeps = subst (λ (s : ClaimStage). ClaimStands setting.sizes m hands c puts.claim.sweep s) puts.in_sweep at in
       subst (λ (s : SweepStage). SweepStands setting.sizes m hands c puts.claim.sweep.bound s) puts.stage in_sweep
 
-  pub pushed_slot : (c j below : ℕ) → PutsOnTop setting state c j below → IsSlot setting.sizes j
+  pub pushed_slot : (c j below : ℕ) → PutsOnTop setting state c j below → IsSlot (slot_range setting.sizes) j
   pushed_slot c j below puts =
-      let slot : SlotHolds setting.sizes (stamp m) (m Phase) j (m (Status j)) (chains.Pushing c puts.claim.sweep.bound) =
-      subst (λ (o : Owner). SlotHolds setting.sizes (stamp m) (m Phase) j (m (Status j)) o) (pushing c j below puts).1 (holds.fine.slot j) in
+      let slot : SlotHolds (slot_range setting.sizes) (stamp m) (m Phase) j (m (Status j)) (chains.Pushing c puts.claim.sweep.bound) =
+      subst (λ (o : Owner). SlotHolds (slot_range setting.sizes) (stamp m) (m Phase) j (m (Status j)) o) (pushing c j below puts).1 (holds.fine.slot j) in
       slot.0
 
   -- after a claim's exchange the caller carries the slot

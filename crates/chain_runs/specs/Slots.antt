@@ -3,12 +3,12 @@ use Rattle.std.specs.Prelude.{ℕ, ◌≡◌, ◌≢◌, ◌≤◌, ◌⊎◌, L
 use Rattle.norm_lang.specs.declared.text.Text.{Text}
 use Rattle.target_code.specs.declared.target.Target.{Target}
 use Rattle.oa_words.specs.declared.packed.Kind.TheVariants as kinds
-use Rattle.oa_words.specs.Words.{Word, Status, Head, Link}
+use Rattle.oa_words.specs.Words.{Word, Status, Head, Link, slot_range, IsSlot}
 use Rattle.oa_words.specs.Packed.{status_word, head_word}
 use Rattle.phase_pools.specs.declared.stages.SweepStage.TheVariants as sweeps
 use Rattle.phase_pools.specs.declared.stages.ClaimStage.TheVariants as claims
 use Rattle.phase_pools.specs.Pools.{Claim}
-use Rattle.chain_laws.specs.Chains.{IsChain, IsOf, IsSlot, links, stamp, times, top}
+use Rattle.chain_laws.specs.Chains.{IsChain, IsOf, links, stamp, times, top}
 use Rattle.chain_laws.specs.Standing.{slot_of_claim}
 use Rattle.source_machine.specs.Proper.{IsProper}
 use Rattle.caller_parts.specs.declared.routine.Routine.TheVariants.{Claims}
@@ -56,9 +56,9 @@ pub record Chained (target : Target) (setting : Setting) (state : CoreState) : T
   pub linked : IsChain (links (words setting state)) (top (words setting state)) chain
   pub single : (j : ℕ) → times j chain ≤ 1
   -- a slot of the chain is ready, with a phase up to the head's
-  pub stands : (j : ℕ) → InChain (words setting state) j → IsSlot setting.sizes j × ((q : ℕ) × (words setting state (Status j) ≡ status_word q kinds.Ready) × (q ≤ stamp (words setting state)))
+  pub stands : (j : ℕ) → InChain (words setting state) j → IsSlot (slot_range setting.sizes) j × ((q : ℕ) × (words setting state (Status j) ≡ status_word q kinds.Ready) × (q ≤ stamp (words setting state)))
   -- a ready slot stands in the chain, or a caller carries it
-  pub ready : (j : ℕ) → IsSlot setting.sizes j → IsOf kinds.Ready (words setting state (Status j)) → InChain (words setting state) j ⊎ ((c : ℕ) × Carries setting state c j)
+  pub ready : (j : ℕ) → IsSlot (slot_range setting.sizes) j → IsOf kinds.Ready (words setting state (Status j)) → InChain (words setting state) j ⊎ ((c : ℕ) × Carries setting state c j)
   -- which no two callers do, and none a slot of the chain
   pub alone : (j c d : ℕ) → j ≢ 0 → Carries setting state c j → Carries setting state d j → c ≡ d
   pub apart : (j c : ℕ) → j ≢ 0 → Carries setting state c j → ¬ InChain (words setting state) j

@@ -31,7 +31,7 @@ use Rattle.phase_pools.specs.declared.stages.RetireStage.TheVariants as stages
 use Rattle.caller_parts.specs.declared.routine.Routine.{Routine}
 use Rattle.caller_parts.specs.declared.routine.Routine.TheVariants.{Idle, LoadSeen, At, InList, Retires, Restarts, Clears, Claims, Zeroes}
 use Rattle.caller_parts.specs.Settings.{Setting}
-use Rattle.caller_steps.specs.Entries.{Entry, code_in, instr_in, new_number, cradle_of}
+use Rattle.caller_steps.specs.Entries.{Entry, code_in, instr_in, new_number, zero_count, cradle_of}
 use Rattle.caller_parts.specs.Operands.{with_word, slot_in, register_number, list_of, succeeds, to_retire, with_new}
 use Rattle.caller_steps.specs.Clearing.{restart_next, clear_next, unguarded}
 use Rattle.caller_steps.specs.Signs.{quiet}
@@ -285,7 +285,7 @@ module _ (target : Target) (sizes : Sizes) (j : ℕ) (some : 1 ≤ j) where
   new_avoids (Some (Plain instr.Again)) slot registers other s = s
 
   zeroed_avoids : (k field : ℕ) (e : Entry) → IsFree j e → EntryAvoids j (zeroed target sizes k field e).entry
-  zeroed_avoids k field e f = of (nat_lt (field + 1) sizes.fields) where
+  zeroed_avoids k field e f = of (nat_lt (field + 1) (zero_count target sizes (instr_in target e))) where
     of : (b : Bool) → EntryAvoids j (if b then quiet (with_routine e (Zeroes k (field + 1))) else node_made target sizes (cradle_of e k) e).entry
     of true = to e (Zeroes k (field + 1)) f tt
     of false = on_avoids (with_new (instr_in target e) (cradle_of e k) e.hand.registers) e f (new_avoids (instr_in target e) (cradle_of e k) e.hand.registers (f.cradles k) f.registers)

@@ -29,7 +29,7 @@ use Rattle.caller_parts.specs.declared.routine.Routine.TheVariants.{Idle, LoadSe
 use Rattle.caller_parts.specs.Pairing.{replied_by}
 use Rattle.caller_parts.specs.Settings.{Setting}
 use Rattle.caller_steps.specs.Entries.{Entry, is_idle, code_in, cradle_of, instr_in, new_number}
-use Rattle.caller_parts.specs.Operands.{is_new_at, method_code, news_before}
+use Rattle.caller_parts.specs.Operands.{is_new_at, method_code}
 use Rattle.caller_steps.specs.Signs.{Moved}
 use Rattle.caller_steps.specs.After.{after, counted, claim_counted, claim_on, is_wrap_up}
 use Rattle.caller_steps.specs.Belongs.{Belongs, ClaimStands, RunsAt, Stands}
@@ -39,7 +39,7 @@ use Rattle.target_runs.specs.Sane.{SaneAt}
 use Rattle.caller_laws.proofs.Methods.{Methods}
 use Rattle.caller_laws.proofs.Equations.{after_is, moved_claims}
 use Rattle.caller_laws.proofs.Stopping.{site_of}
-use Rattle.caller_laws.proofs.Going.{new_below}
+use Rattle.caller_laws.proofs.Cradles.{cradle_number_first, new_counts}
 use Rattle.caller_laws.proofs.Pools.{ClaimOn}
 use Rattle.claim_laws.specs.CallSteps.{StepMade}
 use Rattle.claim_laws.specs.Publishing.{news_of, news_of_call, HasFewNews, Publishes}
@@ -79,9 +79,14 @@ generator_news None = refl
 generator_news (Some op) = refl
 
 module _ (target : Target) (setting : Setting) (sane : Methods target) where
-  -- a caller that claims is in a generator, at one of its `new`
-  pub claims_at_new : (e : Entry) (claim : Claim) → Belongs target setting e → e.routine ≡ Claims claim → (e.hand.wrapup ≡ false) × (new_number target e < news_of_call target e.running.call)
-  claims_at_new e claim b is = (in_generator, subst (λ (n : ℕ). new_number target e < n) count below) where
+  -- a caller that claims is in a generator, at one of its `new`, and where that has no other, for the first cradle
+  pub claims_at_new : (e : Entry) (claim : Claim) → Belongs target setting e → e.routine ≡ Claims claim
+      → (e.hand.wrapup ≡ false) × (1 ≤ news_of_call target e.running.call) × (news_of_call target e.running.call ≤ 1 → new_number target e ≡ 0)
+  claims_at_new e claim b is = (
+    in_generator,
+    subst (λ (n : ℕ). 1 ≤ n) count (new_counts (code_in target e) e.hand.at stands),
+    (λ few. cradle_number_first (code_in target e) e.hand.at (subst (λ (n : ℕ). n ≤ 1) (sym count) few) stands),
+  ) where
     stands : is_new_at (instr_in target e) ≡ true
     stands = let all : Stands target setting e (Claims claim) = subst (Stands target setting e) is b.stands in all.0
 
@@ -93,9 +98,6 @@ module _ (target : Target) (setting : Setting) (sane : Methods target) where
 
     in_generator : e.hand.wrapup ≡ false
     in_generator = site.own.news refl
-
-    below : news_before (code_in target e) e.hand.at < target_news_in (code_in target e)
-    below = new_below (code_in target e) e.hand.at there.0 there.1
 
     count : target_news_in (code_in target e) ≡ news_of_call target e.running.call
     count = ap (λ (w : Bool). target_news_in (method_code (slice_get target.ops e.running.call.op) w)) in_generator ∙ generator_news (slice_get target.ops e.running.call.op)
@@ -219,9 +221,9 @@ module _ (target : Target) (setting : Setting) (sane : Methods target) (few : Ha
     publishes = p.publishes;
   }
 
-  -- the one `new` of an operation has number 0
+  -- the one `new` of an operation has the first cradle
   only_new : (x : Entry) (claim : Claim) → Belongs target setting x → x.routine ≡ Claims claim → (new_number target x ≡ 0) × (1 ≤ news_of_call target x.running.call)
-  only_new x claim b is = let lt = (claims_at_new target setting sane x claim b is).1 in let most = few x.running.call.op in (omega (arith, lt, most), omega (arith, lt))
+  only_new x claim b is = let at = claims_at_new target setting sane x claim b is in (at.2 (few x.running.call.op), at.1)
 
   module _ (b : Belongs target setting e) (b_later : Belongs target setting later) (busy : is_idle e.routine ≡ false) (before : IsBefore e.routine)
       (never : e.routine ≡ LoadSeen starts.Again → HasPublished target setting steps → ⊥) (standing : Standing target setting e steps) where

@@ -1,6 +1,6 @@
 -- From the start on: where a reply says that the pool is full, each slot holds an initial node or was claimed.
 use Rattle.std.proofs.Common.{◌≡◌, ◌≢◌, ◌⊎◌, inl, inr, ℕ, zero, suc, ◌+◌, ◌-◌, ◌≤◌, ◌<◌, true, false, List, [], length, map, Option, Some, None, refl, sym, ◌∙◌, ap, subst, arith}
-use Rattle.std.specs.Prelude.{slice_get, slice_index, nat_le}
+use Rattle.std.specs.Prelude.{slice_get, slice_index, nat_lt}
 use Rattle.std.proofs.lemmas.Bool.Decides.{nat_tests}
 use Rattle.std.proofs.lemmas.List.{length-map}
 use Rattle.norm_lang.specs.declared.text.FieldKind.{FieldKind}
@@ -11,9 +11,9 @@ use Rattle.target_code.specs.TargetLimits.{IsTargetWithinLimits}
 use Rattle.norm_lang.specs.declared.text.Text.{Text}
 use Rattle.target_runs.specs.Runnable.{IsRunnable}
 use Rattle.oa_words.specs.declared.packed.Kind.TheVariants as statuses
-use Rattle.oa_words.specs.Words.{Word, Phase, Place, Warning, Hazard, Status, FieldOf, Cell, Head, Link, in_row}
+use Rattle.oa_words.specs.Words.{Word, Phase, Place, Warning, Hazard, Status, FieldOf, Cell, Head, Link, slot_range, in_row}
 use Rattle.oa_words.specs.Packed.{status_word}
-use Rattle.oa_words.specs.Starts.{start_kind, start_word, slot_word}
+use Rattle.oa_words.specs.Starts.{start_node, first_ready, start_kind, start_word, field_word}
 use Rattle.oa_words.specs.Memories.{seen}
 use Rattle.guard_words.specs.Guards.{guard_at, no_guards, has_slot}
 use Rattle.claim_order.specs.Frontier.{IsOrdered, Fits as StandingFits}
@@ -23,7 +23,7 @@ use Rattle.caller_parts.specs.declared.call.Replied.{Replied}
 use Rattle.caller_parts.specs.Settings.{Setting, Fits, IsSetting}
 use Rattle.caller_steps.specs.Entries.{Entry, idle_entry}
 use Rattle.caller_steps.specs.Lawful.{LawfulValue}
-use Rattle.core_runs.specs.Machine.{CoreState, Reachable, core_start, beginning_of, node_words, root_word}
+use Rattle.core_runs.specs.Machine.{CoreState, Reachable, core_start, beginning_of, node_home, node_words, root_word}
 use Rattle.core_runs.proofs.Reaching.{induct_reached}
 use Rattle.core_runs.proofs.Starting.{start_is_seen}
 use Rattle.caller_laws.specs.Laws.{ForRuns}
@@ -75,14 +75,14 @@ module _ {target : Target} {setting : Setting} (within : IsTargetWithinLimits ta
     past_nodes : length target.nodes < j
     past_nodes = let same = fits.nodes in omega (arith, past, same)
 
-    slot_avoids : (i g : ℕ) → ValueAvoids j (field_kind target.fields g) (slot_word (map node_words target.nodes) i g)
+    slot_avoids : (i g : ℕ) → ValueAvoids j (field_kind target.fields g) (field_word (start_node (beginning_of target setting) i) g)
     slot_avoids zero g = node_avoids j (length target.nodes) (field_kind target.fields g) 0 past_nodes (of (field_kind target.fields g)) where
       of : (kind : Option FieldKind) → LawfulValue (length target.nodes) kind 0
       of None = tt
       of (Some kinds.Number) = tt
       of (Some kinds.Reference) = omega arith
-    slot_avoids (suc i) g = node_avoids j (length target.nodes) (field_kind target.fields g) (slot_word (map node_words target.nodes) (suc i) g) past_nodes
-        (nodes_lawful (length target.nodes) (length target.nodes) target.fields target.nodes i g (omega arith) (filled within own fits))
+    slot_avoids (suc i) g = node_avoids j (length target.nodes) (field_kind target.fields g) (field_word (start_node (beginning_of target setting) (suc i)) g) past_nodes
+        (nodes_lawful node_home (length target.nodes) (length target.nodes) (λ k le. le) target.fields target.nodes i g (filled within own fits))
 
     start_avoids : (w : Word) → WordAvoids target j w (start_word setting.sizes (beginning_of target setting) w)
     start_avoids Phase = tt
@@ -91,15 +91,15 @@ module _ {target : Target} {setting : Setting} (within : IsTargetWithinLimits ta
     start_avoids (Hazard c r) = null j some
     start_avoids (Status i) = tt
     start_avoids (FieldOf i g) = slot_avoids i g
-    start_avoids (Cell x) = node_avoids j (length target.nodes) (root_kind target.roots x) (slice_index (map root_word target.roots) x) past_nodes
-        (roots_lawful (length target.nodes) (length target.nodes) target.roots x (omega arith) (rooted within own fits))
+    start_avoids (Cell x) = node_avoids j (length target.nodes) (root_kind target.roots x) (slice_index (map (root_word node_home) target.roots) x) past_nodes
+        (roots_lawful node_home (length target.nodes) (length target.nodes) (λ k le. le) target.roots x (rooted within own fits))
     start_avoids Head = tt
     start_avoids (Link i) = tt
 
-    ready_there : start_kind (length (map node_words target.nodes)) j ≡ statuses.Ready
+    ready_there : start_kind (slot_range setting.sizes) (length (map (node_words node_home) target.nodes)) j ≡ statuses.Ready
     ready_there =
-        let count : length (map node_words target.nodes) ≡ length target.nodes = length-map target.nodes node_words in
-        let other : nat_le j (length (map node_words target.nodes)) ≡ false = (let lt : length (map node_words target.nodes) < j = omega (arith, count, past_nodes) in grind (arith, nat_tests)) in
+        let count : length (map (node_words node_home) target.nodes) ≡ length target.nodes = length-map target.nodes (node_words node_home) in
+        let other : nat_lt j (first_ready (slot_range setting.sizes) (length (map (node_words node_home) target.nodes))) ≡ false = (let lt : length (map (node_words node_home) target.nodes) < j = omega (arith, count, past_nodes) in grind (arith, nat_tests)) in
         rw other refl
 
     status_row : in_row setting.sizes (Status j) ≡ true
@@ -112,12 +112,12 @@ module _ {target : Target} {setting : Setting} (within : IsTargetWithinLimits ta
       entries = λ c e is. (let there = idle_at 0 setting.sizes.callers c e is in subst (EntryAvoids j) (sym there.1) (idle_avoids j (0 + c) some));
     }
 
-  nodes_same : length (map node_words target.nodes) ≡ setting.nodes
-  nodes_same = length-map target.nodes node_words ∙ sym fits.nodes
+  nodes_same : length (map (node_words node_home) target.nodes) ≡ setting.nodes
+  nodes_same = length-map target.nodes (node_words node_home) ∙ sym fits.nodes
 
   -- the words at the start, in which no slot was claimed
-  start_ordered : IsOrdered setting.sizes setting.nodes setting.first (seen setting.sizes (core_start target setting).words) (setting.nodes + 1)
-  start_ordered = subst (λ (n : ℕ). IsOrdered setting.sizes n setting.first (seen setting.sizes (core_start target setting).words) (n + 1)) nodes_same
+  start_ordered : IsOrdered (slot_range setting.sizes) setting.nodes setting.first (seen setting.sizes (core_start target setting).words) (setting.nodes + 1)
+  start_ordered = subst (λ (n : ℕ). IsOrdered (slot_range setting.sizes) n setting.first (seen setting.sizes (core_start target setting).words) (n + 1)) nodes_same
       (start_open setting.sizes (beginning_of target setting) (seen setting.sizes (core_start target setting).words) own.sizes.3 (let most = own.nodes in let same = nodes_same in omega (arith, most, same))
       ((start_is_seen target setting).memory (suits within own fits))).words
 
@@ -128,7 +128,7 @@ module _ {target : Target} {setting : Setting} (within : IsTargetWithinLimits ta
     ahead = λ j from. refl;
     words = start_ordered;
     fits = λ c e is. (let there = idle_at 0 setting.sizes.callers c e is in
-        subst (λ (x : Entry). StandingFits setting.sizes.slots (seen setting.sizes (core_start target setting).words) (setting.nodes + 1) (standing_of x.routine)) (sym there.1) tt);
+        subst (λ (x : Entry). StandingFits (slot_range setting.sizes) (seen setting.sizes (core_start target setting).words) (setting.nodes + 1) (standing_of x.routine)) (sym there.1) tt);
     callers = λ c e is. (let there = idle_at 0 setting.sizes.callers c e is in
         subst (CallerPool setting []) (sym there.1) (record { before = tt; full = inl (λ i r got full. let z : None ≡ Some r = got in cc) }));
     count = omega arith;

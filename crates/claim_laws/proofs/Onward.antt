@@ -25,7 +25,7 @@ use Rattle.caller_parts.specs.declared.routine.AfterRetire.{AfterRetire}
 use Rattle.caller_parts.specs.declared.routine.Routine.{Routine}
 use Rattle.caller_parts.specs.declared.routine.Routine.TheVariants.{Idle, LoadSeen, At, InList, Retires, Restarts, Clears, Claims, Zeroes}
 use Rattle.caller_parts.specs.Settings.{Setting}
-use Rattle.caller_steps.specs.Entries.{Entry, code_in, instr_in, new_number, cradle_of}
+use Rattle.caller_steps.specs.Entries.{Entry, code_in, instr_in, new_number, zero_count, cradle_of}
 use Rattle.caller_parts.specs.Operands.{with_word, slot_in, register_number, list_of, succeeds, to_retire, with_new}
 use Rattle.caller_steps.specs.Clearing.{restart_next, clear_next, unguarded}
 use Rattle.caller_steps.specs.Signs.{quiet}
@@ -250,7 +250,7 @@ module _ (target : Target) (sizes : Sizes) where
   retired_moves go (Some retirement) e = ((refl, (λ w. w), tt), (refl, tt))
 
   zeroed_moves : (k field : ℕ) (e : Entry) → Moves target sizes e (zeroed target sizes k field e).entry
-  zeroed_moves k field e = of (nat_lt (field + 1) sizes.fields) where
+  zeroed_moves k field e = of (nat_lt (field + 1) (zero_count target sizes (instr_in target e))) where
     of : (b : Bool) → Moves target sizes e (if b then quiet (with_routine e (Zeroes k (field + 1))) else node_made target sizes (cradle_of e k) e).entry
     of true = ((refl, (λ w. w), tt), (refl, tt))
     of false = on_moves (with_new (instr_in target e) (cradle_of e k) e.hand.registers) e

@@ -6,7 +6,7 @@ use Rattle.std.proofs.lemmas.Bool.{cases_lt}
 use Rattle.std.proofs.lemmas.Bool.Decides.{nat_tests, eqb_tells}
 use Rattle.target_code.specs.declared.target.Target.{Target}
 use Rattle.oa_words.specs.declared.packed.Kind.TheVariants as kinds
-use Rattle.oa_words.specs.Words.{Word, Status, Head, address_of, in_row, word_count}
+use Rattle.oa_words.specs.Words.{Word, Status, Head, SlotRange, slot_range, address_of, in_row, word_count}
 use Rattle.oa_words.specs.Packed.{head_parts, head_word, status_word}
 use Rattle.oa_words.specs.Memories.{seen, store}
 use Rattle.oa_words.proofs.Places.{apart, within}
@@ -22,7 +22,7 @@ use Rattle.chain_laws.specs.Machine.{Elsewhere}
 use Rattle.chain_laws.specs.Memories.{after_access}
 use Rattle.chain_laws.proofs.Same.{same_written}
 use Rattle.claim_order.specs.Frontier.{ClaimFits, Fits, IsOrdered, frontier_at}
-use Rattle.claim_order.proofs.Frontier.{ClaimOn, Moves, Stays, claim_open, fits_later, ordered_same, retire_open}
+use Rattle.claim_order.proofs.Frontier.{ClaimOn, Moves, Stays, claim_open, fits_later, near_below, near_none, ordered_same, retire_open}
 use Rattle.caller_parts.specs.declared.call.Call.{Call}
 use Rattle.caller_parts.specs.declared.call.Reply.{Reply}
 use Rattle.caller_parts.specs.declared.call.Reply.TheVariants as replies
@@ -60,6 +60,7 @@ use Rattle.claim_laws.specs.Causes.{FindsNoTop}
 use Rattle.claim_laws.specs.CallSteps.{StepMade}
 use Rattle.claim_laws.proofs.Onward.{IsAnswer, IsBefore, IsNoClaim, StandsAfter, after_answers}
 use Rattle.claim_laws.proofs.Avoiding.{after_avoids}
+use Rattle.claim_laws.proofs.Naming.{first_avoid}
 use Rattle.claim_laws.proofs.Claiming.{GivesAt, claim_gives}
 use Rattle.claim_laws.proofs.Meeting.{ClaimsOther, TakesOther, ToldAvoids, LeavesOther, step_found, step_leaves}
 use Rattle.claim_laws.proofs.Counting.{IsCounted, counts_same, counts_more}
@@ -99,8 +100,8 @@ pub record Pool (target : Target) (setting : Setting) (state : CoreState) (slots
   pub untouched : (j : ℕ) → IsUntaken setting slots j → IsUntouched target setting state j
   pub past : (j : ℕ) → setting.nodes < j → j < v → has_slot slots j ≡ true
   pub ahead : (j : ℕ) → v ≤ j → has_slot slots j ≡ false
-  pub words : IsOrdered setting.sizes setting.nodes setting.first (seen setting.sizes state.words) v
-  pub fits : (c : ℕ) (e : Entry) → slice_get state.entries c ≡ Some e → Fits setting.sizes.slots (seen setting.sizes state.words) v (standing_of e.routine)
+  pub words : IsOrdered (slot_range setting.sizes) setting.nodes setting.first (seen setting.sizes state.words) v
+  pub fits : (c : ℕ) (e : Entry) → slice_get state.entries c ≡ Some e → Fits (slot_range setting.sizes) (seen setting.sizes state.words) v (standing_of e.routine)
   pub callers : (c : ℕ) (e : Entry) → slice_get state.entries c ≡ Some e → CallerPool setting slots e
   pub count : IsCounted (length slots) state.entries
 
@@ -117,15 +118,12 @@ caller_more : (setting : Setting) (slots : List ℕ) (k : ℕ) (e : Entry) → C
 caller_more setting slots k e p = record { before = p.before; full = full_more setting slots k e.replies p.full }
 
 -- where no slot is on top each was claimed
-all_touched : (setting : Setting) (slots : List ℕ) (m : Word → ℕ) (v : ℕ) → IsOrdered setting.sizes setting.nodes setting.first m v → ((j : ℕ) → setting.nodes < j → j < v → has_slot slots j ≡ true) → top m ≡ 0
+all_touched : (setting : Setting) (slots : List ℕ) (m : Word → ℕ) (v : ℕ) → IsOrdered (slot_range setting.sizes) setting.nodes setting.first m v → ((j : ℕ) → setting.nodes < j → j < v → has_slot slots j ≡ true) → top m ≡ 0
     → AllTouched setting slots
 all_touched setting slots m v o past none i le = ⊎_elim
     (λ (node : i < setting.nodes + 1). inl (omega (arith, node)))
-    (λ (other : setting.nodes + 1 ≤ i). inr (past i (omega (arith, other)) (let over = beyond o.top_good.0.2 in omega (arith, le, over))))
-    (cases_lt i (setting.nodes + 1)) where
-      beyond : (1 ≤ top m) ⊎ (setting.sizes.slots < v) → setting.sizes.slots < v
-      beyond (inl some) = absurd (omega (arith, some, none))
-      beyond (inr over) = over
+    (λ (other : setting.nodes + 1 ≤ i). inr (past i (omega (arith, other)) (let over = near_none (slot_range setting.sizes) v (top m) o.above_null none o.top_good.0 in omega (arith, le, over))))
+    (cases_lt i (setting.nodes + 1))
 
 -- one more reply
 pub got_last : (given : List Replied) (i : ℕ) (r new : Replied) → slice_get (given ++ new ∷ []) i ≡ Some r → (slice_get given i ≡ Some r) ⊎ (new ≡ r)
@@ -254,12 +252,12 @@ module _ (target : Target) (setting : Setting) where
 
 -- from the words m, of which v is the frontier, by the access a
 pub record Advances (setting : Setting) (m : Word → ℕ) (slots : List ℕ) (v : ℕ) (e : Entry) (a : WordAccess) (slots' : List ℕ) (v' : ℕ) : Type 0 where
-  pub words : IsOrdered setting.sizes setting.nodes setting.first (after_access m a) v'
-  pub moves : Moves setting.sizes.slots m (after_access m a) v v'
+  pub words : IsOrdered (slot_range setting.sizes) setting.nodes setting.first (after_access m a) v'
+  pub moves : Moves (slot_range setting.sizes) m (after_access m a) v v'
   pub untaken : (j : ℕ) → IsUntaken setting slots' j → IsUntaken setting slots j × ClaimsOther j (m (word_of a)) e.routine
   pub past : (j : ℕ) → setting.nodes < j → j < v' → has_slot slots' j ≡ true
   pub ahead : (j : ℕ) → v' ≤ j → has_slot slots' j ≡ false
-  pub on : (claim : Claim) → e.routine ≡ Claims claim → (let turn = claim_accepts setting.sizes setting.last claim (m (word_of a)) in ClaimOn setting.sizes.slots (after_access m a) v' turn.claim turn.ended)
+  pub on : (claim : Claim) → e.routine ≡ Claims claim → (let turn = claim_accepts setting.sizes setting.last claim (m (word_of a)) in ClaimOn (slot_range setting.sizes) (after_access m a) v' turn.claim turn.ended)
 
 -- it takes no slot, or one
 abbrev pub AdvancesBy : Setting → (Word → ℕ) → List ℕ → ℕ → Entry → WordAccess → Type 0
@@ -267,18 +265,18 @@ AdvancesBy setting m slots v e a =
     ((takes_in e.routine (m (word_of a)) ≡ false) × Advances setting m slots v e a slots v)
     ⊎ ((takes_in e.routine (m (word_of a)) ≡ true) × (t : ℕ) × (v' : ℕ) × Advances setting m slots v e a (t ∷ slots) v')
 
-module _ (setting : Setting) (some : SettingSane setting) (m : Word → ℕ) (slots : List ℕ) (v : ℕ) (e : Entry) (ordered : IsOrdered setting.sizes setting.nodes setting.first m v)
+module _ (setting : Setting) (some : SettingSane setting) (m : Word → ℕ) (slots : List ℕ) (v : ℕ) (e : Entry) (ordered : IsOrdered (slot_range setting.sizes) setting.nodes setting.first m v)
     (past : (j : ℕ) → setting.nodes < j → j < v → has_slot slots j ≡ true) (ahead : (j : ℕ) → v ≤ j → has_slot slots j ≡ false) where
   -- no claim
-  still : (a : WordAccess) → IsOrdered setting.sizes setting.nodes setting.first (after_access m a) v × Stays setting.sizes.slots v m (after_access m a) → ((j : ℕ) → ClaimsOther j (m (word_of a)) e.routine)
-      → ((claim : Claim) → e.routine ≡ Claims claim → (let turn = claim_accepts setting.sizes setting.last claim (m (word_of a)) in ClaimOn setting.sizes.slots (after_access m a) v turn.claim turn.ended))
+  still : (a : WordAccess) → IsOrdered (slot_range setting.sizes) setting.nodes setting.first (after_access m a) v × Stays (slot_range setting.sizes) v m (after_access m a) → ((j : ℕ) → ClaimsOther j (m (word_of a)) e.routine)
+      → ((claim : Claim) → e.routine ≡ Claims claim → (let turn = claim_accepts setting.sizes setting.last claim (m (word_of a)) in ClaimOn (slot_range setting.sizes) (after_access m a) v turn.claim turn.ended))
       → Advances setting m slots v e a slots v
   still a k other on = record { words = k.0; moves = inl (refl, k.1); untaken = λ j u. (u, other j); past = past; ahead = ahead; on = on }
 
   elsewhere_advances : (target : Target) (a : WordAccess) → standing_of e.routine ≡ Elsewhere → wants target e ≡ Some a → AdvancesBy setting m slots v e a
   elsewhere_advances target a at want = inl (
     takes_none e.routine at,
-    still a (ordered_same setting.sizes setting.nodes setting.first m (after_access m a) v (same_written m (word_of a) (word_after a (m (word_of a))) (elsewhere_wants target e a at want)) ordered)
+    still a (ordered_same (slot_range setting.sizes) setting.nodes setting.first m (after_access m a) v (same_written m (word_of a) (word_after a (m (word_of a))) (elsewhere_wants target e a at want)) ordered)
         (λ j. other_none j e.routine at) (λ claim is. absurd (no_claim claim (sym (ap standing_of is) ∙ at))),
   ) where
     no_claim : (claim : Claim) → standing_of (Claims claim) ≡ Elsewhere → ⊥
@@ -313,7 +311,7 @@ module _ (setting : Setting) (some : SettingSane setting) (m : Word → ℕ) (sl
         (λ j. subst (ClaimsOther j (m (word_of (retire_wants retirement)))) (sym is) tt) (λ claim claims_is. absurd (let no : Retires retirement go ≡ Claims claim = sym is ∙ claims_is in cc)),
   )
 
-  module _ (claim : Claim) (is : e.routine ≡ Claims claim) (fits : ClaimFits setting.sizes.slots m v claim.sweep.stage claim.stage) where
+  module _ (claim : Claim) (is : e.routine ≡ Claims claim) (fits : ClaimFits (slot_range setting.sizes) m v claim.sweep.stage claim.stage) where
     abbrev told : ℕ
     told = m (word_of (claim_wants claim))
 
@@ -326,10 +324,10 @@ module _ (setting : Setting) (some : SettingSane setting) (m : Word → ℕ) (sl
     same_claim : (a b : Claim) → Claims a ≡ Claims b → a ≡ b
     same_claim a b both = cc
 
-    on_of : (v' : ℕ) → ClaimOn setting.sizes.slots m' v' turn.claim turn.ended → (other : Claim) → e.routine ≡ Claims other
-        → (let turn' = claim_accepts setting.sizes setting.last other told in ClaimOn setting.sizes.slots m' v' turn'.claim turn'.ended)
+    on_of : (v' : ℕ) → ClaimOn (slot_range setting.sizes) m' v' turn.claim turn.ended → (other : Claim) → e.routine ≡ Claims other
+        → (let turn' = claim_accepts setting.sizes setting.last other told in ClaimOn (slot_range setting.sizes) m' v' turn'.claim turn'.ended)
     on_of v' on other also =
-        subst (λ (c : Claim). let turn' = claim_accepts setting.sizes setting.last c told in ClaimOn setting.sizes.slots m' v' turn'.claim turn'.ended) (same_claim claim other (sym is ∙ also)) on
+        subst (λ (c : Claim). let turn' = claim_accepts setting.sizes setting.last c told in ClaimOn (slot_range setting.sizes) m' v' turn'.claim turn'.ended) (same_claim claim other (sym is ∙ also)) on
 
     takes_is : takes_in e.routine told ≡ takes_at claim.stage told
     takes_is = ap (λ (r : Routine). takes_in r told) is
@@ -341,12 +339,12 @@ module _ (setting : Setting) (some : SettingSane setting) (m : Word → ℕ) (sl
         inl (
           takes_is ∙ takes,
           record {
-            words = subst (λ (x : ℕ). IsOrdered setting.sizes setting.nodes setting.first m' x) front k.words;
-            moves = subst (λ (x : ℕ). Moves setting.sizes.slots m m' v x) front k.moves;
+            words = subst (λ (x : ℕ). IsOrdered (slot_range setting.sizes) setting.nodes setting.first m' x) front k.words;
+            moves = subst (λ (x : ℕ). Moves (slot_range setting.sizes) m m' v x) front k.moves;
             untaken = λ j u. (u, subst (ClaimsOther j told) (sym is) (other j));
             past = past;
             ahead = ahead;
-            on = on_of v (subst (λ (x : ℕ). ClaimOn setting.sizes.slots m' x turn.claim turn.ended) front k.on);
+            on = on_of v (subst (λ (x : ℕ). ClaimOn (slot_range setting.sizes) m' x turn.claim turn.ended) front k.on);
           },
         )
 
@@ -359,12 +357,12 @@ module _ (setting : Setting) (some : SettingSane setting) (m : Word → ℕ) (sl
           t,
           on_by (t == v),
           record {
-            words = subst (λ (x : ℕ). IsOrdered setting.sizes setting.nodes setting.first m' x) front k.words;
-            moves = subst (λ (x : ℕ). Moves setting.sizes.slots m m' v x) front k.moves;
+            words = subst (λ (x : ℕ). IsOrdered (slot_range setting.sizes) setting.nodes setting.first m' x) front k.words;
+            moves = subst (λ (x : ℕ). Moves (slot_range setting.sizes) m m' v x) front k.moves;
             untaken = λ j u. (let was = untaken_before setting slots t j u in (was.0, subst (ClaimsOther j told) (sym is) (subst (λ (stage : ClaimStage). TakesOther j stage told) (sym at) (λ took. was.1))));
             past = λ j low lt. has_past (t == v) refl j low lt;
             ahead = λ j from. has_ahead (t == v) refl j from;
-            on = on_of (on_by (t == v)) (subst (λ (x : ℕ). ClaimOn setting.sizes.slots m' x turn.claim turn.ended) front k.on);
+            on = on_of (on_by (t == v)) (subst (λ (x : ℕ). ClaimOn (slot_range setting.sizes) m' x turn.claim turn.ended) front k.on);
           },
         )
       where
@@ -405,7 +403,7 @@ module _ (setting : Setting) (some : SettingSane setting) (m : Word → ℕ) (sl
 
     claims_advance : AdvancesBy setting m slots v e (claim_wants claim)
     claims_advance = of claim.stage refl fits where
-      of : (stage : ClaimStage) → claim.stage ≡ stage → ClaimFits setting.sizes.slots m v claim.sweep.stage stage → AdvancesBy setting m slots v e (claim_wants claim)
+      of : (stage : ClaimStage) → claim.stage ≡ stage → ClaimFits (slot_range setting.sizes) m v claim.sweep.stage stage → AdvancesBy setting m slots v e (claim_wants claim)
       of claims.ReadHead at w =
           none_taken (ap (λ (x : ClaimStage). takes_at x told) at) (ap (λ (x : ClaimStage). frontier_at x m v) at) (λ j. subst (λ (x : ClaimStage). TakesOther j x told) (sym at) tt)
       of (claims.ReadLink q t) at w =
@@ -419,7 +417,7 @@ module _ (setting : Setting) (some : SettingSane setting) (m : Word → ℕ) (sl
         at_head = ap (λ (stage : ClaimStage). m (word_of (claim_wants (record claim { stage = stage })))) at
 
         by : (b : Bool) → (m Head == head_word q t) ≡ b → AdvancesBy setting m slots v e (claim_wants claim)
-        by true finds = one_taken q t next at w.1.0.0 finds
+        by true finds = one_taken q t next at (near_below (slot_range setting.sizes) v t w.1.0) finds
         by false fails = none_taken (ap (λ (x : ClaimStage). takes_at x told) at ∙ lost) (ap (λ (x : ClaimStage). frontier_at x m v) at ∙ ap (λ (b : Bool). if b then (if t == v then v + 1 else v) else v) fails)
             (λ j. subst (λ (x : ClaimStage). TakesOther j x told) (sym at) (λ took. absurd (let z : false ≡ true = sym lost ∙ took in cc))) where
               lost : (told == head_word q t) ≡ false
@@ -427,22 +425,22 @@ module _ (setting : Setting) (some : SettingSane setting) (m : Word → ℕ) (sl
 
 -- ---- events
 
-pub take_untouched : (target : Target) (setting : Setting) (state : CoreState) (c : ℕ) (call : Call) (e : Entry) (j : ℕ) → slice_get state.entries c ≡ Some e → IsUntouched target setting state j
+pub take_untouched : (target : Target) (setting : Setting) (state : CoreState) (c : ℕ) (call : Call) (e : Entry) (j : ℕ) → 1 ≤ j → slice_get state.entries c ≡ Some e → IsUntouched target setting state j
     → IsUntouched target setting (record state { entries = set state.entries c (taken call e) }) j
-take_untouched target setting state c call e j there was = record {
+take_untouched target setting state c call e j low there was = record {
   status = was.status;
   words = was.words;
   entries = λ d f got. ⊎_elim
       (λ (t : (d ≡ c) × (f ≡ taken call e)). subst (EntryAvoids j) (sym t.1) (let held = was.entries c e there in
-      record { registers = held.registers; started = held.started; guards = held.guards; cradles = held.cradles; routine = tt }))
+      record { registers = first_avoid j low call.args; started = first_avoid j low []; guards = held.guards; cradles = held.cradles; routine = tt }))
       (λ (t : slice_get state.entries d ≡ Some f). was.entries d f t)
       (set_got state.entries c d (taken call e) f got);
 }
 
 -- what a step leaves of claims
-abbrev ClaimsFit : ℕ → (Word → ℕ) → ℕ → Routine → Type 0
-ClaimsFit slots m v (Claims claim) = ClaimFits slots m v claim.sweep.stage claim.stage
-ClaimsFit slots m v _ = Unit {0}
+abbrev ClaimsFit : SlotRange → (Word → ℕ) → ℕ → Routine → Type 0
+ClaimsFit range m v (Claims claim) = ClaimFits range m v claim.sweep.stage claim.stage
+ClaimsFit range m v _ = Unit {0}
 
 module _ (target : Target) (setting : Setting) (sane : Methods target) (some : SettingSane setting) (fits : FitsTarget target setting) where
   abbrev stepped_state : CoreState → ℕ → Entry → WordAccess → CoreState
@@ -520,7 +518,7 @@ module _ (target : Target) (setting : Setting) (sane : Methods target) (some : S
         same_access : (x : WordAccess) → wants target e ≡ Some x → x ≡ a
         same_access x is = let both : Some x ≡ Some a = sym is ∙ want in cc
 
-        of : (routine : Routine) → e.routine ≡ routine → Fits setting.sizes.slots m v (standing_of routine) → AdvancesBy setting m slots v e a
+        of : (routine : Routine) → e.routine ≡ routine → Fits (slot_range setting.sizes) m v (standing_of routine) → AdvancesBy setting m slots v e a
         of (Claims claim) is w =
             subst (AdvancesBy setting m slots v e) (same_access (claim_wants claim) (wants_claims target e claim is)) (claims_advance setting some m slots v e pool.words pool.past pool.ahead claim is w)
         of (Retires retirement go) is w =
@@ -554,24 +552,24 @@ module _ (target : Target) (setting : Setting) (sane : Methods target) (some : S
             let was = adv.untaken j u in
             untouched_stays j (let low = u.0 in omega (arith, low)) (status_row j u.1) (pool.untouched j was.0) (subst (λ (n : ℕ). ClaimsOther j n e.routine) found_seen was.1)
 
-        begins_fit : HoldsAtBegins setting.sizes (ClaimsFit setting.sizes.slots (after_access m a) v')
+        begins_fit : HoldsAtBegins setting.sizes (ClaimsFit (slot_range setting.sizes) (after_access m a) v')
         begins_fit = record { idle = tt; seen = λ why. tt; here = tt; lists = λ k. tt; retires = λ j go. tt; restarts = tt; clears = λ next. tt; claims = tt; zeroes = λ k field. tt }
 
-        going_fit : HoldsAsGoesOn setting (m (word_of a)) (ClaimsFit setting.sizes.slots (after_access m a) v') e.routine
+        going_fit : HoldsAsGoesOn setting (m (word_of a)) (ClaimsFit (slot_range setting.sizes) (after_access m a) v') e.routine
         going_fit = record {
           claims = λ claim is none. of (claim_accepts setting.sizes setting.last claim (m (word_of a))).claim (claim_accepts setting.sizes setting.last claim (m (word_of a))).ended none (adv.on claim is);
           retires = λ retirement left go is goes. tt;
         } where
-          of : (next : Claim) (o : Option ClaimEnd) → o ≡ None → ClaimOn setting.sizes.slots (after_access m a) v' next o → ClaimFits setting.sizes.slots (after_access m a) v' next.sweep.stage next.stage
+          of : (next : Claim) (o : Option ClaimEnd) → o ≡ None → ClaimOn (slot_range setting.sizes) (after_access m a) v' next o → ClaimFits (slot_range setting.sizes) (after_access m a) v' next.sweep.stage next.stage
           of next None none on = on
           of next (Some end) none on = absurd cc
 
-        claims_fit : ClaimsFit setting.sizes.slots (after_access m a) v' (after target setting e found).routine
-        claims_fit = subst (λ (n : ℕ). ClaimsFit setting.sizes.slots (after_access m a) v' (after target setting e n).routine) found_seen
-            (after_routed target setting (ClaimsFit setting.sizes.slots (after_access m a) v') begins_fit e (m (word_of a)) going_fit)
+        claims_fit : ClaimsFit (slot_range setting.sizes) (after_access m a) v' (after target setting e found).routine
+        claims_fit = subst (λ (n : ℕ). ClaimsFit (slot_range setting.sizes) (after_access m a) v' (after target setting e n).routine) found_seen
+            (after_routed target setting (ClaimsFit (slot_range setting.sizes) (after_access m a) v') begins_fit e (m (word_of a)) going_fit)
 
         -- what is retired was claimed: no reference leads to a slot that wasn't
-        own_fits : Fits setting.sizes.slots (after_access m a) v' (standing_of (after target setting e found).routine)
+        own_fits : Fits (slot_range setting.sizes) (after_access m a) v' (standing_of (after target setting e found).routine)
         own_fits = of (after target setting e found).routine refl claims_fit where
           later : Entry
           later = after target setting e found
@@ -594,7 +592,7 @@ module _ (target : Target) (setting : Setting) (sane : Methods target) (some : S
               absurd (other refl))
               (cases_lt retirement.slot v')
 
-          of : (routine : Routine) → later.routine ≡ routine → ClaimsFit setting.sizes.slots (after_access m a) v' routine → Fits setting.sizes.slots (after_access m a) v' (standing_of routine)
+          of : (routine : Routine) → later.routine ≡ routine → ClaimsFit (slot_range setting.sizes) (after_access m a) v' routine → Fits (slot_range setting.sizes) (after_access m a) v' (standing_of routine)
           of (Claims claim) is w = w
           of (Retires retirement go) is w = below retirement go is
           of Idle is w = tt
@@ -610,9 +608,9 @@ module _ (target : Target) (setting : Setting) (sane : Methods target) (some : S
           untouched = untouched_then;
           past = adv.past;
           ahead = adv.ahead;
-          words = subst (λ (w : Word → ℕ). IsOrdered setting.sizes setting.nodes setting.first w v') (sym later_seen) adv.words;
-          fits = λ d f got. subst (λ (w : Word → ℕ). Fits setting.sizes.slots w v' (standing_of f.routine)) (sym later_seen) (⊎_elim
-              (λ (t : (d ≡ c) × (f ≡ after target setting e found)). subst (λ (x : Entry). Fits setting.sizes.slots (after_access m a) v' (standing_of x.routine)) (sym t.1) own_fits)
+          words = subst (λ (w : Word → ℕ). IsOrdered (slot_range setting.sizes) setting.nodes setting.first w v') (sym later_seen) adv.words;
+          fits = λ d f got. subst (λ (w : Word → ℕ). Fits (slot_range setting.sizes) w v' (standing_of f.routine)) (sym later_seen) (⊎_elim
+              (λ (t : (d ≡ c) × (f ≡ after target setting e found)). subst (λ (x : Entry). Fits (slot_range setting.sizes) (after_access m a) v' (standing_of x.routine)) (sym t.1) own_fits)
               (λ (t : slice_get state.entries d ≡ Some f). fits_later setting.sizes setting.nodes setting.first m (after_access m a) v v' (standing_of f.routine) pool.words adv.moves (pool.fits d f t))
               (set_got state.entries c d (after target setting e found) f got));
           callers = λ d f got. ⊎_elim
@@ -643,12 +641,12 @@ module _ (target : Target) (setting : Setting) (sane : Methods target) (some : S
   take_pool : (state : CoreState) (c : ℕ) (call : Call) (e : Entry) (slots : List ℕ) (v : ℕ) → slice_get state.entries c ≡ Some e → Pool target setting state slots v
       → Pool target setting (record state { entries = set state.entries c (taken call e) }) slots v
   take_pool state c call e slots v there pool = record {
-    untouched = λ j u. take_untouched target setting state c call e j there (pool.untouched j u);
+    untouched = λ j u. take_untouched target setting state c call e j (let low = u.0 in omega (arith, low)) there (pool.untouched j u);
     past = pool.past;
     ahead = pool.ahead;
     words = pool.words;
     fits = λ d f got. ⊎_elim
-        (λ (t : (d ≡ c) × (f ≡ taken call e)). subst (λ (x : Entry). Fits setting.sizes.slots (seen setting.sizes state.words) v (standing_of x.routine)) (sym t.1) tt)
+        (λ (t : (d ≡ c) × (f ≡ taken call e)). subst (λ (x : Entry). Fits (slot_range setting.sizes) (seen setting.sizes state.words) v (standing_of x.routine)) (sym t.1) tt)
         (λ (t : slice_get state.entries d ≡ Some f). pool.fits d f t)
         (set_got state.entries c d (taken call e) f got);
     callers = λ d f got. ⊎_elim

@@ -221,7 +221,7 @@ module _ (target : Target) (text : Text) (setting : Setting) (runs : IsRunnable 
         → ((c : ℕ) → has_slot (event_claims target setting c state event) j ≡ false) → IsUntouched target setting state j → IsUntouched target setting mid j
     event_untouched state mid (Takes k call) reached goes none was = of (slice_get state.entries k) refl goes where
       by : (d : Entry) → slice_get state.entries k ≡ Some d → (b : Bool) → (if b then Some (record state { entries = slice_set state.entries k (taken call d) }) else None) ≡ Some mid → IsUntouched target setting mid j
-      by d at true became = subst (λ (s : CoreState). IsUntouched target setting s j) (some_is _ mid became) (take_untouched target setting state k call d j at was)
+      by d at true became = subst (λ (s : CoreState). IsUntouched target setting s j) (some_is _ mid became) (take_untouched target setting state k call d j (omega (arith, past)) at was)
       by d at false became = absurd (let z : None ≡ Some mid = became in cc)
 
       of : (o : Option Entry) → slice_get state.entries k ≡ o → event_by target setting state (Takes k call) o ≡ Some mid → IsUntouched target setting mid j

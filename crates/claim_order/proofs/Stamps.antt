@@ -1,13 +1,13 @@
 -- The words of the chain stay within their limits.
 use Rattle.std.proofs.Common.{ℕ, ◌≡◌, ◌≢◌, ◌==◌, ◌+◌, ◌-◌, ◌≤◌, ◌<◌, ◌&&◌, not, Bool, true, false, List, [], ◌∷◌, length, Option, Some, None, arith, ⊎_elim, sym, subst, refl, max, if◌then◌else◌}
-use Rattle.std.specs.Prelude.{nat_le, nat_lt}
+use Rattle.std.specs.Prelude.{nat_lt}
 use Rattle.std.proofs.lemmas.Bool.{cases_eq, cases_lt}
 use Rattle.std.proofs.lemmas.Bool.Decides.{nat_tests}
 use Rattle.oa_words.specs.declared.packed.Kind.{Kind}
 use Rattle.oa_words.specs.declared.packed.Kind.TheVariants as kinds
-use Rattle.oa_words.specs.Words.{Word, Phase, Warning, Hazard, Status, Head, Link, Sizes}
+use Rattle.oa_words.specs.Words.{Word, Phase, Warning, Hazard, Status, Head, Link, Sizes, SlotRange, slot_range}
 use Rattle.oa_words.specs.Packed.{StatusParts, status_word, status_parts, head_word}
-use Rattle.oa_words.specs.Starts.{Beginning, slot_after}
+use Rattle.oa_words.specs.Starts.{Beginning, first_ready, slot_after, start_link, start_top}
 use Rattle.guard_words.specs.Guards.{has_slot}
 use Rattle.phase_pools.specs.declared.access.ClaimEnd.{ClaimEnd}
 use Rattle.phase_pools.specs.declared.access.ClaimEnd.TheVariants as ends
@@ -31,47 +31,47 @@ use Rattle.claim_order.specs.Stamps.{SweepBelow, ClaimBelow, Below, WordsWithin,
 use Rattle.chain_laws.proofs.Lists.{each_put}
 use Rattle.chain_laws.proofs.Changes.{link_other, link_here, Same, tells}
 use Rattle.chain_laws.proofs.Same.{same_loaded, same_written, same_raised}
-use Rattle.chain_laws.proofs.Start.{row_has, after_last, after_other, after_small}
-use Rattle.claim_order.proofs.Frontier.{some_state, begun, tested, split, event_open, start_open}
+use Rattle.chain_laws.proofs.Start.{row_has, slot_within, slot_small}
+use Rattle.claim_order.proofs.Frontier.{near_below, near_inside, some_state, begun, tested, split, event_open, start_open}
 
 -- what a step keeps: the phase doesn't fall, the words are within, and its routine is below
-pub record Within (n : Sizes) (m m' : Word → ℕ) (On : ℕ → Type 0) : Type 0 where
+pub record Within (range : SlotRange) (m m' : Word → ℕ) (On : ℕ → Type 0) : Type 0 where
   pub up : m Phase ≤ m' Phase
-  pub words : WordsWithin n m'
+  pub words : WordsWithin range m'
   pub on : On (m' Phase)
 
-pub words_same : (n : Sizes) (m m' : Word → ℕ) → Same m m' → WordsWithin n m → WordsWithin n m'
-words_same n m m' same w = record {
+pub words_same : (range : SlotRange) (m m' : Word → ℕ) → Same m m' → WordsWithin range m → WordsWithin range m'
+words_same range m m' same w = record {
   stamped = omega (arith, w.stamped, same.phase, same.head);
   topped = omega (arith, w.topped, same.head);
-  linked = λ j within. subst (λ (x : ℕ). x ≤ n.slots) (sym (same.link j)) (w.linked j within);
+  linked = λ j within. subst (λ (x : ℕ). x ≤ range.last) (sym (same.link j)) (w.linked j within);
 }
 
-within_same : (n : Sizes) (m m' : Word → ℕ) (On : ℕ → Type 0) → Same m m' → WordsWithin n m → On (m' Phase) → Within n m m' On
-within_same n m m' On same w on = record { up = same.phase; words = words_same n m m' same w; on = on }
+within_same : (range : SlotRange) (m m' : Word → ℕ) (On : ℕ → Type 0) → Same m m' → WordsWithin range m → On (m' Phase) → Within range m m' On
+within_same range m m' On same w on = record { up = same.phase; words = words_same range m m' same w; on = on }
 
 -- what a routine stores in a link, or puts on top, is a slot or none
-abbrev pub SweepStores : ℕ → SweepStage → Type 0
-SweepStores slots sweeps.ReadPhase = Unit {0}
-SweepStores slots (sweeps.RaisePhase p) = Unit {0}
-SweepStores slots (sweeps.Warn d) = Unit {0}
-SweepStores slots (sweeps.ReadHazard d r) = Unit {0}
-SweepStores slots (sweeps.ReadStatus j) = Unit {0}
-SweepStores slots (sweeps.MakeReady j q) = Unit {0}
-SweepStores slots (sweeps.PushHead j) = Unit {0}
-SweepStores slots (sweeps.PushLink j q t) = t ≤ slots
-SweepStores slots (sweeps.PushTop j q t) = j ≤ slots
+abbrev pub SweepStores : SlotRange → SweepStage → Type 0
+SweepStores range sweeps.ReadPhase = Unit {0}
+SweepStores range (sweeps.RaisePhase p) = Unit {0}
+SweepStores range (sweeps.Warn d) = Unit {0}
+SweepStores range (sweeps.ReadHazard d r) = Unit {0}
+SweepStores range (sweeps.ReadStatus j) = Unit {0}
+SweepStores range (sweeps.MakeReady j q) = Unit {0}
+SweepStores range (sweeps.PushHead j) = Unit {0}
+SweepStores range (sweeps.PushLink j q t) = t ≤ range.last
+SweepStores range (sweeps.PushTop j q t) = j ≤ range.last
 
-abbrev pub ClaimStores : ℕ → SweepStage → ClaimStage → Type 0
-ClaimStores slots stage claims.ReadHead = Unit {0}
-ClaimStores slots stage (claims.ReadLink q t) = Unit {0}
-ClaimStores slots stage (claims.Take q t next) = next ≤ slots
-ClaimStores slots stage (claims.StoreUsed q t) = Unit {0}
-ClaimStores slots stage claims.Sweeps = SweepStores slots stage
+abbrev pub ClaimStores : SlotRange → SweepStage → ClaimStage → Type 0
+ClaimStores range stage claims.ReadHead = Unit {0}
+ClaimStores range stage (claims.ReadLink q t) = Unit {0}
+ClaimStores range stage (claims.Take q t next) = next ≤ range.last
+ClaimStores range stage (claims.StoreUsed q t) = Unit {0}
+ClaimStores range stage claims.Sweeps = SweepStores range stage
 
 -- the head is exchanged
-within_head : (n : Sizes) (m : Word → ℕ) (q t : ℕ) (On : ℕ → Type 0) → n.slots ≤ 4096 → WordsWithin n m → q ≤ m Phase → t ≤ n.slots → On (m Phase) → Within n m (store m Head (head_word q t)) On
-within_head n m q t On most w below le on =
+within_head : (range : SlotRange) (m : Word → ℕ) (q t : ℕ) (On : ℕ → Type 0) → range.last ≤ 4096 → WordsWithin range m → q ≤ m Phase → t ≤ range.last → On (m Phase) → Within range m (store m Head (head_word q t)) On
+within_head range m q t On most w below le on =
     let parts = tells (store m Head (head_word q t)) q t refl (omega (arith, le, most)) in
     record { up = omega arith; words = record { stamped = omega (arith, parts.0, below); topped = omega (arith, parts.1, le); linked = w.linked }; on = on }
 
@@ -112,26 +112,26 @@ warn_on n phase s d up = of (nat_lt (d + 1) n.callers) where
   of true = up
   of false = up
 
-pub sweep_within : (n : Sizes) (last : ℕ) (m : Word → ℕ) (sweep : Sweep) (stage : SweepStage) → n.slots ≤ 4096 → WordsWithin n m → SweepStores n.slots stage → SweepBelow (m Phase) sweep.bound stage
-    → Within n m (after_access m (sweep_wants_at stage sweep.bound))
+pub sweep_within : (n : Sizes) (last : ℕ) (m : Word → ℕ) (sweep : Sweep) (stage : SweepStage) → n.slots ≤ 4096 → WordsWithin (slot_range n) m → SweepStores (slot_range n) stage → SweepBelow (m Phase) sweep.bound stage
+    → Within (slot_range n) m (after_access m (sweep_wants_at stage sweep.bound))
     (SweepOn (sweep_accepts_at n last sweep (m (word_of (sweep_wants_at stage sweep.bound))) stage).sweep (sweep_accepts_at n last sweep (m (word_of (sweep_wants_at stage sweep.bound))) stage).ended)
-sweep_within n last m sweep sweeps.ReadPhase most w fits below = within_same n m (store m Phase (m Phase)) _ (same_loaded m Phase) w (of (m Phase == last)) where
+sweep_within n last m sweep sweeps.ReadPhase most w fits below = within_same (slot_range n) m (store m Phase (m Phase)) _ (same_loaded m Phase) w (of (m Phase == last)) where
   of : (b : Bool) → SweepOn (if b then sweep_ends sweep (swept.PhasesOver (m Phase)) else sweep_goes sweep (sweeps.RaisePhase (m Phase))).sweep (if b then sweep_ends sweep (swept.PhasesOver (m Phase)) else sweep_goes sweep (sweeps.RaisePhase (m Phase))).ended (m Phase)
   of true = tt
   of false = omega arith
-sweep_within n last m sweep (sweeps.RaisePhase p) most w fits below = within_same n m (store m Phase (if m Phase == p then p + 1 else m Phase)) _ (same_raised m p) w (raised (m Phase) below) where
+sweep_within n last m sweep (sweeps.RaisePhase p) most w fits below = within_same (slot_range n) m (store m Phase (if m Phase == p then p + 1 else m Phase)) _ (same_raised m p) w (raised (m Phase) below) where
   raised : (phase : ℕ) → p ≤ phase → p + 1 ≤ (if phase == p then p + 1 else phase)
   raised phase le = grind (arith, nat_tests)
 sweep_within n last m sweep (sweeps.Warn d) most w fits below =
-    within_same n m (store m (Warning d) (max (m (Warning d)) sweep.bound)) _ (same_written m (Warning d) (max (m (Warning d)) sweep.bound) refl) w (warn_on n (m Phase) sweep.bound d below)
-sweep_within n last m sweep (sweeps.ReadHazard d r) most w fits below = within_same n m (store m (Hazard d r) (m (Hazard d r))) _ (same_loaded m (Hazard d r)) w (hazard_on n (m Phase) sweep.bound d r below)
-sweep_within n last m sweep (sweeps.ReadStatus j) most w fits below = within_same n m (store m (Status j) (m (Status j))) _ (same_loaded m (Status j)) w (status_next n (m Phase) sweep j (status_parts (m (Status j))) below)
+    within_same (slot_range n) m (store m (Warning d) (max (m (Warning d)) sweep.bound)) _ (same_written m (Warning d) (max (m (Warning d)) sweep.bound) refl) w (warn_on n (m Phase) sweep.bound d below)
+sweep_within n last m sweep (sweeps.ReadHazard d r) most w fits below = within_same (slot_range n) m (store m (Hazard d r) (m (Hazard d r))) _ (same_loaded m (Hazard d r)) w (hazard_on n (m Phase) sweep.bound d r below)
+sweep_within n last m sweep (sweeps.ReadStatus j) most w fits below = within_same (slot_range n) m (store m (Status j) (m (Status j))) _ (same_loaded m (Status j)) w (status_next n (m Phase) sweep j (status_parts (m (Status j))) below)
 sweep_within n last m sweep (sweeps.MakeReady j q) most w fits below = of (m (Status j) == status_word q kinds.Retired) where
-  of : (b : Bool) → Within n m (store m (Status j) (if b then status_word sweep.bound kinds.Ready else m (Status j)))
+  of : (b : Bool) → Within (slot_range n) m (store m (Status j) (if b then status_word sweep.bound kinds.Ready else m (Status j)))
       (SweepOn (if b then sweep_goes sweep (sweeps.PushHead j) else sweep_on n sweep j).sweep (if b then sweep_goes sweep (sweeps.PushHead j) else sweep_on n sweep j).ended)
   of true = record { up = omega arith; words = record { stamped = w.stamped; topped = w.topped; linked = w.linked }; on = below }
-  of false = within_same n m (store m (Status j) (m (Status j))) _ (same_loaded m (Status j)) w (on_next n (m Phase) sweep j below)
-sweep_within n last m sweep (sweeps.PushHead j) most w fits below = within_same n m (store m Head (m Head)) _ (same_loaded m Head) w (below, w.stamped)
+  of false = within_same (slot_range n) m (store m (Status j) (m (Status j))) _ (same_loaded m (Status j)) w (on_next n (m Phase) sweep j below)
+sweep_within n last m sweep (sweeps.PushHead j) most w fits below = within_same (slot_range n) m (store m Head (m Head)) _ (same_loaded m Head) w (below, w.stamped)
 sweep_within n last m sweep (sweeps.PushLink j q t) most w fits below = record {
   up = omega arith;
   words = record {
@@ -145,9 +145,9 @@ sweep_within n last m sweep (sweeps.PushLink j q t) most w fits below = record {
   on = below;
 }
 sweep_within n last m sweep (sweeps.PushTop j q t) most w fits below = of (m Head == head_word q t) where
-  of : (b : Bool) → Within n m (store m Head (if b then head_word (max q sweep.bound) j else m Head)) (SweepOn (if b then sweep_on n sweep j else sweep_goes sweep (sweeps.PushHead j)).sweep (if b then sweep_on n sweep j else sweep_goes sweep (sweeps.PushHead j)).ended)
-  of true = within_head n m (max q sweep.bound) j _ most w (let s = below.0 in let p = below.1 in omega (arith, s, p)) fits (on_next n (m Phase) sweep j below.0)
-  of false = within_same n m (store m Head (m Head)) _ (same_loaded m Head) w below.0
+  of : (b : Bool) → Within (slot_range n) m (store m Head (if b then head_word (max q sweep.bound) j else m Head)) (SweepOn (if b then sweep_on n sweep j else sweep_goes sweep (sweeps.PushHead j)).sweep (if b then sweep_on n sweep j else sweep_goes sweep (sweeps.PushHead j)).ended)
+  of true = within_head (slot_range n) m (max q sweep.bound) j _ most w (let s = below.0 in let p = below.1 in omega (arith, s, p)) fits (on_next n (m Phase) sweep j below.0)
+  of false = within_same (slot_range n) m (store m Head (m Head)) _ (same_loaded m Head) w below.0
 
 -- ---- claims
 
@@ -168,15 +168,15 @@ look_next phase claim q t below = of (t == 0) where
   of true = look_ends phase claim
   of false = below
 
-pub claim_within : (n : Sizes) (last : ℕ) (m : Word → ℕ) (claim : Claim) (stage : ClaimStage) → claim.stage ≡ stage → n.slots ≤ 4096 → WordsWithin n m → ClaimStores n.slots claim.sweep.stage stage → ClaimBelow (m Phase) claim.sweep stage
-    → Within n m (after_access m (claim_wants_at claim.sweep stage))
+pub claim_within : (n : Sizes) (last : ℕ) (m : Word → ℕ) (claim : Claim) (stage : ClaimStage) → claim.stage ≡ stage → n.slots ≤ 4096 → WordsWithin (slot_range n) m → ClaimStores (slot_range n) claim.sweep.stage stage → ClaimBelow (m Phase) claim.sweep stage
+    → Within (slot_range n) m (after_access m (claim_wants_at claim.sweep stage))
     (ClaimOn (claim_accepts_at n last claim (m (word_of (claim_wants_at claim.sweep stage))) stage).claim (claim_accepts_at n last claim (m (word_of (claim_wants_at claim.sweep stage))) stage).ended)
-claim_within n last m claim claims.ReadHead is most w fits below = within_same n m (store m Head (m Head)) _ (same_loaded m Head) w (look_next (m Phase) claim (stamp m) (top m) w.stamped)
-claim_within n last m claim (claims.ReadLink q t) is most w fits below = within_same n m (store m (Link t) (m (Link t))) _ (same_loaded m (Link t)) w below
+claim_within n last m claim claims.ReadHead is most w fits below = within_same (slot_range n) m (store m Head (m Head)) _ (same_loaded m Head) w (look_next (m Phase) claim (stamp m) (top m) w.stamped)
+claim_within n last m claim (claims.ReadLink q t) is most w fits below = within_same (slot_range n) m (store m (Link t) (m (Link t))) _ (same_loaded m (Link t)) w below
 claim_within n last m claim (claims.Take q t next) is most w fits below = of (m Head == head_word q t) where
-  of : (b : Bool) → Within n m (store m Head (if b then head_word q next else m Head)) (ClaimOn (if b then claim_goes claim (claims.StoreUsed q t) else claim_goes claim claims.ReadHead).claim (if b then claim_goes claim (claims.StoreUsed q t) else claim_goes claim claims.ReadHead).ended)
-  of true = within_head n m q next _ most w below fits below
-  of false = within_same n m (store m Head (m Head)) _ (same_loaded m Head) w tt
+  of : (b : Bool) → Within (slot_range n) m (store m Head (if b then head_word q next else m Head)) (ClaimOn (if b then claim_goes claim (claims.StoreUsed q t) else claim_goes claim claims.ReadHead).claim (if b then claim_goes claim (claims.StoreUsed q t) else claim_goes claim claims.ReadHead).ended)
+  of true = within_head (slot_range n) m q next _ most w below fits below
+  of false = within_same (slot_range n) m (store m Head (m Head)) _ (same_loaded m Head) w tt
 claim_within n last m claim (claims.StoreUsed q t) is most w fits below = record { up = omega arith; words = record { stamped = w.stamped; topped = w.topped; linked = w.linked }; on = tt }
 claim_within n last m claim claims.Sweeps is most w fits below =
     let turn = sweep_accepts_at n last claim.sweep (m (word_of (sweep_wants_at claim.sweep.stage claim.sweep.bound))) claim.sweep.stage in
@@ -215,26 +215,23 @@ below_up phase phase' (Claims claim) up w = of claim.stage w where
 -- ---- runs
 
 -- the link that a claim has loaded names a slot
-next_within : (slots : ℕ) (m : Word → ℕ) (v : ℕ) (stage : SweepStage) (q t next : ℕ) → ClaimFits slots m v stage (claims.Take q t next) → next ≤ slots
-next_within slots m v stage q t next w = ⊎_elim
-    (λ (lt : t < v). (w.2 lt).0.1)
+next_within : (range : SlotRange) (m : Word → ℕ) (v : ℕ) (stage : SweepStage) (q t next : ℕ) → ClaimFits range m v stage (claims.Take q t next) → next ≤ range.last
+next_within range m v stage q t next w = ⊎_elim
+    (λ (lt : t < v). near_inside range v next (w.2 lt).0)
     (λ (ge : v ≤ t).
-    let high = w.1.0.0 in
-    let same : t ≡ v = omega (arith, ge, high) in
-    let is = w.3 same in
-    ⊎_elim
-    (λ (lt : t < slots). let one = after_other slots t lt in omega (arith, is, one, lt))
-    (λ (last : slots ≤ t). let none = after_last slots t last in omega (arith, is, none))
-    (cases_lt t slots))
+    let high = near_below range v t w.1.0 in
+    let is = w.3 (omega (arith, ge, high)) in
+    let le = slot_within range (t + 1) in
+    omega (arith, is, le))
     (cases_lt t v)
 
-fits_stores : (slots : ℕ) (m : Word → ℕ) (v : ℕ) (claim : Claim) (stage : ClaimStage) → ClaimFits slots m v claim.sweep.stage stage → ClaimStores slots claim.sweep.stage stage
-fits_stores slots m v claim claims.ReadHead fits = tt
-fits_stores slots m v claim (claims.ReadLink q t) fits = tt
-fits_stores slots m v claim (claims.Take q t next) fits = next_within slots m v claim.sweep.stage q t next fits
-fits_stores slots m v claim (claims.StoreUsed q t) fits = tt
-fits_stores slots m v claim claims.Sweeps fits = of claim.sweep.stage fits where
-  of : (stage : SweepStage) → SweepFits slots m v stage → SweepStores slots stage
+fits_stores : (range : SlotRange) (m : Word → ℕ) (v : ℕ) (claim : Claim) (stage : ClaimStage) → ClaimFits range m v claim.sweep.stage stage → ClaimStores range claim.sweep.stage stage
+fits_stores range m v claim claims.ReadHead fits = tt
+fits_stores range m v claim (claims.ReadLink q t) fits = tt
+fits_stores range m v claim (claims.Take q t next) fits = next_within range m v claim.sweep.stage q t next fits
+fits_stores range m v claim (claims.StoreUsed q t) fits = tt
+fits_stores range m v claim claims.Sweeps fits = of claim.sweep.stage fits where
+  of : (stage : SweepStage) → SweepFits range m v stage → SweepStores range stage
   of sweeps.ReadPhase fits = tt
   of (sweeps.RaisePhase p) fits = tt
   of (sweeps.Warn d) fits = tt
@@ -242,12 +239,12 @@ fits_stores slots m v claim claims.Sweeps fits = of claim.sweep.stage fits where
   of (sweeps.ReadStatus j) fits = tt
   of (sweeps.MakeReady j q) fits = tt
   of (sweeps.PushHead j) fits = tt
-  of (sweeps.PushLink j q t) fits = fits.2.0.1
+  of (sweeps.PushLink j q t) fits = near_inside range v t fits.2.0
   of (sweeps.PushTop j q t) fits = fits.1
 
 pub record StampsHold (n : Sizes) (start : Beginning) (state : OpenState) : Type 0 where
   pub open_holds : OpenHolds n start state
-  pub words : WordsWithin n state.memory
+  pub words : WordsWithin (slot_range n) state.memory
   pub below : (c : ℕ) → Below (state.memory Phase) (state.who c)
 
 claim_stands : (phase : ℕ) (claim : Claim) (end : Option ClaimEnd) → ClaimOn claim end phase → Below phase (claim_left claim end)
@@ -258,20 +255,20 @@ retire_stands : (phase : ℕ) (left : Option Retirement) → Below phase (retire
 retire_stands phase None = tt
 retire_stands phase (Some retirement) = tt
 
-pub retire_within : (n : Sizes) (m : Word → ℕ) (j : ℕ) (stage : RetireStage) → WordsWithin n m → WordsWithin n (after_access m (retire_wants_at j stage)) × (m Phase ≤ after_access m (retire_wants_at j stage) Phase)
-retire_within n m j retires.ReadPhase w = (words_same n m (store m Phase (m Phase)) (same_loaded m Phase) w, omega arith)
-retire_within n m j (retires.StoreStatus p) w = (record { stamped = w.stamped; topped = w.topped; linked = w.linked }, omega arith)
+pub retire_within : (range : SlotRange) (m : Word → ℕ) (j : ℕ) (stage : RetireStage) → WordsWithin range m → WordsWithin range (after_access m (retire_wants_at j stage)) × (m Phase ≤ after_access m (retire_wants_at j stage) Phase)
+retire_within range m j retires.ReadPhase w = (words_same range m (store m Phase (m Phase)) (same_loaded m Phase) w, omega arith)
+retire_within range m j (retires.StoreStatus p) w = (record { stamped = w.stamped; topped = w.topped; linked = w.linked }, omega arith)
 
 -- what holds of words and of where callers stand
 abbrev Both : Sizes → OpenState → Type 0
-Both n state = WordsWithin n state.memory × ((c : ℕ) → Below (state.memory Phase) (state.who c))
+Both n state = WordsWithin (slot_range n) state.memory × ((c : ℕ) → Below (state.memory Phase) (state.who c))
 
 step_both : (n : Sizes) (last : ℕ) (start : Beginning) (state later : OpenState) (c : ℕ) (standing : Standing) → state.who c ≡ standing → n.slots ≤ 4096 → StampsHold n start state → open_stepped n last state c standing ≡ Some later → Both n later
 step_both n last start state later c Elsewhere at most w is = absurd (let z : None ≡ Some later = is in cc)
 step_both n last start state later c (Claims claim) at most w is =
-    let fits : Fits n.slots state.memory state.frontier (Claims claim) = subst (λ (x : Standing). Fits n.slots state.memory state.frontier x) at (w.open_holds.fits c) in
+    let fits : Fits (slot_range n) state.memory state.frontier (Claims claim) = subst (λ (x : Standing). Fits (slot_range n) state.memory state.frontier x) at (w.open_holds.fits c) in
     let below : Below (state.memory Phase) (Claims claim) = subst (λ (x : Standing). Below (state.memory Phase) x) at (w.below c) in
-    let k = claim_within n last state.memory claim claim.stage refl most w.words (fits_stores n.slots state.memory state.frontier claim claim.stage fits) below in
+    let k = claim_within n last state.memory claim claim.stage refl most w.words (fits_stores (slot_range n) state.memory state.frontier claim claim.stage fits) below in
     let turn = claim_accepts n last claim (state.memory (word_of (claim_wants claim))) in
     let m' : Word → ℕ = after_access state.memory (claim_wants claim) in
     subst (λ (x : OpenState). Both n x)
@@ -280,7 +277,7 @@ step_both n last start state later c (Claims claim) at most w is =
 step_both n last start state later c (Retires retirement) at most w is =
     let m' : Word → ℕ = after_access state.memory (retire_wants retirement) in
     let left = retire_accepts retirement (state.memory (word_of (retire_wants retirement))) in
-    let k = retire_within n state.memory retirement.slot retirement.stage w.words in
+    let k = retire_within (slot_range n) state.memory retirement.slot retirement.stage w.words in
     subst (λ (x : OpenState). Both n x) (some_state (record { memory = m'; frontier = state.frontier; claims = state.claims; who = put state.who c (retirement_left left) }) later is)
     (k.0, each_put (λ d (x : Standing). Below (m' Phase) x) state.who c (retirement_left left) (retire_stands (m' Phase) left) (λ d ne. below_up (state.memory Phase) (m' Phase) (state.who d) k.1 (w.below d)))
 
@@ -297,7 +294,7 @@ event_both n last start state later (Writes word x) most w is =
     let test = tested (is_other word) (Some (record state { memory = store state.memory word x })) later is in
     let same = same_written state.memory word x test.0 in
     subst (λ (y : OpenState). Both n y) (some_state (record state { memory = store state.memory word x }) later test.1)
-    (words_same n state.memory (store state.memory word x) same w.words, (λ d. below_up (state.memory Phase) (store state.memory word x Phase) (state.who d) same.phase (w.below d)))
+    (words_same (slot_range n) state.memory (store state.memory word x) same w.words, (λ d. below_up (state.memory Phase) (store state.memory word x Phase) (state.who d) same.phase (w.below d)))
 
 run_both : (n : Sizes) (last : ℕ) (start : Beginning) (events : List PoolEvent) (state later : OpenState) → 1 ≤ n.slots → n.slots ≤ 4096 → StampsHold n start state → open_run n last events state ≡ Some later → StampsHold n start later
 run_both n last start [] state later some most w is = subst (λ (x : OpenState). StampsHold n start x) (some_state state later is) w
@@ -306,24 +303,23 @@ run_both n last start (event ∷ events) state later some most w is =
     let next = event_both n last start state parts.0 event most w parts.1 in
     run_both n last start events parts.0 later some most (record { open_holds = event_open n last start state parts.0 event some most w.open_holds parts.1; words = next.0; below = next.1 }) parts.2
 
-pub start_within : (n : Sizes) (start : Beginning) (memory : Word → ℕ) → n.slots ≤ 4096 → StartsAs n start memory → WordsWithin n memory
+-- a link at the start names a slot, or none
+pub link_within : (range : SlotRange) (nodes j : ℕ) → start_link range nodes j ≤ range.last
+link_within range nodes j = of (nat_lt j (first_ready range nodes)) where
+  of : (b : Bool) → (if b then 0 else slot_after range j) ≤ range.last
+  of true = omega arith
+  of false = slot_within range (j + 1)
+
+pub start_within : (n : Sizes) (start : Beginning) (memory : Word → ℕ) → n.slots ≤ 4096 → StartsAs n start memory → WordsWithin (slot_range n) memory
 start_within n start memory most starts =
-    let parts = tells memory start.first (slot_after n.slots (length start.nodes)) (starts Head refl) (after_small n.slots (length start.nodes) most) in
+    let nodes : ℕ = length start.nodes in
+    let range : SlotRange = slot_range n in
+    let parts = tells memory start.first (start_top range nodes) (starts Head refl) (slot_small range (first_ready range nodes) most) in
     record {
       stamped = (let phase : memory Phase ≡ start.first = starts Phase refl in omega (arith, parts.0, phase));
-      topped = (let le = after_within (length start.nodes) in omega (arith, parts.1, le));
-      linked = λ j within. subst (λ (x : ℕ). x ≤ n.slots) (sym (starts (Link j) (row_has n.slots j within))) (link_within j (nat_le j (length start.nodes)));
+      topped = (let le = slot_within range (first_ready range nodes) in omega (arith, parts.1, le));
+      linked = λ j within. subst (λ (x : ℕ). x ≤ n.slots) (sym (starts (Link j) (row_has n.slots j within))) (link_within (slot_range n) nodes j);
     }
-  where
-    after_within : (j : ℕ) → slot_after n.slots j ≤ n.slots
-    after_within j = ⊎_elim
-        (λ (lt : j < n.slots). let is = after_other n.slots j lt in omega (arith, is, lt))
-        (λ (ge : n.slots ≤ j). let is = after_last n.slots j ge in omega (arith, is))
-        (cases_lt j n.slots)
-
-    link_within : (j : ℕ) (b : Bool) → (if b then 0 else slot_after n.slots j) ≤ n.slots
-    link_within j true = omega arith
-    link_within j false = after_within j
 
 pub words_stay_within : OfAll WordsStayWithin
 words_stay_within n last start some most le memory starts events state is =

@@ -2,9 +2,9 @@
 -- a slot may be retired twice, and the links may make a circle.
 use Rattle.std.specs.Prelude.{ℕ, ◌+◌, ◌≡◌, ◌≤◌, ◌<◌, ◌⊎◌, List, [], ◌∷◌, length, Option, Some, None, nat_lt, ◌==◌, if◌then◌else◌}
 use Rattle.oa_words.specs.declared.packed.Kind.TheVariants as kinds
-use Rattle.oa_words.specs.Words.{Word, Status, Head, Link, Sizes}
+use Rattle.oa_words.specs.Words.{Word, Status, Head, Link, Sizes, SlotRange, slot_range, IsSlot}
 use Rattle.oa_words.specs.Packed.{status_word, head_word}
-use Rattle.oa_words.specs.Starts.{Beginning, slot_after}
+use Rattle.oa_words.specs.Starts.{Beginning, first_ready, slot_after}
 use Rattle.phase_pools.specs.declared.stages.SweepStage.{SweepStage}
 use Rattle.phase_pools.specs.declared.stages.SweepStage.TheVariants as sweeps
 use Rattle.phase_pools.specs.declared.stages.ClaimStage.{ClaimStage}
@@ -81,57 +81,61 @@ open_run n last [] state = Some state
 open_run n last (event ∷ events) state = open_on (open_event n last state event) (open_run n last events)
 
 abbrev pub open_start : Sizes → Beginning → (Word → ℕ) → OpenState
-open_start n start memory = record { memory = memory; frontier = length start.nodes + 1; claims = 0; who = λ c. Elsewhere }
+open_start n start memory = record { memory = memory; frontier = first_ready (slot_range n) (length start.nodes); claims = 0; who = λ c. Elsewhere }
 
 -- ---- what holds
 
 -- a slot up to the frontier; none, 0, comes only after the last
-abbrev pub IsNear : ℕ → ℕ → ℕ → Type 0
-IsNear slots v x = (x ≤ v) × (x ≤ slots) × ((1 ≤ x) ⊎ (slots < v))
+abbrev pub IsNear : SlotRange → ℕ → ℕ → Type 0
+IsNear range v x = ((x ≡ 0) × (range.last < v)) ⊎ ((range.first ≤ x) × (x ≤ v) × (x ≤ range.last))
 
-abbrev pub IsPast : ℕ → ℕ → Type 0
-IsPast v j = (1 ≤ j) × (j < v)
+-- a slot before the frontier
+abbrev pub IsPast : SlotRange → ℕ → ℕ → Type 0
+IsPast range v j = (range.first ≤ j) × (j < v)
 
 -- one that may stand on top: if it was claimed, its link names none past the frontier either
-abbrev pub IsGood : ℕ → (Word → ℕ) → ℕ → ℕ → Type 0
-IsGood slots memory v x = IsNear slots v x × (IsPast v x → IsNear slots v (memory (Link x)))
+abbrev pub IsGood : SlotRange → (Word → ℕ) → ℕ → ℕ → Type 0
+IsGood range memory v x = IsNear range v x × (IsPast range v x → IsNear range v (memory (Link x)))
 
 -- words, where claims have come to v: from there on they are as at the start. The link of a slot that was never pushed may name none
-pub record IsOrdered (n : Sizes) (nodes first : ℕ) (memory : Word → ℕ) (v : ℕ) : Type 0 where
-  pub least : nodes < v
-  pub greatest : v ≤ n.slots + 1
-  pub top_good : IsGood n.slots memory v (top memory)
-  pub link_good : (j : ℕ) → IsPast v j → IsNear n.slots v (memory (Link j)) → IsGood n.slots memory v (memory (Link j))
-  pub link_first : (j : ℕ) → v ≤ j → j ≤ n.slots → memory (Link j) ≡ slot_after n.slots j
-  pub status_first : (j : ℕ) → v ≤ j → j ≤ n.slots → memory (Status j) ≡ status_word first kinds.Ready
+pub record IsOrdered (range : SlotRange) (nodes first : ℕ) (memory : Word → ℕ) (v : ℕ) : Type 0 where
+  -- null is no slot of the range
+  pub above_null : 1 ≤ range.first
+  pub least : first_ready range nodes ≤ v
+  pub greatest : v ≤ range.last + 1
+  pub top_good : IsGood range memory v (top memory)
+  pub link_good : (j : ℕ) → IsPast range v j → IsNear range v (memory (Link j)) → IsGood range memory v (memory (Link j))
+  pub link_first : (j : ℕ) → v ≤ j → j ≤ range.last → memory (Link j) ≡ slot_after range j
+  pub status_first : (j : ℕ) → v ≤ j → j ≤ range.last → memory (Status j) ≡ status_word first kinds.Ready
 
 -- and callers
-abbrev pub SweepFits : ℕ → (Word → ℕ) → ℕ → SweepStage → Type 0
-SweepFits slots memory v sweeps.ReadPhase = Unit {0}
-SweepFits slots memory v (sweeps.RaisePhase p) = Unit {0}
-SweepFits slots memory v (sweeps.Warn d) = Unit {0}
-SweepFits slots memory v (sweeps.ReadHazard d r) = Unit {0}
-SweepFits slots memory v (sweeps.ReadStatus j) = (1 ≤ j) × (j ≤ slots)
-SweepFits slots memory v (sweeps.MakeReady j q) = (1 ≤ j) × (j ≤ slots)
-SweepFits slots memory v (sweeps.PushHead j) = IsPast v j × (j ≤ slots)
-SweepFits slots memory v (sweeps.PushLink j q t) = IsPast v j × (j ≤ slots) × IsGood slots memory v t
-SweepFits slots memory v (sweeps.PushTop j q t) = IsPast v j × (j ≤ slots) × IsNear slots v (memory (Link j))
+abbrev pub SweepFits : SlotRange → (Word → ℕ) → ℕ → SweepStage → Type 0
+SweepFits range memory v sweeps.ReadPhase = Unit {0}
+SweepFits range memory v (sweeps.RaisePhase p) = Unit {0}
+SweepFits range memory v (sweeps.Warn d) = Unit {0}
+SweepFits range memory v (sweeps.ReadHazard d r) = Unit {0}
+SweepFits range memory v (sweeps.ReadStatus j) = IsSlot range j
+SweepFits range memory v (sweeps.MakeReady j q) = IsSlot range j
+SweepFits range memory v (sweeps.PushHead j) = IsPast range v j × (j ≤ range.last)
+SweepFits range memory v (sweeps.PushLink j q t) = IsPast range v j × (j ≤ range.last) × IsGood range memory v t
+SweepFits range memory v (sweeps.PushTop j q t) = IsPast range v j × (j ≤ range.last) × IsNear range v (memory (Link j))
 
-abbrev pub ClaimFits : ℕ → (Word → ℕ) → ℕ → SweepStage → ClaimStage → Type 0
-ClaimFits slots memory v stage claims.ReadHead = Unit {0}
-ClaimFits slots memory v stage (claims.ReadLink q t) = (1 ≤ t) × IsGood slots memory v t
-ClaimFits slots memory v stage (claims.Take q t next) = (1 ≤ t) × IsGood slots memory v t × (t < v → IsGood slots memory v next) × (t ≡ v → next ≡ slot_after slots t)
-ClaimFits slots memory v stage (claims.StoreUsed q t) = t < v
-ClaimFits slots memory v stage claims.Sweeps = SweepFits slots memory v stage
+abbrev pub ClaimFits : SlotRange → (Word → ℕ) → ℕ → SweepStage → ClaimStage → Type 0
+ClaimFits range memory v stage claims.ReadHead = Unit {0}
+ClaimFits range memory v stage (claims.ReadLink q t) = (range.first ≤ t) × IsGood range memory v t
+ClaimFits range memory v stage (claims.Take q t next) =
+    (range.first ≤ t) × IsGood range memory v t × (t < v → IsGood range memory v next) × (t ≡ v → next ≡ slot_after range t)
+ClaimFits range memory v stage (claims.StoreUsed q t) = t < v
+ClaimFits range memory v stage claims.Sweeps = SweepFits range memory v stage
 
-abbrev pub Fits : ℕ → (Word → ℕ) → ℕ → Standing → Type 0
-Fits slots memory v Elsewhere = Unit {0}
-Fits slots memory v (Claims claim) = ClaimFits slots memory v claim.sweep.stage claim.stage
-Fits slots memory v (Retires retirement) = retirement.slot < v
+abbrev pub Fits : SlotRange → (Word → ℕ) → ℕ → Standing → Type 0
+Fits range memory v Elsewhere = Unit {0}
+Fits range memory v (Claims claim) = ClaimFits range memory v claim.sweep.stage claim.stage
+Fits range memory v (Retires retirement) = retirement.slot < v
 
 pub record OpenHolds (n : Sizes) (start : Beginning) (state : OpenState) : Type 0 where
-  pub words : IsOrdered n (length start.nodes) start.first state.memory state.frontier
-  pub fits : (c : ℕ) → Fits n.slots state.memory state.frontier (state.who c)
+  pub words : IsOrdered (slot_range n) (length start.nodes) start.first state.memory state.frontier
+  pub fits : (c : ℕ) → Fits (slot_range n) state.memory state.frontier (state.who c)
   pub counted : state.frontier ≤ length start.nodes + 1 + state.claims
 
 -- ---- laws

@@ -1,6 +1,6 @@
 -- The words of the chain (the stack of Treiber, 1986, whose head has a stamp) stay within their limits, whatever is retired.
 use Rattle.std.specs.Prelude.{ℕ, ◌≡◌, ◌≤◌, List, length, Some}
-use Rattle.oa_words.specs.Words.{Word, Phase, Link, Sizes}
+use Rattle.oa_words.specs.Words.{Word, Phase, Link, Sizes, SlotRange, slot_range}
 use Rattle.oa_words.specs.Starts.{Beginning}
 use Rattle.phase_pools.specs.declared.stages.SweepStage.{SweepStage}
 use Rattle.phase_pools.specs.declared.stages.SweepStage.TheVariants as sweeps
@@ -36,14 +36,14 @@ Below phase Elsewhere = Unit {0}
 Below phase (Claims claim) = ClaimBelow phase claim.sweep claim.stage
 Below phase (Retires retirement) = Unit {0}
 
-pub record WordsWithin (n : Sizes) (memory : Word → ℕ) : Type 0 where
+pub record WordsWithin (range : SlotRange) (memory : Word → ℕ) : Type 0 where
   -- the head's phase is at most the phase word
   pub stamped : stamp memory ≤ memory Phase
   -- the head's top and each link name a slot, or none
-  pub topped : top memory ≤ n.slots
-  pub linked : (j : ℕ) → j ≤ n.slots → memory (Link j) ≤ n.slots
+  pub topped : top memory ≤ range.last
+  pub linked : (j : ℕ) → j ≤ range.last → memory (Link j) ≤ range.last
 
 -- in each state of a run with any retirements
 abbrev pub WordsStayWithin : Sizes → ℕ → Beginning → Type 0
 WordsStayWithin n last start = 1 ≤ n.slots → n.slots ≤ 4096 → length start.nodes ≤ n.slots → (memory : Word → ℕ) → StartsAs n start memory
-    → (events : List PoolEvent) (state : OpenState) → open_run n last events (open_start n start memory) ≡ Some state → WordsWithin n state.memory
+    → (events : List PoolEvent) (state : OpenState) → open_run n last events (open_start n start memory) ≡ Some state → WordsWithin (slot_range n) state.memory

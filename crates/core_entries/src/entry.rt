@@ -71,7 +71,6 @@ impl Entry {
 
     /// Takes a call of the operation `op`, by its number in the target, with its arguments. The entry is idle and has room for
     /// the reply, and the words of `args` past the operation's count are 0.
-    #[tactic(auto, using(crate::proofs::Calling::begins))]
     pub fn begin(&mut self, barred: &Barred, op: u8, args: [u64; 4])
         requires belongs { BelongsToSome barred.now self.old.core }
         requires idle { is_idle self.old.core.routine ≡ true }

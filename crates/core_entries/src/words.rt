@@ -1,11 +1,12 @@
 //! The words of a row, in a vector.
 
-ghost use Rattle.std.specs.Prelude.{◌≡◌, ◌≤◌, ◌++◌, ◌+◌, IfOk, map, replicate, flat_map, slice_index};
+ghost use Rattle.std.specs.Prelude.{◌≡◌, ◌≤◌, ◌++◌, ◌+◌, ◌-◌, IfOk, Some, map, option_copied, replicate, slice_index};
 ghost use Rattle.oa_words.specs.Packed.{status_word};
-ghost use Rattle.oa_words.specs.Starts.{slot_after, start_kind, start_link, start_links, start_statuses};
+ghost use Rattle.oa_words.specs.Starts.{slot_after, start_kind, start_link, start_links, start_rows, start_statuses};
+ghost use Rattle.oa_words.specs.Words.{slot_range, slot_rows};
 ghost use Rattle.caller_parts.specs.Settings.{Fits};
-ghost use Rattle.core_runs.specs.Machine.{value_word, node_words, root_word, core_start};
-ghost use Rattle.core_entries.specs.Starts.{caller_words, pool_words, slot_words};
+ghost use Rattle.core_runs.specs.Machine.{node_home, value_word, root_word, beginning_of, core_start};
+ghost use Rattle.core_entries.specs.Starts.{caller_words, node_in, node_row, pool_words, slot_words};
 
 use crate::port::{Port, answer_to, at_of, left_by};
 use barrier_check::Barred;
@@ -32,7 +33,7 @@ impl Model for PlainWords {
     ghost view = { λ w. w.words };
 }
 
-fn put_copies(words: &mut Listed<u64>, count: u32, word: u64) -> Result<(), AllocError>
+fn put_copies(words: &mut Listed<u64>, count: usize, word: u64) -> Result<(), AllocError>
     ensures { IfOk result (λ _. words.new ≡ words.old ++ replicate count word) }
 {
     for _ in 0..count {
@@ -41,18 +42,25 @@ fn put_copies(words: &mut Listed<u64>, count: u32, word: u64) -> Result<(), Allo
     Ok(())
 }
 
-/// A first value as a word: initial node J stands in slot J.
+/// The slot of an initial node: node J stands in slot J.
+fn node_home(node: u32) -> u32
+    ensures { result ≡ node_home node }
+{
+    node
+}
+
+/// A first value as a word.
 fn value_word(start: Start) -> u64
-    ensures { result ≡ value_word start }
+    ensures { result ≡ value_word node_home start }
 {
     match start {
         Start::Value(v) => v,
-        Start::Node(j) => ref_word(j, false),
+        Start::Node(j) => ref_word(node_home(j), false),
     }
 }
 
 fn put_starts(words: &mut Listed<u64>, starts: &[Start]) -> Result<(), AllocError>
-    ensures { IfOk result (λ _. words.new ≡ words.old ++ map value_word starts.now) }
+    ensures { IfOk result (λ _. words.new ≡ words.old ++ map (value_word node_home) starts.now) }
 {
     for start in starts {
         words.push(value_word(*start))?;
@@ -60,17 +68,64 @@ fn put_starts(words: &mut Listed<u64>, starts: &[Start]) -> Result<(), AllocErro
     Ok(())
 }
 
-fn put_nodes(words: &mut Listed<u64>, nodes: &[NodeDecl]) -> Result<(), AllocError>
-    ensures { IfOk result (λ _. words.new ≡ words.old ++ flat_map node_words nodes.now) }
+/// How many fields of a slot are left after those that a node gives a first value.
+fn fields_left(fields: u32, given: usize) -> usize
+    ensures { result ≡ fields - given }
 {
-    for node in nodes {
-        put_starts(words, node.values.items())?;
+    (fields as usize).saturating_sub(given)
+}
+
+/// The fields of the slot of an initial node.
+fn put_node(words: &mut Listed<u64>, node: &NodeDecl, fields: u32) -> Result<(), AllocError>
+    ensures { IfOk result (λ _. words.new ≡ words.old ++ node_row fields (Some node.now)) }
+{
+    let values = node.values.items();
+    let left = fields_left(fields, values.len());
+    put_starts(words, values)?;
+    put_copies(words, left, 0)?;
+    Ok(())
+}
+
+/// The initial node in a slot, if there is one: node J stands in slot J.
+fn node_in(nodes: &[NodeDecl], slot: u32) -> Option<&NodeDecl>
+    ensures { option_copied result ≡ node_in nodes.now slot }
+{
+    if slot == 0 {
+        None
+    } else {
+        nodes.get(slot as usize - 1)
+    }
+}
+
+/// The fields of a slot.
+fn put_row(
+    words: &mut Listed<u64>,
+    target: &Target,
+    setting: &Setting,
+    slot: u32,
+) -> Result<(), AllocError>
+    ensures { IfOk result (λ _. words.new ≡ words.old ++ node_row setting.now.sizes.fields (node_in target.now.nodes slot)) }
+{
+    let fields = setting.shape().fields();
+    match node_in(target.nodes.items(), slot) {
+        None => put_copies(words, fields as usize, 0)?,
+        Some(node) => put_node(words, node, fields)?,
+    }
+    Ok(())
+}
+
+fn put_rows(words: &mut Listed<u64>, target: &Target, setting: &Setting) -> Result<(), AllocError>
+    ensures { IfOk result (λ _. words.new ≡ words.old ++ start_rows setting.now.sizes (beginning_of target.now setting.now) 0 (slot_rows setting.now.sizes)) }
+{
+    let slots = setting.shape().slots();
+    for slot in 0..slots + 1 {
+        put_row(words, target, setting, slot)?;
     }
     Ok(())
 }
 
 fn put_roots(words: &mut Listed<u64>, roots: &[RootDecl]) -> Result<(), AllocError>
-    ensures { IfOk result (λ _. words.new ≡ words.old ++ map root_word roots.now) }
+    ensures { IfOk result (λ _. words.new ≡ words.old ++ map (root_word node_home) roots.now) }
 {
     for root in roots {
         words.push(value_word(root.start))?;
@@ -79,9 +134,10 @@ fn put_roots(words: &mut Listed<u64>, roots: &[RootDecl]) -> Result<(), AllocErr
 }
 
 /// Null and the initial nodes are used, all other slots are ready.
-fn start_kind(nodes: u32, slot: u32) -> Kind
-    ensures { result ≡ start_kind nodes slot }
+fn start_kind(setting: &Setting, slot: u32) -> Kind
+    ensures { result ≡ start_kind (slot_range setting.now.sizes) setting.now.nodes slot }
 {
+    let nodes = setting.nodes();
     if slot <= nodes {
         Kind::Used
     } else {
@@ -90,13 +146,13 @@ fn start_kind(nodes: u32, slot: u32) -> Kind
 }
 
 fn start_status(setting: &Setting, slot: u32) -> u64
-    ensures { result ≡ status_word setting.now.first (start_kind setting.now.nodes slot) }
+    ensures { result ≡ status_word setting.now.first (start_kind (slot_range setting.now.sizes) setting.now.nodes slot) }
 {
-    status_word(setting.first_phase(), start_kind(setting.nodes(), slot))
+    status_word(setting.first_phase(), start_kind(setting, slot))
 }
 
 fn put_statuses(words: &mut Listed<u64>, setting: &Setting) -> Result<(), AllocError>
-    ensures { IfOk result (λ _. words.new ≡ words.old ++ start_statuses setting.now.first setting.now.nodes 0 (setting.now.sizes.slots + 1)) }
+    ensures { IfOk result (λ _. words.new ≡ words.old ++ start_statuses (slot_range setting.now.sizes) setting.now.first setting.now.nodes 0 (setting.now.sizes.slots + 1)) }
 {
     let slots = setting.shape().slots();
     for slot in 0..slots + 1 {
@@ -106,28 +162,29 @@ fn put_statuses(words: &mut Listed<u64>, setting: &Setting) -> Result<(), AllocE
 }
 
 /// The next greater slot, 0 after the last.
-fn slot_after(slots: u32, slot: u32) -> u32
-    ensures same { result ≡ slot_after slots slot }
-    ensures within { result ≤ slots }
+fn slot_after(setting: &Setting, slot: u32) -> u32
+    ensures same { result ≡ slot_after (slot_range setting.now.sizes) slot }
+    ensures within { result ≤ setting.now.sizes.slots }
+    ensures few { result ≤ 4096 }
 {
+    let slots = setting.shape().slots();
     if slot < slots { slot + 1 } else { 0 }
 }
 
 /// The link of a slot at the start: the slot below it in the chain of ready slots, which is the next greater one, and 0 for the
 /// last. Null and the slots of the initial nodes are in no chain, and have 0 too.
 fn start_link(setting: &Setting, slot: u32) -> u64
-    ensures { result ≡ start_link setting.now.sizes.slots setting.now.nodes slot }
+    ensures { result ≡ start_link (slot_range setting.now.sizes) setting.now.nodes slot }
 {
-    let slots = setting.shape().slots();
     if slot <= setting.nodes() {
         0
     } else {
-        slot_after(slots, slot) as u64
+        slot_after(setting, slot) as u64
     }
 }
 
 fn put_links(words: &mut Listed<u64>, setting: &Setting) -> Result<(), AllocError>
-    ensures { IfOk result (λ _. words.new ≡ words.old ++ start_links setting.now.sizes.slots setting.now.nodes 0 (setting.now.sizes.slots + 1)) }
+    ensures { IfOk result (λ _. words.new ≡ words.old ++ start_links (slot_range setting.now.sizes) setting.now.nodes 0 (setting.now.sizes.slots + 1)) }
 {
     let slots = setting.shape().slots();
     for slot in 0..slots + 1 {
@@ -140,8 +197,7 @@ fn put_links(words: &mut Listed<u64>, setting: &Setting) -> Result<(), AllocErro
 fn put_pool(words: &mut Listed<u64>, setting: &Setting) -> Result<(), AllocError>
     ensures { IfOk result (λ _. words.new ≡ words.old ++ pool_words setting.now) }
 {
-    let slots = setting.shape().slots();
-    let top = slot_after(slots, setting.nodes());
+    let top = slot_after(setting, setting.nodes());
     words.push(head_word(setting.first_phase(), top))?;
     put_links(words, setting)?;
     Ok(())
@@ -151,7 +207,7 @@ fn put_pool(words: &mut Listed<u64>, setting: &Setting) -> Result<(), AllocError
 fn put_callers(words: &mut Listed<u64>, setting: &Setting) -> Result<(), AllocError>
     ensures { IfOk result (λ _. words.new ≡ words.old ++ caller_words setting.now) }
 {
-    let callers = setting.shape().callers();
+    let callers = setting.shape().callers() as usize;
     let first = setting.first_phase();
     words.push(first)?;
     put_copies(words, callers, 0)?;
@@ -164,11 +220,8 @@ fn put_callers(words: &mut Listed<u64>, setting: &Setting) -> Result<(), AllocEr
 fn put_slots(words: &mut Listed<u64>, target: &Target, setting: &Setting) -> Result<(), AllocError>
     ensures { IfOk result (λ _. words.new ≡ words.old ++ slot_words target.now setting.now) }
 {
-    let shape = setting.shape();
     put_statuses(words, setting)?;
-    put_copies(words, shape.fields(), 0)?;
-    put_nodes(words, target.nodes.items())?;
-    put_copies(words, (shape.slots() - setting.nodes()) * shape.fields(), 0)?;
+    put_rows(words, target, setting)?;
     put_roots(words, target.roots.items())?;
     Ok(())
 }

@@ -2,7 +2,7 @@
 use Rattle.std.proofs.Common.{ℕ, suc, ◌≡◌, ◌≢◌, ◌≤◌, ◌∙◌, ◌++◌, ◌&&◌, ◌==◌, Bool, true, false, List, [], ◌∷◌, Option, Some, None, arith, ⊎_elim, ap, refl, if◌then◌else◌}
 use Rattle.std.specs.Prelude.{nat_le}
 use Rattle.std.proofs.lemmas.Bool.Decides.{nat_tests, eqb_tells}
-use Rattle.oa_words.specs.Words.{Word, Sizes}
+use Rattle.oa_words.specs.Words.{Word, Sizes, slot_range}
 use Rattle.phase_pools.specs.Pools.{claim_begun, retire_begun}
 use Rattle.oa_words.specs.Memories.{store}
 use Rattle.chain_laws.specs.Memories.{put}
@@ -69,8 +69,8 @@ comes n last c pool (Claims _) at in_claim may =
     }
 comes n last c pool (Retires _) at (in_retirement j) may =
     let later : PoolState = record pool { hands = handed pool.hands (suc j) (Retiring c None); who = put pool.who c (Retires (retire_begun (suc j))) } in
-    let slot : is_slot n (suc j) ≡ true = both (nat_le 1 (suc j)) (nat_le (suc j) n.slots) (grind (arith, nat_tests)) (let le : suc j ≤ n.slots = may.0 in grind (arith, nat_tests)) in
-    let test : (is_slot n (suc j) && is_outside (pool.hands.owner (suc j))) ≡ true = both (is_slot n (suc j)) (is_outside (pool.hands.owner (suc j))) slot (ap is_outside may.1) in
+    let slot : is_slot (slot_range n) (suc j) ≡ true = both (nat_le 1 (suc j)) (nat_le (suc j) n.slots) (grind (arith, nat_tests)) (let le : suc j ≤ n.slots = may.0 in grind (arith, nat_tests)) in
+    let test : (is_slot (slot_range n) (suc j) && is_outside (pool.hands.owner (suc j))) ≡ true = both (is_slot (slot_range n) (suc j)) (is_outside (pool.hands.owner (suc j))) slot (ap is_outside may.1) in
     record {
       hands = handed pool.hands (suc j) (Retiring c None);
       runs = (BeginsRetirement c (suc j) ∷ [], run_one n last (BeginsRetirement c (suc j)) pool later (ap (λ (b : Bool). if b then begins (pool.who c) later else None) test ∙ ap (λ (s : Standing). begins s later) at));

@@ -29,7 +29,7 @@ use Rattle.caller_parts.specs.declared.routine.AfterRetire.TheVariants as retire
 use Rattle.caller_parts.specs.declared.routine.Routine.{Routine}
 use Rattle.caller_parts.specs.declared.routine.Routine.TheVariants.{Idle, LoadSeen, At, InList, Retires, Restarts, Clears, Claims, Zeroes}
 use Rattle.caller_parts.specs.Settings.{Setting}
-use Rattle.caller_steps.specs.Entries.{Entry, is_idle, code_in, instr_in, new_number, cradle_of}
+use Rattle.caller_steps.specs.Entries.{Entry, is_idle, code_in, instr_in, new_number, zero_count, cradle_of}
 use Rattle.caller_parts.specs.Operands.{with_word, slot_in, register_number, list_of, succeeds, to_retire, with_new}
 use Rattle.caller_steps.specs.Clearing.{restart_next, clear_next, unguarded}
 use Rattle.caller_steps.specs.Signs.{quiet}
@@ -202,7 +202,7 @@ module _ (target : Target) (sizes : Sizes) where
   claim_turns claim (Some (ends.PhasesOver p)) e = (refl, inr (replies.Phases p, refl, refl, refl))
 
   zeroed_turns : (k field : ℕ) (e : Entry) → Turns e (zeroed target sizes k field e).entry
-  zeroed_turns k field e = of (nat_lt (field + 1) sizes.fields) where
+  zeroed_turns k field e = of (nat_lt (field + 1) (zero_count target sizes (instr_in target e))) where
     of : (b : Bool) → Turns e (if b then quiet (with_routine e (Zeroes k (field + 1))) else node_made target sizes (cradle_of e k) e).entry
     of true = (refl, inl (refl, refl, refl))
     of false = on_turns (with_new (instr_in target e) (cradle_of e k) e.hand.registers) e

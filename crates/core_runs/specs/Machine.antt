@@ -23,19 +23,23 @@ pub record CoreState : Type 0 where
 
 -- ---- the start
 
--- a first value as a word; initial node J stands in slot J
-abbrev pub value_word : Start → ℕ
-value_word (starts.Value v) = v
-value_word (starts.Node j) = ref_word j false
+-- the slot of an initial node: node J stands in slot J
+abbrev pub node_home : ℕ → ℕ
+node_home j = j
 
-abbrev pub node_words : NodeDecl → List ℕ
-node_words node = map value_word node.values
+-- first values as words, by the slots of the initial nodes
+abbrev pub value_word : (ℕ → ℕ) → Start → ℕ
+value_word home (starts.Value v) = v
+value_word home (starts.Node j) = ref_word (home j) false
 
-abbrev pub root_word : RootDecl → ℕ
-root_word root = value_word root.start
+abbrev pub node_words : (ℕ → ℕ) → NodeDecl → List ℕ
+node_words home node = map (value_word home) node.values
+
+abbrev pub root_word : (ℕ → ℕ) → RootDecl → ℕ
+root_word home root = value_word home root.start
 
 abbrev pub beginning_of : Target → Setting → Beginning
-beginning_of target setting = record { first = setting.first; nodes = map node_words target.nodes; cells = map root_word target.roots }
+beginning_of target setting = record { first = setting.first; nodes = map (node_words node_home) target.nodes; cells = map (root_word node_home) target.roots }
 
 abbrev pub idle_from : ℕ → ℕ → List Entry
 idle_from c zero = []

@@ -23,6 +23,7 @@ use Rattle.core_sound.specs.Sound.{IsSound, StaysInRow, StartSuits, Always}
 use Rattle.caller_laws.specs.Laws.{ForRuns}
 use Rattle.oa_words.proofs.Places.{within}
 use Rattle.caller_laws.proofs.Safety.{wants_safe}
+use Rattle.caller_laws.proofs.Fields.{field_value}
 use Rattle.core_sound.proofs.Machine.{event_sound}
 use Rattle.core_sound.proofs.StartSound.{start_sound, suits}
 use Rattle.core_sound.proofs.Stamping.{IsStamped, event_stamped, start_stamped}
@@ -40,7 +41,8 @@ pub sound_stays : (target : Target) (setting : Setting) (state : CoreState) → 
 sound_stays target setting state sane some fits s stamped = record {
   registers = λ c r e is. (s.belong c e is).0.hand.registers.within r;
   started = λ c r e is. (s.belong c e is).0.hand.started.within r;
-  fields = λ j g row kind. reference_lawful setting.sizes.slots (word_at setting state (FieldOf j g)) (field_kind target.fields g) kind (s.lawful (FieldOf j g) row);
+  fields = λ j g row kind. reference_lawful setting.sizes.slots (word_at setting state (FieldOf j g)) (field_kind target.fields g) kind (field_value target setting j g (word_at setting state (FieldOf j g)) (s.lawful (FieldOf j g) row));
+  null_fields = λ g row. s.lawful (FieldOf 0 g) row;
   roots = λ x row kind. reference_lawful setting.sizes.slots (word_at setting state (Cell x)) (root_kind target.roots x) kind (s.lawful (Cell x) row);
   hazards = λ c r row. s.lawful (Hazard c r) row;
   links = λ j row. s.lawful (Link j) row;

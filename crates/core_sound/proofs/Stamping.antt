@@ -12,7 +12,7 @@ use Rattle.norm_lang.specs.Local.{remainder}
 use Rattle.target_code.specs.declared.target.TargetInstr.{TargetInstr}
 use Rattle.target_code.specs.declared.target.TargetInstr.TheVariants.{Plain, Check, Guard}
 use Rattle.target_code.specs.declared.target.Target.{Target}
-use Rattle.oa_words.specs.Words.{Word, Phase, Warning, Hazard, FieldOf, Cell}
+use Rattle.oa_words.specs.Words.{Word, Phase, Warning, Hazard, FieldOf, Cell, slot_range}
 use Rattle.oa_words.specs.Starts.{Suits}
 use Rattle.phase_pools.specs.declared.access.ClaimEnd.{ClaimEnd}
 use Rattle.phase_pools.specs.declared.stages.SweepStage.{SweepStage}
@@ -109,7 +109,7 @@ elsewhere_wants target e a at is = other_wanted target e e.routine a at is
 
 -- ---- a claim that belongs stores slots of the row
 
-sweep_stores : (setting : Setting) (bound : ℕ) (stage : SweepStage) → SweepStands setting bound stage → SweepStores setting.sizes.slots stage
+sweep_stores : (setting : Setting) (bound : ℕ) (stage : SweepStage) → SweepStands setting bound stage → SweepStores (slot_range setting.sizes) stage
 sweep_stores setting bound sweeps.ReadPhase s = tt
 sweep_stores setting bound (sweeps.RaisePhase p) s = tt
 sweep_stores setting bound (sweeps.Warn c) s = tt
@@ -120,9 +120,9 @@ sweep_stores setting bound (sweeps.PushHead j) s = tt
 sweep_stores setting bound (sweeps.PushLink j q t) s = s.3
 sweep_stores setting bound (sweeps.PushTop j q t) s = s.1
 
-claim_stores : (setting : Setting) (claim : Claim) → ClaimBelongs setting claim → ClaimStores setting.sizes.slots claim.sweep.stage claim.stage
+claim_stores : (setting : Setting) (claim : Claim) → ClaimBelongs setting claim → ClaimStores (slot_range setting.sizes) claim.sweep.stage claim.stage
 claim_stores setting claim b = of claim.stage b.stands where
-  of : (stage : ClaimStage) → ClaimStands setting stage → ClaimStores setting.sizes.slots claim.sweep.stage stage
+  of : (stage : ClaimStage) → ClaimStands setting stage → ClaimStores (slot_range setting.sizes) claim.sweep.stage stage
   of claims.ReadHead s = tt
   of (claims.ReadLink q t) s = tt
   of (claims.Take q t next) s = s.3
@@ -133,7 +133,7 @@ claim_stores setting claim b = of claim.stage b.stands where
 
 -- the words of the chain are within their limits, and no phase that a caller has loaded or announced is past the phase word
 pub record IsStamped (setting : Setting) (memory : Word → ℕ) (who : ℕ → Entry) : Type 0 where
-  pub words : WordsWithin setting.sizes memory
+  pub words : WordsWithin (slot_range setting.sizes) memory
   pub below : (c : ℕ) → Below (memory Phase) (standing_of (who c).routine)
 
 begins_below : (setting : Setting) (phase : ℕ) → HoldsAtBegins setting.sizes (λ (routine : Routine). Below phase (standing_of routine))
@@ -151,12 +151,12 @@ begins_below setting phase = record {
 
 -- words, and where the caller stands after its access
 record AfterStep (setting : Setting) (m m' : Word → ℕ) (later : Entry) : Type 0 where
-  words : WordsWithin setting.sizes m'
+  words : WordsWithin (slot_range setting.sizes) m'
   up : m Phase ≤ m' Phase
   below : Below (m' Phase) (standing_of later.routine)
 
 module _ (target : Target) (setting : Setting) (some : SettingSane setting) where
-  claims_step : (m : Word → ℕ) (e : Entry) (claim : Claim) → e.routine ≡ Claims claim → ClaimBelongs setting claim → WordsWithin setting.sizes m → Below (m Phase) (standing_of (Claims claim))
+  claims_step : (m : Word → ℕ) (e : Entry) (claim : Claim) → e.routine ≡ Claims claim → ClaimBelongs setting claim → WordsWithin (slot_range setting.sizes) m → Below (m Phase) (standing_of (Claims claim))
       → AfterStep setting m (after_access m (claim_wants claim)) (after target setting e (m (word_of (claim_wants claim))))
   claims_step m e claim is b words below =
       let found = m (word_of (claim_wants claim)) in
@@ -179,12 +179,12 @@ module _ (target : Target) (setting : Setting) (some : SettingSane setting) wher
       goes_on phase claim None is on = on
       goes_on phase claim (Some end) is on = absurd cc
 
-  retires_step : (m : Word → ℕ) (e : Entry) (retirement : Retirement) (go : AfterRetire) → e.routine ≡ Retires retirement go → WordsWithin setting.sizes m
+  retires_step : (m : Word → ℕ) (e : Entry) (retirement : Retirement) (go : AfterRetire) → e.routine ≡ Retires retirement go → WordsWithin (slot_range setting.sizes) m
       → AfterStep setting m (after_access m (retire_wants retirement)) (after target setting e (m (word_of (retire_wants retirement))))
   retires_step m e retirement go is words =
       let found = m (word_of (retire_wants retirement)) in
       let m' : Word → ℕ = after_access m (retire_wants retirement) in
-      let k = retire_within setting.sizes m retirement.slot retirement.stage words in
+      let k = retire_within (slot_range setting.sizes) m retirement.slot retirement.stage words in
       record {
         words = k.0;
         up = k.1;
@@ -194,14 +194,14 @@ module _ (target : Target) (setting : Setting) (some : SettingSane setting) wher
         });
       }
 
-  elsewhere_step : (m : Word → ℕ) (e : Entry) (a : WordAccess) → standing_of e.routine ≡ Elsewhere → wants target e ≡ Some a → WordsWithin setting.sizes m
+  elsewhere_step : (m : Word → ℕ) (e : Entry) (a : WordAccess) → standing_of e.routine ≡ Elsewhere → wants target e ≡ Some a → WordsWithin (slot_range setting.sizes) m
       → AfterStep setting m (after_access m a) (after target setting e (m (word_of a)))
   elsewhere_step m e a at want words =
       let found = m (word_of a) in
       let m' : Word → ℕ = after_access m a in
       let same = same_written m (word_of a) (word_after a found) (elsewhere_wants target e a at want) in
       record {
-        words = words_same setting.sizes m m' same words;
+        words = words_same (slot_range setting.sizes) m m' same words;
         up = same.phase;
         below = after_routed target setting (λ (routine : Routine). Below (m' Phase) (standing_of routine)) (begins_below setting (m' Phase)) e found (record {
           claims = λ claim same goes. absurd (let no : standing_of (Claims claim) ≡ Elsewhere = ap standing_of (sym same) ∙ at in cc);
@@ -209,7 +209,7 @@ module _ (target : Target) (setting : Setting) (some : SettingSane setting) wher
         });
       }
 
-  caller_step : (m : Word → ℕ) (e : Entry) (a : WordAccess) → wants target e ≡ Some a → Stands target setting e e.routine → WordsWithin setting.sizes m → Below (m Phase) (standing_of e.routine)
+  caller_step : (m : Word → ℕ) (e : Entry) (a : WordAccess) → wants target e ≡ Some a → Stands target setting e e.routine → WordsWithin (slot_range setting.sizes) m → Below (m Phase) (standing_of e.routine)
       → AfterStep setting m (after_access m a) (after target setting e (m (word_of a)))
   caller_step m e a want stands words below = of e.routine refl stands below where
     of : (routine : Routine) → e.routine ≡ routine → Stands target setting e routine → Below (m Phase) (standing_of routine) → AfterStep setting m (after_access m a) (after target setting e (m (word_of a)))

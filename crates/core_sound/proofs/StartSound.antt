@@ -1,9 +1,8 @@
 -- The start state is sound.
-use Rattle.std.proofs.Common.{◌≡◌, ℕ, zero, suc, ◌+◌, ◌≤◌, ◌<◌, Bool, true, false, ◌&&◌, List, [], ◌∷◌, map, length, Option, Some, None, refl, sym, ◌∙◌, ap, subst, arith, if◌then◌else◌}
-use Rattle.std.specs.Prelude.{slice_get, slice_index, nat_le, nat_lt, IsSomeAnd, All}
+use Rattle.std.proofs.Common.{◌≡◌, ℕ, zero, suc, ◌+◌, ◌≤◌, ◌<◌, true, false, ◌&&◌, List, [], ◌∷◌, map, length, Option, Some, None, refl, sym, ◌∙◌, ap, subst, arith}
+use Rattle.std.specs.Prelude.{slice_get, slice_index, IsSomeAnd}
 use Rattle.std.specs.List.{list_all}
 use Rattle.std.proofs.lemmas.Bool.{and_parts, leb-true}
-use Rattle.std.proofs.lemmas.Bool.Decides.{nat_tests}
 use Rattle.std.proofs.lemmas.List.{length-map}
 use Rattle.norm_lang.specs.declared.text.FieldKind.{FieldKind}
 use Rattle.norm_lang.specs.declared.text.FieldKind.TheVariants as kinds
@@ -17,9 +16,9 @@ use Rattle.norm_lang.specs.Limits.{has_between, is_start, are_starts, is_root, a
 use Rattle.target_code.specs.declared.target.Target.{Target}
 use Rattle.target_code.specs.TargetLimits.{IsTargetWithinLimits}
 use Rattle.target_runs.proofs.Limited.{parts}
-use Rattle.oa_words.specs.Words.{Word, Phase, Place, Warning, Hazard, Status, FieldOf, Cell, Head, Link}
+use Rattle.oa_words.specs.Words.{Word, Phase, Place, Warning, Hazard, Status, FieldOf, Cell, Head, Link, slot_range}
 use Rattle.oa_words.specs.Packed.{StatusParts, HeadParts}
-use Rattle.oa_words.specs.Starts.{Suits, start_kind, field_word, slot_word, slot_after, start_word}
+use Rattle.oa_words.specs.Starts.{start_node, Suits, first_ready, start_kind, field_word, start_top, start_word}
 use Rattle.oa_words.specs.Laws.{StartsAsNamed}
 use Rattle.oa_words.proofs.Parts.{status_back, head_back}
 use Rattle.oa_words.proofs.StartPlaces.{starts_as_named}
@@ -27,9 +26,11 @@ use Rattle.caller_parts.specs.Settings.{Setting, Fits, IsSetting}
 use Rattle.caller_steps.specs.Entries.{Entry, idle_entry}
 use Rattle.caller_steps.specs.Lawful.{IsLawful, LawfulValue}
 use Rattle.caller_steps.specs.Belongs.{Belongs}
-use Rattle.core_runs.specs.Machine.{value_word, node_words, root_word, beginning_of, idle_from, core_start}
+use Rattle.core_runs.specs.Machine.{node_home, value_word, node_words, root_word, beginning_of, idle_from, core_start}
 use Rattle.caller_laws.proofs.Methods.{Methods}
 use Rattle.caller_laws.proofs.Beginning.{idle_belongs}
+use Rattle.chain_laws.proofs.Start.{slot_within}
+use Rattle.claim_order.proofs.Stamps.{link_within}
 use Rattle.core_sound.specs.Sound.{AreLawful, IsSound}
 
 -- ---- first values
@@ -39,58 +40,53 @@ null_lawful slots None = tt
 null_lawful slots (Some kinds.Number) = tt
 null_lawful slots (Some kinds.Reference) = omega arith
 
-start_lawful : (slots nodes : ℕ) (kind : FieldKind) (start : Start) → nodes ≤ slots → is_start nodes kind start ≡ true → LawfulValue slots (Some kind) (value_word start)
-start_lawful slots nodes kinds.Number start few is = tt
-start_lawful slots nodes kinds.Reference (starts.Node j) few is = let le = leb-true j nodes is in omega (arith, few, le)
-start_lawful slots nodes kinds.Reference (starts.Value v) few is = absurd (let e : false ≡ true = is in cc)
-
--- of a node's fields
-fields_lawful : (slots nodes : ℕ) (fields : List FieldDecl) (values : List Start) (g : ℕ) → nodes ≤ slots → are_starts nodes fields values ≡ true
-    → LawfulValue slots (field_kind fields g) (slice_index (map value_word values) g)
-fields_lawful slots nodes [] values g few is = tt
-fields_lawful slots nodes (f ∷ fields) [] g few is = absurd (let e : false ≡ true = is in cc)
-fields_lawful slots nodes (f ∷ fields) (v ∷ values) zero few is = start_lawful slots nodes f.kind v few (and_parts (is_start nodes f.kind v) (are_starts nodes fields values) is).0
-fields_lawful slots nodes (f ∷ fields) (v ∷ values) (suc g) few is = fields_lawful slots nodes fields values g few (and_parts (is_start nodes f.kind v) (are_starts nodes fields values) is).1
-
-starts_length : (nodes : ℕ) (fields : List FieldDecl) (values : List Start) → are_starts nodes fields values ≡ true → length (map value_word values) ≡ length fields
-starts_length nodes [] [] is = refl
-starts_length nodes [] (v ∷ values) is = absurd (let e : false ≡ true = is in cc)
-starts_length nodes (f ∷ fields) [] is = absurd (let e : false ≡ true = is in cc)
-starts_length nodes (f ∷ fields) (v ∷ values) is = ap suc (starts_length nodes fields values (and_parts (is_start nodes f.kind v) (are_starts nodes fields values) is).1)
-
--- of all nodes
+-- each node has a first value for each field
 abbrev pub AreFilled : ℕ → List FieldDecl → List NodeDecl → Type 0
 AreFilled count fields nodes = list_all (λ (node : NodeDecl). are_starts count fields node.values) nodes ≡ true
 
-nodes_sized : (count : ℕ) (fields : List FieldDecl) (nodes : List NodeDecl) → AreFilled count fields nodes → All (λ (node : List ℕ). length node ≡ length fields) (map node_words nodes)
-nodes_sized count fields [] are k d lt = absurd (omega (arith, lt))
-nodes_sized count fields (node ∷ nodes) are zero d lt =
-    starts_length count fields node.values (and_parts (are_starts count fields node.values) (list_all (λ (node : NodeDecl). are_starts count fields node.values) nodes) are).0
-nodes_sized count fields (node ∷ nodes) are (suc k) d lt =
-    nodes_sized count fields nodes (and_parts (are_starts count fields node.values) (list_all (λ (node : NodeDecl). are_starts count fields node.values) nodes) are).1 k d (omega (arith, lt))
+-- where each initial node has a slot of the row, a first value that names one names a slot
+module _ (home : ℕ → ℕ) (slots count : ℕ) (homes : (j : ℕ) → j ≤ count → home j ≤ slots) where
+  start_lawful : (kind : FieldKind) (start : Start) → is_start count kind start ≡ true → LawfulValue slots (Some kind) (value_word home start)
+  start_lawful kinds.Number start is = tt
+  start_lawful kinds.Reference (starts.Node j) is = let le = homes j (leb-true j count is) in omega (arith, le)
+  start_lawful kinds.Reference (starts.Value v) is = absurd (let e : false ≡ true = is in cc)
 
-pub nodes_lawful : (slots count : ℕ) (fields : List FieldDecl) (nodes : List NodeDecl) (i g : ℕ) → count ≤ slots → AreFilled count fields nodes
-    → LawfulValue slots (field_kind fields g) (field_word (slice_get (map node_words nodes) i) g)
-nodes_lawful slots count fields [] i g few are = null_lawful slots (field_kind fields g)
-nodes_lawful slots count fields (node ∷ nodes) zero g few are =
-    fields_lawful slots count fields node.values g few (and_parts (are_starts count fields node.values) (list_all (λ (node : NodeDecl). are_starts count fields node.values) nodes) are).0
-nodes_lawful slots count fields (node ∷ nodes) (suc i) g few are =
-    nodes_lawful slots count fields nodes i g few (and_parts (are_starts count fields node.values) (list_all (λ (node : NodeDecl). are_starts count fields node.values) nodes) are).1
+  -- of a node's fields
+  fields_lawful : (fields : List FieldDecl) (values : List Start) (g : ℕ) → are_starts count fields values ≡ true → LawfulValue slots (field_kind fields g) (slice_index (map (value_word home) values) g)
+  fields_lawful [] values g is = tt
+  fields_lawful (f ∷ fields) [] g is = absurd (let e : false ≡ true = is in cc)
+  fields_lawful (f ∷ fields) (v ∷ values) zero is = start_lawful f.kind v (and_parts (is_start count f.kind v) (are_starts count fields values) is).0
+  fields_lawful (f ∷ fields) (v ∷ values) (suc g) is = fields_lawful fields values g (and_parts (is_start count f.kind v) (are_starts count fields values) is).1
 
--- of the roots
-pub roots_lawful : (slots nodes : ℕ) (roots : List RootDecl) (x : ℕ) → nodes ≤ slots → list_all (is_root nodes) roots ≡ true → LawfulValue slots (root_kind roots x) (slice_index (map root_word roots) x)
-roots_lawful slots nodes [] x few are = tt
-roots_lawful slots nodes (root ∷ roots) zero few are =
-    start_lawful slots nodes root.kind root.start few (and_parts _ (is_start nodes root.kind root.start) (and_parts (is_root nodes root) (list_all (is_root nodes) roots) are).0).1
-roots_lawful slots nodes (root ∷ roots) (suc x) few are = roots_lawful slots nodes roots x few (and_parts (is_root nodes root) (list_all (is_root nodes) roots) are).1
+  -- of all nodes
+  pub nodes_lawful : (fields : List FieldDecl) (nodes : List NodeDecl) (i g : ℕ) → AreFilled count fields nodes → LawfulValue slots (field_kind fields g) (field_word (slice_get (map (node_words home) nodes) i) g)
+  nodes_lawful fields [] i g are = null_lawful slots (field_kind fields g)
+  nodes_lawful fields (node ∷ nodes) zero g are = fields_lawful fields node.values g (and_parts (are_starts count fields node.values) (list_all (λ (node : NodeDecl). are_starts count fields node.values) nodes) are).0
+  nodes_lawful fields (node ∷ nodes) (suc i) g are = nodes_lawful fields nodes i g (and_parts (are_starts count fields node.values) (list_all (λ (node : NodeDecl). are_starts count fields node.values) nodes) are).1
+
+  -- of the roots
+  pub roots_lawful : (roots : List RootDecl) (x : ℕ) → list_all (is_root count) roots ≡ true → LawfulValue slots (root_kind roots x) (slice_index (map (root_word home) roots) x)
+  roots_lawful [] x are = tt
+  roots_lawful (root ∷ roots) zero are = start_lawful root.kind root.start (and_parts _ (is_start count root.kind root.start) (and_parts (is_root count root) (list_all (is_root count) roots) are).0).1
+  roots_lawful (root ∷ roots) (suc x) are = roots_lawful roots x (and_parts (is_root count root) (list_all (is_root count) roots) are).1
+
+-- a node has as many words as there are fields
+starts_length : (home : ℕ → ℕ) (count : ℕ) (fields : List FieldDecl) (values : List Start) → are_starts count fields values ≡ true → length (map (value_word home) values) ≡ length fields
+starts_length home count [] [] is = refl
+starts_length home count [] (v ∷ values) is = absurd (let e : false ≡ true = is in cc)
+starts_length home count (f ∷ fields) [] is = absurd (let e : false ≡ true = is in cc)
+starts_length home count (f ∷ fields) (v ∷ values) is = ap suc (starts_length home count fields values (and_parts (is_start count f.kind v) (are_starts count fields values) is).1)
+
+node_length : (home : ℕ → ℕ) (count : ℕ) (fields : List FieldDecl) (nodes : List NodeDecl) (i : ℕ) (node : List ℕ) → AreFilled count fields nodes → slice_get (map (node_words home) nodes) i ≡ Some node → length node ≡ length fields
+node_length home count fields [] i node are is = absurd (let z : None ≡ Some node = is in cc)
+node_length home count fields (first ∷ nodes) zero node are is =
+    let same : node_words home first ≡ node = cc in
+    subst (λ (l : List ℕ). length l ≡ length fields) same
+    (starts_length home count fields first.values (and_parts (are_starts count fields first.values) (list_all (λ (node : NodeDecl). are_starts count fields node.values) nodes) are).0)
+node_length home count fields (first ∷ nodes) (suc i) node are is =
+    node_length home count fields nodes i node (and_parts (are_starts count fields first.values) (list_all (λ (node : NodeDecl). are_starts count fields node.values) nodes) are).1 is
 
 -- ---- the words
-
-after_within : (slots j : ℕ) → slot_after slots j ≤ slots
-after_within slots j = of (nat_lt j slots) refl where
-  of : (b : Bool) → nat_lt j slots ≡ b → (if b then j + 1 else 0) ≤ slots
-  of true is = let lt : j < slots = grind (arith, nat_tests) in omega (arith, lt)
-  of false is = omega arith
 
 module _ {target : Target} {setting : Setting} (within : IsTargetWithinLimits target) (own : IsSetting setting) (fits : Fits target setting) where
   pub filled : AreFilled (length target.nodes) target.fields target.nodes
@@ -103,19 +99,26 @@ module _ {target : Target} {setting : Setting} (within : IsTargetWithinLimits ta
   few : length target.nodes ≤ setting.sizes.slots
   few = let a = own.nodes in let b = fits.nodes in omega (arith, a, b)
 
+  -- each initial node has a slot of the row
+  homes : (j : ℕ) → j ≤ length target.nodes → node_home j ≤ setting.sizes.slots
+  homes j le = let most = few in omega (arith, le, most)
+
   pub suits : Suits setting.sizes (beginning_of target setting)
   suits = record {
-    nodes = subst (λ (k : ℕ). k ≤ setting.sizes.slots) (sym (length-map target.nodes node_words)) few;
-    fields = subst (λ (k : ℕ). All (λ (node : List ℕ). length node ≡ k) (map node_words target.nodes)) (sym fits.fields) (nodes_sized (length target.nodes) target.fields target.nodes filled);
-    cells = length-map target.roots root_word ∙ sym fits.cells;
-  }
+    nodes = subst (λ (k : ℕ). k ≤ setting.sizes.slots) (sym (length-map target.nodes (node_words node_home))) few;
+    fields = node_fits;
+    cells = length-map target.roots (root_word node_home) ∙ sym fits.cells;
+  } where
+    node_fits : (j : ℕ) (node : List ℕ) → start_node (beginning_of target setting) j ≡ Some node → length node ≤ setting.sizes.fields
+    node_fits zero node is = absurd (let z : None ≡ Some node = is in cc)
+    node_fits (suc i) node is = let same = node_length node_home (length target.nodes) target.fields target.nodes i node filled is in let fields = fits.fields in omega (arith, same, fields)
 
   pub named : StartsAsNamed setting.sizes (beginning_of target setting)
   named = starts_as_named setting.sizes (beginning_of target setting) suits
 
-  slot_lawful : (j g : ℕ) → LawfulValue setting.sizes.slots (field_kind target.fields g) (slot_word (map node_words target.nodes) j g)
+  slot_lawful : (j g : ℕ) → LawfulValue setting.sizes.slots (field_kind target.fields g) (field_word (start_node (beginning_of target setting) j) g)
   slot_lawful zero g = null_lawful setting.sizes.slots (field_kind target.fields g)
-  slot_lawful (suc i) g = nodes_lawful setting.sizes.slots (length target.nodes) target.fields target.nodes i g few filled
+  slot_lawful (suc i) g = nodes_lawful node_home setting.sizes.slots (length target.nodes) homes target.fields target.nodes i g filled
 
   start_is_lawful : (w : Word) → IsLawful target setting w (start_word setting.sizes (beginning_of target setting) w)
   start_is_lawful Phase = (omega arith, own.phases)
@@ -123,17 +126,15 @@ module _ {target : Target} {setting : Setting} (within : IsTargetWithinLimits ta
   start_is_lawful (Warning c) = (omega arith, own.phases)
   start_is_lawful (Hazard c r) = omega arith
   start_is_lawful (Status j) =
-      subst (λ (o : Option StatusParts). IsSomeAnd o (λ (parts : StatusParts). parts.phase ≤ setting.last)) (sym (status_back setting.first (start_kind (length (map node_words target.nodes)) j))) own.phases
-  start_is_lawful (FieldOf j g) = slot_lawful j g
-  start_is_lawful (Cell x) = roots_lawful setting.sizes.slots (length target.nodes) target.roots x few rooted
+      subst (λ (o : Option StatusParts). IsSomeAnd o (λ (parts : StatusParts). parts.phase ≤ setting.last)) (sym (status_back setting.first (start_kind (slot_range setting.sizes) (length (map (node_words node_home) target.nodes)) j))) own.phases
+  start_is_lawful (FieldOf zero g) = refl
+  start_is_lawful (FieldOf (suc i) g) = slot_lawful (suc i) g
+  start_is_lawful (Cell x) = roots_lawful node_home setting.sizes.slots (length target.nodes) homes target.roots x rooted
   start_is_lawful Head =
-      let top : ℕ = slot_after setting.sizes.slots (length (map node_words target.nodes)) in
-      let le = after_within setting.sizes.slots (length (map node_words target.nodes)) in
+      let top : ℕ = start_top (slot_range setting.sizes) (length (map (node_words node_home) target.nodes)) in
+      let le = slot_within (slot_range setting.sizes) (first_ready (slot_range setting.sizes) (length (map (node_words node_home) target.nodes))) in
       subst (λ (parts : HeadParts). (parts.phase ≤ setting.last) × (parts.top ≤ setting.sizes.slots)) (sym (head_back setting.first top (let most = own.sizes.3 in omega (arith, le, most)))) (own.phases, le)
-  start_is_lawful (Link j) = of (nat_le j (length (map node_words target.nodes))) where
-    of : (b : Bool) → (if b then 0 else slot_after setting.sizes.slots j) ≤ setting.sizes.slots
-    of true = omega arith
-    of false = after_within setting.sizes.slots j
+  start_is_lawful (Link j) = link_within (slot_range setting.sizes) (length (map (node_words node_home) target.nodes)) j
 
   words_lawful : AreLawful target setting (core_start target setting).words
   words_lawful w row = subst (λ (k : ℕ). IsLawful target setting w k) (sym (named.words w row)) (start_is_lawful w)

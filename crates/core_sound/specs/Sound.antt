@@ -37,12 +37,13 @@ abbrev pub NamesSlot : Setting → ℕ → Type 0
 NamesSlot setting slot = slot ≤ setting.sizes.slots
 
 -- nothing leads out of the row: every reference in a register, a field or a root, every hazard, every link and the head's top name one
--- of its slots or null; every wanted address is that of one of its words, and the word there is lawful; phases are those of the run,
--- and the head's phase is one that the phase word has come to
+-- of its slots or null; null's fields are 0; every wanted address is that of one of its words, and the word there is lawful; phases are
+-- those of the run, and the head's phase is one that the phase word has come to
 pub record StaysInRow (target : Target) (setting : Setting) (state : CoreState) : Type 0 where
   pub registers : (c r : ℕ) (e : Entry) → slice_get state.entries c ≡ Some e → NamesSlot setting (reference_in e.hand.registers (Ref r)).node
   pub started : (c r : ℕ) (e : Entry) → slice_get state.entries c ≡ Some e → NamesSlot setting (reference_in e.hand.started (Ref r)).node
   pub fields : (j g : ℕ) → in_row setting.sizes (FieldOf j g) ≡ true → field_kind target.fields g ≡ Some kinds.Reference → NamesSlot setting (slot_part (word_at setting state (FieldOf j g)))
+  pub null_fields : (g : ℕ) → in_row setting.sizes (FieldOf 0 g) ≡ true → word_at setting state (FieldOf 0 g) ≡ 0
   pub roots : (x : ℕ) → in_row setting.sizes (Cell x) ≡ true → root_kind target.roots x ≡ Some kinds.Reference → NamesSlot setting (slot_part (word_at setting state (Cell x)))
   pub hazards : (c r : ℕ) → in_row setting.sizes (Hazard c r) ≡ true → NamesSlot setting (word_at setting state (Hazard c r))
   pub links : (j : ℕ) → in_row setting.sizes (Link j) ≡ true → NamesSlot setting (word_at setting state (Link j))

@@ -22,7 +22,7 @@ use Rattle.sim_relation.specs.Shared.{SharedHolds}
 use Rattle.sim_relation.specs.Callers.{Sweeps, SweepAt, ClaimAt, HoldsAt}
 use Rattle.sim_relation.specs.Worlds.{World, Holds}
 use Rattle.sim_relation.proofs.Names.{has_slot_of, none_there, own_private}
-use Rattle.sim_pools.proofs.Slots.{in_pool}
+use Rattle.sim_steps.proofs.Pools.Slots.{in_pool}
 use Rattle.guarded_claims.proofs.Passing.{Knows, KnowsAt, KnowsIn, KnowsWhere}
 use Rattle.guarded_claims.proofs.Walking.{Away}
 

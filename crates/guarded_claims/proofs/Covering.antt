@@ -23,7 +23,7 @@ use Rattle.source_machine.specs.Proper.{has}
 use Rattle.source_machine.proofs.Places.{each_put, put_other}
 use Rattle.caller_parts.specs.declared.routine.Routine.{Routine}
 use Rattle.caller_parts.specs.declared.routine.Routine.TheVariants.{Idle, LoadSeen, At, InList, Retires, Restarts, Clears, Claims, Zeroes}
-use Rattle.caller_steps.specs.Entries.{Entry, cradle_of, new_number}
+use Rattle.caller_steps.specs.Entries.{Entry, cradle_of, instr_in, new_number, zero_count}
 use Rattle.caller_steps.specs.Wants.{wants}
 use Rattle.caller_steps.specs.After.{accepted, claim_on, claim_counted, counted}
 use Rattle.caller_steps.specs.After.{moved as after_moves}
@@ -35,8 +35,8 @@ use Rattle.sim_relation.specs.Naming.{freed_at, freed_in, emptied_at, named_at, 
 use Rattle.sim_relation.specs.Steps.{KeptWith, TakenIsReady, TakesReady, after_access}
 use Rattle.sim_relation.specs.Worlds.{World, Holds}
 use Rattle.sim_relation.proofs.Lists.{index_set_other}
-use Rattle.sim_pools.proofs.Core.{after_is, wants_is}
-use Rattle.sim_pools.proofs.Slots.{in_pool, is_dead}
+use Rattle.sim_steps.proofs.Pools.Core.{after_is, wants_is}
+use Rattle.sim_steps.proofs.Pools.Slots.{in_pool, is_dead}
 use Rattle.guarded_claims.proofs.Passing.{KnowsAt, KnowsIn, KnowsWhere, ClaimKnows, FindsAt, FindsIn, stays_in, claim_knows}
 use Rattle.guarded_claims.proofs.Walking.{Away, accepted_keeps, is_claiming}
 use Rattle.guarded_claims.proofs.Covered.{Covered, covered_named}
@@ -100,7 +100,7 @@ module _ (t : Plan) (w : World) (h : Holds t w) (c : ℕ) (mover : c < t.setting
   zeroed_stays false k zero empty = put_other (put s.present (cradle_of x.entry k) 0) (cradle_of x.entry k) v.slot s.unused (zeroes_others k empty) ∙ put_other s.present (cradle_of x.entry k) v.slot 0 (zeroes_others k empty)
   zeroed_stays false k (suc field) empty = put_other s.present (cradle_of x.entry k) v.slot s.unused (zeroes_others k empty)
 
-  present_stays : (routine : Routine) → HoldsAt t s c x routine → KnowsWhere s d r v.slot routine → present_at t.setting.sizes s.memory s.unused x.entry routine s.present v.slot ≡ s.present v.slot
+  present_stays : (routine : Routine) → HoldsAt t s c x routine → KnowsWhere s d r v.slot routine → present_at t.target t.setting.sizes s.memory s.unused x.entry routine s.present v.slot ≡ s.present v.slot
   present_stays Idle at k = refl
   present_stays (LoadSeen why) at k = refl
   present_stays At at k = refl
@@ -109,7 +109,7 @@ module _ (t : Plan) (w : World) (h : Holds t w) (c : ℕ) (mover : c < t.setting
   present_stays Restarts at k = refl
   present_stays (Clears next) at k = refl
   present_stays (Claims claim) at k = claimed_stays claim.sweep claim.stage at.0 k
-  present_stays (Zeroes i field) at k = zeroed_stays (nat_lt (field + 1) t.setting.sizes.fields) i field at.3
+  present_stays (Zeroes i field) at k = zeroed_stays (nat_lt (field + 1) (zero_count t.target t.setting.sizes (instr_in t.target x.entry))) i field at.3
 
   -- what others know of it stays known
   stays_where : (s' : Shared) (e : ℕ) (y : Caller) (routine : Routine) → ((sweep : Sweep) (stage : ClaimStage) → ClaimAt t s sweep stage → KnowsIn s d r v.slot sweep stage → KnowsIn s' d r v.slot sweep stage)
@@ -243,7 +243,7 @@ module _ (t : Plan) (w : World) (h : Holds t w) (c : ℕ) (mover : c < t.setting
     of routine is = subst (Moves s') (sym (after_is t.target t.setting x.entry (s.memory (word_of a)) routine is)) (on routine is)
 
   pub covered_on : (a : WordAccess) (row : GuardRow) (were : ℕ → Bool) → TakesReady s.memory x.entry.routine → wants t.target x.entry ≡ Some a
-      → (k : KeptWith t c s x row were (after_access s.memory a) (after_moves t.target t.setting x.entry (s.memory (word_of a))) (present_at t.setting.sizes s.memory s.unused x.entry x.entry.routine s.present))
+      → (k : KeptWith t c s x row were (after_access s.memory a) (after_moves t.target t.setting x.entry (s.memory (word_of a))) (present_at t.target t.setting.sizes s.memory s.unused x.entry x.entry.routine s.present))
       → k.s'.memory (Hazard d r) ≡ s.memory (Hazard d r) → Covered t (record { shared = k.s'; who = put w.who c k.x' }) d r
   covered_on a row were ready want k same =
       let name : k.s'.present v.slot ≡ s.present v.slot = ap (λ (present : ℕ → ℕ). present v.slot) k.present ∙ present_stays x.entry.routine (h.caller_holds c mover).spot (v.known c mover) in

@@ -27,7 +27,7 @@ use Rattle.target_runs.proofs.SaneTargets.{runnable_is_sane}
 use Rattle.sim_relation.specs.Views.{Plan, IsPlan}
 use Rattle.oa_simulation.specs.Shadow.{Shadow, shadow_run, shadow_start}
 use Rattle.oa_simulation.specs.Relation.{HomeIs}
-use Rattle.sim_starts.proofs.FirstWords.{first_words}
+use Rattle.oa_simulation.proofs.FirstWords.{first_words}
 use Rattle.oa_simulation.proofs.Homes.{home_stays}
 use Rattle.oa_simulation.proofs.Refining.{either, plan_of, start_beside, start_sets_none}
 use Rattle.guarded_claims.specs.Marks.{IsValidated, Absent, Published, Validated, no_marks, run_marks}

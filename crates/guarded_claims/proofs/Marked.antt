@@ -25,8 +25,8 @@ use Rattle.sim_relation.specs.Callers.{Calm, Base}
 use Rattle.sim_relation.specs.MayChange.{MayChange}
 use Rattle.sim_relation.specs.Steps.{KeptWith, NamesAt, NamesCleared, NamesAfter, checked_names, with_names, is_between, is_counted, is_over, after_access}
 use Rattle.sim_relation.specs.WasSet.{set_after_access}
-use Rattle.sim_walks.proofs.Beginning.{over_after}
-use Rattle.sim_pools.proofs.Core.{after_is, wants_is}
+use Rattle.sim_steps.proofs.Walks.Beginning.{over_after}
+use Rattle.sim_steps.proofs.Pools.Core.{after_is, wants_is}
 use Rattle.guarded_claims.specs.Marks.{Mark, Marks, Absent, Published, Validated, passed, begun, published, restored, checked, cleared, instr_marks, hazard_marks, step_marks}
 use Rattle.guarded_claims.proofs.Hazards.{Leaves, leaves, again_leaves, stored, stored_at}
 use Rattle.sim_steps.proofs.Seen.{is_check, loads_seen, seen_stays}

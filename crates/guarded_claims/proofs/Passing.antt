@@ -22,7 +22,7 @@ use Rattle.caller_parts.specs.declared.routine.Routine.TheVariants.{Idle, LoadSe
 use Rattle.sim_relation.specs.Views.{Plan, Shared}
 use Rattle.sim_relation.specs.Callers.{SweepAt, ClaimAt}
 use Rattle.sim_relation.specs.MayChange.{MayChange}
-use Rattle.sim_pools.proofs.Sweeping.{has_before, has_now, here_or_before}
+use Rattle.sim_steps.proofs.Pools.Sweeping.{has_before, has_now, here_or_before}
 
 abbrev pub Knows : Shared → ℕ → ℕ → List ℕ → Type 0
 Knows s j p g = (q : ℕ) → s.tag (s.present j) ≡ Some q → q < p → has_slot g j ≡ true

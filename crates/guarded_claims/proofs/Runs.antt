@@ -94,7 +94,7 @@ module _ (t : Plan) (plan : IsPlan t) (proper : IsProper t.text) (events_seen : 
   -- a step, in the worlds before and after it
   step_all : (w : World) (h : Holds t w) (c : ℕ) (a : WordAccess) (marks : ℕ → Marks) → c < t.setting.sizes.callers → AllMarked t w marks → TakesReady w.shared.memory (w.who c).entry.routine → wants t.target (w.who c).entry ≡ Some a
       → (k : Stepped t c w.shared (w.who c) (NamesAfter t w.shared c (w.who c) (w.who c).entry.routine) (set_after_access t.target t.setting.sizes (w.who c).entry (w.who c).entry.routine (w.shared.memory (word_of a)) (w.who c).was_set)
-      (after_access w.shared.memory a) (after_moves t.target t.setting (w.who c).entry (w.shared.memory (word_of a))) (present_at t.setting.sizes w.shared.memory w.shared.unused (w.who c).entry (w.who c).entry.routine w.shared.present))
+      (after_access w.shared.memory a) (after_moves t.target t.setting (w.who c).entry (w.shared.memory (word_of a))) (present_at t.target t.setting.sizes w.shared.memory w.shared.unused (w.who c).entry (w.who c).entry.routine w.shared.present))
       → Holds t (record { shared = k.kept.s'; who = put w.who c k.kept.x' })
       → AllMarked t (record { shared = k.kept.s'; who = put w.who c k.kept.x' }) (put marks c (step_marks t.target t.setting (w.who c).entry (w.shared.memory (word_of a)) (marks c)))
   step_all w h c a marks lt all ready want k h' d below = record { own = own d below; covered = λ r. covered r (cases_eq d c) } where

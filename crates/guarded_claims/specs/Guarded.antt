@@ -3,11 +3,11 @@ use Rattle.std.specs.Prelude.{ℕ, ◌≡◌, ◌≢◌, ◌≤◌, ◌<◌, Lis
 use Rattle.norm_lang.specs.declared.text.Text.{Text}
 use Rattle.target_code.specs.declared.target.Target.{Target}
 use Rattle.oa_words.specs.declared.packed.Kind.TheVariants as kinds
-use Rattle.oa_words.specs.Words.{Word, Hazard, Status, Head, Link, Sizes}
+use Rattle.oa_words.specs.Words.{Word, Hazard, Status, Head, Link, Sizes, slot_range, IsSlot}
 use Rattle.oa_words.specs.Packed.{status_word, head_word}
 use Rattle.phase_pools.specs.declared.stages.ClaimStage.TheVariants as claims
 use Rattle.phase_pools.specs.Pools.{Claim}
-use Rattle.chain_laws.specs.Chains.{IsChain, IsOf, IsSlot, links, times, top}
+use Rattle.chain_laws.specs.Chains.{IsChain, IsOf, links, times, top}
 use Rattle.source_machine.specs.Proper.{IsProper}
 use Rattle.caller_parts.specs.declared.routine.Routine.TheVariants.{Claims}
 use Rattle.caller_parts.specs.Settings.{Setting}
@@ -29,7 +29,7 @@ pub record ReadyChain (n : Sizes) (memory : Word → ℕ) : Type 0 where
   pub chain : List ℕ
   pub linked : IsChain (links memory) (top memory) chain
   pub once : (j : ℕ) → times j chain ≤ 1
-  pub ready : (j : ℕ) → times j chain ≡ 1 → IsSlot n j × IsOf kinds.Ready (memory (Status j))
+  pub ready : (j : ℕ) → times j chain ≡ 1 → IsSlot (slot_range n) j × IsOf kinds.Ready (memory (Status j))
 
 -- after a run's events, in the state that they lead to
 pub record Spared (target : Target) (setting : Setting) (events : List CoreEvent) (state : CoreState) : Type 0 where

@@ -10,7 +10,7 @@ use Rattle.histories.specs.declared.call.Call.{Call}
 use Rattle.histories.specs.Histories.{Shared, calls_of, IsOrderOf, IsLegal, HasLegalOrder}
 use Rattle.histories.specs.Search.{IsFirst, BeginsAt}
 
-same_caller : (a : ℕ) → (a == a) ≡ true
+pub same_caller : (a : ℕ) → (a == a) ≡ true
 same_caller a = grind (arith, nat_tests)
 
 -- two callers are not both this one
@@ -21,10 +21,10 @@ neither : (a b : Bool) → (a || b) ≡ false → (a ≡ false) × (b ≡ false)
 neither true b is = grind arith
 neither false b is = (refl, is)
 
-true_is_no : {A : Type 0} → true ≡ false → A
+pub true_is_no : {A : Type 0} → true ≡ false → A
 true_is_no e = grind arith
 
-none_is_no : {A : Type 0} (x : Call) (xs : List Call) → [] ≡ x ∷ xs → A
+pub none_is_no : {A : Type 0} (x : Call) (xs : List Call) → [] ≡ x ∷ xs → A
 none_is_no x xs e = let lengths : 0 ≡ suc (length xs) = ap length e in let impossible : ⊥ = omega (arith, lengths) in absurd impossible
 
 -- past a call of another caller
@@ -35,7 +35,7 @@ passed x call others rest true false differs is = ap (λ l. x ∷ l) is
 passed x call others rest false b differs is = is
 
 -- Each caller's calls are those of the rest, and this one before them where it is the caller's.
-first_taken : (left : List Call) (at : ℕ) (call : Call) (caller : ℕ) → at < length left → slice_index_or left at call ≡ call → IsFirst left at call
+pub first_taken : (left : List Call) (at : ℕ) (call : Call) (caller : ℕ) → at < length left → slice_index_or left at call ≡ call → IsFirst left at call
     → calls_of caller left ≡ (if call.caller == caller then call ∷ calls_of caller (remove left at) else calls_of caller (remove left at))
 first_taken [] at call caller lt is first = let impossible : ⊥ = omega (arith, lt) in absurd impossible
 first_taken (x ∷ xs) zero call caller lt is first = ap (λ (c : Call). if c.caller == caller then c ∷ calls_of caller xs else calls_of caller xs) is
@@ -45,7 +45,7 @@ first_taken (x ∷ xs) (suc n) call caller lt is first =
     passed x call (calls_of caller xs) (calls_of caller (remove xs n)) (x.caller == caller) (call.caller == caller) (not_both x.caller call.caller caller parts.0) (first_taken xs n call caller lower is parts.1)
 
 -- where a caller's first call stands
-abbrev Stands : List Call → Call → Type 0
+abbrev pub Stands : List Call → Call → Type 0
 Stands left call = (at : ℕ) × (at < length left) × (slice_index_or left at call ≡ call) × IsFirst left at call
 
 stands_in : (x : Call) (xs : List Call) (call : Call) (others tail : List Call) (b : Bool) → (x.caller == call.caller) ≡ b → (others ≡ call ∷ tail → Stands xs call)
@@ -55,7 +55,7 @@ stands_in x xs call others tail false other later is =
     let (at, lt, there, first) = later is in
     (suc at, omega (arith, lt), there, ap (λ b. b || list_any (λ it. it.caller == call.caller) (take at xs)) other ∙ first)
 
-stands : (left : List Call) (call : Call) (tail : List Call) → calls_of call.caller left ≡ call ∷ tail → Stands left call
+pub stands : (left : List Call) (call : Call) (tail : List Call) → calls_of call.caller left ≡ call ∷ tail → Stands left call
 stands [] call tail is = none_is_no call tail is
 stands (x ∷ xs) call tail is = stands_in x xs call (calls_of call.caller xs) tail (x.caller == call.caller) refl (stands xs call tail) is
 

@@ -1,7 +1,7 @@
 //! Tests of the language, on what was worked out by hand: proper texts and copies against the shipped texts, which nodes a path
-//! leads to, facts on graphs, what a commit hands over, what is read back, and runs of the source machine. They stand apart from
-//! the crates that they test, since a crate with tests is proved twice. How texts and targets are spelled, the rules of the
-//! normal form and the flaws of targets are rows of the program `reader_rows`.
+//! leads to, facts on graphs, what a commit hands over, what is read back, runs of the source machine, and histories of sets
+//! and of the queue. They stand apart from the crates that they test, since a crate with tests is proved twice. How texts and
+//! targets are spelled, the rules of the normal form and the flaws of targets are rows of the program `reader_rows`.
 #![tactic(auto)]
 
 #[cfg(test)]
@@ -10,6 +10,8 @@ mod facts;
 mod forks;
 #[cfg(test)]
 mod needs;
+#[cfg(test)]
+mod object_histories;
 #[cfg(test)]
 mod read_back;
 #[cfg(test)]

@@ -31,7 +31,7 @@ use Rattle.source_machine.proofs.Places.{put_same, put_other}
 use Rattle.caller_parts.specs.declared.routine.AfterRetire.{AfterRetire}
 use Rattle.caller_parts.specs.declared.routine.Routine.{Routine}
 use Rattle.caller_parts.specs.declared.routine.Routine.TheVariants.{Idle, LoadSeen, At, InList, Retires, Restarts, Clears, Claims, Zeroes}
-use Rattle.caller_steps.specs.Entries.{Entry, instr_in, cradle_of, new_number}
+use Rattle.caller_steps.specs.Entries.{Entry, instr_in, cradle_of, new_number, zero_count}
 use Rattle.caller_parts.specs.Operands.{list_of, slot_in, word_in}
 use Rattle.caller_steps.specs.Clearing.{restart_next, clear_next}
 use Rattle.caller_steps.specs.Signs.{Moved, quiet}
@@ -43,7 +43,7 @@ use Rattle.sim_relation.specs.Callers.{CallerHolds, HoldsAt}
 use Rattle.sim_relation.specs.Naming.{emptied_at, freed_in, named_at, present_at}
 use Rattle.sim_relation.specs.Steps.{GoesToRetire, after_access}
 use Rattle.sim_relation.proofs.Words.{store_again}
-use Rattle.sim_pools.proofs.Slots.{status_tells}
+use Rattle.sim_steps.proofs.Pools.Slots.{status_tells}
 
 -- a slot holds a name that isn't retired
 abbrev pub IsNamed : Shared → ℕ → Type 0
@@ -280,11 +280,11 @@ module _ (t : Plan) (c : ℕ) (s : Shared) (x : Caller) (memory' : Word → ℕ)
   emptied_other (suc field) slot away = refl
 
   by_zero : (i field : ℕ) → memory' ≡ after_access s.memory (Stores (FieldOf (cradle_of x.entry i) field) 0)
-      → m ≡ (if nat_lt (field + 1) t.setting.sizes.fields then quiet (with_routine (counted x.entry) (Zeroes i (field + 1))) else node_made t.target t.setting.sizes (cradle_of x.entry i) (counted x.entry))
-      → present' ≡ named_at (nat_lt (field + 1) t.setting.sizes.fields) (cradle_of x.entry i) s.unused (emptied_at field (cradle_of x.entry i) s.present) → Before (cradle_of x.entry i ≡ j) → After
+      → m ≡ (if nat_lt (field + 1) (zero_count t.target t.setting.sizes (instr_in t.target x.entry)) then quiet (with_routine (counted x.entry) (Zeroes i (field + 1))) else node_made t.target t.setting.sizes (cradle_of x.entry i) (counted x.entry))
+      → present' ≡ named_at (nat_lt (field + 1) (zero_count t.target t.setting.sizes (instr_in t.target x.entry))) (cradle_of x.entry i) s.unused (emptied_at field (cradle_of x.entry i) s.present) → Before (cradle_of x.entry i ≡ j) → After
   by_zero i field makes moves names before used = ⊎_elim
-      (λ (same : ((j == cradle_of x.entry i) ≡ true) × (j ≡ cradle_of x.entry i)). here (nat_lt (field + 1) t.setting.sizes.fields) same.1 moves names)
-      (λ (away : ((j == cradle_of x.entry i) ≡ false) × (j ≢ cradle_of x.entry i)). still t c s x memory' m present' k Other j status (elsewhere away.1 (nat_lt (field + 1) t.setting.sizes.fields) names)
+      (λ (same : ((j == cradle_of x.entry i) ≡ true) × (j ≡ cradle_of x.entry i)). here (nat_lt (field + 1) (zero_count t.target t.setting.sizes (instr_in t.target x.entry))) same.1 moves names)
+      (λ (away : ((j == cradle_of x.entry i) ≡ false) × (j ≢ cradle_of x.entry i)). still t c s x memory' m present' k Other j status (elsewhere away.1 (nat_lt (field + 1) (zero_count t.target t.setting.sizes (instr_in t.target x.entry))) names)
       (λ was. ⊎_elim (λ (named : IsNamed s j). inl named) (λ (works : (cradle_of x.entry i ≡ j) ⊎ Other). ⊎_elim (λ (same : cradle_of x.entry i ≡ j). absurd (away.1 (sym same))) (λ (other : Other). inr (inr other)) works) (before was)) used)
       (eqb_tells j (cradle_of x.entry i)) where
         status : memory' (Status j) ≡ s.memory (Status j)
@@ -306,7 +306,7 @@ module _ (t : Plan) (c : ℕ) (s : Shared) (x : Caller) (memory' : Word → ℕ)
 
   -- each step
   by_routine : (r : Routine) (a : WordAccess) → wanted t.target x.entry r ≡ Some a → memory' ≡ after_access s.memory a → m ≡ accepted t.target t.setting (s.memory (word_of a)) (counted x.entry) r
-      → present' ≡ present_at t.setting.sizes s.memory s.unused x.entry r s.present → Before (WorksAt x.entry r j) → After
+      → present' ≡ present_at t.target t.setting.sizes s.memory s.unused x.entry r s.present → Before (WorksAt x.entry r j) → After
   by_routine Idle a want makes moves names before = absurd (let no : None ≡ Some a = want in cc)
   by_routine (LoadSeen why) a want makes moves names before = quietly (left (Some (Loads (Warning x.entry.number))) a want refl makes) names before
   by_routine At a want makes moves names before = quietly (left (instr_wanted x.entry.number (instr_in t.target x.entry) x.entry.hand.registers) a want (instr_leaves s.memory j x.entry.number (instr_in t.target x.entry) x.entry.hand.registers) makes) names before
@@ -328,8 +328,8 @@ module _ (t : Plan) (c : ℕ) (s : Shared) (x : Caller) (memory' : Word → ℕ)
 
 -- what a step makes of it, as the simulation keeps the step
 pub step_settles : (t : Plan) (c : ℕ) (s : Shared) (x : Caller) (a : WordAccess) → SharedHolds t s → wanted t.target x.entry x.entry.routine ≡ Some a
-    → (k : Kept t c s (after_access s.memory a) (accepted t.target t.setting (s.memory (word_of a)) (counted x.entry) x.entry.routine) (present_at t.setting.sizes s.memory s.unused x.entry x.entry.routine s.present))
+    → (k : Kept t c s (after_access s.memory a) (accepted t.target t.setting (s.memory (word_of a)) (counted x.entry) x.entry.routine) (present_at t.target t.setting.sizes s.memory s.unused x.entry x.entry.routine s.present))
     → (Other : Type 0) (j : ℕ) → (IsOf kinds.Used (s.memory (Status j)) → IsNamed s j ⊎ (Works x.entry j ⊎ Other)) → IsOf kinds.Used (k.s'.memory (Status j)) → IsNamed k.s' j ⊎ (Works k.x'.entry j ⊎ Other)
 step_settles t c s x a holds want k Other j before =
-    by_routine t c s x (after_access s.memory a) (accepted t.target t.setting (s.memory (word_of a)) (counted x.entry) x.entry.routine) (present_at t.setting.sizes s.memory s.unused x.entry x.entry.routine s.present) k holds Other j
+    by_routine t c s x (after_access s.memory a) (accepted t.target t.setting (s.memory (word_of a)) (counted x.entry) x.entry.routine) (present_at t.target t.setting.sizes s.memory s.unused x.entry x.entry.routine s.present) k holds Other j
     x.entry.routine a want refl refl refl before

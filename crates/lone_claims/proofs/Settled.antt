@@ -36,11 +36,11 @@ use Rattle.target_runs.proofs.SaneTargets.{runnable_is_sane}
 use Rattle.sim_relation.specs.Views.{Plan, IsPlan, Caller}
 use Rattle.sim_relation.specs.Shared.{IsOf}
 use Rattle.sim_relation.specs.Worlds.{World}
-use Rattle.sim_pools.proofs.Core.{wants_is}
-use Rattle.sim_pools.proofs.Slots.{status_tells}
+use Rattle.sim_steps.proofs.Pools.Core.{wants_is}
+use Rattle.sim_steps.proofs.Pools.Slots.{status_tells}
 use Rattle.sim_steps.proofs.Dispatching.{steps_keep}
-use Rattle.sim_starts.proofs.Starting.{IsFirst}
-use Rattle.sim_starts.proofs.FirstWords.{first_words}
+use Rattle.oa_simulation.proofs.Starting.{IsFirst}
+use Rattle.oa_simulation.proofs.FirstWords.{first_words}
 use Rattle.oa_simulation.specs.Shadow.{Shadow, shadow, shadow_run, shadow_start}
 use Rattle.oa_simulation.specs.Beside.{Beside}
 use Rattle.oa_simulation.specs.Relation.{HomeIs}
@@ -136,7 +136,7 @@ module _ (t : Plan) (plan : IsPlan t) (proper : IsProper t.text) (events_seen : 
 
   event_settled : (event : CoreEvent) (state behind : CoreState) (z : Shadow) (present : ℕ → ℕ) → IsSound t.target t.setting state → IsShaped t.target t.setting state → SettledBeside t state z present → Pooled t.target t.setting state → Moves t.target t.setting (view t.setting state) event (view t.setting behind)
       → HomeIs t.home (shadow_run t.text (event_signs t.target t.setting state event) z)
-      → SettledBeside t behind (shadow_run t.text (event_signs t.target t.setting state event) z) (present_after t.setting (view t.setting state) event z.unused present)
+      → SettledBeside t behind (shadow_run t.text (event_signs t.target t.setting state event) z) (present_after t.target t.setting (view t.setting state) event z.unused present)
   event_settled (Takes c call) state behind z present sound shaped b pooled m homes =
       let k = take_went t plan (λ e. true) (steps_keep t plan) proper events_seen state behind z c call b.beside m in
       record {
@@ -148,7 +148,7 @@ module _ (t : Plan) (plan : IsPlan t) (proper : IsProper t.text) (events_seen : 
       let k = step_went t plan (λ e. true) (steps_keep t plan) proper events_seen state behind z c refl sound shaped b.beside (takes_ready t.target t.setting state c few suits pooled) m homes in
       record {
         beside = k.beside;
-        names = k.present ∙ ap (present_after t.setting (view t.setting state) (Steps c) z.unused) b.names;
+        names = k.present ∙ ap (present_after t.target t.setting (view t.setting state) (Steps c) z.unused) b.names;
         settled = went_settled state behind z (shadow_run t.text (event_signs t.target t.setting state (Steps c)) z) c b.beside m.1 b.settled k;
       }
 
@@ -159,7 +159,7 @@ module _ (t : Plan) (plan : IsPlan t) (proper : IsProper t.text) (events_seen : 
       → HomeIs t.home (shadow_run t.text (run_signs t.target t.setting events state) z)
       → SettledWithPool t behind (shadow_run t.text (run_signs t.target t.setting events state) z) (present_run t.target t.text t.setting events state z present)
   run_settled shaped stays events state behind z present sound b is homes = along_run t (ℕ → ℕ) (present_run t.target t.text t.setting)
-      (λ event state z present. present_after t.setting (view t.setting state) event z.unused present) (SettledWithPool t) (λ state z present. refl) (present_more t) shaped stays events_seen
+      (λ event state z present. present_after t.target t.setting (view t.setting state) event z.unused present) (SettledWithPool t) (λ state z present. refl) (present_more t) shaped stays events_seen
       (λ event state behind z present sound shaped b m homes.
       let one = event_settled event state behind z present sound shaped b.settled b.pooled m homes in
       record { settled = one; pooled = pool_goes t state behind _ event few suits shaped m b.pooled one.beside })

@@ -35,7 +35,7 @@ use Rattle.core_pools.specs.Pooled.{standings, pool_of}
 use Rattle.core_pools.proofs.Going.{past_callers}
 use Rattle.core_pools.proofs.Pooling.{leads_hold, leads_tell}
 use Rattle.target_runs.specs.Runnable.{IsRunnable}
-use Rattle.sim_pools.proofs.Slots.{status_tells}
+use Rattle.sim_steps.proofs.Pools.Slots.{status_tells}
 use Rattle.sim_relation.specs.Views.{Owner, Null, Pool, Held, Living, Retiring, Dead, Shared}
 use Rattle.sim_relation.specs.Shared.{Slot, IsOf}
 use Rattle.sim_relation.specs.Callers.{HoldsAt}

@@ -15,10 +15,10 @@ use Rattle.documents.specs.declared.document.Document.{Document}
 use Rattle.documents.specs.DocumentRead.{document_read, IsDocument}
 use Rattle.script_plans.specs.declared.fault.RunFault.TheVariants as faults
 use Rattle.script_plans.specs.declared.fault.ShapeFault.{ShapeFault}
-use Rattle.script_driver.specs.Texts.{is_partial}
+use Rattle.document_runs.specs.Texts.{is_partial}
 use Rattle.statuses.specs.declared.status.Status.{Status}
 use Rattle.statuses.specs.declared.status.Status.TheVariants as statuses
-use Rattle.workload_runs.specs.Texts.{is_short}
+use Rattle.script_driver.specs.WorkloadTexts.{is_short}
 use Rattle.command_input.specs.declared.command.Command.{Command}
 use Rattle.command_input.specs.declared.command.Command.TheVariants as commands
 use Rattle.command_input.specs.declared.command.Request.{Request}
@@ -40,14 +40,14 @@ longer p x q is short long =
     let sum : length p ≡ length x + length q = ap length is ∙ length-append x q in
     omega (arith, sum, short, long)
 
-not_long : (bytes read : List ℕ) (old new : Option (List ℕ)) → old ≡ Some bytes → length bytes < LIMIT → Consumes old new read → length read ≡ LIMIT → ⊥
+pub not_long : (bytes read : List ℕ) (old new : Option (List ℕ)) → old ≡ Some bytes → length bytes < LIMIT → Consumes old new read → length read ≡ LIMIT → ⊥
 not_long bytes read (Some p) (Some q) told short consumes long =
     let same : p ≡ bytes = ap (λ (o : Option (List ℕ)). unwrap_or o []) told in
     longer p read q consumes (subst (λ (l : List ℕ). length l < LIMIT) (sym same) short) long
 not_long bytes read (Some p) None told short consumes long = absurd consumes
 not_long bytes read None new told short consumes long = cc
 
-all_read : (bytes read : List ℕ) (old new : Option (List ℕ)) → old ≡ Some bytes → Consumes old new read → IsAtEnd new → read ≡ bytes
+pub all_read : (bytes read : List ℕ) (old new : Option (List ℕ)) → old ≡ Some bytes → Consumes old new read → IsAtEnd new → read ≡ bytes
 all_read bytes read (Some p) (Some q) told consumes end =
     let same : p ≡ bytes = ap (λ (o : Option (List ℕ)). unwrap_or o []) told in
     sym (append-nil read) ∙ ap (λ l. read ++ l) (sym end) ∙ sym consumes ∙ same
@@ -56,7 +56,7 @@ all_read bytes read None new told consumes end = cc
 
 -- ---- an accepted document isn't refused
 
-not_faulty : (bytes : List ℕ) (document : Document) (fault : LineFault) → document_read bytes ≡ Ok document → document_read bytes ≡ Err fault → ⊥
+pub not_faulty : (bytes : List ℕ) (document : Document) (fault : LineFault) → document_read bytes ≡ Ok document → document_read bytes ≡ Err fault → ⊥
 not_faulty bytes document fault is not = clash (sym is ∙ not)
   where
     clash : Ok document ≡ Err fault → ⊥
@@ -66,13 +66,13 @@ abbrev document_in : Document → Result Document LineFault → Document
 document_in document (Ok other) = other
 document_in document (Err fault) = document
 
-one_document : (bytes : List ℕ) (document other : Document) → document_read bytes ≡ Ok document → document_read bytes ≡ Ok other → other ≡ document
+pub one_document : (bytes : List ℕ) (document other : Document) → document_read bytes ≡ Ok document → document_read bytes ≡ Ok other → other ≡ document
 one_document bytes document other is also = ap (document_in document) (sym also ∙ is)
 
-not_refused : (text : Text) (refusal : Refusal) → IsNormal text → IsRefused text refusal → ⊥
+pub not_refused : (text : Text) (refusal : Refusal) → IsNormal text → IsRefused text refusal → ⊥
 not_refused text refusal normal refused = normal (breach_of refusal) refused.first.0
 
-accepted_is_normal : (command : Command) (document : Document) → IsTrue (takes_rules command) → IsAccepted command document → IsNormal document.text
+pub accepted_is_normal : (command : Command) (document : Document) → IsTrue (takes_rules command) → IsAccepted command document → IsNormal document.text
 accepted_is_normal commands.Run document takes accepted = accepted.normal
 accepted_is_normal commands.Replay document takes accepted = accepted.0.normal
 accepted_is_normal commands.Check document takes accepted = accepted
@@ -82,7 +82,7 @@ accepted_is_normal commands.Show document takes accepted = absurd (false≢true 
 none_is_some : (fault : ShapeFault) → None ≡ Some fault → ⊥
 none_is_some fault same = cc
 
-has_shape : (command : Command) (document : Document) (number at : ℕ) → IsAccepted command document → IsShapeRefused command document (faults.Shape number at) → ⊥
+pub has_shape : (command : Command) (document : Document) (number at : ℕ) → IsAccepted command document → IsShapeRefused command document (faults.Shape number at) → ⊥
 has_shape commands.Run document number at accepted refused = none_is_some (record { number = number; at = at }) (sym accepted.shape ∙ refused.1)
 has_shape commands.Replay document number at accepted refused = none_is_some (record { number = number; at = at }) (sym accepted.1 ∙ refused.1)
 has_shape commands.Check document number at accepted refused = absurd refused

@@ -5,7 +5,7 @@ use Rattle.norm_lang.specs.NormalForm.{IsNormal}
 use Rattle.documents.specs.declared.document.Document.{Document}
 use Rattle.documents.specs.DocumentRead.{IsDocument}
 use Rattle.script_plans.specs.Plans.{IsRunnable}
-use Rattle.script_driver.specs.Runs.{replay_fault}
+use Rattle.document_runs.specs.Runs.{replay_fault}
 use Rattle.statuses.specs.declared.status.Status.{Status}
 use Rattle.statuses.specs.declared.status.Status.TheVariants as statuses
 use Rattle.oa_cli.specs.Verdicts.{LIMIT}

@@ -15,10 +15,10 @@ use Rattle.documents.specs.DocumentRead.{document_read, IsDocument}
 use Rattle.script_plans.specs.declared.fault.RunFault.{RunFault}
 use Rattle.script_plans.specs.declared.fault.RunFault.TheVariants as faults
 use Rattle.script_plans.specs.Plans.{IsFaultOf}
-use Rattle.script_driver.specs.declared.report.Report.{Report}
-use Rattle.script_driver.specs.Runs.{IsReplayFaultOf}
+use Rattle.document_runs.specs.declared.report.Report.{Report}
+use Rattle.document_runs.specs.Runs.{IsReplayFaultOf}
 use Rattle.report_laws.specs.Runs.{IsRunReport, IsReplayReport}
-use Rattle.workload_runs.specs.Runs.{IsWorkloadReport}
+use Rattle.script_driver.specs.WorkloadRuns.{IsWorkloadReport}
 use Rattle.statuses.specs.declared.status.Status.{Status}
 use Rattle.statuses.specs.declared.status.Status.TheVariants as statuses
 use Rattle.command_input.specs.Commands.{request_of}

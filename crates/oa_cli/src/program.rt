@@ -7,6 +7,7 @@ ghost use Rattle.oa_cli.specs.Verdicts.{IsJudged, FaultsAreTold};
 ghost use Rattle.verdicts.specs.Telling.{IsSaid, text_for, status_for};
 ghost use Rattle.command_input.specs.Commands.{request_of};
 ghost use Rattle.oa_cli.specs.Complete.{IsComplete};
+ghost use Rattle.oa_cli.specs.Headline.{Headline};
 
 use crate::top::oa_main;
 use oa_text::{Gate, OpenGate, Source, StdSink, StdSource};
@@ -48,6 +49,7 @@ pub fn serve<R: Threads + Sync, S: Source, W: Write, G: Gate + Sync>(
         × IsSaid out.old.written out.new.written out.old.faults out.new.faults (text_for verdict) (status_for verdict) result }
     ensures told { FaultsAreTold (S.faults input.old) (S.faults input.new) out.old.faults out.new.faults result }
     ensures complete { IsComplete (request_of (map string_bytes words.now)) (S.left input.old) (S.faults input.old) (S.faults input.new) out.old.faults out.new.faults result }
+    ensures headline { Headline (request_of (map string_bytes words.now)) (S.left input.old) out.old.written out.new.written (S.faults input.old) (S.faults input.new) out.old.faults out.new.faults result }
 {
     let status = oa_main(rt, alloc, words, input, out, gate);
     finish(out, status)

@@ -9,6 +9,7 @@ ghost use Rattle.documents.specs.DocumentLimits.{IsWithinDocumentLimits};
 ghost use Rattle.verdicts.specs.declared.verdict.Verdict.{Verdict};
 ghost use Rattle.command_input.specs.Commands.{request_of};
 ghost use Rattle.oa_cli.specs.Complete.{IsComplete};
+ghost use Rattle.oa_cli.specs.Headline.{Headline};
 ghost use Rattle.oa_cli.specs.Verdicts.{IsOfDocument, IsFound, IsOfBytes, IsOfSource, IsOfWorkload, IsJudged, FaultsAreTold, fault_verdict};
 ghost use Rattle.verdicts.specs.Telling.{IsSaid, text_for, status_for};
 
@@ -22,15 +23,13 @@ use norm_check::{CheckError, Normal, Refusal};
 use norm_lang::show;
 use norm_lang::text::ByteText;
 use oa_text::{Gate, Sink, Source};
-use report_laws::laws::reports_are_true;
-use script_driver::{replay_document, run_document};
+use script_driver::{replay_document, run_document, run_workload};
 use script_plans::RunFault;
 use statuses::Status;
 use std::alloc::{AllocError, Global};
 use std::thread::Threads;
 use target_code::show_target;
 use verdicts::{Verdict, say};
-use workload_runs::run_workload;
 
 /// One more byte than a document may have.
 const LIMIT: usize = 1_048_577;
@@ -141,10 +140,7 @@ fn run_verdict<R: Threads + Sync, G: Gate + Sync>(
     ensures { IsFound Command.Run document.now result }
 {
     match run_document(rt, alloc, document, gate) {
-        Ok(report) => {
-            reports_are_true();
-            Ok(Verdict::Answered(report))
-        }
+        Ok(report) => Ok(Verdict::Answered(report)),
         Err(fault) => fault_verdict(fault),
     }
 }
@@ -155,10 +151,7 @@ fn replay_verdict(alloc: Global, document: &Document) -> Result<Verdict, Refusal
     ensures { IsFound Command.Replay document.now result }
 {
     match replay_document(alloc, document) {
-        Ok(report) => {
-            reports_are_true();
-            Ok(Verdict::Answered(report))
-        }
+        Ok(report) => Ok(Verdict::Answered(report)),
         Err(fault) => fault_verdict(fault),
     }
 }
@@ -244,7 +237,7 @@ fn judge<R: Threads + Sync, S: Source, G: Gate + Sync>(
 /// that its text is accepted, or its text, or what that compiles to, or what the answers of a workload add up to, or why there are
 /// none. The first clause has three parts: what was read and judged, what was said, and the status. The second says that each fault
 /// is told. The third says that all is answered which nothing refuses, where memory suffices; by the first the whole text was written
-/// then, and each call has a reply at `Done`. The gate is handed to the callers of `run` and of a workload; it changes nothing but how
+/// then, and each call has a reply at `Done`. The fourth says what `run` and `replay` promise, with all the premises: see `Headline`. The gate is handed to the callers of `run` and of a workload; it changes nothing but how
 /// their steps interleave.
 pub fn oa_main<R: Threads + Sync, S: Source, K: Sink, G: Gate + Sync>(
     rt: &R,
@@ -259,6 +252,7 @@ pub fn oa_main<R: Threads + Sync, S: Source, K: Sink, G: Gate + Sync>(
         × IsSaid (K.written out.old) (K.written out.new) (K.faults out.old) (K.faults out.new) (text_for verdict) (status_for verdict) result }
     ensures told { FaultsAreTold (S.faults input.old) (S.faults input.new) (K.faults out.old) (K.faults out.new) result }
     ensures complete { IsComplete (request_of (map string_bytes words.now)) (S.left input.old) (S.faults input.old) (S.faults input.new) (K.faults out.old) (K.faults out.new) result }
+    ensures headline { Headline (request_of (map string_bytes words.now)) (S.left input.old) (K.written out.old) (K.written out.new) (S.faults input.old) (S.faults input.new) (K.faults out.old) (K.faults out.new) result }
 {
     let verdict = judge(rt, alloc, words, input, gate);
     say(out, &verdict)

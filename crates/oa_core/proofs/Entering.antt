@@ -71,7 +71,7 @@ starts_under_way t now sound own suits words entries = record {
     lawful = subst (AreLawful t.pair.target t.setting) (sym words) start.lawful;
   };
   belong = record { each = λ c e is. record { fits = suits.fits; belongs = (start.belong c e.core (core_in c e is)).0 } };
-  rooms = λ c e is. (let same = fresh_rooms 0 c t.scripts e (ap (λ (l : List RoomyEntry). slice_get l c) (sym entries) ∙ is) in omega (arith, same));
+  rooms = λ c e is. sym (fresh_rooms 0 c t.scripts e (ap (λ (l : List RoomyEntry). slice_get l c) (sym entries) ∙ is));
   calls = λ c k call is. script_calls t.pair.target t.scripts c k call suits.calls is;
 } where
   start : IsSoundState t.pair.target t.setting (core_start t.pair.target t.setting)

@@ -1,5 +1,5 @@
 -- One step of a caller in its place among the entries.
-use Rattle.std.proofs.Common.{◌≡◌, ◌<◌, ◌≤◌, ◌+◌, ◌&&◌, ℕ, zero, suc, ◌⊎◌, inl, inr, ⊎_elim, Bool, true, false, List, [], ◌∷◌, map, set, length, Option, Some, None, refl, sym, ap, ◌∙◌, subst, arith, if◌then◌else◌}
+use Rattle.std.proofs.Common.{◌≡◌, ◌<◌, ◌+◌, ◌&&◌, ℕ, zero, suc, ◌⊎◌, inl, inr, ⊎_elim, Bool, true, false, List, [], ◌∷◌, map, set, length, Option, Some, None, refl, sym, ap, ◌∙◌, subst, arith, if◌then◌else◌}
 use Rattle.std.specs.Prelude.{slice_get, slice_set, option_map, is_some, nat_le, Err}
 use Rattle.std.proofs.lemmas.List.{map-set, set-set}
 use Rattle.std.proofs.lemmas.Option.{slice_get-map, slice_get_within}
@@ -19,7 +19,7 @@ use Rattle.barrier_check.specs.Paired.{Paired}
 use Rattle.oa_core.specs.declared.progress.Move.{Move}
 use Rattle.oa_core.specs.declared.progress.Move.TheVariants as moves
 use Rattle.core_entries.specs.Callers.{BelongsTo}
-use Rattle.oa_core.specs.Finals.{core_part}
+use Rattle.oa_core.specs.Finals.{core_part, HasRooms}
 use Rattle.core_entries.specs.Steps.{StepIs, WordsSound}
 use Rattle.oa_core.specs.Shown.{Terms, Progress, replay_by, shown, bared, next_of, next_for, next_in, events_of, begun, CanMove, CanMoveAt, EntryMoves, MovesAt, AllBelongTo, IsUnderWay}
 use Rattle.oa_core.proofs.Bare.{made_to, refused}
@@ -115,9 +115,6 @@ begun_room : (next : Move) (e : RoomyEntry) → (begun next e).room ≡ e.room
 begun_room (moves.Takes call) e = refl
 begun_room moves.GoesOn e = refl
 
-abbrev HasRooms : List (List Call) → List RoomyEntry → Type 0
-HasRooms scripts entries = (c : ℕ) (e : RoomyEntry) → slice_get entries c ≡ Some e → length (script_of scripts c) ≤ e.room
-
 moves_rooms : (target : Target) (setting : Setting) (scripts : List (List Call)) (words later : List ℕ) (next : Move) (c : ℕ) (entries others : List RoomyEntry) → HasRooms scripts entries
     → MovesAt target setting words later next c entries others (slice_get entries c) → HasRooms scripts others
 moves_rooms target setting scripts words later next c entries others rooms moves = of (slice_get entries c) refl moves where
@@ -126,9 +123,9 @@ moves_rooms target setting scripts words later next c entries others rooms moves
   of (Some e) at moves = λ k f is. ⊎_elim
       (λ (t : (k ≡ c) × (f ≡ moves.moved)).
       let room : f.room ≡ e.room = ap (λ (x : RoomyEntry). x.room) (t.1 ∙ moves.step.entry) ∙ begun_room next e in
-      let few = rooms c e at in
+      let exact : e.room ≡ length (script_of scripts c) = rooms c e at in
       let same : length (script_of scripts k) ≡ length (script_of scripts c) = ap (λ (d : ℕ). length (script_of scripts d)) t.0 in
-      omega (arith, room, few, same))
+      omega (arith, room, exact, same))
       (λ (t : slice_get entries k ≡ Some f). rooms k f t)
       (set_got entries c k moves.moved f (ap (λ (l : List RoomyEntry). slice_get l k) (sym moves.left) ∙ is))
 

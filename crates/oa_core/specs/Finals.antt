@@ -1,13 +1,17 @@
 -- The end of a run of scripts, and what a replay answers.
 use Rattle.std.specs.Prelude.{◌≡◌, ℕ, ◌≤◌, Bool, false, List, map, length, Option, Some, None, Result, Ok, Err, slice_get, slice_index}
+use Rattle.schedule_turns.specs.declared.turn.Turn.{Turn}
+use Rattle.norm_lang.specs.declared.text.Text.{Text}
 use Rattle.target_code.specs.declared.target.Target.{Target}
+use Rattle.source_machine.specs.Proper.{IsProper}
 use Rattle.caller_parts.specs.declared.call.Call.{Call}
 use Rattle.caller_parts.specs.Settings.{Setting}
 use Rattle.caller_steps.specs.Entries.{Entry, RoomyEntry}
-use Rattle.core_runs.specs.Machine.{CoreState, CoreEvent}
-use Rattle.core_runs.specs.Scripts.{IsCompleteRun}
-use Rattle.core_runs.specs.Replays.{Replay, Replaying, Refusal, StepOfNobody, LongReplay, is_spent}
+use Rattle.core_runs.specs.Machine.{CoreState}
+use Rattle.core_runs.specs.Scripts.{script_of, IsCompleteRun}
+use Rattle.core_runs.specs.Replays.{Replay, Replaying, Refusal, StepOfNobody, LongReplay, is_spent, replayed}
 use Rattle.core_sound.specs.Sound.{IsSound, StaysInRow}
+use Rattle.run_laws.specs.Source.{FollowsSource}
 use Rattle.oa_core.specs.declared.replaying.ReplayError.{ReplayError}
 use Rattle.oa_core.specs.declared.replaying.ReplayError.TheVariants as errors
 
@@ -41,6 +45,10 @@ is_spent_in final c = entry_spent final.fuel (slice_get final.entries c)
 abbrev pub IsShort : List Call → Type 0
 IsShort script = length script ≤ 100000
 
+-- each caller's entry has room for one reply to each call of its script
+abbrev pub HasRooms : List (List Call) → List RoomyEntry → Type 0
+HasRooms scripts entries = (c : ℕ) (e : RoomyEntry) → slice_get entries c ≡ Some e → e.room ≡ length (script_of scripts c)
+
 -- the most steps of a replay
 unfoldable pub replay_limit : ℕ
 replay_limit = 20000000
@@ -67,9 +75,13 @@ Answers (Err (errors.LongReplay steps)) fuel given = IsRefused (LongReplay steps
 
 -- ---- runs of scripts
 
--- a complete run of the scripts ends so: each caller's entry belongs, each word is lawful, and nothing leads out of the row
-pub record EndsRun (target : Target) (setting : Setting) (scripts : List (List Call)) (fuel : ℕ) (final : Final) : Type 0 where
-  pub events : List CoreEvent
-  pub complete : IsCompleteRun target setting scripts fuel events (core_of final)
+-- the turns give a complete run of the scripts, which ends so: each caller's entry belongs, each word is lawful, and nothing leads out of
+-- the row. Where the text is proper, the run is one of the text on memory that is never recycled
+pub record EndsRun (target : Target) (text : Text) (setting : Setting) (scripts : List (List Call)) (fuel : ℕ) (schedule : List Turn) (final : Final) : Type 0 where
+  pub replaying : Replaying
+  pub given : replayed (replay_of target setting scripts fuel) schedule ≡ Ok replaying
+  pub state : core_of final ≡ replaying.state
+  pub complete : IsCompleteRun target setting scripts fuel replaying.events (core_of final)
   pub sound : IsSound target setting (core_of final)
   pub stays : StaysInRow target setting (core_of final)
+  pub source : IsProper text → FollowsSource target text setting scripts replaying.events (core_of final)

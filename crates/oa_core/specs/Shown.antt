@@ -1,5 +1,5 @@
 -- A replay under way as the code holds it: without its events.
-use Rattle.std.specs.Prelude.{◌≡◌, ℕ, ◌+◌, ◌-◌, ◌≤◌, ◌<◌, All, Bool, true, false, List, [], ◌∷◌, map, length, Option, Some, None, option_map, Result, Ok, Err, nat_le, if◌then◌else◌, slice_get, slice_set}
+use Rattle.std.specs.Prelude.{◌≡◌, ℕ, ◌+◌, ◌-◌, ◌<◌, All, Bool, true, false, List, [], ◌∷◌, map, length, Option, Some, None, option_map, Result, Ok, Err, nat_le, if◌then◌else◌, slice_get, slice_set}
 use Rattle.schedule_turns.specs.declared.turn.Turn.{Turn}
 use Rattle.target_code.specs.declared.target.Target.{Target}
 use Rattle.caller_parts.specs.declared.call.Call.{Call}
@@ -19,7 +19,7 @@ use Rattle.core_entries.specs.Callers.{BelongsTo}
 use Rattle.core_entries.specs.Steps.{WordsSound, StepIs}
 use Rattle.oa_core.specs.declared.replaying.ReplayError.{ReplayError}
 use Rattle.oa_core.specs.declared.replaying.ReplayError.TheVariants as errors
-use Rattle.oa_core.specs.Finals.{core_part, IsShort}
+use Rattle.oa_core.specs.Finals.{core_part, HasRooms, IsShort}
 
 -- what is replayed
 pub record Terms : Type 0 where
@@ -115,7 +115,7 @@ left_after wanted left = if wanted then (if nat_le left 1 then None else Some (l
 pub record IsUnderWay (t : Terms) (now : Progress) : Type 0 where
   pub words : WordsSound t.pair.target t.setting now.words
   pub belong : AllBelongTo t.pair t.setting now.entries
-  pub rooms : (c : ℕ) (e : RoomyEntry) → slice_get now.entries c ≡ Some e → length (script_of t.scripts c) ≤ e.room
+  pub rooms : HasRooms t.scripts now.entries
   pub calls : (c k : ℕ) (call : Call) → slice_get (script_of t.scripts c) k ≡ Some call → is_call t.pair.target call ≡ true
 
 -- ---- the start and the whole

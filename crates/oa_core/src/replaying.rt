@@ -4,8 +4,9 @@ ghost use Rattle.std.specs.Prelude.{◌≡◌, ◌≤◌, IfOk, All, length};
 ghost use Rattle.caller_parts.specs.Calls.{AreCalls};
 ghost use Rattle.caller_parts.specs.Settings.{Fits};
 ghost use Rattle.core_runs.specs.Replays.{replay_start, replayed};
-ghost use Rattle.oa_core.specs.Finals.{IsShort, phase_of, is_spent_in, replay_limit, replay_of, Answers, EndsRun};
+ghost use Rattle.oa_core.specs.Finals.{IsShort, phase_of, is_spent_in, replay_limit, replay_of, Answers, HasRooms, EndsRun};
 ghost use Rattle.oa_core.specs.Shown.{replay_by, shown, bared, told, fresh_entries, replayed_from, error_of, SuitsReplay, IsUnderWay};
+ghost use Rattle.oa_core.specs.States.{RunsInRow};
 
 use crate::progress::{Progress, Stop, Terms};
 use barrier_check::Barred;
@@ -116,7 +117,8 @@ fn start(alloc: Global, terms: &Terms) -> Result<Progress, AllocError>
 /// The turns, and then each caller to its end.
 fn run(terms: &Terms, now: &mut Progress, schedule: &[Turn]) -> Result<(), Stop>
     requires under_way { IsUnderWay terms.now now.old }
-    ensures { told result now.new ≡ bared (replayed_from (replay_by terms.now) schedule.now (shown now.old)) }
+    ensures made { told result now.new ≡ bared (replayed_from (replay_by terms.now) schedule.now (shown now.old)) }
+    ensures under_way { IsUnderWay terms.now now.new }
 {
     terms.make_turns(now, schedule)?;
     terms.end_callers(now)
@@ -142,9 +144,14 @@ fn replay_limit() -> u64
 /// their numbers. A caller has a step to take where its operation runs or its script has a further call, and no operation
 /// of it was spent. An operation is spent where `fuel` steps were made for it and it hasn't ended.
 ///
+/// The state is that of the complete run which the turns give. Where the target's text is proper, this run is one of the text on memory
+/// that is never recycled: see `FollowsSource`. In this state, as in each to which events lead, nothing leads out of
+/// the row.
+///
 /// # Errors
 /// A turn needs a step of a caller that has none to take or that doesn't exist, 20,000,000 steps were made and another is
 /// wanted, or memory ran out.
+#[tactic(auto, using(crate::proofs::Ending::runs_in_row))]
 pub fn replay(
     alloc: Global,
     barred: &Barred,
@@ -159,7 +166,9 @@ pub fn replay(
     requires few { All IsShort scripts.now }
     requires fuel { 1 ≤ fuel }
     ensures replayed { Answers result fuel (replayed (replay_of barred.now.target setting.now scripts.now fuel) schedule.now) }
-    ensures complete { IfOk result (λ s. EndsRun barred.now.target setting.now scripts.now fuel s) }
+    ensures complete { IfOk result (λ s. EndsRun barred.now.target barred.now.source setting.now scripts.now fuel schedule.now s) }
+    ensures in_row { RunsInRow barred.now.target setting.now }
+    ensures rooms { IfOk result (λ s. HasRooms scripts.now s.entries) }
 {
     kept(barred);
     setting.kept();

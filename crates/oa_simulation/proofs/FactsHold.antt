@@ -10,8 +10,8 @@ use Rattle.sim_relation.specs.Callers.{HoldsAt, Running, ClaimAt, spot_of}
 use Rattle.sim_relation.specs.MayChange.{MayChange}
 use Rattle.sim_relation.specs.Points.{StaysProper, point}
 use Rattle.sim_relation.specs.Worlds.{World, Holds}
-use Rattle.sim_guards.proofs.Residents.{resident}
-use Rattle.sim_accesses.proofs.Stepping.{proper_here}
+use Rattle.sim_steps.proofs.Guards.Residents.{resident}
+use Rattle.sim_steps.proofs.Accesses.Stepping.{proper_here}
 use Rattle.oa_simulation.specs.Facts.{Facts, TagIsNoLessThanThePhaseAtUnlinking}
 
 pub tags_are_no_less : (t : Plan) (c : ℕ) (s s' : Shared) → MayChange t c s s' → TagIsNoLessThanThePhaseAtUnlinking s s'
@@ -28,7 +28,7 @@ facts_hold t w plan h proper = record {
       subst (λ (stage : ClaimStage). ClaimAt t w.shared claim.sweep stage) in_sweep spot.0);
   got_of_a_caller_that_was_not_warned_is_resident = λ c n lt at calm got.
       (let run = running c lt at in
-      resident t w.shared c (w.who c) plan h.shared_holds (h.caller_holds c lt).base lt calm (proper_here t c w.shared (w.who c) (proper c lt) run.2.tied) n n got (itself n));
+      resident t w.shared c (w.who c) plan.null h.shared_holds (h.caller_holds c lt).base lt calm (proper_here t c w.shared (w.who c) (proper c lt) run.2.tied) n n got (itself n));
   guarded_is_resident = λ c r some. (h.shared_holds.guard c r some).resident;
   hazard_is_the_slot_of_what_is_guarded = λ c r some. (h.shared_holds.guard c r some).word;
   content_of_what_is_guarded_is_told_by_its_word = λ c lt at. (let run = running c lt at in (run.0, run.1.sound.pairs));

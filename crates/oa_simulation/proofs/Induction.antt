@@ -116,9 +116,9 @@ pub record Went (t : Plan) (state behind : CoreState) (z z' : Shadow) (c : ℕ) 
   pub access : WordAccess
   pub at : wants t.target ((view t.setting state).who c) ≡ Some access
   pub there : in_row t.setting.sizes (word_of access) ≡ true
-  pub stepped : Stepped t c b.w.shared (b.w.who c) (NamesAfter t b.w.shared c (b.w.who c) (b.w.who c).entry.routine) (set_after_access t.target t.setting.sizes (b.w.who c).entry (b.w.who c).entry.routine (b.w.shared.memory (word_of access)) (b.w.who c).was_set) (after_access b.w.shared.memory access) (after_moves t.target t.setting (b.w.who c).entry (b.w.shared.memory (word_of access))) (present_at t.setting.sizes b.w.shared.memory b.w.shared.unused (b.w.who c).entry (b.w.who c).entry.routine b.w.shared.present)
+  pub stepped : Stepped t c b.w.shared (b.w.who c) (NamesAfter t b.w.shared c (b.w.who c) (b.w.who c).entry.routine) (set_after_access t.target t.setting.sizes (b.w.who c).entry (b.w.who c).entry.routine (b.w.shared.memory (word_of access)) (b.w.who c).was_set) (after_access b.w.shared.memory access) (after_moves t.target t.setting (b.w.who c).entry (b.w.shared.memory (word_of access))) (present_at t.target t.setting.sizes b.w.shared.memory b.w.shared.unused (b.w.who c).entry (b.w.who c).entry.routine b.w.shared.present)
   pub world : beside.w ≡ record { shared = stepped.kept.s'; who = put b.w.who c stepped.kept.x' }
-  pub present : beside.w.shared.present ≡ present_after t.setting (view t.setting state) (Steps c) z.unused b.w.shared.present
+  pub present : beside.w.shared.present ≡ present_after t.target t.setting (view t.setting state) (Steps c) z.unused b.w.shared.present
 
 -- what holds of a state beside its shadow, and of what a fold over the events carries, holds along a run of states that stay sound
 pub along_run : (t : Plan) (X : Type 0) (fold : List CoreEvent → CoreState → Shadow → X → X) (on : CoreEvent → CoreState → Shadow → X → X) (P : CoreState → Shadow → X → Type 0)
@@ -154,10 +154,10 @@ along_run t X fold on P empty more shaped stays seen one (event ∷ events) stat
 -- the slots' names after a run, by its first event
 pub present_more : (t : Plan) (event : CoreEvent) (events : List CoreEvent) (state next : CoreState) (z : Shadow) (present : ℕ → ℕ) → core_event t.target t.setting state event ≡ Some next
     → present_run t.target t.text t.setting (event ∷ events) state z present
-    ≡ present_run t.target t.text t.setting events next (shadow_run t.text (event_signs t.target t.setting state event) z) (present_after t.setting (view t.setting state) event z.unused present)
+    ≡ present_run t.target t.text t.setting events next (shadow_run t.text (event_signs t.target t.setting state event) z) (present_after t.target t.setting (view t.setting state) event z.unused present)
 present_more t event events state next z present at = ap (λ (o : Option CoreState).
-    present_on o (λ next. present_run t.target t.text t.setting events next (shadow_run t.text (event_signs t.target t.setting state event) z) (present_after t.setting (view t.setting state) event z.unused present))
-    (present_after t.setting (view t.setting state) event z.unused present)) at
+    present_on o (λ next. present_run t.target t.text t.setting events next (shadow_run t.text (event_signs t.target t.setting state event) z) (present_after t.target t.setting (view t.setting state) event z.unused present))
+    (present_after t.target t.setting (view t.setting state) event z.unused present)) at
 
 -- and events of the pool lead there
 pub record PooledBeside (t : Plan) (state : CoreState) (z : Shadow) (present : ℕ → ℕ) : Type 0 where
@@ -242,14 +242,14 @@ module _ (t : Plan) (plan : IsPlan t) (test : Entry → Bool) (keeps : StepsKeep
       subst (λ (u : ℕ). DrawsHome t.home made.signs u) b.unused
       (draws_home t.text t.home c made.signs z (subst (λ (k : List Signed). HomeIs t.home (shadow_run t.text k z)) (sym same) homes)) in
       let run : is_idle ((seen state).who c).routine ≡ false = busy t.target ((seen state).who c) a (is_idle ((seen state).who c).routine) refl want in
-      let stepped : Stepped t c s x (NamesAfter t s c x x.entry.routine) (set_after_access t.target t.setting.sizes x.entry x.entry.routine (s.memory (word_of a)) x.was_set) (after_access s.memory a) made (present_at t.setting.sizes s.memory s.unused x.entry x.entry.routine s.present) =
+      let stepped : Stepped t c s x (NamesAfter t s c x x.entry.routine) (set_after_access t.target t.setting.sizes x.entry x.entry.routine (s.memory (word_of a)) x.was_set) (after_access s.memory a) made (present_at t.target t.setting.sizes s.memory s.unused x.entry x.entry.routine s.present) =
       keeps.step c s x a (ap test e ∙ passes) lt b.holds.shared_holds (b.holds.caller_holds c lt)
       (subst (λ (e : Entry). TakesReady s.memory e.routine) (sym e) (subst (λ (k : Word → ℕ). TakesReady k ((seen state).who c).routine) (sym b.memory) ready))
       (subst (λ (e : Entry). Belongs t.target t.setting e) (sym e) (belongs_seen t.target t.setting state c sound lt))
       (ap (λ (e : Entry). is_call t.target e.running.call) e ∙ b.called c lt run)
       (stays_proper t.text n c z b.v (point s x) proper b.sourced placed)
       (ap (wants t.target) e ∙ want) m.3 (λ w out. ap (λ (k : Word → ℕ). k w) b.memory ∙ past_row state w out) draws in
-      let k : KeptWith t c s x stepped.row (set_after_access t.target t.setting.sizes x.entry x.entry.routine (s.memory (word_of a)) x.was_set) (after_access s.memory a) made (present_at t.setting.sizes s.memory s.unused x.entry x.entry.routine s.present) = stepped.kept in
+      let k : KeptWith t c s x stepped.row (set_after_access t.target t.setting.sizes x.entry x.entry.routine (s.memory (word_of a)) x.was_set) (after_access s.memory a) made (present_at t.target t.setting.sizes s.memory s.unused x.entry x.entry.routine s.present) = stepped.kept in
       let l : Lifted t.text n c b.v (point k.s' k.x') (shadow_run t.text (event_signs t.target t.setting state (Steps c)) z) =
       subst (λ (i : List Signed). Lifted t.text n c b.v (point k.s' k.x') (shadow_run t.text i z)) same
       (lift t.text n c made.signs (point s x) (point k.s' k.x') k.plays z b.v b.sourced placed) in
@@ -260,13 +260,13 @@ module _ (t : Plan) (plan : IsPlan t) (test : Entry → Bool) (keeps : StepsKeep
         there = m.3;
         stepped = stepped;
         world = refl;
-        present = k.present ∙ (ap (λ (memory : Word → ℕ). present_at t.setting.sizes memory s.unused x.entry x.entry.routine s.present) b.memory
-            ∙ (ap (λ (drawn : ℕ). present_at t.setting.sizes (seen state).memory drawn x.entry x.entry.routine s.present) (sym b.unused)
-            ∙ ap (λ (e : Entry). present_at t.setting.sizes (seen state).memory z.unused e e.routine s.present) e));
+        present = k.present ∙ (ap (λ (memory : Word → ℕ). present_at t.target t.setting.sizes memory s.unused x.entry x.entry.routine s.present) b.memory
+            ∙ (ap (λ (drawn : ℕ). present_at t.target t.setting.sizes (seen state).memory drawn x.entry x.entry.routine s.present) (sym b.unused)
+            ∙ ap (λ (e : Entry). present_at t.target t.setting.sizes (seen state).memory z.unused e e.routine s.present) e));
         beside = record {
           w = record { shared = k.s'; who = put b.w.who c k.x' };
           v = l.v';
-          holds = holds_on t b.w c stepped.row (set_after_access t.target t.setting.sizes x.entry x.entry.routine (s.memory (word_of a)) x.was_set) (after_access s.memory a) made (present_at t.setting.sizes s.memory s.unused x.entry x.entry.routine s.present) plan b.holds k;
+          holds = holds_on t b.w c stepped.row (set_after_access t.target t.setting.sizes x.entry x.entry.routine (s.memory (word_of a)) x.was_set) (after_access s.memory a) made (present_at t.target t.setting.sizes s.memory s.unused x.entry x.entry.routine s.present) plan.null b.holds k;
           memory = k.memory ∙ (ap (λ (i : Word → ℕ). after_access i a) b.memory ∙ sym m.4);
           entry = entry_put b.w (seen state) c k.x' next b.entry
               (k.entry ∙ (ap (λ (i : Moved). i.entry) same_move ∙ sym (after_is t.target t.setting ((seen state).who c) ((seen state).memory (word_of a)))))
@@ -284,12 +284,12 @@ module _ (t : Plan) (plan : IsPlan t) (test : Entry → Bool) (keeps : StepsKeep
 
   pub step_beside : (state behind : CoreState) (z : Shadow) (c : ℕ) → test ((seen state).who c) ≡ true → IsSound t.target t.setting state → IsShaped t.target t.setting state → (b : Beside t state z) → TakesReady (seen state).memory ((seen state).who c).routine → Moves t.target t.setting (seen state) (Steps c) (seen behind)
       → HomeIs t.home (shadow_run t.text (event_signs t.target t.setting state (Steps c)) z)
-      → NamedBeside t behind (shadow_run t.text (event_signs t.target t.setting state (Steps c)) z) (present_after t.setting (seen state) (Steps c) z.unused b.w.shared.present)
+      → NamedBeside t behind (shadow_run t.text (event_signs t.target t.setting state (Steps c)) z) (present_after t.target t.setting (seen state) (Steps c) z.unused b.w.shared.present)
   step_beside state behind z c passes sound shaped b ready m homes = let went = step_went state behind z c passes sound shaped b ready m homes in (went.beside, went.present)
 
   event_beside : ((e : Entry) → test e ≡ true) → (event : CoreEvent) (state behind : CoreState) (z : Shadow) → IsSound t.target t.setting state → IsShaped t.target t.setting state → (b : Beside t state z) → ((c : ℕ) → TakesReady (seen state).memory ((seen state).who c).routine) → Moves t.target t.setting (seen state) event (seen behind)
       → HomeIs t.home (shadow_run t.text (event_signs t.target t.setting state event) z)
-      → NamedBeside t behind (shadow_run t.text (event_signs t.target t.setting state event) z) (present_after t.setting (seen state) event z.unused b.w.shared.present)
+      → NamedBeside t behind (shadow_run t.text (event_signs t.target t.setting state event) z) (present_after t.target t.setting (seen state) event z.unused b.w.shared.present)
   event_beside all (Takes c call) state behind z sound shaped b ready m homes = take_beside state behind z c call b m
   event_beside all (Steps c) state behind z sound shaped b ready m homes = step_beside state behind z c (all ((seen state).who c)) sound shaped b (ready c) m homes
 
@@ -300,10 +300,10 @@ module _ (t : Plan) (plan : IsPlan t) (test : Entry → Bool) (keeps : StepsKeep
       → HomeIs t.home (shadow_run t.text (run_signs t.target t.setting events state) z)
       → PooledBeside t behind (shadow_run t.text (run_signs t.target t.setting events state) z) (present_run t.target t.text t.setting events state z present)
   run_beside few suits all shaped stays events state behind z present sound b is homes = along_run t (ℕ → ℕ) (present_run t.target t.text t.setting)
-      (λ event state z present. present_after t.setting (view t.setting state) event z.unused present) (PooledBeside t) (λ state z present. refl)
+      (λ event state z present. present_after t.target t.setting (view t.setting state) event z.unused present) (PooledBeside t) (λ state z present. refl)
       (present_more t)
       shaped stays events_seen
       (λ event state behind z present sound shaped b m homes.
       let one = event_beside all event state behind z sound shaped b.named.0 (λ c. takes_ready t.target t.setting state c few suits b.pooled) m homes in
-      record { named = (one.0, one.1 ∙ ap (present_after t.setting (view t.setting state) event z.unused) b.named.1); pooled = pool_goes t state behind _ event few suits shaped m b.pooled one.0 })
+      record { named = (one.0, one.1 ∙ ap (present_after t.target t.setting (view t.setting state) event z.unused) b.named.1); pooled = pool_goes t state behind _ event few suits shaped m b.pooled one.0 })
       events state behind z present sound b is homes

@@ -1,3 +1,6 @@
+pub mod Starting
+pub mod FirstWords
+pub mod FirstCallers
 pub mod Lifting
 pub mod Homes
 pub mod Induction

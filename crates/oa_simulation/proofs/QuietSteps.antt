@@ -31,18 +31,18 @@ use Rattle.sim_relation.specs.Views.{Plan, IsPlan, Shared}
 use Rattle.sim_relation.specs.Callers.{CallerHolds, HoldsAt, SweepAt, ClaimAt}
 use Rattle.sim_relation.specs.Steps.{after_access}
 use Rattle.sim_relation.proofs.Words.{store_idle}
-use Rattle.sim_pools.proofs.Slots.{Freed, unguarded}
+use Rattle.sim_steps.proofs.Pools.Slots.{Freed, unguarded}
 use Rattle.sim_steps.specs.Quiet.{is_quiet}
 use Rattle.sim_steps.proofs.Drawing.{quiet_draws_none}
 use Rattle.sim_steps.proofs.Dispatching.{quiet_steps}
 use Rattle.sim_steps.proofs.Seen.{after_seen, renewing_loads}
 use Rattle.oa_simulation.specs.Shadow.{shadow_run}
-use Rattle.sim_starts.specs.FirstNames.{first_home}
+use Rattle.oa_simulation.specs.FirstNames.{first_home}
 use Rattle.oa_simulation.specs.Beside.{Beside}
 use Rattle.oa_simulation.specs.Relation.{HomeIs, StartIsRelated, QuietStepsKeep, RunsBeginUnwarned, SweepsSpareGuards, QuietIsKept}
 use Rattle.oa_simulation.proofs.Homes.{undrawn}
 use Rattle.oa_simulation.proofs.Induction.{step_beside, signs_are}
-use Rattle.sim_starts.proofs.FirstWords.{first_words}
+use Rattle.oa_simulation.proofs.FirstWords.{first_words}
 use Rattle.oa_simulation.proofs.Refining.{start_beside, either, stands}
 use Rattle.oa_simulation.proofs.Pools.{takes_ready}
 use Rattle.caller_laws.proofs.Methods.{setting_sane}

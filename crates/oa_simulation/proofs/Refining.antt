@@ -33,17 +33,17 @@ use Rattle.oa_simulation.specs.Shadow.{Shadow, shadow, shadow_start, home_of}
 use Rattle.oa_simulation.specs.Beside.{Beside}
 use Rattle.oa_simulation.specs.Statements.{AgreesWith, Agrees, ForProper, Refines}
 use Rattle.sim_steps.proofs.Worlds.{no_guarded_ready}
-use Rattle.sim_starts.proofs.Starting.{IsFirst, first_shared, fine_first}
+use Rattle.oa_simulation.proofs.Starting.{IsFirst, first_shared, fine_first}
 use Rattle.target_runs.specs.Runnable.{IsRunnable}
 use Rattle.sim_steps.proofs.Dispatching.{steps_keep}
 use Rattle.oa_simulation.specs.Relation.{HomeIs, RunsAreSimulated}
-use Rattle.sim_starts.proofs.FirstWords.{first_words}
+use Rattle.oa_simulation.proofs.FirstWords.{first_words}
 use Rattle.oa_simulation.proofs.Testing.{exchanges_agree}
 use Rattle.oa_simulation.proofs.Homes.{home_stays}
 use Rattle.oa_simulation.proofs.Induction.{NamedBeside, run_beside}
 use Rattle.oa_simulation.specs.Present.{first_present, present_in}
 use Rattle.sim_steps.proofs.Agreeing.{HasAbout, idle_agrees, running_agrees}
-use Rattle.sim_starts.proofs.FirstCallers.{all_idle, first_caller, no_hazard, told_first}
+use Rattle.oa_simulation.proofs.FirstCallers.{all_idle, first_caller, no_hazard, told_first}
 use Rattle.oa_simulation.proofs.Lifting.{machine_is, stays_proper}
 use Rattle.oa_simulation.proofs.FactsHold.{facts_hold}
 use Rattle.sim_relation.specs.Points.{point}

@@ -42,9 +42,9 @@ use Rattle.sim_relation.specs.Shared.{SharedHolds}
 use Rattle.sim_relation.specs.Callers.{CallerHolds, HoldsAt, Calm, Trail, Running as CallerRuns, InExecutor, spared, spot_of}
 use Rattle.sim_relation.specs.Points.{IsProperPoint, point, done}
 use Rattle.sim_relation.proofs.Codes.{instr_is}
-use Rattle.sim_pools.proofs.Core.{wants_is}
-use Rattle.sim_exchanges.proofs.Exchanging.{Offers, tests_agree}
-use Rattle.sim_exchanges.proofs.Offering.{offers, operand_is_own, own_in_generator, none_passes}
+use Rattle.sim_steps.proofs.Pools.Core.{wants_is}
+use Rattle.sim_steps.proofs.Exchanges.Exchanging.{Offers, tests_agree}
+use Rattle.sim_steps.proofs.Exchanges.Offering.{offers, operand_is_own, own_in_generator, none_passes}
 use Rattle.oa_simulation.specs.Shadow.{Shadow}
 use Rattle.oa_simulation.specs.Beside.{Beside, Placed}
 use Rattle.oa_simulation.specs.Statements.{ExchangesAgree, core_exchange, exchange_of, stand_exchange, exchange_makes, performed_makes, caller_makes, source_makes}
@@ -115,7 +115,7 @@ module _ (t : Plan) (s : Shared) (c : ℕ) (x : Caller) (plan : IsPlan t) (f : S
       }) in
       let there = stands_there run.0.walk.method t.home (Calm s c x) run.0.path (spot_of x.entry.hand) run.0.mirror run.0.there (instr.Cas entry l) plan.compiled here refl run.1.ahead in
       let op = ap (slice_get t.text.ops) run.1.number ∙ run.0.walk.method.in_text in
-      tests_agree t s c (spared t run.0.walk) x.entry.hand.registers run.0.mirror entry plan f offered
+      tests_agree t s c (spared t run.0.walk) x.entry.hand.registers run.0.mirror entry plan.null f offered
       ∙ sym (ap (λ (caller : SourceCaller). caller_makes t.text s.source (Some caller))
       (run.2.stands ∙ ap (λ (spot : Spot). stands_at run.0.walk.method.op run.0.walk.method.wrapup run.0.walk.started x.entry.hand.accessed run.0.walk.call spot) (sym there))
       ∙ cas_makes t.text run.0.walk.method.op run.0.walk.method.wrapup run.0.walk.started x.entry.hand.accessed run.0.walk.call run.0.mirror (source_place (code_in run.0.walk.method) x.entry.hand.at)
@@ -141,7 +141,7 @@ module _ (t : Plan) (s : Shared) (c : ℕ) (x : Caller) (plan : IsPlan t) (f : S
         proper = proper;
       }) in
       let op = ap (slice_get t.text.ops) run.1.number ∙ run.0.walk.method.in_text in
-      tests_agree t s c (spared t run.0.walk) x.entry.hand.registers run.0.mirror entry plan f offered
+      tests_agree t s c (spared t run.0.walk) x.entry.hand.registers run.0.mirror entry plan.null f offered
       ∙ sym (ap (λ (caller : SourceCaller). caller_makes t.text s.source (Some caller)) run.4
       ∙ list_makes t.text run.0.walk.method.op (source_place (code_in run.0.walk.method) x.entry.hand.at) (list_of (instr_in t.target x.entry)) k run.0.mirror run.0.walk.call entry s.source op one)
 

@@ -1,3 +1,4 @@
+pub mod FirstNames
 pub mod Shadow
 pub mod Present
 pub mod Throughout

@@ -17,9 +17,9 @@ abbrev pub first_present : ℕ → ℕ → ℕ
 first_present nodes j = if nat_le j nodes then j else 0
 
 -- after an event, where `drawn` is the least name above all used ones; taking a call changes no slot
-abbrev pub present_after : Setting → CoreView → CoreEvent → ℕ → (ℕ → ℕ) → ℕ → ℕ
-present_after setting seen (Takes c call) drawn present = present
-present_after setting seen (Steps c) drawn present = present_at setting.sizes seen.memory drawn (seen.who c) (seen.who c).routine present
+abbrev pub present_after : Target → Setting → CoreView → CoreEvent → ℕ → (ℕ → ℕ) → ℕ → ℕ
+present_after target setting seen (Takes c call) drawn present = present
+present_after target setting seen (Steps c) drawn present = present_at target setting.sizes seen.memory drawn (seen.who c) (seen.who c).routine present
 
 abbrev pub present_on : Option CoreState → (CoreState → ℕ → ℕ) → (ℕ → ℕ) → ℕ → ℕ
 present_on None next present = present
@@ -29,7 +29,7 @@ present_on (Some state) next present = next state
 abbrev pub present_run : Target → Text → Setting → List CoreEvent → CoreState → Shadow → (ℕ → ℕ) → ℕ → ℕ
 present_run target text setting [] state z present = present
 present_run target text setting (event ∷ events) state z present =
-    let later = present_after setting (view setting state) event z.unused present in
+    let later = present_after target setting (view setting state) event z.unused present in
     present_on (core_event target setting state event) (λ next. present_run target text setting events next (shadow_run text (event_signs target setting state event) z) later) later
 
 -- the slots' names after a run from the start

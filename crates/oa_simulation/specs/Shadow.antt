@@ -15,7 +15,7 @@ use Rattle.caller_steps.specs.Signs.{Sign, Draws, Renews}
 use Rattle.core_runs.specs.Machine.{CoreEvent, core_start}
 use Rattle.core_runs.specs.RunSigns.{Signed, run_signs}
 use Rattle.sim_relation.specs.Points.{event_of, unused_after}
-use Rattle.sim_starts.specs.FirstNames.{first_home}
+use Rattle.oa_simulation.specs.FirstNames.{first_home}
 
 -- the source's machine, the least name above all used ones, the names' slots, and the source's events so far
 pub record Shadow : Type 0 where

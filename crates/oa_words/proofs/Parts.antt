@@ -4,7 +4,7 @@ use Rattle.std.specs.Prelude.{◌==◌}
 use Rattle.std.proofs.lemmas.Bool.Decides.{nat_tests}
 use Rattle.oa_words.specs.declared.packed.Kind.{Kind}
 use Rattle.oa_words.specs.declared.packed.Kind.TheVariants.{Ready, Used, Retired}
-use Rattle.oa_words.specs.Packed.{mark_bit, ref_word, slot_part, is_marked, kind_of, StatusParts, parts_by, status_word, status_parts, HeadParts, head_word, head_parts}
+use Rattle.oa_words.specs.Packed.{mark_bit, ref_word, slot_part, is_marked, status_kind_of, StatusParts, parts_by, status_word, status_parts, HeadParts, head_word, head_parts}
 use Rattle.oa_words.specs.Laws.{ReferencesSplit, StatusesSplit, HeadsSplit}
 
 -- ---- references
@@ -47,7 +47,7 @@ some_parts : (p q : StatusParts) → Some p ≡ Some q → p ≡ q
 some_parts p q e = cc
 
 -- a number past those of the kinds is none's
-no_kind : (n : ℕ) → 3 ≤ n → kind_of n ≡ None
+no_kind : (n : ℕ) → 3 ≤ n → status_kind_of n ≡ None
 no_kind n le =
     let a : (n == 0) ≡ false = grind (arith, nat_tests) in
     let b : (n == 1) ≡ false = grind (arith, nat_tests) in
@@ -55,7 +55,7 @@ no_kind n le =
     rw (a, b, c) refl
 
 -- the word of what a kind's number gives
-whole_by : (phase n : ℕ) (parts : StatusParts) → parts_by phase (kind_of n) ≡ Some parts → status_word parts.phase parts.kind ≡ 4 * phase + n
+whole_by : (phase n : ℕ) (parts : StatusParts) → parts_by phase (status_kind_of n) ≡ Some parts → status_word parts.phase parts.kind ≡ 4 * phase + n
 whole_by phase zero parts e = let is = some_parts (record { phase = phase; kind = Ready }) parts e in rw (← is) refl
 whole_by phase (suc zero) parts e = let is = some_parts (record { phase = phase; kind = Used }) parts e in rw (← is) refl
 whole_by phase (suc (suc zero)) parts e = let is = some_parts (record { phase = phase; kind = Retired }) parts e in rw (← is) refl
@@ -72,7 +72,7 @@ status_equal phase other kind also e =
     same_parts (record { phase = phase; kind = kind }) (record { phase = other; kind = also })
     (sym (status_back phase kind) ∙ ap status_parts e ∙ status_back other also)
 
-none_by : (phase n : ℕ) → n < 4 → (parts_by phase (kind_of n) ≡ None) ↔ (n ≡ 3)
+none_by : (phase n : ℕ) → n < 4 → (parts_by phase (status_kind_of n) ≡ None) ↔ (n ≡ 3)
 none_by phase zero lt = (λ e. absurd (let no : Some (record { phase = phase; kind = Ready }) ≡ None = e in cc), λ e. absurd (omega (arith, e)))
 none_by phase (suc zero) lt = (λ e. absurd (let no : Some (record { phase = phase; kind = Used }) ≡ None = e in cc), λ e. absurd (omega (arith, e)))
 none_by phase (suc (suc zero)) lt = (λ e. absurd (let no : Some (record { phase = phase; kind = Retired }) ≡ None = e in cc), λ e. absurd (omega (arith, e)))

@@ -121,3 +121,7 @@ slots_past_a_word = refl
 
 pub callers_before_all : sizes_or_fault (record { callers = 9; slots = 0; fields = 0; cells = 0 }) ≡ Err faults.Callers
 callers_before_all = refl
+
+-- a node with fewer words than a slot has fields
+pub short_node : drop 15 (start_words small (begun ((5 ∷ []) ∷ []))) ≡ 0 ∷ 0 ∷ 5 ∷ 0 ∷ 0 ∷ 0 ∷ 0 ∷ 0 ∷ 7 ∷ 24578 ∷ 0 ∷ 0 ∷ 3 ∷ 0 ∷ []
+short_node = refl

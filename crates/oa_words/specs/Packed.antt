@@ -24,8 +24,8 @@ kind_number Retired = 2
 abbrev pub status_word : ℕ → Kind → ℕ
 status_word phase kind = 4 * phase + kind_number kind
 
-abbrev pub kind_of : ℕ → Option Kind
-kind_of n = if n == 0 then Some Ready else (if n == 1 then Some Used else (if n == 2 then Some Retired else None))
+abbrev pub status_kind_of : ℕ → Option Kind
+status_kind_of n = if n == 0 then Some Ready else (if n == 1 then Some Used else (if n == 2 then Some Retired else None))
 
 -- the phase and the kind of a status
 pub record StatusParts : Type 0 where
@@ -37,7 +37,7 @@ parts_by phase None = None
 parts_by phase (Some kind) = Some (record { phase = phase; kind = kind })
 
 abbrev pub status_parts : ℕ → Option StatusParts
-status_parts word = parts_by (word / 4) (kind_of (word % 4))
+status_parts word = parts_by (word / 4) (status_kind_of (word % 4))
 
 -- the phase that the head of the chain of ready slots is stamped with, and the slot on top, 0 for none
 pub record HeadParts : Type 0 where

@@ -1,5 +1,5 @@
 -- The words that all callers share, by name, and the address of each.
-use Rattle.std.specs.Prelude.{ℕ, ◌+◌, ◌*◌, Bool, true, ◌&&◌, nat_lt}
+use Rattle.std.specs.Prelude.{ℕ, ◌+◌, ◌*◌, ◌≤◌, Bool, true, ◌&&◌, nat_lt}
 
 -- callers, registers, fields and cells are counted from 0; slot 0 is null
 pub data Word : Type 0 where
@@ -28,6 +28,10 @@ pub record SlotRange : Type 0 where
 -- the slots that hold nodes: those that are claimed, retired and swept
 abbrev pub slot_range : Sizes → SlotRange
 slot_range n = record { first = 1; last = n.slots }
+
+-- it is one of them
+abbrev pub IsSlot : SlotRange → ℕ → Type 0
+IsSlot range j = (range.first ≤ j) × (j ≤ range.last)
 
 -- how many slots have a status, fields and a link: null, and those that hold nodes
 abbrev pub slot_rows : Sizes → ℕ

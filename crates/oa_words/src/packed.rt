@@ -1,7 +1,7 @@
 //! References, statuses and the pool's head as words.
 
 ghost use Rattle.std.specs.Prelude.{◌≡◌, ◌≤◌, ◌<◌, ◌^◌, option_map};
-ghost use Rattle.oa_words.specs.Packed.{ref_word, slot_part, is_marked, status_word, status_parts, kind_of, kind_number, head_word, head_parts};
+ghost use Rattle.oa_words.specs.Packed.{ref_word, slot_part, is_marked, status_word, status_parts, status_kind_of, kind_number, head_word, head_parts};
 
 /// What a slot is.
 #[derive(Clone, Copy, PartialEq, Eq)]
@@ -60,7 +60,7 @@ pub fn status_word(phase: u64, kind: Kind) -> u64
 }
 
 fn kind_of(number: u64) -> Option<Kind>
-    ensures { result ≡ kind_of number }
+    ensures { result ≡ status_kind_of number }
 {
     match number {
         0 => Some(Kind::Ready),

@@ -12,9 +12,9 @@ use Rattle.caller_parts.specs.Pairing.{reply_of}
 use Rattle.caller_steps.specs.Entries.{Entry, is_idle}
 use Rattle.core_runs.specs.Machine.{CoreState}
 use Rattle.documents.specs.declared.document.ScriptCall.{ScriptCall}
-use Rattle.script_driver.specs.declared.report.Answer.TheVariants as answers
-use Rattle.script_driver.specs.declared.report.ReportLine.{ReportLine}
-use Rattle.script_driver.specs.Reports.{answer_from, answer_by, answer_in, line_of, lines_from, all_lines}
+use Rattle.document_runs.specs.declared.report.Answer.TheVariants as answers
+use Rattle.document_runs.specs.declared.report.ReportLine.{ReportLine}
+use Rattle.document_runs.specs.Reports.{answer_from, answer_by, answer_in, line_of, lines_from, all_lines}
 
 -- ---- whether a call runs
 

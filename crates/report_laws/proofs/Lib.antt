@@ -5,4 +5,7 @@ mod EachLine
 mod Sourced
 mod UseLines
 mod NeverFull
+mod Naming
+mod Legal
+mod Ordering
 mod Truth

@@ -27,8 +27,8 @@ use Rattle.documents.specs.declared.document.ScriptCall.{ScriptCall}
 use Rattle.documents.specs.declared.document.Document.{Document}
 use Rattle.script_plans.specs.Shapes.{op_number, setting_of}
 use Rattle.script_plans.specs.Plans.{target_of, call_of, calls_of as scripts_of}
-use Rattle.script_driver.specs.Reports.{report_of}
-use Rattle.script_driver.specs.Runs.{IsCompleteRunOf}
+use Rattle.document_runs.specs.Reports.{report_of}
+use Rattle.document_runs.specs.Runs.{IsCompleteRunOf}
 use Rattle.report_laws.specs.Shipped.{calls_to, all_calls_to, HasRoomFor, IsNotFull, ShippedIsNeverFull}
 use Rattle.report_laws.proofs.EachLine.{told_reply, every_line}
 

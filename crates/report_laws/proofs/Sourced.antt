@@ -20,18 +20,14 @@ use Rattle.caller_steps.specs.Entries.{Entry, is_idle}
 use Rattle.core_runs.specs.Machine.{CoreState, CoreEvent}
 use Rattle.sim_relation.specs.Callers.{source_reply, replies_of}
 use Rattle.oa_simulation.specs.Statements.{AgreesWith}
-use Rattle.oa_simulation.proofs.Refining.{refines}
-use Rattle.begin_laws.proofs.ScriptsBegun.{scripts_begin}
 use Rattle.barrier_check.specs.Paired.{Paired, IsSound}
-use Rattle.guarded_claims.proofs.Law.{no_guarded_claim}
-use Rattle.stale_laws.proofs.Passing.{no_stale_pass}
-use Rattle.lone_claims.proofs.Together.{lone_claims}
+use Rattle.run_laws.proofs.Following.{follows}
 use Rattle.documents.specs.declared.document.Document.{Document}
 use Rattle.script_plans.specs.Shapes.{setting_of}
 use Rattle.script_plans.specs.Plans.{target_of, calls_of}
-use Rattle.script_driver.specs.declared.report.Answer.TheVariants as answers
-use Rattle.script_driver.specs.Reports.{answer_from, answer_in, report_of}
-use Rattle.script_driver.specs.Runs.{IsCompleteRunOf}
+use Rattle.document_runs.specs.declared.report.Answer.TheVariants as answers
+use Rattle.document_runs.specs.Reports.{answer_from, answer_in, report_of}
+use Rattle.document_runs.specs.Runs.{IsCompleteRunOf}
 use Rattle.report_laws.specs.Sources.{IsSourceAnswer, IsSourceLine, source_of, HasSourceRun, IsNamed}
 use Rattle.report_laws.proofs.EachLine.{runs_true, runs_false, replied_is, still, answer_is, every_line}
 
@@ -100,7 +96,7 @@ module _ (machine : SourceMachine) (state : CoreState) (c : ℕ) (e : Entry) (th
         (λ busy last. runs_false (is_idle e.routine) i (length (map reply_of e.replies)) is busy (last ∙ sym (length-map e.replies reply_of)));
   }
 
-  source_answer : IsSourceAnswer machine c i (answer_in state c i)
+  pub source_answer : IsSourceAnswer machine c i (answer_in state c i)
   source_answer = subst (IsSourceAnswer machine c i) (sym (answer_is state c e there i)) (of (slice_get e.replies i) refl) where
     of : (o : Option Replied) → slice_get e.replies i ≡ o → IsSourceAnswer machine c i (answer_from (option_map reply_of o) (still e i))
     of None none = untold none (still e i) refl
@@ -113,15 +109,10 @@ pub has_source_run : (document : Document) (events : List CoreEvent) (state : Co
 has_source_run document events state may own fits some count complete proper =
     let pair : Paired = record { target = target_of document; source = document.text } in
     let sound : IsSound pair = record { small = may.small; normal = may.normal; within = may.within; barred = may.barred } in
-    let r = refines (target_of document) document.text (setting_of document) events state may own fits proper complete.run.runs in
+    let run = follows pair (setting_of document) sound own fits proper (calls_of document) document.fuel events state some complete in
     record {
-      refined = r;
-      refined_so_far = λ before later there part runs. refines (target_of document) document.text (setting_of document) before there may own fits proper runs;
-      begins = (scripts_begin (target_of document) (setting_of document)).each document.text (calls_of document) document.fuel events state some complete;
-      lines = every_line state (IsSourceLine (source_of document events)) (λ c i call e there. source_answer (source_of document events) state c e there (r.agrees c e there) i) 0 document.scripts count;
-      guarded = λ before later there part runs. no_guarded_claim pair (setting_of document) sound own fits proper before there runs;
-      warned = λ before later there part runs. no_stale_pass pair (setting_of document) sound own fits proper before there runs;
-      lone = λ one before later there part runs. lone_claims pair (setting_of document) sound own fits proper one before there runs;
+      run = run;
+      lines = every_line state (IsSourceLine (source_of document events)) (λ c i call e there. source_answer (source_of document events) state c e there (run.refined.agrees c e there) i) 0 document.scripts count;
     }
 
 -- ---- shipped texts

@@ -29,17 +29,19 @@ use Rattle.claim_laws.proofs.Filling.{full_takes}
 use Rattle.documents.specs.declared.document.Document.{Document}
 use Rattle.script_plans.specs.Shapes.{setting_of}
 use Rattle.script_plans.specs.Plans.{target_of, calls_of as scripts_of}
-use Rattle.script_driver.specs.declared.report.Answer.TheVariants as answers
-use Rattle.script_driver.specs.Reports.{answer_from, answer_in, claims_of, capped, report_of}
-use Rattle.script_driver.specs.Runs.{IsCompleteRunOf}
+use Rattle.document_runs.specs.declared.report.Answer.TheVariants as answers
+use Rattle.document_runs.specs.Reports.{answer_from, answer_in, claims_of, capped, report_of}
+use Rattle.document_runs.specs.Runs.{IsCompleteRunOf}
 use Rattle.report_laws.specs.Fuel.{replies_of, reply_to, IsOutOfFuel, RunsStill}
-use Rattle.report_laws.specs.Sources.{HasSourceRun}
+use Rattle.legal_histories.specs.Told.{SetRunsAreLegal, QueueRunsAreLegal}
+use Rattle.report_laws.specs.Sources.{source_of, HasSourceRun}
 use Rattle.report_laws.specs.Lines.{IsTrueAnswer, IsTrueLine, TakesClaims, ReportsAreTrue}
 use Rattle.report_laws.proofs.NeverFull.{never_full}
 use Rattle.report_laws.proofs.EachLine.{runs_true, runs_false, replied_is, still, answer_is, told_reply, every_line}
 use Rattle.report_laws.proofs.RunningOut.{ran_out}
 use Rattle.report_laws.proofs.Runnable.{setting_is, fuel_is}
-use Rattle.report_laws.proofs.Sourced.{SetsAreProper, named_is_proper, has_source_run}
+use Rattle.report_laws.proofs.Sourced.{SetsAreProper, source_answer, named_is_proper, has_source_run}
+use Rattle.report_laws.proofs.Ordering.{has_legal_history}
 use Rattle.report_laws.proofs.Unanswered.{never_taken, finds_nothing, running_found}
 
 -- ---- lists
@@ -126,14 +128,20 @@ module _ (document : Document) (events : List CoreEvent) (state : CoreState) (co
 
 -- ---- the report
 
-pub reports_true : SecondSchemeIsBarred → SecondSchemeIsWithin → SetsAreProper → IsProper queue_text → ReportsAreTrue
-reports_true barred small sets queue document events state within can complete = record {
+pub reports_true : SecondSchemeIsBarred → SecondSchemeIsWithin → SetsAreProper → IsProper queue_text → SetRunsAreLegal → QueueRunsAreLegal → ReportsAreTrue
+reports_true barred small sets queue set_runs queue_runs document events state within can complete = record {
   complete = complete;
   of = refl;
   lines = every_line state (IsTrueLine document events state) (λ c i call e there. true_answer document events state complete own caused c e there i) 0 document.scripts count;
   full = every_line state (TakesClaims document (capped (sum_by claims_of state.entries))) (λ c i call e there full. enough c i e there (told_reply state c e there i replies.Full full)) 0 document.scripts count;
   proper = sourced;
   named = λ words named. sourced (named_is_proper sets queue words document.text named);
+  legal = λ words named.
+      let from_source = sourced (named_is_proper sets queue words document.text named) in
+      has_legal_history document events state complete from_source.run (omega (arith, count))
+      (λ c e there i. true_answer document events state complete own caused c e there i)
+      (λ c e there i. source_answer (source_of document events) state c e there (from_source.run.refined.agrees c e there) i)
+      set_runs queue_runs can words named;
   shipped = never_full document events state complete own may count;
 } where
   own : IsSetting (setting_of document)

@@ -11,14 +11,15 @@ use Rattle.documents.specs.declared.document.Document.{Document}
 use Rattle.documents.specs.DocumentLimits.{IsWithinDocumentLimits}
 use Rattle.script_plans.specs.Shapes.{setting_of}
 use Rattle.script_plans.specs.Plans.{target_of, IsRunnable}
-use Rattle.script_driver.specs.declared.report.Answer.{Answer}
-use Rattle.script_driver.specs.declared.report.Answer.TheVariants as answers
-use Rattle.script_driver.specs.declared.report.ReportLine.{ReportLine}
-use Rattle.script_driver.specs.declared.report.Report.{Report}
-use Rattle.script_driver.specs.Reports.{report_of}
-use Rattle.script_driver.specs.Runs.{IsCompleteRunOf}
+use Rattle.document_runs.specs.declared.report.Answer.{Answer}
+use Rattle.document_runs.specs.declared.report.Answer.TheVariants as answers
+use Rattle.document_runs.specs.declared.report.ReportLine.{ReportLine}
+use Rattle.document_runs.specs.declared.report.Report.{Report}
+use Rattle.document_runs.specs.Reports.{report_of}
+use Rattle.document_runs.specs.Runs.{IsCompleteRunOf}
 use Rattle.report_laws.specs.Fuel.{IsOutOfFuel}
 use Rattle.report_laws.specs.Sources.{HasSourceRun, IsNamed}
+use Rattle.report_laws.specs.Legal.{HasLegalHistory}
 use Rattle.report_laws.specs.Shipped.{ShippedIsNeverFull}
 
 -- the steps that were made in a run of a document for a caller's call
@@ -46,7 +47,7 @@ TakesClaims document claims line = line.answer ≡ answers.Replied replies.Full 
 
 -- a report tells of a complete run of its document: it is that of the state in which the run ends, and its lines are true. Where the
 -- text is proper, the run is one of the text on memory that is never recycled, and the lines are what that one answers; of a text that
--- a `use` line names nothing is assumed. Of a shipped text no line is full where the slots are enough
+-- a `use` line names nothing is assumed, and what its lines show has a legal history. Of a shipped text no line is full where the slots are enough
 pub record TellsOf (document : Document) (events : List CoreEvent) (state : CoreState) (report : Report) : Type 0 where
   pub complete : IsCompleteRunOf document events state
   pub of : report ≡ report_of document state
@@ -54,6 +55,7 @@ pub record TellsOf (document : Document) (events : List CoreEvent) (state : Core
   pub full : All (TakesClaims document report.claims) report.lines
   pub proper : IsProper document.text → HasSourceRun document events state report
   pub named : (words : List (List ℕ)) → IsNamed words document.text → HasSourceRun document events state report
+  pub legal : (words : List (List ℕ)) → IsNamed words document.text → HasLegalHistory report
   pub shipped : ShippedIsNeverFull document report
 
 -- of each complete run of each document that can be run

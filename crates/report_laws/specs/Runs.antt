@@ -4,8 +4,8 @@ use Rattle.core_runs.specs.Machine.{CoreState, CoreEvent}
 use Rattle.core_runs.specs.Replays.{Replaying}
 use Rattle.documents.specs.declared.document.Document.{Document}
 use Rattle.script_plans.specs.Plans.{IsRunnable}
-use Rattle.script_driver.specs.declared.report.Report.{Report}
-use Rattle.script_driver.specs.Runs.{replay_given}
+use Rattle.document_runs.specs.declared.report.Report.{Report}
+use Rattle.document_runs.specs.Runs.{replay_given}
 use Rattle.report_laws.specs.Lines.{TellsOf}
 
 -- the document can be run, and the report tells of a complete run of it

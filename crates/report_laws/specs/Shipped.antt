@@ -6,9 +6,9 @@ use Rattle.norm_lang.specs.Shipped.{set_text, queue_text}
 use Rattle.caller_parts.specs.declared.call.Reply.TheVariants as replies
 use Rattle.documents.specs.declared.document.ScriptCall.{ScriptCall}
 use Rattle.documents.specs.declared.document.Document.{Document}
-use Rattle.script_driver.specs.declared.report.Answer.TheVariants as answers
-use Rattle.script_driver.specs.declared.report.ReportLine.{ReportLine}
-use Rattle.script_driver.specs.declared.report.Report.{Report}
+use Rattle.document_runs.specs.declared.report.Answer.TheVariants as answers
+use Rattle.document_runs.specs.declared.report.ReportLine.{ReportLine}
+use Rattle.document_runs.specs.declared.report.Report.{Report}
 
 -- the calls of a script to the operation so named
 abbrev pub calls_to : List ℕ → List ScriptCall → ℕ

@@ -1,26 +1,22 @@
 -- That what is printed of a document is what its text answers on memory that is never recycled.
-use Rattle.std.specs.Prelude.{◌≡◌, ◌⊎◌, ℕ, ◌+◌, ◌≤◌, List, ◌++◌, length, Some, slice_get}
+use Rattle.std.specs.Prelude.{◌≡◌, ◌⊎◌, ℕ, ◌+◌, ◌≤◌, List, length, Some, slice_get}
 use Rattle.std.specs.List.{All}
 use Rattle.norm_lang.specs.declared.text.Text.{Text}
 use Rattle.text_laws.specs.StandsFor.{ShippedText, IsShipped, spelled_use, shipped_text}
 use Rattle.source_machine.specs.declared.state.SourceMachine.{SourceMachine}
 use Rattle.source_machine.specs.Run.{source_replies}
 use Rattle.caller_parts.specs.declared.call.Reply.{Reply}
-use Rattle.core_runs.specs.Machine.{CoreState, CoreEvent, core_run, core_start}
+use Rattle.core_runs.specs.Machine.{CoreState, CoreEvent}
 use Rattle.sim_relation.specs.Callers.{source_reply}
 use Rattle.oa_simulation.specs.Shadow.{shadow}
-use Rattle.oa_simulation.specs.Statements.{Refined}
-use Rattle.begin_laws.specs.Begins.{BeginsOfScripts}
-use Rattle.guarded_claims.specs.Guarded.{Spared}
-use Rattle.stale_laws.specs.Stale.{StaleLoadsAreWarned}
-use Rattle.lone_claims.specs.Lone.{LoneClaim}
+use Rattle.run_laws.specs.Source.{FollowsSource}
 use Rattle.documents.specs.declared.document.Document.{Document}
 use Rattle.script_plans.specs.Shapes.{setting_of}
 use Rattle.script_plans.specs.Plans.{target_of, calls_of}
-use Rattle.script_driver.specs.declared.report.Answer.{Answer}
-use Rattle.script_driver.specs.declared.report.Answer.TheVariants as answers
-use Rattle.script_driver.specs.declared.report.ReportLine.{ReportLine}
-use Rattle.script_driver.specs.declared.report.Report.{Report}
+use Rattle.document_runs.specs.declared.report.Answer.{Answer}
+use Rattle.document_runs.specs.declared.report.Answer.TheVariants as answers
+use Rattle.document_runs.specs.declared.report.ReportLine.{ReportLine}
+use Rattle.document_runs.specs.declared.report.Report.{Report}
 
 -- ---- a line against the source
 
@@ -41,25 +37,12 @@ IsSourceLine machine line = IsSourceAnswer machine line.caller line.index line.a
 abbrev pub source_of : Document → List CoreEvent → SourceMachine
 source_of document events = (shadow (target_of document) document.text (setting_of document) events).machine
 
--- what holds after each first part of a run of a document, in the state that it leads to
-abbrev pub AtEachState : Document → List CoreEvent → (List CoreEvent → CoreState → Type 0) → Type 0
-AtEachState document events Holds = (before later : List CoreEvent) (there : CoreState) → before ++ later ≡ events
-    → core_run (target_of document) (setting_of document) before (core_start (target_of document) (setting_of document)) ≡ Some there → Holds before there
-
--- the events that a run of a document gives to the source, in order, are one run of its text by all callers at once, on memory that is
--- never recycled; its replies agree with the state in which the document's run ends, and each exchange that comes next succeeds in both
--- or in neither (`refined`), and so it is in each state on the way (`refined_so_far`); its begins are the calls of the scripts, in order; and
--- each printed line is what it answers. In each state on the way no slot is ready that a validated guard names, so that none such is given
--- out; a load from a slot that was given out again is followed by failed checks alone until its method begins again; and with one caller a
--- claim ends with Full exactly where every slot held a name that isn't retired
+-- the run of a document is one of its text on memory that is never recycled, by all callers at once, which begins the calls of the
+-- scripts in order; no validated guard's slot is given out, and no value read from a recycled slot passes its check (`run`); and each
+-- printed line is what that run answers (`lines`)
 pub record HasSourceRun (document : Document) (events : List CoreEvent) (state : CoreState) (report : Report) : Type 0 where
-  pub refined : Refined (target_of document) document.text (setting_of document) events state
-  pub refined_so_far : AtEachState document events (Refined (target_of document) document.text (setting_of document))
-  pub begins : BeginsOfScripts (target_of document) document.text (setting_of document) (calls_of document) events state
+  pub run : FollowsSource (target_of document) document.text (setting_of document) (calls_of document) events state
   pub lines : All (IsSourceLine (source_of document events)) report.lines
-  pub guarded : AtEachState document events (Spared (target_of document) (setting_of document))
-  pub warned : AtEachState document events (StaleLoadsAreWarned (target_of document) document.text (setting_of document))
-  pub lone : (setting_of document).sizes.callers ≡ 1 → AtEachState document events (LoneClaim (target_of document) document.text (setting_of document))
 
 -- ---- shipped texts
 

@@ -2,3 +2,4 @@ pub mod Images
 pub mod Shadows
 pub mod Tops
 pub mod Names
+mod ScriptRuns

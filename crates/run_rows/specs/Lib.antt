@@ -2,3 +2,4 @@ pub mod ListImages
 pub mod GuardMarks
 pub mod ListTops
 pub mod ListNames
+pub mod ScriptRuns

@@ -5,6 +5,7 @@ ghost use Rattle.run_rows.specs.GuardMarks.{GuardMarks, CountedGuards, RepeatedG
 ghost use Rattle.run_rows.specs.ListImages.{RecycledImage, GuardedImage};
 ghost use Rattle.run_rows.specs.ListNames.{RecycledNames, HeldNames, RecycledLoad};
 ghost use Rattle.run_rows.specs.ListTops.{TakenAndPushed, HeadAgain};
+ghost use Rattle.run_rows.specs.ScriptRuns.{ScriptRuns};
 
 /// Images: the events that the steps of a core run give to the source machine, in their order, with the names that are drawn and the
 /// slots of these names. A shadow that names or orders them otherwise breaks a row. In one run a slot is given out again and a stale
@@ -35,4 +36,10 @@ pub fn stale_load()
     ensures names { RecycledNames }
     ensures held { HeldNames }
     ensures load { RecycledLoad }
+{}
+
+/// Runs of scripts: which are complete, and which aren't, as one in which an idle caller has stopped in the middle of its script, or a
+/// call runs still that may make more steps.
+pub fn script_runs()
+    ensures { ScriptRuns }
 {}

@@ -1,5 +1,5 @@
-mod Counting
-mod Blanking
-mod Answering
-mod Totals
-mod PlanLaws
+mod Telling
+mod Runnable
+mod Sequence
+mod Accepted
+mod Tallied

@@ -1,5 +1,6 @@
-pub mod Reports
-pub mod Texts
-pub mod Runs
-pub mod Blanks
-pub mod PlanRuns
+pub mod Answers
+pub mod Workload
+pub mod Rounds
+pub mod Laws
+pub mod WorkloadRuns
+pub mod WorkloadTexts

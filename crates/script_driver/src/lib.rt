@@ -1,14 +1,20 @@
-//! Documents that are run or replayed: the answer to each call of their scripts, and the text that tells it.
+//! Documents that are run or replayed, with all that their reports tell of the run; and a workload: two documents are made from two numbers
+//! and run, and two lines say what their answers add up to.
 #![tactic(auto)]
 
-mod building;
-mod printing;
-mod report;
+pub mod laws;
+mod parts;
+mod rounds;
 mod running;
+mod tallies;
+mod workload;
 
+pub use document_runs::{
+    Answer, Report, ReportLine, ReportLines, count_short, is_partial, show_report,
+};
 pub use documents::{Document, Numbers, Script, ScriptCall, Scripts, Turns, read_document};
-pub use printing::{count_short, is_partial, show_report};
-pub use report::{Answer, Report, ReportLine, ReportLines};
+pub use parts::workload_document;
 pub use running::{replay_document, run_document};
 pub use script_plans::{RunFault, ShapeFault};
-pub use workload_documents::workload_document;
+pub use tallies::{is_short, show_workload};
+pub use workload::{WorkloadReport, run_workload};

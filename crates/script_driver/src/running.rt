@@ -1,73 +1,22 @@
-//! Documents that are run and replayed.
+//! Documents that are run and replayed, with all that their reports tell.
 
-ghost use Rattle.std.specs.Prelude.{◌≡◌, Ok, IfOk};
 ghost use Rattle.documents.specs.DocumentLimits.{IsWithinDocumentLimits};
-ghost use Rattle.oa_core.specs.Finals.{Answers};
-ghost use Rattle.script_plans.specs.Plans.{IsPlanned, IsReady};
-ghost use Rattle.script_driver.specs.Runs.{IsRan, IsReplayed};
-ghost use Rattle.script_driver.specs.PlanRuns.{fault_of, plan_replayed, EndsPlan};
+ghost use Rattle.script_driver.specs.Answers.{IsRunAnswer, IsReplayAnswer};
 
-use crate::building::{blank_lines, report_at, report_of};
-use crate::report::Report;
+use document_runs::Report;
 use documents::Document;
-use oa_core::{CoreState, ReplayError, replay};
 use oa_text::Gate;
-use script_plans::{Plan, RunFault, plan_of};
-use std::alloc::{AllocError, Global};
+use report_laws::laws::reports_are_true;
+use script_plans::RunFault;
+use std::alloc::Global;
 use std::thread::Threads;
-use thread_runs::run_scripts;
-use word_runner::Final;
-
-/// What a refused replay is told as: the numbers 10 and 11, with the steps made.
-fn fault_of(error: ReplayError) -> RunFault
-    ensures { result ≡ fault_of error }
-{
-    match error {
-        ReplayError::Memory => RunFault::Memory,
-        ReplayError::StepOfNobody { steps } => RunFault::Shape {
-            number: 10,
-            at: steps,
-        },
-        ReplayError::LongReplay { steps } => RunFault::Shape {
-            number: 11,
-            at: steps,
-        },
-    }
-}
-
-/// Replays a plan by the turns of a document's schedule.
-fn replay_plan(alloc: Global, plan: &Plan, document: &Document) -> Result<CoreState, ReplayError>
-    requires { IsReady plan.now }
-    ensures { Answers result plan.now.fuel (plan_replayed plan.now document.now.schedule) }
-{
-    replay(
-        alloc,
-        &plan.barred,
-        &plan.setting,
-        plan.scripts.items(),
-        plan.fuel,
-        document.schedule.items(),
-    )
-}
-
-/// The report of a document whose plan is replayed.
-fn replay_report(alloc: Global, document: &Document, plan: &Plan) -> Result<Report, RunFault>
-    requires within { IsWithinDocumentLimits document.now }
-    requires planned { IsPlanned document.now (Ok plan.now) }
-    requires ready { IsReady plan.now }
-    ensures { IsReplayed document.now result }
-{
-    let lines = blank_lines(alloc, document.scripts.items())?;
-    match replay_plan(alloc, plan, document) {
-        Ok(state) => Ok(report_of(document, lines, &state)),
-        Err(error) => Err(fault_of(error)),
-    }
-}
 
 /// Replays a document: the turns of its schedule in order, and then each caller to its end, in the order of their numbers. The
 /// report is a function of the document.
 ///
 /// Its text is within the limits of texts, each of its scripts has at most 100,000 calls, and each turn counts at least 1.
+///
+/// What the report tells of the run that the turns give, the clause says as for `run_document`.
 ///
 /// # Errors
 ///
@@ -76,30 +25,10 @@ fn replay_report(alloc: Global, document: &Document, plan: &Plan) -> Result<Repo
 /// their count. `Memory` where memory runs out, which is before the first step.
 pub fn replay_document(alloc: Global, document: &Document) -> Result<Report, RunFault>
     requires { IsWithinDocumentLimits document.now }
-    ensures { IsReplayed document.now result }
+    ensures { IsReplayAnswer document.now result }
 {
-    let plan = plan_of(alloc, document)?;
-    replay_report(alloc, document, &plan)
-}
-
-/// Runs a plan by its callers on threads.
-#[tactic(auto, using(crate::proofs::PlanLaws::plan_suits))]
-fn run_plan<R: Threads + Sync, G: Gate + Sync>(
-    rt: &R,
-    alloc: Global,
-    plan: Plan,
-    gate: &G,
-) -> Result<Final, AllocError>
-    requires ready { IsReady plan }
-    ensures { IfOk result (λ last. EndsPlan plan last.phase last.entries) }
-{
-    let Plan {
-        barred,
-        setting,
-        scripts,
-        fuel,
-    } = plan;
-    run_scripts(rt, alloc, barred, setting, scripts.items(), fuel, gate)
+    reports_are_true();
+    document_runs::replay_document(alloc, document)
 }
 
 /// Runs a document: its callers run on threads, as far as threads can be made, and each makes the calls of its script one after
@@ -109,6 +38,10 @@ fn run_plan<R: Threads + Sync, G: Gate + Sync>(
 ///
 /// Its text is within the limits of texts, each of its scripts has at most 100,000 calls, and each turn counts at least 1; the
 /// turns aren't used.
+///
+/// The clause says what the report tells: a line says `phases`, `full`, `spent` or `unreached` exactly where the steps of the run give
+/// cause to; where the document's text is proper, the run is one of the text on memory that is never recycled, and each line says
+/// what that one answers; see `TellsOf`.
 ///
 /// # Errors
 ///
@@ -120,10 +53,8 @@ pub fn run_document<R: Threads + Sync, G: Gate + Sync>(
     gate: &G,
 ) -> Result<Report, RunFault>
     requires { IsWithinDocumentLimits document.now }
-    ensures { IsRan document.now result }
+    ensures { IsRunAnswer document.now result }
 {
-    let plan = plan_of(alloc, document)?;
-    let lines = blank_lines(alloc, document.scripts.items())?;
-    let last = run_plan(rt, alloc, plan, gate)?;
-    Ok(report_at(document, lines, &last))
+    reports_are_true();
+    document_runs::run_document(rt, alloc, document, gate)
 }

@@ -1,5 +1,5 @@
 -- Plans, against what their parts are.
-use Rattle.std.proofs.Common.{◌≡◌, List, Option, Some, None, Result, Ok, Err, refl, ap, ◌∙◌}
+use Rattle.std.proofs.Common.{◌≡◌, List, Option, Some, None, Result, Ok, Err, refl, ap, subst, ◌∙◌}
 use Rattle.std.specs.Prelude.{IfOk}
 use Rattle.norm_lang.specs.declared.text.Text.{Text}
 use Rattle.norm_lang.specs.NormalForm.{IsNormal}
@@ -14,7 +14,7 @@ use Rattle.script_plans.specs.declared.fault.RunFault.{RunFault}
 use Rattle.script_plans.specs.declared.plan.Plan.{Plan}
 use Rattle.script_plans.specs.Shapes.{setting_of, shape_fault}
 use Rattle.script_plans.specs.Told.{fault_told, or_fault}
-use Rattle.script_plans.specs.Plans.{calls_of, IsFaultOf, IsPlanned, IsReady}
+use Rattle.script_plans.specs.Plans.{calls_of, AllTakeWords, IsFaultOf, IsPlanned, IsReady}
 use Rattle.script_plans.proofs.Ready.{plan_is_ready}
 
 shapely : (fault : Option ShapeFault) (asked setting : Setting) → Ok setting ≡ or_fault fault asked → (fault ≡ None) × (setting ≡ asked)
@@ -36,6 +36,8 @@ is_planned document text barred setting scripts same normal shaped paired calls 
 pub is_misshapen : (document : Document) (fault : ShapeFault) → IsNormal document.text → Err fault ≡ or_fault (shape_fault document) (setting_of document) → IsFaultOf document (fault_told fault)
 is_misshapen document fault normal shaped = (normal, shapeless (shape_fault document) (setting_of document) fault shaped)
 
-pub planned_is_ready : (document : Document) (result : Result Plan RunFault) → IsWithinDocumentLimits document → IsPlanned document result → IfOk result (λ plan. IsReady plan)
-planned_is_ready document (Ok plan) within planned = rw planned.0 (plan_is_ready document within planned.1)
-planned_is_ready document (Err fault) within planned = tt
+pub planned_is_ready : (document : Document) (result : Result Plan RunFault) → IsWithinDocumentLimits document → IsPlanned document result
+    → IfOk result (λ plan. AllTakeWords plan.scripts) → IfOk result (λ plan. IsReady plan)
+planned_is_ready document (Ok plan) within planned words =
+    rw planned.0 (plan_is_ready document within planned.1 (subst (λ (p : Plan). AllTakeWords p.scripts) planned.0 words))
+planned_is_ready document (Err fault) within planned words = tt

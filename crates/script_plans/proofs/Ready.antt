@@ -1,9 +1,9 @@
 -- What a plan keeps.
-use Rattle.std.proofs.Common.{◌≡◌, ℕ, ◌≤◌, Bool, true, false, ◌&&◌, List, [], ◌∷◌, map, length, drop, get_or, Option, Some, None, refl, arith}
-use Rattle.std.proofs.lemmas.Bool.{eqb-true}
+use Rattle.std.proofs.Common.{◌≡◌, ℕ, ◌≤◌, ◌<◌, ◌^◌, Bool, true, false, ◌&&◌, List, [], ◌∷◌, map, length, drop, get_or, Option, Some, None, refl, arith}
+use Rattle.std.proofs.lemmas.Bool.{eqb-true, lt-ltb, and_from}
 use Rattle.std.proofs.lemmas.Bool.Decides.{nat_tests}
 use Rattle.std.proofs.lemmas.List.{drop_all, length-map}
-use Rattle.std.proofs.lemmas.List.Elements.{All-nil, All-cons, All-map, All-get_or, All-from_get_or}
+use Rattle.std.proofs.lemmas.List.Elements.{All-nil, All-cons, All-head, All-tail, All-map, All-get_or, All-from_get_or}
 use Rattle.std.proofs.lemmas.Option.{slice_get-map}
 use Rattle.std.specs.Prelude.{not, nat_le, nat_lt, ◌==◌, if◌then◌else◌, slice_get}
 use Rattle.std.specs.List.{All, list_all}
@@ -14,13 +14,13 @@ use Rattle.target_code.specs.SecondScheme.{second_marks}
 use Rattle.oa_words.specs.Within.{is_count}
 use Rattle.caller_parts.specs.declared.call.Call.{Call}
 use Rattle.caller_parts.specs.Settings.{are_phases}
-use Rattle.caller_parts.specs.Calls.{is_call_of}
+use Rattle.caller_parts.specs.Calls.{are_words, is_call_of}
 use Rattle.documents.specs.declared.document.ScriptCall.{ScriptCall}
 use Rattle.documents.specs.declared.document.Document.{Document}
 use Rattle.documents.specs.DocumentLimits.{AreShort, IsWithinDocumentLimits}
 use Rattle.script_plans.specs.declared.fault.ShapeFault.{ShapeFault}
 use Rattle.script_plans.specs.Shapes.{first_of, most_fuel, sizes_of, sizes_fault, fault_unless, op_number, call_fault_at, args_fault, call_fault, script_fault, scripts_fault, setting_fault}
-use Rattle.script_plans.specs.Plans.{padded, call_of, plan_for, IsRunnable, IsReady}
+use Rattle.script_plans.specs.Plans.{padded, call_of, calls_of, TakeWords, AllTakeWords, plan_for, IsRunnable, IsReady}
 
 both : (one other : Option ShapeFault) → option_or one other ≡ None → (one ≡ None) × (other ≡ None)
 both None other none = (refl, none)
@@ -39,12 +39,15 @@ zeros (a ∷ b ∷ []) = refl
 zeros (a ∷ b ∷ c ∷ []) = refl
 zeros (a ∷ b ∷ c ∷ d ∷ rest) = rw (drop_all (length (a ∷ b ∷ c ∷ d ∷ rest)) (a ∷ b ∷ c ∷ d ∷ []) (omega arith)) refl
 
+pub four_words : (a b c d : ℕ) → a < 2 ^ 64 → b < 2 ^ 64 → c < 2 ^ 64 → d < 2 ^ 64 → are_words (a ∷ b ∷ c ∷ d ∷ []) ≡ true
+four_words a b c d fits_a fits_b fits_c fits_d = rw (lt-ltb a (2 ^ 64) fits_a, lt-ltb b (2 ^ 64) fits_b, lt-ltb c (2 ^ 64) fits_c, lt-ltb d (2 ^ 64) fits_d) refl
+
 abbrev unless_counted : ScriptCall → Bool → Option ShapeFault
 unless_counted call test = if test then None else Some (call_fault_at 9 call)
 
-counted : (call : ScriptCall) (op : Option Op) → args_fault call op ≡ None → is_call_of (option_map (scheme_op second_marks) op) (padded call.args) ≡ true
-counted call None none = cc
-counted call (Some op) none = go (length call.args == op.args) refl none
+counted : (call : ScriptCall) (op : Option Op) → are_words (padded call.args) ≡ true → args_fault call op ≡ None → is_call_of (option_map (scheme_op second_marks) op) (padded call.args) ≡ true
+counted call None words none = cc
+counted call (Some op) words none = and_from (are_words (padded call.args)) (list_all (λ word. word == 0) (drop op.args (padded call.args))) words (go (length call.args == op.args) refl none)
   where
     go : (test : Bool) → (length call.args == op.args) ≡ test → unless_counted call test ≡ None
         → list_all (λ word. word == 0) (drop op.args (padded call.args)) ≡ true
@@ -54,23 +57,29 @@ counted call (Some op) none = go (length call.args == op.args) refl none
 abbrev IsIn : List Op → Call → Type 0
 IsIn ops call = is_call_of (slice_get (map (scheme_op second_marks) ops) call.op) call.args ≡ true
 
-call_is : (ops : List Op) (call : ScriptCall) → call_fault ops call ≡ None → IsIn ops (call_of ops call)
-call_is ops call none = rw (slice_get-map (scheme_op second_marks) ops (op_number ops call.name)) (counted call (slice_get ops (op_number ops call.name)) none)
+call_is : (ops : List Op) (call : ScriptCall) → are_words (padded call.args) ≡ true → call_fault ops call ≡ None → IsIn ops (call_of ops call)
+call_is ops call words none =
+    rw (slice_get-map (scheme_op second_marks) ops (op_number ops call.name)) (counted call (slice_get ops (op_number ops call.name)) words none)
 
-script_is : (ops : List Op) (script : List ScriptCall) → script_fault ops script ≡ None → All (IsIn ops) (map (call_of ops) script)
-script_is ops [] none = All-nil (IsIn ops)
-script_is ops (call ∷ script) none =
+script_is : (ops : List Op) (script : List ScriptCall) → TakeWords (map (call_of ops) script) → script_fault ops script ≡ None → All (IsIn ops) (map (call_of ops) script)
+script_is ops [] words none = All-nil (IsIn ops)
+script_is ops (call ∷ script) words none =
     let parts = both (call_fault ops call) (script_fault ops script) none in
-    All-cons (IsIn ops) (call_of ops call) (map (call_of ops) script) (call_is ops call parts.0) (script_is ops script parts.1)
+    let first = All-head (λ (c : Call). are_words c.args ≡ true) (call_of ops call) (map (call_of ops) script) words in
+    let others = All-tail (λ (c : Call). are_words c.args ≡ true) (call_of ops call) (map (call_of ops) script) words in
+    All-cons (IsIn ops) (call_of ops call) (map (call_of ops) script) (call_is ops call first parts.0) (script_is ops script others parts.1)
 
 abbrev AreIn : List Op → List Call → Type 0
 AreIn ops calls = All (IsIn ops) calls
 
-scripts_are : (ops : List Op) (scripts : List (List ScriptCall)) → scripts_fault ops scripts ≡ None → All (AreIn ops) (map (map (call_of ops)) scripts)
-scripts_are ops [] none = All-nil (AreIn ops)
-scripts_are ops (script ∷ scripts) none =
+scripts_are : (ops : List Op) (scripts : List (List ScriptCall)) → AllTakeWords (map (map (call_of ops)) scripts) → scripts_fault ops scripts ≡ None
+    → All (AreIn ops) (map (map (call_of ops)) scripts)
+scripts_are ops [] words none = All-nil (AreIn ops)
+scripts_are ops (script ∷ scripts) words none =
     let parts = both (script_fault ops script) (scripts_fault ops scripts) none in
-    All-cons (AreIn ops) (map (call_of ops) script) (map (map (call_of ops)) scripts) (script_is ops script parts.0) (scripts_are ops scripts parts.1)
+    let first = All-head TakeWords (map (call_of ops) script) (map (map (call_of ops)) scripts) words in
+    let others = All-tail TakeWords (map (call_of ops) script) (map (map (call_of ops)) scripts) words in
+    All-cons (AreIn ops) (map (call_of ops) script) (map (map (call_of ops)) scripts) (script_is ops script first parts.0) (scripts_are ops scripts others parts.1)
 
 -- ---- the rest
 
@@ -102,14 +111,14 @@ fuelled document none =
     first true b le is = grind (arith, nat_tests)
     first false b le is = cc
 
-pub plan_is_ready : (document : Document) → IsWithinDocumentLimits document → IsRunnable document → IsReady (plan_for document)
-plan_is_ready document within runs =
+pub plan_is_ready : (document : Document) → IsWithinDocumentLimits document → IsRunnable document → AllTakeWords (calls_of document) → IsReady (plan_for document)
+plan_is_ready document within runs words =
     let parts = both (setting_fault document) (first_of (scripts_fault document.text.ops document.scripts ∷ [])) runs.shape in
     let calls = both (scripts_fault document.text.ops document.scripts) None parts.1 in
     record {
       fits = record { fields = refl; cells = refl; nodes = refl };
       count = length-map document.scripts (map (call_of document.text.ops));
-      calls = scripts_are document.text.ops document.scripts calls.0;
+      calls = scripts_are document.text.ops document.scripts words calls.0;
       short = short_are document.text.ops document.scripts within.scripts;
       fuel = fuelled document parts.0;
     }

@@ -1,5 +1,5 @@
 -- The plan of a document: what its callers run.
-use Rattle.std.specs.Prelude.{◌≡◌, ℕ, ◌≤◌, List, [], ◌∷◌, map, length, slice_index, Some, None, Result, Ok, Err, All}
+use Rattle.std.specs.Prelude.{◌≡◌, ℕ, ◌≤◌, true, List, [], ◌∷◌, map, length, slice_index, Some, None, Result, Ok, Err, All}
 use Rattle.norm_lang.specs.declared.text.Op.{Op}
 use Rattle.norm_lang.specs.NormalForm.{IsNormal}
 use Rattle.norm_check.specs.Refusals.{IsRefused}
@@ -7,7 +7,7 @@ use Rattle.target_code.specs.declared.target.Target.{Target}
 use Rattle.target_code.specs.SecondScheme.{second_scheme}
 use Rattle.caller_parts.specs.declared.call.Call.{Call}
 use Rattle.caller_parts.specs.Settings.{Fits}
-use Rattle.caller_parts.specs.Calls.{AreCalls}
+use Rattle.caller_parts.specs.Calls.{are_words, AreCalls}
 use Rattle.documents.specs.declared.document.ScriptCall.{ScriptCall}
 use Rattle.documents.specs.declared.document.Document.{Document}
 use Rattle.documents.specs.DocumentLimits.{AreShort}
@@ -31,6 +31,13 @@ call_of ops call = record { op = op_number ops call.name; args = padded call.arg
 -- the calls of each caller, in order
 abbrev pub calls_of : Document → List (List Call)
 calls_of document = map (map (call_of document.text.ops)) document.scripts
+
+-- the arguments of each call are words, and so are those of each script's calls
+abbrev pub TakeWords : List Call → Type 0
+TakeWords calls = All (λ (call : Call). are_words call.args ≡ true) calls
+
+abbrev pub AllTakeWords : List (List Call) → Type 0
+AllTakeWords scripts = All TakeWords scripts
 
 abbrev pub plan_for : Document → Plan
 plan_for document = record {

@@ -1,7 +1,8 @@
 //! The calls of a document.
 
-ghost use Rattle.std.specs.Prelude.{◌≡◌, ◌<◌, length, map, slice_index, IfOk};
-ghost use Rattle.script_plans.specs.Plans.{padded, call_of, calls_of};
+ghost use Rattle.std.specs.Prelude.{◌≡◌, ◌<◌, length, map, slice_index, true, IfOk};
+ghost use Rattle.caller_parts.specs.Calls.{are_words};
+ghost use Rattle.script_plans.specs.Plans.{padded, call_of, calls_of, TakeWords, AllTakeWords};
 
 use crate::plan::{CallList, CallLists};
 use crate::shape::op_number;
@@ -19,7 +20,8 @@ fn argument(args: &[u64], number: usize) -> u64
 }
 
 fn padded(args: &[u64]) -> [u64; 4]
-    ensures { result ≡ padded args.now }
+    ensures same { result ≡ padded args.now }
+    ensures words { are_words result ≡ true }
 {
     [
         argument(args, 0),
@@ -32,7 +34,8 @@ fn padded(args: &[u64]) -> [u64; 4]
 /// What a call line calls.
 fn call_of(ops: &[Op], call: &ScriptCall) -> Call
     requires few { length ops.now < 256 }
-    ensures { result ≡ call_of ops.now call.now }
+    ensures same { result ≡ call_of ops.now call.now }
+    ensures words { are_words result.args ≡ true }
 {
     Call {
         op: op_number(ops, call.name.items()) as u8,
@@ -42,7 +45,8 @@ fn call_of(ops: &[Op], call: &ScriptCall) -> Call
 
 fn script_calls(alloc: Global, ops: &[Op], script: &[ScriptCall]) -> Result<CallList, AllocError>
     requires few { length ops.now < 256 }
-    ensures { IfOk result (λ calls. calls ≡ map (call_of ops.now) script.now) }
+    ensures same { IfOk result (λ calls. calls ≡ map (call_of ops.now) script.now) }
+    ensures words { IfOk result TakeWords }
 {
     let mut calls = Listed::empty(alloc);
     for call in script {
@@ -54,7 +58,8 @@ fn script_calls(alloc: Global, ops: &[Op], script: &[ScriptCall]) -> Result<Call
 /// The calls of each caller, in order.
 pub(crate) fn calls_of(alloc: Global, document: &Document) -> Result<CallLists, AllocError>
     requires few { length document.now.text.ops < 256 }
-    ensures { IfOk result (λ scripts. scripts ≡ calls_of document.now) }
+    ensures same { IfOk result (λ scripts. scripts ≡ calls_of document.now) }
+    ensures words { IfOk result AllTakeWords }
 {
     let ops = document.text.ops.items();
     let mut scripts = Listed::empty(alloc);

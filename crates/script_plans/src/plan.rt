@@ -7,7 +7,7 @@ ghost use Rattle.documents.specs.DocumentLimits.{IsWithinDocumentLimits};
 ghost use Rattle.script_plans.specs.declared.fault.RunFault.TheVariants as told;
 ghost use Rattle.script_plans.specs.Shapes.{setting_of, shape_fault};
 ghost use Rattle.script_plans.specs.Told.{or_fault};
-ghost use Rattle.script_plans.specs.Plans.{IsPlanned, IsReady};
+ghost use Rattle.script_plans.specs.Plans.{AllTakeWords, IsPlanned, IsReady};
 
 use crate::calls::calls_of;
 use crate::fault::{RunFault, ShapeFault};
@@ -72,7 +72,8 @@ fn plan_of_normal(alloc: Global, document: &Document, normal: &Normal) -> Result
     requires within { IsWithinDocumentLimits document.now }
     requires text { normal.now ≡ document.now.text }
     requires normal { IsNormal document.now.text }
-    ensures { IsPlanned document.now result }
+    ensures exact { IsPlanned document.now result }
+    ensures words { IfOk result (λ plan. AllTakeWords plan.scripts) }
 {
     let setting = shaped(document)?;
     let scripts = calls_of(alloc, document)?;
@@ -88,7 +89,8 @@ fn plan_of_normal(alloc: Global, document: &Document, normal: &Normal) -> Result
 /// The plan of a document, whose text is judged first.
 fn planned(alloc: Global, document: &Document) -> Result<Plan, RunFault>
     requires { IsWithinDocumentLimits document.now }
-    ensures { IsPlanned document.now result }
+    ensures exact { IsPlanned document.now result }
+    ensures words { IfOk result (λ plan. AllTakeWords plan.scripts) }
 {
     let normal = check(alloc, document.text.copy(alloc)?)?;
     plan_of_normal(alloc, document, &normal)

@@ -7,7 +7,7 @@ use Rattle.caller_steps.specs.declared.entry.Counts.{Counts}
 use Rattle.caller_parts.specs.declared.routine.Routine.{Routine}
 use Rattle.source_machine.specs.declared.state.SourceCaller.{SourceCaller}
 use Rattle.source_machine.specs.MethodRuns.{MethodRun, run_begun}
-use Rattle.sim_relation.specs.Views.{Plan, IsPlan, Held, Shared, Caller, protected, settled_names}
+use Rattle.sim_relation.specs.Views.{Plan, Held, Shared, Caller, protected, settled_names}
 use Rattle.sim_relation.specs.Shared.{SharedHolds}
 use Rattle.sim_relation.specs.Callers.{Base, Trail, Walks, Running, AtNew, Begins, CallerHolds}
 use Rattle.run_ahead.specs.Guards.{GuardRow}
@@ -42,17 +42,17 @@ pub begins_moved : (t : Plan) (s : Shared) (d : ℕ) (x : Caller) (walk : Walk t
 begins_moved t s d x walk a k r w = record { call = w.call; first = w.first; number = w.number; start = w.start; generator = w.generator; kept = w.kept; shown = w.shown; stands = w.stands; got = w.got; tied = w.tied; settled = w.settled }
 
 -- the mover's own facts, by a caller that there isn't
-pub own_stable : (t : Plan) (c : ℕ) (s s' : Shared) (x : Caller) → IsPlan t → GoesForAll t s s' → SharedHolds t s → SharedHolds t s' → CallerHolds t s c x → CallerHolds t s' c x
-own_stable t c s s' x plan g f f' w = stable t (suc c) c s s' x plan (g (suc c)) f f' (λ e. omega (arith, e)) w
+pub own_stable : (t : Plan) (c : ℕ) (s s' : Shared) (x : Caller) → t.home 0 ≡ 0 → GoesForAll t s s' → SharedHolds t s → SharedHolds t s' → CallerHolds t s c x → CallerHolds t s' c x
+own_stable t c s s' x null_home g f f' w = stable t (suc c) c s s' x null_home (g (suc c)) f f' (λ e. omega (arith, e)) w
 
 pub own_base : (t : Plan) (c : ℕ) (s s' : Shared) (x : Caller) → GoesForAll t s s' → SharedHolds t s → Base t s c x → Base t s' c x
 own_base t c s s' x g f w = stable_base t (suc c) c s s' x (g (suc c)) f (λ e. omega (arith, e)) w
 
-pub own_running : (t : Plan) (c : ℕ) (s s' : Shared) (x : Caller) (core : Spot) → IsPlan t → GoesForAll t s s' → SharedHolds t s → SharedHolds t s' → Base t s c x → Running t s c x core → Running t s' c x core
-own_running t c s s' x core plan g f f' b w = stable_running t (suc c) c s s' x core plan (g (suc c)) f f' (λ e. omega (arith, e)) b w
+pub own_running : (t : Plan) (c : ℕ) (s s' : Shared) (x : Caller) (core : Spot) → t.home 0 ≡ 0 → GoesForAll t s s' → SharedHolds t s → SharedHolds t s' → Base t s c x → Running t s c x core → Running t s' c x core
+own_running t c s s' x core null_home g f f' b w = stable_running t (suc c) c s s' x core null_home (g (suc c)) f f' (λ e. omega (arith, e)) b w
 
-pub own_new : (t : Plan) (c : ℕ) (s s' : Shared) (x : Caller) (core : Spot) → IsPlan t → GoesForAll t s s' → SharedHolds t s → SharedHolds t s' → Base t s c x → AtNew t s c x core → AtNew t s' c x core
-own_new t c s s' x core plan g f f' b w = stable_new t (suc c) c s s' x core plan (g (suc c)) f f' (λ e. omega (arith, e)) b w
+pub own_new : (t : Plan) (c : ℕ) (s s' : Shared) (x : Caller) (core : Spot) → t.home 0 ≡ 0 → GoesForAll t s s' → SharedHolds t s → SharedHolds t s' → Base t s c x → AtNew t s c x core → AtNew t s' c x core
+own_new t c s s' x core null_home g f f' b w = stable_new t (suc c) c s s' x core null_home (g (suc c)) f f' (λ e. omega (arith, e)) b w
 
 pub goes_same : (t : Plan) (s : Shared) → GoesForAll t s s
 goes_same t s y = record {

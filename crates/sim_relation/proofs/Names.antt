@@ -3,7 +3,7 @@ use Rattle.std.proofs.Common.{ℕ, ◌≡◌, ◌≢◌, ◌∙◌, Bool, true, 
 use Rattle.std.proofs.lemmas.Bool.{cases_eq}
 use Rattle.oa_words.specs.Words.{Status, Hazard}
 use Rattle.source_machine.specs.Proper.{has}
-use Rattle.sim_relation.specs.Views.{Plan, IsPlan, Owner, Null, Held, Shared, Resident, Apart}
+use Rattle.sim_relation.specs.Views.{Plan, Owner, Null, Held, Shared, Resident, Apart}
 use Rattle.sim_relation.specs.Shared.{Slot, SlotAt, SharedHolds}
 
 pub residents_apart : (t : Plan) (s : Shared) (x y : ℕ) → Resident t s x → Resident t s y → Apart t x y
@@ -17,8 +17,8 @@ slot_by s j o is slot = subst (λ (owner : Owner). Slot owner (s.memory (Status 
 pub none_there : (t : Plan) (s : Shared) → SharedHolds t s → s.present 0 ≡ 0
 none_there t s f = (slot_by s 0 Null f.none_there (f.slot 0)).1
 
-pub null_resident : (t : Plan) (s : Shared) (n : ℕ) → IsPlan t → SharedHolds t s → n ≡ 0 → Resident t s n
-null_resident t s n p f z = ap (λ (i : ℕ). s.present (t.home i)) z ∙ (ap s.present p.null ∙ (none_there t s f ∙ sym z))
+pub null_resident : (t : Plan) (s : Shared) (n : ℕ) → t.home 0 ≡ 0 → SharedHolds t s → n ≡ 0 → Resident t s n
+null_resident t s n null_home f z = ap (λ (i : ℕ). s.present (t.home i)) z ∙ (ap s.present null_home ∙ (none_there t s f ∙ sym z))
 
 -- a resident name other than null has a slot other than 0
 pub has_slot_of : (t : Plan) (s : Shared) (n : ℕ) → SharedHolds t s → Resident t s n → n ≢ 0 → t.home n ≢ 0
@@ -35,8 +35,8 @@ unprotected t s c r f z = ⊎_elim
 pub own_private : (t : Plan) (s : Shared) (d k n : ℕ) → SharedHolds t s → s.owner (t.home n) ≡ Held d k → Resident t s n → s.public n ≡ false
 own_private t s d k n f held here = ap s.public (sym here) ∙ (slot_by s (t.home n) (Held d k) held (f.slot (t.home n))).2
 
-pub null_private : (t : Plan) (s : Shared) → IsPlan t → SharedHolds t s → s.public 0 ≡ false
-null_private t s p f = of (s.public 0) refl where
+pub null_private : (t : Plan) (s : Shared) → t.home 0 ≡ 0 → SharedHolds t s → s.public 0 ≡ false
+null_private t s null_home f = of (s.public 0) refl where
   of : (b : Bool) → s.public 0 ≡ b → b ≡ false
-  of true is = absurd (f.placed 0 is p.null)
+  of true is = absurd (f.placed 0 is null_home)
   of false is = refl

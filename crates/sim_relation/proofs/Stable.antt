@@ -26,7 +26,7 @@ use Rattle.run_ahead.specs.Agreeing.{node_in}
 use Rattle.target_laws.specs.Methods.{code_in}
 use Rattle.run_ahead.specs.Following.{Walk}
 use Rattle.run_ahead.proofs.Quiet.{less_calm}
-use Rattle.sim_relation.specs.Views.{Plan, IsPlan, Null, Held, Shared, Caller, link, Resident, Apart}
+use Rattle.sim_relation.specs.Views.{Plan, Null, Held, Shared, Caller, link, Resident, Apart}
 use Rattle.sim_relation.specs.Shared.{SharedHolds}
 use Rattle.sim_relation.specs.Callers.{Shown, spot_of, tag_at, Own, Known, Calm, Base, Sound, HasMade, Trail, Walks, Gets, Running, AtNew, Begins, AfterExchange, IsRetiring, Sweeps, SweepAt, ClaimAt, Zeroed, GoesOn, BeginsAt, ClearsAt, HoldsAt, CallerHolds}
 use Rattle.sim_relation.specs.MayChange.{MayChange}
@@ -80,12 +80,12 @@ stable_sound t c d s s' x walk path mirror g f ne b w = record {
 }
 
 -- an own name that was got came by its `new`
-stable_made : (t : Plan) (c d : ℕ) (s s' : Shared) (x : Caller) (P : ℕ → Type 0) → IsPlan t → MayChange t c s s' → SharedHolds t s → SharedHolds t s' → d ≢ c → Base t s d x
+stable_made : (t : Plan) (c d : ℕ) (s s' : Shared) (x : Caller) (P : ℕ → Type 0) → t.home 0 ≡ 0 → MayChange t c s s' → SharedHolds t s → SharedHolds t s' → d ≢ c → Base t s d x
     → ((n k : ℕ) → has n x.held.got ≡ true → s.owner (t.home n) ≡ Held d k → Resident t s n → P k)
     → (n k : ℕ) → has n x.held.got ≡ true → s'.owner (t.home n) ≡ Held d k → Resident t s' n → P k
-stable_made t c d s s' x P plan g f f' ne b made n k got held here = of (b.known n got) where
+stable_made t c d s s' x P null_home g f f' ne b made n k got held here = of (b.known n got) where
   of : Known t s d n → P k
-  of (inl z) = absurd (let e : Null ≡ Held d k = sym f'.none_there ∙ (ap s'.owner (sym (ap t.home z ∙ plan.null)) ∙ held) in cc)
+  of (inl z) = absurd (let e : Null ≡ Held d k = sym f'.none_there ∙ (ap s'.owner (sym (ap t.home z ∙ null_home)) ∙ held) in cc)
   of (inr (inl public)) = absurd (let e : true ≡ false = sym (g.public n public) ∙ own_private t s' d k n f' held here in cc)
   of (inr (inr own)) = let was = g.held (t.home n) d own.0 ne own.1 in let same : k ≡ own.0 = (let e : Held d k ≡ Held d own.0 = sym held ∙ was.0 in cc) in subst P (sym same) (made n own.0 got own.1 own.2)
 
@@ -93,8 +93,8 @@ pub stable_shown : (s s' : Shared) (n : ℕ) → ((n : ℕ) → s.public n ≡ t
 stable_shown s s' n stays (inl z) = inl z
 stable_shown s s' n stays (inr public) = inr (stays n public)
 
-pub stable_walks : (t : Plan) (c d : ℕ) (s s' : Shared) (x : Caller) (core : Spot) (m : Trail t) → IsPlan t → MayChange t c s s' → SharedHolds t s → SharedHolds t s' → d ≢ c → Base t s d x → Walks t s d x core m → Walks t s' d x core m
-stable_walks t c d s s' x core m plan g f f' ne b w = record {
+pub stable_walks : (t : Plan) (c d : ℕ) (s s' : Shared) (x : Caller) (core : Spot) (m : Trail t) → t.home 0 ≡ 0 → MayChange t c s s' → SharedHolds t s → SharedHolds t s' → d ≢ c → Base t s d x → Walks t s d x core m → Walks t s' d x core m
+stable_walks t c d s s' x core m null_home g f f' ne b w = record {
   call = w.call;
   wrapup = w.wrapup;
   was_set = w.was_set;
@@ -108,8 +108,8 @@ stable_walks t c d s s' x core m plan g f f' ne b w = record {
   sound = stable_sound t c d s s' x m.walk m.path m.mirror g f' ne b w.sound;
 }
 
-pub stable_gets : (t : Plan) (c d : ℕ) (s s' : Shared) (x : Caller) (m : Trail t) → IsPlan t → MayChange t c s s' → SharedHolds t s → SharedHolds t s' → d ≢ c → Base t s d x → Gets t s d x m → Gets t s' d x m
-stable_gets t c d s s' x m plan g f f' ne b w = record { got = w.got; named = w.named; fresh = λ gen r is. stable_own t c d s s' (node_in m.mirror r) g ne (w.fresh gen r is); shown = λ gen r is. ⊎_elim (λ (z : node_in m.mirror r ≡ 0). inl z) (λ (p : s.public (node_in m.mirror r) ≡ true). inr (g.public (node_in m.mirror r) p)) (w.shown gen r is); made = stable_made t c d s s' x (λ k. HasMade (code_in m.walk.method) m.path k) plan g f f' ne b w.made }
+pub stable_gets : (t : Plan) (c d : ℕ) (s s' : Shared) (x : Caller) (m : Trail t) → t.home 0 ≡ 0 → MayChange t c s s' → SharedHolds t s → SharedHolds t s' → d ≢ c → Base t s d x → Gets t s d x m → Gets t s' d x m
+stable_gets t c d s s' x m null_home g f f' ne b w = record { got = w.got; named = w.named; fresh = λ gen r is. stable_own t c d s s' (node_in m.mirror r) g ne (w.fresh gen r is); shown = λ gen r is. ⊎_elim (λ (z : node_in m.mirror r ≡ 0). inl z) (λ (p : s.public (node_in m.mirror r) ≡ true). inr (g.public (node_in m.mirror r) p)) (w.shown gen r is); made = stable_made t c d s s' x (λ k. HasMade (code_in m.walk.method) m.path k) null_home g f f' ne b w.made }
 
 pub stable_begins : (t : Plan) (c d : ℕ) (s s' : Shared) (x : Caller) (walk : Walk t.target t.text) → MayChange t c s s' → d ≢ c → Begins t s d x walk → Begins t s' d x walk
 stable_begins t c d s s' x walk g ne b = record {
@@ -173,48 +173,48 @@ stable_claim t c s s' sweep (claims.Take q j next) g f w = w
 stable_claim t c s s' sweep (claims.StoreUsed q j) g f w = w
 stable_claim t c s s' sweep claims.Sweeps g f w = stable_sweep t c s s' sweep.bound sweep.gathered sweep.stage g f w
 
-pub stable_running : (t : Plan) (c d : ℕ) (s s' : Shared) (x : Caller) (core : Spot) → IsPlan t → MayChange t c s s' → SharedHolds t s → SharedHolds t s' → d ≢ c → Base t s d x → Running t s d x core → Running t s' d x core
-stable_running t c d s s' x core plan g f f' ne b w = (w.0, stable_walks t c d s s' x core w.0 plan g f f' ne b w.1, w.2, stable_gets t c d s s' x w.0 plan g f f' ne b w.3, w.4)
+pub stable_running : (t : Plan) (c d : ℕ) (s s' : Shared) (x : Caller) (core : Spot) → t.home 0 ≡ 0 → MayChange t c s s' → SharedHolds t s → SharedHolds t s' → d ≢ c → Base t s d x → Running t s d x core → Running t s' d x core
+stable_running t c d s s' x core null_home g f f' ne b w = (w.0, stable_walks t c d s s' x core w.0 null_home g f f' ne b w.1, w.2, stable_gets t c d s s' x w.0 null_home g f f' ne b w.3, w.4)
 
-pub stable_new : (t : Plan) (c d : ℕ) (s s' : Shared) (x : Caller) (core : Spot) → IsPlan t → MayChange t c s s' → SharedHolds t s → SharedHolds t s' → d ≢ c → Base t s d x → AtNew t s d x core → AtNew t s' d x core
-stable_new t c d s s' x core plan g f f' ne b w = (w.0, stable_walks t c d s s' x core w.0 plan g f f' ne b w.1, w.2, stable_gets t c d s s' x w.0 plan g f f' ne b w.3)
+pub stable_new : (t : Plan) (c d : ℕ) (s s' : Shared) (x : Caller) (core : Spot) → t.home 0 ≡ 0 → MayChange t c s s' → SharedHolds t s → SharedHolds t s' → d ≢ c → Base t s d x → AtNew t s d x core → AtNew t s' d x core
+stable_new t c d s s' x core null_home g f f' ne b w = (w.0, stable_walks t c d s s' x core w.0 null_home g f f' ne b w.1, w.2, stable_gets t c d s s' x w.0 null_home g f f' ne b w.3)
 
-pub stable_behind : (t : Plan) (c d : ℕ) (s s' : Shared) (x : Caller) (made : ℕ) (more : Bool) → IsPlan t → MayChange t c s s' → SharedHolds t s → SharedHolds t s' → d ≢ c → Base t s d x → AfterExchange t s d x made more → AfterExchange t s' d x made more
-stable_behind t c d s s' x made true plan g f f' ne b w = (w.0, stable_walks t c d s s' x (spot_of x.entry.hand) w.0 plan g f f' ne b w.1, w.2, w.3, w.4, (λ r is. stable_shown s s' (node_in w.0.mirror r) (λ n public. g.public n public) (w.5 r is)))
-stable_behind t c d s s' x made false plan g f f' ne b w = (w.0, stable_walks t c d s s' x (spot_of x.entry.hand) w.0 plan g f f' ne b w.1, w.2, w.3, w.4, w.5, w.6, (λ r is. stable_shown s s' (node_in w.0.mirror r) (λ n public. g.public n public) (w.7 r is)))
+pub stable_behind : (t : Plan) (c d : ℕ) (s s' : Shared) (x : Caller) (made : ℕ) (more : Bool) → t.home 0 ≡ 0 → MayChange t c s s' → SharedHolds t s → SharedHolds t s' → d ≢ c → Base t s d x → AfterExchange t s d x made more → AfterExchange t s' d x made more
+stable_behind t c d s s' x made true null_home g f f' ne b w = (w.0, stable_walks t c d s s' x (spot_of x.entry.hand) w.0 null_home g f f' ne b w.1, w.2, w.3, w.4, (λ r is. stable_shown s s' (node_in w.0.mirror r) (λ n public. g.public n public) (w.5 r is)))
+stable_behind t c d s s' x made false null_home g f f' ne b w = (w.0, stable_walks t c d s s' x (spot_of x.entry.hand) w.0 null_home g f f' ne b w.1, w.2, w.3, w.4, w.5, w.6, (λ r is. stable_shown s s' (node_in w.0.mirror r) (λ n public. g.public n public) (w.7 r is)))
 
-stable_onward : (t : Plan) (c d : ℕ) (s s' : Shared) (x : Caller) (go : AfterRetire) → IsPlan t → MayChange t c s s' → SharedHolds t s → SharedHolds t s' → d ≢ c → Base t s d x → GoesOn t s d x go → GoesOn t s' d x go
-stable_onward t c d s s' x onward.Next plan g f f' ne b w = stable_running t c d s s' x (record { at = x.entry.hand.at + 1; registers = x.entry.hand.registers }) plan g f f' ne b w
-stable_onward t c d s s' x (onward.List k) plan g f f' ne b w = stable_behind t c d s s' x (k + 1) (nat_lt (k + 1) (length (list_of (instr_in t.target x.entry)))) plan g f f' ne b w
+stable_onward : (t : Plan) (c d : ℕ) (s s' : Shared) (x : Caller) (go : AfterRetire) → t.home 0 ≡ 0 → MayChange t c s s' → SharedHolds t s → SharedHolds t s' → d ≢ c → Base t s d x → GoesOn t s d x go → GoesOn t s' d x go
+stable_onward t c d s s' x onward.Next null_home g f f' ne b w = stable_running t c d s s' x (record { at = x.entry.hand.at + 1; registers = x.entry.hand.registers }) null_home g f f' ne b w
+stable_onward t c d s s' x (onward.List k) null_home g f f' ne b w = stable_behind t c d s s' x (k + 1) (nat_lt (k + 1) (length (list_of (instr_in t.target x.entry)))) null_home g f f' ne b w
 
 stable_beginning : (t : Plan) (c d : ℕ) (s s' : Shared) (x : Caller) (why : MethodStart) → MayChange t c s s' → d ≢ c → BeginsAt t s d x why → BeginsAt t s' d x why
 stable_beginning t c d s s' x starts.Begin g ne w = w
 stable_beginning t c d s s' x starts.WrapUp g ne w = (w.0, stable_begins t c d s s' x w.0 g ne w.1, w.2, w.3)
 stable_beginning t c d s s' x starts.Again g ne w = (w.0, stable_begins t c d s s' x w.0 g ne w.1, w.2, w.3)
 
-stable_then : (t : Plan) (c d : ℕ) (s s' : Shared) (x : Caller) (next : AfterClear) → IsPlan t → MayChange t c s s' → SharedHolds t s → SharedHolds t s' → d ≢ c → Base t s d x → ClearsAt t s d x next → ClearsAt t s' d x next
-stable_then t c d s s' x clears.New plan g f f' ne b w = stable_new t c d s s' x (spot_of x.entry.hand) plan g f f' ne b w
-stable_then t c d s s' x clears.WrapUp plan g f f' ne b w = (w.0, stable_begins t c d s s' x w.0 g ne w.1, w.2)
-stable_then t c d s s' x (clears.Reply reply) plan g f f' ne b w = w
-stable_then t c d s s' x clears.Again plan g f f' ne b w = (w.0, stable_begins t c d s s' x w.0 g ne w.1, w.2)
+stable_then : (t : Plan) (c d : ℕ) (s s' : Shared) (x : Caller) (next : AfterClear) → t.home 0 ≡ 0 → MayChange t c s s' → SharedHolds t s → SharedHolds t s' → d ≢ c → Base t s d x → ClearsAt t s d x next → ClearsAt t s' d x next
+stable_then t c d s s' x clears.New null_home g f f' ne b w = stable_new t c d s s' x (spot_of x.entry.hand) null_home g f f' ne b w
+stable_then t c d s s' x clears.WrapUp null_home g f f' ne b w = (w.0, stable_begins t c d s s' x w.0 g ne w.1, w.2)
+stable_then t c d s s' x (clears.Reply reply) null_home g f f' ne b w = w
+stable_then t c d s s' x clears.Again null_home g f f' ne b w = (w.0, stable_begins t c d s s' x w.0 g ne w.1, w.2)
 
 stable_zeroed : (t : Plan) (c d k : ℕ) (s s' : Shared) (j field : ℕ) → MayChange t c s s' → d ≢ c → s.owner j ≡ Held d k → Zeroed s j field → Zeroed s' j field
 stable_zeroed t c d k s s' j field g ne own z = let h = g.held j d k ne own in ((λ some. h.1 ∙ z.0 some), (λ i lt. h.2 i ∙ z.1 i lt))
 
-pub stable_spot : (t : Plan) (c d : ℕ) (s s' : Shared) (x : Caller) (r : Routine) → IsPlan t → MayChange t c s s' → SharedHolds t s → SharedHolds t s' → d ≢ c → Base t s d x → HoldsAt t s d x r → HoldsAt t s' d x r
-stable_spot t c d s s' x Idle plan g f f' ne b w = w
-stable_spot t c d s s' x (LoadSeen why) plan g f f' ne b w = stable_beginning t c d s s' x why g ne w
-stable_spot t c d s s' x At plan g f f' ne b w = stable_running t c d s s' x (spot_of x.entry.hand) plan g f f' ne b w
-stable_spot t c d s s' x (InList k) plan g f f' ne b w = stable_behind t c d s s' x k true plan g f f' ne b w
-stable_spot t c d s s' x (Retires retirement go) plan g f f' ne b w =
-    ((w.0.0, stable_retires t c d s s' retirement.slot w.0.0 (tag_at retirement.stage) g ne w.0.1), stable_onward t c d s s' x go plan g f f' ne b w.1)
-stable_spot t c d s s' x Restarts plan g f f' ne b w = (w.0, stable_begins t c d s s' x w.0 g ne w.1, w.2)
-stable_spot t c d s s' x (Clears next) plan g f f' ne b w = stable_then t c d s s' x next plan g f f' ne b w
-stable_spot t c d s s' x (Claims claim) plan g f f' ne b w =
-    (stable_claim t c s s' claim.sweep claim.stage g f' w.0, stable_new t c d s s' x (spot_of x.entry.hand) plan g f f' ne b w.1, w.2)
-stable_spot t c d s s' x (Zeroes k field) plan g f f' ne b w =
-    (w.0, stable_zeroed t c d k s s' (cradle_of x.entry k) field g ne (b.cradle k w.0) w.1, stable_new t c d s s' x (spot_of x.entry.hand) plan g f f' ne b w.2, w.3)
+pub stable_spot : (t : Plan) (c d : ℕ) (s s' : Shared) (x : Caller) (r : Routine) → t.home 0 ≡ 0 → MayChange t c s s' → SharedHolds t s → SharedHolds t s' → d ≢ c → Base t s d x → HoldsAt t s d x r → HoldsAt t s' d x r
+stable_spot t c d s s' x Idle null_home g f f' ne b w = w
+stable_spot t c d s s' x (LoadSeen why) null_home g f f' ne b w = stable_beginning t c d s s' x why g ne w
+stable_spot t c d s s' x At null_home g f f' ne b w = stable_running t c d s s' x (spot_of x.entry.hand) null_home g f f' ne b w
+stable_spot t c d s s' x (InList k) null_home g f f' ne b w = stable_behind t c d s s' x k true null_home g f f' ne b w
+stable_spot t c d s s' x (Retires retirement go) null_home g f f' ne b w =
+    ((w.0.0, stable_retires t c d s s' retirement.slot w.0.0 (tag_at retirement.stage) g ne w.0.1), stable_onward t c d s s' x go null_home g f f' ne b w.1)
+stable_spot t c d s s' x Restarts null_home g f f' ne b w = (w.0, stable_begins t c d s s' x w.0 g ne w.1, w.2)
+stable_spot t c d s s' x (Clears next) null_home g f f' ne b w = stable_then t c d s s' x next null_home g f f' ne b w
+stable_spot t c d s s' x (Claims claim) null_home g f f' ne b w =
+    (stable_claim t c s s' claim.sweep claim.stage g f' w.0, stable_new t c d s s' x (spot_of x.entry.hand) null_home g f f' ne b w.1, w.2)
+stable_spot t c d s s' x (Zeroes k field) null_home g f f' ne b w =
+    (w.0, stable_zeroed t c d k s s' (cradle_of x.entry k) field g ne (b.cradle k w.0) w.1, stable_new t c d s s' x (spot_of x.entry.hand) null_home g f f' ne b w.2, w.3)
 
 -- all that is known of another caller stays
-pub stable : (t : Plan) (c d : ℕ) (s s' : Shared) (x : Caller) → IsPlan t → MayChange t c s s' → SharedHolds t s → SharedHolds t s' → d ≢ c → CallerHolds t s d x → CallerHolds t s' d x
-stable t c d s s' x plan g f f' ne w = record { base = stable_base t c d s s' x g f ne w.base; spot = stable_spot t c d s s' x x.entry.routine plan g f f' ne w.base w.spot }
+pub stable : (t : Plan) (c d : ℕ) (s s' : Shared) (x : Caller) → t.home 0 ≡ 0 → MayChange t c s s' → SharedHolds t s → SharedHolds t s' → d ≢ c → CallerHolds t s d x → CallerHolds t s' d x
+stable t c d s s' x null_home g f f' ne w = record { base = stable_base t c d s s' x g f ne w.base; spot = stable_spot t c d s s' x x.entry.routine null_home g f f' ne w.base w.spot }

@@ -34,7 +34,7 @@ use Rattle.caller_steps.specs.declared.entry.Hand.{Hand}
 use Rattle.caller_parts.specs.declared.routine.Routine.{Routine}
 use Rattle.caller_parts.specs.declared.routine.Routine.TheVariants.{Idle, LoadSeen, At, InList, Retires, Restarts, Clears, Claims, Zeroes}
 use Rattle.caller_steps.specs.Entries.{Entry, cradle_of, instr_in}
-use Rattle.caller_parts.specs.Operands.{list_of, is_new_at, news_before}
+use Rattle.caller_parts.specs.Operands.{list_of, is_new_at, cradle_number}
 use Rattle.run_ahead.specs.Agreeing.{node_in}
 use Rattle.target_laws.specs.Methods.{code_in}
 use Rattle.target_laws.specs.Trusted.{trust_along, Trusted}
@@ -102,9 +102,9 @@ spared t walk r = walk.method.wrapup && keeps walk.method.op (Ref r)
 abbrev pub guard_state : (t : Plan) → Walk t.target t.text → List ℕ → ℕ → GuardState
 guard_state t walk path r = state_along (guard_after (Ref r)) Free (code_in walk.method) path
 
--- the `new` with this number was passed
+-- the `new` with this cradle was passed
 abbrev pub HasMade : List TargetInstr → List ℕ → ℕ → Type 0
-HasMade code path k = (at : ℕ) × (has at path ≡ true) × (is_new_at (slice_get code at) ≡ true) × (news_before code at ≡ k)
+HasMade code path k = (at : ℕ) × (has at path ≡ true) × (is_new_at (slice_get code at) ≡ true) × (cradle_number code at ≡ k)
 
 -- a wrap-up's kept registers are under their validated guards, or null
 abbrev pub KeepsGuards : (t : Plan) → Caller → Walk t.target t.text → Type 0

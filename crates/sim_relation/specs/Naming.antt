@@ -1,5 +1,6 @@
 -- Which name each slot has, 0 for none, as the callers' steps go on.
 use Rattle.std.specs.Prelude.{ℕ, zero, suc, ◌+◌, ◌==◌, Bool, true, false, nat_lt, if◌then◌else◌}
+use Rattle.target_code.specs.declared.target.Target.{Target}
 use Rattle.oa_words.specs.declared.packed.Kind.TheVariants as kinds
 use Rattle.oa_words.specs.Words.{Sizes, Word, Status}
 use Rattle.oa_words.specs.Packed.{status_word}
@@ -10,7 +11,7 @@ use Rattle.phase_pools.specs.declared.stages.ClaimStage.TheVariants as claims
 use Rattle.source_machine.specs.MethodRuns.{put}
 use Rattle.caller_parts.specs.declared.routine.Routine.{Routine}
 use Rattle.caller_parts.specs.declared.routine.Routine.TheVariants.{Idle, LoadSeen, At, InList, Retires, Restarts, Clears, Claims, Zeroes}
-use Rattle.caller_steps.specs.Entries.{Entry, cradle_of}
+use Rattle.caller_steps.specs.Entries.{Entry, instr_in, zero_count, cradle_of}
 
 -- the exchange of a sweep that makes a slot ready takes the slot's name away, where it finds the word that it expects
 abbrev pub freed_at : SweepStage → (Word → ℕ) → (ℕ → ℕ) → ℕ → ℕ
@@ -42,13 +43,13 @@ named_at true slot drawn present = present
 named_at false slot drawn present = put present slot drawn
 
 -- after the access that an entry makes at a routine, where `drawn` is the least name above all used ones
-abbrev pub present_at : Sizes → (Word → ℕ) → ℕ → Entry → Routine → (ℕ → ℕ) → ℕ → ℕ
-present_at sizes memory drawn e Idle present = present
-present_at sizes memory drawn e (LoadSeen why) present = present
-present_at sizes memory drawn e At present = present
-present_at sizes memory drawn e (InList k) present = present
-present_at sizes memory drawn e (Retires retirement go) present = present
-present_at sizes memory drawn e Restarts present = present
-present_at sizes memory drawn e (Clears next) present = present
-present_at sizes memory drawn e (Claims claim) present = freed_in claim.stage claim.sweep.stage memory present
-present_at sizes memory drawn e (Zeroes k field) present = named_at (nat_lt (field + 1) sizes.fields) (cradle_of e k) drawn (emptied_at field (cradle_of e k) present)
+abbrev pub present_at : Target → Sizes → (Word → ℕ) → ℕ → Entry → Routine → (ℕ → ℕ) → ℕ → ℕ
+present_at target sizes memory drawn e Idle present = present
+present_at target sizes memory drawn e (LoadSeen why) present = present
+present_at target sizes memory drawn e At present = present
+present_at target sizes memory drawn e (InList k) present = present
+present_at target sizes memory drawn e (Retires retirement go) present = present
+present_at target sizes memory drawn e Restarts present = present
+present_at target sizes memory drawn e (Clears next) present = present
+present_at target sizes memory drawn e (Claims claim) present = freed_in claim.stage claim.sweep.stage memory present
+present_at target sizes memory drawn e (Zeroes k field) present = named_at (nat_lt (field + 1) (zero_count target sizes (instr_in target e))) (cradle_of e k) drawn (emptied_at field (cradle_of e k) present)

@@ -225,7 +225,7 @@ pub record StepsKeep (t : Plan) (test : Entry → Bool) : Type 0 where
       → is_call t.target x.entry.running.call ≡ true → StaysProper t.text c (point s x) → wants t.target x.entry ≡ Some a → in_row t.setting.sizes (word_of a) ≡ true
       → ((w : Word) → in_row t.setting.sizes w ≡ false → s.memory w ≡ 0)
       → DrawsHome t.home (after_moves t.target t.setting x.entry (s.memory (word_of a))).signs s.unused
-      → Stepped t c s x (NamesAfter t s c x x.entry.routine) (set_after_access t.target t.setting.sizes x.entry x.entry.routine (s.memory (word_of a)) x.was_set) (after_access s.memory a) (after_moves t.target t.setting x.entry (s.memory (word_of a))) (present_at t.setting.sizes s.memory s.unused x.entry x.entry.routine s.present)
+      → Stepped t c s x (NamesAfter t s c x x.entry.routine) (set_after_access t.target t.setting.sizes x.entry x.entry.routine (s.memory (word_of a)) x.was_set) (after_access s.memory a) (after_moves t.target t.setting x.entry (s.memory (word_of a))) (present_at t.target t.setting.sizes s.memory s.unused x.entry x.entry.routine s.present)
 
 -- every step of each caller is kept
 abbrev pub StepKeeps : Plan → Type 0

@@ -19,7 +19,7 @@ use Rattle.caller_parts.specs.declared.routine.AfterRetire.{AfterRetire}
 use Rattle.caller_parts.specs.declared.routine.AfterRetire.TheVariants as onward
 use Rattle.caller_parts.specs.declared.routine.Routine.{Routine}
 use Rattle.caller_parts.specs.declared.routine.Routine.TheVariants.{Idle, LoadSeen, At, InList, Retires, Restarts, Clears, Claims, Zeroes}
-use Rattle.caller_steps.specs.Entries.{Entry, code_in, cradle_of, instr_in}
+use Rattle.caller_steps.specs.Entries.{Entry, code_in, cradle_of, instr_in, zero_count}
 use Rattle.caller_parts.specs.Operands.{code_at, with_word, succeeds, to_retire, with_new}
 use Rattle.caller_steps.specs.Clearing.{restart_next, unguarded}
 use Rattle.caller_steps.specs.After.{first_spot, is_wrap_up, with_hand}
@@ -113,4 +113,4 @@ set_after_access target sizes e (Retires retirement go) word were = set_retired 
 set_after_access target sizes e Restarts word were = set_cleared target (with_hand e (unguarded (restart_next target e) e.hand)) were
 set_after_access target sizes e (Clears next) word were = were
 set_after_access target sizes e (Claims claim) word were = were
-set_after_access target sizes e (Zeroes k field) word were = set_zeroed target e were k (nat_lt (field + 1) sizes.fields)
+set_after_access target sizes e (Zeroes k field) word were = set_zeroed target e were k (nat_lt (field + 1) (zero_count target sizes (instr_in target e)))

@@ -32,10 +32,10 @@ use Rattle.sim_relation.specs.WasSet.{set_begun}
 use Rattle.sim_relation.proofs.Words.{store_idle}
 use Rattle.sim_relation.proofs.Moving.{goes_same}
 use Rattle.sim_relation.proofs.Playing.{plays_first}
-use Rattle.sim_walks.proofs.Accessing.{accessed_in_method}
-use Rattle.sim_walks.proofs.Beginning.{restarting, begun_spot, begins_running}
-use Rattle.sim_walks.proofs.Stopping.{settles_ends}
-use Rattle.sim_walks.proofs.Restarting.{rerun, base_rerun}
+use Rattle.sim_steps.proofs.Walks.Accessing.{accessed_in_method}
+use Rattle.sim_steps.proofs.Walks.Beginning.{restarting, begun_spot, begins_running}
+use Rattle.sim_steps.proofs.Walks.Stopping.{settles_ends}
+use Rattle.sim_steps.proofs.Walks.Restarting.{rerun, base_rerun}
 
 -- the operation of a call, in the target and in the text
 record Called (t : Plan) (x : Caller) : Type 0 where

@@ -9,7 +9,7 @@ use Rattle.norm_lang.specs.declared.text.Instr.{Instr}
 use Rattle.norm_lang.specs.declared.text.Instr.TheVariants as instr
 use Rattle.target_code.specs.declared.target.TargetInstr.{TargetInstr}
 use Rattle.target_code.specs.declared.target.TargetInstr.TheVariants.{Plain, Check, Guard}
-use Rattle.target_code.specs.TargetLimits.{target_news_in, is_guarded_register}
+use Rattle.target_code.specs.TargetLimits.{is_guarded_register}
 use Rattle.oa_words.specs.Words.{Word, Warning, Hazard, in_row}
 use Rattle.phase_pools.specs.declared.stages.RetireStage.{RetireStage}
 use Rattle.phase_pools.specs.declared.stages.RetireStage.TheVariants as retires
@@ -25,7 +25,7 @@ use Rattle.caller_parts.specs.declared.routine.AfterRetire.TheVariants as onward
 use Rattle.caller_parts.specs.declared.routine.Routine.{Routine}
 use Rattle.caller_parts.specs.declared.routine.Routine.TheVariants.{Idle, LoadSeen, At, InList, Retires, Restarts, Clears, Claims, Zeroes}
 use Rattle.caller_steps.specs.Entries.{code_in, instr_in, new_number}
-use Rattle.caller_parts.specs.Operands.{is_new_at, list_of, news_before}
+use Rattle.caller_parts.specs.Operands.{is_new_at, list_of}
 use Rattle.caller_steps.specs.Clearing.{restart_next, clear_next}
 use Rattle.caller_steps.specs.Wants.{wants, wanted, instr_wanted, plain_wanted, list_wanted, clear_wanted}
 use Rattle.caller_steps.specs.After.{accepted, counted, instr_accepted, is_wrap_up, list_accepted}
@@ -35,7 +35,7 @@ use Rattle.caller_parts.specs.Calls.{is_call}
 use Rattle.caller_steps.specs.Belongs.{Belongs}
 use Rattle.caller_steps.specs.Belongs.{Stands as CoreStands}
 use Rattle.caller_laws.proofs.Methods.{methods_of}
-use Rattle.caller_laws.proofs.Going.{new_below}
+use Rattle.caller_laws.proofs.Cradles.{cradle_number_small}
 use Rattle.caller_laws.proofs.Safety.{list_there}
 use Rattle.target_laws.specs.Methods.{code_in as method_code}
 use Rattle.sim_relation.specs.Views.{Plan, IsPlan, Shared, Caller}
@@ -46,18 +46,18 @@ use Rattle.sim_relation.specs.Naming.{present_at}
 use Rattle.sim_relation.specs.WasSet.{set_after_access, set_at, set_begun, set_plain}
 use Rattle.sim_relation.specs.Steps.{KeptWith, KeptBy, KeptSetting, Stepped, StepsKeep, StepKeeps, TakesReady, NamesAt, NamesCleared, NamesAfter, checked_names, with_names, after_access}
 use Rattle.sim_relation.proofs.Codes.{instr_is, new_there}
-use Rattle.sim_walks.proofs.Quieting.{sane_here}
-use Rattle.sim_walks.proofs.Restarting.{seen_kept, begins_restart}
-use Rattle.sim_pools.proofs.Claiming.{claims_keep}
-use Rattle.sim_guards.proofs.Quiet.{check_kept, guard_kept}
-use Rattle.sim_guards.proofs.Publishing.{guard_name, guard_named}
-use Rattle.sim_guards.proofs.Unguarding.{restart_clears, then_clears}
-use Rattle.sim_guards.proofs.Retiring.{retire_loads, retire_stores_in_list, retire_stores_next}
-use Rattle.sim_accesses.proofs.Newing.{new_clears}
-use Rattle.sim_accesses.proofs.Stepping.{proper_here, PlainKept}
-use Rattle.sim_accesses.proofs.Succeeding.{plain_step}
-use Rattle.sim_accesses.proofs.Entries.{entry_step}
-use Rattle.sim_accesses.proofs.Zeroed.{zero_step}
+use Rattle.sim_steps.proofs.Walks.Quieting.{sane_here}
+use Rattle.sim_steps.proofs.Walks.Restarting.{seen_kept, begins_restart}
+use Rattle.sim_steps.proofs.Pools.Claiming.{claims_keep}
+use Rattle.sim_steps.proofs.Guards.Quiet.{check_kept, guard_kept}
+use Rattle.sim_steps.proofs.Guards.Publishing.{guard_name, guard_named}
+use Rattle.sim_steps.proofs.Guards.Unguarding.{restart_clears, then_clears}
+use Rattle.sim_steps.proofs.Guards.Retiring.{retire_loads, retire_stores_in_list, retire_stores_next}
+use Rattle.sim_steps.proofs.Accesses.Newing.{new_clears}
+use Rattle.sim_steps.proofs.Accesses.Stepping.{proper_here, PlainKept}
+use Rattle.sim_steps.proofs.Accesses.Succeeding.{plain_step}
+use Rattle.sim_steps.proofs.Accesses.Entries.{entry_step}
+use Rattle.sim_steps.proofs.Accesses.Zeroed.{zero_step}
 use Rattle.sim_steps.specs.Quiet.{is_quiet_instr, is_quiet_at, is_quiet}
 use Rattle.sim_steps.proofs.Calling.{begin_kept}
 
@@ -101,13 +101,13 @@ abbrev pub sets_at : Plan → Caller → Routine → ℕ → ℕ → Bool
 sets_at t x r word = set_after_access t.target t.setting.sizes x.entry r word x.was_set
 
 abbrev pub KeptAt : (t : Plan) → ℕ → Shared → Caller → Routine → Type 0
-KeptAt t c s x r = KeptNamingAs t c s x (wanted t.target x.entry r) (sets_at t x r) (λ word. accepted t.target t.setting word (counted x.entry) r) (present_at t.setting.sizes s.memory s.unused x.entry r s.present)
+KeptAt t c s x r = KeptNamingAs t c s x (wanted t.target x.entry r) (sets_at t x r) (λ word. accepted t.target t.setting word (counted x.entry) r) (present_at t.target t.setting.sizes s.memory s.unused x.entry r s.present)
 
 abbrev pub SteppedAt : (t : Plan) → ℕ → Shared → Caller → Routine → Type 0
-SteppedAt t c s x r = SteppedAs t c s x (NamesAfter t s c x r) (wanted t.target x.entry r) (sets_at t x r) (λ word. accepted t.target t.setting word (counted x.entry) r) (present_at t.setting.sizes s.memory s.unused x.entry r s.present)
+SteppedAt t c s x r = SteppedAs t c s x (NamesAfter t s c x r) (wanted t.target x.entry r) (sets_at t x r) (λ word. accepted t.target t.setting word (counted x.entry) r) (present_at t.target t.setting.sizes s.memory s.unused x.entry r s.present)
 
 at_routine : (t : Plan) (c : ℕ) (s : Shared) (x : Caller) (r : Routine) → NamesAfter t s c x r x.names → KeptAt t c s x r → SteppedAt t c s x r
-at_routine t c s x r same kept = same_row t c s x (NamesAfter t s c x r) (wanted t.target x.entry r) (sets_at t x r) (λ word. accepted t.target t.setting word (counted x.entry) r) (present_at t.setting.sizes s.memory s.unused x.entry r s.present) same kept
+at_routine t c s x r same kept = same_row t c s x (NamesAfter t s c x r) (wanted t.target x.entry r) (sets_at t x r) (λ word. accepted t.target t.setting word (counted x.entry) r) (present_at t.target t.setting.sizes s.memory s.unused x.entry r s.present) same kept
 
 -- the accesses of the text: of an instruction of a method, and the exchanges of a list
 abbrev pub PlainKeeps : (t : Plan) → ℕ → Shared → Caller → Type 0
@@ -162,7 +162,7 @@ module _ (t : Plan) (c : ℕ) (s : Shared) (x : Caller) (w : Stepping t c s x) w
     guards r there (k, same) = subst (λ (r : Reg). Steps (Some (Guard r)) c) (sym same)
         (λ row draws. record {
           row = with_names x.names k (guard_name t walk.0 k);
-          names = (k, guard_name t walk.0 k, refl, refl, λ place calm some. guard_named t s c x k walk.0 w.plan walk.1 place calm some);
+          names = (k, guard_name t walk.0 k, refl, refl, λ place calm some. guard_named t s c x k walk.0 w.plan.null walk.1 place calm some);
           kept = guard_kept t c s x k w.plan w.shared_holds w.caller_holds.base walk (here (Some (Guard (Ref k))) (there ∙ ap (λ (r : Reg). Some (Guard r)) same))
               (let slots = w.belongs.hand.guards.row.slots in let lt : nat_lt k 8 ≡ true = both_true (nat_lt c t.setting.sizes.callers) (nat_lt k 8) row in let less : k < 8 = grind (arith, nat_tests) in omega (arith, less, slots));
         })
@@ -237,12 +237,10 @@ module _ (t : Plan) (c : ℕ) (s : Shared) (x : Caller) (w : Stepping t c s x) w
   by_claim claim is =
       let spot = spot_at (Claims claim) is in
       let at_new = (stands_at (Claims claim) is).0 in
-      let there = new_there (instr_in t.target x.entry) at_new in
       let gen = spot.1.1.wrapup ∙ new_in_generator spot.1.0 spot.1.1 at_new in
       let few : new_number t.target x.entry < length x.entry.cradles =
-      (let below : news_before (code_in t.target x.entry) x.entry.hand.at < target_news_in (code_in t.target x.entry) = new_below (code_in t.target x.entry) x.entry.hand.at there.0 there.1 in
-      let most = ((methods_of t.target w.plan.sane).code x.entry.running.call.op x.entry.hand.wrapup).news in
-      let four = w.belongs.cradles.count in omega (arith, below, most, four)) in
+      (let small = cradle_number_small t.target x.entry.hand.wrapup (code_in t.target x.entry) x.entry.hand.at ((methods_of t.target w.plan.sane).code x.entry.running.call.op x.entry.hand.wrapup) at_new in
+      let count = w.belongs.cradles.count in omega (arith, small, count)) in
       λ row draws. claims_keep t c s x claim claim.stage refl w.plan w.shared_holds (record { base = w.caller_holds.base; running = spot.1; empty = spot.2; at_new = at_new; generator = gen }) few (subst (λ (r : Routine). TakesReady s.memory r) is w.ready) spot.0
 
   -- a store of 0 at a `new`
@@ -273,7 +271,7 @@ unfolding wants
 quiet_steps t plan = record {
   step = λ c s x a quiet below f told ready belongs called proper want row beyond draws.
       (let w : Stepping t c s x = record { plan = plan; below = below; shared_holds = f; caller_holds = told; ready = ready; belongs = belongs; called = called; proper = proper; beyond = beyond } in
-      subst (λ (o : Option WordAccess). SteppedAs t c s x (NamesAfter t s c x x.entry.routine) o (sets_at t x x.entry.routine) (λ word. after_moves t.target t.setting x.entry word) (present_at t.setting.sizes s.memory s.unused x.entry x.entry.routine s.present)) want
+      subst (λ (o : Option WordAccess). SteppedAs t c s x (NamesAfter t s c x x.entry.routine) o (sets_at t x x.entry.routine) (λ word. after_moves t.target t.setting x.entry word) (present_at t.target t.setting.sizes s.memory s.unused x.entry x.entry.routine s.present)) want
       (by_routine t c s x w (no_plain t c s x w quiet) (no_entry t c s x w quiet) x.entry.routine refl) row draws);
 }
 
@@ -295,6 +293,6 @@ unfolding wants
 steps_keep t plan = record {
   step = λ c s x a all below f told ready belongs called proper want row beyond draws.
       (let w : Stepping t c s x = record { plan = plan; below = below; shared_holds = f; caller_holds = told; ready = ready; belongs = belongs; called = called; proper = proper; beyond = beyond } in
-      subst (λ (o : Option WordAccess). SteppedAs t c s x (NamesAfter t s c x x.entry.routine) o (sets_at t x x.entry.routine) (λ word. after_moves t.target t.setting x.entry word) (present_at t.setting.sizes s.memory s.unused x.entry x.entry.routine s.present)) want
+      subst (λ (o : Option WordAccess). SteppedAs t c s x (NamesAfter t s c x x.entry.routine) o (sets_at t x x.entry.routine) (λ word. after_moves t.target t.setting x.entry word) (present_at t.target t.setting.sizes s.memory s.unused x.entry x.entry.routine s.present)) want
       (by_routine t c s x w (plain_keeps t c s x w) (entry_keeps t c s x w) x.entry.routine refl) row draws);
 }

@@ -21,7 +21,7 @@ use Rattle.caller_parts.specs.declared.routine.AfterRetire.TheVariants as onward
 use Rattle.caller_parts.specs.declared.routine.Routine.{Routine}
 use Rattle.caller_parts.specs.declared.routine.Routine.TheVariants.{Idle, LoadSeen, At, InList, Retires, Restarts, Clears, Claims, Zeroes}
 use Rattle.caller_parts.specs.Settings.{Setting}
-use Rattle.caller_steps.specs.Entries.{Entry, code_in, instr_in, cradle_of}
+use Rattle.caller_steps.specs.Entries.{Entry, code_in, instr_in, cradle_of, zero_count}
 use Rattle.caller_parts.specs.Operands.{register_number, slot_in}
 use Rattle.caller_steps.specs.Clearing.{restart_next, unguarded}
 use Rattle.caller_steps.specs.After.{stops, plain_stop, settles, restart_on, check_passed, check_failed, onward_goes, retired_on, claim_counted, claim_on, instr_accepted, accepted, counted, node_made, with_routine, with_hand, hand_at, goes_on, method_begun, first_spot, with_restart}
@@ -111,7 +111,7 @@ at_routine target setting word e Restarts is =
     let cleared : Entry = with_hand (counted e) (unguarded (restart_next target e) e.hand) in restart_draws target setting.sizes (restart_next target cleared) cleared
 at_routine target setting word e (Clears next) is = refl
 at_routine target setting word e (Claims claim) is = claim_draws target setting.sizes (claim_accepts setting.sizes setting.last claim word).claim (claim_accepts setting.sizes setting.last claim word).ended (claim_counted (claim_takes claim word) (counted e))
-at_routine target setting word e (Zeroes k field) is = zero_draws target setting.sizes (nat_lt (field + 1) setting.sizes.fields) k field (counted e) is
+at_routine target setting word e (Zeroes k field) is = zero_draws target setting.sizes (nat_lt (field + 1) (zero_count target setting.sizes (instr_in target e))) k field (counted e) is
 
 pub quiet_draws_none : (target : Target) (setting : Setting) (e : Entry) (word : ℕ) → is_quiet target setting e ≡ true → DrawsNone (after_moves target setting e word).signs
 quiet_draws_none target setting e word is = at_routine target setting word e e.routine is

@@ -1,3 +1,8 @@
+pub mod Walks
+pub mod Pools
+pub mod Guards
+pub mod Exchanges
+pub mod Accesses
 pub mod Calling
 pub mod Dispatching
 pub mod Drawing

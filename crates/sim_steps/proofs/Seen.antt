@@ -29,13 +29,13 @@ use Rattle.caller_steps.specs.declared.entry.Hand.{Hand}
 use Rattle.caller_parts.specs.declared.routine.Routine.{Routine}
 use Rattle.caller_parts.specs.declared.routine.Routine.TheVariants.{Idle, LoadSeen, At, InList, Retires, Restarts, Clears, Claims, Zeroes}
 use Rattle.caller_parts.specs.Settings.{Setting}
-use Rattle.caller_steps.specs.Entries.{Entry, code_in, instr_in, new_number, cradle_of}
+use Rattle.caller_steps.specs.Entries.{Entry, code_in, instr_in, new_number, zero_count, cradle_of}
 use Rattle.caller_parts.specs.Operands.{with_word, slot_in, register_number, list_of, succeeds, to_retire, with_new}
 use Rattle.caller_steps.specs.Clearing.{restart_next, clear_next, unguarded}
 use Rattle.caller_steps.specs.Signs.{quiet}
 use Rattle.caller_steps.specs.Wants.{wants, instr_wanted}
 use Rattle.caller_steps.specs.After.{after, check_failed, check_passed, is_wrap_up, with_restart, with_routine, with_hand, hand_at, new_on, then_goes, clear_on, cleared, wrap_up_hand, list_ended, list_begun, plain_stop, stops, stopped, settles, goes_on, first_spot, method_begun, restart_on, restarted, with_access, list_on, onward_goes, retires_then, cas_failed, cas_ended, plain_accepted, instr_accepted, with_published, entry_ended, list_accepted, retired_on, claim_counted, claim_on, node_made, zeroed, accepted, counted}
-use Rattle.sim_pools.proofs.Core.{wants_is}
+use Rattle.sim_steps.proofs.Pools.Core.{wants_is}
 use Rattle.sim_steps.specs.Renewing.{fails_at, renews, renews_at}
 
 abbrev pub Keeps : Entry → Entry → Type 0
@@ -203,7 +203,7 @@ module _ (target : Target) (sizes : Sizes) where
   claim_seen claim (Some (ends.PhasesOver p)) e = refl
 
   zeroed_seen : (k field : ℕ) (e : Entry) → Keeps e (zeroed target sizes k field e).entry
-  zeroed_seen k field e = of (nat_lt (field + 1) sizes.fields) where
+  zeroed_seen k field e = of (nat_lt (field + 1) (zero_count target sizes (instr_in target e))) where
     of : (b : Bool) → Keeps e (if b then quiet (with_routine e (Zeroes k (field + 1))) else node_made target sizes (cradle_of e k) e).entry
     of true = refl
     of false = on_seen (with_new (instr_in target e) (cradle_of e k) e.hand.registers) e

@@ -7,19 +7,19 @@ use Rattle.caller_steps.specs.Signs.{Moved}
 use Rattle.source_machine.specs.MethodRuns.{put}
 use Rattle.source_machine.specs.Proper.{has}
 use Rattle.source_machine.proofs.Places.{each_put}
-use Rattle.sim_relation.specs.Views.{Plan, IsPlan, Shared}
+use Rattle.sim_relation.specs.Views.{Plan, Shared}
 use Rattle.sim_relation.specs.Shared.{SharedHolds}
 use Rattle.sim_relation.specs.Callers.{CallerHolds}
 use Rattle.sim_relation.specs.Steps.{KeptWith}
 use Rattle.run_ahead.specs.Guards.{GuardRow}
 use Rattle.sim_relation.specs.Worlds.{World, Holds}
 use Rattle.sim_relation.proofs.Stable.{stable}
-use Rattle.sim_pools.proofs.Slots.{in_pool}
+use Rattle.sim_steps.proofs.Pools.Slots.{in_pool}
 
-pub holds_on : (t : Plan) (w : World) (c : ℕ) (row : GuardRow) (were : ℕ → Bool) (memory' : Word → ℕ) (m : Moved) (present' : ℕ → ℕ) → IsPlan t → Holds t w → (k : KeptWith t c w.shared (w.who c) row were memory' m present') → Holds t (record { shared = k.s'; who = put w.who c k.x' })
-holds_on t w c row were memory' m present' plan h k = record {
+pub holds_on : (t : Plan) (w : World) (c : ℕ) (row : GuardRow) (were : ℕ → Bool) (memory' : Word → ℕ) (m : Moved) (present' : ℕ → ℕ) → t.home 0 ≡ 0 → Holds t w → (k : KeptWith t c w.shared (w.who c) row were memory' m present') → Holds t (record { shared = k.s'; who = put w.who c k.x' })
+holds_on t w c row were memory' m present' null_home h k = record {
   shared_holds = k.shared_holds;
-  caller_holds = each_put (λ d x. d < t.setting.sizes.callers → CallerHolds t k.s' d x) w.who c k.x' (λ lt. k.caller_holds) (λ d ne lt. stable t c d w.shared k.s' (w.who d) plan k.goes h.shared_holds k.shared_holds ne (h.caller_holds d lt));
+  caller_holds = each_put (λ d x. d < t.setting.sizes.callers → CallerHolds t k.s' d x) w.who c k.x' (λ lt. k.caller_holds) (λ d ne lt. stable t c d w.shared k.s' (w.who d) null_home k.goes h.shared_holds k.shared_holds ne (h.caller_holds d lt));
 }
 
 -- no validated guard names a ready slot

@@ -7,7 +7,7 @@ use Rattle.target_code.specs.declared.target.Target.{Target}
 use Rattle.caller_parts.specs.declared.routine.Routine.{Routine}
 use Rattle.caller_parts.specs.declared.routine.Routine.TheVariants.{Idle, LoadSeen, At, InList, Retires, Restarts, Clears, Claims, Zeroes}
 use Rattle.caller_parts.specs.Settings.{Setting}
-use Rattle.caller_steps.specs.Entries.{Entry, instr_in}
+use Rattle.caller_steps.specs.Entries.{Entry, instr_in, zero_count}
 
 -- a check or a guard; every other access of an instruction is one of the text
 abbrev pub is_quiet_instr : Option TargetInstr → Bool
@@ -27,7 +27,7 @@ is_quiet_at target setting e (Retires retirement go) = true
 is_quiet_at target setting e Restarts = true
 is_quiet_at target setting e (Clears next) = true
 is_quiet_at target setting e (Claims claim) = true
-is_quiet_at target setting e (Zeroes k field) = nat_lt (field + 1) setting.sizes.fields
+is_quiet_at target setting e (Zeroes k field) = nat_lt (field + 1) (zero_count target setting.sizes (instr_in target e))
 
 -- the entry's next step
 abbrev pub is_quiet : Target → Setting → Entry → Bool

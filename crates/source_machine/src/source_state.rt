@@ -1,13 +1,12 @@
 //! The source machine's calls.
 
-ghost use Rattle.std.specs.Prelude.{◌≡◌, ◌<◌, ◌≤◌, length, OnOk, OnErr, IfOk};
+ghost use Rattle.std.specs.Prelude.{◌≡◌, ◌≤◌, length, OnOk, OnErr, IfOk};
 ghost use Rattle.source_machine.specs.State.{source_start};
-ghost use Rattle.source_machine.specs.Run.{source_replies};
 ghost use Rattle.source_machine.specs.Calls.{IsOfSourceRun, Steps, MakesEvents, RunsTo};
 
 use crate::callers::Callers;
 use crate::error::{RunError, StepError};
-use crate::event::{SourceEvent, SourceReply};
+use crate::event::SourceEvent;
 use crate::memory::first_memory;
 use crate::state::SourceMachine;
 use crate::steps::step_machine;
@@ -19,7 +18,7 @@ use std::marker::Model;
 /// callers. Contracts see it as that state. A step takes no longer than a search by name does.
 #[derive(Drop)]
 pub struct SourceState {
-    machine: SourceMachine,
+    pub(crate) machine: SourceMachine,
 }
 
 impl Model for SourceState {
@@ -49,17 +48,6 @@ impl SourceState {
             callers: Callers::idle(alloc, callers)?,
         };
         Ok(SourceState { machine })
-    }
-
-    /// The replies of a caller, by its number, in order.
-    pub fn replies(&self, caller: u32) -> &[SourceReply]
-        requires { caller < length self.now.callers }
-        ensures { result.now ≡ source_replies self.now caller }
-    {
-        match self.machine.callers.items().get(caller as usize) {
-            None => &[],
-            Some(caller) => caller.replies.items(),
-        }
     }
 }
 

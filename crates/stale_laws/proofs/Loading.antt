@@ -26,8 +26,8 @@ use Rattle.sim_relation.specs.Shared.{SharedHolds}
 use Rattle.sim_relation.specs.Callers.{CallerHolds, HoldsAt, Trail, Running, Calm, spot_of}
 use Rattle.sim_relation.specs.Points.{StaysProper, point}
 use Rattle.sim_relation.proofs.Codes.{instr_is}
-use Rattle.sim_accesses.proofs.Loads.{Reading, read_agrees, object_resident}
-use Rattle.sim_accesses.proofs.Stepping.{proper_here}
+use Rattle.sim_steps.proofs.Accesses.Loads.{Reading, read_agrees, object_resident}
+use Rattle.sim_steps.proofs.Accesses.Stepping.{proper_here}
 use Rattle.stale_laws.specs.Stale.{caller_name, LoadsFrom}
 
 -- the source's caller at a load has the registers with which it came there

@@ -7,6 +7,7 @@ use Rattle.table_rule.specs.Rule.{Holds}
 use Rattle.table_rule.specs.Closing.{Shut}
 use Rattle.table_rule.specs.Laws.{StepsKeepRule}
 use Rattle.table_rule.proofs.Accesses.{may_make}
+use Rattle.table_rule.proofs.Parting.{none_comes, none_split}
 use Rattle.table_rule.proofs.Others.{split_kept, join_kept, look_allowed, try_allowed, opens, closes}
 
 shuts : (key : Fixed) (id phase : ℕ) (v : SeatView) (words slots : List ℕ) → Final (Seen (Holds key) id v) words slots → phase ≡ slice_index words 0 → Shut key v phase
@@ -17,10 +18,12 @@ shuts key id phase v words slots f is =
 pub steps_keep_rule : (key : Fixed) → StepsKeepRule key
 steps_keep_rule key = record {
   accesses = λ slots id me e access good can. may_make key slots id me e access good can;
-  tries = λ slots id word me can is. try_allowed key slots id word me is can.bare can.fixed can.empty can.more;
-  splits = λ id v. split_kept key id v;
-  joins = λ id v other w. join_kept key id v other w;
-  looks = λ slots id me fixed. look_allowed key slots id me fixed;
+  tries = λ slots id word me can is. try_allowed key slots id word me is can.bare can.live can.fixed can.empty can.more;
+  splits = λ id v live. split_kept key id v live;
+  joins = λ id v other w live. join_kept key id v other w live;
+  looks = λ slots id me live fixed. look_allowed key slots id me live fixed;
   opens = λ words good is. opens key words good is;
+  comes = λ words w s h later. none_comes s.views w h.whole later.whole;
+  keeps = λ words id v left w s h at same later. none_split s.views id v left w h.whole at same later.whole;
   closes = λ id phase v words slots f is. shuts key id phase v words slots f is;
 }

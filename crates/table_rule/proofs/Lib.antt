@@ -1,6 +1,7 @@
 pub mod Rows
 pub mod Sums
 pub mod Counts
+pub mod Parting
 pub mod Moves
 pub mod Accesses
 pub mod Others

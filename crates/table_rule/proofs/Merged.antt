@@ -3,7 +3,7 @@ use Rattle.std.proofs.Common.{◌≡◌, ℕ, ◌+◌, ◌≤◌, List, [], ◌�
 use Rattle.atomic_table.specs.Table.{Me}
 use Rattle.caller_steps.specs.Entries.{Entry, RoomyEntry}
 use Rattle.table_rule.specs.Seen.{Fixed, SeatView}
-use Rattle.table_rule.specs.Plays.{joined, Apart, Looked}
+use Rattle.table_rule.specs.Plays.{with_accesses, joined, Apart, Looked}
 use Rattle.table_rule.specs.Seats.{cores, IsFew, Resting}
 use Rattle.table_rule.proofs.Counts.{apart_few}
 
@@ -18,7 +18,7 @@ length_cores (x ∷ xs) = omega (arith, length_cores xs)
 -- what is known once the seats are joined and the phase word was loaded
 pub rested : (me other mid end : Me ℕ SeatView) (xs ys : List RoomyEntry) (a b space : ℕ) → Resting me xs a → Resting other ys b → mid ≡ (joined me.0 other.0, me.1) → Looked mid end → a ≤ space → Resting end (xs ++ ys) space
 rested me other mid end xs ys a b space mine theirs join look le =
-    let is : end ≡ (joined me.0 other.0, me.1) = look.same ∙ join in
+    let is : end ≡ (with_accesses (joined me.0 other.0) 1, me.1) = look.same ∙ ap (λ (m : Me ℕ SeatView). let y : Me ℕ SeatView = (with_accesses m.0 1, m.1) in y) join in
     let fixed = ap (λ (m : Me ℕ SeatView). m.0.fixed) join in
     let entries : mid.0.entries ≡ cores (xs ++ ys) = ap (λ (m : Me ℕ SeatView). m.0.entries) join ∙ ((λ i. mine.entries i ++ theirs.entries i) ∙ sym (cores_append xs ys)) in
     record {

@@ -1,5 +1,5 @@
 -- A step of a caller keeps the rule.
-use Rattle.std.proofs.Common.{◌≡◌, ◌≢◌, ◌⊎◌, ℕ, zero, suc, ◌+◌, ◌<◌, true, false, List, [], ◌∷◌, length, set, get_or, Some, refl, sym, ap, ◌∙◌, subst, ⊎_elim, arith}
+use Rattle.std.proofs.Common.{◌≡◌, ◌≢◌, ℕ, zero, suc, ◌+◌, ◌<◌, true, false, List, [], ◌∷◌, set, Some, refl, sym, ap, ◌∙◌, subst, ⊎_elim, arith}
 use Rattle.std.specs.Prelude.{Option, slice_get, slice_index, slice_set}
 use Rattle.std.proofs.Math.ListN.{length-set}
 use Rattle.std.proofs.lemmas.List.{get_or-set_other}
@@ -19,7 +19,6 @@ use Rattle.core_sound.specs.Sound.{IsSound}
 use Rattle.core_sound.proofs.Reached.{states_are_sound}
 use Rattle.caller_laws.proofs.Together.{safe as asks_safe}
 use Rattle.core_runs.proofs.Turning.{after_number}
-use Rattle.oa_words.proofs.Places.{within}
 use Rattle.core_runs.proofs.Reaching.{reaches}
 use Rattle.table_rule.proofs.Rows.{taking, stepping}
 use Rattle.caller_laws.proofs.Stored.{after_store}
@@ -27,7 +26,8 @@ use Rattle.table_rule.proofs.Rows.{no_place, told_lawful}
 use Rattle.core_entries.proofs.Calling.{runnable}
 use Rattle.table_rule.specs.Seen.{Fixed, IsGround, SeatView}
 use Rattle.table_rule.specs.Rule.{IsReached, callers_of, IsPlace, times, held, AllHere, IsSeen, Shows, Holds}
-use Rattle.table_rule.specs.Plays.{wish, next, IsTold, Belonging, with_entry, Made, InHand, CanGo}
+use Rattle.table_rule.specs.Plays.{wish, next, IsTold, Belonging, with_accesses, with_entry, Made, InHand, CanGo}
+use Rattle.table_rule.proofs.Parting.{whole_set}
 use Rattle.table_rule.proofs.Sums.{total_set, total_at, total_two, times_self, times_number, here_set, same_set, slice_get_set_same, slice_get_set_other, set_set, set_again}
 
 -- where a word stands in the table
@@ -83,13 +83,13 @@ step_shows : (key : Fixed) (words : List ℕ) (views : List SeatView) (core : Co
     → Shows key words views core → IsSound key.target.target key.setting core → IsSafe key.target.target key.setting a → get_elem? views id ≡ some v → (v.live ≡ true → v.fixed ≡ key) → v.entries ≡ base ∷ [] → base.number ≡ c → slice_get core.entries c ≡ Some base → InHand key base e
     → (n : ℕ) → n ≡ slice_index words (place_of key a) → n ≡ found_by key.setting core a
     → (new : Entry) → new ≡ next key e (found_by key.setting core a)
-    → Shows key (slice_set words (place_of key a) (word_after a n)) (set views id (with_entry v new)) (next_core key core c e a)
+    → Shows key (slice_set words (place_of key a) (word_after a n)) (set views id (with_accesses (with_entry v new) 1)) (next_core key core c e a)
 step_shows key words views core id c v base e a h sound' asks at fixed alone num is hand n found found' new new_is =
     let there : ℕ = place_of key a in
     let made_of : Entry = next key e (found_by key.setting core a) in
     let all : List Entry = set core.entries c made_of in
     let all_is : set core.entries c new ≡ all = ap (λ (x : Entry). set core.entries c x) new_is in
-    let w = with_entry v new in
+    let w = with_accesses (with_entry v new) 1 in
     let number : new.number ≡ c = ap (λ (x : Entry). x.number) new_is ∙ (after_number key.target.target key.setting e (found_by key.setting core a) ∙ (hand_number key base e hand ∙ num)) in
     let one : times c v.entries ≡ 1 = ap (times c) alone ∙ times_self base c num in
     let in_range : c < callers_of key = subst (λ (k : ℕ). k < callers_of key) num (sound'.belong c base is).0.number in
@@ -134,7 +134,7 @@ told key me e a n can h = subst (λ (f : Fixed). IsTold f e n) (sym can.can.fixe
 -- the rule is kept where the seat's view gets what the entry in hand becomes
 goes : (key : Fixed) (slots id : ℕ) (me : Me ℕ SeatView) (e : Entry) (a : WordAccess) (s : State ℕ SeatView) → CanMake key me e a → (h : Holds key s) → get_elem? s.views id ≡ some me.0
     → (new : Entry) → new ≡ next key e (found_by key.setting h.core a)
-    → Holds key (record { words = slice_set s.words (place_of key a) (word_after a (slice_index s.words (place_of key a))); homes = s.homes; views = slice_set s.views id (with_entry me.0 new) })
+    → Holds key (record { words = slice_set s.words (place_of key a) (word_after a (slice_index s.words (place_of key a))); homes = s.homes; views = slice_set s.views id (with_accesses (with_entry me.0 new) 1) })
 goes key slots id me e a s can h at new new_is =
     let go = can.can in
     let good = sound key h.core h.good h.reachable in
@@ -145,6 +145,7 @@ goes key slots id me e a s can h at new new_is =
       core = next_core key h.core go.base.number e a;
       reachable = next_reachable key h.core go.base e go.base.number a h.reachable here.0 go.hand can.wanted;
       shows = step_shows key s.words s.views h.core id go.base.number me.0 go.base e a h.shows good asks at (λ _. go.fixed) go.alone refl here.0 go.hand (slice_index s.words (place_of key a)) refl (h.shows.same (place_of key a) (not_place key a asks)) new new_is;
+      whole = whole_set s.views id me.0 (with_accesses (with_entry me.0 new) 1) h.whole at refl go.live go.live;
     }
 
 pub step_allowed : (key : Fixed) (slots id : ℕ) (me : Me ℕ SeatView) (e : Entry) (a : WordAccess) → CanMake key me e a → Allows (Holds key) slots id me (place_of key a) (word_after a) (Made e me)
@@ -156,7 +157,7 @@ step_allowed key slots id me e a can s h len at bound =
     let word : n ≡ found_by key.setting h.core a = h.shows.same (place_of key a) (not_place key a asks) in
     let new = next me.0.fixed e n in
     let new_is : new ≡ next key e (found_by key.setting h.core a) = (λ i. next (go.fixed i) e (word i)) in
-    let w = with_entry me.0 new in (
+    let w = with_accesses (with_entry me.0 new) 1 in (
       w,
       keeps,
       tt,
@@ -174,7 +175,7 @@ store_allowed key slots id me e u x can s h len at bound =
     let a = Stores u x in
     let new = next me.0.fixed e 0 in
     let new_is : new ≡ next key e (found_by key.setting h.core a) = (λ j. next (go.fixed j) e 0) ∙ (after_store key.target.target key.setting e u x 0 (found_by key.setting h.core a) can.wanted).0 in
-    let w = with_entry me.0 new in (
+    let w = with_accesses (with_entry me.0 new) 1 in (
       w,
       keeps,
       tt,

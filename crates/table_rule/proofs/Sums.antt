@@ -4,7 +4,8 @@ use Rattle.std.specs.Prelude.{slice_get, slice_index, if◌then◌else◌}
 use mathlib.Core.Option.{some, some-injective, some-ne-none}
 use lib.ListN.{get_elem?}
 use Rattle.caller_steps.specs.Entries.{Entry}
-use Rattle.table_rule.specs.Rule.{total, times, AllHere}
+use Rattle.table_rule.specs.Parts.{total}
+use Rattle.table_rule.specs.Rule.{times, AllHere}
 
 -- a list after one item changed
 module _ {X : Type 0} where

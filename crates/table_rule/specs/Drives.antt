@@ -3,23 +3,24 @@ use Rattle.std.specs.Prelude.{◌≡◌, ℕ, ◌+◌, ◌≤◌, ◌<◌, false
 use Rattle.atomic_table.specs.Table.{Me}
 use Rattle.caller_steps.specs.Entries.{RoomyEntry, is_idle}
 use Rattle.table_rule.specs.Seen.{Fixed, SeatView}
-use Rattle.table_rule.specs.Plays.{next, IsTold, Steps, Belonging, with_entry}
+use Rattle.table_rule.specs.Plays.{next, IsTold, AreTold, Steps, Belonging, with_entry, with_accesses}
 
 -- one step: a lawful word was found, and the entry and its seat's view are what it makes of it
 pub record Went (key : Fixed) (me : Me ℕ SeatView) (e : RoomyEntry) (me' : Me ℕ SeatView) (e' : RoomyEntry) : Type 0 where
   pub word : ℕ
   pub lawful : IsTold key e.core word
   pub entry : e' ≡ record { core = next key e.core word; room = e.room }
-  pub view : me' ≡ (with_entry me.0 e'.core, [])
+  pub view : me' ≡ (with_accesses (with_entry me.0 e'.core) 1, [])
   pub belongs : Belonging key e'.core
 
--- so many steps, one after another
+-- so many steps, one after another, and no other access through the seat
 pub record Drove (key : Fixed) (me : Me ℕ SeatView) (e : RoomyEntry) (steps : ℕ) (me' : Me ℕ SeatView) (e' : RoomyEntry) : Type 0 where
   pub words : List ℕ
   pub count : length words ≡ steps
+  pub told : AreTold key e.core words
   pub advances : Steps key e.core words e'.core
   pub room : e'.room ≡ e.room
-  pub view : me' ≡ (with_entry me.0 e'.core, [])
+  pub view : me' ≡ (with_accesses (with_entry me.0 e'.core) steps, [])
   pub belongs : Belonging key e'.core
 
 -- at least one step and at most `budget`; fewer only where the call has ended

@@ -1,4 +1,5 @@
 pub mod Seen
+pub mod Parts
 pub mod Rule
 pub mod Plays
 pub mod Drives

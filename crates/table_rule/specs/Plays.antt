@@ -13,6 +13,7 @@ use Rattle.caller_steps.specs.Asking.{located_option}
 use Rattle.core_runs.specs.Advances.{Advances}
 use Rattle.core_entries.specs.Callers.{BelongsTo}
 use Rattle.table_rule.specs.Seen.{Fixed, SeatView}
+use Rattle.table_rule.specs.Parts.{halved}
 use Rattle.table_rule.specs.Rule.{callers_of, times}
 
 -- ---- a caller of a table
@@ -29,6 +30,11 @@ next key e word = after key.target.target key.setting e word
 abbrev pub IsTold : Fixed → Entry → ℕ → Type 0
 IsTold key e word = MayBeTold key.target.target key.setting (wish key e) word
 
+-- and so is each of the words that its next steps find
+abbrev pub AreTold : Fixed → Entry → List ℕ → Type 0
+AreTold key e [] = Unit {0}
+AreTold key e (word ∷ words) = IsTold key e word × AreTold key (next key e word) words
+
 -- the words were found by its steps, one after another
 abbrev pub Steps : Fixed → Entry → List ℕ → Entry → Type 0
 Steps key e words e' = Advances key.target.target key.setting e words e'
@@ -39,6 +45,11 @@ Belonging key e = BelongsTo key.target key.setting e
 -- the entry itself, or with a call that it takes
 abbrev pub InHand : Fixed → Entry → Entry → Type 0
 InHand key base e = (e ≡ base) ⊎ ((is_idle base.routine ≡ true) × ((call : Call) × (is_call key.target.target call ≡ true) × (e ≡ taken call base)))
+
+-- ---- counting: each kind of step is one access more that was made through its seat
+
+abbrev pub with_accesses : SeatView → ℕ → SeatView
+with_accesses v n = record v { accesses = v.accesses + n }
 
 -- ---- accesses: a step of the core, after a Take where a call is in hand
 
@@ -64,7 +75,7 @@ pub record CanStep (key : Fixed) (me : Me ℕ SeatView) (e : Entry) (access : Ac
 -- the word found is lawful, and the seat's one entry is what the entry in hand becomes
 pub record Made (e : Entry) (me : Me ℕ SeatView) (n : ℕ) (w : Me ℕ SeatView) : Type 0 where
   pub lawful : IsTold me.0.fixed e n
-  pub view : w ≡ (with_entry me.0 (next me.0.fixed e n), [])
+  pub view : w ≡ (with_accesses (with_entry me.0 (next me.0.fixed e n)) 1, [])
 
 -- ---- taking a place
 
@@ -74,19 +85,23 @@ with_found v k = record v { found = k }
 -- where the place word was 0, the seat has the empty entry with the place's number, which is one less than the word's; else it
 -- has found one more place taken
 abbrev pub Tried : Step ℕ → Me ℕ SeatView → ℕ → Me ℕ SeatView → Type 0
-Tried st me n w = MatchBool (n == 0) (w ≡ (with_entry me.0 (idle_entry (st.word - 1)), [])) (w ≡ (with_found me.0 (me.0.found + 1), []))
+Tried st me n w = MatchBool (n == 0) (w ≡ (with_accesses (with_entry me.0 (idle_entry (st.word - 1))) 1, [])) (w ≡ (with_accesses (with_found me.0 (me.0.found + 1)) 1, []))
 
 -- ---- splitting and joining seats
 
--- a new seat that was split off has no entry, and has found no place
+-- a seat that was split keeps half of each of its parts. The split is an access of its own
+abbrev pub parted : SeatView → SeatView
+parted v = record v { accesses = v.accesses + 1; parts = halved v.parts }
+
+-- the new seat gets the other halves. It has no entry, has found no place, and no access was made through it
 abbrev pub cut_off : SeatView → SeatView
-cut_off v = record v { entries = []; found = 0 }
+cut_off v = record v { entries = []; found = 0; accesses = 0; parts = halved v.parts }
 
--- one seat gets both lists of entries
+-- one seat gets both lists of entries, the parts of both, and the accesses of both with that of joining
 abbrev pub joined : SeatView → SeatView → SeatView
-joined v w = record v { entries = v.entries ++ w.entries }
+joined v w = record v { entries = v.entries ++ w.entries; accesses = (v.accesses + w.accesses) + 1; parts = v.parts ++ w.parts }
 
--- ---- a look after joining: a load of the phase word, which changes nothing
+-- ---- a look after joining: a load of the phase word, which changes nothing but the count
 
 abbrev pub AllBelow : ℕ → List Entry → Type 0
 AllBelow n [] = Unit {0}
@@ -98,5 +113,5 @@ pub record Apart (n : ℕ) (es : List Entry) : Type 0 where
   pub below : AllBelow n es
 
 pub record Looked (me w : Me ℕ SeatView) : Type 0 where
-  pub same : w ≡ me
+  pub same : w ≡ (with_accesses me.0 1, me.1)
   pub apart : Apart (callers_of me.0.fixed) me.0.entries

@@ -7,6 +7,7 @@ use Rattle.oa_words.specs.Words.{word_count}
 use Rattle.caller_steps.specs.Entries.{Entry, idle_entry}
 use Rattle.core_runs.specs.Machine.{CoreState, Reachable}
 use Rattle.table_rule.specs.Seen.{Fixed, IsGround, SeatView}
+use Rattle.table_rule.specs.Parts.{total, IsWhole}
 
 -- some events of the core lead to the state
 abbrev pub IsReached : Fixed → CoreState → Type 0
@@ -18,10 +19,6 @@ callers_of key = key.setting.sizes.callers
 -- the addresses of place words
 abbrev pub IsPlace : ℕ → ℕ → Type 0
 IsPlace callers i = (0 < i) × (i ≤ callers)
-
-abbrev pub total : {X : Type 0} → (X → ℕ) → List X → ℕ
-total f [] = 0
-total f (x ∷ xs) = f x + total f xs
 
 -- how often an entry of this caller stands in the list
 abbrev pub times : ℕ → List Entry → ℕ
@@ -54,9 +51,10 @@ pub record Shows (key : Fixed) (words : List ℕ) (views : List SeatView) (core 
   pub once : (c : ℕ) → c < callers_of key → held c views ≤ 1
   pub absent : (c : ℕ) → c < callers_of key → held c views ≡ 0 → slice_get core.entries c ≡ Some (idle_entry c)
 
--- the rule: there is a reachable state of the core that the words and the views show
+-- the rule: there is a reachable state of the core that the words and the views show, and the seats are parts of the first one
 pub record Holds (key : Fixed) (st : State ℕ SeatView) : Type 0 where
   pub good : IsGround key
   pub core : CoreState
   pub reachable : IsReached key core
   pub shows : Shows key st.words st.views core
+  pub whole : IsWhole st.views

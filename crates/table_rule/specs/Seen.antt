@@ -1,5 +1,5 @@
 -- What a seat at the table knows.
-use Rattle.std.specs.Prelude.{ℕ, Bool, true, false, List, []}
+use Rattle.std.specs.Prelude.{ℕ, Bool, true, false, List, [], ◌∷◌}
 use Rattle.barrier_check.specs.Paired.{Paired, IsSound}
 use Rattle.caller_parts.specs.Settings.{Setting, Fits, IsSetting}
 use Rattle.caller_steps.specs.Entries.{Entry}
@@ -15,18 +15,21 @@ pub record IsGround (key : Fixed) : Type 0 where
   pub own : IsSetting key.setting
   pub fits : Fits key.target.target key.setting
 
--- what a seat knows: whether it is still in use, what the table was told, the entries that are its own, and how many places it
--- has found taken
+-- what a seat knows: whether it is still in use, what the table was told, the entries that are its own, how many places it has
+-- found taken, and how many accesses were made through it and through the seats that it took in
 pub record SeatView : Type 0 where
   -- false once it was joined away
   pub live : Bool
   pub fixed : Fixed
   pub entries : List Entry
   pub found : ℕ
+  pub accesses : ℕ
+  -- which parts of the first seat it is, each by how often that was halved
+  pub parts : List ℕ
 
--- a seat of a table, at first
+-- the first seat of a table
 abbrev pub newcomer : Fixed → SeatView
-newcomer key = record { live = true; fixed = key; entries = []; found = 0 }
+newcomer key = record { live = true; fixed = key; entries = []; found = 0; accesses = 0; parts = 0 ∷ [] }
 
 -- no target and no setting
 abbrev pub no_fixed : Fixed
@@ -37,4 +40,4 @@ no_fixed = record {
 
 -- what is left of a seat that was joined away
 abbrev pub nobody : SeatView
-nobody = record { live = false; fixed = no_fixed; entries = []; found = 0 }
+nobody = record { live = false; fixed = no_fixed; entries = []; found = 0; accesses = 0; parts = [] }

@@ -32,8 +32,8 @@ abbrev one_of : Call → ℕ → List Running
 one_of call steps = record { call = call; steps = steps } ∷ []
 
 -- one call
-one_call : (key : Fixed) (e mid : Entry) (call : Call) (fuel : ℕ) → is_idle e.routine ≡ true → (o : Operated key (taken call e) fuel mid) → calls_of mid ≡ calls_of e ++ one_of call (counted_on 0 o.words)
-one_call key e mid call fuel idle o =
+one_call : (key : Fixed) (e mid : Entry) (call : Call) (fuel accesses : ℕ) → is_idle e.routine ≡ true → (o : Operated key (taken call e) fuel mid accesses) → calls_of mid ≡ calls_of e ++ one_of call (counted_on 0 o.words)
+one_call key e mid call fuel accesses idle o =
     let kept : List Running = map run_of e.replies in
     let one : List Running = one_of call (counted_on 0 o.words) in
     let before : calls_of e ++ one ≡ kept ++ one = ap (λ (b : Bool). (kept ++ running_of b e) ++ one) idle ∙ ap (λ (l : List Running). l ++ one) (append-nil kept) in
@@ -66,15 +66,15 @@ added key fuel [] e e' some lt idle took = record {
 }
 added key fuel (call ∷ script) e e' some lt idle took =
     let mid : Entry = took.0 in
-    let o : Operated key (taken call e) fuel mid = took.1 in
-    let few = o.few in
+    let o : Operated key (taken call e) fuel mid took.1 = took.2 in
+    let few : length o.words ≤ fuel = let each = o.each in let most = o.few in omega arith in
     let exact : counted_on 0 o.words ≡ 0 + length o.words = counted_exact 0 o.words (omega (arith, few, lt)) in
     let bound : counted_on 0 o.words ≤ fuel = omega (arith, exact, few) in
-    let one = one_call key e mid call fuel idle o in
+    let one = one_call key e mid call fuel took.1 idle o in
     let first : Running = record { call = call; steps = counted_on 0 o.words } in
     ⊎_elim
     (λ (t : (is_idle mid.routine ≡ false) × (e' ≡ mid)).
-    let all : length o.words ≡ fuel = o.whole t.0 in
+    let all : length o.words ≡ fuel = o.each ∙ o.whole t.0 in
     let last : counted_on 0 o.words ≡ fuel = omega (arith, exact, all) in
     let it : Added fuel (call ∷ script) e e' = record {
       calls = first ∷ [];
@@ -90,7 +90,7 @@ added key fuel (call ∷ script) e e' some lt idle took =
       of = (refl, bound, more.of);
       ended = ended_more fuel call script first more.calls (is_idle e'.routine) some more.ended;
     } in it)
-    took.2
+    took.3
 
 -- the entry of a caller, among those that were closed
 core_at : (P : RoomyEntry → Type 0) (Q : Entry → Type 0) → ((r : RoomyEntry) → P r → Q r.core) → (rs : List RoomyEntry) (c : ℕ) (e : Entry) → All P rs → slice_get (cores rs) c ≡ Some e → Q e

@@ -4,8 +4,8 @@ use Rattle.std.specs.Io.KnownBytes.{Appends}
 use Rattle.oa_text.specs.Causes.{Rose}
 use Rattle.oa_text.specs.Written.{AppendsPrefix}
 use Rattle.line_words.specs.declared.fault.ParseFault.{ParseFault}
-use Rattle.script_driver.specs.Texts.{report_text, is_partial}
-use Rattle.workload_runs.specs.Texts.{workload_text, is_short}
+use Rattle.document_runs.specs.Texts.{report_text, is_partial}
+use Rattle.script_driver.specs.WorkloadTexts.{workload_text, is_short}
 use Rattle.statuses.specs.declared.status.Status.{Status}
 use Rattle.statuses.specs.declared.status.Status.TheVariants as statuses
 use Rattle.verdicts.specs.Refusals.{refusal_line}

@@ -11,9 +11,8 @@ use line_words::fault::ParseFault;
 use norm_check::Refusal;
 use norm_lang::text::Text;
 use oa_text::{Failed, Piece, Sink, write_all, write_pieces};
-use script_driver::{is_partial, show_report};
+use script_driver::{is_partial, is_short, show_report, show_workload};
 use statuses::Status;
-use workload_runs::{is_short, show_workload};
 
 /// The name of an operation, by its number.
 fn op_name(text: &Text, number: u8) -> &[u8]

@@ -3,8 +3,7 @@
 use line_words::fault::ParseFault;
 use norm_check::Refusal;
 use norm_lang::text::{ByteText, Text};
-use script_driver::Report;
-use workload_runs::WorkloadReport;
+use script_driver::{Report, WorkloadReport};
 
 /// What was read and judged.
 #[derive(Drop)]

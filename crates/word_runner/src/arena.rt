@@ -7,13 +7,13 @@ ghost use Rattle.caller_steps.specs.After.{taken};
 ghost use Rattle.oa_words.specs.Words.{word_count};
 ghost use Rattle.table_rule.specs.Seen.{IsGround};
 ghost use Rattle.table_rule.specs.Rule.{callers_of};
-ghost use Rattle.table_rule.specs.Plays.{CanGo, Belonging, cut_off, joined, Looked, with_entry, with_found};
+ghost use Rattle.table_rule.specs.Plays.{CanGo, Belonging, parted, cut_off, joined, Looked, with_accesses, with_entry, with_found};
 ghost use Rattle.table_rule.specs.Drives.{Went, Ran};
 ghost use Rattle.table_rule.specs.Closing.{Shut};
 
 use crate::access::access;
 use crate::ground::{Cut, Glue, Ground, Hand, Looks, Place, Tries, Words};
-use oa_core::Entry;
+use core_entries::Entry;
 use std::marker::{Brand, Model};
 
 /// A table of words on which the callers of one target meet. Threads share it by `&`: each step is one atomic access, and none
@@ -90,7 +90,8 @@ impl Arena {
 
     pub(crate) fn split(&self, seat: &mut Place) -> Place
         requires table { seat.old.table_id ≡ self.now.table }
-        ensures kept { (seat.new.table_id ≡ seat.old.table_id) × (seat.new.me ≡ seat.old.me) }
+        requires live { seat.old.me.0.live ≡ true }
+        ensures kept { (seat.new.table_id ≡ seat.old.table_id) × (seat.new.me ≡ (parted seat.old.me.0, seat.old.me.1)) }
         ensures given { (result.table_id ≡ seat.old.table_id) × (result.me ≡ (cut_off seat.old.me.0, [])) }
     {
         self.table.shared.split_seat::<Cut>(seat)
@@ -98,6 +99,7 @@ impl Arena {
 
     pub(crate) fn join(&self, seat: &mut Place, other: Place)
         requires table { (seat.old.table_id ≡ self.now.table) × (other.table_id ≡ self.now.table) × (other.me.1 ≡ []) }
+        requires live { seat.old.me.0.live ≡ true }
         ensures { (seat.new.table_id ≡ seat.old.table_id) × (seat.new.me ≡ (joined seat.old.me.0 other.me.0, seat.old.me.1)) }
     {
         self.table.shared.join_seat::<Glue>(seat, other);
@@ -106,6 +108,7 @@ impl Arena {
     /// Loads the phase word, and sees that the seat's entries have different numbers.
     pub(crate) fn look(&self, seat: &mut Place)
         requires table { (seat.old.table_id ≡ self.now.table) × (seat.old.me.0.fixed ≡ self.now.fixed) }
+        requires live { seat.old.me.0.live ≡ true }
         ensures { (seat.new.table_id ≡ seat.old.table_id) × Looked seat.old.me seat.new.me }
     {
         self.table.shared.load::<Looks>(seat, 0);
@@ -115,9 +118,10 @@ impl Arena {
     pub(crate) fn try_place(&self, seat: &mut Place, found: u32) -> bool
         requires table { (seat.old.table_id ≡ self.now.table) × (seat.old.me.0.fixed ≡ self.now.fixed) }
         requires empty { (seat.old.me.1 ≡ []) × (seat.old.me.0.entries ≡ []) }
+        requires live { seat.old.me.0.live ≡ true }
         requires found { (seat.old.me.0.found ≡ found) × (found < callers_of self.now.fixed) }
         ensures table { seat.new.table_id ≡ seat.old.table_id }
-        ensures tried { MatchBool result (seat.new.me ≡ (with_entry seat.old.me.0 (idle_entry found), [])) (seat.new.me ≡ (with_found seat.old.me.0 (found + 1), [])) }
+        ensures tried { MatchBool result (seat.new.me ≡ (with_accesses (with_entry seat.old.me.0 (idle_entry found)) 1, [])) (seat.new.me ≡ (with_accesses (with_found seat.old.me.0 (found + 1)) 1, [])) }
     {
         self.table
             .shared

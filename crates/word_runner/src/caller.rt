@@ -1,11 +1,12 @@
 //! A caller: an entry in memory and the seat that knows it.
 
-ghost use Rattle.std.specs.Prelude.{◌≡◌, ◌<◌, ◌≤◌, ◌+◌, ◌-◌, ◌∷◌, [], true, false, length, Some, vec_capacity};
+ghost use Rattle.std.specs.Prelude.{◌≡◌, ℕ, ◌<◌, ◌≤◌, ◌+◌, ◌-◌, ◌∷◌, [], true, false, length, Some, vec_capacity};
 ghost use Rattle.caller_steps.specs.After.{taken};
 ghost use Rattle.caller_steps.specs.Entries.{is_idle};
 ghost use Rattle.caller_parts.specs.Calls.{is_call};
 ghost use Rattle.table_rule.specs.Rule.{callers_of};
-ghost use Rattle.table_rule.specs.Seats.{Seated, IsFew};
+ghost use Rattle.table_rule.specs.Plays.{Belonging, Apart};
+ghost use Rattle.table_rule.specs.Seats.{cores, Seated, IsFew};
 ghost use Rattle.word_runner.specs.Shown.{CameFrom, Operated};
 ghost use Rattle.word_runner.specs.Outcome.{Replies, Answers, answer_of};
 
@@ -13,7 +14,7 @@ use crate::arena::{Arena, drive};
 use crate::ground::Place;
 use crate::rest::Rest;
 use caller_steps::Reply;
-use oa_core::Entry;
+use core_entries::Entry;
 use std::marker::Model;
 
 /// How a call of `operate` or `resume` ended: with the operation's number or with nothing; with no slot left after two sweeps of its
@@ -43,7 +44,7 @@ impl Model for Caller {
 
     ghost Value = { CallerShown };
 
-    ghost view = { λ c. record { table = c.place.table_id; fixed = c.place.me.0.fixed; entry = c.entry } };
+    ghost view = { λ c. record { table = c.place.table_id; fixed = c.place.me.0.fixed; entry = c.entry; accesses = c.place.me.0.accesses; parts = c.place.me.0.parts } };
 
     ghost invariant = { λ c. Seated c.place.me c.entry.core × (c.list.items ≡ []) × (callers_of c.place.me.0.fixed ≤ vec_capacity c.list) × IsFew (callers_of c.place.me.0.fixed) };
 }
@@ -53,7 +54,7 @@ impl Caller {
         requires seated { Seated place.me entry.core }
         requires empty { list.items ≡ [] }
         requires room { IsFew (callers_of place.me.0.fixed) × (callers_of place.me.0.fixed ≤ vec_capacity list) }
-        ensures { result ≡ record { table = place.table_id; fixed = place.me.0.fixed; entry = entry } }
+        ensures { result ≡ record { table = place.table_id; fixed = place.me.0.fixed; entry = entry; accesses = place.me.0.accesses; parts = place.me.0.parts } }
     {
         Caller { entry, list, place }
     }
@@ -81,7 +82,8 @@ impl Caller {
 
     /// Comes to rest with its entry, also in mid-operation. Takes no memory.
     pub fn rest(self) -> Rest
-        ensures { result ≡ record { table = self.table; fixed = self.fixed; entries = self.entry ∷ [] } }
+        ensures is { result ≡ record { table = self.table; fixed = self.fixed; entries = self.entry ∷ []; accesses = self.accesses; parts = self.parts } }
+        ensures apart { Apart (callers_of self.fixed) (cores result.entries) }
     {
         let Caller {
             entry,
@@ -93,7 +95,8 @@ impl Caller {
     }
 
     /// Takes a call of the operation `op`, by its number in the target, and makes its accesses one after another, until it has ended or
-    /// `budget` of them were made. It is idle and has room for the reply, and the words of `args` past the operation's count are 0.
+    /// `budget` of them were made. It makes no other, and gives no part of its seat away. It is idle and has room for the reply, and the words of `args`
+    /// past the operation's count are 0.
     /// Takes no memory, and waits for nobody.
     pub fn operate(&mut self, arena: &Arena, op: u8, args: [u64; 4], budget: u64) -> Outcome
         requires came { CameFrom arena.now self.old.table self.old.fixed }
@@ -102,7 +105,9 @@ impl Caller {
         requires call { is_call self.old.fixed.target.target (record { op = op; args = args }) ≡ true }
         requires budget { 0 < budget }
         ensures same { (self.new.table ≡ self.old.table) × (self.new.fixed ≡ self.old.fixed) × (self.new.entry.room ≡ self.old.entry.room) }
-        ensures steps { Operated self.old.fixed (taken (record { op = op; args = args }) self.old.entry.core) budget self.new.entry.core }
+        ensures steps { (accesses : ℕ) × (self.new.accesses ≡ self.old.accesses + accesses) × Operated self.old.fixed (taken (record { op = op; args = args }) self.old.entry.core) budget self.new.entry.core accesses }
+        ensures seat { self.new.parts ≡ self.old.parts }
+        ensures belongs { Belonging self.old.fixed self.new.entry.core }
         ensures outcome { Replies self.old.entry.core (record { op = op; args = args }) (answer_of result) self.new.entry.core }
     {
         arena.begin(&mut self.entry, op, args);
@@ -110,13 +115,15 @@ impl Caller {
         answer(&self.entry)
     }
 
-    /// Goes on with the call that runs, by at most `budget` further accesses.
+    /// Goes on with the call that runs, by at most `budget` further accesses. It makes no other, and gives no part of its seat away.
     pub fn resume(&mut self, arena: &Arena, budget: u64) -> Outcome
         requires came { CameFrom arena.now self.old.table self.old.fixed }
         requires busy { is_idle self.old.entry.core.routine ≡ false }
         requires budget { 0 < budget }
         ensures same { (self.new.table ≡ self.old.table) × (self.new.fixed ≡ self.old.fixed) × (self.new.entry.room ≡ self.old.entry.room) }
-        ensures steps { Operated self.old.fixed self.old.entry.core budget self.new.entry.core }
+        ensures steps { (accesses : ℕ) × (self.new.accesses ≡ self.old.accesses + accesses) × Operated self.old.fixed self.old.entry.core budget self.new.entry.core accesses }
+        ensures seat { self.new.parts ≡ self.old.parts }
+        ensures belongs { Belonging self.old.fixed self.new.entry.core }
         ensures outcome { Replies self.old.entry.core self.old.entry.core.running.call (answer_of result) self.new.entry.core }
     {
         drive(arena, &mut self.place, &mut self.entry, budget);

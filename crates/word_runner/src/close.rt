@@ -1,6 +1,6 @@
 //! Making an arena, and closing it.
 
-ghost use Rattle.std.specs.Prelude.{◌≡◌, ◌<◌, ◌≤◌, ◌+◌, [], length, IfOk};
+ghost use Rattle.std.specs.Prelude.{◌≡◌, ◌<◌, ◌≤◌, ◌+◌, [], ◌∷◌, length, IfOk};
 ghost use Rattle.caller_parts.specs.Settings.{Fits};
 ghost use Rattle.word_runner.specs.Shown.{CameFrom};
 ghost use Rattle.table_rule.specs.Rule.{callers_of};
@@ -14,8 +14,8 @@ use crate::ground::{Ground, Place, Words};
 use crate::rest::Rest;
 use barrier_check::Barred;
 use caller_steps::Setting;
+use core_entries::{Entry, LoadedTarget, PlainWords};
 use norm_lang::list::Listed;
-use oa_core::{Entry, LoadedTarget, PlainWords};
 use std::alloc::{AllocError, Global};
 
 /// Entries of callers.
@@ -41,7 +41,7 @@ impl Arena {
     ) -> Result<(Arena, Blank), AllocError>
         requires fits { Fits barred.target setting }
         ensures arena { IfOk result (λ p. p.0.fixed ≡ record { target = barred; setting = setting }) }
-        ensures blank { IfOk result (λ p. p.1 ≡ record { table = p.0.table; fixed = p.0.fixed; room = room; found = 0 }) }
+        ensures blank { IfOk result (λ p. p.1 ≡ record { table = p.0.table; fixed = p.0.fixed; room = room; found = 0; accesses = 0; parts = 0 ∷ [] }) }
     {
         setting.kept();
         let target = LoadedTarget::new(barred);
@@ -81,7 +81,7 @@ fn table_on(alloc: Global, ground: &Ground) -> Result<(Words, Place), AllocError
 fn begin_on(alloc: Global, ground: &Ground, room: u32) -> Result<(Words, Blank), AllocError>
     requires { IsGround ground.now }
     ensures table { IfOk result (λ p. (p.0.shared.key ≡ ground.now) × (p.0.shared.table_id.words ≡ word_count ground.now.setting.sizes) × (p.0.shared.table_id.slots ≡ 0)) }
-    ensures blank { IfOk result (λ p. p.1 ≡ record { table = p.0.shared.table_id; fixed = ground.now; room = room; found = 0 }) }
+    ensures blank { IfOk result (λ p. p.1 ≡ record { table = p.0.shared.table_id; fixed = ground.now; room = room; found = 0; accesses = 0; parts = 0 ∷ [] }) }
 {
     ground.setting.kept();
     let (entry, list) = supplies(alloc, ground.setting.shape().callers(), room)?;

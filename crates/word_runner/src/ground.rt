@@ -4,7 +4,7 @@ ghost use Rattle.std.specs.Prelude.{◌≡◌, ℕ};
 
 use atomic_table::{Join, Play, Seat, Split, Table, TableRule};
 use caller_steps::Setting;
-use oa_core::LoadedTarget;
+use core_entries::LoadedTarget;
 use std::alloc::Global;
 use std::marker::{Brand, Model, PhantomData};
 
@@ -105,9 +105,9 @@ impl Play<u8, Sight> for Looks {
 pub(crate) struct Cut;
 
 impl Split<Sight> for Cut {
-    ghost use Rattle.table_rule.specs.Plays.{cut_off};
+    ghost use Rattle.table_rule.specs.Plays.{parted, cut_off};
 
-    ghost left = { λ v. v };
+    ghost left = { parted };
 
     ghost right = { cut_off };
 }

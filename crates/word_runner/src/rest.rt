@@ -2,11 +2,13 @@
 
 ghost use Rattle.std.specs.Prelude.{◌≡◌, ◌<◌, ◌≤◌, ◌+◌, ◌++◌, [], length, vec_len, vec_capacity};
 ghost use Rattle.word_runner.specs.Shown.{CameFrom};
-ghost use Rattle.table_rule.specs.Seats.{Resting};
+ghost use Rattle.table_rule.specs.Rule.{callers_of};
+ghost use Rattle.table_rule.specs.Plays.{Apart};
+ghost use Rattle.table_rule.specs.Seats.{cores, Resting};
 
 use crate::arena::Arena;
 use crate::ground::Place;
-use oa_core::Entry;
+use core_entries::Entry;
 use std::marker::Model;
 
 /// Callers at rest: their entries, and one seat that knows them all.
@@ -23,7 +25,7 @@ impl Model for Rest {
 
     ghost Value = { RestShown };
 
-    ghost view = { λ r. record { table = r.place.table_id; fixed = r.place.me.0.fixed; entries = r.list.items } };
+    ghost view = { λ r. record { table = r.place.table_id; fixed = r.place.me.0.fixed; entries = r.list.items; accesses = r.place.me.0.accesses; parts = r.place.me.0.parts } };
 
     ghost invariant = { λ r. Resting r.place.me r.list.items (vec_capacity r.list) };
 }
@@ -31,7 +33,7 @@ impl Model for Rest {
 impl Rest {
     pub(crate) fn over(place: Place, list: Vec<Entry>) -> Rest
         requires { Resting place.me list.items (vec_capacity list) }
-        ensures { result ≡ record { table = place.table_id; fixed = place.me.0.fixed; entries = list.items } }
+        ensures { result ≡ record { table = place.table_id; fixed = place.me.0.fixed; entries = list.items; accesses = place.me.0.accesses; parts = place.me.0.parts } }
     {
         Rest { list, place }
     }
@@ -55,7 +57,8 @@ impl Rest {
     pub fn merge(self, other: Rest, arena: &Arena) -> Rest
         requires mine { CameFrom arena.now self.table self.fixed }
         requires theirs { CameFrom arena.now other.table other.fixed }
-        ensures { result ≡ record { table = self.table; fixed = self.fixed; entries = self.entries ++ other.entries } }
+        ensures is { result ≡ record { table = self.table; fixed = self.fixed; entries = self.entries ++ other.entries; accesses = self.accesses + other.accesses + 2; parts = self.parts ++ other.parts } }
+        ensures apart { Apart (callers_of self.fixed) (cores result.entries) }
     {
         let Rest {
             mut list,

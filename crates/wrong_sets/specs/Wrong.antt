@@ -4,6 +4,8 @@ use Rattle.norm_lang.specs.declared.text.Reg.TheVariants.{Num, Ref}
 use Rattle.norm_lang.specs.declared.text.Instr.{Instr}
 use Rattle.norm_lang.specs.declared.text.Instr.TheVariants as instr
 use Rattle.norm_lang.specs.declared.text.Text.{Text}
+use Rattle.norm_lang.specs.Limits.{IsWithinLimits}
+use Rattle.norm_lang.specs.NormalForm.{IsNormal}
 use Rattle.norm_lang.specs.Shipped.{first_field, next_field, next_entry, retiring, search_code, answer_code, insert_code, remove_code, change_wrap_up, insert_op, remove_op, contains_op, set_text}
 use Rattle.source_machine.specs.Proper.{IsProper}
 
@@ -104,3 +106,7 @@ WalkingIsImproper = ¬ IsProper walking
 
 abbrev pub UncheckingIsImproper : Type 0
 UncheckingIsImproper = ¬ IsProper unchecking
+
+-- the rules accept a text: it is within the limits of texts, and in normal form
+abbrev pub IsAccepted : Text → Type 0
+IsAccepted text = IsWithinLimits text × IsNormal text

@@ -1,4 +1,4 @@
-use Rattle.caller_laws.proofs.Together.{belong, safe, fits_code, puts}
+use Rattle.caller_laws.proofs.Together.{belong, safe, fits_code, puts, cradles}
 use Rattle.caller_laws.proofs.laws.entries_belong.Goals as goal
 
 pub returns-clause-belong : goal.returns-clause-belong
@@ -12,3 +12,6 @@ returns-clause-code c = fits_code
 
 pub returns-clause-puts : goal.returns-clause-puts
 returns-clause-puts c = puts
+
+pub returns-clause-cradles : goal.returns-clause-cradles
+returns-clause-cradles c = cradles

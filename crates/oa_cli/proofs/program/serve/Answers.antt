@@ -3,6 +3,7 @@ use Rattle.verdicts.specs.Telling.{text_for, status_for}
 use Rattle.command_input.specs.Commands.{request_of}
 use Rattle.oa_cli.proofs.Telling.{said_finished, told}
 use Rattle.oa_cli.proofs.Completing.{complete}
+use Rattle.oa_cli.proofs.Headlined.{headline}
 use Rattle.oa_cli.proofs.program.serve.Goals as goal
 
 pub returns-clause-judged : goal.returns-clause-judged
@@ -33,4 +34,14 @@ returns-clause-complete g c =
     complete (request_of (map string_bytes c.args.words.now)) (g.S.Source.left c.args.input.now) (g.S.Source.left c.oa_main-status.new.input)
     (g.S.Source.faults c.args.input.now) (g.S.Source.faults c.oa_main-status.new.input) first.0
     start.written end.written start.faults end.faults c.finish.result first.1
+    (said_finished start.written middle.written end.written start.faults middle.faults end.faults (text_for first.0) (status_for first.0) c.oa_main-status.result c.finish.result first.2 c.finish.ensures.bytes c.finish.ensures.status)
+
+pub returns-clause-headline : goal.returns-clause-headline
+returns-clause-headline g c =
+    let first = c.oa_main-status.ensures.judged in
+    let end = c.finish.new.out in
+    let middle = c.oa_main-status.new.out in
+    let start = c.args.out.now in
+    headline (request_of (map string_bytes c.args.words.now)) (g.S.Source.left c.args.input.now) (g.S.Source.left c.oa_main-status.new.input)
+    start.written end.written (g.S.Source.faults c.args.input.now) (g.S.Source.faults c.oa_main-status.new.input) start.faults end.faults first.0 c.finish.result first.1
     (said_finished start.written middle.written end.written start.faults middle.faults end.faults (text_for first.0) (status_for first.0) c.oa_main-status.result c.finish.result first.2 c.finish.ensures.bytes c.finish.ensures.status)

@@ -1,6 +1,5 @@
-use Rattle.script_driver.proofs.PlanLaws.{is_ran}
+use Rattle.script_driver.proofs.Telling.{run_told}
 use Rattle.script_driver.proofs.running.run_document.Goals as goal
 
 pub returns : goal.returns
-returns g c =
-    is_ran c.args.document.now c.in_ok-plan.plan c.in_ok-last.last.phase c.in_ok-last.last.entries _ c.in_ok-plan.ensures.exact c.in_ok-last.ensures c.report_at.ensures
+returns g c = run_told c.args.document.now c.run_document.result c.reports_are_true.ensures c.requires c.run_document.ensures

@@ -11,7 +11,7 @@ pub loop-caller-init : goal.loop-caller-init
 loop-caller-init c =
     let E = λ (r : RoomyEntry). Ended c.args.arena.now.fixed c.args.scripts.now c.args.fuel r.core in
     let mine = c.requires.first in
-    let e = c.rest-rest.ensures in
+    let e = c.rest-rest.ensures.is in
     let entries : c.rest-rest.result.entries ≡ c.args.first.entry ∷ [] = ap (λ (r : RestShown). r.entries) e in
     let ended = subst (All E) (sym entries) (All-push E [] c.args.first.entry (λ k d lt. absurd (omega arith)) mine.ended) in (
       (ap (λ (r : RestShown). r.table) e ∙ mine.came.0, ap (λ (r : RestShown). r.fixed) e ∙ mine.came.1),
@@ -34,8 +34,8 @@ loop-caller-preserved c =
     let popped = All-pop F c.loop-caller.callers.items c.pop.new.self.items c.pop.result c.pop.ensures.items c.loop-caller.invariant.1 in
     let mine : F c.in-Some.caller = search rules in
     let E = λ (r : RoomyEntry). Ended c.args.arena.now.fixed c.args.scripts.now c.args.fuel r.core in
-    let e = c.merge-rest.ensures in
-    let one = ap (λ (r : RestShown). r.entries) c.rest.ensures in
+    let e = c.merge-rest.ensures.is in
+    let one = ap (λ (r : RestShown). r.entries) c.rest.ensures.is in
     let entries : c.merge-rest.result.entries ≡ c.loop-caller.rest.entries ++ c.in-Some.caller.entry ∷ [] = ap (λ (r : RestShown). r.entries) e ∙ ap (λ (l : List RoomyEntry). c.loop-caller.rest.entries ++ l) one in
     let ended = subst (All E) (sym entries) (All-push E c.loop-caller.rest.entries c.in-Some.caller.entry c.loop-caller.invariant.2 mine.ended) in (
       (ap (λ (r : RestShown). r.table) e ∙ c.loop-caller.invariant.0.0, ap (λ (r : RestShown). r.fixed) e ∙ c.loop-caller.invariant.0.1),

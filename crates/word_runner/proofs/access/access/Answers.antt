@@ -1,4 +1,3 @@
-use Rattle.oa_words.specs.Words.{word_count}
 use Rattle.std.proofs.Common.{ℕ, ◌<◌, subst, sym}
 use Rattle.table_rule.proofs.Accesses.{load_allowed, store_put, exchange_allowed, raise_allowed}
 use Rattle.word_runner.proofs.access.access.Goals as goal

@@ -1,8 +1,6 @@
-use Rattle.std.proofs.Common.{rules, false, ◌≡◌, ◌≢◌, ◌<◌, ℕ, ◌+◌, ◌-◌, arith}
+use Rattle.std.proofs.Common.{rules, false, ◌≡◌}
 use Rattle.caller_steps.specs.Entries.{is_idle}
-use Rattle.table_rule.specs.Plays.{CanGo}
-use Rattle.table_rule.specs.Drives.{Went, Ran}
-use Rattle.table_rule.proofs.Drives.{can_again, drive_first, drive_more, driven}
+use Rattle.table_rule.proofs.Drives.{can_again, drive_first, drive_more}
 use Rattle.word_runner.proofs.arena.drive.Goals as goal
 
 pub loop-left-init : goal.loop-left-init

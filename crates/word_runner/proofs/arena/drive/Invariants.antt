@@ -1,4 +1,4 @@
-use Rattle.std.proofs.Common.{◌≡◌, ℕ}
+use Rattle.std.proofs.Common.{◌≡◌}
 use Rattle.table_rule.specs.Drives.{Driving}
 use Rattle.word_runner.proofs.arena.drive.Given as goal
 

@@ -1,6 +1,5 @@
-use Rattle.std.proofs.Common.{rules, ◌≡◌, ◌∙◌, ap, sym, subst, length, ℕ, List}
+use Rattle.std.proofs.Common.{rules, ◌≡◌, ◌∙◌, ap, sym, subst, length, List}
 use Rattle.std.proofs.lemmas.List.Sorted.{IsNonDecreasingBy-from_sort_by_key}
-use Rattle.std.specs.List.Sorted.{IsPermutation}
 use Rattle.caller_steps.specs.Entries.{RoomyEntry}
 use Rattle.table_rule.specs.Seen.{Fixed}
 use Rattle.table_rule.specs.Plays.{Apart}

@@ -1,4 +1,4 @@
-use Rattle.std.proofs.Common.{ap, ◌∙◌, ◌<◌, ℕ, ◌≡◌, arith}
+use Rattle.std.proofs.Common.{ap, ◌∙◌, arith}
 use Rattle.std.specs.Slots.{slots_items}
 use Rattle.word_runner.specs.Shown.{ArenaShown}
 use Rattle.table_rule.proofs.Others.{closes}

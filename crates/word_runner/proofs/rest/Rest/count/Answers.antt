@@ -1,4 +1,4 @@
-use Rattle.std.proofs.Common.{rules, ◌≤◌, length, vec_capacity, arith}
+use Rattle.std.proofs.Common.{rules, ◌≤◌, length, vec_capacity}
 use Rattle.table_rule.proofs.Merged.{rest_few}
 use Rattle.word_runner.proofs.rest.Rest.count.Goals as goal
 

@@ -1,0 +1,7 @@
+use Rattle.std.proofs.Common.{◌+◌, arith}
+use Rattle.core_entries.proofs.Starting.{row_put}
+use Rattle.core_entries.proofs.words.put_rows.Goals as goal
+
+pub loop-slot-preserved : goal.loop-slot-preserved
+loop-slot-preserved c =
+    row_put c.args.target.now c.args.setting.now c.loop-slot.words c.put_row.new.words _ c.loop-slot.slot (c.slots-slots.result + 1) c.loop-slot.invariant (omega (arith, c.loop-slot-test.true)) c.in_ok-put_row.ensures

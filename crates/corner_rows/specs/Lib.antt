@@ -1,0 +1,9 @@
+pub mod CornerTargets
+pub mod ObjectRows
+pub mod LaterRows
+pub mod FourRows
+pub mod WideRows
+pub mod CountRows
+pub mod LayoutRows
+pub mod EventRows
+pub mod CountedTurns

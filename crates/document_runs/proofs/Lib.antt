@@ -1,0 +1,5 @@
+mod Counting
+mod Blanking
+mod Answering
+mod Totals
+mod PlanLaws

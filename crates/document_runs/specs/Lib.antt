@@ -1,0 +1,5 @@
+pub mod Reports
+pub mod Texts
+pub mod Runs
+pub mod Blanks
+pub mod PlanRuns

@@ -1,0 +1,12 @@
+//! Documents that are run or replayed: the answer to each call of their scripts, and the text that tells it. What the answers tell of the
+//! run, the laws of `report_laws` say.
+#![tactic(auto)]
+
+mod building;
+mod printing;
+mod report;
+mod running;
+
+pub use printing::{count_short, is_partial, show_report};
+pub use report::{Answer, Report, ReportLine, ReportLines};
+pub use running::{replay_document, run_document};

@@ -1,0 +1,4 @@
+pub mod RowStates
+pub mod CallRuns
+pub mod TableStates
+pub mod NamedSlots

@@ -1,0 +1,4 @@
+mod Ordering
+mod Stepping
+mod Logging
+mod Legal

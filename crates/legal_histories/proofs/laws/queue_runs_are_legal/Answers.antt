@@ -1,0 +1,5 @@
+use Rattle.legal_histories.proofs.Legal.{queues_are_legal}
+use Rattle.legal_histories.proofs.laws.queue_runs_are_legal.Goals as goal
+
+pub returns : goal.returns
+returns c = queues_are_legal c.queue_answers.ensures

@@ -1,0 +1,143 @@
+-- The headline follows from what was judged and said.
+use Rattle.std.proofs.Common.{◌≡◌, ◌⊎◌, ◌≢◌, ℕ, List, [], ◌++◌, Option, Some, None, inl, inr, ⊎_elim, refl, sym, ap, subst, ◌∙◌}
+use Rattle.std.specs.Option.{unwrap_or}
+use Rattle.std.specs.Io.KnownBytes.{Appends}
+use Rattle.std.specs.Prelude.{Bool, true, false, if◌then◌else◌}
+use Rattle.oa_text.specs.Causes.{Rose}
+use Rattle.norm_lang.specs.NormalForm.{IsNormal}
+use Rattle.documents.specs.declared.document.Document.{Document}
+use Rattle.documents.specs.DocumentRead.{IsDocument}
+use Rattle.script_plans.specs.declared.fault.RunFault.TheVariants as faults
+use Rattle.document_runs.specs.declared.report.Report.{Report}
+use Rattle.document_runs.specs.Texts.{report_text, is_partial}
+use Rattle.core_runs.specs.Machine.{CoreState, CoreEvent}
+use Rattle.report_laws.specs.Lines.{TellsOf}
+use Rattle.report_laws.specs.Sources.{HasSourceRun}
+use Rattle.statuses.specs.declared.status.Status.{Status}
+use Rattle.statuses.specs.declared.status.Status.TheVariants as statuses
+use Rattle.command_input.specs.declared.command.Command.{Command}
+use Rattle.command_input.specs.declared.command.Command.TheVariants as commands
+use Rattle.command_input.specs.declared.command.Request.{Request}
+use Rattle.command_input.specs.declared.command.Request.TheVariants as requests
+use Rattle.verdicts.specs.declared.verdict.Verdict.{Verdict}
+use Rattle.verdicts.specs.declared.verdict.Verdict.TheVariants as verdicts
+use Rattle.verdicts.specs.Telling.{IsSaid, text_for, status_for}
+use Rattle.oa_cli.specs.Complete.{HasAccepted, IsAccepted}
+use Rattle.oa_cli.specs.Verdicts.{ReadsAll, IsAnswered, IsShapeRefused, IsOfBytes, IsOfSource, IsOfRequest}
+use Rattle.oa_cli.specs.Headline.{MakesCalls, Premises, IsTakenForProper, Promise, IsPrinted, Headline}
+use Rattle.oa_cli.proofs.Completing.{not_long, all_read, not_faulty, one_document, not_refused, accepted_is_normal, has_shape}
+
+-- ---- the verdict is a report's
+
+pub record IsReport (command : Command) (document : Document) (verdict : Verdict) : Type 0 where
+  pub report : Report
+  pub same : verdict ≡ verdicts.Answered report
+  pub answered : IsAnswered command document report
+
+-- a command that makes calls is none that makes none
+other_command : {A : Type 0} (command other : Command) → MakesCalls command → command ≡ other → (MakesCalls other → ⊥) → A
+other_command command other makes same none = absurd (none (subst MakesCalls same makes))
+
+bytes_told : (command : Command) (bytes : List ℕ) (document : Document) (verdict : Verdict) → MakesCalls command → IsDocument bytes document → IsAccepted command document
+    → status_for verdict ≢ statuses.Memory → IsOfBytes command bytes verdict → IsReport command document verdict
+bytes_told command bytes document (verdicts.Answered report) makes is accepted memory (other, also, answered) =
+    record { report = report; same = refl; answered = subst (λ (d : Document). IsAnswered command d report) (one_document bytes document other is also) answered }
+bytes_told command bytes document (verdicts.Worked report) makes is accepted memory judged = absurd judged.2
+bytes_told command bytes document verdicts.Accepted makes is accepted memory (other, also, found) = other_command command commands.Check makes found.0 (λ none. none)
+bytes_told command bytes document (verdicts.Shown spelling) makes is accepted memory (other, also, found) = other_command command commands.Show makes found.0 (λ none. none)
+bytes_told command bytes document (verdicts.Compiled spelling) makes is accepted memory (other, also, found) = other_command command commands.Compile makes found.0 (λ none. none)
+bytes_told command bytes document verdicts.Usage makes is accepted memory judged = absurd judged.2
+bytes_told command bytes document verdicts.ReadFault makes is accepted memory judged = absurd judged.2
+bytes_told command bytes document verdicts.LongInput makes is accepted memory judged = absurd judged.2
+bytes_told command bytes document (verdicts.BadDocument fault) makes is accepted memory judged = absurd (not_faulty bytes document _ is judged)
+bytes_told command bytes document (verdicts.Refused text refusal) makes is accepted memory judged =
+    let same : judged.0 ≡ document = one_document bytes document judged.0 is judged.1 in
+    let normal : IsNormal document.text = accepted_is_normal command document judged.2.0 accepted in
+    absurd (not_refused text refusal (subst IsNormal (sym (judged.2.1 ∙ ap (λ (d : Document). d.text) same)) normal) judged.2.2)
+bytes_told command bytes document (verdicts.BadShape number at) makes is accepted memory (other, also, refused) =
+    absurd (has_shape command document number at accepted (subst (λ (d : Document). IsShapeRefused command d (faults.Shape number at)) (one_document bytes document other is also) refused))
+bytes_told command bytes document verdicts.Memory makes is accepted memory judged = absurd (memory refl)
+
+input_told : (command : Command) (old new : Option (List ℕ)) (read : List ℕ) (verdict : Verdict) → MakesCalls command → (has : HasAccepted command old) → status_for verdict ≢ statuses.Memory → ReadsAll old new read
+    → IsOfBytes command read verdict → IsReport command has.document verdict
+input_told command old new read verdict makes has memory all judged =
+    let same : read ≡ has.bytes = all_read has.bytes read old new has.told all.read all.done in
+    bytes_told command has.bytes has.document verdict makes has.spelled has.accepted memory (subst (λ (l : List ℕ). IsOfBytes command l verdict) same judged)
+
+source_told : (command : Command) (old new : Option (List ℕ)) (before now : ℕ) (verdict : Verdict) → MakesCalls command → (has : HasAccepted command old) → ¬ Rose before now → status_for verdict ≢ statuses.Memory
+    → IsOfSource command old new before now verdict → IsReport command has.document verdict
+source_told command old new before now (verdicts.Answered report) makes has kept memory (same, bytes, all, judged) = input_told command old new bytes (verdicts.Answered report) makes has memory all judged
+source_told command old new before now (verdicts.Worked report) makes has kept memory (same, bytes, all, judged) = input_told command old new bytes (verdicts.Worked report) makes has memory all judged
+source_told command old new before now verdicts.Accepted makes has kept memory (same, bytes, all, judged) = input_told command old new bytes verdicts.Accepted makes has memory all judged
+source_told command old new before now (verdicts.Shown spelling) makes has kept memory (same, bytes, all, judged) = input_told command old new bytes (verdicts.Shown spelling) makes has memory all judged
+source_told command old new before now (verdicts.Compiled spelling) makes has kept memory (same, bytes, all, judged) = input_told command old new bytes (verdicts.Compiled spelling) makes has memory all judged
+source_told command old new before now verdicts.Usage makes has kept memory (same, bytes, all, judged) = input_told command old new bytes verdicts.Usage makes has memory all judged
+source_told command old new before now verdicts.ReadFault makes has kept memory judged = absurd (kept judged.0)
+source_told command old new before now verdicts.LongInput makes has kept memory (same, bytes, consumes, long) = absurd (not_long has.bytes bytes old new has.told has.short consumes long)
+source_told command old new before now (verdicts.BadDocument fault) makes has kept memory (same, bytes, all, judged) = input_told command old new bytes (verdicts.BadDocument fault) makes has memory all judged
+source_told command old new before now (verdicts.Refused text refusal) makes has kept memory (same, bytes, all, judged) = input_told command old new bytes (verdicts.Refused text refusal) makes has memory all judged
+source_told command old new before now (verdicts.BadShape number at) makes has kept memory (same, bytes, all, judged) = input_told command old new bytes (verdicts.BadShape number at) makes has memory all judged
+source_told command old new before now verdicts.Memory makes has kept memory judged = absurd (memory refl)
+
+-- ---- the promise
+
+taken_for_proper : (document : Document) (events : List CoreEvent) (state : CoreState) (report : Report) → TellsOf document events state report → IsTakenForProper document.text → HasSourceRun document events state report
+taken_for_proper document events state report tells (inl proper) = tells.proper proper
+taken_for_proper document events state report tells (inr named) = tells.named named.0 named.1
+
+promised : (command : Command) (document : Document) (report : Report) → IsAnswered command document report → Promise command document report
+promised commands.Run document report is = record {
+  events = is.events;
+  state = is.state;
+  complete = is.tells.complete;
+  given = tt;
+  final = is.tells.of;
+  causes = is.tells.lines;
+  source = taken_for_proper document is.events is.state report is.tells;
+  legal = is.tells.legal;
+}
+promised commands.Replay document report is = record {
+  events = is.replaying.events;
+  state = is.replaying.state;
+  complete = is.tells.complete;
+  given = (is.replaying, is.given, refl, refl);
+  final = is.tells.of;
+  causes = is.tells.lines;
+  source = taken_for_proper document is.replaying.events is.replaying.state report is.tells;
+  legal = is.tells.legal;
+}
+promised commands.Check document report is = absurd is
+promised commands.Compile document report is = absurd is
+promised commands.Show document report is = absurd is
+
+-- ---- the whole
+
+appended : (old new : Option (List ℕ)) (written text : List ℕ) → old ≡ Some written → Appends old new text → new ≡ Some (written ++ text)
+appended None new written text told added = let no : None ≡ Some written = told in cc
+appended (Some held) None written text told added = absurd added
+appended (Some held) (Some holds) written text told added = ap (λ (l : List ℕ). Some l) added ∙ ap (λ (o : Option (List ℕ)). Some (unwrap_or o [] ++ text)) told
+
+done_or_partial : (short : Bool) → ((if short then statuses.Partial else statuses.Done) ≡ statuses.Done) ⊎ ((if short then statuses.Partial else statuses.Done) ≡ statuses.Partial)
+done_or_partial true = inr refl
+done_or_partial false = inl refl
+
+abbrev IsDoneOrPartial : Status → Type 0
+IsDoneOrPartial status = (status ≡ statuses.Done) ⊎ (status ≡ statuses.Partial)
+
+done : (command : Command) (old new held holds : Option (List ℕ)) (before now earlier later : ℕ) (verdict : Verdict) (status : Status) (given : Premises command old held before now earlier later status)
+    → IsOfSource command old new before now verdict → status ≡ status_for verdict → Appends held holds (text_for verdict) → IsPrinted command given.bytes_told.document given.written holds status
+done command old new held holds before now earlier later verdict status given judged same added =
+    let it = source_told command old new before now verdict given.calls given.bytes_told given.reads (λ memory. given.memory (same ∙ memory)) judged in
+    record {
+      report = it.report;
+      printed = appended held holds given.written (report_text it.report) given.text_told (subst (λ (v : Verdict). Appends held holds (text_for v)) it.same added);
+      answered = subst IsDoneOrPartial (sym (same ∙ ap status_for it.same)) (done_or_partial (is_partial it.report));
+      promise = promised command given.bytes_told.document it.report it.answered;
+    }
+
+pub headline : (request : Option Request) (old new held holds : Option (List ℕ)) (before now earlier later : ℕ) (verdict : Verdict) (status : Status) → IsOfRequest request old new before now verdict
+    → IsSaid held holds earlier later (text_for verdict) (status_for verdict) status → Headline request old held holds before now earlier later status
+headline None old new held holds before now earlier later verdict status judged said = tt
+headline (Some (requests.Workload count callers)) old new held holds before now earlier later verdict status judged said = tt
+headline (Some (requests.OfDocument command)) old new held holds before now earlier later verdict status judged said = λ given.
+    ⊎_elim (λ whole. done command old new held holds before now earlier later verdict status given judged whole.0 whole.2) (λ stopped. absurd (given.writes stopped.1)) said

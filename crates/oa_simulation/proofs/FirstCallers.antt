@@ -1,0 +1,69 @@
+-- The callers at a run's start: idle, with no guards and no cradles.
+use Rattle.std.proofs.Common.{ℕ, zero, suc, ◌≡◌, ◌<◌, ◌∙◌, Bool, true, false, [], replicate, Some, None, sym, ap, refl, arith, if◌then◌else◌}
+use Rattle.std.specs.Prelude.{slice_get, slice_index}
+use Rattle.target_code.specs.declared.target.Target.{Target}
+use Rattle.oa_words.specs.Words.{Word, Hazard, address_of, in_row}
+use Rattle.oa_words.specs.Starts.{Suits}
+use Rattle.guard_words.specs.Guards.{guard_at, no_guards}
+use Rattle.source_machine.specs.State.{idle_caller}
+use Rattle.caller_parts.specs.Settings.{Setting}
+use Rattle.caller_steps.specs.Entries.{idle_entry}
+use Rattle.core_runs.specs.Machine.{beginning_of, core_start}
+use Rattle.core_runs.specs.Views.{StartIsSeen, view}
+use Rattle.sim_relation.specs.Views.{Plan, Caller}
+use Rattle.sim_relation.specs.Callers.{CallerHolds}
+use Rattle.sim_relation.specs.WasSet.{none_set}
+use Rattle.oa_simulation.proofs.Starting.{first_shared}
+
+no_guard : (r : ℕ) → guard_at no_guards r ≡ 0
+no_guard zero = refl
+no_guard (suc zero) = refl
+no_guard (suc (suc zero)) = refl
+no_guard (suc (suc (suc zero))) = refl
+no_guard (suc (suc (suc (suc zero)))) = refl
+no_guard (suc (suc (suc (suc (suc zero))))) = refl
+no_guard (suc (suc (suc (suc (suc (suc zero)))))) = refl
+no_guard (suc (suc (suc (suc (suc (suc (suc zero))))))) = refl
+no_guard (suc (suc (suc (suc (suc (suc (suc (suc r)))))))) = refl
+
+no_cradle : (k : ℕ) → slice_index (replicate 4 0) k ≡ 0
+no_cradle zero = refl
+no_cradle (suc zero) = refl
+no_cradle (suc (suc zero)) = refl
+no_cradle (suc (suc (suc zero))) = refl
+no_cradle (suc (suc (suc (suc k)))) = refl
+
+abbrev pub first_caller : ℕ → Caller
+first_caller d = record {
+  entry = idle_entry d;
+  names = record { name = λ r. 0; valid = λ r. false };
+  was_set = none_set;
+  held = record { got = []; old = [] };
+  source = idle_caller;
+  watch = record { got = []; old = [] };
+}
+
+pub told_first : (t : Plan) (memory : Word → ℕ) (d : ℕ) → ((r : ℕ) → memory (Hazard d r) ≡ 0) → CallerHolds t (first_shared t memory) d (first_caller d)
+told_first t memory d hazards = record {
+  base = record {
+    number = refl;
+    seen = omega arith;
+    old = λ n p is. absurd (let z : None ≡ Some p = is in cc);
+    hazard = λ r. hazards r ∙ sym (no_guard r);
+    protects = λ r. refl;
+    known = λ n got. absurd (let z : false ≡ true = got in cc);
+    cradle = λ k some. absurd (some (no_cradle k));
+  };
+  spot = (no_guard, λ r valid. refl, refl);
+}
+
+pub all_idle : (n d : ℕ) → d < n → slice_get (replicate n idle_caller) d ≡ Some idle_caller
+all_idle zero d lt = absurd (omega (arith, lt))
+all_idle (suc n) zero lt = refl
+all_idle (suc n) (suc d) lt = all_idle n d (omega (arith, lt))
+
+pub no_hazard : (target : Target) (setting : Setting) → StartIsSeen target setting → Suits setting.sizes (beginning_of target setting) → (d r : ℕ) → (view setting (core_start target setting)).memory (Hazard d r) ≡ 0
+no_hazard target setting s suits d r = of (in_row setting.sizes (Hazard d r)) refl where
+  of : (b : Bool) → in_row setting.sizes (Hazard d r) ≡ b → (view setting (core_start target setting)).memory (Hazard d r) ≡ 0
+  of true row = s.memory suits (Hazard d r) row
+  of false row = ap (λ (b : Bool). if b then slice_index (core_start target setting).words (address_of setting.sizes (Hazard d r)) else 0) row

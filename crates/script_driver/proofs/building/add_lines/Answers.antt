@@ -1,7 +1,0 @@
-use Rattle.std.proofs.Common.{rules}
-use Rattle.script_driver.proofs.Blanking.{lines_more}
-use Rattle.script_driver.proofs.Blanking.{lines_end}
-use Rattle.script_driver.proofs.building.add_lines.Goals as goal
-
-pub loop-index-preserved : goal.loop-index-preserved
-loop-index-preserved c = search (rules, lines_more, lines_end)

@@ -1,7 +1,0 @@
-use Rattle.std.proofs.Common.{rules}
-use Rattle.script_driver.proofs.Answering.{line_answered}
-use Rattle.script_driver.proofs.Answering.{all_answered}
-use Rattle.script_driver.proofs.building.answer_lines.Goals as goal
-
-pub loop-line-preserved : goal.loop-line-preserved
-loop-line-preserved c = search (rules, line_answered, all_answered)

@@ -1,5 +1,0 @@
-use Rattle.std.proofs.Common.{rules}
-use Rattle.script_driver.proofs.printing.answered.Goals as goal
-
-pub returns-in-Replied-Full : goal.returns-in-Replied-Full
-returns-in-Replied-Full c = search rules

@@ -1,0 +1,4 @@
+pub mod NamedRows
+pub mod WorkloadRows
+pub mod ReportRows
+pub mod LegalRows

@@ -1,8 +1,0 @@
-pub mod Exchanging
-pub mod Writing
-pub mod Entering
-pub mod Fresh
-pub mod Made
-pub mod Offering
-pub mod Placing
-pub mod Dropping

@@ -1,2 +1,0 @@
-//! Simulation: what an exchange and a `new` do to words and names.
-#![tactic(auto)]

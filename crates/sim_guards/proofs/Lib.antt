@@ -1,7 +1,0 @@
-pub mod Residents
-pub mod Checks
-pub mod Guarding
-pub mod Publishing
-pub mod Unguarding
-pub mod Quiet
-pub mod Retiring

@@ -1,2 +1,0 @@
-//! Simulation: checks, guards, clears and retirements.
-#![tactic(auto)]

@@ -1,2 +1,0 @@
-//! Simulation: phases, slots, sweeps and claims.
-#![tactic(auto)]

@@ -1,0 +1,128 @@
+-- The stores of a `new` at a caller that belongs.
+use Rattle.std.proofs.Common.{ℕ, zero, suc, ◌≡◌, ◌≢◌, ◌==◌, ◌+◌, ◌<◌, ◌⊎◌, ◌∙◌, ◌&&◌, Bool, true, false, inl, inr, length, Some, arith, sym, ap, subst, refl, if◌then◌else◌, set}
+use Rattle.std.specs.Prelude.{nat_lt}
+use Rattle.std.proofs.lemmas.Bool.Decides.{nat_tests, eqb_tells}
+use Rattle.std.proofs.lemmas.List.{get_or-set_same}
+use Rattle.std.proofs.lemmas.Option.{unwrap_or-slice_get}
+use Rattle.norm_lang.specs.declared.text.Reg.{Reg}
+use Rattle.norm_lang.specs.declared.text.Reg.TheVariants.{Num, Ref}
+use Rattle.norm_lang.specs.declared.text.Instr.TheVariants as instr
+use Rattle.norm_lang.specs.declared.registers.Reference.{Reference}
+use Rattle.norm_lang.specs.declared.registers.Registers.{Registers}
+use Rattle.norm_lang.specs.Registers.{no_reference, with_reference}
+use Rattle.target_code.specs.declared.target.TargetInstr.TheVariants.{Plain}
+use Rattle.oa_words.specs.Words.{Word, FieldOf, in_row}
+use Rattle.oa_words.specs.Memories.{store}
+use Rattle.source_machine.specs.MethodRuns.{put}
+use Rattle.caller_parts.specs.declared.routine.Routine.{Routine}
+use Rattle.caller_parts.specs.declared.routine.Routine.TheVariants.{Zeroes}
+use Rattle.caller_steps.specs.Belongs.{Belongs, Stands as CoreStands}
+use Rattle.caller_steps.specs.Entries.{cradle_of, instr_in, zero_count}
+use Rattle.caller_parts.specs.Operands.{cradle_number}
+use Rattle.caller_steps.specs.After.{counted, node_made, zeroed as core_zeroed}
+use Rattle.caller_steps.specs.Signs.{quiet}
+use Rattle.run_ahead.specs.Agreeing.{node_in}
+use Rattle.run_ahead.proofs.Plain.{kind_right}
+use Rattle.sim_relation.specs.Views.{Plan, IsPlan, Shared, Caller}
+use Rattle.sim_relation.specs.Shared.{SharedHolds}
+use Rattle.sim_relation.specs.Callers.{CallerHolds, HoldsAt, Walks, Trail, spot_of}
+use Rattle.sim_relation.specs.Points.{DrawsHome}
+use Rattle.sim_relation.specs.Naming.{emptied_at, named_at}
+use Rattle.sim_relation.specs.Steps.{KeptWith}
+use Rattle.sim_relation.specs.WasSet.{set_zeroed}
+use Rattle.sim_relation.proofs.Codes.{code_is, instr_is, new_there}
+use Rattle.sim_steps.proofs.Walks.Quieting.{sane_here}
+use Rattle.sim_steps.proofs.Guards.Unguarding.{counted_caller}
+use Rattle.sim_steps.proofs.Accesses.News.{Zeroing, zeroing_on}
+use Rattle.sim_steps.proofs.Accesses.Newing.{zeroing_moved, new_stores}
+
+-- the caller stores 0 to a field of a cradle's slot
+pub record AtZeroes (t : Plan) (c : ℕ) (s : Shared) (x : Caller) (k field : ℕ) : Type 0 where
+  pub plan : IsPlan t
+  pub shared_holds : SharedHolds t s
+  pub caller_holds : CallerHolds t s c x
+  pub belongs : Belongs t.target t.setting x.entry
+  pub at : x.entry.routine ≡ Zeroes k field
+  -- no word past the row holds anything
+  pub beyond : (w : Word) → in_row t.setting.sizes w ≡ false → s.memory w ≡ 0
+  pub home : DrawsHome t.home (core_zeroed t.target t.setting.sizes k field (counted x.entry)).signs s.unused
+
+-- a reference that is put into a register is there
+put_there : (mirror : Registers) (r n : ℕ) → r < length mirror.references → node_in (with_reference mirror (Ref r) (record { node = n; marked = false })) r ≡ n
+put_there mirror r n lt = ap (λ (z : Reference). z.node) (unwrap_or-slice_get (set mirror.references r (record { node = n; marked = false })) r no_reference ∙ get_or-set_same mirror.references r (record { node = n; marked = false }) no_reference lt)
+
+-- A `new` stores 0 to every field of the row. That it stores to no others isn't enough for a name's fields to be 0.
+zeroes_row : (t : Plan) (x : Caller) → zero_count t.target t.setting.sizes (instr_in t.target x.entry) ≡ t.setting.sizes.fields
+zeroes_row t x = refl
+
+-- the fields past those of the row
+past : (t : Plan) (s : Shared) (j g i : ℕ) → ((w : Word) → in_row t.setting.sizes w ≡ false → s.memory w ≡ 0) → nat_lt (g + 1) t.setting.sizes.fields ≡ false → g < i → store s.memory (FieldOf j g) 0 (FieldOf j i) ≡ 0
+past t s j g i beyond ends lt =
+    let other : (i == g) ≡ false = grind (arith, nat_tests, lt) in
+    let far : nat_lt i t.setting.sizes.fields ≡ false = grind (arith, nat_tests, lt, ends) in
+    rw other (of (j == j) (beyond (FieldOf j i) (rw far (and_false _))))
+  where
+    and_false : (b : Bool) → (b && false) ≡ false
+    and_false true = refl
+    and_false false = refl
+
+    of : (b : Bool) → s.memory (FieldOf j i) ≡ 0 → (if b && false then 0 else s.memory (FieldOf j i)) ≡ 0
+    of true is = is
+    of false is = is
+
+-- from the second store on the slot has no name already
+none_before : (present : ℕ → ℕ) (j field : ℕ) → (0 < field → present j ≡ 0) → put present j 0 ≡ emptied_at field j present
+none_before present j zero none = refl
+none_before present j (suc field) none = λ i l. at l (eqb_tells l j) i where
+  at : (l : ℕ) → (((l == j) ≡ true) × (l ≡ j)) ⊎ (((l == j) ≡ false) × (l ≢ j)) → put present j 0 l ≡ present l
+  at l (inl e) = rw e.0 (sym (ap present e.1 ∙ none (omega arith)))
+  at l (inr e) = rw e.0 refl
+
+pub zero_step : (t : Plan) (c : ℕ) (s : Shared) (x : Caller) (k field : ℕ) → AtZeroes t c s x k field
+    → KeptWith t c s x x.names (set_zeroed t.target x.entry x.was_set k (nat_lt (field + 1) (zero_count t.target t.setting.sizes (instr_in t.target x.entry)))) (store s.memory (FieldOf (cradle_of x.entry k) field) 0) (core_zeroed t.target t.setting.sizes k field (counted x.entry))
+    (named_at (nat_lt (field + 1) (zero_count t.target t.setting.sizes (instr_in t.target x.entry))) (cradle_of x.entry k) s.unused (emptied_at field (cradle_of x.entry k) s.present))
+zero_step t c s x k field w =
+    let spot : HoldsAt t s c x (Zeroes k field) = subst (λ (r : Routine). HoldsAt t s c x r) w.at w.caller_holds.spot in
+    let stands : CoreStands t.target t.setting x.entry (Zeroes k field) = subst (λ (r : Routine). CoreStands t.target t.setting x.entry r) w.at w.belongs.stands in
+    let there = new_there (instr_in t.target x.entry) stands.0 in
+    subst (λ (present : ℕ → ℕ). KeptWith t c s x x.names (set_zeroed t.target x.entry x.was_set k (nat_lt (field + 1) (zero_count t.target t.setting.sizes (instr_in t.target x.entry)))) (store s.memory (FieldOf (cradle_of x.entry k) field) 0) (core_zeroed t.target t.setting.sizes k field (counted x.entry)) (named_at (nat_lt (field + 1) (zero_count t.target t.setting.sizes (instr_in t.target x.entry))) (cradle_of x.entry k) s.unused present))
+    (none_before s.present (cradle_of x.entry k) field spot.1.0) (by_register there.0 there.1 spot stands)
+  where
+    draws_home : (b : Bool) → b ≡ false → DrawsHome t.home (if b then quiet (record (counted x.entry) { routine = Zeroes k (field + 1) }) else node_made t.target t.setting.sizes (cradle_of x.entry k) (counted x.entry)).signs s.unused → t.home s.unused ≡ cradle_of x.entry k
+    draws_home true is home = absurd (let z : true ≡ false = is in cc)
+    draws_home false is home = home.0
+
+    by_register : (d : Reg) → instr_in t.target x.entry ≡ Some (Plain (instr.New d)) → HoldsAt t s c x (Zeroes k field) → CoreStands t.target t.setting x.entry (Zeroes k field)
+        → KeptWith t c s x x.names (set_zeroed t.target x.entry x.was_set k (nat_lt (field + 1) (zero_count t.target t.setting.sizes (instr_in t.target x.entry)))) (store s.memory (FieldOf (cradle_of x.entry k) field) 0) (core_zeroed t.target t.setting.sizes k field (counted x.entry))
+        (named_at (nat_lt (field + 1) (zero_count t.target t.setting.sizes (instr_in t.target x.entry))) (cradle_of x.entry k) s.unused (put s.present (cradle_of x.entry k) 0))
+    by_register (Num r) is spot stands =
+        let at = spot.2 in
+        let here = sym (instr_is t s c x (spot_of x.entry.hand) at.0 at.1) ∙ is in
+        absurd (let z : true ≡ false = kind_right at.0.walk.method w.plan.compiled x.entry.hand.at (instr.New (Num r)) here in cc)
+    by_register (Ref r) is spot stands =
+        let at = spot.2 in
+        let m : Trail t = at.0 in
+        let walks : Walks t s c x (spot_of x.entry.hand) m = at.1 in
+        let here = sym (instr_is t s c x (spot_of x.entry.hand) m walks) ∙ is in
+        let sane = sane_here t s c x (spot_of x.entry.hand) m (Plain (instr.New (Ref r))) w.plan walks here in
+        let less : r < 8 = (let limit : nat_lt r 8 ≡ true = sane.limits in grind (arith, nat_tests, limit)) in
+        let zeroing : Zeroing t s c x m r k field = record {
+          plan = w.plan;
+          shared_holds = w.shared_holds;
+          base = w.caller_holds.base;
+          walks = walks;
+          gets = at.3;
+          held = spot.0;
+          zeros = spot.1;
+          empty = spot.3;
+          here = here;
+          number = stands.1 ∙ ap (λ code. cradle_number code x.entry.hand.at) (code_is t s c x (spot_of x.entry.hand) m walks);
+          generator = sane.own.news refl;
+        } in
+        new_stores t c s x m r k field zeroing at.2 is (λ ends. record {
+          zeroing = zeroing_on t s c (counted_caller x) m r k field (zeroing_moved t s c x m r k field zeroing);
+          stands = at.2;
+          home = draws_home (nat_lt (field + 1) (zero_count t.target t.setting.sizes (instr_in t.target x.entry))) ends w.home;
+          beyond = λ i lt. past t s (cradle_of x.entry k) field i w.beyond (ap (λ (n : ℕ). nat_lt (field + 1) n) (sym (zeroes_row t x)) ∙ ends) lt;
+          register = put_there m.mirror r s.unused (let same : length x.entry.hand.registers.references ≡ length m.mirror.references = walks.ahead.sized.1 in let eight : length x.entry.hand.registers.references ≡ 8 = w.belongs.hand.registers.references in omega (arith, less, same, eight));
+        })

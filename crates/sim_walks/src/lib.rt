@@ -1,2 +1,0 @@
-//! Simulation: local code, where method runs begin and end, and the restarts of the source.
-#![tactic(auto)]

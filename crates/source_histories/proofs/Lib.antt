@@ -1,0 +1,7 @@
+pub mod Lists
+pub mod Telling
+pub mod Dealing
+pub mod Recording
+pub mod Reading
+pub mod Following
+pub mod Worked

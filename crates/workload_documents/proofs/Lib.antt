@@ -1,2 +1,0 @@
-mod Sequence
-mod Runnable

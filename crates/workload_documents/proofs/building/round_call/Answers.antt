@@ -1,8 +1,0 @@
-use Rattle.std.proofs.Common.{rules}
-use Rattle.workload_documents.proofs.building.round_call.Goals as goal
-
-pub returns-then-place-eq2 : goal.returns-then-place-eq2
-returns-then-place-eq2 c = search rules
-
-pub returns-else-place-eq2 : goal.returns-else-place-eq2
-returns-else-place-eq2 c = search rules

@@ -1,5 +1,0 @@
-use Rattle.workload_documents.proofs.Runnable.{parts_can_be_run}
-use Rattle.workload_documents.proofs.laws.parts_can_be_run.Goals as goal
-
-pub returns : goal.returns
-returns c = parts_can_be_run c.set_is_normal.ensures

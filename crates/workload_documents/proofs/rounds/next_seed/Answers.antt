@@ -1,5 +1,0 @@
-use Rattle.std.proofs.Common.{rules}
-use Rattle.workload_documents.proofs.rounds.next_seed.Goals as goal
-
-pub returns : goal.returns
-returns c = search rules

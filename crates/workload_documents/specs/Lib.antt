@@ -1,3 +1,0 @@
-pub mod Workload
-pub mod Rounds
-pub mod Laws

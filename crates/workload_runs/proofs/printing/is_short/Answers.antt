@@ -1,5 +1,0 @@
-use Rattle.std.proofs.Common.{rules}
-use Rattle.workload_runs.proofs.printing.is_short.Goals as goal
-
-pub returns-else-is_partial : goal.returns-else-is_partial
-returns-else-is_partial c = search rules
