@@ -17,7 +17,7 @@ fn statuses_are_explained(rt: HostRuntime) {
     expect_sentence(
         &rt,
         Status::ReadFault,
-        b"oa: standard input could not be read to its end, so there is no document to judge.\n",
+        b"oa: standard input could not be read to its end, so no document was judged. Check the file or the pipe, and try again.\n",
     );
     expect_sentence(
         &rt,
@@ -33,7 +33,7 @@ fn statuses_are_explained(rt: HostRuntime) {
     expect_sentence(
         &rt,
         Status::Refused { refusal },
-        b"oa: the text breaks rule N4: a put writes into a fresh node. It does so at instruction 12 of the generator, counted from 0. See 'N4' in docs/language.md.\n",
+        b"oa: rule N4 is broken at instruction 12 of the generator of operation 0 (both counted from 0): a put writes into a fresh node. See 'N4' in docs/language.md for how to mend it.\n",
     );
 }
 
@@ -42,7 +42,7 @@ fn calls_without_an_answer_are_explained(rt: HostRuntime) {
     expect_sentence(
         &rt,
         Status::Partial,
-        b"oa: a call has no answer. It is full where it swept twice and found no slot for a new node, phases where the last phase was over, and spent where it ran out of fuel, which is how many steps may be made for one call, so that the calls after it were not reached. See 'The answers' in docs/language.md.\n",
+        b"oa: at least one call has no answer: full (two sweeps freed no slot for its new node), phases (the last phase is over), spent (it used up its fuel, the steps that one call may make) or unreached (an earlier call of its caller was spent). More slots, phases or fuel may answer it: see 'The answers' in docs/language.md.\n",
     );
 }
 
@@ -56,7 +56,7 @@ fn faults_of_shape_are_explained(rt: HostRuntime) {
     expect_sentence(
         &rt,
         Status::BadShape { number: 8, at: 31 },
-        b"oa: line 31 calls what cannot be called: its text has no operation of that name. See 'What can be run' in docs/language.md.\n",
+        b"oa: line 31: its text has no operation of that name. See 'What can be run' in docs/language.md.\n",
     );
     expect_sentence(
         &rt,

@@ -46,7 +46,7 @@ shape_words number =
     else (if number == 6 then codes "its phases are not 1 to 1125899906842624, with the first no later than the last"
     else (if number == 7 then codes "its fuel is not 1 to 1000000000"
     else (if number == 8 then codes "its text has no operation of that name"
-    else (if number == 9 then codes "the operation has another count of arguments"
+    else (if number == 9 then codes "the operation has another number of arguments"
     else (if number == 10 then codes "a turn of the schedule needs a step of a caller that has none to make"
     else (if number == 11 then codes "a replay has no more steps than these"
     else codes "its shape is not as the language has it"))))))))))
@@ -64,9 +64,9 @@ fault_sentence line fault =
 -- the rule that is broken, where, and where to read on
 abbrev pub refusal_sentence : Refusal → List ℕ
 refusal_sentence refusal =
-    codes "oa: the text breaks rule N" ++ (decimal refusal.rule ++ (codes ": " ++ (rule_words refusal.rule
-    ++ (codes ". It does so at instruction " ++ (decimal refusal.at ++ (method_words refusal.wrapup
-    ++ (codes ", counted from 0. See 'N" ++ (decimal refusal.rule ++ codes "' in docs/language.md.\n"))))))))
+    codes "oa: rule N" ++ (decimal refusal.rule ++ (codes " is broken at instruction " ++ (decimal refusal.at ++ (method_words refusal.wrapup
+    ++ (codes " of operation " ++ (decimal refusal.op ++ (codes " (both counted from 0): " ++ (rule_words refusal.rule
+    ++ (codes ". See 'N" ++ (decimal refusal.rule ++ codes "' in docs/language.md for how to mend it.\n"))))))))))
 
 -- how the place of a fault of shape is told: the document as a whole, a call's line, or how many steps were made
 unfoldable pub place_before : ℕ → List ℕ
@@ -81,7 +81,7 @@ place_number number at = if nat_lt number 8 then [] else decimal at
 unfoldable pub place_after : ℕ → List ℕ
 place_after number =
     if nat_lt number 8 then []
-    else (if nat_lt number 10 then codes " calls what cannot be called: "
+    else (if nat_lt number 10 then codes ": "
     else codes " steps: ")
 
 -- where, what is wrong there, and where to read on
@@ -92,12 +92,12 @@ shape_sentence number at =
 -- the sentence on a status; where all went well there is none
 abbrev pub explanation : Status → List ℕ
 explanation Done = []
-explanation Partial = codes "oa: a call has no answer. It is full where it swept twice and found no slot for a new node, phases where the last phase was over, and spent where it ran out of fuel, which is how many steps may be made for one call, so that the calls after it were not reached. See 'The answers' in docs/language.md.\n"
-explanation Usage = codes "oa: usage: oa COMMAND < DOCUMENT, where the command is one of run (make the document's calls, and write their answers), replay (make them with the steps in the order of the document's schedule), check (say whether its text is in normal form), show (write its text in the canonical spelling) and compile (write what its text compiles to); or oa workload N C, which reads nothing (make N calls on a hash set, 1 to 100000, and before that up to 2000 of them by each of C callers, 1 to 8, and count the answers). The language of documents is in docs/language.md.\n"
-explanation ReadFault = codes "oa: standard input could not be read to its end, so there is no document to judge.\n"
-explanation LongInput = codes "oa: the input is longer than 1048576 bytes, which is the most that a document may have.\n"
+explanation Partial = codes "oa: at least one call has no answer: full (two sweeps freed no slot for its new node), phases (the last phase is over), spent (it used up its fuel, the steps that one call may make) or unreached (an earlier call of its caller was spent). More slots, phases or fuel may answer it: see 'The answers' in docs/language.md.\n"
+explanation Usage = codes "oa: usage: oa COMMAND < DOCUMENT, or oa workload N C\n  run       make the document's calls on threads, and print their answers\n  replay    make them step by step, in the order of the document's schedule\n  check     say whether its text is in normal form\n  show      print its text in the canonical spelling\n  compile   print its text with checks and guards\n  workload  make N calls on a hash set (1 to 100000), after up to 2000 by each of C callers (1 to 8)\nSee docs/language.md for documents.\n"
+explanation ReadFault = codes "oa: standard input could not be read to its end, so no document was judged. Check the file or the pipe, and try again.\n"
+explanation LongInput = codes "oa: the input is longer than 1048576 bytes, the most that a document may have. Make two documents of it.\n"
 explanation (BadDocument line fault) = fault_sentence line fault
 explanation (Refused refusal) = refusal_sentence refusal
 explanation (BadShape number at) = shape_sentence number at
-explanation WriteFault = codes "oa: standard output could not be written to its end, so what stands there may be cut short.\n"
+explanation WriteFault = codes "oa: standard output could not be written to its end, so what stands there may be cut short. Check the disk or the pipe, and try again.\n"
 explanation Memory = codes "oa: memory ran out before there was an answer. A shorter document or a smaller workload needs less.\n"

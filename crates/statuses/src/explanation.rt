@@ -11,19 +11,19 @@ use norm_check::Refusal;
 use oa_text::{Failed, Piece, Sink, write_all, write_pieces};
 
 const SHORT: &[u8] =
-    b"oa: a call has no answer. It is full where it swept twice and found no slot for a new node, phases where the last phase was over, and spent where it ran out of fuel, which is how many steps may be made for one call, so that the calls after it were not reached. See 'The answers' in docs/language.md.\n";
+    b"oa: at least one call has no answer: full (two sweeps freed no slot for its new node), phases (the last phase is over), spent (it used up its fuel, the steps that one call may make) or unreached (an earlier call of its caller was spent). More slots, phases or fuel may answer it: see 'The answers' in docs/language.md.\n";
 
 const USAGE: &[u8] =
-    b"oa: usage: oa COMMAND < DOCUMENT, where the command is one of run (make the document's calls, and write their answers), replay (make them with the steps in the order of the document's schedule), check (say whether its text is in normal form), show (write its text in the canonical spelling) and compile (write what its text compiles to); or oa workload N C, which reads nothing (make N calls on a hash set, 1 to 100000, and before that up to 2000 of them by each of C callers, 1 to 8, and count the answers). The language of documents is in docs/language.md.\n";
+    b"oa: usage: oa COMMAND < DOCUMENT, or oa workload N C\n  run       make the document's calls on threads, and print their answers\n  replay    make them step by step, in the order of the document's schedule\n  check     say whether its text is in normal form\n  show      print its text in the canonical spelling\n  compile   print its text with checks and guards\n  workload  make N calls on a hash set (1 to 100000), after up to 2000 by each of C callers (1 to 8)\nSee docs/language.md for documents.\n";
 
 const READ_FAULT: &[u8] =
-    b"oa: standard input could not be read to its end, so there is no document to judge.\n";
+    b"oa: standard input could not be read to its end, so no document was judged. Check the file or the pipe, and try again.\n";
 
 const LONG_INPUT: &[u8] =
-    b"oa: the input is longer than 1048576 bytes, which is the most that a document may have.\n";
+    b"oa: the input is longer than 1048576 bytes, the most that a document may have. Make two documents of it.\n";
 
 const WRITE_FAULT: &[u8] =
-    b"oa: standard output could not be written to its end, so what stands there may be cut short.\n";
+    b"oa: standard output could not be written to its end, so what stands there may be cut short. Check the disk or the pipe, and try again.\n";
 
 const MEMORY: &[u8] =
     b"oa: memory ran out before there was an answer. A shorter document or a smaller workload needs less.\n";
@@ -112,7 +112,7 @@ fn shape_words(number: u8) -> &'static [u8]
     } else if number == 8 {
         b"its text has no operation of that name"
     } else if number == 9 {
-        b"the operation has another count of arguments"
+        b"the operation has another number of arguments"
     } else if number == 10 {
         b"a turn of the schedule needs a step of a caller that has none to make"
     } else if number == 11 {
@@ -155,16 +155,18 @@ fn explain_refusal<K: Sink>(errors: &mut K, refusal: Refusal) -> Result<(), Fail
     write_pieces(
         errors,
         &[
-            Piece::Bytes(b"oa: the text breaks rule N"),
+            Piece::Bytes(b"oa: rule N"),
             Piece::Number(refusal.rule as u64),
-            Piece::Bytes(b": "),
-            Piece::Bytes(rule_words(refusal.rule)),
-            Piece::Bytes(b". It does so at instruction "),
+            Piece::Bytes(b" is broken at instruction "),
             Piece::Number(refusal.at as u64),
             Piece::Bytes(method_words(refusal.wrapup)),
-            Piece::Bytes(b", counted from 0. See 'N"),
+            Piece::Bytes(b" of operation "),
+            Piece::Number(refusal.op as u64),
+            Piece::Bytes(b" (both counted from 0): "),
+            Piece::Bytes(rule_words(refusal.rule)),
+            Piece::Bytes(b". See 'N"),
             Piece::Number(refusal.rule as u64),
-            Piece::Bytes(b"' in docs/language.md.\n"),
+            Piece::Bytes(b"' in docs/language.md for how to mend it.\n"),
         ],
     )
 }
@@ -203,7 +205,7 @@ fn place_after(number: u8) -> &'static [u8]
     if number < 8 {
         b""
     } else if number < 10 {
-        b" calls what cannot be called: "
+        b": "
     } else {
         b" steps: "
     }
