@@ -7,7 +7,7 @@ set -uo pipefail
 shopt -s nullglob
 cd "$(dirname "$0")/.." || exit 2
 
-documents=(README.md CONTRIBUTING.md CHANGELOG.md docs/*.md bench/README.md examples/README.md crates/*/README.md)
+documents=(README.md CONTRIBUTING.md CHANGELOG.md docs/*.md bench/README.md examples/README.md tools/README.md crates/*/README.md)
 missing=0 looked=0
 declare -A words files
 
@@ -63,8 +63,8 @@ check_quoted() { # FILE LINE TEXT
 }
 
 while read -r word; do words[$word]=1; done < <(
-  sources \( -name '*.rt' -o -name '*.antt' -o -name '*.edit' -o -name '*.oa' -o -name '*.out' -o -name '*.sh' -o -name '*.py' -o -name '*.c' \
-    -o -name crates.txt -o -name stdin -o -name stdout -o -path ./oa -o -path ./prove \) | xargs -d '\n' grep -ohE '[A-Za-z_][A-Za-z0-9_]*' | sort -u
+  sources \( -name '*.rt' -o -name '*.antt' -o -name '*.edit' -o -name '*.oa' -o -name '*.out' -o -name '*.sh' -o -name '*.py' -o -name '*.c' -o -name '*.h' \
+    -o -name crates.txt -o -name stdin -o -name stdout -o -path ./oa -o -path ./prove -o -path './tools/*' \) | xargs -d '\n' grep -ohE '[A-Za-z_][A-Za-z0-9_]*' | sort -u
 )
 while read -r file; do files[${file##*/}]=1; done < <(sources)
 for folder in crates/*/*/; do

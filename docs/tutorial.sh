@@ -2,8 +2,8 @@
 # Follows docs/tutorial.md to the letter, and examples/*.out: writes the files that the page shows, runs each command, and compares what it writes
 # with what stands below it. The program is the argument, or ./oa. The status is 0 where all is as shown, 1 where anything isn't, and else 2.
 #
-# A block of the page, which is what stands indented by 4, is a file where it begins with `# NAME.oa:`, and a transcript where it begins
-# with `$ `; an .out file is a transcript. A line `$ COMMAND` of a transcript is run with the status of the one before in `$?`. What it writes to
+# A block of the page, which is what stands indented by 4, is a file where it begins with `# NAME.oa:` or `/* NAME.c:`, and a transcript where it
+# begins with `$ `; an .out file is a transcript. One that calls `cc` is passed over where there is no C compiler. A line `$ COMMAND` of a transcript is run with the status of the one before in `$?`. What it writes to
 # standard error is compared where a line that begins with `oa: ` is shown.
 set -u
 top=$(cd "$(dirname "$0")/.." && pwd) || exit 2
@@ -14,7 +14,7 @@ work=$(mktemp -d) || exit 2
 trap 'rm -rf "$work"' EXIT
 mkdir "$work/page" && ln -s "$top/examples" "$work/examples" || exit 2
 printf '#!/usr/bin/env bash\nexec %q "$@"\n' "$program" >"$work/oa" && chmod +x "$work/oa" || exit 2
-PATH=$work:$PATH
+PATH=$work:$top/tools:$PATH
 commands=0 differing=0 last=0
 
 # Runs a command, and compares.
@@ -48,8 +48,10 @@ follow() { # FILE, the number of the transcript's first line, and the transcript
 
 # Does with a block of the page what the page says.
 take_block() { # NUMBER BLOCK
-  if [[ $2 =~ ^'# '([a-z]+\.oa): ]]; then
-    printf '%s' "$2" >"${BASH_REMATCH[1]}"
+  if [[ $2 =~ ^('# '|'/* ')([a-z]+\.(oa|c)): ]]; then
+    printf '%s' "$2" >"${BASH_REMATCH[2]}"
+  elif [[ $2 == *'$ cc '* ]] && ! command -v cc >/dev/null 2>&1; then
+    echo "tutorial: docs/tutorial.md, line $1: there is no C compiler, so this is passed over"
   elif [[ $2 == '$ '* ]]; then
     follow docs/tutorial.md "$1" <<<"${2%$'\n'}"
   fi

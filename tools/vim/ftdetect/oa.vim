@@ -1,0 +1,2 @@
+" Texts for oa, with or without labels, and targets.
+autocmd BufNewFile,BufRead *.oa,*.oal,*.oat setfiletype oa
