@@ -4,6 +4,7 @@ use Rattle.norm_lang.specs.declared.text.Reg.TheVariants.{Num, Ref}
 use Rattle.norm_lang.specs.declared.text.Start.TheVariants as starts
 use Rattle.norm_lang.specs.declared.text.Instr.TheVariants as instr
 use Rattle.norm_lang.specs.declared.text.Text.{Text}
+use Rattle.norm_lang.specs.LineWords.{item_kind}
 use Rattle.norm_lang.specs.Shipped.{number_field, reference_root, root_entry, retiring}
 use Rattle.source_machine.specs.declared.event.SourceEvent.{SourceEvent}
 use Rattle.source_machine.specs.declared.event.SourceEvent.TheVariants.{Begin, Access}
@@ -18,9 +19,10 @@ use Rattle.source_machine.specs.Proper.{IsProperState}
 -- the operation retires the node in the root, and leaves it there, where its argument is more than the greatest word
 abbrev pub losing : Text
 losing = record {
+  kinds = item_kind ∷ [];
   fields = number_field (codes "v") ∷ [];
   roots = reference_root (codes "h") 1 ∷ [];
-  nodes = record { values = starts.Value 5 ∷ [] } ∷ [];
+  nodes = record { owner = 0; values = starts.Value 5 ∷ [] } ∷ [];
   ops = record {
     name = codes "lose";
     args = 1;

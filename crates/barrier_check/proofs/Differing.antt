@@ -58,7 +58,7 @@ same_items (x ∷ xs) [] same = let never : Some x ≡ None = same 0 in cc
 same_items (x ∷ xs) (y ∷ ys) same = rw (same_Some x y (same 0), same_items xs ys (λ n. same (suc n))) refl
 
 same_text : (one other : Text) → AreAlike one other → one.ops ≡ other.ops → one ≡ other
-same_text one other alike ops = rw (alike.fields, alike.roots, alike.nodes, ops) refl
+same_text one other alike ops = rw (alike.kinds, alike.fields, alike.roots, alike.nodes, ops) refl
 
 pub all_same : (target : Target) (text : Text) (count : ℕ) → AreAlike (erased target) text → length target.ops ≤ count → AreSameBelow target text count → ErasesTo target text
 all_same target text count alike past below = same_text (erased target) text alike (same_items (erased target).ops text.ops each)
@@ -71,5 +71,5 @@ all_same target text count alike past below = same_text (erased target) text ali
     ]
 
 -- what decides whether the declarations are alike
-pub alike : (target : Target) (text : Text) → target.fields ≡ text.fields → target.roots ≡ text.roots → target.nodes ≡ text.nodes → length target.ops ≡ length text.ops → AreAlike (erased target) text
-alike target text fields roots nodes count = record { fields = fields; roots = roots; nodes = nodes; count = length_map erased_op target.ops ∙ count }
+pub alike : (target : Target) (text : Text) → target.kinds ≡ text.kinds → target.fields ≡ text.fields → target.roots ≡ text.roots → target.nodes ≡ text.nodes → length target.ops ≡ length text.ops → AreAlike (erased target) text
+alike target text kinds fields roots nodes count = record { kinds = kinds; fields = fields; roots = roots; nodes = nodes; count = length_map erased_op target.ops ∙ count }

@@ -57,6 +57,7 @@ differ : (target : Target) (text : Text) (op : ℕ) (wrapup : Bool) → DiffersA
 differ target text op wrapup differs erases =
     elim differs [
       | inl apart ↦ apart.0 (record {
+        kinds = ap (λ (t : Text). t.kinds) erases;
         fields = ap (λ (t : Text). t.fields) erases;
         roots = ap (λ (t : Text). t.roots) erases;
         nodes = ap (λ (t : Text). t.nodes) erases;

@@ -31,7 +31,7 @@ content_of (instr.Null d) = Some (record { kind = kinds.Null; operands = one_ope
 content_of (instr.LoadRoot d x) = Some (record { kind = kinds.LoadRoot; operands = one_operand d; number = x; count = 0 })
 content_of (instr.LoadPick d x n a) = Some (record { kind = kinds.LoadPick; operands = two_operands d a; number = x; count = n })
 content_of (instr.LoadField d a x) = Some (record { kind = kinds.LoadField; operands = two_operands d a; number = x; count = 0 })
-content_of (instr.New d) = Some (record { kind = kinds.New; operands = one_operand d; number = 0; count = 0 })
+content_of (instr.New d kind) = Some (record { kind = kinds.New; operands = one_operand d; number = kind; count = 0 })
 content_of (instr.Put a x b) = Some (record { kind = kinds.Put; operands = two_operands a b; number = x; count = 0 })
 content_of (instr.Return a) = Some (record { kind = kinds.Return; operands = one_operand a; number = 0; count = 0 })
 content_of instr.ReturnNone = Some (record { kind = kinds.ReturnNone; operands = no_operand; number = 0; count = 0 })

@@ -6,8 +6,8 @@ use Rattle.target_code.specs.TargetLimits.{is_target_instr, is_target_op}
 
 -- an operation of a target within the limits
 abbrev pub IsTargetOpWithin : TargetOp → Type 0
-IsTargetOpWithin op = (fields roots : ℕ) × IsTrue (is_target_op fields roots op)
+IsTargetOpWithin op = (kinds fields roots : ℕ) × IsTrue (is_target_op kinds fields roots op)
 
 -- an instruction of one
 abbrev pub IsTargetInstrWithin : TargetInstr → Type 0
-IsTargetInstrWithin i = (fields roots : ℕ) × IsTrue (is_target_instr fields roots i)
+IsTargetInstrWithin i = (kinds fields roots : ℕ) × IsTrue (is_target_instr kinds fields roots i)

@@ -41,7 +41,7 @@ impl Same for Operands {
     }
 }
 
-/// What an instruction says. The number is that of a root or of a field, what is set, or a divisor; the count is that of
+/// What an instruction says. The number is that of a root, of a field or of a node kind, what is set, or a divisor; the count is that of
 /// a pick's roots.
 #[derive(Clone, Copy)]
 pub(crate) struct Content {
@@ -140,7 +140,7 @@ pub(crate) fn content_of(instr: &Instr) -> Option<Content>
         Instr::LoadRoot(d, x) => one(Kind::LoadRoot, *d, *x as u64),
         Instr::LoadPick(d, x, n, a) => two(Kind::LoadPick, *d, *a, *x as u64, *n as u64),
         Instr::LoadField(d, a, x) => two(Kind::LoadField, *d, *a, *x as u64, 0),
-        Instr::New(d) => one(Kind::New, *d, 0),
+        Instr::New(d, kind) => one(Kind::New, *d, *kind as u64),
         Instr::Put(a, x, b) => two(Kind::Put, *a, *b, *x as u64, 0),
         Instr::Return(a) => one(Kind::Return, *a, 0),
         Instr::ReturnNone => none(Kind::ReturnNone),

@@ -21,7 +21,8 @@ use target_code::target::{Target, TargetOp};
 fn are_alike(target: &Target, text: &Text) -> bool
     ensures { Decides result (AreAlike (erased target.now) text.now) }
 {
-    are_same(target.fields.items(), text.fields.items())
+    are_same(target.kinds.items(), text.kinds.items())
+        && are_same(target.fields.items(), text.fields.items())
         && are_same(target.roots.items(), text.roots.items())
         && are_same(target.nodes.items(), text.nodes.items())
         && target.ops.items().len() == text.ops.items().len()

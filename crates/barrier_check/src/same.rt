@@ -3,7 +3,7 @@
 ghost use Rattle.std.specs.Prelude.{◌≡◌};
 ghost use Rattle.std.specs.Bool.{Decides};
 
-use norm_lang::text::{CasEntry, FieldDecl, NodeDecl, RootDecl, Start};
+use norm_lang::text::{CasEntry, FieldDecl, Name, NodeDecl, RootDecl, Start};
 
 /// What can be compared with another of its type.
 pub(crate) trait Same {
@@ -26,9 +26,17 @@ impl Same for CasEntry {
     }
 }
 
+impl Same for Name {
+    fn is_same(&self, other: &Name) -> bool {
+        self.items() == other.items()
+    }
+}
+
 impl Same for FieldDecl {
     fn is_same(&self, other: &FieldDecl) -> bool {
-        self.name.items() == other.name.items() && self.kind == other.kind
+        self.name.items() == other.name.items()
+            && self.owner == other.owner
+            && self.kind == other.kind
     }
 }
 
@@ -42,7 +50,7 @@ impl Same for RootDecl {
 
 impl Same for NodeDecl {
     fn is_same(&self, other: &NodeDecl) -> bool {
-        are_same(self.values.items(), other.values.items())
+        self.owner == other.owner && are_same(self.values.items(), other.values.items())
     }
 }
 

@@ -1,5 +1,5 @@
 -- What a scheme makes of a text in normal form is barred for it.
-use Rattle.std.proofs.Common.{◌≡◌, List, map, sym, ap, subst, ◌∙◌}
+use Rattle.std.proofs.Common.{◌≡◌, ℕ, List, map, sym, ap, subst, ◌∙◌}
 use Rattle.norm_lang.specs.declared.text.FieldDecl.{FieldDecl}
 use Rattle.norm_lang.specs.declared.text.RootDecl.{RootDecl}
 use Rattle.norm_lang.specs.declared.text.NodeDecl.{NodeDecl}
@@ -33,18 +33,19 @@ second_scheme_is_barred = scheme_is_barred second_marks second_is_scheme
 pub second_scheme_is_within : (text : Text) → IsWithinLimits text → IsTargetWithinLimits (second_scheme text)
 second_scheme_is_within = scheme_is_within second_marks second_is_scheme.instrs
 
-abbrev made_of : List FieldDecl → List RootDecl → List NodeDecl → List TargetOp → Target
-made_of fields roots nodes ops = record { fields = fields; roots = roots; nodes = nodes; ops = ops }
+abbrev made_of : List (List ℕ) → List FieldDecl → List RootDecl → List NodeDecl → List TargetOp → Target
+made_of kinds fields roots nodes ops = record { kinds = kinds; fields = fields; roots = roots; nodes = nodes; ops = ops }
 
 -- and so is a target with the same parts
-pub barred_by_parts : (text read : Text) (fields : List FieldDecl) (roots : List RootDecl) (nodes : List NodeDecl) (ops : List TargetOp)
-    → read ≡ text → IsWithinLimits read → IsNormal read → fields ≡ read.fields → roots ≡ read.roots → nodes ≡ read.nodes → ops ≡ map (scheme_op second_marks) text.ops
-    → IsBarred (record { fields = fields; roots = roots; nodes = nodes; ops = ops }) text
-barred_by_parts text read fields roots nodes ops same within normal one two three four =
-    let made : made_of fields roots nodes ops ≡ second_scheme read =
-    ap (λ f. made_of f roots nodes ops) one
-    ∙ ap (λ r. made_of read.fields r nodes ops) two
-    ∙ ap (λ n. made_of read.fields read.roots n ops) three
-    ∙ ap (λ o. made_of read.fields read.roots read.nodes o) (four ∙ ap (λ (t : Text). map (scheme_op second_marks) t.ops) (sym same)) in
-    subst (λ (t : Text). IsBarred (made_of fields roots nodes ops) t) same
+pub barred_by_parts : (text read : Text) (kinds : List (List ℕ)) (fields : List FieldDecl) (roots : List RootDecl) (nodes : List NodeDecl) (ops : List TargetOp)
+    → read ≡ text → IsWithinLimits read → IsNormal read → kinds ≡ read.kinds → fields ≡ read.fields → roots ≡ read.roots → nodes ≡ read.nodes → ops ≡ map (scheme_op second_marks) text.ops
+    → IsBarred (record { kinds = kinds; fields = fields; roots = roots; nodes = nodes; ops = ops }) text
+barred_by_parts text read kinds fields roots nodes ops same within normal one two three four five =
+    let made : made_of kinds fields roots nodes ops ≡ second_scheme read =
+    ap (λ k. made_of k fields roots nodes ops) one
+    ∙ ap (λ f. made_of read.kinds f roots nodes ops) two
+    ∙ ap (λ r. made_of read.kinds read.fields r nodes ops) three
+    ∙ ap (λ n. made_of read.kinds read.fields read.roots n ops) four
+    ∙ ap (λ o. made_of read.kinds read.fields read.roots read.nodes o) (five ∙ ap (λ (t : Text). map (scheme_op second_marks) t.ops) (sym same)) in
+    subst (λ (t : Text). IsBarred (made_of kinds fields roots nodes ops) t) same
     (subst (λ (target : Target). IsBarred target read) (sym made) (second_scheme_is_barred read within normal))

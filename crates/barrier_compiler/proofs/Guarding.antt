@@ -226,7 +226,7 @@ reference_among (Ref (suc (suc (suc (suc (suc (suc (suc (suc n))))))))) is regis
 kept_among : (op : Op) (r : Reg) → IsOpWithin op → IsKept op r → IsAmong r all_references
 kept_among op r within kept =
     let read = reads_some (slice_get op.wrapup kept.1.0) r kept.1.1 in
-    let register = reads_within within.0 within.1 read.0 r (instr_within within.0 within.1 op true kept.1.0 read.0 within.2 read.1) read.2 in
+    let register = reads_within within.0 within.1 within.2 read.0 r (instr_within within.0 within.1 within.2 op true kept.1.0 read.0 within.3 read.1) read.2 in
     reference_among r kept.0 register
 
 -- what an instruction needs guarded is what its block guards

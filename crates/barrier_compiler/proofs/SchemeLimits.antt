@@ -17,7 +17,7 @@ use Rattle.norm_lang.specs.declared.text.Text.{Text}
 use Rattle.norm_lang.specs.LineWords.{is_name}
 use Rattle.norm_lang.specs.Declarations.{is_reserved}
 use Rattle.norm_lang.specs.Grammar.{is_new, news_in, news_of}
-use Rattle.norm_lang.specs.Limits.{has_between, are_different, is_register, is_target, is_place, is_retire, is_entry, is_instr, is_method, is_op, are_fields, are_nodes, are_roots, are_ops, IsWithinLimits}
+use Rattle.norm_lang.specs.Limits.{has_between, are_different, is_register, is_target, is_place, is_retire, is_entry, is_instr, is_method, is_op, are_kinds, are_fields, are_nodes, are_roots, are_ops, IsWithinLimits}
 use Rattle.norm_lang.specs.RegisterUse.{same_register, objects_of, operands_of}
 use Rattle.norm_lang.specs.Kept.{holds_reference}
 use Rattle.norm_lang.specs.PathRules.{is_commit}
@@ -55,11 +55,11 @@ operands_within fields roots entry is =
     list_all_both is_register (objects_of entry.place) (entry.expected ∷ entry.replacement ∷ []) (objects_within fields roots entry.place one.0)
     (and_from expected (replacement && true) two.0 (and_from replacement true three.0 refl))
 
-exchanged_within : (fields roots : ℕ) (i : Instr) → IsTrue (is_instr fields roots i) → IsTrue (list_all is_register (exchanged i))
-exchanged_within fields roots (instr.Cas entry l) is = operands_within fields roots entry (and_parts (is_entry fields roots entry) (is_target l) is).0
-exchanged_within fields roots (instr.Commit entries) is =
+exchanged_within : (kinds fields roots : ℕ) (i : Instr) → IsTrue (is_instr kinds fields roots i) → IsTrue (list_all is_register (exchanged i))
+exchanged_within kinds fields roots (instr.Cas entry l) is = operands_within fields roots entry (and_parts (is_entry fields roots entry) (is_target l) is).0
+exchanged_within kinds fields roots (instr.Commit entries) is =
     list_all_flat_map (is_entry fields roots) is_register operands_of (operands_within fields roots) entries (and_parts (nat_le (length entries) 4) (list_all (is_entry fields roots) entries) is).1
-exchanged_within fields roots _ is = refl
+exchanged_within kinds fields roots _ is = refl
 
 references_guarded : (rs : List Reg) → IsTrue (list_all is_register rs) → IsTrue (list_all is_guarded_register (filter holds_reference rs))
 references_guarded [] all = refl
@@ -75,10 +75,10 @@ kept_guarded keep false rs all = refl
 abbrev guarded_of : Op → Instr → List Reg
 guarded_of op i = filter holds_reference (exchanged i) ++ kept_at op i
 
-guarded_within : (fields roots : ℕ) (op : Op) (i : Instr) → IsTrue (is_instr fields roots i) → IsTrue (list_all is_guarded_register (guarded_of op i))
-guarded_within fields roots op i is =
+guarded_within : (kinds fields roots : ℕ) (op : Op) (i : Instr) → IsTrue (is_instr kinds fields roots i) → IsTrue (list_all is_guarded_register (guarded_of op i))
+guarded_within kinds fields roots op i is =
     list_all_both is_guarded_register (filter holds_reference (exchanged i)) (kept_at op i)
-    (references_guarded (exchanged i) (exchanged_within fields roots i is))
+    (references_guarded (exchanged i) (exchanged_within kinds fields roots i is))
     (kept_guarded (keeps op) (is_commit i) all_references refl)
 
 is_reference : (r : Reg) → IsTrue (is_guarded_register r) → IsTrue (list_any (λ a. same_register a r) all_references)
@@ -95,9 +95,9 @@ is_reference (Ref (suc (suc (suc (suc (suc (suc (suc (suc n))))))))) is =
     let lt : suc (suc (suc (suc (suc (suc (suc (suc n))))))) < 8 = ltb-true (suc (suc (suc (suc (suc (suc (suc (suc n)))))))) 8 is in
     let no : ⊥ = omega (arith, lt) in absurd no
 
-guards_few : (fields roots : ℕ) (op : Op) (i : Instr) → IsTrue (is_instr fields roots i) → length (to_guard op i) ≤ 8
-guards_few fields roots op i is =
-    once_short all_references (guarded_of op i) (list_all_weaker is_guarded_register (λ r. list_any (λ a. same_register a r) all_references) is_reference (guarded_of op i) (guarded_within fields roots op i is))
+guards_few : (kinds fields roots : ℕ) (op : Op) (i : Instr) → IsTrue (is_instr kinds fields roots i) → length (to_guard op i) ≤ 8
+guards_few kinds fields roots op i is =
+    once_short all_references (guarded_of op i) (list_all_weaker is_guarded_register (λ r. list_any (λ a. same_register a r) all_references) is_reference (guarded_of op i) (guarded_within kinds fields roots op i is))
 
 -- ---- blocks
 
@@ -112,67 +112,67 @@ barrier_length wanted (r ∷ rs) = let long = length-append (map Guard (r ∷ rs
 block_long : (place : ℕ → ℕ) (op : Op) (m : Marked) → 1 ≤ length (block place op m)
 block_long place op m = omega (arith, length-append (barrier m.before (to_guard op m.instr)) (Plain (redirected place m.instr) ∷ check_if m.after))
 
--- an instruction with a mark, with so many fields and roots
-abbrev is_marked : ℕ → ℕ → Marked → Bool
-is_marked fields roots m = is_instr fields roots m.instr
+-- an instruction with a mark, with so many kinds, fields and roots
+abbrev is_marked : ℕ → ℕ → ℕ → Marked → Bool
+is_marked kinds fields roots m = is_instr kinds fields roots m.instr
 
 -- eight guards with a check, the instruction, and a check: 256 instructions become no more than 2816
-block_short : (fields roots : ℕ) (place : ℕ → ℕ) (op : Op) (m : Marked) → IsTrue (is_marked fields roots m) → length (block place op m) ≤ 11
-block_short fields roots place op m is =
-    let few = guards_few fields roots op m.instr is in
+block_short : (kinds fields roots : ℕ) (place : ℕ → ℕ) (op : Op) (m : Marked) → IsTrue (is_marked kinds fields roots m) → length (block place op m) ≤ 11
+block_short kinds fields roots place op m is =
+    let few = guards_few kinds fields roots op m.instr is in
     let before = barrier_length m.before (to_guard op m.instr) in
     let behind : length (check_if m.after) ≤ 1 = check_length m.after in
     omega (arith, few, before, behind, length-append (barrier m.before (to_guard op m.instr)) (Plain (redirected place m.instr) ∷ check_if m.after))
 
-redirected_within : (fields roots : ℕ) (place : ℕ → ℕ) → ((l : ℕ) → IsTrue (is_target (place l))) → (i : Instr) → IsTrue (is_instr fields roots i) → IsTrue (is_instr fields roots (redirected place i))
-redirected_within fields roots place leads (instr.Cas entry l) is = and_kept (is_entry fields roots entry) (is_target l) (is_target (place l)) (λ _. leads l) is
-redirected_within fields roots place leads (instr.Jump l) is = leads l
-redirected_within fields roots place leads (instr.IfEq a b l) is =
+redirected_within : (kinds fields roots : ℕ) (place : ℕ → ℕ) → ((l : ℕ) → IsTrue (is_target (place l))) → (i : Instr) → IsTrue (is_instr kinds fields roots i) → IsTrue (is_instr kinds fields roots (redirected place i))
+redirected_within kinds fields roots place leads (instr.Cas entry l) is = and_kept (is_entry fields roots entry) (is_target l) (is_target (place l)) (λ _. leads l) is
+redirected_within kinds fields roots place leads (instr.Jump l) is = leads l
+redirected_within kinds fields roots place leads (instr.IfEq a b l) is =
     and_kept (is_register a) (is_register b && is_target l) (is_register b && is_target (place l)) (and_kept (is_register b) (is_target l) (is_target (place l)) (λ _. leads l)) is
-redirected_within fields roots place leads (instr.IfLess a b l) is =
+redirected_within kinds fields roots place leads (instr.IfLess a b l) is =
     and_kept (is_register a) (is_register b && is_target l) (is_register b && is_target (place l)) (and_kept (is_register b) (is_target l) (is_target (place l)) (λ _. leads l)) is
-redirected_within fields roots place leads (instr.IfMarked a l) is = and_kept (is_register a) (is_target l) (is_target (place l)) (λ _. leads l) is
-redirected_within fields roots place leads _ is = is
+redirected_within kinds fields roots place leads (instr.IfMarked a l) is = and_kept (is_register a) (is_target l) (is_target (place l)) (λ _. leads l) is
+redirected_within kinds fields roots place leads _ is = is
 
-check_within : (fields roots : ℕ) (wanted : Bool) → IsTrue (list_all (is_target_instr fields roots) (check_if wanted))
-check_within fields roots true = refl
-check_within fields roots false = refl
+check_within : (kinds fields roots : ℕ) (wanted : Bool) → IsTrue (list_all (is_target_instr kinds fields roots) (check_if wanted))
+check_within kinds fields roots true = refl
+check_within kinds fields roots false = refl
 
-barrier_within : (fields roots : ℕ) (wanted : Bool) (rs : List Reg) → IsTrue (list_all is_guarded_register rs) → IsTrue (list_all (is_target_instr fields roots) (barrier wanted rs))
-barrier_within fields roots wanted [] all = check_within fields roots wanted
-barrier_within fields roots wanted (r ∷ rs) all =
-    list_all_both (is_target_instr fields roots) (map Guard (r ∷ rs)) (Check ∷ []) (list_all-map (is_target_instr fields roots) Guard (r ∷ rs) ∙ all) refl
+barrier_within : (kinds fields roots : ℕ) (wanted : Bool) (rs : List Reg) → IsTrue (list_all is_guarded_register rs) → IsTrue (list_all (is_target_instr kinds fields roots) (barrier wanted rs))
+barrier_within kinds fields roots wanted [] all = check_within kinds fields roots wanted
+barrier_within kinds fields roots wanted (r ∷ rs) all =
+    list_all_both (is_target_instr kinds fields roots) (map Guard (r ∷ rs)) (Check ∷ []) (list_all-map (is_target_instr kinds fields roots) Guard (r ∷ rs) ∙ all) refl
 
-block_within : (fields roots : ℕ) (place : ℕ → ℕ) → ((l : ℕ) → IsTrue (is_target (place l))) → (op : Op) (m : Marked) → IsTrue (is_marked fields roots m) → IsTrue (list_all (is_target_instr fields roots) (block place op m))
-block_within fields roots place leads op m is =
-    list_all_both (is_target_instr fields roots) (barrier m.before (to_guard op m.instr)) (Plain (redirected place m.instr) ∷ check_if m.after)
-    (barrier_within fields roots m.before (to_guard op m.instr) (all_once is_guarded_register (guarded_of op m.instr) (guarded_within fields roots op m.instr is)))
-    (and_from (is_instr fields roots (redirected place m.instr)) (list_all (is_target_instr fields roots) (check_if m.after)) (redirected_within fields roots place leads m.instr is) (check_within fields roots m.after))
+block_within : (kinds fields roots : ℕ) (place : ℕ → ℕ) → ((l : ℕ) → IsTrue (is_target (place l))) → (op : Op) (m : Marked) → IsTrue (is_marked kinds fields roots m) → IsTrue (list_all (is_target_instr kinds fields roots) (block place op m))
+block_within kinds fields roots place leads op m is =
+    list_all_both (is_target_instr kinds fields roots) (barrier m.before (to_guard op m.instr)) (Plain (redirected place m.instr) ∷ check_if m.after)
+    (barrier_within kinds fields roots m.before (to_guard op m.instr) (all_once is_guarded_register (guarded_of op m.instr) (guarded_within kinds fields roots op m.instr is)))
+    (and_from (is_instr kinds fields roots (redirected place m.instr)) (list_all (is_target_instr kinds fields roots) (check_if m.after)) (redirected_within kinds fields roots place leads m.instr is) (check_within kinds fields roots m.after))
 
 -- ---- methods
 
-place_within : (fields roots : ℕ) (op : Op) (marked : List Marked) → length marked ≤ 256 → IsTrue (list_all (is_marked fields roots) marked) → (l : ℕ) → IsTrue (is_target (block_place op marked l))
-place_within fields roots op marked few all l =
-    let long = length_flat_map_most (is_marked fields roots) (block (λ at. at) op) 11 (block_short fields roots (λ at. at) op) (take l marked) (list_all_take (is_marked fields roots) l marked all) in
+place_within : (kinds fields roots : ℕ) (op : Op) (marked : List Marked) → length marked ≤ 256 → IsTrue (list_all (is_marked kinds fields roots) marked) → (l : ℕ) → IsTrue (is_target (block_place op marked l))
+place_within kinds fields roots op marked few all l =
+    let long = length_flat_map_most (is_marked kinds fields roots) (block (λ at. at) op) 11 (block_short kinds fields roots (λ at. at) op) (take l marked) (list_all_take (is_marked kinds fields roots) l marked all) in
     let front = length-take l marked in
     le-leb (block_place op marked l) 65535 (omega (arith, few, long, front))
 
-pub method_within : (fields roots : ℕ) (op : Op) (code : List Instr) (marked : List Marked) → instrs_of marked ≡ code → IsTrue (is_method fields roots code) → IsTrue (is_target_method fields roots (laid_out op marked))
-method_within fields roots op code marked same is =
-    let parts = and_parts (has_between 1 256 code) (list_all (is_instr fields roots) code) is in
+pub method_within : (kinds fields roots : ℕ) (op : Op) (code : List Instr) (marked : List Marked) → instrs_of marked ≡ code → IsTrue (is_method kinds fields roots code) → IsTrue (is_target_method kinds fields roots (laid_out op marked))
+method_within kinds fields roots op code marked same is =
+    let parts = and_parts (has_between 1 256 code) (list_all (is_instr kinds fields roots) code) is in
     let sizes = and_parts (nat_le 1 (length code)) (nat_le (length code) 256) parts.0 in
     let long : length marked ≡ length code = sym (length-map marked (λ (m : Marked). m.instr)) ∙ ap length same in
     let some : 1 ≤ length code = leb-true 1 (length code) sizes.0 in
     let few : length code ≤ 256 = leb-true (length code) 256 sizes.1 in
-    let all : IsTrue (list_all (is_marked fields roots) marked) = sym (list_all-map (is_instr fields roots) (λ (m : Marked). m.instr) marked) ∙ (ap (list_all (is_instr fields roots)) same ∙ parts.1) in
+    let all : IsTrue (list_all (is_marked kinds fields roots) marked) = sym (list_all-map (is_instr kinds fields roots) (λ (m : Marked). m.instr) marked) ∙ (ap (list_all (is_instr kinds fields roots)) same ∙ parts.1) in
     let place = block_place op marked in
     let least = length_flat_map_least (block place op) (block_long place op) marked in
-    let most = length_flat_map_most (is_marked fields roots) (block place op) 11 (block_short fields roots place op) marked all in
-    and_from (has_between 1 4096 (laid_out op marked)) (list_all (is_target_instr fields roots) (laid_out op marked))
+    let most = length_flat_map_most (is_marked kinds fields roots) (block place op) 11 (block_short kinds fields roots place op) marked all in
+    and_from (has_between 1 4096 (laid_out op marked)) (list_all (is_target_instr kinds fields roots) (laid_out op marked))
     (and_from (nat_le 1 (length (laid_out op marked))) (nat_le (length (laid_out op marked)) 4096)
     (le-leb 1 (length (laid_out op marked)) (omega (arith, some, least, long)))
     (le-leb (length (laid_out op marked)) 4096 (omega (arith, few, most, long))))
-    (list_all_flat_map (is_marked fields roots) (is_target_instr fields roots) (block place op) (block_within fields roots place (place_within fields roots op marked (omega (arith, few, long)) all) op) marked all)
+    (list_all_flat_map (is_marked kinds fields roots) (is_target_instr kinds fields roots) (block place op) (block_within kinds fields roots place (place_within kinds fields roots op marked (omega (arith, few, long)) all) op) marked all)
 
 -- ---- counts of `new`
 
@@ -211,8 +211,8 @@ MarksAll marks = (code : List Instr) → instrs_of (marks code) ≡ code
 
 -- ---- operations
 
-op_within : (marks : List Instr → List Marked) → MarksAll marks → (fields roots : ℕ) (op : Op) → IsTrue (is_op fields roots op) → IsTrue (is_target_op fields roots (scheme_op marks op))
-op_within marks all fields roots op =
+op_within : (marks : List Instr → List Marked) → MarksAll marks → (kinds fields roots : ℕ) (op : Op) → IsTrue (is_op kinds fields roots op) → IsTrue (is_target_op kinds fields roots (scheme_op marks op))
+op_within marks all kinds fields roots op =
     let generator = laid_out op (marks op.generator) in
     let wrapup = laid_out op (marks op.wrapup) in
     let named = is_name op.name && not (is_reserved op.name) in
@@ -220,34 +220,36 @@ op_within marks all fields roots op =
     let still = nat_le (target_news_in generator + target_news_in wrapup) 4 in
     let same : news_of op ≡ target_news_in generator + target_news_in wrapup = ap (λ n. n + news_in op.wrapup) (sym (news_same op op.generator (marks op.generator) (all op.generator))) ∙ ap (λ n. target_news_in generator + n) (sym (news_same op op.wrapup (marks op.wrapup) (all op.wrapup))) in
     let last : IsTrue few → IsTrue still = subst (λ (n : ℕ). IsTrue (nat_le n 4)) same in
-    and_kept named (nat_le op.args 4 && (is_method fields roots op.generator && (is_method fields roots op.wrapup && few))) (nat_le op.args 4 && (is_target_method fields roots generator && (is_target_method fields roots wrapup && still)))
-    (and_kept (nat_le op.args 4) (is_method fields roots op.generator && (is_method fields roots op.wrapup && few)) (is_target_method fields roots generator && (is_target_method fields roots wrapup && still))
-    (and_weaker (is_method fields roots op.generator) (is_method fields roots op.wrapup && few) (is_target_method fields roots generator) (is_target_method fields roots wrapup && still) (method_within fields roots op op.generator (marks op.generator) (all op.generator))
-    (and_weaker (is_method fields roots op.wrapup) few (is_target_method fields roots wrapup) still (method_within fields roots op op.wrapup (marks op.wrapup) (all op.wrapup)) last)))
+    and_kept named (nat_le op.args 4 && (is_method kinds fields roots op.generator && (is_method kinds fields roots op.wrapup && few))) (nat_le op.args 4 && (is_target_method kinds fields roots generator && (is_target_method kinds fields roots wrapup && still)))
+    (and_kept (nat_le op.args 4) (is_method kinds fields roots op.generator && (is_method kinds fields roots op.wrapup && few)) (is_target_method kinds fields roots generator && (is_target_method kinds fields roots wrapup && still))
+    (and_weaker (is_method kinds fields roots op.generator) (is_method kinds fields roots op.wrapup && few) (is_target_method kinds fields roots generator) (is_target_method kinds fields roots wrapup && still) (method_within kinds fields roots op op.generator (marks op.generator) (all op.generator))
+    (and_weaker (is_method kinds fields roots op.wrapup) few (is_target_method kinds fields roots wrapup) still (method_within kinds fields roots op op.wrapup (marks op.wrapup) (all op.wrapup)) last)))
 
 names_same : (marks : List Instr → List Marked) (ops : List Op) → map (λ op. op.name) (map (scheme_op marks) ops) ≡ map (λ op. op.name) ops
 names_same marks [] = refl
 names_same marks (op ∷ ops) = ap (λ names. op.name ∷ names) (names_same marks ops)
 
-ops_within : (marks : List Instr → List Marked) → MarksAll marks → (fields roots : ℕ) (ops : List Op) → IsTrue (are_ops fields roots ops) → IsTrue (are_target_ops fields roots (map (scheme_op marks) ops))
-ops_within marks all fields roots ops is =
-    let one = and_parts (has_between 1 16 ops) (list_all (is_op fields roots) ops && are_different (map (λ op. op.name) ops)) is in
-    let two = and_parts (list_all (is_op fields roots) ops) (are_different (map (λ op. op.name) ops)) one.1 in
-    let each : IsTrue (list_all (λ op. is_target_op fields roots (scheme_op marks op)) ops) = list_all_weaker (is_op fields roots) (λ op. is_target_op fields roots (scheme_op marks op)) (op_within marks all fields roots) ops two.0 in
-    and_from (has_between 1 16 (map (scheme_op marks) ops)) (list_all (is_target_op fields roots) (map (scheme_op marks) ops) && are_different (map (λ op. op.name) (map (scheme_op marks) ops)))
+ops_within : (marks : List Instr → List Marked) → MarksAll marks → (kinds fields roots : ℕ) (ops : List Op) → IsTrue (are_ops kinds fields roots ops) → IsTrue (are_target_ops kinds fields roots (map (scheme_op marks) ops))
+ops_within marks all kinds fields roots ops is =
+    let one = and_parts (has_between 1 16 ops) (list_all (is_op kinds fields roots) ops && are_different (map (λ op. op.name) ops)) is in
+    let two = and_parts (list_all (is_op kinds fields roots) ops) (are_different (map (λ op. op.name) ops)) one.1 in
+    let each : IsTrue (list_all (λ op. is_target_op kinds fields roots (scheme_op marks op)) ops) = list_all_weaker (is_op kinds fields roots) (λ op. is_target_op kinds fields roots (scheme_op marks op)) (op_within marks all kinds fields roots) ops two.0 in
+    and_from (has_between 1 16 (map (scheme_op marks) ops)) (list_all (is_target_op kinds fields roots) (map (scheme_op marks) ops) && are_different (map (λ op. op.name) (map (scheme_op marks) ops)))
     (subst (λ (n : ℕ). IsTrue (nat_le 1 n && nat_le n 16)) (sym (length-map ops (scheme_op marks))) one.0)
-    (and_from (list_all (is_target_op fields roots) (map (scheme_op marks) ops)) (are_different (map (λ op. op.name) (map (scheme_op marks) ops)))
-    (list_all-map (is_target_op fields roots) (scheme_op marks) ops ∙ each)
+    (and_from (list_all (is_target_op kinds fields roots) (map (scheme_op marks) ops)) (are_different (map (λ op. op.name) (map (scheme_op marks) ops)))
+    (list_all-map (is_target_op kinds fields roots) (scheme_op marks) ops ∙ each)
     (subst (λ (names : List (List ℕ)). IsTrue (are_different names)) (sym (names_same marks ops)) two.1))
 
 -- what is made of a text within the limits is within them
 pub scheme_is_within : (marks : List Instr → List Marked) → MarksAll marks → (text : Text) → IsWithinLimits text → IsTargetWithinLimits (scheme marks text)
 scheme_is_within marks all text =
+    let kinds = are_kinds text.kinds in
     let fields = are_fields text.fields in
     let nodes = are_nodes text.fields text.nodes in
     let roots = are_roots (length text.nodes) text.roots in
-    let before = are_ops (length text.fields) (length text.roots) text.ops in
-    let after = are_target_ops (length text.fields) (length text.roots) (map (scheme_op marks) text.ops) in
-    and_kept fields (nodes && (roots && before)) (nodes && (roots && after))
+    let before = are_ops (length text.kinds) (length text.fields) (length text.roots) text.ops in
+    let after = are_target_ops (length text.kinds) (length text.fields) (length text.roots) (map (scheme_op marks) text.ops) in
+    and_kept kinds (fields && (nodes && (roots && before))) (fields && (nodes && (roots && after)))
+    (and_kept fields (nodes && (roots && before)) (nodes && (roots && after))
     (and_kept nodes (roots && before) (roots && after)
-    (and_kept roots before after (ops_within marks all (length text.fields) (length text.roots) text.ops)))
+    (and_kept roots before after (ops_within marks all (length text.kinds) (length text.fields) (length text.roots) text.ops))))

@@ -21,31 +21,32 @@ use Rattle.target_code.proofs.Keeping.{keeps_is_kept}
 use Rattle.barrier_compiler.proofs.SchemeLimits.{method_within}
 use Rattle.barrier_compiler.proofs.Combining.{second_is_scheme}
 
-method_short : (fields roots : ℕ) (op : Op) (code : List Instr) → IsTrue (is_method fields roots code) → IsShort op (second_marks code)
-method_short fields roots op code is =
+method_short : (kinds fields roots : ℕ) (op : Op) (code : List Instr) → IsTrue (is_method kinds fields roots code) → IsShort op (second_marks code)
+method_short kinds fields roots op code is =
     let compiled = laid_out op (second_marks code) in
-    let sizes = and_parts (nat_le 1 (length compiled) && nat_le (length compiled) 4096) (list_all (is_target_instr fields roots) compiled) (method_within fields roots op code (second_marks code) (second_is_scheme.instrs code) is) in
+    let sizes = and_parts (nat_le 1 (length compiled) && nat_le (length compiled) 4096) (list_all (is_target_instr kinds fields roots) compiled) (method_within kinds fields roots op code (second_marks code) (second_is_scheme.instrs code) is) in
     leb-true (length compiled) 4096 (and_parts (nat_le 1 (length compiled)) (nat_le (length compiled) 4096) sizes.0).1
 
-methods : (fields roots : ℕ) (op : Op) → IsOpWithin op → (f : ℕ) × (r : ℕ) × IsTrue (is_method f r op.generator) × IsTrue (is_method f r op.wrapup)
-methods fields roots op within =
-    let f = within.0 in
-    let r = within.1 in
-    let generator = is_method f r op.generator in
-    let wrapup = is_method f r op.wrapup in
+methods : (op : Op) → IsOpWithin op → (k : ℕ) × (f : ℕ) × (r : ℕ) × IsTrue (is_method k f r op.generator) × IsTrue (is_method k f r op.wrapup)
+methods op within =
+    let k = within.0 in
+    let f = within.1 in
+    let r = within.2 in
+    let generator = is_method k f r op.generator in
+    let wrapup = is_method k f r op.wrapup in
     let few = nat_le (news_of op) 4 in
-    let named = and_parts (is_name op.name && not (is_reserved op.name)) (nat_le op.args 4 && (generator && (wrapup && few))) within.2 in
+    let named = and_parts (is_name op.name && not (is_reserved op.name)) (nat_le op.args 4 && (generator && (wrapup && few))) within.3 in
     let args = and_parts (nat_le op.args 4) (generator && (wrapup && few)) named.1 in
     let first = and_parts generator (wrapup && few) args.1 in
-    (f, r, first.0, (and_parts wrapup few first.1).0)
+    (k, f, r, first.0, (and_parts wrapup few first.1).0)
 
 -- the compiled generator is within the limit of a method
 pub generator_short : (op : Op) → IsOpWithin op → IsShort op (second_marks op.generator)
-generator_short op within = let m = methods 0 0 op within in method_short m.0 m.1 op op.generator m.2
+generator_short op within = let m = methods op within in method_short m.0 m.1 m.2 op op.generator m.3
 
 -- and so is the compiled wrap-up
 pub wrapup_short : (op : Op) → IsOpWithin op → IsShort op (second_marks op.wrapup)
-wrapup_short op within = let m = methods 0 0 op within in method_short m.0 m.1 op op.wrapup m.3
+wrapup_short op within = let m = methods op within in method_short m.0 m.1 m.2 op op.wrapup m.4
 
 alike : (a b : Bool) → IsTrue a ↔ IsTrue b → a ≡ b
 alike true true both = refl

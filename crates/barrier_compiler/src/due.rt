@@ -44,7 +44,7 @@ fn breaks(instr: &Instr) -> bool
 {
     matches!(
         instr,
-        Instr::New(_)
+        Instr::New(..)
             | Instr::Put(_, _, _)
             | Instr::Cas(_, _)
             | Instr::Jump(_)

@@ -77,6 +77,7 @@ pub fn compile(alloc: Global, normal: &Normal) -> Result<Target, AllocError>
 {
     let text = normal.text();
     Ok(Target {
+        kinds: text.kinds.duplicate(alloc)?,
         fields: text.fields.duplicate(alloc)?,
         roots: text.roots.duplicate(alloc)?,
         nodes: text.nodes.duplicate(alloc)?,

@@ -84,7 +84,7 @@ module _ (target : Target) (sizes : Sizes) where
   ended_on next e = (owes_none (e.hand.wrapup && e.hand.accessed), cleared_on next e)
 
   plain_on : (i : Instr) (e : Entry) → Onward (plain_stop target sizes i e)
-  plain_on (instr.New d) e = (refl, cleared_on clears.New e)
+  plain_on (instr.New d kind) e = (refl, cleared_on clears.New e)
   plain_on (instr.Commit exchanges) e = list_begun_on exchanges e
   plain_on (instr.Return a) e = ended_on (clears.Reply (replies.Number (number_in e.hand.registers a))) e
   plain_on instr.ReturnNone e = ended_on (clears.Reply replies.Nothing) e
@@ -174,7 +174,7 @@ module _ (target : Target) (sizes : Sizes) where
   accepted_plain (instr.IfEq a b l) word e on = (refl, on)
   accepted_plain (instr.IfLess a b l) word e on = (refl, on)
   accepted_plain (instr.IfMarked a l) word e on = (refl, on)
-  accepted_plain (instr.New d) word e on = (refl, on)
+  accepted_plain (instr.New d kind) word e on = (refl, on)
   accepted_plain (instr.Commit exchanges) word e on = (refl, on)
   accepted_plain (instr.Return a) word e on = (refl, on)
   accepted_plain instr.ReturnNone word e on = (refl, on)

@@ -1,11 +1,12 @@
 -- A spent call that has ended in the source: its fuel is one short of the last clear of its guard.
 use Rattle.std.specs.Prelude.{◌≡◌, ℕ, List, [], ◌∷◌, map, Option, Some, None, codes, refl, slice_get, replicate}
 use Rattle.norm_lang.specs.declared.text.Reg.TheVariants.{Num, Ref}
-use Rattle.norm_lang.specs.declared.text.FieldKind.TheVariants as kinds
+use Rattle.norm_lang.specs.declared.text.FieldKind.TheVariants as holdings
 use Rattle.norm_lang.specs.declared.text.Start.TheVariants as starts
 use Rattle.norm_lang.specs.declared.text.Place.TheVariants as places
 use Rattle.norm_lang.specs.declared.text.Instr.TheVariants.{LoadRoot, LoadField, Commit, Return}
 use Rattle.norm_lang.specs.declared.text.Text.{Text}
+use Rattle.norm_lang.specs.LineWords.{item_kind}
 use Rattle.target_code.specs.declared.target.TargetInstr.TheVariants.{Plain, Check, Guard}
 use Rattle.target_code.specs.declared.target.Target.{Target}
 use Rattle.target_code.specs.declared.target.TargetOp.{TargetOp}
@@ -44,15 +45,16 @@ touch = record {
 target : Target
 unfolding touch
 target = record {
-  fields = record { name = codes "key"; kind = kinds.Number } ∷ [];
-  roots = record { name = codes "top"; kind = kinds.Reference; start = starts.Node 1 } ∷ [];
-  nodes = record { values = starts.Value 7 ∷ [] } ∷ [];
+  kinds = item_kind ∷ [];
+  fields = record { owner = 0; name = codes "key"; kind = holdings.Number } ∷ [];
+  roots = record { name = codes "top"; kind = holdings.Reference 0; start = starts.Node 1 } ∷ [];
+  nodes = record { owner = 0; values = starts.Value 7 ∷ [] } ∷ [];
   ops = touch ∷ [];
 }
 
 text : Text
 unfolding target touch
-text = record { fields = target.fields; roots = target.roots; nodes = target.nodes; ops = map erased_op target.ops }
+text = record { kinds = item_kind ∷ []; fields = target.fields; roots = target.roots; nodes = target.nodes; ops = map erased_op target.ops }
 
 setting : Setting
 setting = record { sizes = record { callers = 1; slots = 1; fields = 1; cells = 1 }; first = 1; last = 9; nodes = 1 }

@@ -59,17 +59,17 @@ has_field setting j g row =
     let p = and_parts (nat_lt j (setting.sizes.slots + 1)) (nat_lt g setting.sizes.fields) row in
     let lt = below j (setting.sizes.slots + 1) p.0 in (omega (arith, lt), below g setting.sizes.fields p.1)
 
-can_exchange : (target : Target) (setting : Setting) (exchange : CasEntry) (registers : Registers) → IsSafe target setting (exchange_wanted exchange registers) → CanExchange setting.sizes exchange.place registers
+can_exchange : (target : Target) (setting : Setting) (exchange : CasEntry) (registers : Registers) → IsSafe target setting (exchange_wanted target.fields exchange registers) → CanExchange setting.sizes exchange.place registers
 can_exchange target setting exchange registers = of exchange.place where
   by_slot : (j f expected replacement : ℕ) → IsSafe target setting (object_exchange j f expected replacement) → HasField setting.sizes j f
   by_slot zero f expected replacement safe = has_field setting zero f safe.row
   by_slot (suc j) f expected replacement safe = has_field setting (suc j) f safe.row
 
-  of : (place : Place) → IsSafe target setting (place_exchange place registers (word_in registers exchange.expected) (word_in registers exchange.replacement)) → CanExchange setting.sizes place registers
+  of : (place : Place) → IsSafe target setting (place_exchange target.fields place registers (word_in registers exchange.expected) (word_in registers exchange.replacement)) → CanExchange setting.sizes place registers
   of (places.Root x) safe = below x setting.sizes.cells safe.row
   of (places.Field a f) safe = by_slot (slot_in registers a) f (word_in registers exchange.expected) (word_in registers exchange.replacement) safe
 
-ask_plain : (target : Target) (setting : Setting) (i : Instr) (registers : Registers) → AsksSafely target setting (plain_wanted i registers) → CanAskPlain setting.sizes i registers
+ask_plain : (target : Target) (setting : Setting) (i : Instr) (registers : Registers) → AsksSafely target setting (plain_wanted target.fields i registers) → CanAskPlain setting.sizes i registers
 ask_plain target setting (instr.LoadRoot d x) registers safe = below x setting.sizes.cells safe.row
 ask_plain target setting (instr.LoadPick d x n a) registers safe = below (x + remainder (number_in registers a) n) setting.sizes.cells safe.row
 ask_plain target setting (instr.LoadField d a f) registers safe = has_field setting (slot_in registers a) f safe.row
@@ -85,14 +85,14 @@ no_guard_of_number : (target : Target) (setting : Setting) (e : Entry) (r : ℕ)
 no_guard_of_number target setting e r sane here is = let no : false ≡ true = (site_of target e setting.sizes.slots (Guard (Num r)) sane here is).limits in cc
 
 ask_instr : (target : Target) (setting : Setting) (e : Entry) (o : Option TargetInstr) → Methods target → Here setting.sizes.slots target e → instr_in target e ≡ o
-    → AsksSafely target setting (instr_wanted e.number o e.hand.registers) → CanAskInstr setting.sizes o e.hand.registers
+    → AsksSafely target setting (instr_wanted target.fields e.number o e.hand.registers) → CanAskInstr setting.sizes o e.hand.registers
 ask_instr target setting e None sane here is safe = tt
 ask_instr target setting e (Some (Plain i)) sane here is safe = ask_plain target setting i e.hand.registers safe
 ask_instr target setting e (Some Check) sane here is safe = tt
 ask_instr target setting e (Some (Guard (Ref r))) sane here is safe = guarded_register target setting e r sane here is
 ask_instr target setting e (Some (Guard (Num r))) sane here is safe = no_guard_of_number target setting e r sane here is
 
-ask_list : (target : Target) (setting : Setting) (o : Option CasEntry) (registers : Registers) → AsksSafely target setting (list_wanted o registers) → CanAskList setting.sizes o registers
+ask_list : (target : Target) (setting : Setting) (o : Option CasEntry) (registers : Registers) → AsksSafely target setting (list_wanted target.fields o registers) → CanAskList setting.sizes o registers
 ask_list target setting None registers safe = tt
 ask_list target setting (Some exchange) registers safe = can_exchange target setting exchange registers safe
 

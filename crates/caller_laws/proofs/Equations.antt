@@ -27,11 +27,11 @@ module _ (target : Target) (e : Entry) where
   unfolding wants
   wants_seen why is = rw is refl
 
-  pub wants_at : e.routine ≡ At → wants target e ≡ instr_wanted e.number (instr_in target e) e.hand.registers
+  pub wants_at : e.routine ≡ At → wants target e ≡ instr_wanted target.fields e.number (instr_in target e) e.hand.registers
   unfolding wants
   wants_at is = rw is refl
 
-  pub wants_list : (k : ℕ) → e.routine ≡ InList k → wants target e ≡ list_wanted (slice_get (list_of (instr_in target e)) k) e.hand.registers
+  pub wants_list : (k : ℕ) → e.routine ≡ InList k → wants target e ≡ list_wanted target.fields (slice_get (list_of (instr_in target e)) k) e.hand.registers
   unfolding wants
   wants_list k is = rw is refl
 

@@ -1,7 +1,7 @@
 -- What may stand in a field: 0 in one of null, and in one of a node a value of the field's kind.
 use Rattle.std.proofs.Common.{◌≢◌, ℕ, zero, suc, Option, Some, None, refl, sym, subst, arith}
 use Rattle.norm_lang.specs.declared.text.FieldKind.{FieldKind}
-use Rattle.norm_lang.specs.declared.text.FieldKind.TheVariants as kinds
+use Rattle.norm_lang.specs.declared.text.FieldKind.TheVariants as holdings
 use Rattle.norm_lang.specs.InstructionRules.{field_kind}
 use Rattle.target_code.specs.declared.target.Target.{Target}
 use Rattle.oa_words.specs.Words.{FieldOf}
@@ -10,8 +10,8 @@ use Rattle.caller_steps.specs.Lawful.{IsLawful, LawfulValue}
 
 zero_value : (slots : ℕ) (kind : Option FieldKind) → LawfulValue slots kind 0
 zero_value slots None = tt
-zero_value slots (Some kinds.Number) = tt
-zero_value slots (Some kinds.Reference) = omega arith
+zero_value slots (Some holdings.Number) = tt
+zero_value slots (Some (holdings.Reference k)) = omega arith
 
 -- a lawful word of a field, null's too, is a value of its kind
 pub field_value : (target : Target) (setting : Setting) (j g word : ℕ) → IsLawful target setting (FieldOf j g) word → LawfulValue setting.sizes.slots (field_kind target.fields g) word

@@ -6,7 +6,7 @@ use Rattle.std.proofs.lemmas.Bool.Decides.{nat_tests}
 use Rattle.norm_lang.specs.declared.text.Reg.{Reg}
 use Rattle.norm_lang.specs.declared.text.Reg.TheVariants.{Num, Ref}
 use Rattle.norm_lang.specs.declared.text.FieldKind.{FieldKind}
-use Rattle.norm_lang.specs.declared.text.FieldKind.TheVariants as kinds
+use Rattle.norm_lang.specs.declared.text.FieldKind.TheVariants as holdings
 use Rattle.norm_lang.specs.declared.text.RootDecl.{RootDecl}
 use Rattle.norm_lang.specs.declared.registers.Registers.{Registers}
 use Rattle.norm_lang.specs.Registers.{reference_in}
@@ -23,6 +23,7 @@ use Rattle.caller_parts.specs.Settings.{Setting}
 use Rattle.caller_steps.specs.Entries.{Entry, code_in, instr_in}
 use Rattle.caller_parts.specs.Operands.{unpacked, with_word, emptied}
 use Rattle.caller_steps.specs.After.{settles}
+use Rattle.caller_steps.specs.Lawful.{LawfulValue}
 use Rattle.caller_steps.specs.Belongs.{GuardsSlots, HoldsSlots, NamesSlots}
 use Rattle.target_runs.specs.Sane.{SaneAt}
 use Rattle.caller_laws.proofs.Methods.{Methods, SettingSane}
@@ -82,23 +83,29 @@ emptied_within slots slot (x ∷ xs) (suc k) le = emptied_within slots slot xs k
 pub cradles_emptied : (slots slot : ℕ) (cradles : List ℕ) → HoldsSlots slots cradles → HoldsSlots slots (map (emptied slot) cradles)
 cradles_emptied slots slot cradles h = record { count = emptied_count slot cradles ∙ h.count; within = λ k. emptied_within slots slot cradles k (h.within k) }
 
--- the roots of a pick are of one kind
-kinds_same : (a b : FieldKind) → same_kind a b ≡ true → a ≡ b
-kinds_same kinds.Number kinds.Number e = refl
-kinds_same kinds.Reference kinds.Reference e = refl
-kinds_same kinds.Number kinds.Reference e = absurd cc
-kinds_same kinds.Reference kinds.Number e = absurd cc
+-- both hold numbers, or both hold references
+abbrev pub are_alike : Option FieldKind → Option FieldKind → Bool
+are_alike (Some one) (Some other) = same_kind one other
+are_alike _ _ = false
+
+-- what is lawful where the one is held is so where the other is
+pub alike_lawful : (slots : ℕ) (one other : Option FieldKind) (word : ℕ) → are_alike one other ≡ true → LawfulValue slots other word → LawfulValue slots one word
+alike_lawful slots None other word alike lawful = tt
+alike_lawful slots (Some holdings.Number) other word alike lawful = tt
+alike_lawful slots (Some (holdings.Reference k)) None word alike lawful = absurd (let z : false ≡ true = alike in cc)
+alike_lawful slots (Some (holdings.Reference k)) (Some holdings.Number) word alike lawful = absurd (let z : false ≡ true = alike in cc)
+alike_lawful slots (Some (holdings.Reference k)) (Some (holdings.Reference j)) word alike lawful = lawful
 
 both : (a b : Bool) → (a && b) ≡ true → (a ≡ true) × (b ≡ true)
 both true b e = (refl, e)
 both false b e = absurd (let z : false ≡ true = e in cc)
 
-of_kind : (kind : Option FieldKind) (root : RootDecl) → is_of_kind kind root ≡ true → Some root.kind ≡ kind
-of_kind None root e = absurd (let z : false ≡ true = e in cc)
-of_kind (Some kind) root e = ap (λ (k : FieldKind). Some k) (sym (kinds_same kind root.kind e))
+of_kind : (kind : Option FieldKind) (root : RootDecl) → is_of_kind kind root ≡ true → are_alike kind (Some root.kind) ≡ true
+of_kind None root e = e
+of_kind (Some kind) root e = e
 
 all_take : (kind : Option FieldKind) (roots : List RootDecl) (n k : ℕ) → list_all (is_of_kind kind) (take n roots) ≡ true → k < n → k < length roots
-    → option_map (λ (root : RootDecl). root.kind) (slice_get roots k) ≡ kind
+    → are_alike kind (option_map (λ (root : RootDecl). root.kind) (slice_get roots k)) ≡ true
 all_take kind [] n k all lt within = absurd (omega (arith, within))
 all_take kind (root ∷ roots) zero k all lt within = absurd (omega (arith, lt))
 all_take kind (root ∷ roots) (suc n) zero all lt within = of_kind kind root (both (is_of_kind kind root) (list_all (is_of_kind kind) (take n roots)) all).0
@@ -106,12 +113,13 @@ all_take kind (root ∷ roots) (suc n) (suc k) all lt within =
     all_take kind roots n k (both (is_of_kind kind root) (list_all (is_of_kind kind) (take n roots)) all).1 (omega (arith, lt)) (omega (arith, within))
 
 all_drop : (kind : Option FieldKind) (roots : List RootDecl) (x n k : ℕ) → list_all (is_of_kind kind) (take n (drop x roots)) ≡ true → k < n → x + k < length roots
-    → root_kind roots (x + k) ≡ kind
+    → are_alike kind (root_kind roots (x + k)) ≡ true
 all_drop kind [] x n k all lt within = absurd (omega (arith, within))
 all_drop kind (root ∷ roots) zero n k all lt within = let z : 0 + k ≡ k = omega arith in rw z (all_take kind (root ∷ roots) n k all lt (omega (arith, within)))
 all_drop kind (root ∷ roots) (suc x) n k all lt within = let z : suc x + k ≡ suc (x + k) = omega arith in rw z (all_drop kind roots x n k all lt (omega (arith, within)))
 
-pub pick_kind : (roots : List RootDecl) (x n k : ℕ) → are_roots_of_one_kind roots x n ≡ true → k < n → (root_kind roots (x + k) ≡ root_kind roots x) × (x + k < length roots)
+-- the roots of a pick are alike
+pub pick_kind : (roots : List RootDecl) (x n k : ℕ) → are_roots_of_one_kind roots x n ≡ true → k < n → (are_alike (root_kind roots x) (root_kind roots (x + k)) ≡ true) × (x + k < length roots)
 pick_kind roots x n k one lt =
     let parts = both (nat_le (x + n) (length roots)) (list_all (is_of_kind (root_kind roots x)) (take n (drop x roots))) one in
     let le : x + n ≤ length roots = within (x + n) (length roots) parts.0 in

@@ -36,7 +36,7 @@ use Rattle.caller_laws.proofs.Fields.{field_value}
 use Rattle.caller_laws.proofs.Named.{named, worded}
 use Rattle.caller_laws.proofs.Reaching.{one_way}
 use Rattle.caller_laws.proofs.Stopping.{Holds, Here, BelongsIn, hand_belongs, restarted_belongs, site_of}
-use Rattle.caller_laws.proofs.Going.{other_word, leaves_all, goes_belongs, guards_put, pick_kind, remainder_below}
+use Rattle.caller_laws.proofs.Going.{alike_lawful, other_word, leaves_all, goes_belongs, guards_put, pick_kind, remainder_below}
 
 -- what is premise of each lemma here: an entry that runs, at its instruction
 abbrev pub Stays : Target → Setting → Entry → TargetInstr → Type 0
@@ -144,7 +144,7 @@ at_least : (a b : ℕ) → nat_le a b ≡ true → a ≤ b
 at_least a b e = grind (arith, nat_tests)
 
 plain_keeps : (target : Target) (setting : Setting) (e : Entry) (i : Instr) (word : ℕ) → Methods target → SettingSane setting → Stays target setting e (Plain i)
-    → has_access (Some (Plain i)) ≡ true → MayBeTold target setting (plain_wanted i e.hand.registers) word → BelongsIn target setting (plain_accepted target setting.sizes i word e)
+    → has_access (Some (Plain i)) ≡ true → MayBeTold target setting (plain_wanted target.fields i e.hand.registers) word → BelongsIn target setting (plain_accepted target setting.sizes i word e)
 plain_keeps target setting e (instr.LoadRoot d x) word sane some s has told =
     loads target setting e (instr.LoadRoot d x) d (root_kind target.roots x) word sane some s (one_way (e.hand.at + 1)) refl (λ r isnt. isnt) told
     (site_of target e setting.sizes.slots (Plain (instr.LoadRoot d x)) sane s.here s.is).own.form.kinds
@@ -158,7 +158,7 @@ plain_keeps target setting e (instr.LoadPick d x n a) word sane some s has told 
     let k = remainder (number_in e.hand.registers a) n in
     let same = pick_kind target.roots x n k one (remainder_below (number_in e.hand.registers a) n (at_least 1 n limits4.0)) in
     loads target setting e (instr.LoadPick d x n a) d (root_kind target.roots x) word sane some s (one_way (e.hand.at + 1)) refl (λ r isnt. isnt)
-    (subst (λ (kind : Option FieldKind). LawfulValue setting.sizes.slots kind word) same.0 told) site.own.form.kinds
+    (alike_lawful setting.sizes.slots (root_kind target.roots x) (root_kind target.roots (x + k)) word same.0 told) site.own.form.kinds
 plain_keeps target setting e (instr.LoadField d a f) word sane some s has told =
     loads target setting e (instr.LoadField d a f) d (field_kind target.fields f) word sane some s (one_way (e.hand.at + 1)) refl (λ r isnt. isnt)
     (field_value target setting (slot_in e.hand.registers a) f word told)
@@ -174,7 +174,7 @@ plain_keeps target setting e (instr.Rem d a n) word sane some s has told = absur
 plain_keeps target setting e (instr.Mark d a) word sane some s has told = absurd cc
 plain_keeps target setting e (instr.Unmark d a) word sane some s has told = absurd cc
 plain_keeps target setting e (instr.Null d) word sane some s has told = absurd cc
-plain_keeps target setting e (instr.New d) word sane some s has told = absurd cc
+plain_keeps target setting e (instr.New d kind) word sane some s has told = absurd cc
 plain_keeps target setting e (instr.Jump l) word sane some s has told = absurd cc
 plain_keeps target setting e (instr.IfEq a b l) word sane some s has told = absurd cc
 plain_keeps target setting e (instr.IfLess a b l) word sane some s has told = absurd cc
@@ -185,7 +185,7 @@ plain_keeps target setting e instr.ReturnNone word sane some s has told = absurd
 plain_keeps target setting e instr.Again word sane some s has told = absurd cc
 
 pub instr_keeps : (target : Target) (setting : Setting) (e : Entry) (word : ℕ) (o : Option TargetInstr) → Methods target → SettingSane setting → Holds target setting e → Here setting.sizes.slots target e
-    → instr_in target e ≡ o → has_access o ≡ true → MayBeTold target setting (instr_wanted e.number o e.hand.registers) word → BelongsIn target setting (instr_accepted target setting.sizes o word e)
+    → instr_in target e ≡ o → has_access o ≡ true → MayBeTold target setting (instr_wanted target.fields e.number o e.hand.registers) word → BelongsIn target setting (instr_accepted target setting.sizes o word e)
 instr_keeps target setting e word None sane some h c is has told = absurd (let z : false ≡ true = has in cc)
 instr_keeps target setting e word (Some Check) sane some h c is has told = checks target setting e word sane some (record { holds = h; here = c; is = is }) told.1
 instr_keeps target setting e word (Some (Guard r)) sane some h c is has told = guards target setting e r sane some (record { holds = h; here = c; is = is })

@@ -4,7 +4,7 @@ use Rattle.std.specs.Prelude.{unwrap_or, slice_get, IfSome}
 use Rattle.norm_lang.specs.declared.text.Reg.{Reg}
 use Rattle.norm_lang.specs.declared.text.Reg.TheVariants.{Num, Ref}
 use Rattle.norm_lang.specs.declared.text.FieldKind.{FieldKind}
-use Rattle.norm_lang.specs.declared.text.FieldKind.TheVariants as kinds
+use Rattle.norm_lang.specs.declared.text.FieldKind.TheVariants as holdings
 use Rattle.norm_lang.specs.declared.text.Instr.{Instr}
 use Rattle.norm_lang.specs.declared.text.Instr.TheVariants as instr
 use Rattle.norm_lang.specs.declared.registers.Reference.{Reference}
@@ -65,8 +65,8 @@ pub worded : (slots : ℕ) (registers : Registers) (kind : Option FieldKind) (d 
     → LawfulValue slots kind word → is_unlike kind d ≡ false → NamesSlots slots (with_word registers d word)
 worded slots registers kind (Num d) word s lawful like = numbered slots registers (Num d) word s
 worded slots registers None (Ref d) word s lawful like = absurd (let e : true ≡ false = like in cc)
-worded slots registers (Some kinds.Number) (Ref d) word s lawful like = absurd (let e : true ≡ false = like in cc)
-worded slots registers (Some kinds.Reference) (Ref d) word s lawful like = referred slots registers (Ref d) (unpacked word) s lawful
+worded slots registers (Some holdings.Number) (Ref d) word s lawful like = absurd (let e : true ≡ false = like in cc)
+worded slots registers (Some (holdings.Reference k)) (Ref d) word s lawful like = referred slots registers (Ref d) (unpacked word) s lawful
 
 -- a local instruction
 pub local_names : (slots : ℕ) (i : Instr) (at : ℕ) (registers : Registers) → NamesSlots slots registers
@@ -82,7 +82,7 @@ local_names slots (instr.Null d) at registers s = referred slots registers d no_
 local_names slots (instr.LoadRoot d x) at registers s = tt
 local_names slots (instr.LoadPick d x n a) at registers s = tt
 local_names slots (instr.LoadField d a f) at registers s = tt
-local_names slots (instr.New d) at registers s = tt
+local_names slots (instr.New d kind) at registers s = tt
 local_names slots (instr.Put a f b) at registers s = tt
 local_names slots (instr.Cas entry l) at registers s = tt
 local_names slots (instr.Jump l) at registers s = s

@@ -71,7 +71,7 @@ module _ (target : Target) (sizes : Sizes) (Holds : Routine → Type 0) (h : Hol
   begun_list_routed (exchange ∷ exchanges) e = h.lists 0
 
   plain_routed : (i : Instr) (e : Entry) → Holds (plain_stop target sizes i e).entry.routine
-  plain_routed (instr.New d) e = cleared_routed clears.New e
+  plain_routed (instr.New d kind) e = cleared_routed clears.New e
   plain_routed (instr.Commit exchanges) e = begun_list_routed exchanges e
   plain_routed (instr.Return a) e = cleared_routed (clears.Reply (replies.Number (number_in e.hand.registers a))) e
   plain_routed instr.ReturnNone e = cleared_routed (clears.Reply replies.Nothing) e
@@ -161,7 +161,7 @@ module _ (target : Target) (sizes : Sizes) (Holds : Routine → Type 0) (h : Hol
   accepted_plain (instr.IfEq a b l) word e own = own
   accepted_plain (instr.IfLess a b l) word e own = own
   accepted_plain (instr.IfMarked a l) word e own = own
-  accepted_plain (instr.New d) word e own = own
+  accepted_plain (instr.New d kind) word e own = own
   accepted_plain (instr.Commit exchanges) word e own = own
   accepted_plain (instr.Return a) word e own = own
   accepted_plain instr.ReturnNone word e own = own

@@ -9,10 +9,11 @@ use Rattle.norm_lang.specs.declared.text.Place.{Place}
 use Rattle.norm_lang.specs.declared.text.Place.TheVariants as places
 use Rattle.norm_lang.specs.declared.text.CasEntry.{CasEntry}
 use Rattle.norm_lang.specs.declared.text.FieldKind.{FieldKind}
-use Rattle.norm_lang.specs.declared.text.FieldKind.TheVariants as kinds
+use Rattle.norm_lang.specs.declared.text.FieldKind.TheVariants as holdings
 use Rattle.norm_lang.specs.declared.text.Instr.{Instr}
 use Rattle.norm_lang.specs.declared.text.Instr.TheVariants as instr
 use Rattle.norm_lang.specs.declared.registers.Registers.{Registers}
+use Rattle.norm_lang.specs.KindFields.{place_of}
 use Rattle.norm_lang.specs.Registers.{reference_in, number_in}
 use Rattle.norm_lang.specs.InstructionRules.{holds_number, is_unlike, field_kind, place_kind, has_wrong_object, has_wrong_operand, are_roots_of_one_kind}
 use Rattle.norm_lang.specs.Kept.{holds_reference}
@@ -81,9 +82,9 @@ packed_slot node false = let e : (2 * node + 0) / 2 ≡ node = omega arith in e
 
 register_lawful : (slots : ℕ) (registers : Registers) (kind : Option FieldKind) (b : Reg) → NamesSlots slots registers → is_unlike kind b ≡ false → LawfulValue slots kind (word_in registers b)
 register_lawful slots registers None b s like = tt
-register_lawful slots registers (Some kinds.Number) b s like = tt
-register_lawful slots registers (Some kinds.Reference) (Num b) s like = absurd (let z : true ≡ false = like in cc)
-register_lawful slots registers (Some kinds.Reference) (Ref b) s like =
+register_lawful slots registers (Some holdings.Number) b s like = tt
+register_lawful slots registers (Some (holdings.Reference k)) (Num b) s like = absurd (let z : true ≡ false = like in cc)
+register_lawful slots registers (Some (holdings.Reference k)) (Ref b) s like =
     subst (λ (n : ℕ). n ≤ slots) (sym (packed_slot (reference_in registers (Ref b)).node (reference_in registers (Ref b)).marked)) (s.within b)
 
 status_lawful : (last q : ℕ) (kind : Kind) → q ≤ last → LawfulStatus last (status_word q kind)
@@ -149,7 +150,7 @@ retire_safe target setting slot (retires.StoreStatus p) le stands = stores_safe 
 
 -- an exchange of the text
 exchange_safe : (target : Target) (setting : Setting) (exchange : CasEntry) (registers : Registers) → Fits target setting → NamesSlots setting.sizes.slots registers
-    → is_entry (length target.fields) (length target.roots) exchange ≡ true → has_wrong_operand target.fields target.roots exchange ≡ false → IsSafe target setting (exchange_wanted exchange registers)
+    → is_entry (length target.fields) (length target.roots) exchange ≡ true → has_wrong_operand target.fields target.roots exchange ≡ false → IsSafe target setting (exchange_wanted target.fields exchange registers)
 exchange_safe target setting exchange registers fits s limits kinds =
     of exchange.place (parts (is_place (length target.fields) (length target.roots) exchange.place) (is_register exchange.expected && (is_register exchange.replacement && is_retire exchange.retire)) limits).0
     (register_lawful setting.sizes.slots registers (place_kind target.fields target.roots exchange.place) exchange.replacement s
@@ -166,7 +167,7 @@ exchange_safe target setting exchange registers fits s limits kinds =
       object (suc j) f le lt lawful = exchanges_safe target setting (FieldOf (suc j) f) expected replacement (field_row setting (suc j) f le lt) refl lawful
 
       of : (place : Place) → is_place (length target.fields) (length target.roots) place ≡ true → LawfulValue setting.sizes.slots (place_kind target.fields target.roots place) replacement
-          → IsSafe target setting (place_exchange place registers expected replacement)
+          → IsSafe target setting (place_exchange target.fields place registers expected replacement)
       of (places.Root x) limit lawful = exchanges_safe target setting (Cell x) expected replacement (less x setting.sizes.cells (let lt = below x (length target.roots) limit in omega (arith, lt, fits.cells))) refl lawful
       of (places.Field a f) limit lawful = object (slot_in registers a) f (named setting.sizes.slots registers a s)
           (let lt = below f (length target.fields) (parts (is_register a) (nat_lt f (length target.fields)) limit).1 in omega (arith, lt, fits.fields)) lawful
@@ -178,7 +179,7 @@ put_finds target setting e (Num r) b f sane c is =
     let site = site_of target e setting.sizes.slots (Plain (instr.Put (Num r) f b)) sane c is in absurd (let z : true ≡ false = site.own.form.kinds in cc)
 
 plain_safe : (target : Target) (setting : Setting) (e : Entry) (i : Instr) → Methods target → SettingSane setting → Fits target setting → Here setting.sizes.slots target e → instr_in target e ≡ Some (Plain i)
-    → has_access (Some (Plain i)) ≡ true → AsksSafely target setting (plain_wanted i e.hand.registers)
+    → has_access (Some (Plain i)) ≡ true → AsksSafely target setting (plain_wanted target.fields i e.hand.registers)
 plain_safe target setting e (instr.LoadRoot d x) sane some fits c is has =
     let site = site_of target e setting.sizes.slots (Plain (instr.LoadRoot d x)) sane c is in
     let lt = below x (length target.roots) (parts (is_register d) (nat_lt x (length target.roots)) site.limits).1 in
@@ -196,13 +197,13 @@ plain_safe target setting e (instr.LoadField d a f) sane some fits c is has =
     let site = site_of target e setting.sizes.slots (Plain (instr.LoadField d a f)) sane c is in
     let limits = parts (is_register d) (is_register a && nat_lt f (length target.fields)) site.limits in
     let lt = below f (length target.fields) (parts (is_register a) (nat_lt f (length target.fields)) limits.1).1 in
-    loads_safe target setting (FieldOf (slot_in e.hand.registers a) f) (field_row setting (slot_in e.hand.registers a) f (named setting.sizes.slots e.hand.registers a c.names) (omega (arith, lt, fits.fields))) refl
+    loads_safe target setting (FieldOf (slot_in e.hand.registers a) (place_of target.fields f)) (field_row setting (slot_in e.hand.registers a) f (named setting.sizes.slots e.hand.registers a c.names) (omega (arith, lt, fits.fields))) refl
 plain_safe target setting e (instr.Put a f b) sane some fits c is has =
     let site = site_of target e setting.sizes.slots (Plain (instr.Put a f b)) sane c is in
     let limits = parts (is_register a) (nat_lt f (length target.fields) && is_register b) site.limits in
     let lt = below f (length target.fields) (parts (nat_lt f (length target.fields)) (is_register b) limits.1).0 in
     let like = (neither (holds_number a) (is_unlike (field_kind target.fields f) b) site.own.form.kinds).1 in
-    stores_safe target setting (FieldOf (slot_in e.hand.registers a) f) (word_in e.hand.registers b)
+    stores_safe target setting (FieldOf (slot_in e.hand.registers a) (place_of target.fields f)) (word_in e.hand.registers b)
     (field_row setting (slot_in e.hand.registers a) f (named setting.sizes.slots e.hand.registers a c.names) (omega (arith, lt, fits.fields))) refl
     (value_lawful target setting (slot_in e.hand.registers a) f (word_in e.hand.registers b) (put_finds target setting e a b f sane c is)
     (register_lawful setting.sizes.slots e.hand.registers (field_kind target.fields f) b c.names like))
@@ -217,7 +218,7 @@ plain_safe target setting e (instr.Rem d a n) sane some fits c is has = absurd c
 plain_safe target setting e (instr.Mark d a) sane some fits c is has = absurd cc
 plain_safe target setting e (instr.Unmark d a) sane some fits c is has = absurd cc
 plain_safe target setting e (instr.Null d) sane some fits c is has = absurd cc
-plain_safe target setting e (instr.New d) sane some fits c is has = absurd cc
+plain_safe target setting e (instr.New d kind) sane some fits c is has = absurd cc
 plain_safe target setting e (instr.Jump l) sane some fits c is has = absurd cc
 plain_safe target setting e (instr.IfEq a b l) sane some fits c is has = absurd cc
 plain_safe target setting e (instr.IfLess a b l) sane some fits c is has = absurd cc
@@ -234,7 +235,7 @@ guard_safe target setting e (Ref r) lt limit c =
     stores_safe target setting (Hazard e.number r) (slot_in e.hand.registers (Ref r)) (hazard_row setting e.number r lt (below r 8 limit)) refl (named setting.sizes.slots e.hand.registers (Ref r) c.names)
 
 instr_safe : (target : Target) (setting : Setting) (e : Entry) (o : Option TargetInstr) → Methods target → SettingSane setting → Fits target setting → e.number < setting.sizes.callers → Here setting.sizes.slots target e
-    → instr_in target e ≡ o → has_access o ≡ true → AsksSafely target setting (instr_wanted e.number o e.hand.registers)
+    → instr_in target e ≡ o → has_access o ≡ true → AsksSafely target setting (instr_wanted target.fields e.number o e.hand.registers)
 instr_safe target setting e None sane some fits lt c is has = absurd (let z : false ≡ true = has in cc)
 instr_safe target setting e (Some Check) sane some fits lt c is has = loads_safe target setting (Warning e.number) (less e.number setting.sizes.callers lt) refl
 instr_safe target setting e (Some (Guard r)) sane some fits lt c is has = guard_safe target setting e r lt (site_of target e setting.sizes.slots (Guard r) sane c is).limits c
@@ -278,7 +279,7 @@ list_there (Some (Plain (instr.Null d))) k lt = absurd (let none : k < 0 = lt in
 list_there (Some (Plain (instr.LoadRoot d x))) k lt = absurd (let none : k < 0 = lt in omega (arith, none))
 list_there (Some (Plain (instr.LoadPick d x n a))) k lt = absurd (let none : k < 0 = lt in omega (arith, none))
 list_there (Some (Plain (instr.LoadField d a f))) k lt = absurd (let none : k < 0 = lt in omega (arith, none))
-list_there (Some (Plain (instr.New d))) k lt = absurd (let none : k < 0 = lt in omega (arith, none))
+list_there (Some (Plain (instr.New d kind))) k lt = absurd (let none : k < 0 = lt in omega (arith, none))
 list_there (Some (Plain (instr.Put a f b))) k lt = absurd (let none : k < 0 = lt in omega (arith, none))
 list_there (Some (Plain (instr.Cas exchange l))) k lt = absurd (let none : k < 0 = lt in omega (arith, none))
 list_there (Some (Plain (instr.Jump l))) k lt = absurd (let none : k < 0 = lt in omega (arith, none))
@@ -290,7 +291,7 @@ list_there (Some (Plain instr.ReturnNone)) k lt = absurd (let none : k < 0 = lt 
 list_there (Some (Plain instr.Again)) k lt = absurd (let none : k < 0 = lt in omega (arith, none))
 
 list_safe : (target : Target) (setting : Setting) (e : Entry) (k : ℕ) → Methods target → Fits target setting → Here setting.sizes.slots target e
-    → k < length (list_of (instr_in target e)) → AsksSafely target setting (list_wanted (slice_get (list_of (instr_in target e)) k) e.hand.registers)
+    → k < length (list_of (instr_in target e)) → AsksSafely target setting (list_wanted target.fields (slice_get (list_of (instr_in target e)) k) e.hand.registers)
 list_safe target setting e k sane fits c lt = of (slice_get (list_of (instr_in target e)) k) refl where
   there : (exchanges : List CasEntry) × (instr_in target e ≡ Some (Plain (instr.Commit exchanges)))
   there = list_there (instr_in target e) k lt
@@ -304,7 +305,7 @@ list_safe target setting e k sane fits c lt = of (slice_get (list_of (instr_in t
   same : slice_get (list_of (instr_in target e)) k ≡ slice_get exchanges k
   same = ap (λ (q : Option TargetInstr). slice_get (list_of q) k) there.1
 
-  of : (x : Option CasEntry) → slice_get (list_of (instr_in target e)) k ≡ x → AsksSafely target setting (list_wanted x e.hand.registers)
+  of : (x : Option CasEntry) → slice_get (list_of (instr_in target e)) k ≡ x → AsksSafely target setting (list_wanted target.fields x e.hand.registers)
   of None none = absurd (let some : slice_get (list_of (instr_in target e)) k ≡ Some (slice_index_or (list_of (instr_in target e)) k no_exchange) = slice_get-get_or (list_of (instr_in target e)) k no_exchange lt in cc)
   of (Some exchange) is =
       exchange_safe target setting exchange e.hand.registers fits c.names

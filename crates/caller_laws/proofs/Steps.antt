@@ -26,6 +26,7 @@ use Rattle.caller_parts.specs.declared.routine.AfterClear.TheVariants as clears
 use Rattle.caller_parts.specs.declared.routine.AfterRetire.{AfterRetire}
 use Rattle.caller_parts.specs.declared.routine.AfterRetire.TheVariants as onwards
 use Rattle.caller_parts.specs.Settings.{Setting}
+use Rattle.caller_parts.proofs.News.{new_there}
 use Rattle.caller_steps.specs.Entries.{Entry, code_in, cradle_of, instr_in, new_number, zero_count}
 use Rattle.caller_parts.specs.Operands.{is_new_at, list_of, slot_in, succeeds, to_retire, with_new}
 use Rattle.caller_steps.specs.Clearing.{clear_next, restart_next, unguarded}
@@ -44,7 +45,7 @@ use Rattle.caller_laws.proofs.Pools.{ClaimOn, claim_keeps}
 use Rattle.caller_laws.proofs.Stopping.{Holds, Here, BelongsIn, hand_belongs, cleared_belongs, ended_belongs, begun_belongs, restarted_belongs, site_of}
 use Rattle.caller_laws.proofs.Going.{goes_belongs, guards_put, cradle_put, cradles_emptied}
 use Rattle.caller_laws.proofs.Cradles.{cradle_number_small}
-use Rattle.caller_laws.proofs.Instructions.{passes, retiring, retire_within, retire_some, two, instr_keeps}
+use Rattle.caller_laws.proofs.Instructions.{parts, passes, retiring, retire_within, retire_some, two, instr_keeps}
 
 -- on in a list: to its next exchange, or to the wrap-up's start
 list_goes : (target : Target) (setting : Setting) (e : Entry) (k : ℕ) → Methods target → SettingSane setting → Holds target setting e → Here setting.sizes.slots target e → Belongs target setting (list_on target setting.sizes k e)
@@ -109,7 +110,7 @@ cas_passes target setting e sane some h c is = of (instr_in target e) refl is wh
   of (Some (Plain (instr.LoadRoot d x))) at stands = absurd (let z : false ≡ true = stands in cc)
   of (Some (Plain (instr.LoadPick d x n a))) at stands = absurd (let z : false ≡ true = stands in cc)
   of (Some (Plain (instr.LoadField d a f))) at stands = absurd (let z : false ≡ true = stands in cc)
-  of (Some (Plain (instr.New d))) at stands = absurd (let z : false ≡ true = stands in cc)
+  of (Some (Plain (instr.New d kind))) at stands = absurd (let z : false ≡ true = stands in cc)
   of (Some (Plain (instr.Put a f b))) at stands = absurd (let z : false ≡ true = stands in cc)
   of (Some (Plain (instr.Jump l))) at stands = absurd (let z : false ≡ true = stands in cc)
   of (Some (Plain (instr.IfEq a b l))) at stands = absurd (let z : false ≡ true = stands in cc)
@@ -160,34 +161,6 @@ clear_keeps target setting e (Some r) next some h c stands =
       same (clears.Reply reply) s = s
       same clears.Again s = s
 
--- at a `new`
-new_there : (o : Option TargetInstr) → is_new_at o ≡ true → (d : Reg) × (o ≡ Some (Plain (instr.New d)))
-new_there (Some (Plain (instr.New d))) is = (d, refl)
-new_there None is = absurd (let z : false ≡ true = is in cc)
-new_there (Some Check) is = absurd (let z : false ≡ true = is in cc)
-new_there (Some (Guard r)) is = absurd (let z : false ≡ true = is in cc)
-new_there (Some (Plain (instr.Set d n))) is = absurd (let z : false ≡ true = is in cc)
-new_there (Some (Plain (instr.Mov d a))) is = absurd (let z : false ≡ true = is in cc)
-new_there (Some (Plain (instr.Add d a b))) is = absurd (let z : false ≡ true = is in cc)
-new_there (Some (Plain (instr.Sub d a b))) is = absurd (let z : false ≡ true = is in cc)
-new_there (Some (Plain (instr.Rem d a n))) is = absurd (let z : false ≡ true = is in cc)
-new_there (Some (Plain (instr.Mark d a))) is = absurd (let z : false ≡ true = is in cc)
-new_there (Some (Plain (instr.Unmark d a))) is = absurd (let z : false ≡ true = is in cc)
-new_there (Some (Plain (instr.Null d))) is = absurd (let z : false ≡ true = is in cc)
-new_there (Some (Plain (instr.LoadRoot d x))) is = absurd (let z : false ≡ true = is in cc)
-new_there (Some (Plain (instr.LoadPick d x n a))) is = absurd (let z : false ≡ true = is in cc)
-new_there (Some (Plain (instr.LoadField d a f))) is = absurd (let z : false ≡ true = is in cc)
-new_there (Some (Plain (instr.Put a f b))) is = absurd (let z : false ≡ true = is in cc)
-new_there (Some (Plain (instr.Cas exchange l))) is = absurd (let z : false ≡ true = is in cc)
-new_there (Some (Plain (instr.Jump l))) is = absurd (let z : false ≡ true = is in cc)
-new_there (Some (Plain (instr.IfEq a b l))) is = absurd (let z : false ≡ true = is in cc)
-new_there (Some (Plain (instr.IfLess a b l))) is = absurd (let z : false ≡ true = is in cc)
-new_there (Some (Plain (instr.IfMarked a l))) is = absurd (let z : false ≡ true = is in cc)
-new_there (Some (Plain (instr.Commit exchanges))) is = absurd (let z : false ≡ true = is in cc)
-new_there (Some (Plain (instr.Return a))) is = absurd (let z : false ≡ true = is in cc)
-new_there (Some (Plain instr.ReturnNone)) is = absurd (let z : false ≡ true = is in cc)
-new_there (Some (Plain instr.Again)) is = absurd (let z : false ≡ true = is in cc)
-
 -- that a claim is counted changes nothing else
 claims_counted : (target : Target) (setting : Setting) (takes : Bool) (e : Entry) → Holds target setting e → Holds target setting (claim_counted takes e)
 claims_counted target setting takes e h = record { number = h.number; op = h.op; started = h.started; guards = h.guards; cradles = h.cradles; seen = h.seen }
@@ -234,10 +207,10 @@ claimed_keeps target setting e claim (Some (ends.PhasesOver p)) sane some h c st
 }
 
 -- the register that a `new` sets isn't null
-new_leaves : (slots : ℕ) (registers : Registers) (d : Reg) (slot : ℕ) → holds_number d ≡ false → is_register d ≡ true → length registers.references ≡ 8 → slot ≢ 0
-    → Leaves (Plain (instr.New d)) registers (with_reference registers d (record { node = slot; marked = false }))
-new_leaves slots registers (Num d) slot kind limit count ne = absurd (let z : true ≡ false = kind in cc)
-new_leaves slots registers (Ref d) slot kind limit count ne = record {
+new_leaves : (slots : ℕ) (registers : Registers) (d : Reg) (kind slot : ℕ) → holds_number d ≡ false → is_register d ≡ true → length registers.references ≡ 8 → slot ≢ 0
+    → Leaves (Plain (instr.New d kind)) registers (with_reference registers d (record { node = slot; marked = false }))
+new_leaves slots registers (Num d) kind slot right limit count ne = absurd (let z : true ≡ false = right in cc)
+new_leaves slots registers (Ref d) kind slot right limit count ne = record {
   made = λ r wrote new. of r (same r d wrote);
   kept = λ r isnt. other_reference registers (Ref d) value r isnt;
 } where
@@ -256,27 +229,30 @@ new_leaves slots registers (Ref d) slot kind limit count ne = record {
 zero_keeps : (target : Target) (setting : Setting) (e : Entry) (k field : ℕ) → Methods target → SettingSane setting → Holds target setting e → Here setting.sizes.slots target e
     → (is_new_at (instr_in target e) ≡ true) × (k ≡ new_number target e) × (cradle_of e k ≢ 0) × (field < zero_count target setting.sizes (instr_in target e)) → BelongsIn target setting (zeroed target setting.sizes k field e)
 zero_keeps target setting e k field sane some h c stands = of (nat_lt (field + 1) (zero_count target setting.sizes (instr_in target e))) refl where
-  there : (d : Reg) × (instr_in target e ≡ Some (Plain (instr.New d)))
+  there : (d : Reg) × (kind : ℕ) × (instr_in target e ≡ Some (Plain (instr.New d kind)))
   there = new_there (instr_in target e) stands.0
 
   d : Reg
   d = there.0
 
+  kind : ℕ
+  kind = there.1
+
   slot : ℕ
   slot = cradle_of e k
 
-  site : SaneAt target e.hand.wrapup (code_in target e) e.hand.at (Plain (instr.New d))
-  site = site_of target e setting.sizes.slots (Plain (instr.New d)) sane c there.1
+  site : SaneAt target e.hand.wrapup (code_in target e) e.hand.at (Plain (instr.New d kind))
+  site = site_of target e setting.sizes.slots (Plain (instr.New d kind)) sane c there.2
 
   made : Registers
   made = with_reference e.hand.registers d (record { node = slot; marked = false })
 
   sets_it : with_new (instr_in target e) slot e.hand.registers ≡ made
-  sets_it = ap (λ (o : Option TargetInstr). with_new o slot e.hand.registers) there.1
+  sets_it = ap (λ (o : Option TargetInstr). with_new o slot e.hand.registers) there.2
 
   on : BelongsIn target setting (goes_on target setting.sizes made e)
-  on = goes_belongs target setting e (Plain (instr.New d)) (e.hand.at + 1) made sane some h c there.1 (one_way (e.hand.at + 1))
-      (new_leaves setting.sizes.slots e.hand.registers d slot site.own.form.kinds site.limits c.names.references stands.2)
+  on = goes_belongs target setting e (Plain (instr.New d kind)) (e.hand.at + 1) made sane some h c there.2 (one_way (e.hand.at + 1))
+      (new_leaves setting.sizes.slots e.hand.registers d kind slot site.own.form.kinds (parts (is_register d) (nat_lt kind (length target.kinds)) site.limits).0 c.names.references stands.2)
       (referred setting.sizes.slots e.hand.registers d (record { node = slot; marked = false }) c.names (h.cradles.within k))
 
   of : (b : Bool) → nat_lt (field + 1) (zero_count target setting.sizes (instr_in target e)) ≡ b

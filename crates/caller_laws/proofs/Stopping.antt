@@ -107,7 +107,7 @@ in_wrap_up false own = absurd (let e : true ≡ false = own in cc)
 
 plain_belongs : (target : Target) (setting : Setting) (i : Instr) (e : Entry) → Methods target → SettingSane setting → Holds target setting e → Here setting.sizes.slots target e
     → instr_in target e ≡ Some (Plain i) → local_step i e.hand.at e.hand.registers ≡ None → BelongsIn target setting (plain_stop target setting.sizes i e)
-plain_belongs target setting (instr.New d) e sane some h c is ends = cleared_belongs target setting clears.New e some h c (rw is refl)
+plain_belongs target setting (instr.New d kind) e sane some h c is ends = cleared_belongs target setting clears.New e some h c (rw is refl)
 plain_belongs target setting (instr.Commit exchanges) e sane some h c is ends = list_belongs target setting exchanges e sane some h c is
 plain_belongs target setting (instr.Return a) e sane some h c is ends =
     cleared_belongs target setting (clears.Reply (replies.Number (number_in e.hand.registers a))) e some h c (in_wrap_up e.hand.wrapup (own e.hand.wrapup (site_of target e setting.sizes.slots (Plain (instr.Return a)) sane c is).own.form.own_end), rw is refl) where

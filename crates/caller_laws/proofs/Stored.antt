@@ -1,5 +1,5 @@
 -- The word that a store found doesn't matter.
-use Rattle.std.proofs.Common.{◌≡◌, ◌∙◌, ℕ, zero, suc, Bool, Option, Some, None, refl, ap}
+use Rattle.std.proofs.Common.{List, ◌≡◌, ◌∙◌, ℕ, zero, suc, Bool, Option, Some, None, refl, ap}
 use Rattle.std.specs.Prelude.{slice_get}
 use Rattle.norm_lang.specs.declared.text.Place.{Place}
 use Rattle.norm_lang.specs.declared.text.Place.TheVariants as places
@@ -7,6 +7,8 @@ use Rattle.norm_lang.specs.declared.text.CasEntry.{CasEntry}
 use Rattle.norm_lang.specs.declared.text.Instr.{Instr}
 use Rattle.norm_lang.specs.declared.text.Instr.TheVariants as instr
 use Rattle.norm_lang.specs.declared.registers.Registers.{Registers}
+use Rattle.norm_lang.specs.declared.text.FieldDecl.{FieldDecl}
+use Rattle.norm_lang.specs.KindFields.{place_of}
 use Rattle.target_code.specs.declared.target.TargetInstr.{TargetInstr}
 use Rattle.target_code.specs.declared.target.TargetInstr.TheVariants.{Plain, Check, Guard}
 use Rattle.target_code.specs.declared.target.Target.{Target}
@@ -41,15 +43,15 @@ exchanges_no_store v expected y w x is = cc
 raises_no_store : (v : Word) (y : ℕ) → IsNoStore (Raises v y)
 raises_no_store v y w x is = cc
 
-exchange_no_store : (exchange : CasEntry) (registers : Registers) → IsNoStore (exchange_wanted exchange registers)
-exchange_no_store exchange registers = of exchange.place where
+exchange_no_store : (fields : List FieldDecl) (exchange : CasEntry) (registers : Registers) → IsNoStore (exchange_wanted fields exchange registers)
+exchange_no_store fields exchange registers = of exchange.place where
   by_slot : (j f expected replacement : ℕ) → IsNoStore (object_exchange j f expected replacement)
   by_slot zero f expected replacement w x is = cc
   by_slot (suc j) f expected replacement w x is = cc
 
-  of : (place : Place) → IsNoStore (place_exchange place registers (word_in registers exchange.expected) (word_in registers exchange.replacement))
+  of : (place : Place) → IsNoStore (place_exchange fields place registers (word_in registers exchange.expected) (word_in registers exchange.replacement))
   of (places.Root c) w x is = cc
-  of (places.Field a f) w x is = by_slot (slot_in registers a) f (word_in registers exchange.expected) (word_in registers exchange.replacement) w x is
+  of (places.Field a f) w x is = by_slot (slot_in registers a) (place_of fields f) (word_in registers exchange.expected) (word_in registers exchange.replacement) w x is
 
 -- a claim's stores are of a status, and of a link
 sweep_store : (n : Sizes) (last : ℕ) (sweep : Sweep) (stage : SweepStage) (w : Word) (x a b : ℕ) → sweep_wants_at stage sweep.bound ≡ Stores w x
@@ -73,23 +75,23 @@ claim_store n last claim (claims.Take q t next) w x a b is = absurd cc
 claim_store n last claim (claims.StoreUsed q t) w x a b is = (refl, refl)
 claim_store n last claim claims.Sweeps w x a b is = (ap (claim_sweeps claim) (sweep_store n last claim.sweep claim.sweep.stage w x a b is), refl)
 
-plain_store : (target : Target) (sizes : Sizes) (i : Instr) (registers : Registers) (w : Word) (x a b : ℕ) (e : Entry) → plain_wanted i registers ≡ Some (Stores w x) → plain_accepted target sizes i a e ≡ plain_accepted target sizes i b e
+plain_store : (target : Target) (sizes : Sizes) (i : Instr) (registers : Registers) (w : Word) (x a b : ℕ) (e : Entry) → plain_wanted target.fields i registers ≡ Some (Stores w x) → plain_accepted target sizes i a e ≡ plain_accepted target sizes i b e
 plain_store target sizes (instr.LoadRoot d y) registers w x a b e is = absurd cc
 plain_store target sizes (instr.LoadPick d y n r) registers w x a b e is = absurd cc
 plain_store target sizes (instr.LoadField d r f) registers w x a b e is = absurd cc
-plain_store target sizes (instr.Cas exchange l) registers w x a b e is = absurd (exchange_no_store exchange registers w x (let same : exchange_wanted exchange registers ≡ Stores w x = cc in same))
+plain_store target sizes (instr.Cas exchange l) registers w x a b e is = absurd (exchange_no_store target.fields exchange registers w x (let same : exchange_wanted target.fields exchange registers ≡ Stores w x = cc in same))
 plain_store target sizes (instr.Put r f v) registers w x a b e is = refl
 plain_store target sizes _ registers w x a b e is = refl
 
-instr_store : (target : Target) (sizes : Sizes) (c : ℕ) (o : Option TargetInstr) (registers : Registers) (w : Word) (x a b : ℕ) (e : Entry) → instr_wanted c o registers ≡ Some (Stores w x) → instr_accepted target sizes o a e ≡ instr_accepted target sizes o b e
+instr_store : (target : Target) (sizes : Sizes) (c : ℕ) (o : Option TargetInstr) (registers : Registers) (w : Word) (x a b : ℕ) (e : Entry) → instr_wanted target.fields c o registers ≡ Some (Stores w x) → instr_accepted target sizes o a e ≡ instr_accepted target sizes o b e
 instr_store target sizes c None registers w x a b e is = refl
 instr_store target sizes c (Some (Plain i)) registers w x a b e is = plain_store target sizes i registers w x a b e is
 instr_store target sizes c (Some Check) registers w x a b e is = absurd cc
 instr_store target sizes c (Some (Guard r)) registers w x a b e is = refl
 
-list_no_store : (o : Option CasEntry) (registers : Registers) (w : Word) (x : ℕ) → list_wanted o registers ≡ Some (Stores w x) → ⊥
-list_no_store None registers w x is = cc
-list_no_store (Some exchange) registers w x is = exchange_no_store exchange registers w x (let same : exchange_wanted exchange registers ≡ Stores w x = cc in same)
+list_no_store : (fields : List FieldDecl) (o : Option CasEntry) (registers : Registers) (w : Word) (x : ℕ) → list_wanted fields o registers ≡ Some (Stores w x) → ⊥
+list_no_store fields None registers w x is = cc
+list_no_store fields (Some exchange) registers w x is = exchange_no_store fields exchange registers w x (let same : exchange_wanted fields exchange registers ≡ Stores w x = cc in same)
 
 retire_store : (slot : ℕ) (stage : RetireStage) (w : Word) (x a b : ℕ) → retire_wants_at slot stage ≡ Stores w x → retire_accepts_at slot a stage ≡ retire_accepts_at slot b stage
 retire_store slot retires.ReadPhase w x a b is = absurd cc
@@ -103,7 +105,7 @@ step_store : (target : Target) (setting : Setting) (e : Entry) (routine : Routin
 step_store target setting e Idle w x a b is = refl
 step_store target setting e (LoadSeen why) w x a b is = absurd cc
 step_store target setting e At w x a b is = instr_store target setting.sizes e.number (instr_in target e) e.hand.registers w x a b (counted e) is
-step_store target setting e (InList k) w x a b is = absurd (list_no_store (slice_get (list_of (instr_in target e)) k) e.hand.registers w x is)
+step_store target setting e (InList k) w x a b is = absurd (list_no_store target.fields (slice_get (list_of (instr_in target e)) k) e.hand.registers w x is)
 step_store target setting e (Retires retirement go) w x a b is =
     ap (λ (o : Option Retirement). retired_on target setting.sizes go o (counted e)) (retire_store retirement.slot retirement.stage w x a b (some_same (retire_wants_at retirement.slot retirement.stage) (Stores w x) is))
 step_store target setting e Restarts w x a b is = refl

@@ -1,4 +1,5 @@
 pub mod Sides
+pub mod News
 pub mod Slots
 pub mod Turns
 pub mod Emptying

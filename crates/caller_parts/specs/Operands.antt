@@ -103,7 +103,7 @@ cradle_number code at = news_before code at
 
 -- the register that a `new` sets gets the unmarked reference
 abbrev pub with_new : Option TargetInstr → ℕ → Registers → Registers
-with_new (Some (Plain (instr.New d))) slot registers = with_reference registers d (record { node = slot; marked = false })
+with_new (Some (Plain (instr.New d kind))) slot registers = with_reference registers d (record { node = slot; marked = false })
 with_new _ slot registers = registers
 
 -- each cradle that holds a slot is emptied; null empties none

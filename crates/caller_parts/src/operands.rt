@@ -98,7 +98,7 @@ pub fn exchange_at(list: &[CasEntry], k: usize) -> Option<&CasEntry>
 fn is_new_at(instr: Option<&TargetInstr>) -> bool
     ensures { result ≡ is_new_at (option_copied instr.entry) }
 {
-    matches!(instr, Some(TargetInstr::Plain(Instr::New(_))))
+    matches!(instr, Some(TargetInstr::Plain(Instr::New(..))))
 }
 
 /// How many `new` stand before a place.
@@ -125,7 +125,7 @@ pub fn cradle_number(code: &[TargetInstr], at: usize) -> usize
 pub fn put_new(registers: &mut Registers, instr: Option<&TargetInstr>, slot: u32)
     ensures { registers.new ≡ with_new (option_copied instr.entry) slot registers.old }
 {
-    if let Some(TargetInstr::Plain(Instr::New(d))) = instr {
+    if let Some(TargetInstr::Plain(Instr::New(d, _))) = instr {
         let reference = Reference {
             node: slot as u64,
             marked: false,

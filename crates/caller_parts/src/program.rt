@@ -1,6 +1,7 @@
 //! What a caller runs: a target, with what its operations' wrap-ups keep.
 
 ghost use Rattle.std.specs.Prelude.{◌≡◌, slice_get, slice_index_or, option_copied};
+ghost use Rattle.norm_lang.specs.KindFields.{place_of};
 ghost use Rattle.caller_parts.specs.Operands.{method_code};
 ghost use Rattle.caller_parts.specs.Spared.{kept_by, none_spared, KeptIs};
 
@@ -48,6 +49,13 @@ impl<'a> Program<'a> {
                 }
             }
         }
+    }
+
+    /// The place of a field among those of its kind, which is the field's number.
+    pub fn place_of(&self, field: u8) -> u8
+        ensures { result ≡ place_of self.now.fields field }
+    {
+        field
     }
 
     /// What an operation's wrap-up keeps.

@@ -104,7 +104,7 @@ ended target sizes next e = told (owed e.hand) (quiet (cleared target sizes next
 
 -- where local code stopped: before an access, or at a `new`, a commit or an end
 abbrev pub plain_stop : Target → Sizes → Instr → Entry → Moved
-plain_stop target sizes (instr.New d) e = quiet (cleared target sizes clears.New e)
+plain_stop target sizes (instr.New d kind) e = quiet (cleared target sizes clears.New e)
 plain_stop target sizes (instr.Commit exchanges) e = list_begun target sizes exchanges e
 plain_stop target sizes (instr.Return a) e = ended target sizes (clears.Reply (replies.Number (number_in e.hand.registers a))) e
 plain_stop target sizes instr.ReturnNone e = ended target sizes (clears.Reply replies.Nothing) e

@@ -1,7 +1,7 @@
 -- Which words may stand where.
 use Rattle.std.specs.Prelude.{◌≡◌, ℕ, zero, suc, ◌≤◌, Bool, true, false, Option, Some, None}
 use Rattle.norm_lang.specs.declared.text.FieldKind.{FieldKind}
-use Rattle.norm_lang.specs.declared.text.FieldKind.TheVariants as kinds
+use Rattle.norm_lang.specs.declared.text.FieldKind.TheVariants as holdings
 use Rattle.norm_lang.specs.InstructionRules.{field_kind, root_kind}
 use Rattle.target_code.specs.declared.target.Target.{Target}
 use Rattle.oa_words.specs.Words.{in_row, Word, Phase, Place, Warning, Hazard, Status, FieldOf, Cell, Head, Link}
@@ -13,8 +13,8 @@ use Rattle.caller_parts.specs.Settings.{Setting}
 -- any number, or a reference to a slot of the row
 abbrev pub LawfulValue : ℕ → Option FieldKind → ℕ → Type 0
 LawfulValue slots None word = Unit {0}
-LawfulValue slots (Some kinds.Number) word = Unit {0}
-LawfulValue slots (Some kinds.Reference) word = slot_part word ≤ slots
+LawfulValue slots (Some holdings.Number) word = Unit {0}
+LawfulValue slots (Some (holdings.Reference k)) word = slot_part word ≤ slots
 
 -- a phase of the run
 abbrev pub LawfulPhase : Setting → ℕ → Type 0

@@ -142,7 +142,7 @@ impl Entry {
         ensures { self.new ≡ record self.old { core = (plain_stop program.now shape.now instr.now self.old.core).entry } }
     {
         match instr {
-            Instr::New(_) => self.cleared(program, shape, AfterClear::New),
+            Instr::New(..) => self.cleared(program, shape, AfterClear::New),
             Instr::Commit(exchanges) => self.list_begun(program, shape, exchanges.items()),
             Instr::Return(a) => {
                 let number = number_at(&self.hand.registers, *a);

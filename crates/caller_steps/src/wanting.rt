@@ -33,10 +33,15 @@ fn object_exchange(shape: &Shape, slot: u32, field: u8, expected: u64, replaceme
     }
 }
 
-fn exchange_wanted(shape: &Shape, exchange: &CasEntry, registers: &Registers) -> Access
+fn exchange_wanted(
+    program: &Program,
+    shape: &Shape,
+    exchange: &CasEntry,
+    registers: &Registers,
+) -> Access
     requires slots { AreSlots registers.now }
     requires can { CanExchange shape.now exchange.now.place registers.now }
-    ensures { result ≡ located shape.now (exchange_wanted exchange.now registers.now) }
+    ensures { result ≡ located shape.now (exchange_wanted program.now.fields exchange.now registers.now) }
 {
     let expected = word_in(registers, exchange.expected);
     let replacement = word_in(registers, exchange.replacement);
@@ -47,15 +52,26 @@ fn exchange_wanted(shape: &Shape, exchange: &CasEntry, registers: &Registers) ->
             replacement,
         },
         Place::Field(a, f) => {
-            object_exchange(shape, slot_in(registers, a), f, expected, replacement)
+            object_exchange(
+                shape,
+                slot_in(registers, a),
+                program.place_of(f),
+                expected,
+                replacement,
+            )
         }
     }
 }
 
-fn plain_wanted(shape: &Shape, instr: &Instr, registers: &Registers) -> Option<Access>
+fn plain_wanted(
+    program: &Program,
+    shape: &Shape,
+    instr: &Instr,
+    registers: &Registers,
+) -> Option<Access>
     requires slots { AreSlots registers.now }
     requires can { CanAskPlain shape.now instr.now registers.now }
-    ensures { result ≡ located_option shape.now (plain_wanted instr.now registers.now) }
+    ensures { result ≡ located_option shape.now (plain_wanted program.now.fields instr.now registers.now) }
 {
     match instr {
         Instr::LoadRoot(_, x) => Some(Access::Load {
@@ -70,13 +86,13 @@ fn plain_wanted(shape: &Shape, instr: &Instr, registers: &Registers) -> Option<A
             })
         }
         Instr::LoadField(_, a, f) => Some(Access::Load {
-            at: shape.field_at(slot_in(registers, *a), *f as u32),
+            at: shape.field_at(slot_in(registers, *a), program.place_of(*f) as u32),
         }),
         Instr::Put(a, f, b) => Some(Access::Store {
-            at: shape.field_at(slot_in(registers, *a), *f as u32),
+            at: shape.field_at(slot_in(registers, *a), program.place_of(*f) as u32),
             word: word_in(registers, *b),
         }),
-        Instr::Cas(exchange, _) => Some(exchange_wanted(shape, exchange, registers)),
+        Instr::Cas(exchange, _) => Some(exchange_wanted(program, shape, exchange, registers)),
         _ => None,
     }
 }
@@ -101,11 +117,16 @@ impl Entry {
         requires caller { self.now.core.number < shape.now.callers }
         requires slots { AreSlots self.now.core.hand.registers }
         requires can { CanAskInstr shape.now (instr_in program.now self.now.core) self.now.core.hand.registers }
-        ensures { result ≡ located_option shape.now (instr_wanted self.now.core.number (instr_in program.now self.now.core) self.now.core.hand.registers) }
+        ensures { result ≡ located_option shape.now (instr_wanted program.now.fields self.now.core.number (instr_in program.now self.now.core) self.now.core.hand.registers) }
     {
         match self.instr_in(program) {
             None => None,
-            Some(TargetInstr::Plain(instr)) => plain_wanted(shape, instr, &self.hand.registers),
+            Some(TargetInstr::Plain(instr)) => plain_wanted(
+                program,
+                shape,
+                instr,
+                &self.hand.registers,
+            ),
             Some(TargetInstr::Check) => Some(Access::Load {
                 at: shape.warning_at(self.number),
             }),
@@ -120,11 +141,11 @@ impl Entry {
     fn list_wanted(&self, program: &Program, shape: &Shape, k: usize) -> Option<Access>
         requires slots { AreSlots self.now.core.hand.registers }
         requires can { CanAskList shape.now (slice_get (list_of (instr_in program.now self.now.core)) k) self.now.core.hand.registers }
-        ensures { result ≡ located_option shape.now (list_wanted (slice_get (list_of (instr_in program.now self.now.core)) k) self.now.core.hand.registers) }
+        ensures { result ≡ located_option shape.now (list_wanted program.now.fields (slice_get (list_of (instr_in program.now self.now.core)) k) self.now.core.hand.registers) }
     {
         match exchange_at(list_of(self.instr_in(program)), k) {
             None => None,
-            Some(exchange) => Some(exchange_wanted(shape, exchange, &self.hand.registers)),
+            Some(exchange) => Some(exchange_wanted(program, shape, exchange, &self.hand.registers)),
         }
     }
 

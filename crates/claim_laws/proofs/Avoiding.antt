@@ -96,7 +96,7 @@ module _ (target : Target) (sizes : Sizes) (j : ℕ) (some : 1 ≤ j) where
   begun_list_avoids (exchange ∷ exchanges) e f = to e (InList 0) f tt
 
   plain_avoids : (i : Instr) (e : Entry) → IsFree j e → EntryAvoids j (plain_stop target sizes i e).entry
-  plain_avoids (instr.New d) e f = cleared_avoids clears.New e f
+  plain_avoids (instr.New d kind) e f = cleared_avoids clears.New e f
   plain_avoids (instr.Commit exchanges) e f = begun_list_avoids exchanges e f
   plain_avoids (instr.Return a) e f = cleared_avoids (clears.Reply (replies.Number (number_in e.hand.registers a))) e f
   plain_avoids instr.ReturnNone e f = cleared_avoids (clears.Reply replies.Nothing) e f
@@ -201,7 +201,7 @@ module _ (target : Target) (sizes : Sizes) (j : ℕ) (some : 1 ≤ j) where
   accepted_plain (instr.IfEq a b k) word e is f l = same e At is f tt
   accepted_plain (instr.IfLess a b k) word e is f l = same e At is f tt
   accepted_plain (instr.IfMarked a k) word e is f l = same e At is f tt
-  accepted_plain (instr.New d) word e is f l = same e At is f tt
+  accepted_plain (instr.New d kind) word e is f l = same e At is f tt
   accepted_plain (instr.Commit exchanges) word e is f l = same e At is f tt
   accepted_plain (instr.Return a) word e is f l = same e At is f tt
   accepted_plain instr.ReturnNone word e is f l = same e At is f tt
@@ -261,7 +261,7 @@ module _ (target : Target) (sizes : Sizes) (j : ℕ) (some : 1 ≤ j) where
   new_avoids None slot registers other s = s
   new_avoids (Some Check) slot registers other s = s
   new_avoids (Some (Guard r)) slot registers other s = s
-  new_avoids (Some (Plain (instr.New d))) slot registers other s = referred j some registers d (record { node = slot; marked = false }) s other
+  new_avoids (Some (Plain (instr.New d kind))) slot registers other s = referred j some registers d (record { node = slot; marked = false }) s other
   new_avoids (Some (Plain (instr.Set d n))) slot registers other s = s
   new_avoids (Some (Plain (instr.Mov d a))) slot registers other s = s
   new_avoids (Some (Plain (instr.Add d a b))) slot registers other s = s

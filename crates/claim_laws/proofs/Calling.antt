@@ -6,8 +6,7 @@ use native.Mathlib.Decide.{ℕ_discrete}
 use mathlib.Core.Logic.{dite}
 use Rattle.norm_lang.specs.declared.text.Reg.{Reg}
 use Rattle.norm_lang.specs.declared.text.Instr.TheVariants as instr
-use Rattle.target_code.specs.declared.target.TargetInstr.{TargetInstr}
-use Rattle.target_code.specs.declared.target.TargetInstr.TheVariants.{Plain, Check, Guard}
+use Rattle.target_code.specs.declared.target.TargetInstr.TheVariants.{Plain}
 use Rattle.target_code.specs.declared.target.TargetOp.{TargetOp}
 use Rattle.target_code.specs.declared.target.Target.{Target}
 use Rattle.target_code.specs.TargetLimits.{target_news_in}
@@ -17,6 +16,7 @@ use Rattle.phase_pools.specs.declared.stages.ClaimStage.{ClaimStage}
 use Rattle.phase_pools.specs.declared.stages.ClaimStage.TheVariants as claims
 use Rattle.phase_pools.specs.Pools.{Claim, ClaimTurn, claim_accepts, claim_accepts_at, claim_ends, claim_goes, claim_takes, takes_at}
 use Rattle.oa_words.specs.Packed.{head_word}
+use Rattle.caller_parts.proofs.News.{new_there}
 use Rattle.caller_parts.specs.declared.call.Reply.{Reply}
 use Rattle.caller_parts.specs.declared.call.Reply.TheVariants as replies
 use Rattle.caller_parts.specs.declared.call.Replied.{Replied}
@@ -47,33 +47,6 @@ use Rattle.claim_laws.proofs.Onward.{IsAnswer, IsBefore, IsNoClaim, StandsAfter,
 
 -- ---- at a `new`
 
-new_there : (o : Option TargetInstr) → is_new_at o ≡ true → (d : Reg) × (o ≡ Some (Plain (instr.New d)))
-new_there (Some (Plain (instr.New d))) is = (d, refl)
-new_there None is = absurd (let z : false ≡ true = is in cc)
-new_there (Some Check) is = absurd (let z : false ≡ true = is in cc)
-new_there (Some (Guard r)) is = absurd (let z : false ≡ true = is in cc)
-new_there (Some (Plain (instr.Set d n))) is = absurd (let z : false ≡ true = is in cc)
-new_there (Some (Plain (instr.Mov d a))) is = absurd (let z : false ≡ true = is in cc)
-new_there (Some (Plain (instr.Add d a b))) is = absurd (let z : false ≡ true = is in cc)
-new_there (Some (Plain (instr.Sub d a b))) is = absurd (let z : false ≡ true = is in cc)
-new_there (Some (Plain (instr.Rem d a n))) is = absurd (let z : false ≡ true = is in cc)
-new_there (Some (Plain (instr.Mark d a))) is = absurd (let z : false ≡ true = is in cc)
-new_there (Some (Plain (instr.Unmark d a))) is = absurd (let z : false ≡ true = is in cc)
-new_there (Some (Plain (instr.Null d))) is = absurd (let z : false ≡ true = is in cc)
-new_there (Some (Plain (instr.Jump l))) is = absurd (let z : false ≡ true = is in cc)
-new_there (Some (Plain (instr.IfEq a b l))) is = absurd (let z : false ≡ true = is in cc)
-new_there (Some (Plain (instr.IfLess a b l))) is = absurd (let z : false ≡ true = is in cc)
-new_there (Some (Plain (instr.IfMarked a l))) is = absurd (let z : false ≡ true = is in cc)
-new_there (Some (Plain (instr.LoadRoot d x))) is = absurd (let z : false ≡ true = is in cc)
-new_there (Some (Plain (instr.LoadPick d x n a))) is = absurd (let z : false ≡ true = is in cc)
-new_there (Some (Plain (instr.LoadField d a f))) is = absurd (let z : false ≡ true = is in cc)
-new_there (Some (Plain (instr.Put a f b))) is = absurd (let z : false ≡ true = is in cc)
-new_there (Some (Plain (instr.Cas exchange l))) is = absurd (let z : false ≡ true = is in cc)
-new_there (Some (Plain (instr.Commit exchanges))) is = absurd (let z : false ≡ true = is in cc)
-new_there (Some (Plain (instr.Return a))) is = absurd (let z : false ≡ true = is in cc)
-new_there (Some (Plain instr.ReturnNone)) is = absurd (let z : false ≡ true = is in cc)
-new_there (Some (Plain instr.Again)) is = absurd (let z : false ≡ true = is in cc)
-
 generator_news : (o : Option TargetOp) → target_news_in (method_code o false) ≡ news_of o
 generator_news None = refl
 generator_news (Some op) = refl
@@ -90,11 +63,11 @@ module _ (target : Target) (setting : Setting) (sane : Methods target) where
     stands : is_new_at (instr_in target e) ≡ true
     stands = let all : Stands target setting e (Claims claim) = subst (Stands target setting e) is b.stands in all.0
 
-    there : (d : Reg) × (instr_in target e ≡ Some (Plain (instr.New d)))
+    there : (d : Reg) × (kind : ℕ) × (instr_in target e ≡ Some (Plain (instr.New d kind)))
     there = new_there (instr_in target e) stands
 
-    site : SaneAt target e.hand.wrapup (code_in target e) e.hand.at (Plain (instr.New there.0))
-    site = site_of target e setting.sizes.slots (Plain (instr.New there.0)) sane (record { reached = subst (RunsAt target e) is b.reaches; names = b.hand.registers }) there.1
+    site : SaneAt target e.hand.wrapup (code_in target e) e.hand.at (Plain (instr.New there.0 there.1))
+    site = site_of target e setting.sizes.slots (Plain (instr.New there.0 there.1)) sane (record { reached = subst (RunsAt target e) is b.reaches; names = b.hand.registers }) there.2
 
     in_generator : e.hand.wrapup ≡ false
     in_generator = site.own.news refl

@@ -4,7 +4,7 @@ use Rattle.std.specs.Prelude.{slice_get, slice_index, nat_lt}
 use Rattle.std.proofs.lemmas.Bool.Decides.{nat_tests}
 use Rattle.std.proofs.lemmas.List.{length-map}
 use Rattle.norm_lang.specs.declared.text.FieldKind.{FieldKind}
-use Rattle.norm_lang.specs.declared.text.FieldKind.TheVariants as kinds
+use Rattle.norm_lang.specs.declared.text.FieldKind.TheVariants as holdings
 use Rattle.norm_lang.specs.InstructionRules.{field_kind, root_kind}
 use Rattle.target_code.specs.declared.target.Target.{Target}
 use Rattle.target_code.specs.TargetLimits.{IsTargetWithinLimits}
@@ -44,8 +44,8 @@ use Rattle.claim_laws.proofs.Pooling.{NoneFull, CallerPool, Pool, IsPooled, even
 -- a first value names an initial node or null
 node_avoids : (j nodes : ℕ) (kind : Option FieldKind) (word : ℕ) → nodes < j → LawfulValue nodes kind word → ValueAvoids j kind word
 node_avoids j nodes None word lt lawful = tt
-node_avoids j nodes (Some kinds.Number) word lt lawful = tt
-node_avoids j nodes (Some kinds.Reference) word lt lawful = λ same. omega (arith, lawful, lt, same)
+node_avoids j nodes (Some holdings.Number) word lt lawful = tt
+node_avoids j nodes (Some (holdings.Reference k)) word lt lawful = λ same. omega (arith, lawful, lt, same)
 
 idle_avoids : (j c : ℕ) → 1 ≤ j → EntryAvoids j (idle_entry c)
 idle_avoids j c some = record { registers = first_avoid j some []; started = first_avoid j some []; guards = guards; cradles = cradles; routine = tt } where
@@ -79,8 +79,8 @@ module _ {target : Target} {setting : Setting} (within : IsTargetWithinLimits ta
     slot_avoids zero g = node_avoids j (length target.nodes) (field_kind target.fields g) 0 past_nodes (of (field_kind target.fields g)) where
       of : (kind : Option FieldKind) → LawfulValue (length target.nodes) kind 0
       of None = tt
-      of (Some kinds.Number) = tt
-      of (Some kinds.Reference) = omega arith
+      of (Some holdings.Number) = tt
+      of (Some (holdings.Reference k)) = omega arith
     slot_avoids (suc i) g = node_avoids j (length target.nodes) (field_kind target.fields g) (field_word (start_node (beginning_of target setting) (suc i)) g) past_nodes
         (nodes_lawful node_home (length target.nodes) (length target.nodes) (λ k le. le) target.fields target.nodes i g (filled within own fits))
 

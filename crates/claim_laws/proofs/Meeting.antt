@@ -1,12 +1,11 @@
 -- What a caller finds and what it writes, where neither fields, roots nor guards name a slot.
-use Rattle.std.proofs.Common.{◌≡◌, ◌≢◌, ℕ, zero, suc, ◌-◌, ◌≤◌, ◌<◌, ◌==◌, ◌&&◌, ◌||◌, not, Bool, true, false, List, [], ◌∷◌, length, Option, Some, None, refl, sym, ◌∙◌, subst, ap, arith, if◌then◌else◌}
+use Rattle.std.proofs.Common.{◌≡◌, ◌≢◌, ℕ, zero, suc, ◌+◌, ◌-◌, ◌≤◌, ◌<◌, ◌==◌, ◌&&◌, ◌||◌, not, Bool, true, false, List, [], ◌∷◌, length, Option, Some, None, refl, sym, ◌∙◌, subst, ap, arith, if◌then◌else◌}
 use Rattle.std.specs.Prelude.{slice_get, nat_le, nat_lt}
 use Rattle.std.specs.List.{All, list_any}
 use Rattle.std.proofs.lemmas.Bool.Decides.{nat_tests}
 use Rattle.norm_lang.specs.declared.text.Place.{Place}
 use Rattle.norm_lang.specs.declared.text.Place.TheVariants as places
 use Rattle.norm_lang.specs.declared.text.CasEntry.{CasEntry}
-use Rattle.norm_lang.specs.declared.text.FieldKind.{FieldKind}
 use Rattle.norm_lang.specs.declared.text.Instr.{Instr}
 use Rattle.norm_lang.specs.declared.text.Instr.TheVariants as instr
 use Rattle.norm_lang.specs.declared.registers.Registers.{Registers}
@@ -48,7 +47,7 @@ use Rattle.caller_laws.proofs.Going.{pick_kind, remainder_below}
 use Rattle.caller_laws.proofs.Instructions.{parts}
 use Rattle.caller_laws.proofs.Safety.{neither, unnegated, list_there}
 use Rattle.claim_laws.specs.Untouched.{ValueAvoids, WordAvoids, RegistersAvoid, StageAvoids, RoutineAvoids, EntryAvoids}
-use Rattle.claim_laws.proofs.Naming.{null, names_other, worded, register_avoids, zero_avoids, gathered}
+use Rattle.claim_laws.proofs.Naming.{alike_avoids, null, names_other, worded, register_avoids, zero_avoids, gathered}
 use Rattle.claim_laws.proofs.Avoiding.{LoadAvoids, InstrAvoids, ClaimAvoids, StepAvoids}
 
 -- what an access finds doesn't name the slot
@@ -88,7 +87,7 @@ module _ (target : Target) (setting : Setting) (sane : Methods target) (j : ℕ)
   -- ---- loads
 
   plain_found : (e : Entry) (i : Instr) (word : ℕ) → Here setting.sizes.slots target e → instr_in target e ≡ Some (Plain i) → RegistersAvoid j e.hand.registers
-      → ToldAvoids target j (plain_wanted i e.hand.registers) word → LoadAvoids j i word e.hand.registers
+      → ToldAvoids target j (plain_wanted target.fields i e.hand.registers) word → LoadAvoids j i word e.hand.registers
   plain_found e (instr.LoadRoot d x) word c is s told =
       worded j some e.hand.registers (root_kind target.roots x) d word s told (site_of target e setting.sizes.slots (Plain (instr.LoadRoot d x)) sane c is).own.form.kinds
   plain_found e (instr.LoadPick d x n a) word c is s told =
@@ -99,7 +98,7 @@ module _ (target : Target) (setting : Setting) (sane : Methods target) (j : ℕ)
       let limits4 = parts (nat_le 1 n) (nat_le n 256) limits3.0 in
       let one = unnegated (are_roots_of_one_kind target.roots x n) site.own.form.range in
       let same = pick_kind target.roots x n (remainder (number_in e.hand.registers a) n) one (remainder_below (number_in e.hand.registers a) n (at_least 1 n limits4.0)) in
-      worded j some e.hand.registers (root_kind target.roots x) d word s (subst (λ (kind : Option FieldKind). ValueAvoids j kind word) same.0 told) site.own.form.kinds
+      worded j some e.hand.registers (root_kind target.roots x) d word s (alike_avoids j (root_kind target.roots x) (root_kind target.roots (x + remainder (number_in e.hand.registers a) n)) word same.0 told) site.own.form.kinds
   plain_found e (instr.LoadField d a f) word c is s told =
       worded j some e.hand.registers (field_kind target.fields f) d word s told
       (neither (holds_number a) (is_unlike (field_kind target.fields f) d) (site_of target e setting.sizes.slots (Plain (instr.LoadField d a f)) sane c is).own.form.kinds).1
@@ -115,7 +114,7 @@ module _ (target : Target) (setting : Setting) (sane : Methods target) (j : ℕ)
   plain_found e (instr.IfEq a b l) word c is s told = tt
   plain_found e (instr.IfLess a b l) word c is s told = tt
   plain_found e (instr.IfMarked a l) word c is s told = tt
-  plain_found e (instr.New d) word c is s told = tt
+  plain_found e (instr.New d kind) word c is s told = tt
   plain_found e (instr.Put a f b) word c is s told = tt
   plain_found e (instr.Cas exchange l) word c is s told = tt
   plain_found e (instr.Commit exchanges) word c is s told = tt
@@ -124,7 +123,7 @@ module _ (target : Target) (setting : Setting) (sane : Methods target) (j : ℕ)
   plain_found e instr.Again word c is s told = tt
 
   instr_found : (e : Entry) (o : Option TargetInstr) (word : ℕ) → Here setting.sizes.slots target e → instr_in target e ≡ o → RegistersAvoid j e.hand.registers
-      → ToldAvoids target j (instr_wanted e.number o e.hand.registers) word → InstrAvoids j o word e.hand.registers
+      → ToldAvoids target j (instr_wanted target.fields e.number o e.hand.registers) word → InstrAvoids j o word e.hand.registers
   instr_found e None word c is s told = tt
   instr_found e (Some Check) word c is s told = tt
   instr_found e (Some (Guard r)) word c is s told = tt
@@ -232,7 +231,7 @@ module _ (target : Target) (setting : Setting) (sane : Methods target) (j : ℕ)
     of false = was
 
   text_exchange : (exchange : CasEntry) (registers : Registers) → RegistersAvoid j registers → has_wrong_operand target.fields target.roots exchange ≡ false
-      → LeavesOther target j (Some (exchange_wanted exchange registers))
+      → LeavesOther target j (Some (exchange_wanted target.fields exchange registers))
   text_exchange exchange registers s kinds =
       of exchange.place
       (register_avoids j some registers (place_kind target.fields target.roots exchange.place) exchange.replacement s
@@ -244,11 +243,11 @@ module _ (target : Target) (setting : Setting) (sane : Methods target) (j : ℕ)
         object (suc k) f other = exchange_leaves (FieldOf (suc k) f) (word_in registers exchange.expected) (word_in registers exchange.replacement) other
 
         of : (place : Place) → ValueAvoids j (place_kind target.fields target.roots place) (word_in registers exchange.replacement)
-            → LeavesOther target j (Some (place_exchange place registers (word_in registers exchange.expected) (word_in registers exchange.replacement)))
+            → LeavesOther target j (Some (place_exchange target.fields place registers (word_in registers exchange.expected) (word_in registers exchange.replacement)))
         of (places.Root x) other = exchange_leaves (Cell x) (word_in registers exchange.expected) (word_in registers exchange.replacement) other
         of (places.Field a f) other = object (slot_in registers a) f other
 
-  plain_leaves : (e : Entry) (i : Instr) → Here setting.sizes.slots target e → instr_in target e ≡ Some (Plain i) → RegistersAvoid j e.hand.registers → LeavesOther target j (plain_wanted i e.hand.registers)
+  plain_leaves : (e : Entry) (i : Instr) → Here setting.sizes.slots target e → instr_in target e ≡ Some (Plain i) → RegistersAvoid j e.hand.registers → LeavesOther target j (plain_wanted target.fields i e.hand.registers)
   plain_leaves e (instr.LoadRoot d x) c is s = λ found was. was
   plain_leaves e (instr.LoadPick d x n a) c is s = λ found was. was
   plain_leaves e (instr.LoadField d a f) c is s = λ found was. was
@@ -267,21 +266,21 @@ module _ (target : Target) (setting : Setting) (sane : Methods target) (j : ℕ)
   plain_leaves e (instr.IfEq a b l) c is s = tt
   plain_leaves e (instr.IfLess a b l) c is s = tt
   plain_leaves e (instr.IfMarked a l) c is s = tt
-  plain_leaves e (instr.New d) c is s = tt
+  plain_leaves e (instr.New d kind) c is s = tt
   plain_leaves e (instr.Commit exchanges) c is s = tt
   plain_leaves e (instr.Return a) c is s = tt
   plain_leaves e instr.ReturnNone c is s = tt
   plain_leaves e instr.Again c is s = tt
 
   instr_leaves : (e : Entry) (o : Option TargetInstr) → Here setting.sizes.slots target e → instr_in target e ≡ o → RegistersAvoid j e.hand.registers
-      → LeavesOther target j (instr_wanted e.number o e.hand.registers)
+      → LeavesOther target j (instr_wanted target.fields e.number o e.hand.registers)
   instr_leaves e None c is s = tt
   instr_leaves e (Some Check) c is s = λ found was. was
   instr_leaves e (Some (Guard r)) c is s = λ found was. names_other j some e.hand.registers r s
   instr_leaves e (Some (Plain i)) c is s = plain_leaves e i c is s
 
   list_leaves : (e : Entry) (k : ℕ) → Here setting.sizes.slots target e → RegistersAvoid j e.hand.registers → k < length (list_of (instr_in target e))
-      → LeavesOther target j (list_wanted (slice_get (list_of (instr_in target e)) k) e.hand.registers)
+      → LeavesOther target j (list_wanted target.fields (slice_get (list_of (instr_in target e)) k) e.hand.registers)
   list_leaves e k c s lt = of (slice_get (list_of (instr_in target e)) k) refl where
     there : (exchanges : List CasEntry) × (instr_in target e ≡ Some (Plain (instr.Commit exchanges)))
     there = list_there (instr_in target e) k lt
@@ -292,7 +291,7 @@ module _ (target : Target) (setting : Setting) (sane : Methods target) (j : ℕ)
     same : slice_get (list_of (instr_in target e)) k ≡ slice_get there.0 k
     same = ap (λ (q : Option TargetInstr). slice_get (list_of q) k) there.1
 
-    of : (x : Option CasEntry) → slice_get (list_of (instr_in target e)) k ≡ x → LeavesOther target j (list_wanted x e.hand.registers)
+    of : (x : Option CasEntry) → slice_get (list_of (instr_in target e)) k ≡ x → LeavesOther target j (list_wanted target.fields x e.hand.registers)
     of None none = tt
     of (Some exchange) is = text_exchange exchange e.hand.registers s (any_false (has_wrong_operand target.fields target.roots) there.0 k exchange site.own.form.kinds (sym same ∙ is))
 

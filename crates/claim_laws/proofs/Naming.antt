@@ -6,7 +6,7 @@ use Rattle.std.proofs.lemmas.List.Elements.{All-push}
 use Rattle.norm_lang.specs.declared.text.Reg.{Reg}
 use Rattle.norm_lang.specs.declared.text.Reg.TheVariants.{Num, Ref}
 use Rattle.norm_lang.specs.declared.text.FieldKind.{FieldKind}
-use Rattle.norm_lang.specs.declared.text.FieldKind.TheVariants as kinds
+use Rattle.norm_lang.specs.declared.text.FieldKind.TheVariants as holdings
 use Rattle.norm_lang.specs.declared.text.Instr.{Instr}
 use Rattle.norm_lang.specs.declared.text.Instr.TheVariants as instr
 use Rattle.norm_lang.specs.declared.registers.Reference.{Reference}
@@ -21,7 +21,16 @@ use Rattle.oa_words.specs.Packed.{ref_word, slot_part}
 use Rattle.guard_words.specs.Guards.{Guards, guard_at, with_guard, with_slot}
 use Rattle.caller_parts.specs.Operands.{unpacked, with_word, word_in, slot_in, emptied, to_retire}
 use Rattle.caller_laws.proofs.Named.{set_keeps}
+use Rattle.caller_laws.proofs.Going.{are_alike}
 use Rattle.claim_laws.specs.Untouched.{ValueAvoids, RegistersAvoid}
+
+-- what avoids the slot where the one is held does so where the other is
+pub alike_avoids : (j : ℕ) (one other : Option FieldKind) (word : ℕ) → are_alike one other ≡ true → ValueAvoids j other word → ValueAvoids j one word
+alike_avoids j None other word alike avoids = tt
+alike_avoids j (Some holdings.Number) other word alike avoids = tt
+alike_avoids j (Some (holdings.Reference k)) None word alike avoids = absurd (let z : false ≡ true = alike in cc)
+alike_avoids j (Some (holdings.Reference k)) (Some holdings.Number) word alike avoids = absurd (let z : false ≡ true = alike in cc)
+alike_avoids j (Some (holdings.Reference k)) (Some (holdings.Reference i)) word alike avoids = avoids
 
 module _ (j : ℕ) (some : 1 ≤ j) where
   pub null : 0 ≢ j
@@ -47,8 +56,8 @@ module _ (j : ℕ) (some : 1 ≤ j) where
       → RegistersAvoid j (with_word registers d word)
   worded registers kind (Num d) word s other like = numbered registers (Num d) word s
   worded registers None (Ref d) word s other like = absurd (let e : true ≡ false = like in cc)
-  worded registers (Some kinds.Number) (Ref d) word s other like = absurd (let e : true ≡ false = like in cc)
-  worded registers (Some kinds.Reference) (Ref d) word s other like = referred registers (Ref d) (unpacked word) s other
+  worded registers (Some holdings.Number) (Ref d) word s other like = absurd (let e : true ≡ false = like in cc)
+  worded registers (Some (holdings.Reference k)) (Ref d) word s other like = referred registers (Ref d) (unpacked word) s other
 
   pub first_avoid : (args : List ℕ) → RegistersAvoid j (first_registers args)
   first_avoid args zero = null
@@ -75,7 +84,7 @@ module _ (j : ℕ) (some : 1 ≤ j) where
   local_avoids (instr.LoadRoot d x) at registers s = tt
   local_avoids (instr.LoadPick d x n a) at registers s = tt
   local_avoids (instr.LoadField d a f) at registers s = tt
-  local_avoids (instr.New d) at registers s = tt
+  local_avoids (instr.New d kind) at registers s = tt
   local_avoids (instr.Put a f b) at registers s = tt
   local_avoids (instr.Cas entry l) at registers s = tt
   local_avoids (instr.Jump l) at registers s = s
@@ -111,15 +120,15 @@ module _ (j : ℕ) (some : 1 ≤ j) where
 
   pub register_avoids : (registers : Registers) (kind : Option FieldKind) (b : Reg) → RegistersAvoid j registers → is_unlike kind b ≡ false → ValueAvoids j kind (word_in registers b)
   register_avoids registers None b s like = tt
-  register_avoids registers (Some kinds.Number) b s like = tt
-  register_avoids registers (Some kinds.Reference) (Num b) s like = absurd (let z : true ≡ false = like in cc)
-  register_avoids registers (Some kinds.Reference) (Ref b) s like =
+  register_avoids registers (Some holdings.Number) b s like = tt
+  register_avoids registers (Some (holdings.Reference k)) (Num b) s like = absurd (let z : true ≡ false = like in cc)
+  register_avoids registers (Some (holdings.Reference k)) (Ref b) s like =
       subst (λ (n : ℕ). n ≢ j) (sym (packed_slot (reference_in registers (Ref b)).node (reference_in registers (Ref b)).marked)) (s b)
 
   pub zero_avoids : (kind : Option FieldKind) → ValueAvoids j kind 0
   zero_avoids None = tt
-  zero_avoids (Some kinds.Number) = tt
-  zero_avoids (Some kinds.Reference) = null
+  zero_avoids (Some holdings.Number) = tt
+  zero_avoids (Some (holdings.Reference k)) = null
 
   pub retires_other : (retire : Option Reg) (registers : Registers) → RegistersAvoid j registers → to_retire retire registers ≢ j
   retires_other None registers s = null

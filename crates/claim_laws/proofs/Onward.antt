@@ -125,7 +125,7 @@ module _ (target : Target) (sizes : Sizes) where
   begun_list_moves (exchange ∷ exchanges) e = ((refl, (λ w. w), tt), (refl, tt))
 
   plain_moves : (i : Instr) (e : Entry) → Moves target sizes e (plain_stop target sizes i e).entry
-  plain_moves (instr.New d) e = cleared_moves clears.New e tt
+  plain_moves (instr.New d kind) e = cleared_moves clears.New e tt
   plain_moves (instr.Commit exchanges) e = begun_list_moves exchanges e
   plain_moves (instr.Return a) e = cleared_moves (clears.Reply (replies.Number (number_in e.hand.registers a))) e tt
   plain_moves instr.ReturnNone e = cleared_moves (clears.Reply replies.Nothing) e tt
@@ -215,7 +215,7 @@ module _ (target : Target) (sizes : Sizes) where
   accepted_plain (instr.IfEq a b l) word e is = same e At is tt tt
   accepted_plain (instr.IfLess a b l) word e is = same e At is tt tt
   accepted_plain (instr.IfMarked a l) word e is = same e At is tt tt
-  accepted_plain (instr.New d) word e is = same e At is tt tt
+  accepted_plain (instr.New d kind) word e is = same e At is tt tt
   accepted_plain (instr.Commit exchanges) word e is = same e At is tt tt
   accepted_plain (instr.Return a) word e is = same e At is tt tt
   accepted_plain instr.ReturnNone word e is = same e At is tt tt

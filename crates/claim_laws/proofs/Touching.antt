@@ -8,6 +8,7 @@ use Rattle.norm_lang.specs.declared.text.CasEntry.{CasEntry}
 use Rattle.norm_lang.specs.declared.text.Instr.{Instr}
 use Rattle.norm_lang.specs.declared.text.Instr.TheVariants as instr
 use Rattle.norm_lang.specs.declared.registers.Registers.{Registers}
+use Rattle.norm_lang.specs.KindFields.{place_of}
 use Rattle.target_code.specs.declared.target.TargetInstr.{TargetInstr}
 use Rattle.target_code.specs.declared.target.TargetInstr.TheVariants.{Plain, Check, Guard}
 use Rattle.target_code.specs.declared.target.Target.{Target}
@@ -46,17 +47,17 @@ module _ (target : Target) (setting : Setting) (j : ℕ) where
   abbrev Leaves : Option WordAccess → Type 0
   Leaves o = LeavesReady j setting.first o
 
-  exchange_leaves : (exchange : CasEntry) (registers : Registers) → Leaves (Some (exchange_wanted exchange registers))
+  exchange_leaves : (exchange : CasEntry) (registers : Registers) → Leaves (Some (exchange_wanted target.fields exchange registers))
   exchange_leaves exchange registers = of exchange.place where
     object : (k f expected replacement : ℕ) → Leaves (Some (object_exchange k f expected replacement))
     object zero f expected replacement is = refl
     object (suc k) f expected replacement is = absurd cc
 
-    of : (place : Place) → Leaves (Some (place_exchange place registers (word_in registers exchange.expected) (word_in registers exchange.replacement)))
+    of : (place : Place) → Leaves (Some (place_exchange target.fields place registers (word_in registers exchange.expected) (word_in registers exchange.replacement)))
     of (places.Root x) is = absurd cc
-    of (places.Field a f) is = object (slot_in registers a) f (word_in registers exchange.expected) (word_in registers exchange.replacement) is
+    of (places.Field a f) is = object (slot_in registers a) (place_of target.fields f) (word_in registers exchange.expected) (word_in registers exchange.replacement) is
 
-  plain_leaves : (i : Instr) (registers : Registers) → Leaves (plain_wanted i registers)
+  plain_leaves : (i : Instr) (registers : Registers) → Leaves (plain_wanted target.fields i registers)
   plain_leaves (instr.LoadRoot d x) registers = λ is. refl
   plain_leaves (instr.LoadPick d x n a) registers = λ is. refl
   plain_leaves (instr.LoadField d a f) registers = λ is. refl
@@ -70,7 +71,7 @@ module _ (target : Target) (setting : Setting) (j : ℕ) where
   plain_leaves (instr.Mark d a) registers = tt
   plain_leaves (instr.Unmark d a) registers = tt
   plain_leaves (instr.Null d) registers = tt
-  plain_leaves (instr.New d) registers = tt
+  plain_leaves (instr.New d kind) registers = tt
   plain_leaves (instr.Jump l) registers = tt
   plain_leaves (instr.IfEq a b l) registers = tt
   plain_leaves (instr.IfLess a b l) registers = tt
@@ -80,13 +81,13 @@ module _ (target : Target) (setting : Setting) (j : ℕ) where
   plain_leaves instr.ReturnNone registers = tt
   plain_leaves instr.Again registers = tt
 
-  instr_leaves : (c : ℕ) (o : Option TargetInstr) (registers : Registers) → Leaves (instr_wanted c o registers)
+  instr_leaves : (c : ℕ) (o : Option TargetInstr) (registers : Registers) → Leaves (instr_wanted target.fields c o registers)
   instr_leaves c None registers = tt
   instr_leaves c (Some Check) registers = λ is. refl
   instr_leaves c (Some (Guard r)) registers = λ is. absurd cc
   instr_leaves c (Some (Plain i)) registers = plain_leaves i registers
 
-  list_leaves : (o : Option CasEntry) (registers : Registers) → Leaves (list_wanted o registers)
+  list_leaves : (o : Option CasEntry) (registers : Registers) → Leaves (list_wanted target.fields o registers)
   list_leaves None registers = tt
   list_leaves (Some exchange) registers = exchange_leaves exchange registers
 

@@ -1,7 +1,7 @@
 -- That nothing in a run names a slot but the chain of ready slots.
 use Rattle.std.specs.Prelude.{◌≡◌, ◌≢◌, ℕ, true, Option, Some, None, slice_get, slice_index, All}
 use Rattle.norm_lang.specs.declared.text.FieldKind.{FieldKind}
-use Rattle.norm_lang.specs.declared.text.FieldKind.TheVariants as kinds
+use Rattle.norm_lang.specs.declared.text.FieldKind.TheVariants as holdings
 use Rattle.norm_lang.specs.declared.text.Reg.TheVariants.{Ref}
 use Rattle.norm_lang.specs.declared.registers.Registers.{Registers}
 use Rattle.norm_lang.specs.Registers.{reference_in}
@@ -22,8 +22,8 @@ use Rattle.core_runs.specs.Machine.{CoreState, word_at}
 -- a reference to another slot, or a number
 abbrev pub ValueAvoids : ℕ → Option FieldKind → ℕ → Type 0
 ValueAvoids j None word = Unit {0}
-ValueAvoids j (Some kinds.Number) word = Unit {0}
-ValueAvoids j (Some kinds.Reference) word = slot_part word ≢ j
+ValueAvoids j (Some holdings.Number) word = Unit {0}
+ValueAvoids j (Some (holdings.Reference k)) word = slot_part word ≢ j
 
 -- a word of the row: a hazard, a field or a root that names another slot or null. The head and the links may name it
 abbrev pub WordAvoids : Target → ℕ → Word → ℕ → Type 0

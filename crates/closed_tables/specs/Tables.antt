@@ -1,5 +1,5 @@
 -- Tables over the places of a method, and when they are closed: each holds at the start, and each instruction keeps it.
-use Rattle.std.specs.Prelude.{ℕ, suc, Bool, true, false, ◌&&◌, ◌||◌, not, List, [], ◌∷◌, length, slice_get, unwrap_or, nat_le, nat_lt}
+use Rattle.std.specs.Prelude.{ℕ, suc, Bool, true, false, ◌&&◌, ◌||◌, not, List, [], ◌∷◌, length, slice_get, unwrap_or, nat_le, nat_lt, ◌==◌}
 use Rattle.std.specs.List.{list_any, list_all}
 use Rattle.norm_lang.specs.declared.text.Reg.{Reg}
 use Rattle.norm_lang.specs.declared.text.Reg.TheVariants.{Num}
@@ -10,13 +10,14 @@ use Rattle.norm_lang.specs.declared.text.Instr.TheVariants as instr
 use Rattle.norm_lang.specs.declared.text.Op.{Op}
 use Rattle.norm_lang.specs.declared.text.Text.{Text}
 use Rattle.norm_lang.specs.Grammar.{is_new}
+use Rattle.norm_lang.specs.Limits.{is_kind}
 use Rattle.norm_lang.specs.Flow.{formed_successors}
 use Rattle.norm_lang.specs.RegisterUse.{same_register, registers_named, sources, destination, sets, set_after}
 use Rattle.norm_lang.specs.Freshness.{fresh_after}
 use Rattle.norm_lang.specs.Kept.{code_of, holds_reference, is_argument}
 use Rattle.norm_lang.specs.PathRules.{reads_openly, is_commit, looks}
 use Rattle.norm_lang.specs.InstructionRules.{has_wrong_kind, computes_on_reference, has_wrong_end, has_wrong_retire, has_wrong_range}
-use Rattle.norm_lang.specs.NormalForm.{Rule, N1, N2, N3, N4, N5, N6, N7, N8, N9, N10, N11, N12, N13, N14}
+use Rattle.norm_lang.specs.NormalForm.{Rule, N1, N2, N3, N4, N5, N6, N7, N8, N9, N10, N11, N12, N13, N14, N15}
 
 -- what is known at each place of a method, before its instruction acts
 pub record Tables : Type 0 where
@@ -117,6 +118,22 @@ abbrev pub keeps_none : Op → OpTables → Bool
 keeps_none op t =
     all_from (λ at i. list_all (λ r. not (holds_reference r) || among r (registers_at t.wrapup.set at)) (sources i)) 0 op.wrapup
 
+-- a field of nodes of the first kind, which refers to no other
+abbrev pub is_first_field : FieldDecl → Bool
+is_first_field field = (field.owner == 0) && is_kind field.kind
+
+abbrev pub is_first_root : RootDecl → Bool
+is_first_root root = is_kind root.kind
+
+-- fields and roots are of the first kind
+abbrev pub declare_first : List FieldDecl → List RootDecl → Bool
+declare_first fields roots = list_all is_first_field fields && list_all is_first_root roots
+
+-- a node that the instruction makes is of the first kind
+abbrev pub makes_first : Instr → Bool
+makes_first (instr.New d kind) = kind == 0
+makes_first _ = true
+
 -- the tables show that the instruction at a place keeps a rule; where the wrap-up keeps no reference, and the tables are
 -- closed
 abbrev pub keeps_rule : Rule → List FieldDecl → List RootDecl → Op → OpTables → Bool → ℕ → Instr → Bool
@@ -135,12 +152,13 @@ keeps_rule N12 fields roots op t wrapup at i = not (has_wrong_retire i)
 keeps_rule N13 fields roots op t wrapup at i = not (has_wrong_range roots i (length (code_of op wrapup)))
 keeps_rule N14 fields roots op t wrapup at i =
     list_all (λ r. starts_set op t wrapup r || among r (registers_at (tables_of t wrapup).set at)) (sources i)
+keeps_rule N15 fields roots op t wrapup at i = makes_first i
 
 -- a test of each rule
 abbrev pub all_rules : (Rule → Bool) → Bool
 all_rules test =
     test N1 && (test N2 && (test N3 && (test N4 && (test N5 && (test N6 && (test N7 && (test N8
-    && (test N9 && (test N10 && (test N11 && (test N12 && (test N13 && test N14))))))))))))
+    && (test N9 && (test N10 && (test N11 && (test N12 && (test N13 && (test N14 && test N15)))))))))))))
 
 -- the tables are closed and show that each instruction of the method keeps each rule
 abbrev pub method_shown : List FieldDecl → List RootDecl → Op → OpTables → Bool → Bool
@@ -156,6 +174,7 @@ ops_shown fields roots [] tables = true
 ops_shown fields roots (op ∷ ops) [] = false
 ops_shown fields roots (op ∷ ops) (t ∷ tables) = op_shown fields roots op t && ops_shown fields roots ops tables
 
--- the tables of a text's operations show that it is in normal form
+-- the tables of a text's operations show that it is in normal form. Its nodes are of the first kind alone, so that none is mixed with
+-- another
 abbrev pub tables_show : Text → List OpTables → Bool
-tables_show text tables = ops_shown text.fields text.roots text.ops tables
+tables_show text tables = declare_first text.fields text.roots && ops_shown text.fields text.roots text.ops tables

@@ -61,7 +61,7 @@ row_is (Some op) = refl
 few_ops : (target : Target) → IsTargetWithinLimits target → length target.ops ≤ 16
 few_ops target within =
     let ops = and_parts (has_between 1 16 target.ops)
-    (list_all (is_target_op (length target.fields) (length target.roots)) target.ops && are_different (map (λ op. op.name) target.ops)) (parts target within).ops in
+    (list_all (is_target_op (length target.kinds) (length target.fields) (length target.roots)) target.ops && are_different (map (λ op. op.name) target.ops)) (parts target within).ops in
     (between 1 16 target.ops ops.0).1
 
 table_is : (target : Target) → length target.ops ≤ 16 → (op : ℕ) → slice_index_or (table_of target) op none_spared ≡ kept_by (slice_get target.ops op)

@@ -4,6 +4,7 @@ use Rattle.std.specs.Prelude.{◌≡◌, ℕ, List, [], ◌∷◌, ◌++◌, Som
 use Rattle.norm_lang.specs.declared.text.Instr.TheVariants.{Null, LoadRoot, New, Commit, ReturnNone}
 use Rattle.norm_lang.specs.declared.text.Op.{Op}
 use Rattle.norm_lang.specs.declared.text.Text.{Text}
+use Rattle.norm_lang.specs.LineWords.{item_kind}
 use Rattle.norm_lang.specs.Shipped.{number_field, reference_root, root_entry, retiring}
 use Rattle.oa_words.specs.Words.{Status, Head, Link}
 use Rattle.target_code.specs.declared.target.TargetInstr.TheVariants.{Plain, Check, Guard}
@@ -18,13 +19,13 @@ use Rattle.core_rows.specs.Stories.{Line, Load, Store, Exchange, silent, story, 
 
 -- `take` puts a new node into a root that is empty
 abbrev pub take_op : ℕ → Op
-take_op root = record { name = codes "take"; args = 0; generator = New r0 ∷ Null r1 ∷ Commit (root_entry root r1 r0 ∷ []) ∷ []; wrapup = ReturnNone ∷ [] }
+take_op root = record { name = codes "take"; args = 0; generator = New r0 0 ∷ Null r1 ∷ Commit (root_entry root r1 r0 ∷ []) ∷ []; wrapup = ReturnNone ∷ [] }
 
 abbrev pub take_target : ℕ → TargetOp
 take_target root = record {
   name = codes "take";
   args = 0;
-  generator = Plain (New r0) ∷ Plain (Null r1) ∷ Guard r1 ∷ Guard r0 ∷ Check ∷ Plain (Commit (root_entry root r1 r0 ∷ [])) ∷ [];
+  generator = Plain (New r0 0) ∷ Plain (Null r1) ∷ Guard r1 ∷ Guard r0 ∷ Check ∷ Plain (Commit (root_entry root r1 r0 ∷ [])) ∷ [];
   wrapup = Plain ReturnNone ∷ [];
 }
 
@@ -41,6 +42,7 @@ drop_both_op = record {
 
 abbrev pub emptied_text : Text
 emptied_text = record {
+  kinds = item_kind ∷ [];
   fields = number_field (codes "v") ∷ [];
   roots = reference_root (codes "left") 1 ∷ reference_root (codes "right") 2 ∷ reference_root (codes "spare") 0 ∷ [];
   nodes = number_node 5 ∷ number_node 6 ∷ [];
@@ -65,7 +67,7 @@ drop_both_target = record {
 }
 
 abbrev pub emptied_target : Target
-emptied_target = record { fields = emptied_text.fields; roots = emptied_text.roots; nodes = emptied_text.nodes; ops = drop_both_target ∷ take_target 2 ∷ [] }
+emptied_target = record { kinds = item_kind ∷ []; fields = emptied_text.fields; roots = emptied_text.roots; nodes = emptied_text.nodes; ops = drop_both_target ∷ take_target 2 ∷ [] }
 
 abbrev pub emptied_setting : Setting
 emptied_setting = setting_of 3 2 1 3 2 1000
@@ -108,6 +110,7 @@ lose_op = record {
 
 abbrev pub circle_text : Text
 circle_text = record {
+  kinds = item_kind ∷ [];
   fields = number_field (codes "v") ∷ [];
   roots = reference_root (codes "h") 1 ∷ reference_root (codes "spare") 0 ∷ [];
   nodes = number_node 5 ∷ [];
@@ -123,7 +126,7 @@ lose_target = record {
 }
 
 abbrev pub circle_target : Target
-circle_target = record { fields = circle_text.fields; roots = circle_text.roots; nodes = circle_text.nodes; ops = lose_target ∷ take_target 1 ∷ [] }
+circle_target = record { kinds = item_kind ∷ []; fields = circle_text.fields; roots = circle_text.roots; nodes = circle_text.nodes; ops = lose_target ∷ take_target 1 ∷ [] }
 
 -- one slot
 abbrev pub circle_setting : Setting

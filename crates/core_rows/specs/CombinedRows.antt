@@ -36,7 +36,7 @@ combined_enqueue = record enqueue_target {
       ∷ Check
       ∷ Plain (Cas (root_entry 1 r0 r1) 0)
       ∷ Plain (Jump 0)
-      ∷ Plain (New r3)
+      ∷ Plain (New r3 0)
       ∷ Check
       ∷ Plain (Put r3 0 n0)
       ∷ Guard r0

@@ -2,6 +2,7 @@
 use Rattle.std.specs.Prelude.{ℕ, List, [], ◌∷◌, ◌++◌, codes}
 use Rattle.norm_lang.specs.declared.text.Instr.TheVariants.{Set, Mov, Mark, Unmark, Null, LoadRoot, LoadPick, LoadField, New, Put, Cas, Jump, IfEq, IfLess, IfMarked, Commit, Return, ReturnNone, Again}
 use Rattle.norm_lang.specs.Shipped.{number_field, reference_field, reference_root, sentinel, root_entry, next_entry, retiring}
+use Rattle.norm_lang.specs.LineWords.{item_kind}
 use Rattle.target_code.specs.declared.target.TargetInstr.{TargetInstr}
 use Rattle.target_code.specs.declared.target.TargetInstr.TheVariants.{Plain, Check, Guard}
 use Rattle.target_code.specs.declared.target.TargetOp.{TargetOp}
@@ -53,7 +54,7 @@ insert_target = record {
   args = 1;
   generator = search_target 24 34 ++ (
       Plain (Set n2 1)
-      ∷ Plain (New r4)
+      ∷ Plain (New r4 0)
       ∷ Check
       ∷ Plain (Put r4 0 n0)
       ∷ Plain (Put r4 1 r1)
@@ -98,6 +99,7 @@ contains_target = record {
 -- the list: operations 0 insert, 1 remove, 2 contains
 abbrev pub list_target : Target
 list_target = record {
+  kinds = item_kind ∷ [];
   fields = number_field (codes "key") ∷ reference_field (codes "next") ∷ [];
   roots = reference_root (codes "b0") 1 ∷ [];
   nodes = sentinel ∷ [];
@@ -120,7 +122,7 @@ enqueue_target = record {
       ∷ Check
       ∷ Plain (Cas (root_entry 1 r0 r1) 0)
       ∷ Plain (Jump 0)
-      ∷ Plain (New r3)
+      ∷ Plain (New r3 0)
       ∷ Check
       ∷ Plain (Put r3 0 n0)
       ∷ Guard r0
@@ -190,6 +192,7 @@ dequeue_target = record {
 -- the queue: operations 0 enqueue, 1 dequeue
 abbrev pub queue_target : Target
 queue_target = record {
+  kinds = item_kind ∷ [];
   fields = number_field (codes "value") ∷ reference_field (codes "next") ∷ [];
   roots = reference_root (codes "head") 1 ∷ reference_root (codes "tail") 1 ∷ [];
   nodes = sentinel ∷ [];

@@ -2,7 +2,7 @@
 use Rattle.std.specs.Prelude.{ℕ, List, [], ◌∷◌, None}
 use Rattle.norm_lang.specs.declared.text.Reg.{Reg}
 use Rattle.norm_lang.specs.declared.text.Reg.TheVariants.{Num, Ref}
-use Rattle.norm_lang.specs.declared.text.FieldKind.TheVariants as kinds
+use Rattle.norm_lang.specs.declared.text.FieldKind.TheVariants as holdings
 use Rattle.norm_lang.specs.declared.text.Start.TheVariants as starts
 use Rattle.norm_lang.specs.declared.text.RootDecl.{RootDecl}
 use Rattle.norm_lang.specs.declared.text.NodeDecl.{NodeDecl}
@@ -49,11 +49,11 @@ r6 = Ref 6
 
 -- a root that starts with a number
 abbrev pub number_root : List ℕ → ℕ → RootDecl
-number_root name value = record { name = name; kind = kinds.Number; start = starts.Value value }
+number_root name value = record { name = name; kind = holdings.Number; start = starts.Value value }
 
 -- an initial node of one number
 abbrev pub number_node : ℕ → NodeDecl
-number_node value = record { values = starts.Value value ∷ [] }
+number_node value = record { owner = 0; values = starts.Value value ∷ [] }
 
 -- an exchange on a field of the node in a register
 abbrev pub field_entry : Reg → ℕ → Reg → Reg → CasEntry

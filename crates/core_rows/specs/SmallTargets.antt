@@ -3,6 +3,7 @@
 use Rattle.std.specs.Prelude.{[], ◌∷◌, codes}
 use Rattle.norm_lang.specs.declared.text.Instr.TheVariants.{Set, Add, Sub, Mark, Null, LoadRoot, LoadPick, LoadField, New, Put, Cas, IfEq, Commit, Return, ReturnNone, Again}
 use Rattle.norm_lang.specs.declared.text.Start.TheVariants as starts
+use Rattle.norm_lang.specs.LineWords.{item_kind}
 use Rattle.norm_lang.specs.Shipped.{number_field, reference_field, reference_root, root_entry, retiring}
 use Rattle.target_code.specs.declared.target.TargetInstr.TheVariants.{Plain, Check, Guard}
 use Rattle.target_code.specs.declared.target.TargetOp.{TargetOp}
@@ -21,10 +22,11 @@ abbrev pub nop_target : TargetOp
 nop_target = record { name = codes "nop"; args = 0; generator = Plain (Commit []) ∷ []; wrapup = Plain ReturnNone ∷ [] }
 
 abbrev pub counter_target : Target
-counter_target = record { fields = number_field (codes "pad") ∷ []; roots = number_root (codes "total") 0 ∷ []; nodes = []; ops = add_target ∷ nop_target ∷ [] }
+counter_target = record { kinds = item_kind ∷ []; fields = number_field (codes "pad") ∷ []; roots = number_root (codes "total") 0 ∷ []; nodes = []; ops = add_target ∷ nop_target ∷ [] }
 
 abbrev pub tally_target : Target
 tally_target = record {
+  kinds = item_kind ∷ [];
   fields = number_field (codes "pad") ∷ [];
   roots = number_root (codes "total") 0 ∷ [];
   nodes = [];
@@ -60,6 +62,7 @@ nulls_target = record {
 
 abbrev pub numbers_target : Target
 numbers_target = record {
+  kinds = item_kind ∷ [];
   fields = number_field (codes "v") ∷ [];
   roots = number_root (codes "x0") 10 ∷ number_root (codes "x1") 20 ∷ number_root (codes "x2") 30 ∷ [];
   nodes = [];
@@ -74,7 +77,7 @@ swap_target_op = record {
   generator =
       Plain (LoadRoot r0 0)
       ∷ Check
-      ∷ Plain (New r1)
+      ∷ Plain (New r1 0)
       ∷ Check
       ∷ Plain (Put r1 0 n0)
       ∷ Guard r0
@@ -110,6 +113,7 @@ peek_target = record {
 
 abbrev pub swap_target : Target
 swap_target = record {
+  kinds = item_kind ∷ [];
   fields = number_field (codes "v") ∷ [];
   roots = reference_root (codes "top") 1 ∷ reference_root (codes "noted") 0 ∷ [];
   nodes = number_node 40 ∷ [];
@@ -153,6 +157,7 @@ drop_right_target = record {
 
 abbrev pub drops_target : Target
 drops_target = record {
+  kinds = item_kind ∷ [];
   fields = number_field (codes "v") ∷ [];
   roots = reference_root (codes "left") 1 ∷ reference_root (codes "right") 2 ∷ [];
   nodes = number_node 0 ∷ number_node 0 ∷ [];
@@ -167,13 +172,13 @@ fill_target = record {
       Plain (Null r0)
       ∷ Plain (Set n1 0)
       ∷ Plain (IfEq n0 n1 9)
-      ∷ Plain (New r1)
+      ∷ Plain (New r1 0)
       ∷ Check
       ∷ Guard r0
       ∷ Guard r1
       ∷ Check
       ∷ Plain (Commit (root_entry 0 r0 r1 ∷ []))
-      ∷ Plain (New r2)
+      ∷ Plain (New r2 0)
       ∷ Check
       ∷ Guard r0
       ∷ Guard r2
@@ -185,6 +190,7 @@ fill_target = record {
 
 abbrev pub branches_target : Target
 branches_target = record {
+  kinds = item_kind ∷ [];
   fields = number_field (codes "v") ∷ [];
   roots = reference_root (codes "empty") 0 ∷ reference_root (codes "full") 1 ∷ [];
   nodes = number_node 0 ∷ [];
@@ -198,7 +204,7 @@ renew_target = record {
   generator =
       Plain (LoadRoot r0 0)
       ∷ Check
-      ∷ Plain (New r1)
+      ∷ Plain (New r1 0)
       ∷ Check
       ∷ Guard r0
       ∷ Guard r1
@@ -235,7 +241,7 @@ hold_target = record {
       ∷ Check
       ∷ Plain (LoadRoot r2 1)
       ∷ Check
-      ∷ Plain (New r1)
+      ∷ Plain (New r1 0)
       ∷ Check
       ∷ Guard r0
       ∷ Guard r2
@@ -256,7 +262,7 @@ late_target = record {
       ∷ Guard r0
       ∷ Check
       ∷ Plain (Cas (root_entry 0 r0 r0) 5)
-      ∷ Plain (New r1)
+      ∷ Plain (New r1 0)
       ∷ Check
       ∷ Guard r0
       ∷ Guard r1
@@ -268,6 +274,7 @@ late_target = record {
 
 abbrev pub stale_target : Target
 stale_target = record {
+  kinds = item_kind ∷ [];
   fields = number_field (codes "v") ∷ [];
   roots = reference_root (codes "first") 1 ∷ reference_root (codes "second") 0 ∷ [];
   nodes = number_node 0 ∷ [];
@@ -276,6 +283,7 @@ stale_target = record {
 
 abbrev pub press_target : Target
 press_target = record {
+  kinds = item_kind ∷ [];
   fields = number_field (codes "v") ∷ [];
   roots = reference_root (codes "top") 1 ∷ [];
   nodes = number_node 0 ∷ [];
@@ -290,7 +298,7 @@ press_target = record {
         ∷ Guard r0
         ∷ Check
         ∷ Plain (Cas (root_entry 0 r0 r0) 7)
-        ∷ Plain (New r1)
+        ∷ Plain (New r1 0)
         ∷ Check
         ∷ Plain (Put r1 0 n0)
         ∷ Guard r0
@@ -355,6 +363,7 @@ free_target = record {
 
 abbrev pub touch_target : Target
 touch_target = record {
+  kinds = item_kind ∷ [];
   fields = number_field (codes "v") ∷ [];
   roots = number_root (codes "x") 0 ∷ reference_root (codes "full") 1 ∷ reference_root (codes "empty") 0 ∷ [];
   nodes = number_node 0 ∷ [];
@@ -402,8 +411,9 @@ marks_target = record {
 
 abbrev pub pair_target : Target
 pair_target = record {
+  kinds = item_kind ∷ [];
   fields = number_field (codes "v") ∷ reference_field (codes "next") ∷ [];
   roots = reference_root (codes "top") 1 ∷ [];
-  nodes = record { values = starts.Value 7 ∷ starts.Node 2 ∷ [] } ∷ record { values = starts.Value 9 ∷ starts.Node 0 ∷ [] } ∷ [];
+  nodes = record { owner = 0; values = starts.Value 7 ∷ starts.Node 2 ∷ [] } ∷ record { owner = 0; values = starts.Value 9 ∷ starts.Node 0 ∷ [] } ∷ [];
   ops = second_target ∷ less_target ∷ marks_target ∷ [];
 }

@@ -4,6 +4,7 @@ use Rattle.norm_lang.specs.declared.text.Instr.TheVariants.{Set, Add, Sub, Mark,
 use Rattle.norm_lang.specs.declared.text.Start.TheVariants as starts
 use Rattle.norm_lang.specs.declared.text.Op.{Op}
 use Rattle.norm_lang.specs.declared.text.Text.{Text}
+use Rattle.norm_lang.specs.LineWords.{item_kind}
 use Rattle.norm_lang.specs.Shipped.{number_field, reference_field, reference_root, root_entry, retiring}
 use Rattle.core_rows.specs.Short.{n0, n1, n2, n3, n7, r0, r1, r2, r3, number_root, number_node, field_entry}
 
@@ -22,7 +23,7 @@ abbrev pub nop_op : Op
 nop_op = record { name = codes "nop"; args = 0; generator = Commit [] ∷ []; wrapup = ReturnNone ∷ [] }
 
 abbrev pub counter_text : Text
-counter_text = record { fields = number_field (codes "pad") ∷ []; roots = number_root (codes "total") 0 ∷ []; nodes = []; ops = add_op ∷ nop_op ∷ [] }
+counter_text = record { kinds = item_kind ∷ []; fields = number_field (codes "pad") ∷ []; roots = number_root (codes "total") 0 ∷ []; nodes = []; ops = add_op ∷ nop_op ∷ [] }
 
 -- `tally` is `add` whose wrap-up loads the total once more, and replies it
 abbrev pub tally_op : Op
@@ -34,7 +35,7 @@ tally_op = record {
 }
 
 abbrev pub tally_text : Text
-tally_text = record { fields = number_field (codes "pad") ∷ []; roots = number_root (codes "total") 0 ∷ []; nodes = []; ops = tally_op ∷ [] }
+tally_text = record { kinds = item_kind ∷ []; fields = number_field (codes "pad") ∷ []; roots = number_root (codes "total") 0 ∷ []; nodes = []; ops = tally_op ∷ [] }
 
 -- `pick` replies the second or the third of three roots; `nulls` tries to exchange a field of no node, by itself and in a list
 abbrev pub pick_op : Op
@@ -57,6 +58,7 @@ nulls_op = record {
 
 abbrev pub numbers_text : Text
 numbers_text = record {
+  kinds = item_kind ∷ [];
   fields = number_field (codes "v") ∷ [];
   roots = number_root (codes "x0") 10 ∷ number_root (codes "x1") 20 ∷ number_root (codes "x2") 30 ∷ [];
   nodes = [];
@@ -71,7 +73,7 @@ abbrev pub swap_op : Op
 swap_op = record {
   name = codes "swap";
   args = 1;
-  generator = LoadRoot r0 0 ∷ New r1 ∷ Put r1 0 n0 ∷ Commit (retiring (root_entry 0 r0 r1) r0 ∷ []) ∷ [];
+  generator = LoadRoot r0 0 ∷ New r1 0 ∷ Put r1 0 n0 ∷ Commit (retiring (root_entry 0 r0 r1) r0 ∷ []) ∷ [];
   wrapup =
       Add n0 n0 n7
       ∷ LoadRoot r2 0
@@ -96,6 +98,7 @@ peek_op = record {
 
 abbrev pub swap_text : Text
 swap_text = record {
+  kinds = item_kind ∷ [];
   fields = number_field (codes "v") ∷ [];
   roots = reference_root (codes "top") 1 ∷ reference_root (codes "noted") 0 ∷ [];
   nodes = number_node 40 ∷ [];
@@ -123,6 +126,7 @@ drop_right_op = record {
 
 abbrev pub drops_text : Text
 drops_text = record {
+  kinds = item_kind ∷ [];
   fields = number_field (codes "v") ∷ [];
   roots = reference_root (codes "left") 1 ∷ reference_root (codes "right") 2 ∷ [];
   nodes = number_node 0 ∷ number_node 0 ∷ [];
@@ -140,9 +144,9 @@ fill_op = record {
       Null r0
       ∷ Set n1 0
       ∷ IfEq n0 n1 5
-      ∷ New r1
+      ∷ New r1 0
       ∷ Commit (root_entry 0 r0 r1 ∷ [])
-      ∷ New r2
+      ∷ New r2 0
       ∷ Commit (root_entry 1 r0 r2 ∷ [])
       ∷ [];
   wrapup = Return n7 ∷ [];
@@ -150,6 +154,7 @@ fill_op = record {
 
 abbrev pub branches_text : Text
 branches_text = record {
+  kinds = item_kind ∷ [];
   fields = number_field (codes "v") ∷ [];
   roots = reference_root (codes "empty") 0 ∷ reference_root (codes "full") 1 ∷ [];
   nodes = number_node 0 ∷ [];
@@ -165,7 +170,7 @@ abbrev pub renew_op : Op
 renew_op = record {
   name = codes "renew";
   args = 0;
-  generator = LoadRoot r0 0 ∷ New r1 ∷ Commit (retiring (root_entry 0 r0 r1) r0 ∷ []) ∷ [];
+  generator = LoadRoot r0 0 ∷ New r1 0 ∷ Commit (retiring (root_entry 0 r0 r1) r0 ∷ []) ∷ [];
   wrapup = Return n7 ∷ [];
 }
 
@@ -181,7 +186,7 @@ abbrev pub hold_op : Op
 hold_op = record {
   name = codes "hold";
   args = 0;
-  generator = LoadRoot r0 0 ∷ LoadRoot r2 1 ∷ New r1 ∷ Cas (root_entry 0 r0 r2) 4 ∷ Commit [] ∷ [];
+  generator = LoadRoot r0 0 ∷ LoadRoot r2 1 ∷ New r1 0 ∷ Cas (root_entry 0 r0 r2) 4 ∷ Commit [] ∷ [];
   wrapup = ReturnNone ∷ [];
 }
 
@@ -189,12 +194,13 @@ abbrev pub late_op : Op
 late_op = record {
   name = codes "late";
   args = 0;
-  generator = LoadRoot r0 0 ∷ Cas (root_entry 0 r0 r0) 2 ∷ New r1 ∷ Commit (retiring (root_entry 0 r0 r1) r0 ∷ []) ∷ [];
+  generator = LoadRoot r0 0 ∷ Cas (root_entry 0 r0 r0) 2 ∷ New r1 0 ∷ Commit (retiring (root_entry 0 r0 r1) r0 ∷ []) ∷ [];
   wrapup = Return n7 ∷ [];
 }
 
 abbrev pub stale_text : Text
 stale_text = record {
+  kinds = item_kind ∷ [];
   fields = number_field (codes "v") ∷ [];
   roots = reference_root (codes "first") 1 ∷ reference_root (codes "second") 0 ∷ [];
   nodes = number_node 0 ∷ [];
@@ -214,7 +220,7 @@ press_op = record {
       ∷ Add n0 n0 n2
       ∷ LoadRoot r0 0
       ∷ Cas (root_entry 0 r0 r0) 4
-      ∷ New r1
+      ∷ New r1 0
       ∷ Put r1 0 n0
       ∷ Commit (retiring (root_entry 0 r0 r1) r0 ∷ [])
       ∷ [];
@@ -230,7 +236,7 @@ press_op = record {
 }
 
 abbrev pub press_text : Text
-press_text = record { fields = number_field (codes "v") ∷ []; roots = reference_root (codes "top") 1 ∷ []; nodes = number_node 0 ∷ []; ops = press_op ∷ [] }
+press_text = record { kinds = item_kind ∷ []; fields = number_field (codes "v") ∷ []; roots = reference_root (codes "top") 1 ∷ []; nodes = number_node 0 ∷ []; ops = press_op ∷ [] }
 
 -- ---- exchanges alone
 
@@ -265,6 +271,7 @@ free_op = record {
 
 abbrev pub touch_text : Text
 touch_text = record {
+  kinds = item_kind ∷ [];
   fields = number_field (codes "v") ∷ [];
   roots = number_root (codes "x") 0 ∷ reference_root (codes "full") 1 ∷ reference_root (codes "empty") 0 ∷ [];
   nodes = number_node 0 ∷ [];
@@ -307,8 +314,9 @@ marks_op = record {
 
 abbrev pub pair_text : Text
 pair_text = record {
+  kinds = item_kind ∷ [];
   fields = number_field (codes "v") ∷ reference_field (codes "next") ∷ [];
   roots = reference_root (codes "top") 1 ∷ [];
-  nodes = record { values = starts.Value 7 ∷ starts.Node 2 ∷ [] } ∷ record { values = starts.Value 9 ∷ starts.Node 0 ∷ [] } ∷ [];
+  nodes = record { owner = 0; values = starts.Value 7 ∷ starts.Node 2 ∷ [] } ∷ record { owner = 0; values = starts.Value 9 ∷ starts.Node 0 ∷ [] } ∷ [];
   ops = second_op ∷ less_op ∷ marks_op ∷ [];
 }

@@ -71,7 +71,7 @@ module _ (target : Target) (sizes : Sizes) where
   begun_list_turns (exchange ∷ exchanges) e = (refl, inl (refl, refl, refl))
 
   plain_turns : (i : Instr) (e : Entry) → Turns e (plain_stop target sizes i e).entry
-  plain_turns (instr.New d) e = cleared_turns clears.New e
+  plain_turns (instr.New d kind) e = cleared_turns clears.New e
   plain_turns (instr.Commit exchanges) e = begun_list_turns exchanges e
   plain_turns (instr.Return a) e = cleared_turns (clears.Reply (replies.Number (number_in e.hand.registers a))) e
   plain_turns instr.ReturnNone e = cleared_turns (clears.Reply replies.Nothing) e
@@ -161,7 +161,7 @@ module _ (target : Target) (sizes : Sizes) where
   accepted_plain (instr.IfEq a b l) word e busy = same e busy
   accepted_plain (instr.IfLess a b l) word e busy = same e busy
   accepted_plain (instr.IfMarked a l) word e busy = same e busy
-  accepted_plain (instr.New d) word e busy = same e busy
+  accepted_plain (instr.New d kind) word e busy = same e busy
   accepted_plain (instr.Commit exchanges) word e busy = same e busy
   accepted_plain (instr.Return a) word e busy = same e busy
   accepted_plain instr.ReturnNone word e busy = same e busy

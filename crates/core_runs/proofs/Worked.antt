@@ -1,10 +1,11 @@
 -- An add of the counter, computed: five steps.
 use Rattle.std.specs.Prelude.{◌≡◌, ℕ, List, [], ◌∷◌, Option, Some, None, codes, refl, map}
 use Rattle.norm_lang.specs.declared.text.Reg.TheVariants.{Num}
-use Rattle.norm_lang.specs.declared.text.FieldKind.TheVariants as kinds
+use Rattle.norm_lang.specs.declared.text.FieldKind.TheVariants as holdings
 use Rattle.norm_lang.specs.declared.text.Start.TheVariants as starts
 use Rattle.norm_lang.specs.declared.text.Place.TheVariants as places
 use Rattle.norm_lang.specs.declared.text.Instr.TheVariants as instr
+use Rattle.norm_lang.specs.LineWords.{item_kind}
 use Rattle.target_code.specs.declared.target.TargetInstr.TheVariants.{Plain, Check}
 use Rattle.target_code.specs.declared.target.TargetOp.{TargetOp}
 use Rattle.target_code.specs.declared.target.Target.{Target}
@@ -43,8 +44,9 @@ add = record {
 
 counter : Target
 counter = record {
-  fields = record { name = codes "pad"; kind = kinds.Number } ∷ [];
-  roots = record { name = codes "total"; kind = kinds.Number; start = starts.Value 0 } ∷ [];
+  kinds = item_kind ∷ [];
+  fields = record { owner = 0; name = codes "pad"; kind = holdings.Number } ∷ [];
+  roots = record { name = codes "total"; kind = holdings.Number; start = starts.Value 0 } ∷ [];
   nodes = [];
   ops = add ∷ [];
 }

@@ -2,7 +2,7 @@
 use Rattle.std.proofs.Common.{◌≡◌, ℕ, ◌≤◌, ◌<◌, Bool, true, false, Option, Some, None, refl, sym, ◌∙◌, subst}
 use Rattle.std.specs.Prelude.{slice_get}
 use Rattle.norm_lang.specs.declared.text.FieldKind.{FieldKind}
-use Rattle.norm_lang.specs.declared.text.FieldKind.TheVariants as kinds
+use Rattle.norm_lang.specs.declared.text.FieldKind.TheVariants as holdings
 use Rattle.norm_lang.specs.InstructionRules.{field_kind, root_kind}
 use Rattle.norm_lang.specs.declared.text.Text.{Text}
 use Rattle.target_code.specs.declared.target.Target.{Target}
@@ -28,8 +28,8 @@ use Rattle.core_sound.proofs.Machine.{event_sound}
 use Rattle.core_sound.proofs.StartSound.{start_sound, suits}
 use Rattle.core_sound.proofs.Stamping.{IsStamped, event_stamped, start_stamped}
 
-reference_lawful : (slots word : ℕ) (kind : Option FieldKind) → kind ≡ Some kinds.Reference → LawfulValue slots kind word → LawfulValue slots (Some kinds.Reference) word
-reference_lawful slots word kind is lawful = subst (λ (k : Option FieldKind). LawfulValue slots k word) is lawful
+reference_lawful : (slots word k : ℕ) (kind : Option FieldKind) → kind ≡ Some (holdings.Reference k) → LawfulValue slots kind word → LawfulValue slots (Some (holdings.Reference k)) word
+reference_lawful slots word k kind is lawful = subst (λ (held : Option FieldKind). LawfulValue slots held word) is lawful
 
 -- a caller that wants something isn't idle
 wants_busy : (target : Target) (e : Entry) (a : WordAccess) (b : Bool) → is_idle e.routine ≡ b → wants target e ≡ Some a → is_idle e.routine ≡ false
@@ -41,9 +41,9 @@ pub sound_stays : (target : Target) (setting : Setting) (state : CoreState) → 
 sound_stays target setting state sane some fits s stamped = record {
   registers = λ c r e is. (s.belong c e is).0.hand.registers.within r;
   started = λ c r e is. (s.belong c e is).0.hand.started.within r;
-  fields = λ j g row kind. reference_lawful setting.sizes.slots (word_at setting state (FieldOf j g)) (field_kind target.fields g) kind (field_value target setting j g (word_at setting state (FieldOf j g)) (s.lawful (FieldOf j g) row));
+  fields = λ j g k row kind. reference_lawful setting.sizes.slots (word_at setting state (FieldOf j g)) k (field_kind target.fields g) kind (field_value target setting j g (word_at setting state (FieldOf j g)) (s.lawful (FieldOf j g) row));
   null_fields = λ g row. s.lawful (FieldOf 0 g) row;
-  roots = λ x row kind. reference_lawful setting.sizes.slots (word_at setting state (Cell x)) (root_kind target.roots x) kind (s.lawful (Cell x) row);
+  roots = λ x k row kind. reference_lawful setting.sizes.slots (word_at setting state (Cell x)) k (root_kind target.roots x) kind (s.lawful (Cell x) row);
   hazards = λ c r row. s.lawful (Hazard c r) row;
   links = λ j row. s.lawful (Link j) row;
   top = (s.lawful Head refl).1;

@@ -1,5 +1,5 @@
 -- The head's phase is at most the phase word: a sweep announces a phase that the phase word has come to, and a head was loaded before.
-use Rattle.std.proofs.Common.{◌≡◌, ℕ, zero, suc, ◌+◌, ◌≤◌, true, Option, Some, None, refl, sym, ◌∙◌, ap, subst}
+use Rattle.std.proofs.Common.{List, ◌≡◌, ℕ, zero, suc, ◌+◌, ◌≤◌, true, Option, Some, None, refl, sym, ◌∙◌, ap, subst}
 use Rattle.std.specs.Prelude.{slice_get}
 use Rattle.norm_lang.specs.declared.text.Place.{Place}
 use Rattle.norm_lang.specs.declared.text.Place.TheVariants as places
@@ -7,6 +7,8 @@ use Rattle.norm_lang.specs.declared.text.CasEntry.{CasEntry}
 use Rattle.norm_lang.specs.declared.text.Instr.{Instr}
 use Rattle.norm_lang.specs.declared.text.Instr.TheVariants as instr
 use Rattle.norm_lang.specs.declared.registers.Registers.{Registers}
+use Rattle.norm_lang.specs.declared.text.FieldDecl.{FieldDecl}
+use Rattle.norm_lang.specs.KindFields.{place_of}
 use Rattle.norm_lang.specs.Registers.{number_in}
 use Rattle.norm_lang.specs.Local.{remainder}
 use Rattle.target_code.specs.declared.target.TargetInstr.{TargetInstr}
@@ -59,33 +61,33 @@ some_same a b is = cc
 other_by : (x a : WordAccess) → Some x ≡ Some a → IsOther x → IsOther a
 other_by x a is other = subst IsOther (some_same x a is) other
 
-other_exchange : (exchange : CasEntry) (registers : Registers) → IsOther (exchange_wanted exchange registers)
-other_exchange exchange registers = of exchange.place where
+other_exchange : (fields : List FieldDecl) (exchange : CasEntry) (registers : Registers) → IsOther (exchange_wanted fields exchange registers)
+other_exchange fields exchange registers = of exchange.place where
   by_slot : (j f expected replacement : ℕ) → IsOther (object_exchange j f expected replacement)
   by_slot zero f expected replacement = refl
   by_slot (suc j) f expected replacement = refl
 
-  of : (place : Place) → IsOther (place_exchange place registers (word_in registers exchange.expected) (word_in registers exchange.replacement))
+  of : (place : Place) → IsOther (place_exchange fields place registers (word_in registers exchange.expected) (word_in registers exchange.replacement))
   of (places.Root x) = refl
-  of (places.Field a f) = by_slot (slot_in registers a) f (word_in registers exchange.expected) (word_in registers exchange.replacement)
+  of (places.Field a f) = by_slot (slot_in registers a) (place_of fields f) (word_in registers exchange.expected) (word_in registers exchange.replacement)
 
-other_plain : (i : Instr) (registers : Registers) (a : WordAccess) → plain_wanted i registers ≡ Some a → IsOther a
-other_plain (instr.LoadRoot d x) registers a is = other_by (Loads (Cell x)) a is refl
-other_plain (instr.LoadPick d x count r) registers a is = other_by (Loads (Cell (x + remainder (number_in registers r) count))) a is refl
-other_plain (instr.LoadField d r f) registers a is = other_by (Loads (FieldOf (slot_in registers r) f)) a is refl
-other_plain (instr.Put r f b) registers a is = other_by (Stores (FieldOf (slot_in registers r) f) (word_in registers b)) a is refl
-other_plain (instr.Cas exchange l) registers a is = other_by (exchange_wanted exchange registers) a is (other_exchange exchange registers)
-other_plain _ registers a is = absurd (let no : None ≡ Some a = is in cc)
+other_plain : (fields : List FieldDecl) (i : Instr) (registers : Registers) (a : WordAccess) → plain_wanted fields i registers ≡ Some a → IsOther a
+other_plain fields (instr.LoadRoot d x) registers a is = other_by (Loads (Cell x)) a is refl
+other_plain fields (instr.LoadPick d x count r) registers a is = other_by (Loads (Cell (x + remainder (number_in registers r) count))) a is refl
+other_plain fields (instr.LoadField d r f) registers a is = other_by (Loads (FieldOf (slot_in registers r) (place_of fields f))) a is refl
+other_plain fields (instr.Put r f b) registers a is = other_by (Stores (FieldOf (slot_in registers r) (place_of fields f)) (word_in registers b)) a is refl
+other_plain fields (instr.Cas exchange l) registers a is = other_by (exchange_wanted fields exchange registers) a is (other_exchange fields exchange registers)
+other_plain fields _ registers a is = absurd (let no : None ≡ Some a = is in cc)
 
-other_instr : (c : ℕ) (o : Option TargetInstr) (registers : Registers) (a : WordAccess) → instr_wanted c o registers ≡ Some a → IsOther a
-other_instr c None registers a is = absurd (let no : None ≡ Some a = is in cc)
-other_instr c (Some (Plain i)) registers a is = other_plain i registers a is
-other_instr c (Some Check) registers a is = other_by (Loads (Warning c)) a is refl
-other_instr c (Some (Guard r)) registers a is = other_by (Stores (Hazard c (register_number r)) (slot_in registers r)) a is refl
+other_instr : (fields : List FieldDecl) (c : ℕ) (o : Option TargetInstr) (registers : Registers) (a : WordAccess) → instr_wanted fields c o registers ≡ Some a → IsOther a
+other_instr fields c None registers a is = absurd (let no : None ≡ Some a = is in cc)
+other_instr fields c (Some (Plain i)) registers a is = other_plain fields i registers a is
+other_instr fields c (Some Check) registers a is = other_by (Loads (Warning c)) a is refl
+other_instr fields c (Some (Guard r)) registers a is = other_by (Stores (Hazard c (register_number r)) (slot_in registers r)) a is refl
 
-other_list : (o : Option CasEntry) (registers : Registers) (a : WordAccess) → list_wanted o registers ≡ Some a → IsOther a
-other_list None registers a is = absurd (let no : None ≡ Some a = is in cc)
-other_list (Some exchange) registers a is = other_by (exchange_wanted exchange registers) a is (other_exchange exchange registers)
+other_list : (fields : List FieldDecl) (o : Option CasEntry) (registers : Registers) (a : WordAccess) → list_wanted fields o registers ≡ Some a → IsOther a
+other_list fields None registers a is = absurd (let no : None ≡ Some a = is in cc)
+other_list fields (Some exchange) registers a is = other_by (exchange_wanted fields exchange registers) a is (other_exchange fields exchange registers)
 
 other_clear : (c : ℕ) (o : Option ℕ) (a : WordAccess) → clear_wanted c o ≡ Some a → IsOther a
 other_clear c None a is = absurd (let no : None ≡ Some a = is in cc)
@@ -94,8 +96,8 @@ other_clear c (Some r) a is = other_by (Stores (Hazard c r) 0) a is refl
 other_wanted : (target : Target) (e : Entry) (routine : Routine) (a : WordAccess) → standing_of routine ≡ Elsewhere → wanted target e routine ≡ Some a → IsOther a
 other_wanted target e Idle a at is = absurd (let no : None ≡ Some a = is in cc)
 other_wanted target e (LoadSeen why) a at is = other_by (Loads (Warning e.number)) a is refl
-other_wanted target e At a at is = other_instr e.number (instr_in target e) e.hand.registers a is
-other_wanted target e (InList k) a at is = other_list (slice_get (list_of (instr_in target e)) k) e.hand.registers a is
+other_wanted target e At a at is = other_instr target.fields e.number (instr_in target e) e.hand.registers a is
+other_wanted target e (InList k) a at is = other_list target.fields (slice_get (list_of (instr_in target e)) k) e.hand.registers a is
 other_wanted target e (Retires retirement go) a at is = absurd cc
 other_wanted target e Restarts a at is = other_clear e.number (restart_next target e) a is
 other_wanted target e (Clears next) a at is = other_clear e.number (clear_next target next e) a is

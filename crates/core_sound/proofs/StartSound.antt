@@ -1,18 +1,18 @@
 -- The start state is sound.
-use Rattle.std.proofs.Common.{◌≡◌, ℕ, zero, suc, ◌+◌, ◌≤◌, ◌<◌, true, false, ◌&&◌, List, [], ◌∷◌, map, length, Option, Some, None, refl, sym, ◌∙◌, ap, subst, arith}
+use Rattle.std.proofs.Common.{◌≡◌, ℕ, zero, suc, ◌+◌, ◌≤◌, ◌<◌, ◌==◌, true, false, ◌&&◌, List, [], ◌∷◌, map, length, Option, Some, None, refl, sym, ◌∙◌, ap, subst, arith}
 use Rattle.std.specs.Prelude.{slice_get, slice_index, IsSomeAnd}
 use Rattle.std.specs.List.{list_all}
 use Rattle.std.proofs.lemmas.Bool.{and_parts, leb-true}
 use Rattle.std.proofs.lemmas.List.{length-map}
 use Rattle.norm_lang.specs.declared.text.FieldKind.{FieldKind}
-use Rattle.norm_lang.specs.declared.text.FieldKind.TheVariants as kinds
+use Rattle.norm_lang.specs.declared.text.FieldKind.TheVariants as holdings
 use Rattle.norm_lang.specs.declared.text.FieldDecl.{FieldDecl}
 use Rattle.norm_lang.specs.declared.text.RootDecl.{RootDecl}
 use Rattle.norm_lang.specs.declared.text.NodeDecl.{NodeDecl}
 use Rattle.norm_lang.specs.declared.text.Start.{Start}
 use Rattle.norm_lang.specs.declared.text.Start.TheVariants as starts
 use Rattle.norm_lang.specs.InstructionRules.{field_kind, root_kind}
-use Rattle.norm_lang.specs.Limits.{has_between, is_start, are_starts, is_root, are_different}
+use Rattle.norm_lang.specs.Limits.{has_between, is_kind, is_start, are_starts, is_root, are_different}
 use Rattle.target_code.specs.declared.target.Target.{Target}
 use Rattle.target_code.specs.TargetLimits.{IsTargetWithinLimits}
 use Rattle.target_runs.proofs.Limited.{parts}
@@ -37,19 +37,26 @@ use Rattle.core_sound.specs.Sound.{AreLawful, IsSound}
 
 null_lawful : (slots : ℕ) (kind : Option FieldKind) → LawfulValue slots kind 0
 null_lawful slots None = tt
-null_lawful slots (Some kinds.Number) = tt
-null_lawful slots (Some kinds.Reference) = omega arith
+null_lawful slots (Some holdings.Number) = tt
+null_lawful slots (Some (holdings.Reference k)) = omega arith
 
 -- each node has a first value for each field
 abbrev pub AreFilled : ℕ → List FieldDecl → List NodeDecl → Type 0
 AreFilled count fields nodes = list_all (λ (node : NodeDecl). are_starts count fields node.values) nodes ≡ true
 
+-- as the limits of nodes say, whatever they say of a node's kind
+limits_fill : (count : ℕ) (fields : List FieldDecl) (nodes : List NodeDecl) → list_all (λ (node : NodeDecl). (node.owner == 0) && are_starts count fields node.values) nodes ≡ true → AreFilled count fields nodes
+limits_fill count fields [] are = are
+limits_fill count fields (node ∷ nodes) are =
+    let both = and_parts ((node.owner == 0) && are_starts count fields node.values) (list_all (λ (node : NodeDecl). (node.owner == 0) && are_starts count fields node.values) nodes) are in
+    rw ((and_parts (node.owner == 0) (are_starts count fields node.values) both.0).1) (limits_fill count fields nodes both.1)
+
 -- where each initial node has a slot of the row, a first value that names one names a slot
 module _ (home : ℕ → ℕ) (slots count : ℕ) (homes : (j : ℕ) → j ≤ count → home j ≤ slots) where
   start_lawful : (kind : FieldKind) (start : Start) → is_start count kind start ≡ true → LawfulValue slots (Some kind) (value_word home start)
-  start_lawful kinds.Number start is = tt
-  start_lawful kinds.Reference (starts.Node j) is = let le = homes j (leb-true j count is) in omega (arith, le)
-  start_lawful kinds.Reference (starts.Value v) is = absurd (let e : false ≡ true = is in cc)
+  start_lawful holdings.Number start is = tt
+  start_lawful (holdings.Reference k) (starts.Node j) is = let le = homes j (leb-true j count is) in omega (arith, le)
+  start_lawful (holdings.Reference k) (starts.Value v) is = absurd (let e : false ≡ true = is in cc)
 
   -- of a node's fields
   fields_lawful : (fields : List FieldDecl) (values : List Start) (g : ℕ) → are_starts count fields values ≡ true → LawfulValue slots (field_kind fields g) (slice_index (map (value_word home) values) g)
@@ -67,7 +74,8 @@ module _ (home : ℕ → ℕ) (slots count : ℕ) (homes : (j : ℕ) → j ≤ c
   -- of the roots
   pub roots_lawful : (roots : List RootDecl) (x : ℕ) → list_all (is_root count) roots ≡ true → LawfulValue slots (root_kind roots x) (slice_index (map (root_word home) roots) x)
   roots_lawful [] x are = tt
-  roots_lawful (root ∷ roots) zero are = start_lawful root.kind root.start (and_parts _ (is_start count root.kind root.start) (and_parts (is_root count root) (list_all (is_root count) roots) are).0).1
+  roots_lawful (root ∷ roots) zero are = start_lawful root.kind root.start
+      (and_parts (is_kind root.kind) (is_start count root.kind root.start) (and_parts _ (is_kind root.kind && is_start count root.kind root.start) (and_parts (is_root count root) (list_all (is_root count) roots) are).0).1).1
   roots_lawful (root ∷ roots) (suc x) are = roots_lawful roots x (and_parts (is_root count root) (list_all (is_root count) roots) are).1
 
 -- a node has as many words as there are fields
@@ -90,7 +98,8 @@ node_length home count fields (first ∷ nodes) (suc i) node are is =
 
 module _ {target : Target} {setting : Setting} (within : IsTargetWithinLimits target) (own : IsSetting setting) (fits : Fits target setting) where
   pub filled : AreFilled (length target.nodes) target.fields target.nodes
-  filled = (and_parts (has_between 0 256 target.nodes) (list_all (λ (node : NodeDecl). are_starts (length target.nodes) target.fields node.values) target.nodes) (parts target within).nodes).1
+  filled = limits_fill (length target.nodes) target.fields target.nodes
+      (and_parts (has_between 0 256 target.nodes) (list_all (λ (node : NodeDecl). (node.owner == 0) && are_starts (length target.nodes) target.fields node.values) target.nodes) (parts target within).nodes).1
 
   pub rooted : list_all (is_root (length target.nodes)) target.roots ≡ true
   rooted = (and_parts (list_all (is_root (length target.nodes)) target.roots) (are_different (map (λ (root : RootDecl). root.name) target.roots))

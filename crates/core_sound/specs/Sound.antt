@@ -1,7 +1,7 @@
 -- What holds of the words and the callers in every reachable state.
 use Rattle.std.specs.Prelude.{◌≡◌, ℕ, ◌≤◌, ◌<◌, true, false, List, length, Some, slice_get, slice_index}
 use Rattle.norm_lang.specs.declared.text.Reg.TheVariants.{Ref}
-use Rattle.norm_lang.specs.declared.text.FieldKind.TheVariants as kinds
+use Rattle.norm_lang.specs.declared.text.FieldKind.TheVariants as holdings
 use Rattle.norm_lang.specs.declared.text.Text.{Text}
 use Rattle.norm_lang.specs.Registers.{reference_in}
 use Rattle.norm_lang.specs.InstructionRules.{field_kind, root_kind}
@@ -42,9 +42,9 @@ NamesSlot setting slot = slot ≤ setting.sizes.slots
 pub record StaysInRow (target : Target) (setting : Setting) (state : CoreState) : Type 0 where
   pub registers : (c r : ℕ) (e : Entry) → slice_get state.entries c ≡ Some e → NamesSlot setting (reference_in e.hand.registers (Ref r)).node
   pub started : (c r : ℕ) (e : Entry) → slice_get state.entries c ≡ Some e → NamesSlot setting (reference_in e.hand.started (Ref r)).node
-  pub fields : (j g : ℕ) → in_row setting.sizes (FieldOf j g) ≡ true → field_kind target.fields g ≡ Some kinds.Reference → NamesSlot setting (slot_part (word_at setting state (FieldOf j g)))
+  pub fields : (j g k : ℕ) → in_row setting.sizes (FieldOf j g) ≡ true → field_kind target.fields g ≡ Some (holdings.Reference k) → NamesSlot setting (slot_part (word_at setting state (FieldOf j g)))
   pub null_fields : (g : ℕ) → in_row setting.sizes (FieldOf 0 g) ≡ true → word_at setting state (FieldOf 0 g) ≡ 0
-  pub roots : (x : ℕ) → in_row setting.sizes (Cell x) ≡ true → root_kind target.roots x ≡ Some kinds.Reference → NamesSlot setting (slot_part (word_at setting state (Cell x)))
+  pub roots : (x k : ℕ) → in_row setting.sizes (Cell x) ≡ true → root_kind target.roots x ≡ Some (holdings.Reference k) → NamesSlot setting (slot_part (word_at setting state (Cell x)))
   pub hazards : (c r : ℕ) → in_row setting.sizes (Hazard c r) ≡ true → NamesSlot setting (word_at setting state (Hazard c r))
   pub links : (j : ℕ) → in_row setting.sizes (Link j) ≡ true → NamesSlot setting (word_at setting state (Link j))
   pub top : NamesSlot setting (head_parts (word_at setting state Head)).top

@@ -3,6 +3,7 @@
 use Rattle.std.specs.Prelude.{ℕ, [], ◌∷◌, codes}
 use Rattle.norm_lang.specs.declared.text.Instr.TheVariants.{Null, Mark, LoadRoot, LoadField, New, Cas, Commit, Return, ReturnNone}
 use Rattle.norm_lang.specs.declared.text.Start.TheVariants as starts
+use Rattle.norm_lang.specs.LineWords.{item_kind}
 use Rattle.norm_lang.specs.Shipped.{number_field, reference_field, reference_root, root_entry, retiring}
 use Rattle.target_code.specs.declared.target.TargetInstr.TheVariants.{Plain, Check, Guard}
 use Rattle.target_code.specs.declared.target.TargetOp.{TargetOp}
@@ -56,9 +57,10 @@ snip_target = record {
 
 abbrev pub unlink_target : Target
 unlink_target = record {
+  kinds = item_kind ∷ [];
   fields = reference_field (codes "next") ∷ [];
   roots = reference_root (codes "top") 1 ∷ [];
-  nodes = record { values = starts.Node 2 ∷ [] } ∷ record { values = starts.Node 0 ∷ [] } ∷ [];
+  nodes = record { owner = 0; values = starts.Node 2 ∷ [] } ∷ record { owner = 0; values = starts.Node 0 ∷ [] } ∷ [];
   ops = cut_target ∷ snip_target ∷ [];
 }
 
@@ -85,12 +87,13 @@ abbrev pub put_in_target : ℕ → TargetOp
 put_in_target root = record {
   name = codes "put_in";
   args = 0;
-  generator = Plain (Null r0) ∷ Plain (New r1) ∷ Check ∷ Guard r0 ∷ Guard r1 ∷ Check ∷ Plain (Commit (root_entry root r0 r1 ∷ [])) ∷ [];
+  generator = Plain (Null r0) ∷ Plain (New r1 0) ∷ Check ∷ Guard r0 ∷ Guard r1 ∷ Check ∷ Plain (Commit (root_entry root r0 r1 ∷ [])) ∷ [];
   wrapup = Plain ReturnNone ∷ [];
 }
 
 abbrev pub later_target : Target
 later_target = record {
+  kinds = item_kind ∷ [];
   fields = number_field (codes "v") ∷ [];
   roots = reference_root (codes "top") 1 ∷ reference_root (codes "spare") 0 ∷ [];
   nodes = number_node 0 ∷ [];
@@ -105,13 +108,13 @@ four_op_target = record {
   name = codes "four";
   args = 0;
   generator =
-      Plain (New r1)
+      Plain (New r1 0)
       ∷ Check
-      ∷ Plain (New r2)
+      ∷ Plain (New r2 0)
       ∷ Check
-      ∷ Plain (New r3)
+      ∷ Plain (New r3 0)
       ∷ Check
-      ∷ Plain (New r4)
+      ∷ Plain (New r4 0)
       ∷ Check
       ∷ Plain (Null r0)
       ∷ Guard r0
@@ -131,7 +134,7 @@ label_target = record {
   name = codes "label";
   args = 1;
   generator =
-      Plain (New r1)
+      Plain (New r1 0)
       ∷ Check
       ∷ Plain (LoadRoot n1 4)
       ∷ Check
@@ -146,6 +149,7 @@ label_target = record {
 
 abbrev pub four_target : Target
 four_target = record {
+  kinds = item_kind ∷ [];
   fields = number_field (codes "v") ∷ [];
   roots =
       reference_root (codes "a") 0
@@ -169,6 +173,7 @@ fourth_target = record { name = codes "fourth"; args = 4; generator = Plain (Com
 
 abbrev pub three_fields_target : Target
 three_fields_target = record {
+  kinds = item_kind ∷ [];
   fields = number_field (codes "a") ∷ reference_field (codes "b") ∷ number_field (codes "c") ∷ [];
   roots = reference_root (codes "top") 0 ∷ [];
   nodes = [];
@@ -177,6 +182,7 @@ three_fields_target = record {
 
 abbrev pub four_fields_target : Target
 four_fields_target = record {
+  kinds = item_kind ∷ [];
   fields = number_field (codes "a") ∷ reference_field (codes "b") ∷ number_field (codes "c") ∷ reference_field (codes "d") ∷ [];
   roots = reference_root (codes "top") 0 ∷ [];
   nodes = [];
@@ -194,4 +200,4 @@ get_target = record {
 }
 
 abbrev pub total_target : Target
-total_target = record { fields = number_field (codes "pad") ∷ []; roots = number_root (codes "total") 0 ∷ []; nodes = []; ops = add_target ∷ nop_target ∷ get_target ∷ [] }
+total_target = record { kinds = item_kind ∷ []; fields = number_field (codes "pad") ∷ []; roots = number_root (codes "total") 0 ∷ []; nodes = []; ops = add_target ∷ nop_target ∷ get_target ∷ [] }

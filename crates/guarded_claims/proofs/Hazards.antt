@@ -1,5 +1,5 @@
 -- Which accesses store a hazard word: a `grd` and a clear alone.
-use Rattle.std.proofs.Common.{ℕ, zero, suc, ◌≡◌, ◌≢◌, ◌⊎◌, Option, Some, None, sym, ap, subst, refl, true, false, ◌==◌, inl, inr}
+use Rattle.std.proofs.Common.{List, ℕ, zero, suc, ◌≡◌, ◌≢◌, ◌⊎◌, Option, Some, None, sym, ap, subst, refl, true, false, ◌==◌, inl, inr}
 use Rattle.std.specs.Prelude.{slice_get}
 use Rattle.std.proofs.lemmas.Bool.Decides.{eqb_tells}
 use Rattle.norm_lang.specs.declared.text.Place.{Place}
@@ -8,6 +8,8 @@ use Rattle.norm_lang.specs.declared.text.CasEntry.{CasEntry}
 use Rattle.norm_lang.specs.declared.text.Instr.{Instr}
 use Rattle.norm_lang.specs.declared.text.Instr.TheVariants as instr
 use Rattle.norm_lang.specs.declared.registers.Registers.{Registers}
+use Rattle.norm_lang.specs.declared.text.FieldDecl.{FieldDecl}
+use Rattle.norm_lang.specs.KindFields.{place_of}
 use Rattle.target_code.specs.declared.target.Target.{Target}
 use Rattle.target_code.specs.declared.target.TargetInstr.{TargetInstr}
 use Rattle.target_code.specs.declared.target.TargetInstr.TheVariants.{Plain, Check, Guard}
@@ -61,49 +63,49 @@ module _ (m : Word → ℕ) (c r : ℕ) where
     of (inr away) (inl here) = rw (here.0, away.0) refl
     of (inr away) (inr there) = rw there.0 refl
 
-  exchange_leaves : (exchange : CasEntry) (registers : Registers) → Leaves m c r (Some (exchange_wanted exchange registers))
-  exchange_leaves exchange registers = of exchange.place where
+  exchange_leaves : (fields : List FieldDecl) (exchange : CasEntry) (registers : Registers) → Leaves m c r (Some (exchange_wanted fields exchange registers))
+  exchange_leaves fields exchange registers = of exchange.place where
     object : (k f expected replacement : ℕ) → Leaves m c r (Some (object_exchange k f expected replacement))
     object zero f expected replacement = refl
     object (suc k) f expected replacement = refl
 
-    of : (place : Place) → Leaves m c r (Some (place_exchange place registers (word_in registers exchange.expected) (word_in registers exchange.replacement)))
+    of : (place : Place) → Leaves m c r (Some (place_exchange fields place registers (word_in registers exchange.expected) (word_in registers exchange.replacement)))
     of (places.Root x) = refl
-    of (places.Field a f) = object (slot_in registers a) f (word_in registers exchange.expected) (word_in registers exchange.replacement)
+    of (places.Field a f) = object (slot_in registers a) (place_of fields f) (word_in registers exchange.expected) (word_in registers exchange.replacement)
 
-  plain_leaves : (i : Instr) (registers : Registers) → Leaves m c r (plain_wanted i registers)
-  plain_leaves (instr.LoadRoot d x) registers = refl
-  plain_leaves (instr.LoadPick d x n a) registers = refl
-  plain_leaves (instr.LoadField d a f) registers = refl
-  plain_leaves (instr.Put a f b) registers = refl
-  plain_leaves (instr.Cas exchange l) registers = exchange_leaves exchange registers
-  plain_leaves (instr.Set d n) registers = tt
-  plain_leaves (instr.Mov d a) registers = tt
-  plain_leaves (instr.Add d a b) registers = tt
-  plain_leaves (instr.Sub d a b) registers = tt
-  plain_leaves (instr.Rem d a n) registers = tt
-  plain_leaves (instr.Mark d a) registers = tt
-  plain_leaves (instr.Unmark d a) registers = tt
-  plain_leaves (instr.Null d) registers = tt
-  plain_leaves (instr.New d) registers = tt
-  plain_leaves (instr.Jump l) registers = tt
-  plain_leaves (instr.IfEq a b l) registers = tt
-  plain_leaves (instr.IfLess a b l) registers = tt
-  plain_leaves (instr.IfMarked a l) registers = tt
-  plain_leaves (instr.Commit exchanges) registers = tt
-  plain_leaves (instr.Return a) registers = tt
-  plain_leaves instr.ReturnNone registers = tt
-  plain_leaves instr.Again registers = tt
+  plain_leaves : (fields : List FieldDecl) (i : Instr) (registers : Registers) → Leaves m c r (plain_wanted fields i registers)
+  plain_leaves fields (instr.LoadRoot d x) registers = refl
+  plain_leaves fields (instr.LoadPick d x n a) registers = refl
+  plain_leaves fields (instr.LoadField d a f) registers = refl
+  plain_leaves fields (instr.Put a f b) registers = refl
+  plain_leaves fields (instr.Cas exchange l) registers = exchange_leaves fields exchange registers
+  plain_leaves fields (instr.Set d n) registers = tt
+  plain_leaves fields (instr.Mov d a) registers = tt
+  plain_leaves fields (instr.Add d a b) registers = tt
+  plain_leaves fields (instr.Sub d a b) registers = tt
+  plain_leaves fields (instr.Rem d a n) registers = tt
+  plain_leaves fields (instr.Mark d a) registers = tt
+  plain_leaves fields (instr.Unmark d a) registers = tt
+  plain_leaves fields (instr.Null d) registers = tt
+  plain_leaves fields (instr.New d kind) registers = tt
+  plain_leaves fields (instr.Jump l) registers = tt
+  plain_leaves fields (instr.IfEq a b l) registers = tt
+  plain_leaves fields (instr.IfLess a b l) registers = tt
+  plain_leaves fields (instr.IfMarked a l) registers = tt
+  plain_leaves fields (instr.Commit exchanges) registers = tt
+  plain_leaves fields (instr.Return a) registers = tt
+  plain_leaves fields instr.ReturnNone registers = tt
+  plain_leaves fields instr.Again registers = tt
 
-  list_leaves : (o : Option CasEntry) (registers : Registers) → Leaves m c r (list_wanted o registers)
-  list_leaves None registers = tt
-  list_leaves (Some exchange) registers = exchange_leaves exchange registers
+  list_leaves : (fields : List FieldDecl) (o : Option CasEntry) (registers : Registers) → Leaves m c r (list_wanted fields o registers)
+  list_leaves fields None registers = tt
+  list_leaves fields (Some exchange) registers = exchange_leaves fields exchange registers
 
-  instr_leaves : (i : ℕ) (o : Option TargetInstr) (registers : Registers) → (stored_at o ≡ Some r → ⊥) → Leaves m c r (instr_wanted i o registers)
-  instr_leaves i None registers ne = tt
-  instr_leaves i (Some (Plain x)) registers ne = plain_leaves x registers
-  instr_leaves i (Some Check) registers ne = refl
-  instr_leaves i (Some (Guard k)) registers ne = other_leaves i (register_number k) (slot_in registers k) (λ same. ne (ap Some (sym same)))
+  instr_leaves : (fields : List FieldDecl) (i : ℕ) (o : Option TargetInstr) (registers : Registers) → (stored_at o ≡ Some r → ⊥) → Leaves m c r (instr_wanted fields i o registers)
+  instr_leaves fields i None registers ne = tt
+  instr_leaves fields i (Some (Plain x)) registers ne = plain_leaves fields x registers
+  instr_leaves fields i (Some Check) registers ne = refl
+  instr_leaves fields i (Some (Guard k)) registers ne = other_leaves i (register_number k) (slot_in registers k) (λ same. ne (ap Some (sym same)))
 
   clear_leaves : (i : ℕ) (o : Option ℕ) → (o ≡ Some r → ⊥) → Leaves m c r (clear_wanted i o)
   clear_leaves i None ne = tt
@@ -134,8 +136,8 @@ module _ (m : Word → ℕ) (c r : ℕ) where
   pub leaves : (target : Target) (e : Entry) (routine : Routine) → (stored target e routine ≡ Some r → ⊥) → Leaves m c r (wanted target e routine)
   leaves target e Idle ne = tt
   leaves target e (LoadSeen why) ne = refl
-  leaves target e At ne = instr_leaves e.number (instr_in target e) e.hand.registers ne
-  leaves target e (InList k) ne = list_leaves (slice_get (list_of (instr_in target e)) k) e.hand.registers
+  leaves target e At ne = instr_leaves target.fields e.number (instr_in target e) e.hand.registers ne
+  leaves target e (InList k) ne = list_leaves target.fields (slice_get (list_of (instr_in target e)) k) e.hand.registers
   leaves target e (Retires retirement go) ne = retire_leaves retirement.slot retirement.stage
   leaves target e Restarts ne = clear_leaves e.number (restart_next target e) ne
   leaves target e (Clears next) ne = clear_leaves e.number (clear_next target next e) ne

@@ -202,7 +202,7 @@ module _ (t : Plan) (s : Shared) (c : ℕ) (x : Caller) (marks : Marks) (a : Wor
   -- a check loads the own warning
   check_word : x.entry.routine ≡ At → instr_in t.target x.entry ≡ Some Check → s.memory (word_of a) ≡ s.memory (Warning c)
   check_word at is =
-      let loads : Some (Loads (Warning x.entry.number)) ≡ Some a = sym (wants_is t.target x.entry At at ∙ ap (λ (o : Option TargetInstr). instr_wanted x.entry.number o x.entry.hand.registers) is) ∙ want in
+      let loads : Some (Loads (Warning x.entry.number)) ≡ Some a = sym (wants_is t.target x.entry At at ∙ ap (λ (o : Option TargetInstr). instr_wanted t.target.fields x.entry.number o x.entry.hand.registers) is) ∙ want in
       let same : Loads (Warning x.entry.number) ≡ a = cc in
       ap (λ (a : WordAccess). s.memory (word_of a)) (sym same) ∙ ap (λ (i : ℕ). s.memory (Warning i)) base.number
 
@@ -210,7 +210,7 @@ module _ (t : Plan) (s : Shared) (c : ℕ) (x : Caller) (marks : Marks) (a : Wor
   guard_leaves : (i : ℕ) → x.entry.routine ≡ At → instr_in t.target x.entry ≡ Some (Guard (Ref i)) → (s.memory (word_of a) == slot_in x.entry.hand.registers (Ref i)) ≡ true → Left i
   guard_leaves i at is found =
       let slot : ℕ = slot_in x.entry.hand.registers (Ref i) in
-      let stores : Some (Stores (Hazard x.entry.number i) slot) ≡ Some a = sym (wants_is t.target x.entry At at ∙ ap (λ (o : Option TargetInstr). instr_wanted x.entry.number o x.entry.hand.registers) is) ∙ want in
+      let stores : Some (Stores (Hazard x.entry.number i) slot) ≡ Some a = sym (wants_is t.target x.entry At at ∙ ap (λ (o : Option TargetInstr). instr_wanted t.target.fields x.entry.number o x.entry.hand.registers) is) ∙ want in
       let one : Stores (Hazard x.entry.number i) slot ≡ a = cc in
       let same : Stores (Hazard c i) slot ≡ a = ap (λ (k : ℕ). Stores (Hazard k i) slot) (sym base.number) ∙ one in
       let word : s.memory (word_of a) ≡ slot = grind (arith, nat_tests) in

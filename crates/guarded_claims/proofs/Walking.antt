@@ -71,7 +71,7 @@ module _ (target : Target) (sizes : Sizes) (s : Shared) (d r j : ℕ) (some : j 
   begun_list_keeps (exchange ∷ exchanges) e = (λ a. a, λ k. tt)
 
   plain_keeps : (i : Instr) (e : Entry) → Keeps s d r j e (plain_stop target sizes i e).entry
-  plain_keeps (instr.New d) e = cleared_keeps clears.New e
+  plain_keeps (instr.New d kind) e = cleared_keeps clears.New e
   plain_keeps (instr.Commit exchanges) e = begun_list_keeps exchanges e
   plain_keeps (instr.Return a) e = cleared_keeps (clears.Reply (replies.Number (number_in e.hand.registers a))) e
   plain_keeps instr.ReturnNone e = cleared_keeps (clears.Reply replies.Nothing) e
@@ -155,7 +155,7 @@ module _ (target : Target) (sizes : Sizes) (s : Shared) (d r j : ℕ) (some : j 
   accepted_plain (instr.IfEq a b l) word e = (λ a. a, λ k. k)
   accepted_plain (instr.IfLess a b l) word e = (λ a. a, λ k. k)
   accepted_plain (instr.IfMarked a l) word e = (λ a. a, λ k. k)
-  accepted_plain (instr.New d) word e = (λ a. a, λ k. k)
+  accepted_plain (instr.New d kind) word e = (λ a. a, λ k. k)
   accepted_plain (instr.Commit exchanges) word e = (λ a. a, λ k. k)
   accepted_plain (instr.Return a) word e = (λ a. a, λ k. k)
   accepted_plain instr.ReturnNone word e = (λ a. a, λ k. k)

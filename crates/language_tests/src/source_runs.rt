@@ -6,7 +6,9 @@ ghost use Rattle.source_machine.specs.Calls.{IsOfSourceRun};
 use norm_check::{Normal, check};
 use norm_lang::shipped_set;
 use norm_parser::parse;
-use source_machine::{RunError, SourceEvent, SourceReply, SourceState, StepError, run, step};
+use source_machine::{
+    Pending, RunError, SourceEvent, SourceReply, SourceState, StepError, run, step,
+};
 use std::alloc::{AllocError, Global};
 use std::process::Abort;
 
@@ -199,4 +201,28 @@ fn a_caller_gives_up_at_a_new_alone(rt: HostRuntime) {
         (b"0..ff", Err(4)),
     ];
     expect_told(&rt, &list(&rt), &rows);
+}
+
+fn letter(pending: Pending) -> u8 {
+    match pending {
+        Pending::Idle => b'i',
+        Pending::New => b'n',
+        Pending::End => b'e',
+        Pending::Shared => b's',
+    }
+}
+
+/// Behind each of these runs the next access of caller 0 is of that kind.
+fn expect_pending(rt: &(impl Abort + AllocGlobal), normal: &Normal, rows: &[(&[u8], u8)]) {
+    for (bytes, wanted) in rows {
+        assert!(rt; letter(state_of(rt, normal, bytes).pending(normal, 0)) == *wanted);
+    }
+}
+
+#[test]
+fn the_next_access_is_told(rt: HostRuntime) {
+    let counter: [(&[u8], u8); 4] = [(b"", b'i'), (b"0", b's'), (b"n", b'e'), (b"0.r..", b'i')];
+    expect_pending(&rt, &normal_of(&rt, COUNTER), &counter);
+    let inserting: [(&[u8], u8); 2] = [(b"0.", b's'), (b"0..", b'n')];
+    expect_pending(&rt, &list(&rt), &inserting);
 }

@@ -245,7 +245,7 @@ fn kind_in(word: &[u8]) -> Result<FieldKind, Fault>
     if word == b"num".as_slice() {
         Ok(FieldKind::Number)
     } else if word == b"ref".as_slice() {
-        Ok(FieldKind::Reference)
+        Ok(FieldKind::Reference(0))
     } else {
         Err(Fault::Form)
     }
@@ -266,7 +266,7 @@ fn start_in(kind: FieldKind, word: &[u8]) -> Result<StartWord, Fault>
 {
     match kind {
         FieldKind::Number => Ok(StartWord::Value(number_in(word)?)),
-        FieldKind::Reference => {
+        FieldKind::Reference(_) => {
             if word == b"null".as_slice() {
                 Ok(StartWord::Null)
             } else {

@@ -10,6 +10,7 @@ use Rattle.norm_lang.specs.Local.{Spot, local_at, local_run}
 use Rattle.norm_lang.specs.NormalForm.{N7, Breaks}
 use Rattle.norm_lang.specs.Registers.{no_reference, first_registers, number_in, reference_in, with_number}
 use Rattle.norm_lang.specs.declared.text.Text.{Text}
+use Rattle.norm_lang.specs.LineWords.{item_kind}
 use Rattle.local_laws.specs.Settling.{next_spot, Settles, rests, goes_on}
 
 -- registers with 1 and 2 in n0 and n1
@@ -46,7 +47,7 @@ settles_nowhere here there first (goes_on _ next _ is rest) = settles_nowhere ne
 
 -- so a text with it is refused: the jump lies on a cycle of itself alone
 abbrev spinning : Text
-spinning = record { fields = []; roots = []; nodes = []; ops = record { name = []; args = 0; generator = spin; wrapup = [] } ∷ [] }
+spinning = record { kinds = item_kind ∷ []; fields = []; roots = []; nodes = []; ops = record { name = []; args = 0; generator = spin; wrapup = [] } ∷ [] }
 
 spin_is_refused : Breaks spinning (record { rule = N7; op = 0; wrapup = false; at = 0 })
 spin_is_refused = (0 ∷ [], (((refl, ltb-true 0 2 refl), refl)), refl)

@@ -41,7 +41,7 @@ abbrev pub is_access : Instr → Bool
 is_access (instr.LoadRoot d x) = true
 is_access (instr.LoadPick d x n a) = true
 is_access (instr.LoadField d a f) = true
-is_access (instr.New d) = true
+is_access (instr.New d kind) = true
 is_access (instr.Put a f b) = true
 is_access (instr.Cas entry l) = true
 is_access _ = false

@@ -9,6 +9,8 @@ use Rattle.norm_lang.specs.declared.text.CasEntry.{CasEntry}
 use Rattle.norm_lang.specs.declared.text.Instr.{Instr}
 use Rattle.norm_lang.specs.declared.text.Instr.TheVariants as instr
 use Rattle.norm_lang.specs.declared.registers.Registers.{Registers}
+use Rattle.norm_lang.specs.declared.text.FieldDecl.{FieldDecl}
+use Rattle.norm_lang.specs.KindFields.{place_of}
 use Rattle.target_code.specs.declared.target.TargetInstr.{TargetInstr}
 use Rattle.target_code.specs.declared.target.TargetInstr.TheVariants.{Plain, Check, Guard}
 use Rattle.oa_words.specs.declared.packed.Kind.{Kind}
@@ -71,49 +73,49 @@ Leaves m j None = Unit {0}
 Leaves m j (Some a) = after_access m a (Status j) ≡ m (Status j)
 
 module _ (m : Word → ℕ) (j : ℕ) where
-  exchange_leaves : (exchange : CasEntry) (registers : Registers) → Leaves m j (Some (exchange_wanted exchange registers))
-  exchange_leaves exchange registers = of exchange.place where
+  exchange_leaves : (fields : List FieldDecl) (exchange : CasEntry) (registers : Registers) → Leaves m j (Some (exchange_wanted fields exchange registers))
+  exchange_leaves fields exchange registers = of exchange.place where
     object : (k f expected replacement : ℕ) → Leaves m j (Some (object_exchange k f expected replacement))
     object zero f expected replacement = refl
     object (suc k) f expected replacement = refl
 
-    of : (place : Place) → Leaves m j (Some (place_exchange place registers (word_in registers exchange.expected) (word_in registers exchange.replacement)))
+    of : (place : Place) → Leaves m j (Some (place_exchange fields place registers (word_in registers exchange.expected) (word_in registers exchange.replacement)))
     of (places.Root x) = refl
-    of (places.Field a f) = object (slot_in registers a) f (word_in registers exchange.expected) (word_in registers exchange.replacement)
+    of (places.Field a f) = object (slot_in registers a) (place_of fields f) (word_in registers exchange.expected) (word_in registers exchange.replacement)
 
-  plain_leaves : (i : Instr) (registers : Registers) → Leaves m j (plain_wanted i registers)
-  plain_leaves (instr.LoadRoot d x) registers = refl
-  plain_leaves (instr.LoadPick d x n a) registers = refl
-  plain_leaves (instr.LoadField d a f) registers = refl
-  plain_leaves (instr.Put a f b) registers = refl
-  plain_leaves (instr.Cas exchange l) registers = exchange_leaves exchange registers
-  plain_leaves (instr.Set d n) registers = tt
-  plain_leaves (instr.Mov d a) registers = tt
-  plain_leaves (instr.Add d a b) registers = tt
-  plain_leaves (instr.Sub d a b) registers = tt
-  plain_leaves (instr.Rem d a n) registers = tt
-  plain_leaves (instr.Mark d a) registers = tt
-  plain_leaves (instr.Unmark d a) registers = tt
-  plain_leaves (instr.Null d) registers = tt
-  plain_leaves (instr.New d) registers = tt
-  plain_leaves (instr.Jump l) registers = tt
-  plain_leaves (instr.IfEq a b l) registers = tt
-  plain_leaves (instr.IfLess a b l) registers = tt
-  plain_leaves (instr.IfMarked a l) registers = tt
-  plain_leaves (instr.Commit exchanges) registers = tt
-  plain_leaves (instr.Return a) registers = tt
-  plain_leaves instr.ReturnNone registers = tt
-  plain_leaves instr.Again registers = tt
+  plain_leaves : (fields : List FieldDecl) (i : Instr) (registers : Registers) → Leaves m j (plain_wanted fields i registers)
+  plain_leaves fields (instr.LoadRoot d x) registers = refl
+  plain_leaves fields (instr.LoadPick d x n a) registers = refl
+  plain_leaves fields (instr.LoadField d a f) registers = refl
+  plain_leaves fields (instr.Put a f b) registers = refl
+  plain_leaves fields (instr.Cas exchange l) registers = exchange_leaves fields exchange registers
+  plain_leaves fields (instr.Set d n) registers = tt
+  plain_leaves fields (instr.Mov d a) registers = tt
+  plain_leaves fields (instr.Add d a b) registers = tt
+  plain_leaves fields (instr.Sub d a b) registers = tt
+  plain_leaves fields (instr.Rem d a n) registers = tt
+  plain_leaves fields (instr.Mark d a) registers = tt
+  plain_leaves fields (instr.Unmark d a) registers = tt
+  plain_leaves fields (instr.Null d) registers = tt
+  plain_leaves fields (instr.New d kind) registers = tt
+  plain_leaves fields (instr.Jump l) registers = tt
+  plain_leaves fields (instr.IfEq a b l) registers = tt
+  plain_leaves fields (instr.IfLess a b l) registers = tt
+  plain_leaves fields (instr.IfMarked a l) registers = tt
+  plain_leaves fields (instr.Commit exchanges) registers = tt
+  plain_leaves fields (instr.Return a) registers = tt
+  plain_leaves fields instr.ReturnNone registers = tt
+  plain_leaves fields instr.Again registers = tt
 
-  instr_leaves : (c : ℕ) (o : Option TargetInstr) (registers : Registers) → Leaves m j (instr_wanted c o registers)
-  instr_leaves c None registers = tt
-  instr_leaves c (Some Check) registers = refl
-  instr_leaves c (Some (Guard r)) registers = refl
-  instr_leaves c (Some (Plain i)) registers = plain_leaves i registers
+  instr_leaves : (fields : List FieldDecl) (c : ℕ) (o : Option TargetInstr) (registers : Registers) → Leaves m j (instr_wanted fields c o registers)
+  instr_leaves fields c None registers = tt
+  instr_leaves fields c (Some Check) registers = refl
+  instr_leaves fields c (Some (Guard r)) registers = refl
+  instr_leaves fields c (Some (Plain i)) registers = plain_leaves fields i registers
 
-  list_leaves : (o : Option CasEntry) (registers : Registers) → Leaves m j (list_wanted o registers)
-  list_leaves None registers = tt
-  list_leaves (Some exchange) registers = exchange_leaves exchange registers
+  list_leaves : (fields : List FieldDecl) (o : Option CasEntry) (registers : Registers) → Leaves m j (list_wanted fields o registers)
+  list_leaves fields None registers = tt
+  list_leaves fields (Some exchange) registers = exchange_leaves fields exchange registers
 
   clear_leaves : (c : ℕ) (o : Option ℕ) → Leaves m j (clear_wanted c o)
   clear_leaves c None = tt
@@ -309,9 +311,9 @@ module _ (t : Plan) (c : ℕ) (s : Shared) (x : Caller) (memory' : Word → ℕ)
       → present' ≡ present_at t.target t.setting.sizes s.memory s.unused x.entry r s.present → Before (WorksAt x.entry r j) → After
   by_routine Idle a want makes moves names before = absurd (let no : None ≡ Some a = want in cc)
   by_routine (LoadSeen why) a want makes moves names before = quietly (left (Some (Loads (Warning x.entry.number))) a want refl makes) names before
-  by_routine At a want makes moves names before = quietly (left (instr_wanted x.entry.number (instr_in t.target x.entry) x.entry.hand.registers) a want (instr_leaves s.memory j x.entry.number (instr_in t.target x.entry) x.entry.hand.registers) makes) names before
+  by_routine At a want makes moves names before = quietly (left (instr_wanted t.target.fields x.entry.number (instr_in t.target x.entry) x.entry.hand.registers) a want (instr_leaves s.memory j t.target.fields x.entry.number (instr_in t.target x.entry) x.entry.hand.registers) makes) names before
   by_routine (InList i) a want makes moves names before =
-      quietly (left (list_wanted (slice_get (list_of (instr_in t.target x.entry)) i) x.entry.hand.registers) a want (list_leaves s.memory j (slice_get (list_of (instr_in t.target x.entry)) i) x.entry.hand.registers) makes) names before
+      quietly (left (list_wanted t.target.fields (slice_get (list_of (instr_in t.target x.entry)) i) x.entry.hand.registers) a want (list_leaves s.memory j t.target.fields (slice_get (list_of (instr_in t.target x.entry)) i) x.entry.hand.registers) makes) names before
   by_routine (Retires retirement go) a want makes moves names before =
       let same : retire_wants_at retirement.slot retirement.stage ≡ a = (let both : Some (retire_wants_at retirement.slot retirement.stage) ≡ Some a = want in cc) in
       by_retirement retirement.slot retirement.stage go (makes ∙ ap (after_access s.memory) (sym same))

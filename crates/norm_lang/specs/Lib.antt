@@ -22,3 +22,5 @@ pub mod Kept
 pub mod InstructionRules
 pub mod PathRules
 pub mod NormalForm
+pub mod Kinds
+pub mod KindFields

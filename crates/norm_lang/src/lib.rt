@@ -17,6 +17,6 @@ pub use forks::{Fork, reach};
 pub use shipped::{shipped_queue, shipped_set};
 pub use spelling::show;
 pub use text::{
-    ByteText, CasEntry, Code, Entries, FieldDecl, FieldKind, Fields, Instr, Marks, Name, NodeDecl,
-    Nodes, Op, Ops, Place, Reg, RootDecl, Roots, Start, Starts, Text,
+    ByteText, CasEntry, Code, Entries, FieldDecl, FieldKind, Fields, Instr, Kinds, Marks, Name,
+    NodeDecl, Nodes, Op, Ops, Place, Reg, RootDecl, Roots, Start, Starts, Text,
 };

@@ -2,12 +2,13 @@
 
 ghost use Rattle.std.specs.Prelude.{◌≡◌, ◌≤◌, ◌<◌, [], ◌∷◌, ◌++◌, IfOk, OnOk, codes, decimal, replicate};
 ghost use Rattle.norm_lang.specs.Limits.{IsWithinLimits};
+ghost use Rattle.norm_lang.specs.LineWords.{item_kind};
 ghost use Rattle.norm_lang.specs.Shipped.{number_field, reference_field, sentinel, reference_root, next_entry, root_entry, retiring, bucket, buckets_from, search_code, answer_code, insert_code, remove_code, change_wrap_up, insert_op, remove_op, contains_op, set_text, enqueue_generator, enqueue_wrap_up, dequeue_generator, dequeue_wrap_up, enqueue_op, dequeue_op, queue_text};
 
 use crate::list::Listed;
 use crate::text::{
-    CasEntry, Code, FieldDecl, FieldKind, Fields, Instr, NodeDecl, Nodes, Op, Ops, Place, Reg,
-    RootDecl, Roots, Start, Text,
+    CasEntry, Code, FieldDecl, FieldKind, Fields, Instr, Kinds, NodeDecl, Nodes, Op, Ops, Place,
+    Reg, RootDecl, Roots, Start, Text,
 };
 use std::alloc::{AllocError, Global};
 
@@ -22,16 +23,26 @@ const HEAD: u16 = 0;
 
 const TAIL: u16 = 1;
 
+/// The one kind of both texts.
+fn kinds(alloc: Global) -> Result<Kinds, AllocError>
+    ensures { IfOk result (λ kinds. kinds ≡ item_kind ∷ []) }
+{
+    let item = Listed::from_slice(alloc, b"item")?;
+    Ok(Listed::from_vec(vec![in alloc; item]?))
+}
+
 fn fields(alloc: Global, first: &[u8]) -> Result<Fields, AllocError>
     ensures { IfOk result (λ fields. fields ≡ number_field first.now ∷ reference_field (codes "next") ∷ []) }
 {
     let first = FieldDecl {
+        owner: 0,
         name: Listed::from_slice(alloc, first)?,
         kind: FieldKind::Number,
     };
     let next = FieldDecl {
+        owner: 0,
         name: Listed::from_slice(alloc, b"next")?,
-        kind: FieldKind::Reference,
+        kind: FieldKind::Reference(0),
     };
     Ok(Listed::from_vec(vec![in alloc; first, next]?))
 }
@@ -43,7 +54,7 @@ fn sentinels(alloc: Global, count: u32) -> Result<Nodes, AllocError>
     let mut nodes = Listed::empty(alloc);
     for _ in 0..count {
         let values = Listed::from_slice(alloc, &[Start::Value(0), Start::Node(0)])?;
-        nodes.push(NodeDecl { values })?;
+        nodes.push(NodeDecl { owner: 0, values })?;
     }
     Ok(nodes)
 }
@@ -110,7 +121,7 @@ fn put_insertion(alloc: Global, code: &mut Code) -> Result<(), AllocError>
 {
     let link = next_of(Reg::Ref(0), Reg::Ref(1), Reg::Ref(4), None);
     code.push(Instr::Set(Reg::Num(2), 1))?;
-    code.push(Instr::New(Reg::Ref(4)))?;
+    code.push(Instr::New(Reg::Ref(4), 0))?;
     code.push(Instr::Put(Reg::Ref(4), FIRST, Reg::Num(0)))?;
     code.push(Instr::Put(Reg::Ref(4), NEXT, Reg::Ref(1)))?;
     code.push(Instr::Commit(Listed::from_slice(alloc, &[link])?))
@@ -232,7 +243,7 @@ fn bucket_root(alloc: Global, i: u32) -> Result<RootDecl, AllocError>
 {
     Ok(RootDecl {
         name: bucket_name(alloc, i)?,
-        kind: FieldKind::Reference,
+        kind: FieldKind::Reference(0),
         start: Start::Node(i + 1),
     })
 }
@@ -268,6 +279,7 @@ fn set_of(alloc: Global, buckets: u32) -> Result<Text, AllocError>
     ensures { IfOk result (λ text. text ≡ set_text buckets) }
 {
     Ok(Text {
+        kinds: kinds(alloc)?,
         fields: fields(alloc, b"key")?,
         roots: bucket_roots(alloc, buckets)?,
         nodes: sentinels(alloc, buckets)?,
@@ -288,7 +300,7 @@ fn enqueue_code(alloc: Global) -> Result<Code, AllocError>
         Instr::IfEq(Reg::Ref(1), Reg::Ref(2), 6),
         Instr::Cas(swing, 0),
         Instr::Jump(0),
-        Instr::New(Reg::Ref(3)),
+        Instr::New(Reg::Ref(3), 0),
         Instr::Put(Reg::Ref(3), FIRST, Reg::Num(0)),
         Instr::Commit(link),
     ]?))
@@ -353,7 +365,7 @@ fn queue_root(alloc: Global, name: &[u8]) -> Result<RootDecl, AllocError>
 {
     Ok(RootDecl {
         name: Listed::from_slice(alloc, name)?,
-        kind: FieldKind::Reference,
+        kind: FieldKind::Reference(0),
         start: Start::Node(1),
     })
 }
@@ -405,6 +417,7 @@ fn queue(alloc: Global) -> Result<Text, AllocError>
     ensures { IfOk result (λ text. text ≡ queue_text) }
 {
     Ok(Text {
+        kinds: kinds(alloc)?,
         fields: fields(alloc, b"value")?,
         roots: queue_roots(alloc)?,
         nodes: sentinels(alloc, 1)?,

@@ -6,3 +6,5 @@ pub mod Fronts
 mod Reading
 mod FrontTexts
 mod WorkedFronts
+mod LineReads
+mod News

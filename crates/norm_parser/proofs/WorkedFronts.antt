@@ -2,7 +2,7 @@
 use Rattle.std.specs.Prelude.{◌≡◌, ℕ, Bool, true, false, ◌&&◌, List, [], ◌∷◌, ◌++◌, replicate, Result, Ok, Err, codes, ◌==◌}
 use Rattle.std.specs.List.{list_all, flat_map}
 use Rattle.std.proofs.Common.{refl}
-use Rattle.norm_lang.specs.declared.text.FieldKind.TheVariants as kinds
+use Rattle.norm_lang.specs.declared.text.FieldKind.TheVariants as holdings
 use Rattle.norm_lang.specs.declared.text.Start.TheVariants as starts
 use Rattle.norm_lang.specs.Faults.{LineFault}
 use Rattle.norm_lang.specs.Shipped.{set_text, queue_text}
@@ -43,8 +43,9 @@ past = refl
 head : head_read (spelled (codes "oat 1" ∷ codes "field pad num" ∷ codes "nodes 0" ∷ codes "root total num 5" ∷ [] ∷ codes "op add 1" ∷ [])) 2
     ≡ Ok (
       record {
-        fields = record { name = codes "pad"; kind = kinds.Number } ∷ [];
-        roots = record { name = codes "total"; kind = kinds.Number; start = starts.Value 5 } ∷ [];
+        kinds = codes "item" ∷ [];
+        fields = record { owner = 0; name = codes "pad"; kind = holdings.Number } ∷ [];
+        roots = record { name = codes "total"; kind = holdings.Number; start = starts.Value 5 } ∷ [];
         nodes = [];
       },
       6,

@@ -10,7 +10,7 @@ use Rattle.oa_text.specs.Tokens.{words_of, line_fault}
 use Rattle.norm_lang.specs.declared.text.Text.{Text}
 use Rattle.norm_lang.specs.Faults.{LineFault, form_fault, ◌>>=◌, demand}
 use Rattle.norm_lang.specs.Grammar.{Section, Opening, Fields, Roots, Draft, draft_at, fault_number, after_lines, finished}
-use Rattle.norm_lang.specs.Limits.{are_fields, are_nodes, are_roots}
+use Rattle.norm_lang.specs.Limits.{are_kinds, are_fields, are_nodes, are_roots}
 use Rattle.norm_parser.specs.declared.head.Head.{Head}
 
 -- the lines from this number on
@@ -110,13 +110,13 @@ front_read bytes start = front_in (from_line start (numbered 1 (lines_of bytes))
 abbrev pub head_of : Text → Bool → Result Head ℕ
 head_of text whole = do
   done ← demand form_fault whole
-  Ok (record { fields = text.fields; roots = text.roots; nodes = text.nodes })
+  Ok (record { kinds = text.kinds; fields = text.fields; roots = text.roots; nodes = text.nodes })
 
 -- declarations are whole with at least one root after all nodes
 abbrev pub whole_in : Section → Draft → Result Head ℕ
 whole_in Roots draft = do
   some ← demand form_fault (nat_lt 0 (length draft.text.roots))
-  Ok (record { fields = draft.text.fields; roots = draft.text.roots; nodes = draft.text.nodes })
+  Ok (record { kinds = draft.text.kinds; fields = draft.text.fields; roots = draft.text.roots; nodes = draft.text.nodes })
 whole_in _ draft = Err form_fault
 
 -- the declarations of a draft, unless a further line must follow
@@ -148,4 +148,4 @@ head_read bytes start = head_in (from_line start (numbered 1 (lines_of bytes))) 
 -- declarations are those of a text within the limits
 abbrev pub IsHeadWithinLimits : Head → Type 0
 IsHeadWithinLimits head =
-    IsTrue (are_fields head.fields && (are_nodes head.fields head.nodes && are_roots (length head.nodes) head.roots))
+    IsTrue (are_kinds head.kinds && (are_fields head.fields && (are_nodes head.fields head.nodes && are_roots (length head.nodes) head.roots)))

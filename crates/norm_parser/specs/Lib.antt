@@ -4,3 +4,4 @@ pub mod Version
 pub mod FaultShown
 pub mod FrontLaws
 pub mod Drafted
+pub mod DraftShown

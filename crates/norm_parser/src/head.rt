@@ -1,16 +1,17 @@
 //! The declarations before a target's operations.
 
 ghost use Rattle.line_words.specs.Answered.{Reads};
-ghost use Rattle.text_drafts.specs.DraftShown.{draft_shown};
+ghost use Rattle.norm_parser.specs.DraftShown.{draft_shown};
 ghost use Rattle.norm_parser.specs.FrontRead.{head_of, whole_head};
 
+use crate::draft::{Draft, Section};
 use line_words::fault::Fault;
-use norm_lang::text::{Fields, Nodes, Roots, Text};
-use text_drafts::{Draft, Section};
+use norm_lang::text::{Fields, Kinds, Nodes, Roots, Text};
 
-/// What field, nodes, node and root lines declare.
+/// What field, nodes, node and root lines declare. They name no kind: all nodes are of the one kind `item`.
 #[derive(Drop)]
 pub struct Head {
+    pub kinds: Kinds,
     pub fields: Fields,
     pub roots: Roots,
     pub nodes: Nodes,
@@ -22,6 +23,7 @@ fn head_of(text: Text, whole: bool) -> Result<Head, Fault>
 {
     if whole {
         Ok(Head {
+            kinds: text.kinds,
             fields: text.fields,
             roots: text.roots,
             nodes: text.nodes,

@@ -5,16 +5,16 @@ ghost use Rattle.oa_text.specs.Shown.{line_shown};
 ghost use Rattle.oa_text.specs.Tokens.{words_of};
 ghost use Rattle.norm_lang.specs.Limits.{are_different};
 ghost use Rattle.line_words.specs.Answered.{Reads, Answers};
-ghost use Rattle.method_lines.specs.Steps.{step_shown};
+ghost use Rattle.text_lines.specs.Steps.{step_shown};
 ghost use Rattle.norm_parser.specs.Instruction.{are_skipped, AreFrom, AreLeftOf, AreLeftAt, AreAfter, step_of, entry_of, next_entry, entries_from, instr_read};
 
 use line_words::fault::{Fault, ParseError, Stop};
 use line_words::words::Words;
-use method_lines::{Step, read_entry, read_step};
 use norm_lang::list::Listed;
 use norm_lang::text::{CasEntry, Entries, FieldDecl, Fields, Instr, RootDecl, Roots};
 use oa_text::{Line, Lines};
 use std::alloc::Global;
+use text_lines::{Step, read_entry, read_step};
 
 /// What an instruction's own line says.
 fn step_of(fields: &[FieldDecl], roots: &[RootDecl], line: Line) -> Result<Step, Fault>

@@ -1,11 +1,14 @@
-//! The reader of texts: lines, instructions, and the first fault.
+//! The reader of texts: what lines declare, instructions, and the first fault.
 #![tactic(auto)]
 
+mod draft;
 mod front;
 mod head;
 mod instruction;
 pub mod laws;
+mod lines;
 mod reader;
+mod sections;
 mod version;
 
 pub use head::Head;

@@ -6,18 +6,19 @@ ghost use Rattle.oa_text.specs.Shown.{line_shown};
 ghost use Rattle.norm_lang.specs.Grammar.{draft_at, after_lines, Start, Opening, Fields, finished, text_read};
 ghost use Rattle.norm_lang.specs.Limits.{IsWithinLimits};
 ghost use Rattle.line_words.specs.Answered.{Answers};
-ghost use Rattle.text_drafts.specs.DraftShown.{draft_shown};
+ghost use Rattle.norm_parser.specs.DraftShown.{draft_shown};
 ghost use Rattle.norm_parser.specs.Drafted.{drafted};
 ghost use Rattle.norm_parser.specs.FaultShown.{fault_shown};
 ghost use Rattle.norm_parser.specs.FrontRead.{from_line, end_before, end_at, front_end, front_read, head_end, head_read, IsHeadWithinLimits};
 
+use crate::draft::{Draft, Section};
 use crate::front::{ends_front, ends_head, front_word, misplaced, names_text};
 use crate::head::{Head, whole_head};
+use crate::lines::read_line;
 use line_words::fault::{Fault, ParseError, ParseFault, Stop};
 use norm_lang::text::Text;
 use oa_text::{Line, lines};
 use std::alloc::Global;
-use text_drafts::{Draft, Section, read_line};
 
 /// A draft with what was read besides, unless that failed.
 fn drafted<T>(draft: Draft, read: Result<T, ParseError>) -> Result<(Draft, T), ParseError>
@@ -51,7 +52,7 @@ fn read_lines(alloc: Global, input: &[u8]) -> Result<(Draft, u32), ParseError>
     ensures lines { Answers (λ read. draft_shown read.0) result (after_lines (draft_at Start) (numbered 1 (lines_of input.now))) }
     ensures past { IfOk result (λ read. read.1 ≡ length (lines_of input.now) + 1) }
 {
-    let mut draft = Draft::at(alloc, Section::Start);
+    let mut draft = Draft::at(alloc, Section::Start)?;
     let past = add_lines(&mut draft, alloc, input);
     drafted(draft, past)
 }
@@ -132,7 +133,7 @@ fn read_front(alloc: Global, input: &[u8], line: u32) -> Result<(Draft, ParseFau
     requires { length (lines_of input.now) + 1 < 2 ^ 32 }
     ensures { Answers (λ front. (draft_shown front.0, fault_shown front.1)) result (front_end (from_line line (numbered 1 (lines_of input.now))) (length (lines_of input.now) + 1)) }
 {
-    let mut draft = Draft::at(alloc, Section::Opening);
+    let mut draft = Draft::at(alloc, Section::Opening)?;
     let end = add_front(&mut draft, alloc, input, line);
     drafted(draft, end)
 }
@@ -193,7 +194,7 @@ fn read_head(alloc: Global, input: &[u8], line: u32) -> Result<(Draft, ParseFaul
     requires { length (lines_of input.now) + 1 < 2 ^ 32 }
     ensures { Answers (λ head. (draft_shown head.0, fault_shown head.1)) result (head_end (from_line line (numbered 1 (lines_of input.now))) (length (lines_of input.now) + 1)) }
 {
-    let mut draft = Draft::at(alloc, Section::Fields);
+    let mut draft = Draft::at(alloc, Section::Fields)?;
     let end = add_head(&mut draft, alloc, input, line);
     drafted(draft, end)
 }

@@ -9,6 +9,7 @@ ghost use Rattle.norm_parser.specs.Version.{is_version, version_in, after_versio
 use line_words::fault::{Fault, ParseError, Stop};
 use line_words::words::Words;
 use oa_text::{Line, lines};
+use text_lines::declarations;
 
 fn is_version(name: &[u8], word: &[u8], words: &mut Words) -> Result<bool, Fault>
     ensures { Reads (λ here. here) result (is_version name.now (Some (word.now, words.old))) }
@@ -16,7 +17,7 @@ fn is_version(name: &[u8], word: &[u8], words: &mut Words) -> Result<bool, Fault
     if word != name {
         return Err(Fault::Form);
     }
-    declaration_lines::version(words)?;
+    declarations::version(words)?;
     Ok(true)
 }
 

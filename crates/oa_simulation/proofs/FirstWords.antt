@@ -7,7 +7,7 @@ use Rattle.std.proofs.lemmas.Bool.Decides.{nat_tests}
 use Rattle.std.proofs.lemmas.List.{length-map}
 use Rattle.std.proofs.lemmas.Option.{slice_get-map}
 use Rattle.norm_lang.specs.declared.text.FieldKind.{FieldKind}
-use Rattle.norm_lang.specs.declared.text.FieldKind.TheVariants as kinds
+use Rattle.norm_lang.specs.declared.text.FieldKind.TheVariants as holdings
 use Rattle.norm_lang.specs.declared.text.FieldDecl.{FieldDecl}
 use Rattle.norm_lang.specs.declared.text.RootDecl.{RootDecl}
 use Rattle.norm_lang.specs.declared.text.NodeDecl.{NodeDecl}
@@ -15,7 +15,7 @@ use Rattle.norm_lang.specs.declared.text.Start.{Start}
 use Rattle.norm_lang.specs.declared.text.Start.TheVariants as starts
 use Rattle.norm_lang.specs.declared.text.Text.{Text}
 use Rattle.norm_lang.specs.LineWords.{is_name}
-use Rattle.norm_lang.specs.Limits.{IsWithinLimits, has_between, is_start, are_starts, is_root, are_fields, are_nodes, are_roots, are_ops, are_different}
+use Rattle.norm_lang.specs.Limits.{IsWithinLimits, has_between, is_start, are_starts, is_root, is_kind, are_kinds, are_fields, are_nodes, are_roots, are_ops, are_different}
 use Rattle.oa_words.specs.declared.packed.Kind.{Kind}
 use Rattle.oa_words.specs.declared.packed.Kind.TheVariants as kinds_of_status
 use Rattle.oa_words.specs.Words.{Word, Phase, Warning, Status, FieldOf, Cell, slot_range, address_of, in_row}
@@ -40,10 +40,16 @@ use Rattle.oa_simulation.proofs.Starting.{IsFirst, is_node}
 
 -- ---- lists of first values
 
+-- a root's first value is as the root's kind asks
+root_start : (count : ℕ) (root : RootDecl) → is_root count root ≡ true → is_start count root.kind root.start ≡ true
+root_start count root is =
+    let rest = (and_parts (is_name root.name) (is_kind root.kind && is_start count root.kind root.start) is).1 in
+    (and_parts (is_kind root.kind) (is_start count root.kind root.start) rest).1
+
 module _ (home slots : ℕ → ℕ) (count : ℕ) (homes : (j : ℕ) → j ≤ count → home j ≡ slots j) where
   word_right : (kind : FieldKind) (start : Start) → is_start count kind start ≡ true → word_for home (first_value start) ≡ value_word slots start
-  word_right kinds.Number (starts.Value v) is = refl
-  word_right kinds.Reference (starts.Node j) is = ap (λ (k : ℕ). ref_word k false) (homes j (leb-true j count is))
+  word_right holdings.Number (starts.Value v) is = refl
+  word_right (holdings.Reference t) (starts.Node j) is = ap (λ (k : ℕ). ref_word k false) (homes j (leb-true j count is))
   word_right _ _ is = absurd (let no : false ≡ true = is in cc)
 
   words_right : (fields : List FieldDecl) (values : List Start) (g : ℕ) → are_starts count fields values ≡ true → word_for home (value_at (map first_value values) g) ≡ slice_index (map (value_word slots) values) g
@@ -54,13 +60,13 @@ module _ (home slots : ℕ → ℕ) (count : ℕ) (homes : (j : ℕ) → j ≤ c
 
   roots_right : (roots : List RootDecl) (x : ℕ) → list_all (is_root count) roots ≡ true → word_for home (value_at (map root_value roots) x) ≡ slice_index (map (root_word slots) roots) x
   roots_right [] x all = refl
-  roots_right (root ∷ roots) zero all = word_right root.kind root.start (and_parts (is_name root.name) (is_start count root.kind root.start) (and_parts (is_root count root) (list_all (is_root count) roots) all).0).1
+  roots_right (root ∷ roots) zero all = word_right root.kind root.start (root_start count root (and_parts (is_root count root) (list_all (is_root count) roots) all).0)
   roots_right (root ∷ roots) (suc x) all = roots_right roots x (and_parts (is_root count root) (list_all (is_root count) roots) all).1
 
 -- a name among first values is null or an initial node's
 name_right : (count : ℕ) (kind : FieldKind) (start : Start) → is_start count kind start ≡ true → name_of (first_value start) ≤ count
-name_right count kinds.Number (starts.Value v) is = omega arith
-name_right count kinds.Reference (starts.Node j) is = leb-true j count is
+name_right count holdings.Number (starts.Value v) is = omega arith
+name_right count (holdings.Reference t) (starts.Node j) is = leb-true j count is
 name_right count _ _ is = absurd (let no : false ≡ true = is in cc)
 
 names_right : (count : ℕ) (fields : List FieldDecl) (values : List Start) (g : ℕ) → are_starts count fields values ≡ true → name_of (value_at (map first_value values) g) ≤ count
@@ -71,7 +77,7 @@ names_right count _ _ g is = absurd (let no : false ≡ true = is in cc)
 
 tops_right : (count : ℕ) (roots : List RootDecl) (x : ℕ) → list_all (is_root count) roots ≡ true → name_of (value_at (map root_value roots) x) ≤ count
 tops_right count [] x all = omega arith
-tops_right count (root ∷ roots) zero all = name_right count root.kind root.start (and_parts (is_name root.name) (is_start count root.kind root.start) (and_parts (is_root count root) (list_all (is_root count) roots) all).0).1
+tops_right count (root ∷ roots) zero all = name_right count root.kind root.start (root_start count root (and_parts (is_root count root) (list_all (is_root count) roots) all).0)
 tops_right count (root ∷ roots) (suc x) all = tops_right count roots x (and_parts (is_root count root) (list_all (is_root count) roots) all).1
 
 starts_count : (count : ℕ) (fields : List FieldDecl) (values : List Start) → are_starts count fields values ≡ true → length values ≡ length fields
@@ -113,15 +119,28 @@ all_at P (first ∷ nodes) (suc i) node all is = all_at P nodes i node (and_part
 
 -- ---- the start
 
+-- an initial node of the first kind has a first value for each field
+abbrev is_right_node : Text → NodeDecl → Bool
+is_right_node text node = (node.owner == 0) && are_starts (length text.nodes) text.fields node.values
+
 -- what the limits say of nodes and roots
-limits : (text : Text) → IsWithinLimits text → (list_all (λ (node : NodeDecl). are_starts (length text.nodes) text.fields node.values) text.nodes ≡ true) × (list_all (is_root (length text.nodes)) text.roots ≡ true)
+limits : (text : Text) → IsWithinLimits text → (list_all (is_right_node text) text.nodes ≡ true) × (list_all (is_root (length text.nodes)) text.roots ≡ true)
 limits text within =
-    let rest = (and_parts (are_fields text.fields) (are_nodes text.fields text.nodes && (are_roots (length text.nodes) text.roots && are_ops (length text.fields) (length text.roots) text.ops)) within).1 in
-    let nodes = and_parts (are_nodes text.fields text.nodes) (are_roots (length text.nodes) text.roots && are_ops (length text.fields) (length text.roots) text.ops) rest in
-    let roots = (and_parts (are_roots (length text.nodes) text.roots) (are_ops (length text.fields) (length text.roots) text.ops) nodes.1).0 in (
-      (and_parts (has_between 0 256 text.nodes) (list_all (λ (node : NodeDecl). are_starts (length text.nodes) text.fields node.values) text.nodes) nodes.0).1,
-      (and_parts (list_all (is_root (length text.nodes)) text.roots) (are_different (map (λ (root : RootDecl). root.name) text.roots)) (and_parts (has_between 1 256 text.roots) (list_all (is_root (length text.nodes)) text.roots && are_different (map (λ (root : RootDecl). root.name) text.roots)) roots).1).0,
+    let ops = are_ops (length text.kinds) (length text.fields) (length text.roots) text.ops in
+    let roots = are_roots (length text.nodes) text.roots in
+    let nodes = are_nodes text.fields text.nodes in
+    let declared = (and_parts (are_kinds text.kinds) (are_fields text.fields && (nodes && (roots && ops))) within).1 in
+    let rest = and_parts nodes (roots && ops) (and_parts (are_fields text.fields) (nodes && (roots && ops)) declared).1 in
+    let all = list_all (is_root (length text.nodes)) text.roots in
+    let names = are_different (map (λ (root : RootDecl). root.name) text.roots) in (
+      (and_parts (has_between 0 256 text.nodes) (list_all (is_right_node text) text.nodes) rest.0).1,
+      (and_parts all names (and_parts (has_between 1 256 text.roots) (all && names) (and_parts roots ops rest.1).0).1).0,
     )
+
+-- the first values of an initial node by its place
+starts_at : (text : Text) → IsWithinLimits text → (i : ℕ) (node : NodeDecl) → slice_get text.nodes i ≡ Some node → are_starts (length text.nodes) text.fields node.values ≡ true
+starts_at text within i node there =
+    (and_parts (node.owner == 0) (are_starts (length text.nodes) text.fields node.values) (all_at (is_right_node text) text.nodes i node (limits text within).0 there)).1
 
 module _ (t : Plan) (runs : IsRunnable t.target t.text) (own : IsSetting t.setting) (fits : Fits t.target t.setting) (homes : (n : ℕ) → n < t.setting.nodes + 1 → t.home n ≡ first_home t.setting.nodes n) where
   abbrev memory : Word → ℕ
@@ -166,7 +185,7 @@ module _ (t : Plan) (runs : IsRunnable t.target t.text) (own : IsSetting t.setti
         node = there.0;
         is = omega (arith, some);
         there = there.1;
-        starts = all_at (λ (node : NodeDecl). are_starts (length t.text.nodes) t.text.fields node.values) t.text.nodes k there.0 (limits t.text runs.small).0 there.1;
+        starts = starts_at t.text runs.small k there.0 there.1;
         within = le;
       }
     where
@@ -249,7 +268,7 @@ module _ (t : Plan) (runs : IsRunnable t.target t.text) (own : IsSetting t.setti
         let same : Some (firsts node) ≡ Some values = sym (ap (option_map firsts) some) ∙ (sym found ∙ is) in
         let equal : firsts node ≡ values = cc in
         subst (λ (vs : List Value). name_of (value_at vs g) ≤ length t.text.nodes) equal
-        (names_right (length t.text.nodes) t.text.fields node.values g (all_at (λ (node : NodeDecl). are_starts (length t.text.nodes) t.text.fields node.values) t.text.nodes i node (limits t.text runs.small).0 some))
+        (names_right (length t.text.nodes) t.text.fields node.values g (starts_at t.text runs.small i node some))
 
   pub first_words : IsFirst t (view t.setting (core_start t.target t.setting)).memory
   first_words = record {

@@ -53,34 +53,34 @@ use Rattle.oa_simulation.proofs.Lifting.{machine_is, stays_proper}
 -- ---- the source's exchange, by where its caller stands
 
 makes_at : (text : Text) (op : Op) (memory : Memory) (caller : SourceCaller) (running : Running) → caller.running ≡ Some running → slice_get text.ops running.op ≡ Some op
-    → caller_makes text memory (Some caller) ≡ exchange_makes memory (record { op = op; running = running }) (stand_exchange op running.stand)
+    → caller_makes text memory (Some caller) ≡ exchange_makes text.fields memory (record { op = op; running = running }) (stand_exchange op running.stand)
 makes_at text op memory caller running is there =
-    ap (λ (o : Option Running). performed_makes memory (performed_by text o)) is
-    ∙ ap (λ (o : Option Op). performed_makes memory (option_map (λ op. record { op = op; running = running }) o)) there
+    ap (λ (o : Option Running). performed_makes text.fields memory (performed_by text o)) is
+    ∙ ap (λ (o : Option Op). performed_makes text.fields memory (option_map (λ op. record { op = op; running = running }) o)) there
 
 list_makes : (text : Text) (op : Op) (at : ℕ) (entries : List CasEntry) (k : ℕ) (mirror : Registers) (call : Call) (entry : CasEntry) (memory : Memory) → slice_get text.ops call.number ≡ Some op → slice_get entries k ≡ Some entry
-    → caller_makes text memory (Some (stands_in_list at entries k mirror call)) ≡ is_some (exchange entry mirror memory)
+    → caller_makes text memory (Some (stands_in_list at entries k mirror call)) ≡ is_some (exchange text.fields entry mirror memory)
 list_makes text op at entries k mirror call entry memory there one =
     makes_at text op memory (stands_in_list at entries k mirror call) (running_at call mirror (InList at entries k)) refl there
-    ∙ ap (λ (o : Option CasEntry). exchange_makes memory (record { op = op; running = running_at call mirror (InList at entries k) }) o) one
+    ∙ ap (λ (o : Option CasEntry). exchange_makes text.fields memory (record { op = op; running = running_at call mirror (InList at entries k) }) o) one
 
 cas_makes : (text : Text) (op : Op) (wrapup : Bool) (started : Registers) (accessed : Bool) (call : Call) (mirror : Registers) (place l : ℕ) (entry : CasEntry) (memory : Memory) → slice_get text.ops call.number ≡ Some op
     → slice_get (code_of op wrapup) place ≡ Some (instr.Cas entry l)
-    → caller_makes text memory (Some (stands_at op wrapup started accessed call (record { at = place; registers = mirror }))) ≡ is_some (exchange entry mirror memory)
+    → caller_makes text memory (Some (stands_at op wrapup started accessed call (record { at = place; registers = mirror }))) ≡ is_some (exchange text.fields entry mirror memory)
 cas_makes text op false started accessed call mirror place l entry memory there here =
     let running : Running = running_at call mirror (InGenerator place) in
     ap (λ (o : Option Instr). caller_makes text memory (Some (goes_on (running_at call mirror (generator_stand o place)) (caller_of call)))) here
     ∙ (makes_at text op memory (goes_on running (caller_of call)) running refl there
-    ∙ ap (λ (o : Option Instr). exchange_makes memory (record { op = op; running = running }) (exchange_of o)) here)
+    ∙ ap (λ (o : Option Instr). exchange_makes text.fields memory (record { op = op; running = running }) (exchange_of o)) here)
 cas_makes text op true started true call mirror place l entry memory there here =
     let running : Running = running_at call mirror (InWrapUp place started true) in
     makes_at text op memory (goes_on running (caller_of call)) running refl there
-    ∙ ap (λ (o : Option Instr). exchange_makes memory (record { op = op; running = running }) (exchange_of o)) here
+    ∙ ap (λ (o : Option Instr). exchange_makes text.fields memory (record { op = op; running = running }) (exchange_of o)) here
 cas_makes text op true started false call mirror place l entry memory there here =
     let running : Running = running_at call mirror (InWrapUp place started false) in
     ap (λ (o : Option Instr). caller_makes text memory (Some (wrap_up_stop false op o running (caller_of call)))) here
     ∙ (makes_at text op memory (goes_on running (caller_of call)) running refl there
-    ∙ ap (λ (o : Option Instr). exchange_makes memory (record { op = op; running = running }) (exchange_of o)) here)
+    ∙ ap (λ (o : Option Instr). exchange_makes text.fields memory (record { op = op; running = running }) (exchange_of o)) here)
 
 cas_there : (o : Option TargetInstr) (entry : CasEntry) → cas_of o ≡ Some entry → (l : ℕ) × (o ≡ Some (Plain (instr.Cas entry l)))
 cas_there (Some (Plain (instr.Cas exchange l))) entry is = (l, (let same : exchange ≡ entry = cc in ap (λ (x : CasEntry). Some (Plain (instr.Cas x l))) same))
@@ -96,7 +96,7 @@ module _ (t : Plan) (s : Shared) (c : ℕ) (x : Caller) (plan : IsPlan t) (f : S
   TestsAgree entry a = succeeds entry x.entry.hand.registers (s.memory (word_of a)) ≡ caller_makes t.text s.source (Some x.source)
 
   -- an auxiliary exchange
-  cas_agrees : (entry : CasEntry) (l : ℕ) → x.entry.routine ≡ At → instr_in t.target x.entry ≡ Some (Plain (instr.Cas entry l)) → TestsAgree entry (exchange_wanted entry x.entry.hand.registers)
+  cas_agrees : (entry : CasEntry) (l : ℕ) → x.entry.routine ≡ At → instr_in t.target x.entry ≡ Some (Plain (instr.Cas entry l)) → TestsAgree entry (exchange_wanted t.target.fields entry x.entry.hand.registers)
   cas_agrees entry l at is =
       let run : CallerRuns t s c x (spot_of x.entry.hand) = subst (λ (r : Routine). HoldsAt t s c x r) at told.spot in
       let m : Trail t = run.0 in
@@ -122,7 +122,7 @@ module _ (t : Plan) (s : Shared) (c : ℕ) (x : Caller) (plan : IsPlan t) (f : S
       (source_place (code_in run.0.walk.method) l) entry s.source op (at_place run.0.walk.method plan.compiled x.entry.hand.at (Plain (instr.Cas entry l)) here).0)
 
   -- an exchange of the list
-  entry_agrees : (k : ℕ) (entry : CasEntry) → x.entry.routine ≡ InCoreList k → slice_get (list_of (instr_in t.target x.entry)) k ≡ Some entry → TestsAgree entry (exchange_wanted entry x.entry.hand.registers)
+  entry_agrees : (k : ℕ) (entry : CasEntry) → x.entry.routine ≡ InCoreList k → slice_get (list_of (instr_in t.target x.entry)) k ≡ Some entry → TestsAgree entry (exchange_wanted t.target.fields entry x.entry.hand.registers)
   entry_agrees k entry at one =
       let run : InExecutor t s c x k = subst (λ (r : Routine). HoldsAt t s c x r) at told.spot in
       let commit = list_there (instr_in t.target x.entry) k (slice_get_within (list_of (instr_in t.target x.entry)) k entry one) in
@@ -148,12 +148,12 @@ module _ (t : Plan) (s : Shared) (c : ℕ) (x : Caller) (plan : IsPlan t) (f : S
   by_routine : (r : Routine) (entry : CasEntry) (a : WordAccess) → x.entry.routine ≡ r → core_exchange t.target x.entry r ≡ Some entry → wanted t.target x.entry r ≡ Some a → TestsAgree entry a
   by_routine At entry a at is want =
       let there = cas_there (instr_in t.target x.entry) entry is in
-      let made : Some (exchange_wanted entry x.entry.hand.registers) ≡ Some a = sym (ap (λ (o : Option TargetInstr). instr_wanted x.entry.number o x.entry.hand.registers) there.1) ∙ want in
-      let same : exchange_wanted entry x.entry.hand.registers ≡ a = cc in
+      let made : Some (exchange_wanted t.target.fields entry x.entry.hand.registers) ≡ Some a = sym (ap (λ (o : Option TargetInstr). instr_wanted t.target.fields x.entry.number o x.entry.hand.registers) there.1) ∙ want in
+      let same : exchange_wanted t.target.fields entry x.entry.hand.registers ≡ a = cc in
       subst (TestsAgree entry) same (cas_agrees entry there.0 at there.1)
   by_routine (InCoreList k) entry a at is want =
-      let made : Some (exchange_wanted entry x.entry.hand.registers) ≡ Some a = sym (ap (λ (o : Option CasEntry). list_wanted o x.entry.hand.registers) is) ∙ want in
-      let same : exchange_wanted entry x.entry.hand.registers ≡ a = cc in
+      let made : Some (exchange_wanted t.target.fields entry x.entry.hand.registers) ≡ Some a = sym (ap (λ (o : Option CasEntry). list_wanted t.target.fields o x.entry.hand.registers) is) ∙ want in
+      let same : exchange_wanted t.target.fields entry x.entry.hand.registers ≡ a = cc in
       subst (TestsAgree entry) same (entry_agrees k entry at is)
   by_routine Idle entry a at is want = absurd (let z : None ≡ Some entry = is in cc)
   by_routine (LoadSeen why) entry a at is want = absurd (let z : None ≡ Some entry = is in cc)

@@ -5,6 +5,7 @@ use Rattle.norm_lang.specs.declared.text.Instr.{Instr}
 use Rattle.norm_lang.specs.declared.text.Instr.TheVariants as instr
 use Rattle.norm_lang.specs.declared.text.Op.{Op}
 use Rattle.norm_lang.specs.declared.text.Text.{Text}
+use Rattle.norm_lang.specs.declared.text.FieldDecl.{FieldDecl}
 use Rattle.target_code.specs.declared.target.Target.{Target}
 use Rattle.phase_pools.specs.Accesses.{WordAccess}
 use Rattle.source_machine.specs.declared.event.SourceReply.{SourceReply}
@@ -54,17 +55,17 @@ stand_exchange op (InList at entries made) = slice_get entries made
 stand_exchange op (InWrapUp at started accessed) = exchange_of (slice_get op.wrapup at)
 
 -- whether the exchange that the source's caller makes next succeeds
-abbrev pub exchange_makes : Memory → Performed → Option CasEntry → Bool
-exchange_makes memory here None = false
-exchange_makes memory here (Some x) = is_some (exchange x here.running.registers memory)
+abbrev pub exchange_makes : List FieldDecl → Memory → Performed → Option CasEntry → Bool
+exchange_makes fields memory here None = false
+exchange_makes fields memory here (Some x) = is_some (exchange fields x here.running.registers memory)
 
-abbrev pub performed_makes : Memory → Option Performed → Bool
-performed_makes memory None = false
-performed_makes memory (Some here) = exchange_makes memory here (stand_exchange here.op here.running.stand)
+abbrev pub performed_makes : List FieldDecl → Memory → Option Performed → Bool
+performed_makes fields memory None = false
+performed_makes fields memory (Some here) = exchange_makes fields memory here (stand_exchange here.op here.running.stand)
 
 abbrev pub caller_makes : Text → Memory → Option SourceCaller → Bool
 caller_makes text memory None = false
-caller_makes text memory (Some caller) = performed_makes memory (performed text caller)
+caller_makes text memory (Some caller) = performed_makes text.fields memory (performed text caller)
 
 abbrev pub source_makes : Text → SourceMachine → ℕ → Bool
 source_makes text machine c = caller_makes text machine.memory (slice_get machine.callers c)

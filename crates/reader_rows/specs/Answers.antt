@@ -111,7 +111,7 @@ needs_of true = record {
 abbrev pub AreFlaws : Needs → Bool → List TargetInstr → ℕ → TargetInstr → List Bool → Type 0
 AreFlaws needs wrapup code at i answers =
     (slice_get code at ≡ Some i)
-    × ((source : Op) (fields roots : ℕ) → IsOpWithin source → IsTrue (is_target_instr fields roots i) → AreNeeds source needs → AreFlawAnswers source wrapup code at i answers)
+    × ((source : Op) (kinds fields roots : ℕ) → IsOpWithin source → IsTrue (is_target_instr kinds fields roots i) → AreNeeds source needs → AreFlawAnswers source wrapup code at i answers)
 
 abbrev pub flaw_names : List (List ℕ)
 flaw_names = codes "unchecked" ∷ codes "unguarded" ∷ codes "late" ∷ codes "dropped" ∷ []

@@ -113,12 +113,12 @@ new_changes home calm d name here mirror null sized =
     reference_changes home (AsTrusted calm Unchecked) here mirror d (record { node = home name; marked = false }) (record { node = name; marked = false }) sized
     (λ r same now. put_stands home here mirror d (record { node = home name; marked = false }) (record { node = name; marked = false }) sized null (refl, refl) r same)
 
-new_follows : {target : Target} {text : Text} (walk : Walk target text) (home : ℕ → ℕ) (calm : Type 0) (path : List ℕ) (core : Spot) (mirror : Registers) (accessed : Bool) (caller : SourceCaller) (d c name : ℕ) (memory : Memory)
-    → IsCompiled target text → home 0 ≡ 0 → Follows walk home calm path core mirror accessed caller → slice_get (code_in walk.method) core.at ≡ Some (Plain (instr.New (Ref d))) → IsTrue (is_name true name memory.nodes)
+new_follows : {target : Target} {text : Text} (walk : Walk target text) (home : ℕ → ℕ) (calm : Type 0) (path : List ℕ) (core : Spot) (mirror : Registers) (accessed : Bool) (caller : SourceCaller) (d kind c name : ℕ) (memory : Memory)
+    → IsCompiled target text → home 0 ≡ 0 → Follows walk home calm path core mirror accessed caller → slice_get (code_in walk.method) core.at ≡ Some (Plain (instr.New (Ref d) kind)) → IsTrue (is_name true name memory.nodes)
     → AccessFollows walk home calm path core.at (record { at = core.at + 1; registers = with_reference core.registers (Ref d) (record { node = home name; marked = false }) })
-    mirror (with_reference mirror (Ref d) (record { node = name; marked = false })) (instr.New (Ref d)) name (events.Access c name) memory (access_by text name (instr.New (Ref d)) 0 mirror memory).memory caller
-new_follows walk home calm path core mirror accessed caller d c name memory compiled null f is named =
-    access_follows walk home calm path core _ mirror _ accessed caller c memory (instr.New (Ref d)) name name compiled (record {
+    mirror (with_reference mirror (Ref d) (record { node = name; marked = false })) (instr.New (Ref d) kind) name (events.Access c name) memory (access_by text name (instr.New (Ref d) kind) 0 mirror memory).memory caller
+new_follows walk home calm path core mirror accessed caller d kind c name memory compiled null f is named =
+    access_follows walk home calm path core _ mirror _ accessed caller c memory (instr.New (Ref d) kind) name name compiled (record {
       here = is;
       access = refl;
       named = named;
@@ -126,13 +126,13 @@ new_follows walk home calm path core mirror accessed caller d c name memory comp
       changes = new_changes home calm d name core.registers mirror null f.ahead.sized;
       known = λ trusted. absurd (let never : Unchecked ≡ Trusted = trusted in cc);
       gets = refl;
-      leads = ap (λ (k : ℕ). record { at = k; registers = with_reference mirror (Ref d) (record { node = name; marked = false }) }) (sym (at_place walk.method compiled core.at (Plain (instr.New (Ref d))) is).1);
+      leads = ap (λ (k : ℕ). record { at = k; registers = with_reference mirror (Ref d) (record { node = name; marked = false }) }) (sym (at_place walk.method compiled core.at (Plain (instr.New (Ref d) kind)) is).1);
     }) f
 
 pub new_nodes_are_followed : (calm : Type 0) → NewNodesAreFollowed calm
-new_nodes_are_followed calm target text compiled home null walk path core mirror accessed caller f (Ref d) is c name memory named = new_follows walk home calm path core mirror accessed caller d c name memory compiled null f is named
-new_nodes_are_followed calm target text compiled home null walk path core mirror accessed caller f (Num d) is c name memory named =
-    absurd (let never : true ≡ false = kind_right walk.method compiled core.at (instr.New (Num d)) is in cc)
+new_nodes_are_followed calm target text compiled home null walk path core mirror accessed caller f (Ref d) kind is c name memory named = new_follows walk home calm path core mirror accessed caller d kind c name memory compiled null f is named
+new_nodes_are_followed calm target text compiled home null walk path core mirror accessed caller f (Num d) kind is c name memory named =
+    absurd (let never : true ≡ false = kind_right walk.method compiled core.at (instr.New (Num d) kind) is in cc)
 
 -- ---- a put, and an auxiliary exchange
 
@@ -152,7 +152,7 @@ puts_are_followed calm target text compiled home walk path core mirror accessed 
 pub exchanges_are_followed : (calm : Type 0) → ExchangesAreFollowed calm
 exchanges_are_followed calm target text compiled home walk path core mirror accessed caller f entry l is c memory succeeds same =
     let next : Spot = record { at = if succeeds then core.at + 1 else l; registers = core.registers } in
-    subst (λ after. AccessFollows walk home calm path core.at next mirror mirror (instr.Cas entry l) 0 (events.Access c 0) memory after caller) (stays (exchange entry mirror memory))
+    subst (λ after. AccessFollows walk home calm path core.at next mirror mirror (instr.Cas entry l) 0 (events.Access c 0) memory after caller) (stays (exchange text.fields entry mirror memory))
     (access_follows walk home calm path core next mirror mirror accessed caller c memory (instr.Cas entry l) 0 0 compiled (record {
       here = is;
       access = refl;
@@ -161,7 +161,7 @@ exchanges_are_followed calm target text compiled home walk path core mirror acce
       changes = nothing_changes home (AsTrusted calm Trusted) core.registers mirror f.ahead.sized;
       known = λ trusted. inl refl;
       gets = refl;
-      leads = leads (exchange entry mirror memory) succeeds same (at_place walk.method compiled core.at (Plain (instr.Cas entry l)) is).1;
+      leads = leads (exchange text.fields entry mirror memory) succeeds same (at_place walk.method compiled core.at (Plain (instr.Cas entry l)) is).1;
     }) f)
   where
     goes : (b : Bool) → IsTrue (((core.at + 1) == (if b then core.at + 1 else l)) || ((l == (if b then core.at + 1 else l)) || false))

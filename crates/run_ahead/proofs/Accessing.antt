@@ -48,7 +48,7 @@ still_access place (instr.IfMarked a l) = refl
 still_access place i = sym (access_at_is i)
 
 new_at_is : (i : Instr) → is_new i ≡ is_new_at (Some i)
-new_at_is (instr.New d) = refl
+new_at_is (instr.New d kind) = refl
 new_at_is _ = refl
 
 pub still_new : (place : ℕ → ℕ) (i : Instr) → is_new_at (Some (redirected place i)) ≡ is_new i
@@ -59,7 +59,7 @@ pub not_local : (place : ℕ → ℕ) (i : Instr) (at : ℕ) (registers : Regist
 not_local place (instr.LoadRoot d x) at registers access = refl
 not_local place (instr.LoadPick d x n a) at registers access = refl
 not_local place (instr.LoadField d a f) at registers access = refl
-not_local place (instr.New d) at registers access = refl
+not_local place (instr.New d kind) at registers access = refl
 not_local place (instr.Put a f b) at registers access = refl
 not_local place (instr.Cas entry l) at registers access = refl
 not_local place _ at registers access = absurd (let no : false ≡ true = access in cc)

@@ -72,7 +72,7 @@ generator_inside (Some _) at = refl
 -- ---- a caller that gives up at a `new`
 
 is_access_new : (i : Option Instr) → IsTrue (is_new_at i) → IsTrue (is_access_at i)
-is_access_new (Some (instr.New d)) new = refl
+is_access_new (Some (instr.New d kind)) new = refl
 is_access_new _ new = absurd (let no : false ≡ true = new in cc)
 
 pub gives_up : (text : Text) (c : ℕ) (phase : Option ℕ) (op : Op) (started : Registers) (accessed : Bool) (call : Call) (there : Spot) (memory : Memory) → slice_get text.ops call.number ≡ Some op

@@ -83,13 +83,13 @@ in_generator : (op : Op) (wrapup : Bool) (started : Registers) (accessed : Bool)
 in_generator op wrapup started accessed call there is = ap (λ b. stands_at op b started accessed call there) is
 
 pub giving_up_is_followed : (calm : Type 0) → GivingUpIsFollowed calm
-giving_up_is_followed calm target text compiled home walk path core mirror accessed caller f d is c phase memory =
+giving_up_is_followed calm target text compiled home walk path core mirror accessed caller f d kind is c phase memory =
     let method = walk.method in
     let place = source_place (code_in method) in
     let spot : Spot = record { at = place core.at; registers = mirror } in
-    let generator = (new_is_passed_once target text compiled.normal compiled.barred.erases method path core.at d (record { leads = f.ahead.path_is; stands = is })).0 in
-    let here = at_place method compiled core.at (Plain (instr.New d)) is in
-    let there = stands_there method home calm path core mirror f.there (instr.New d) compiled is refl f.ahead in
+    let generator = (new_is_passed_once target text compiled.normal compiled.barred.erases method path core.at d kind (record { leads = f.ahead.path_is; stands = is })).0 in
+    let here = at_place method compiled core.at (Plain (instr.New d kind)) is in
+    let there = stands_there method home calm path core mirror f.there (instr.New d kind) compiled is refl f.ahead in
     let op : slice_get text.ops walk.call.number ≡ Some method.op = ap (slice_get text.ops) f.begun.number ∙ method.in_text in
     let new : IsTrue (is_new_at (slice_get method.op.generator (place core.at))) =
     subst (λ o. IsTrue (is_new_at o)) (sym (ap (λ b. slice_get (code_of method.op b) (place core.at)) (sym generator) ∙ here.0)) refl in

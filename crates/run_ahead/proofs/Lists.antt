@@ -39,7 +39,7 @@ commits_are_followed calm target text compiled home method call path core mirror
 
 list_access : (text : Text) (c : ℕ) (op : Op) (at : ℕ) (entries : List CasEntry) (made : ℕ) (registers : Registers) (call : Call) (memory : Memory) → slice_get text.ops call.number ≡ Some op
     → caller_turn text (events.Access c 0) memory (stands_in_list at entries made registers call)
-    ≡ entry_turn op at entries made (slice_get entries made) (running_at call registers (InList at entries made)) memory (stands_in_list at entries made registers call)
+    ≡ entry_turn text.fields op at entries made (slice_get entries made) (running_at call registers (InList at entries made)) memory (stands_in_list at entries made registers call)
 list_access text c op at entries made registers call memory is =
     ap (λ here. turn_of text (events.Access c 0) here memory (stands_in_list at entries made registers call)) (performs text op (running_at call registers (InList at entries made)) (caller_of call) is)
 
@@ -57,27 +57,27 @@ list_ends : (text : Text) (c : ℕ) (op : Op) (at : ℕ) (entries : List CasEntr
     → caller_turn text (events.Access c 0) memory (stands_in_list at entries made registers call) ≡ record { memory = memory; caller = wrap_up_after op made registers call }
 list_ends text c op at entries made registers call memory is none =
     list_access text c op at entries made registers call memory is
-    ∙ (ap (λ o. entry_turn op at entries made o (running_at call registers (InList at entries made)) memory (stands_in_list at entries made registers call)) none
+    ∙ (ap (λ o. entry_turn text.fields op at entries made o (running_at call registers (InList at entries made)) memory (stands_in_list at entries made registers call)) none
     ∙ ap (λ caller. record { memory = memory; caller = caller }) (wrap_up_begins op call made registers (InList at entries made)))
 
 -- an exchange that fails
 list_fails : (text : Text) (c : ℕ) (op : Op) (at : ℕ) (entries : List CasEntry) (made : ℕ) (registers : Registers) (call : Call) (memory : Memory) (entry : CasEntry) → slice_get text.ops call.number ≡ Some op
-    → slice_get entries made ≡ Some entry → exchange entry registers memory ≡ None
+    → slice_get entries made ≡ Some entry → exchange text.fields entry registers memory ≡ None
     → caller_turn text (events.Access c 0) memory (stands_in_list at entries made registers call) ≡ record { memory = memory; caller = wrap_up_after op made registers call }
 list_fails text c op at entries made registers call memory entry is there fails =
     list_access text c op at entries made registers call memory is
-    ∙ (ap (λ o. entry_turn op at entries made o (running_at call registers (InList at entries made)) memory (stands_in_list at entries made registers call)) there
+    ∙ (ap (λ o. entry_turn text.fields op at entries made o (running_at call registers (InList at entries made)) memory (stands_in_list at entries made registers call)) there
     ∙ (ap (λ o. list_turn op at entries made o (running_at call registers (InList at entries made)) memory (stands_in_list at entries made registers call)) fails
     ∙ ap (λ caller. record { memory = memory; caller = caller }) (wrap_up_begins op call made registers (InList at entries made))))
 
 -- one that succeeds: the next of the list, or the wrap-up
 list_succeeds : (text : Text) (c : ℕ) (op : Op) (at : ℕ) (entries : List CasEntry) (made : ℕ) (registers : Registers) (call : Call) (memory after : Memory) (entry : CasEntry) → slice_get text.ops call.number ≡ Some op
-    → slice_get entries made ≡ Some entry → exchange entry registers memory ≡ Some after
+    → slice_get entries made ≡ Some entry → exchange text.fields entry registers memory ≡ Some after
     → caller_turn text (events.Access c 0) memory (stands_in_list at entries made registers call)
     ≡ record { memory = after; caller = if nat_lt (made + 1) (length entries) then stands_in_list at entries (made + 1) registers call else wrap_up_after op (made + 1) registers call }
 list_succeeds text c op at entries made registers call memory after entry is there succeeds =
     list_access text c op at entries made registers call memory is
-    ∙ (ap (λ o. entry_turn op at entries made o (running_at call registers (InList at entries made)) memory (stands_in_list at entries made registers call)) there
+    ∙ (ap (λ o. entry_turn text.fields op at entries made o (running_at call registers (InList at entries made)) memory (stands_in_list at entries made registers call)) there
     ∙ (ap (λ o. list_turn op at entries made o (running_at call registers (InList at entries made)) memory (stands_in_list at entries made registers call)) succeeds
     ∙ ap (λ caller. record { memory = after; caller = if nat_lt (made + 1) (length entries) then stands_in_list at entries (made + 1) registers call else caller }) (wrap_up_begins op call (made + 1) registers (InList at entries made))))
 

@@ -26,7 +26,7 @@ pub local_trusts : (i : Instr) (at : ℕ) (registers : Registers) (next : Spot) 
 local_trusts (instr.LoadRoot d x) at registers next is = absurd (let no : None ≡ Some next = is in cc)
 local_trusts (instr.LoadPick d x n a) at registers next is = absurd (let no : None ≡ Some next = is in cc)
 local_trusts (instr.LoadField d a f) at registers next is = absurd (let no : None ≡ Some next = is in cc)
-local_trusts (instr.New d) at registers next is = absurd (let no : None ≡ Some next = is in cc)
+local_trusts (instr.New d kind) at registers next is = absurd (let no : None ≡ Some next = is in cc)
 local_trusts _ at registers next is = refl
 
 -- the source's instruction makes the step

@@ -51,7 +51,7 @@ walk_is_blank walk home begun generator r = ap (λ registers. node_in registers 
 -- ---- local code
 
 no_new : (i : Instr) (at : ℕ) (registers : Registers) (next : Spot) → local_step i at registers ≡ Some next → is_new i ≡ false
-no_new (instr.New d) at registers next is = absurd (let never : None ≡ Some next = is in cc)
+no_new (instr.New d kind) at registers next is = absurd (let never : None ≡ Some next = is in cc)
 no_new _ at registers next is = refl
 
 -- one local instruction

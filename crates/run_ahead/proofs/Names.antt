@@ -61,7 +61,7 @@ hoped_are_known target text method path started mirror got null a n (inr hopes) 
 -- ---- a wrap-up's kept guards
 
 no_new : {target : Target} {text : Text} (method : Method target text) → IsCompiled target text → IsTrue method.wrapup → (at : ℕ) (i : Instr) → slice_get (code_in method) at ≡ Some (Plain i) → is_new i ≡ false
-no_new method compiled wrapup at (instr.New d) is = absurd (keeps_at compiled.normal compiled.barred.erases method N3 at (instr.New d) is (inl wrapup))
+no_new method compiled wrapup at (instr.New d kind) is = absurd (keeps_at compiled.normal compiled.barred.erases method N3 at (instr.New d kind) is (inl wrapup))
 no_new method compiled wrapup at _ is = refl
 
 valid_still : (name : ℕ) (valid : Bool) → (valid ≡ true) ⊎ (name ≡ 0) → (not (name == 0) ≡ true) ⊎ (name ≡ 0)

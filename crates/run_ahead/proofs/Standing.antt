@@ -28,7 +28,7 @@ pub access_at_is : (i : Instr) → is_access i ≡ is_access_at (Some i)
 access_at_is (instr.LoadRoot d x) = refl
 access_at_is (instr.LoadPick d x n a) = refl
 access_at_is (instr.LoadField d a f) = refl
-access_at_is (instr.New d) = refl
+access_at_is (instr.New d kind) = refl
 access_at_is (instr.Put a f b) = refl
 access_at_is (instr.Cas entry l) = refl
 access_at_is _ = refl
@@ -61,7 +61,7 @@ generator_access None at access = refl
 generator_access (Some (instr.LoadRoot d x)) at access = refl
 generator_access (Some (instr.LoadPick d x n a)) at access = refl
 generator_access (Some (instr.LoadField d a f)) at access = refl
-generator_access (Some (instr.New d)) at access = refl
+generator_access (Some (instr.New d kind)) at access = refl
 generator_access (Some (instr.Put a f b)) at access = refl
 generator_access (Some (instr.Cas entry l)) at access = refl
 generator_access (Some (instr.Commit entries)) at access = absurd (let never : false ≡ true = access in cc)

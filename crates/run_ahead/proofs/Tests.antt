@@ -74,19 +74,19 @@ made_is true X x = refl
 made_is false X x = refl
 
 pub tests_agree : TestsAgree
-tests_agree home null entry here mirror memory found found' agree apart found_is values = by (has_null_object entry.place mirror) refl found_is
+tests_agree fields home null entry here mirror memory found found' agree apart found_is values = by (has_null_object entry.place mirror) refl found_is
   where
     object : has_null_object entry.place here ≡ has_null_object entry.place mirror
     object = object_agrees home null entry.place entry here mirror found' agree apart
 
-    by : (b : Bool) → has_null_object entry.place mirror ≡ b → found_at entry.place mirror memory ≡ (if b then None else Some found') → succeeds_on entry here found ≡ is_some (exchange entry mirror memory)
+    by : (b : Bool) → has_null_object entry.place mirror ≡ b → found_at fields entry.place mirror memory ≡ (if b then None else Some found') → succeeds_on entry here found ≡ is_some (exchange fields entry mirror memory)
     by true is finds =
-        ap (λ b. not b && same_value found (value_in here entry.expected)) (object ∙ is) ∙ sym (ap (λ o. is_some (exchange_on o entry mirror memory)) finds)
+        ap (λ b. not b && same_value found (value_in here entry.expected)) (object ∙ is) ∙ sym (ap (λ o. is_some (exchange_on fields o entry mirror memory)) finds)
     by false is finds =
         ap (λ b. not b && same_value found (value_in here entry.expected)) (object ∙ is)
         ∙ (values_agree home found found' here mirror entry.expected (values is) (agree entry.expected (expected_is_operand entry))
         (apart (name_in found') (name_in (value_in mirror entry.expected)) (inr (inl refl)) (compared entry mirror found' entry.expected (expected_is_operand entry)))
-        ∙ (sym (made_is (same_value found' (value_in mirror entry.expected)) Memory _) ∙ sym (ap (λ o. is_some (exchange_on o entry mirror memory)) finds)))
+        ∙ (sym (made_is (same_value found' (value_in mirror entry.expected)) Memory _) ∙ sym (ap (λ o. is_some (exchange_on fields o entry mirror memory)) finds)))
 
 -- ---- operands of a walk
 

@@ -5,7 +5,7 @@ use Rattle.std.proofs.lemmas.Option.{same_Some}
 use Rattle.norm_lang.specs.declared.text.Reg.{Reg}
 use Rattle.norm_lang.specs.declared.text.Reg.TheVariants.{Num, Ref}
 use Rattle.norm_lang.specs.declared.text.FieldKind.{FieldKind}
-use Rattle.norm_lang.specs.declared.text.FieldKind.TheVariants as kinds
+use Rattle.norm_lang.specs.declared.text.FieldKind.TheVariants as holdings
 use Rattle.norm_lang.specs.declared.text.Instr.{Instr}
 use Rattle.norm_lang.specs.declared.text.Instr.TheVariants as instr
 use Rattle.norm_lang.specs.declared.text.Text.{Text}
@@ -25,12 +25,12 @@ use Rattle.run_ahead.specs.Typed.{IsOfKind, IsRegisterFor, IsTyped}
 use Rattle.run_ahead.proofs.TypedMemory.{FindsFor, root_finds, field_finds, pick_finds}
 
 of_kind : (kind : FieldKind) (d : Reg) (v : Value) → IsRegisterFor kind d → IsOfKind kind v → IsValueFor d v
-of_kind kinds.Number (Num d) (Number n) register value = tt
-of_kind kinds.Number (Num d) (Node x) register value = absurd value
-of_kind kinds.Number (Ref d) v register value = absurd register
-of_kind kinds.Reference (Ref d) (Node x) register value = tt
-of_kind kinds.Reference (Ref d) (Number n) register value = absurd value
-of_kind kinds.Reference (Num d) v register value = absurd register
+of_kind holdings.Number (Num d) (Number n) register value = tt
+of_kind holdings.Number (Num d) (Node x) register value = absurd value
+of_kind holdings.Number (Ref d) v register value = absurd register
+of_kind (holdings.Reference k) (Ref d) (Node x) register value = tt
+of_kind (holdings.Reference k) (Ref d) (Number n) register value = absurd value
+of_kind (holdings.Reference k) (Num d) v register value = absurd register
 
 found_for : (o : Option FieldKind) (d : Reg) (v : Value) → FindsFor o d v → IsValueFor d v
 found_for o d v finds = of_kind finds.0 d v finds.2 finds.3

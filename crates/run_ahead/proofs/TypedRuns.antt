@@ -9,6 +9,7 @@ use Rattle.norm_lang.specs.declared.text.Instr.{Instr}
 use Rattle.norm_lang.specs.declared.text.Instr.TheVariants as instr
 use Rattle.norm_lang.specs.declared.text.Op.{Op}
 use Rattle.norm_lang.specs.declared.text.Text.{Text}
+use Rattle.norm_lang.specs.declared.text.FieldDecl.{FieldDecl}
 use Rattle.norm_lang.specs.declared.registers.Registers.{Registers}
 use Rattle.norm_lang.specs.Registers.{first_registers}
 use Rattle.norm_lang.specs.InstructionRules.{has_wrong_kind, has_wrong_operand}
@@ -93,10 +94,10 @@ list_runs : (op : Op) (number at : ℕ) (entries : List CasEntry) (made : ℕ) (
 list_runs op number at entries made None running memory caller is commits = wrap_up_runs op number false _ _ caller is tt
 list_runs op number at entries made (Some after) running memory caller is commits = next_runs op number at entries (made + 1) running caller is commits
 
-entry_runs : (op : Op) (number at : ℕ) (entries : List CasEntry) (made : ℕ) (o : Option CasEntry) (running : Running) (memory : Memory) (caller : SourceCaller) → running.op ≡ number → slice_get op.generator at ≡ Some (instr.Commit entries)
-    → RunsOp op number (entry_turn op at entries made o running memory caller).caller.running
-entry_runs op number at entries made None running memory caller is commits = wrap_up_runs op number false _ _ caller is tt
-entry_runs op number at entries made (Some entry) running memory caller is commits = list_runs op number at entries made (exchange entry running.registers memory) running memory caller is commits
+entry_runs : (fields : List FieldDecl) (op : Op) (number at : ℕ) (entries : List CasEntry) (made : ℕ) (o : Option CasEntry) (running : Running) (memory : Memory) (caller : SourceCaller) → running.op ≡ number → slice_get op.generator at ≡ Some (instr.Commit entries)
+    → RunsOp op number (entry_turn fields op at entries made o running memory caller).caller.running
+entry_runs fields op number at entries made None running memory caller is commits = wrap_up_runs op number false _ _ caller is tt
+entry_runs fields op number at entries made (Some entry) running memory caller is commits = list_runs op number at entries made (exchange fields entry running.registers memory) running memory caller is commits
 
 wrapped_runs : (op : Op) (number : ℕ) (b : Bool) (started : Registers) (i : Option Instr) (reached : Reached) (running : Running) (memory : Memory) (caller : SourceCaller) → running.op ≡ number → IsAtCommit op running.stand
     → RunsOp op number (wrap_up_turn b op started i reached running memory caller).caller.running
@@ -106,7 +107,7 @@ wrapped_runs op number false started i reached running memory caller is stands =
 access_runs : (text : Text) (name : ℕ) (op : Op) (number : ℕ) (stand : Stand) (running : Running) (memory : Memory) (caller : SourceCaller) → running.op ≡ number → running.stand ≡ stand → IsAtCommit op stand
     → RunsOp op number (access_turn text name op stand running memory caller).caller.running
 access_runs text name op number (InGenerator at) running memory caller is same stands = (is, generator_runs op _ _ refl)
-access_runs text name op number (InList at entries made) running memory caller is same stands = entry_runs op number at entries made (slice_get entries made) running memory caller is stands
+access_runs text name op number (InList at entries made) running memory caller is same stands = entry_runs text.fields op number at entries made (slice_get entries made) running memory caller is stands
 access_runs text name op number (InWrapUp at started accessed) running memory caller is same stands =
     wrapped_runs op number (is_access_at (slice_get op.wrapup at)) started (slice_get op.wrapup at) _ running memory caller is (subst (IsAtCommit op) (sym same) tt)
 
@@ -129,15 +130,15 @@ running_runs text (GiveUp c phase) here memory caller is runs stands = tt
 kind_at : (text : Text) → IsNormal text → (number : ℕ) (op : Op) (wrapup : Bool) (at : ℕ) (i : Instr) → slice_get text.ops number ≡ Some op → slice_get (code_of op wrapup) at ≡ Some i → has_wrong_kind text.fields text.roots i ≡ false
 kind_at text normal number op wrapup at i is there = refuted _ (keeps_rule text N1 number op wrapup at i normal is there)
 
-exchanged_typed : (text : Text) (entry : CasEntry) (registers : Registers) (memory : Memory) (at l : ℕ) (o : Option Memory) → exchange entry registers memory ≡ o → has_wrong_operand text.fields text.roots entry ≡ false → IsTyped text memory
+exchanged_typed : (text : Text) (entry : CasEntry) (registers : Registers) (memory : Memory) (at l : ℕ) (o : Option Memory) → exchange text.fields entry registers memory ≡ o → has_wrong_operand text.fields text.roots entry ≡ false → IsTyped text memory
     → IsTyped text (auxiliary o memory at l registers).memory
 exchanged_typed text entry registers memory at l None is right typed = typed
 exchanged_typed text entry registers memory at l (Some after) is right typed = exchange_typed text entry registers memory after right is typed
 
 access_by_typed : (text : Text) (name : ℕ) (i : Instr) (at : ℕ) (registers : Registers) (memory : Memory) → has_wrong_kind text.fields text.roots i ≡ false → IsTyped text memory → IsTyped text (access_by text name i at registers memory).memory
-access_by_typed text name (instr.New d) at registers memory right typed = new_typed text name at d registers memory typed
+access_by_typed text name (instr.New d kind) at registers memory right typed = new_typed text name at d kind registers memory typed
 access_by_typed text name (instr.Put a f b) at registers memory right typed = put_typed text name at a b f registers memory right typed
-access_by_typed text name (instr.Cas entry l) at registers memory right typed = exchanged_typed text entry registers memory at l (exchange entry registers memory) refl right typed
+access_by_typed text name (instr.Cas entry l) at registers memory right typed = exchanged_typed text entry registers memory at l (exchange text.fields entry registers memory) refl right typed
 access_by_typed text name _ at registers memory right typed = typed
 
 access_at_typed : (text : Text) → IsNormal text → (name number : ℕ) (op : Op) (wrapup : Bool) (at : ℕ) (registers : Registers) (memory : Memory) → slice_get text.ops number ≡ Some op → IsTyped text memory
@@ -155,11 +156,11 @@ none_passes test (y ∷ xs) zero x none is = ap test (sym (same_Some y x is)) �
 none_passes test (y ∷ xs) (suc k) x none is = none_passes test xs k x (or_parts (test y) (list_any test xs) none).1 is
 
 entry_typed : (text : Text) (op : Op) (at : ℕ) (entries : List CasEntry) (made : ℕ) (o : Option CasEntry) (running : Running) (memory : Memory) (caller : SourceCaller) → slice_get entries made ≡ o
-    → has_wrong_kind text.fields text.roots (instr.Commit entries) ≡ false → IsTyped text memory → IsTyped text (entry_turn op at entries made o running memory caller).memory
+    → has_wrong_kind text.fields text.roots (instr.Commit entries) ≡ false → IsTyped text memory → IsTyped text (entry_turn text.fields op at entries made o running memory caller).memory
 entry_typed text op at entries made None running memory caller there right typed = typed
-entry_typed text op at entries made (Some entry) running memory caller there right typed = by (exchange entry running.registers memory) refl
+entry_typed text op at entries made (Some entry) running memory caller there right typed = by (exchange text.fields entry running.registers memory) refl
   where
-    by : (o : Option Memory) → exchange entry running.registers memory ≡ o → IsTyped text (list_turn op at entries made o running memory caller).memory
+    by : (o : Option Memory) → exchange text.fields entry running.registers memory ≡ o → IsTyped text (list_turn op at entries made o running memory caller).memory
     by None is = typed
     by (Some after) is = exchange_typed text entry running.registers memory after (none_passes (has_wrong_operand text.fields text.roots) entries made entry right there) is typed
 

@@ -8,6 +8,7 @@ use Rattle.norm_lang.specs.declared.text.Instr.TheVariants as instr
 use Rattle.norm_lang.specs.declared.text.Op.{Op}
 use Rattle.norm_lang.specs.declared.text.Text.{Text}
 use Rattle.norm_lang.specs.declared.registers.Registers.{Registers}
+use Rattle.norm_lang.specs.LineWords.{item_kind}
 use Rattle.norm_lang.specs.Local.{local_step}
 use Rattle.norm_lang.specs.Registers.{are_equal, first_registers}
 use Rattle.source_machine.specs.declared.event.SourceEvent.TheVariants.{Access, Restart}
@@ -56,7 +57,7 @@ linked = record { nodes = record { name = 3; values = Node (record { node = 5; m
 object_agrees : Agree lost (two 0 5) (two 3 5) (Ref 0)
 object_agrees = (refl, refl)
 
-seems_null : (succeeds_on swap (two 0 5) (Node (record { node = 5; marked = false })) ≡ false) × (is_some (exchange swap (two 3 5) linked) ≡ true)
+seems_null : (succeeds_on swap (two 0 5) (Node (record { node = 5; marked = false })) ≡ false) × (is_some (exchange [] swap (two 3 5) linked) ≡ true)
 seems_null = (refl, refl)
 
 -- with a slot of its own the exchange succeeds on both sides
@@ -87,7 +88,7 @@ published_name = (refl, refl, refl)
 validated_name : ((guards_after Check (two 3 4) guarded).name 1 ≡ 4) × ((guards_after Check (two 3 4) guarded).valid 1 ≡ true) × ((guards_after Check (two 3 4) guarded).valid 0 ≡ false)
 validated_name = (refl, refl, refl)
 
-cleared_name : (guards_after (Plain (instr.New (Ref 0))) (two 3 4) guarded).name 1 ≡ 0
+cleared_name : (guards_after (Plain (instr.New (Ref 0) 0)) (two 3 4) guarded).name 1 ≡ 0
 cleared_name = refl
 
 -- ---- restarts of a wrap-up
@@ -101,7 +102,7 @@ abbrev looks : Op
 looks = record { name = codes "look"; args = 0; generator = instr.Commit [] ∷ []; wrapup = instr.LoadRoot (Num 0) 0 ∷ instr.Return (Num 0) ∷ [] }
 
 abbrev both : Text
-both = record { fields = []; roots = []; nodes = []; ops = idle ∷ looks ∷ [] }
+both = record { kinds = item_kind ∷ []; fields = []; roots = []; nodes = []; ops = idle ∷ looks ∷ [] }
 
 abbrev call : ℕ → Call
 call number = record { number = number; args = []; replies = [] }

@@ -9,6 +9,7 @@ use Rattle.norm_lang.specs.declared.text.CasEntry.{CasEntry}
 use Rattle.norm_lang.specs.declared.text.Instr.{Instr}
 use Rattle.norm_lang.specs.declared.text.Instr.TheVariants as instr
 use Rattle.norm_lang.specs.declared.text.Text.{Text}
+use Rattle.norm_lang.specs.declared.text.FieldDecl.{FieldDecl}
 use Rattle.norm_lang.specs.declared.registers.Registers.{Registers}
 use Rattle.norm_lang.specs.Local.{Spot}
 use Rattle.norm_lang.specs.Registers.{reference_in, with_reference}
@@ -61,9 +62,9 @@ abbrev pub NewNodesAreFollowed : Type 0 → Type 0
 NewNodesAreFollowed calm =
     (target : Target) (text : Text) → IsCompiled target text → (home : ℕ → ℕ) → home 0 ≡ 0
     → (walk : Walk target text) (path : List ℕ) (core : Spot) (mirror : Registers) (accessed : Bool) (caller : SourceCaller) → Follows walk home calm path core mirror accessed caller
-    → (d : Reg) → slice_get (code_in walk.method) core.at ≡ Some (Plain (instr.New d)) → (c name : ℕ) (memory : Memory) → IsTrue (is_name true name memory.nodes)
+    → (d : Reg) (kind : ℕ) → slice_get (code_in walk.method) core.at ≡ Some (Plain (instr.New d kind)) → (c name : ℕ) (memory : Memory) → IsTrue (is_name true name memory.nodes)
     → AccessFollows walk home calm path core.at (record { at = core.at + 1; registers = with_reference core.registers d (record { node = home name; marked = false }) })
-    mirror (with_reference mirror d (record { node = name; marked = false })) (instr.New d) name (events.Access c name) memory (access_by text name (instr.New d) 0 mirror memory).memory caller
+    mirror (with_reference mirror d (record { node = name; marked = false })) (instr.New d kind) name (events.Access c name) memory (access_by text name (instr.New d kind) 0 mirror memory).memory caller
 
 -- a put
 abbrev pub PutsAreFollowed : Type 0 → Type 0
@@ -80,9 +81,9 @@ ExchangesAreFollowed calm =
     (target : Target) (text : Text) → IsCompiled target text → (home : ℕ → ℕ)
     → (walk : Walk target text) (path : List ℕ) (core : Spot) (mirror : Registers) (accessed : Bool) (caller : SourceCaller) → Follows walk home calm path core mirror accessed caller
     → (entry : CasEntry) (l : ℕ) → slice_get (code_in walk.method) core.at ≡ Some (Plain (instr.Cas entry l))
-    → (c : ℕ) (memory : Memory) (succeeds : Bool) → succeeds ≡ is_some (exchange entry mirror memory)
+    → (c : ℕ) (memory : Memory) (succeeds : Bool) → succeeds ≡ is_some (exchange text.fields entry mirror memory)
     → AccessFollows walk home calm path core.at (record { at = if succeeds then core.at + 1 else l; registers = core.registers }) mirror mirror
-    (instr.Cas entry l) 0 (events.Access c 0) memory (unwrap_or (exchange entry mirror memory) memory) caller
+    (instr.Cas entry l) 0 (events.Access c 0) memory (unwrap_or (exchange text.fields entry mirror memory) memory) caller
 
 -- ---- the test of an exchange
 
@@ -103,11 +104,11 @@ IsCompared entry mirror found n = (n ≡ 0) ⊎ ((n ≡ name_in found) ⊎ ((r :
 -- different homes, and unless its object is null both sides find what agrees
 abbrev pub TestsAgree : Type 0
 TestsAgree =
-    (home : ℕ → ℕ) → home 0 ≡ 0 → (entry : CasEntry) (here mirror : Registers) (memory : Memory) (found found' : Value)
+    (fields : List FieldDecl) (home : ℕ → ℕ) → home 0 ≡ 0 → (entry : CasEntry) (here mirror : Registers) (memory : Memory) (found found' : Value)
     → ((r : Reg) → IsTrue (list_any (same_register r) (operands_of entry)) → Agree home here mirror r) → AreApart home (IsCompared entry mirror found')
-    → found_at entry.place mirror memory ≡ (if has_null_object entry.place mirror then None else Some found')
+    → found_at fields entry.place mirror memory ≡ (if has_null_object entry.place mirror then None else Some found')
     → (has_null_object entry.place mirror ≡ false → ValuesAgree home found found')
-    → succeeds_on entry here found ≡ is_some (exchange entry mirror memory)
+    → succeeds_on entry here found ≡ is_some (exchange fields entry mirror memory)
 
 -- what one exchange of an instruction reads is the same on both sides, its register to retire too, and each reference among its
 -- operands is under a validated guard, or null

@@ -58,9 +58,9 @@ CommitsAreFollowed calm =
 pub record ListTurns (text : Text) (c : ℕ) (op : Op) (at : ℕ) (entries : List CasEntry) (made : ℕ) (registers : Registers) (call : Call) (memory : Memory) : Type 0 where
   pub ends : slice_get entries made ≡ None
       → Turns text (events.Access c 0) memory (stands_in_list at entries made registers call) (record { memory = memory; caller = wrap_up_after op made registers call })
-  pub fails : (entry : CasEntry) → slice_get entries made ≡ Some entry → exchange entry registers memory ≡ None
+  pub fails : (entry : CasEntry) → slice_get entries made ≡ Some entry → exchange text.fields entry registers memory ≡ None
       → Turns text (events.Access c 0) memory (stands_in_list at entries made registers call) (record { memory = memory; caller = wrap_up_after op made registers call })
-  pub succeeds : (entry : CasEntry) (after : Memory) → slice_get entries made ≡ Some entry → exchange entry registers memory ≡ Some after
+  pub succeeds : (entry : CasEntry) (after : Memory) → slice_get entries made ≡ Some entry → exchange text.fields entry registers memory ≡ Some after
       → Turns text (events.Access c 0) memory (stands_in_list at entries made registers call)
       (record { memory = after; caller = if nat_lt (made + 1) (length entries) then stands_in_list at entries (made + 1) registers call else wrap_up_after op (made + 1) registers call })
 
@@ -130,5 +130,5 @@ abbrev pub GivingUpIsFollowed : Type 0 → Type 0
 GivingUpIsFollowed calm =
     (target : Target) (text : Text) → IsCompiled target text → (home : ℕ → ℕ)
     → (walk : Walk target text) (path : List ℕ) (core : Spot) (mirror : Registers) (accessed : Bool) (caller : SourceCaller) → Follows walk home calm path core mirror accessed caller
-    → (d : Reg) → slice_get (code_in walk.method) core.at ≡ Some (Plain (instr.New d)) → (c : ℕ) (phase : Option ℕ) (memory : Memory)
+    → (d : Reg) (kind : ℕ) → slice_get (code_in walk.method) core.at ≡ Some (Plain (instr.New d kind)) → (c : ℕ) (phase : Option ℕ) (memory : Memory)
     → Turns text (events.GiveUp c phase) memory caller (record { memory = memory; caller = replied (give_up_reply phase) (caller_of walk.call) })

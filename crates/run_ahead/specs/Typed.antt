@@ -3,7 +3,7 @@ use Rattle.std.specs.Prelude.{List, [], ◌∷◌, map}
 use Rattle.norm_lang.specs.declared.text.Reg.{Reg}
 use Rattle.norm_lang.specs.declared.text.Reg.TheVariants.{Num, Ref}
 use Rattle.norm_lang.specs.declared.text.FieldKind.{FieldKind}
-use Rattle.norm_lang.specs.declared.text.FieldKind.TheVariants as kinds
+use Rattle.norm_lang.specs.declared.text.FieldKind.TheVariants as holdings
 use Rattle.norm_lang.specs.declared.text.Text.{Text}
 use Rattle.source_machine.specs.declared.state.Value.{Value}
 use Rattle.source_machine.specs.declared.state.Value.TheVariants.{Number, Node}
@@ -12,8 +12,8 @@ use Rattle.source_machine.specs.declared.state.Memory.{Memory}
 
 -- a value of a kind
 abbrev pub IsOfKind : FieldKind → Value → Type 0
-IsOfKind kinds.Number (Number n) = Unit {0}
-IsOfKind kinds.Reference (Node x) = Unit {0}
+IsOfKind holdings.Number (Number n) = Unit {0}
+IsOfKind (holdings.Reference k) (Node x) = Unit {0}
 IsOfKind _ _ = ⊥
 
 -- one value of its kind for each
@@ -24,8 +24,8 @@ AreOfKinds _ _ = ⊥
 
 -- a register for values of a kind
 abbrev pub IsRegisterFor : FieldKind → Reg → Type 0
-IsRegisterFor kinds.Number (Num r) = Unit {0}
-IsRegisterFor kinds.Reference (Ref r) = Unit {0}
+IsRegisterFor holdings.Number (Num r) = Unit {0}
+IsRegisterFor (holdings.Reference k) (Ref r) = Unit {0}
 IsRegisterFor _ _ = ⊥
 
 abbrev pub field_kinds : Text → List FieldKind

@@ -1,11 +1,12 @@
 -- Runs of the core worked out by hand: their images and the slots of their names, computed from the definitions.
 use Rattle.std.specs.Prelude.{◌≡◌, ℕ, zero, suc, Bool, true, false, List, [], ◌∷◌, ◌++◌, map, Option, Some, None, codes, refl, slice_get}
 use Rattle.norm_lang.specs.declared.text.Reg.TheVariants.{Num, Ref}
-use Rattle.norm_lang.specs.declared.text.FieldKind.TheVariants as kinds
+use Rattle.norm_lang.specs.declared.text.FieldKind.TheVariants as holdings
 use Rattle.norm_lang.specs.declared.text.Start.TheVariants as starts
 use Rattle.norm_lang.specs.declared.text.Place.TheVariants as places
 use Rattle.norm_lang.specs.declared.text.Instr.TheVariants.{Set, Add, LoadRoot, LoadField, New, Put, IfEq, Commit, Return, Again}
 use Rattle.norm_lang.specs.declared.text.Text.{Text}
+use Rattle.norm_lang.specs.LineWords.{item_kind}
 use Rattle.target_code.specs.declared.target.TargetInstr.TheVariants.{Plain, Check, Guard}
 use Rattle.target_code.specs.declared.target.Target.{Target}
 use Rattle.target_code.specs.declared.target.TargetOp.{TargetOp}
@@ -39,7 +40,7 @@ one_after_another zero target setting calls state = []
 one_after_another (suc n) target setting calls state = chosen (one_after_another n target setting) target setting (idles (slice_get state.entries 0)) calls state
 
 abbrev erased : Target → Text
-erased target = record { fields = target.fields; roots = target.roots; nodes = target.nodes; ops = map erased_op target.ops }
+erased target = record { kinds = target.kinds; fields = target.fields; roots = target.roots; nodes = target.nodes; ops = map erased_op target.ops }
 
 -- caller 0 alone
 abbrev alone : Target → Setting → List Call → Shadow
@@ -70,8 +71,9 @@ look = record {
 counter : Target
 unfolding add look
 counter = record {
-  fields = record { name = codes "pad"; kind = kinds.Number } ∷ [];
-  roots = record { name = codes "total"; kind = kinds.Number; start = starts.Value 0 } ∷ [];
+  kinds = item_kind ∷ [];
+  fields = record { owner = 0; name = codes "pad"; kind = holdings.Number } ∷ [];
+  roots = record { name = codes "total"; kind = holdings.Number; start = starts.Value 0 } ∷ [];
   nodes = [];
   ops = add ∷ look ∷ [];
 }
@@ -99,7 +101,7 @@ inserts = record {
   name = codes "insert";
   args = 1;
   generator =
-      Plain (New (Ref 1))
+      Plain (New (Ref 1) 0)
       ∷ Plain (Put (Ref 1) 0 (Num 0))
       ∷ Plain (LoadRoot (Ref 0) 0)
       ∷ Plain (Put (Ref 1) 1 (Ref 0))
@@ -126,8 +128,9 @@ removes = record {
 listed : Target
 unfolding inserts removes
 listed = record {
-  fields = record { name = codes "key"; kind = kinds.Number } ∷ record { name = codes "next"; kind = kinds.Reference } ∷ [];
-  roots = record { name = codes "head"; kind = kinds.Reference; start = starts.Node 0 } ∷ [];
+  kinds = item_kind ∷ [];
+  fields = record { owner = 0; name = codes "key"; kind = holdings.Number } ∷ record { owner = 0; name = codes "next"; kind = holdings.Reference 0 } ∷ [];
+  roots = record { name = codes "head"; kind = holdings.Reference 0; start = starts.Node 0 } ∷ [];
   nodes = [];
   ops = inserts ∷ removes ∷ [];
 }

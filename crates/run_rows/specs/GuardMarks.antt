@@ -3,6 +3,7 @@
 -- stores the slot again.
 use Rattle.std.specs.Prelude.{◌≡◌, ℕ, true, false, List, [], ◌∷◌, ◌++◌, Option, Some, codes, option_map}
 use Rattle.norm_lang.specs.declared.text.Instr.TheVariants.{Mov, LoadRoot, IfEq, Commit, Return}
+use Rattle.norm_lang.specs.LineWords.{item_kind}
 use Rattle.norm_lang.specs.Shipped.{number_field, reference_root}
 use Rattle.target_code.specs.declared.target.Target.{Target}
 use Rattle.target_code.specs.declared.target.TargetInstr.TheVariants.{Plain, Check, Guard}
@@ -55,7 +56,7 @@ copies = record {
 }
 
 abbrev pub copying : Target
-copying = record { fields = number_field (codes "v") ∷ []; roots = reference_root (codes "head") 1 ∷ []; nodes = number_node 7 ∷ []; ops = copies ∷ [] }
+copying = record { kinds = item_kind ∷ []; fields = number_field (codes "v") ∷ []; roots = reference_root (codes "head") 1 ∷ []; nodes = number_node 7 ∷ []; ops = copies ∷ [] }
 
 abbrev pub alone : Setting
 alone = setting_of 1 1 1 1 1 9
@@ -109,6 +110,7 @@ repeats = record {
 -- the roots start at the nodes in slots 1 and 2
 abbrev pub repeating : Target
 repeating = record {
+  kinds = item_kind ∷ [];
   fields = number_field (codes "v") ∷ [];
   roots = reference_root (codes "head") 1 ∷ reference_root (codes "tail") 2 ∷ [];
   nodes = number_node 7 ∷ number_node 8 ∷ [];

@@ -3,7 +3,7 @@ use Rattle.std.proofs.Common.{◌<◌, ◌^◌, ◌&&◌, length, arith}
 use Rattle.std.proofs.lemmas.Bool.Decides.{nat_tests}
 use Rattle.std.specs.Prelude.{nat_le, IsTrue}
 use Rattle.norm_lang.specs.declared.text.Text.{Text}
-use Rattle.norm_lang.specs.Limits.{IsWithinLimits, has_between, are_fields, are_nodes, are_roots, are_ops}
+use Rattle.norm_lang.specs.Limits.{IsWithinLimits, has_between, are_kinds, are_fields, are_nodes, are_roots, are_ops}
 use Rattle.norm_paths.proofs.Within.{and_left, and_right}
 use Rattle.norm_check.proofs.Tables.{few_ops as sixteen_ops}
 
@@ -12,9 +12,10 @@ few_ops text within = omega (arith, sixteen_ops text within)
 
 pub few_nodes : (text : Text) → IsWithinLimits text → length text.nodes < 2 ^ 32
 few_nodes text within =
-    let ops = are_ops (length text.fields) (length text.roots) text.ops in
+    let ops = are_ops (length text.kinds) (length text.fields) (length text.roots) text.ops in
     let roots = are_roots (length text.nodes) text.roots in
     let nodes = are_nodes text.fields text.nodes in
-    let between = and_left nodes (roots && ops) (and_right (are_fields text.fields) (nodes && (roots && ops)) within) in
+    let fields = are_fields text.fields in
+    let between = and_left nodes (roots && ops) (and_right fields (nodes && (roots && ops)) (and_right (are_kinds text.kinds) (fields && (nodes && (roots && ops))) within)) in
     let most : IsTrue (nat_le (length text.nodes) 256) = and_right (nat_le 0 (length text.nodes)) (nat_le (length text.nodes) 256) (and_left (has_between 0 256 text.nodes) _ between) in
     grind (arith, nat_tests)

@@ -46,7 +46,7 @@ PlainCarries Holds at registers (instr.LoadPick d x n a) = (word : ℕ) → Hold
 PlainCarries Holds at registers (instr.LoadField d a f) = (word : ℕ) → Holds (at + 1) (with_word registers d word)
 PlainCarries Holds at registers (instr.Put a f b) = Holds (at + 1) registers
 PlainCarries Holds at registers (instr.Cas exchange l) = Holds (at + 1) registers × Holds l registers
-PlainCarries Holds at registers (instr.New d) = ⊥
+PlainCarries Holds at registers (instr.New d kind) = ⊥
 PlainCarries Holds at registers (instr.Commit exchanges) = ⊥
 PlainCarries Holds at registers instr.Again = ⊥
 PlainCarries Holds at registers i = (next : Spot) → local_step i at registers ≡ Some next → Holds next.at next.registers
@@ -139,7 +139,7 @@ module _ (Holds : ℕ → Registers → Type 0) where
   plain_carries (instr.LoadField d a f) at registers next carries is = absurd (let z : None ≡ Some next = is in cc)
   plain_carries (instr.Put a f b) at registers next carries is = absurd (let z : None ≡ Some next = is in cc)
   plain_carries (instr.Cas exchange l) at registers next carries is = absurd (let z : None ≡ Some next = is in cc)
-  plain_carries (instr.New d) at registers next carries is = absurd carries
+  plain_carries (instr.New d kind) at registers next carries is = absurd carries
   plain_carries (instr.Commit exchanges) at registers next carries is = absurd carries
   plain_carries instr.Again at registers next carries is = absurd carries
 
@@ -186,7 +186,7 @@ module _ (target : Target) (sizes : Sizes) (Holds : ℕ → ℕ → Registers �
   ended_settles made e eight some = cleared_settles clears.WrapUp (with_hand e (wrap_up_hand made e.hand)) (refl, count_in e.hand.registers made eight some)
 
   plain_settles : (i : Instr) (e : Entry) → InWrapUp e.hand → HoldsIn e e.hand.at e.hand.registers → PlainCarries (HoldsIn e) e.hand.at e.hand.registers i → Settled (plain_stop target sizes i e).entry
-  plain_settles (instr.New d) e wraps holds carried = absurd carried
+  plain_settles (instr.New d kind) e wraps holds carried = absurd carried
   plain_settles (instr.Commit exchanges) e wraps holds carried = absurd carried
   plain_settles (instr.Return a) e wraps holds carried = cleared_settles (clears.Reply (replies.Number (number_in e.hand.registers a))) e tt
   plain_settles instr.ReturnNone e wraps holds carried = cleared_settles (clears.Reply replies.Nothing) e tt
@@ -285,7 +285,7 @@ module _ (target : Target) (sizes : Sizes) (Holds : ℕ → ℕ → Registers �
   accepted_plain (instr.IfEq a b l) word e eight is wraps holds carried = same e At is (wraps, holds)
   accepted_plain (instr.IfLess a b l) word e eight is wraps holds carried = same e At is (wraps, holds)
   accepted_plain (instr.IfMarked a l) word e eight is wraps holds carried = same e At is (wraps, holds)
-  accepted_plain (instr.New d) word e eight is wraps holds carried = same e At is (wraps, holds)
+  accepted_plain (instr.New d kind) word e eight is wraps holds carried = same e At is (wraps, holds)
   accepted_plain (instr.Commit exchanges) word e eight is wraps holds carried = same e At is (wraps, holds)
   accepted_plain (instr.Return a) word e eight is wraps holds carried = same e At is (wraps, holds)
   accepted_plain instr.ReturnNone word e eight is wraps holds carried = same e At is (wraps, holds)

@@ -1,14 +1,11 @@
 -- The code of an entry's method is that of its method run.
-use Rattle.std.proofs.Common.{ℕ, zero, suc, ◌≡◌, Bool, true, false, Option, Some, None, List, sym, ap, ◌∙◌, refl}
+use Rattle.std.proofs.Common.{ℕ, zero, suc, ◌≡◌, Bool, false, Option, Some, List, sym, ap, ◌∙◌, refl}
 use Rattle.std.specs.Prelude.{slice_get}
-use Rattle.norm_lang.specs.declared.text.Reg.{Reg}
-use Rattle.norm_lang.specs.declared.text.Instr.TheVariants as instr
 use Rattle.norm_lang.specs.Local.{Spot}
 use Rattle.target_code.specs.declared.target.TargetInstr.{TargetInstr}
-use Rattle.target_code.specs.declared.target.TargetInstr.TheVariants.{Plain, Check, Guard}
 use Rattle.target_code.specs.declared.target.TargetOp.{TargetOp}
 use Rattle.caller_steps.specs.Entries.{op_of, instr_in, code_in as core_code}
-use Rattle.caller_parts.specs.Operands.{method_code, is_new_at}
+use Rattle.caller_parts.specs.Operands.{method_code}
 use Rattle.target_laws.specs.Methods.{code_in}
 use Rattle.norm_lang.specs.Registers.{first_registers}
 use Rattle.norm_lang.specs.declared.text.Text.{Text}
@@ -26,13 +23,6 @@ code_is t s d x core m w =
 
 pub instr_is : (t : Plan) (s : Shared) (d : ℕ) (x : Caller) (core : Spot) (m : Trail t) → Walks t s d x core m → instr_in t.target x.entry ≡ slice_get (code_in m.walk.method) x.entry.hand.at
 instr_is t s d x core m w = ap (λ (code : List TargetInstr). slice_get code x.entry.hand.at) (code_is t s d x core m w)
-
-pub new_there : (o : Option TargetInstr) → is_new_at o ≡ true → (d : Reg) × (o ≡ Some (Plain (instr.New d)))
-new_there None is = absurd (let z : false ≡ true = is in cc)
-new_there (Some Check) is = absurd (let z : false ≡ true = is in cc)
-new_there (Some (Guard r)) is = absurd (let z : false ≡ true = is in cc)
-new_there (Some (Plain (instr.New d))) is = (d, refl)
-new_there (Some (Plain _)) is = absurd (let z : false ≡ true = is in cc)
 
 blank_at : (args : List ℕ) (r : ℕ) → node_in (first_registers args) r ≡ 0
 blank_at args zero = refl

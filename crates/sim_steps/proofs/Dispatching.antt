@@ -32,6 +32,7 @@ use Rattle.caller_steps.specs.After.{accepted, counted, instr_accepted, is_wrap_
 use Rattle.caller_steps.specs.After.{moved as after_moves}
 use Rattle.caller_steps.specs.Signs.{Moved}
 use Rattle.caller_parts.specs.Calls.{is_call}
+use Rattle.caller_parts.proofs.News.{new_there}
 use Rattle.caller_steps.specs.Belongs.{Belongs}
 use Rattle.caller_steps.specs.Belongs.{Stands as CoreStands}
 use Rattle.caller_laws.proofs.Methods.{methods_of}
@@ -45,7 +46,7 @@ use Rattle.sim_relation.specs.Points.{StaysProper, DrawsHome, point}
 use Rattle.sim_relation.specs.Naming.{present_at}
 use Rattle.sim_relation.specs.WasSet.{set_after_access, set_at, set_begun, set_plain}
 use Rattle.sim_relation.specs.Steps.{KeptWith, KeptBy, KeptSetting, Stepped, StepsKeep, StepKeeps, TakesReady, NamesAt, NamesCleared, NamesAfter, checked_names, with_names, after_access}
-use Rattle.sim_relation.proofs.Codes.{instr_is, new_there}
+use Rattle.sim_relation.proofs.Codes.{instr_is}
 use Rattle.sim_steps.proofs.Walks.Quieting.{sane_here}
 use Rattle.sim_steps.proofs.Walks.Restarting.{seen_kept, begins_restart}
 use Rattle.sim_steps.proofs.Pools.Claiming.{claims_keep}
@@ -112,11 +113,11 @@ at_routine t c s x r same kept = same_row t c s x (NamesAfter t s c x r) (wanted
 -- the accesses of the text: of an instruction of a method, and the exchanges of a list
 abbrev pub PlainKeeps : (t : Plan) → ℕ → Shared → Caller → Type 0
 PlainKeeps t c s x = (i : Instr) → x.entry.routine ≡ At → instr_in t.target x.entry ≡ Some (Plain i)
-    → KeptAs t c s x (plain_wanted i x.entry.hand.registers) (λ word. set_plain t.target i word x.entry x.was_set) (λ word. instr_accepted t.target t.setting.sizes (Some (Plain i)) word (counted x.entry))
+    → KeptAs t c s x (plain_wanted t.target.fields i x.entry.hand.registers) (λ word. set_plain t.target i word x.entry x.was_set) (λ word. instr_accepted t.target t.setting.sizes (Some (Plain i)) word (counted x.entry))
 
 abbrev pub EntryKeeps : (t : Plan) → ℕ → Shared → Caller → Type 0
 EntryKeeps t c s x = (k : ℕ) (exchange : CasEntry) → x.entry.routine ≡ InList k → slice_get (list_of (instr_in t.target x.entry)) k ≡ Some exchange
-    → KeptAs t c s x (list_wanted (Some exchange) x.entry.hand.registers) (λ word. x.was_set) (λ word. list_accepted t.target t.setting.sizes k (Some exchange) word (counted x.entry))
+    → KeptAs t c s x (list_wanted t.target.fields (Some exchange) x.entry.hand.registers) (λ word. x.was_set) (λ word. list_accepted t.target t.setting.sizes k (Some exchange) word (counted x.entry))
 
 both_true : (a b : Bool) → (a && b) ≡ true → b ≡ true
 both_true true b is = is
@@ -156,7 +157,7 @@ module _ (t : Plan) (c : ℕ) (s : Shared) (x : Caller) (w : Stepping t c s x) w
 
     -- what a guard, a check or an instruction of the text makes of the names
     Steps : Option TargetInstr → ℕ → Type 0
-    Steps o n = SteppedAs t c s x (NamesAt t s c x o) (instr_wanted n o x.entry.hand.registers) (λ word. set_at t.target o word x.entry x.was_set) (λ word. instr_accepted t.target t.setting.sizes o word (counted x.entry)) s.present
+    Steps o n = SteppedAs t c s x (NamesAt t s c x o) (instr_wanted t.target.fields n o x.entry.hand.registers) (λ word. set_at t.target o word x.entry x.was_set) (λ word. instr_accepted t.target t.setting.sizes o word (counted x.entry)) s.present
 
     guards : (r : Reg) → instr_in t.target x.entry ≡ Some (Guard r) → (k : ℕ) × (r ≡ Ref k) → Steps (Some (Guard r)) c
     guards r there (k, same) = subst (λ (r : Reg). Steps (Some (Guard r)) c) (sym same)
@@ -169,7 +170,7 @@ module _ (t : Plan) (c : ℕ) (s : Shared) (x : Caller) (w : Stepping t c s x) w
 
     of : (o : Option TargetInstr) → instr_in t.target x.entry ≡ o → Steps o x.entry.number
     of None there = tt
-    of (Some (Plain i)) there = same_row t c s x (NamesAt t s c x (Some (Plain i))) (plain_wanted i x.entry.hand.registers) (λ word. set_plain t.target i word x.entry x.was_set) (λ word. instr_accepted t.target t.setting.sizes (Some (Plain i)) word (counted x.entry)) s.present refl (plain i is there)
+    of (Some (Plain i)) there = same_row t c s x (NamesAt t s c x (Some (Plain i))) (plain_wanted t.target.fields i x.entry.hand.registers) (λ word. set_plain t.target i word x.entry x.was_set) (λ word. instr_accepted t.target t.setting.sizes (Some (Plain i)) word (counted x.entry)) s.present refl (plain i is there)
     of (Some Check) there = subst (Steps (Some Check)) (sym number)
         (λ row draws. record {
           row = checked_names (s.memory (Warning c) == x.entry.hand.seen) x.names;
@@ -182,7 +183,7 @@ module _ (t : Plan) (c : ℕ) (s : Shared) (x : Caller) (w : Stepping t c s x) w
   -- an exchange of the list
   by_entry : EntryKeeps t c s x → (k : ℕ) → x.entry.routine ≡ InList k → KeptAt t c s x (InList k)
   by_entry entry k is = of (slice_get (list_of (instr_in t.target x.entry)) k) refl where
-    of : (o : Option CasEntry) → slice_get (list_of (instr_in t.target x.entry)) k ≡ o → KeptAs t c s x (list_wanted o x.entry.hand.registers) (λ word. x.was_set) (λ word. list_accepted t.target t.setting.sizes k o word (counted x.entry))
+    of : (o : Option CasEntry) → slice_get (list_of (instr_in t.target x.entry)) k ≡ o → KeptAs t c s x (list_wanted t.target.fields o x.entry.hand.registers) (λ word. x.was_set) (λ word. list_accepted t.target t.setting.sizes k o word (counted x.entry))
     of None there = tt
     of (Some exchange) there = entry k exchange is there
 
@@ -214,8 +215,8 @@ module _ (t : Plan) (c : ℕ) (s : Shared) (x : Caller) (w : Stepping t c s x) w
   new_in_generator : (m : Trail t) → Walks t s c x (spot_of x.entry.hand) m → is_new_at (instr_in t.target x.entry) ≡ true → m.walk.method.wrapup ≡ false
   new_in_generator m walks new =
       let there = new_there (instr_in t.target x.entry) new in
-      let here : slice_get (method_code m.walk.method) x.entry.hand.at ≡ Some (Plain (instr.New there.0)) = sym (instr_is t s c x (spot_of x.entry.hand) m walks) ∙ there.1 in
-      (sane_here t s c x (spot_of x.entry.hand) m (Plain (instr.New there.0)) w.plan walks here).own.news refl
+      let here : slice_get (method_code m.walk.method) x.entry.hand.at ≡ Some (Plain (instr.New there.0 there.1)) = sym (instr_is t s c x (spot_of x.entry.hand) m walks) ∙ there.2 in
+      (sane_here t s c x (spot_of x.entry.hand) m (Plain (instr.New there.0 there.1)) w.plan walks here).own.news refl
 
   -- a clear at another moment
   by_clear : (next : AfterClear) → x.entry.routine ≡ Clears next → SteppedAt t c s x (Clears next)
@@ -281,7 +282,7 @@ with_row t c s x i None kept = tt
 with_row t c s x i (Some a) kept = λ row draws. kept
 
 plain_keeps : (t : Plan) (c : ℕ) (s : Shared) (x : Caller) → Stepping t c s x → PlainKeeps t c s x
-plain_keeps t c s x w i at here = with_row t c s x i (plain_wanted i x.entry.hand.registers)
+plain_keeps t c s x w i at here = with_row t c s x i (plain_wanted t.target.fields i x.entry.hand.registers)
     (plain_step t c s x i (record { plan = w.plan; shared_holds = w.shared_holds; caller_holds = w.caller_holds; below = w.below; at = at; here = here; proper = w.proper }))
 
 entry_keeps : (t : Plan) (c : ℕ) (s : Shared) (x : Caller) → Stepping t c s x → EntryKeeps t c s x

@@ -43,7 +43,7 @@ owed_draws false = refl
 
 module _ (target : Target) (sizes : Sizes) where
   plain_draws : (i : Instr) (e : Entry) → DrawsNone (plain_stop target sizes i e).signs
-  plain_draws (instr.New d) e = refl
+  plain_draws (instr.New d kind) e = refl
   plain_draws (instr.Commit []) e = refl
   plain_draws (instr.Commit (exchange ∷ exchanges)) e = refl
   plain_draws (instr.Return a) e = owed_draws (e.hand.wrapup && e.hand.accessed)

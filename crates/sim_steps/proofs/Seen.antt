@@ -75,7 +75,7 @@ module _ (target : Target) (sizes : Sizes) where
   begun_list_seen (exchange ∷ exchanges) e = refl
 
   plain_seen : (i : Instr) (e : Entry) → Keeps e (plain_stop target sizes i e).entry
-  plain_seen (instr.New d) e = cleared_seen clears.New e
+  plain_seen (instr.New d kind) e = cleared_seen clears.New e
   plain_seen (instr.Commit exchanges) e = begun_list_seen exchanges e
   plain_seen (instr.Return a) e = cleared_seen (clears.Reply (replies.Number (number_in e.hand.registers a))) e
   plain_seen instr.ReturnNone e = cleared_seen (clears.Reply replies.Nothing) e
@@ -159,7 +159,7 @@ module _ (target : Target) (sizes : Sizes) where
   accepted_plain (instr.IfEq a b l) word e = refl
   accepted_plain (instr.IfLess a b l) word e = refl
   accepted_plain (instr.IfMarked a l) word e = refl
-  accepted_plain (instr.New d) word e = refl
+  accepted_plain (instr.New d kind) word e = refl
   accepted_plain (instr.Commit exchanges) word e = refl
   accepted_plain (instr.Return a) word e = refl
   accepted_plain instr.ReturnNone word e = refl
@@ -281,7 +281,7 @@ renewed_seen target setting warning e (Zeroes k field) renew = absurd (let z : f
 -- such a step finds the own warning
 pub renewing_loads : (target : Target) (warning : ℕ) (e : Entry) → renews target e warning ≡ true → wants target e ≡ Some (Loads (Warning e.number))
 renewing_loads target warning e renew = of e.routine refl renew where
-  by_instr : (o : Option TargetInstr) → fails_at o e.hand.seen warning ≡ true → instr_wanted e.number o e.hand.registers ≡ Some (Loads (Warning e.number))
+  by_instr : (o : Option TargetInstr) → fails_at o e.hand.seen warning ≡ true → instr_wanted target.fields e.number o e.hand.registers ≡ Some (Loads (Warning e.number))
   by_instr None renew = absurd (let z : false ≡ true = renew in cc)
   by_instr (Some (Plain i)) renew = absurd (let z : false ≡ true = renew in cc)
   by_instr (Some Check) renew = refl

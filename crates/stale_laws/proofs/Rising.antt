@@ -1,5 +1,5 @@
 -- No access lowers a warning word.
-use Rattle.std.proofs.Common.{ℕ, zero, suc, ◌≡◌, ◌≤◌, ◌+◌, max, Option, Some, None, arith, subst}
+use Rattle.std.proofs.Common.{List, ℕ, zero, suc, ◌≡◌, ◌≤◌, ◌+◌, max, Option, Some, None, arith, subst}
 use Rattle.std.specs.Prelude.{slice_get}
 use Rattle.norm_lang.specs.declared.text.Place.{Place}
 use Rattle.norm_lang.specs.declared.text.Place.TheVariants as places
@@ -10,6 +10,8 @@ use Rattle.norm_lang.specs.declared.registers.Registers.{Registers}
 use Rattle.target_code.specs.declared.target.TargetInstr.{TargetInstr}
 use Rattle.target_code.specs.declared.target.TargetInstr.TheVariants.{Plain, Check, Guard}
 use Rattle.target_code.specs.declared.target.Target.{Target}
+use Rattle.norm_lang.specs.declared.text.FieldDecl.{FieldDecl}
+use Rattle.norm_lang.specs.KindFields.{place_of}
 use Rattle.norm_lang.specs.Registers.{number_in}
 use Rattle.norm_lang.specs.Local.{remainder}
 use Rattle.oa_words.specs.Words.{Word, Phase, Warning, Hazard, Status, FieldOf, Cell, Head, Link}
@@ -44,46 +46,46 @@ object : (slot f expected replacement : ℕ) → Rises (object_exchange slot f e
 object zero f expected replacement = loads (FieldOf 0 f)
 object (suc j) f expected replacement = λ m d. omega arith
 
-place : (p : Place) (registers : Registers) (expected replacement : ℕ) → Rises (place_exchange p registers expected replacement)
-place (places.Root x) registers expected replacement = λ m d. omega arith
-place (places.Field a f) registers expected replacement = object (slot_in registers a) f expected replacement
+place : (fields : List FieldDecl) (p : Place) (registers : Registers) (expected replacement : ℕ) → Rises (place_exchange fields p registers expected replacement)
+place fields (places.Root x) registers expected replacement = λ m d. omega arith
+place fields (places.Field a f) registers expected replacement = object (slot_in registers a) (place_of fields f) expected replacement
 
-exchanges : (entry : CasEntry) (registers : Registers) → Rises (exchange_wanted entry registers)
-exchanges entry registers = place entry.place registers (word_in registers entry.expected) (word_in registers entry.replacement)
+exchanges : (fields : List FieldDecl) (entry : CasEntry) (registers : Registers) → Rises (exchange_wanted fields entry registers)
+exchanges fields entry registers = place fields entry.place registers (word_in registers entry.expected) (word_in registers entry.replacement)
 
-plain : (i : Instr) (registers : Registers) → AllRise (plain_wanted i registers)
-plain (instr.LoadRoot d x) registers = loads (Cell x)
-plain (instr.LoadPick d x count a) registers = loads (Cell (x + remainder (number_in registers a) count))
-plain (instr.LoadField d a f) registers = loads (FieldOf (slot_in registers a) f)
-plain (instr.Put a f b) registers = λ m d. omega arith
-plain (instr.Cas exchange l) registers = exchanges exchange registers
-plain (instr.Set d n) registers = tt
-plain (instr.Mov d a) registers = tt
-plain (instr.Add d a b) registers = tt
-plain (instr.Sub d a b) registers = tt
-plain (instr.Rem d a n) registers = tt
-plain (instr.Mark d a) registers = tt
-plain (instr.Unmark d a) registers = tt
-plain (instr.Null d) registers = tt
-plain (instr.Jump l) registers = tt
-plain (instr.IfEq a b l) registers = tt
-plain (instr.IfLess a b l) registers = tt
-plain (instr.IfMarked a l) registers = tt
-plain (instr.New d) registers = tt
-plain (instr.Commit entries) registers = tt
-plain (instr.Return a) registers = tt
-plain instr.ReturnNone registers = tt
-plain instr.Again registers = tt
+plain : (fields : List FieldDecl) (i : Instr) (registers : Registers) → AllRise (plain_wanted fields i registers)
+plain fields (instr.LoadRoot d x) registers = loads (Cell x)
+plain fields (instr.LoadPick d x count a) registers = loads (Cell (x + remainder (number_in registers a) count))
+plain fields (instr.LoadField d a f) registers = loads (FieldOf (slot_in registers a) (place_of fields f))
+plain fields (instr.Put a f b) registers = λ m d. omega arith
+plain fields (instr.Cas exchange l) registers = exchanges fields exchange registers
+plain fields (instr.Set d n) registers = tt
+plain fields (instr.Mov d a) registers = tt
+plain fields (instr.Add d a b) registers = tt
+plain fields (instr.Sub d a b) registers = tt
+plain fields (instr.Rem d a n) registers = tt
+plain fields (instr.Mark d a) registers = tt
+plain fields (instr.Unmark d a) registers = tt
+plain fields (instr.Null d) registers = tt
+plain fields (instr.Jump l) registers = tt
+plain fields (instr.IfEq a b l) registers = tt
+plain fields (instr.IfLess a b l) registers = tt
+plain fields (instr.IfMarked a l) registers = tt
+plain fields (instr.New d kind) registers = tt
+plain fields (instr.Commit entries) registers = tt
+plain fields (instr.Return a) registers = tt
+plain fields instr.ReturnNone registers = tt
+plain fields instr.Again registers = tt
 
-by_instr : (c : ℕ) (o : Option TargetInstr) (registers : Registers) → AllRise (instr_wanted c o registers)
-by_instr c None registers = tt
-by_instr c (Some (Plain i)) registers = plain i registers
-by_instr c (Some Check) registers = loads (Warning c)
-by_instr c (Some (Guard r)) registers = λ m d. omega arith
+by_instr : (fields : List FieldDecl) (c : ℕ) (o : Option TargetInstr) (registers : Registers) → AllRise (instr_wanted fields c o registers)
+by_instr fields c None registers = tt
+by_instr fields c (Some (Plain i)) registers = plain fields i registers
+by_instr fields c (Some Check) registers = loads (Warning c)
+by_instr fields c (Some (Guard r)) registers = λ m d. omega arith
 
-by_entry : (o : Option CasEntry) (registers : Registers) → AllRise (list_wanted o registers)
-by_entry None registers = tt
-by_entry (Some entry) registers = exchanges entry registers
+by_entry : (fields : List FieldDecl) (o : Option CasEntry) (registers : Registers) → AllRise (list_wanted fields o registers)
+by_entry fields None registers = tt
+by_entry fields (Some entry) registers = exchanges fields entry registers
 
 clears : (c : ℕ) (o : Option ℕ) → AllRise (clear_wanted c o)
 clears c None = tt
@@ -114,8 +116,8 @@ by_retirement slot (retires.StoreStatus p) = λ m d. omega arith
 by_routine : (target : Target) (e : Entry) (r : Routine) → AllRise (wanted target e r)
 by_routine target e Idle = tt
 by_routine target e (LoadSeen why) = loads (Warning e.number)
-by_routine target e At = by_instr e.number (instr_in target e) e.hand.registers
-by_routine target e (InList k) = by_entry (slice_get (list_of (instr_in target e)) k) e.hand.registers
+by_routine target e At = by_instr target.fields e.number (instr_in target e) e.hand.registers
+by_routine target e (InList k) = by_entry target.fields (slice_get (list_of (instr_in target e)) k) e.hand.registers
 by_routine target e (Retires retirement go) = by_retirement retirement.slot retirement.stage
 by_routine target e Restarts = clears e.number (restart_next target e)
 by_routine target e (Clears next) = clears e.number (clear_next target next e)

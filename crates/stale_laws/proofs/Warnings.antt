@@ -3,6 +3,7 @@ use Rattle.std.proofs.Common.{ℕ, ◌≡◌, ◌≢◌, ◌==◌, ◌≤◌, �
 use Rattle.std.specs.Prelude.{slice_get, unwrap_or}
 use Rattle.std.proofs.lemmas.Bool.Decides.{nat_tests}
 use Rattle.norm_lang.specs.declared.registers.Registers.{Registers}
+use Rattle.norm_lang.specs.declared.text.FieldDecl.{FieldDecl}
 use Rattle.target_code.specs.declared.target.TargetInstr.{TargetInstr}
 use Rattle.target_code.specs.declared.target.TargetInstr.TheVariants.{Plain, Check, Guard}
 use Rattle.target_code.specs.declared.target.Target.{Target}
@@ -26,17 +27,17 @@ use Rattle.sim_steps.proofs.Seen.{after_stays}
 
 -- ---- the word that a check finds
 
-by_instr : (c : ℕ) (o : Option TargetInstr) (registers : Registers) (seen : ℕ) (memory : Word → ℕ) (a : WordAccess) → instr_wanted c o registers ≡ Some a
+by_instr : (fields : List FieldDecl) (c : ℕ) (o : Option TargetInstr) (registers : Registers) (seen : ℕ) (memory : Word → ℕ) (a : WordAccess) → instr_wanted fields c o registers ≡ Some a
     → fails_at o seen (memory (Warning c)) ≡ false → fails_at o seen (memory (word_of a)) ≡ false
-by_instr c None registers seen memory a want goes = refl
-by_instr c (Some (Plain i)) registers seen memory a want goes = refl
-by_instr c (Some Check) registers seen memory a want goes = let same : Loads (Warning c) ≡ a = cc in subst (λ (b : WordAccess). not (memory (word_of b) == seen) ≡ false) same goes
-by_instr c (Some (Guard r)) registers seen memory a want goes = refl
+by_instr fields c None registers seen memory a want goes = refl
+by_instr fields c (Some (Plain i)) registers seen memory a want goes = refl
+by_instr fields c (Some Check) registers seen memory a want goes = let same : Loads (Warning c) ≡ a = cc in subst (λ (b : WordAccess). not (memory (word_of b) == seen) ≡ false) same goes
+by_instr fields c (Some (Guard r)) registers seen memory a want goes = refl
 
 by_routine : (target : Target) (e : Entry) (r : Routine) (memory : Word → ℕ) (a : WordAccess) → wanted target e r ≡ Some a → renews_at target e r (memory (Warning e.number)) ≡ false → renews_at target e r (memory (word_of a)) ≡ false
 by_routine target e Idle memory a want goes = goes
 by_routine target e (LoadSeen why) memory a want goes = goes
-by_routine target e At memory a want goes = by_instr e.number (instr_in target e) e.hand.registers e.hand.seen memory a want goes
+by_routine target e At memory a want goes = by_instr target.fields e.number (instr_in target e) e.hand.registers e.hand.seen memory a want goes
 by_routine target e (InList k) memory a want goes = goes
 by_routine target e (Retires retirement go) memory a want goes = goes
 by_routine target e Restarts memory a want goes = goes
@@ -119,7 +120,7 @@ fails_below target setting e word at is ne =
 finds_warning : (target : Target) (e : Entry) (a : WordAccess) → e.routine ≡ At → instr_in target e ≡ Some Check → wants target e ≡ Some a → Loads (Warning e.number) ≡ a
 unfolding wants
 finds_warning target e a at is want =
-    let wanted_is : Some (Loads (Warning e.number)) ≡ Some a = sym (ap (λ (r : Routine). wanted target e r) at ∙ ap (λ (o : Option TargetInstr). instr_wanted e.number o e.hand.registers) is) ∙ want in cc
+    let wanted_is : Some (Loads (Warning e.number)) ≡ Some a = sym (ap (λ (r : Routine). wanted target e r) at ∙ ap (λ (o : Option TargetInstr). instr_wanted target.fields e.number o e.hand.registers) is) ∙ want in cc
 
 pub warned_fails : (target : Target) (setting : Setting) (state : CoreState) (c : ℕ) → c < setting.sizes.callers → Stays target setting state c → IsWarned target setting (view setting state) c
 warned_fails target setting state c lt s = record {

@@ -33,7 +33,8 @@ rule_words rule =
     else (if rule == 12 then codes "an exchange retires what it cut off"
     else (if rule == 13 then codes "jumps and picks stay inside"
     else (if rule == 14 then codes "a register is set before it is read"
-    else codes "it is not in normal form")))))))))))))
+    else (if rule == 15 then codes "each reference is to a node of the kind that its place needs"
+    else codes "it is not in normal form"))))))))))))))
 
 -- what is wrong with a document's shape, by its number
 unfoldable pub shape_words : ℕ → List ℕ

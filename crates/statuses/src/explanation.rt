@@ -85,6 +85,8 @@ fn rule_words(rule: u8) -> &'static [u8]
         b"jumps and picks stay inside"
     } else if rule == 14 {
         b"a register is set before it is read"
+    } else if rule == 15 {
+        b"each reference is to a node of the kind that its place needs"
     } else {
         b"it is not in normal form"
     }

@@ -3,6 +3,7 @@ use Rattle.std.specs.Prelude.{ℕ, Bool, true, false, List, [], ◌∷◌}
 use Rattle.barrier_check.specs.Paired.{Paired, IsSound}
 use Rattle.caller_parts.specs.Settings.{Setting, Fits, IsSetting}
 use Rattle.caller_steps.specs.Entries.{Entry}
+use Rattle.norm_lang.specs.LineWords.{item_kind}
 
 -- what a table is told once: the target with its source, and the setting
 pub record Fixed : Type 0 where
@@ -34,7 +35,7 @@ newcomer key = record { live = true; fixed = key; entries = []; found = 0; acces
 -- no target and no setting
 abbrev pub no_fixed : Fixed
 no_fixed = record {
-  target = record { target = record { fields = []; roots = []; nodes = []; ops = [] }; source = record { fields = []; roots = []; nodes = []; ops = [] } };
+  target = record { target = record { kinds = item_kind ∷ []; fields = []; roots = []; nodes = []; ops = [] }; source = record { kinds = item_kind ∷ []; fields = []; roots = []; nodes = []; ops = [] } };
   setting = record { sizes = record { callers = 0; slots = 0; fields = 0; cells = 0 }; first = 0; last = 0; nodes = 0 };
 }
 

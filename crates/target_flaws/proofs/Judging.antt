@@ -65,7 +65,7 @@ exchanged_read r (instr.Null d) is = cc
 exchanged_read r (instr.LoadRoot d x) is = cc
 exchanged_read r (instr.LoadPick d x n a) is = cc
 exchanged_read r (instr.LoadField d a f) is = cc
-exchanged_read r (instr.New d) is = cc
+exchanged_read r (instr.New d kind) is = cc
 exchanged_read r (instr.Put a f b) is = cc
 exchanged_read r (instr.Cas entry l) is = operand_read r entry is
 exchanged_read r (instr.Jump l) is = cc
@@ -78,20 +78,20 @@ exchanged_read r instr.ReturnNone is = cc
 exchanged_read r instr.Again is = cc
 
 -- what an instruction within the limits reads, exchanges or guards is a register
-target_reads_within : (fields roots : ℕ) (i : TargetInstr) (r : Reg) → IsTrue (is_target_instr fields roots i) → IsTrue (target_reads r i) → IsTrue (is_register r)
-target_reads_within fields roots (Plain i) r limits is = reads_within fields roots i r limits is
-target_reads_within fields roots Check r limits is = cc
-target_reads_within fields roots (Guard a) r limits is = cc
+target_reads_within : (kinds fields roots : ℕ) (i : TargetInstr) (r : Reg) → IsTrue (is_target_instr kinds fields roots i) → IsTrue (target_reads r i) → IsTrue (is_register r)
+target_reads_within kinds fields roots (Plain i) r limits is = reads_within kinds fields roots i r limits is
+target_reads_within kinds fields roots Check r limits is = cc
+target_reads_within kinds fields roots (Guard a) r limits is = cc
 
-exchanges_within : (fields roots : ℕ) (i : TargetInstr) (r : Reg) → IsTrue (is_target_instr fields roots i) → IsTrue (target_exchanges r i) → IsTrue (is_register r)
-exchanges_within fields roots (Plain i) r limits is = reads_within fields roots i r limits (exchanged_read r i is)
-exchanges_within fields roots Check r limits is = cc
-exchanges_within fields roots (Guard a) r limits is = cc
+exchanges_within : (kinds fields roots : ℕ) (i : TargetInstr) (r : Reg) → IsTrue (is_target_instr kinds fields roots i) → IsTrue (target_exchanges r i) → IsTrue (is_register r)
+exchanges_within kinds fields roots (Plain i) r limits is = reads_within kinds fields roots i r limits (exchanged_read r i is)
+exchanges_within kinds fields roots Check r limits is = cc
+exchanges_within kinds fields roots (Guard a) r limits is = cc
 
-guards_within : (fields roots : ℕ) (i : TargetInstr) (r : Reg) → IsTrue (is_target_instr fields roots i) → IsTrue (guards r i) → IsTrue (is_register r)
-guards_within fields roots (Plain i) r limits is = cc
-guards_within fields roots Check r limits is = cc
-guards_within fields roots (Guard a) r limits is = subst (λ (s : Reg). IsTrue (is_register s)) (sym (register_same r a is)) (and_right (holds_reference a) (is_register a) limits)
+guards_within : (kinds fields roots : ℕ) (i : TargetInstr) (r : Reg) → IsTrue (is_target_instr kinds fields roots i) → IsTrue (guards r i) → IsTrue (is_register r)
+guards_within kinds fields roots (Plain i) r limits is = cc
+guards_within kinds fields roots Check r limits is = cc
+guards_within kinds fields roots (Guard a) r limits is = subst (λ (s : Reg). IsTrue (is_register s)) (sym (register_same r a is)) (and_right (holds_reference a) (is_register a) limits)
 
 -- an instruction uses a register
 uses_right : (source : Op) (needs : Needs) (r : Reg) (i : TargetInstr) → AreNeeds source needs → IsTrue (uses_by needs r i) ↔ Uses source r i
@@ -109,8 +109,8 @@ uses_right source needs r i asks = (
     handed : Bool
     handed = is_handed_by needs.handed_over r
 
-uses_register : (source : Op) (fields roots : ℕ) (i : TargetInstr) (r : Reg) → IsOpWithin source → IsTrue (is_target_instr fields roots i) → Uses source r i → IsTrue (is_register r)
-uses_register source fields roots i r within limits uses = elim uses [ inl one ↦ target_reads_within fields roots i r limits one | inr two ↦ carried_within source r within two.1.1 ]
+uses_register : (source : Op) (kinds fields roots : ℕ) (i : TargetInstr) (r : Reg) → IsOpWithin source → IsTrue (is_target_instr kinds fields roots i) → Uses source r i → IsTrue (is_register r)
+uses_register source kinds fields roots i r within limits uses = elim uses [ inl one ↦ target_reads_within kinds fields roots i r limits one | inr two ↦ carried_within source r within two.1.1 ]
 
 unchecked_right : (source : Op) (code : List TargetInstr) (at : ℕ) (i : TargetInstr) (needs : Needs) (found : TargetFound) → IsTargetSite source code i needs found
     → IsTrue (list_any (λ r. uses_by needs r i && may_be_unchecked_by found r at) all_registers) ↔ UsesUnchecked source code at i
@@ -122,7 +122,7 @@ unchecked_right source code at i needs found site = ((λ so. let some = tests.0 
     tests : IsTrue (list_any (λ r. uses_by needs r i && may_be_unchecked_by found r at) all_registers) ↔ ((r : Reg) × IsTrue (uses_by needs r i) × MayBeUnchecked code r at)
     tests =
         both_tests (λ r. uses_by needs r i) (λ r. may_be_unchecked_by found r at) (λ r. MayBeUnchecked code r at)
-        (λ r uses. uses_register source site.limits.0 site.limits.1 i r site.within site.limits.2 ((right r).0 uses)) (λ r register. site.true_of.unchecked r register at)
+        (λ r uses. uses_register source site.limits.0 site.limits.1 site.limits.2 i r site.within site.limits.3 ((right r).0 uses)) (λ r register. site.true_of.unchecked r register at)
 
 -- an instruction needs a register guarded; of a number it is never asked
 needs_right : (source : Op) (needs : Needs) (r : Reg) (i : TargetInstr) → AreNeeds source needs → IsTrue (holds_reference r) → IsTrue (needs_guard_by needs r i) ↔ NeedsGuard source r i
@@ -143,8 +143,8 @@ needs_right source needs r i asks reference = (
 need_reference : (source : Op) (r : Reg) (i : TargetInstr) → NeedsGuard source r i → IsTrue (holds_reference r)
 need_reference source r i need = elim need [ inl one ↦ one.0 | inr two ↦ two.1.0 ]
 
-need_register : (source : Op) (fields roots : ℕ) (i : TargetInstr) (r : Reg) → IsOpWithin source → IsTrue (is_target_instr fields roots i) → NeedsGuard source r i → IsTrue (is_register r)
-need_register source fields roots i r within limits need = elim need [ inl one ↦ exchanges_within fields roots i r limits one.1 | inr two ↦ carried_within source r within two.1.1 ]
+need_register : (source : Op) (kinds fields roots : ℕ) (i : TargetInstr) (r : Reg) → IsOpWithin source → IsTrue (is_target_instr kinds fields roots i) → NeedsGuard source r i → IsTrue (is_register r)
+need_register source kinds fields roots i r within limits need = elim need [ inl one ↦ exchanges_within kinds fields roots i r limits one.1 | inr two ↦ carried_within source r within two.1.1 ]
 
 -- some register that an instruction needs guarded may have its guard in a state
 abbrev needs_more_by : Needs → TargetFound → ℕ → TargetInstr → ℕ → Bool
@@ -155,10 +155,10 @@ guarded_right : (code : List TargetInstr) (found : TargetFound) (at : ℕ) (stat
 guarded_right code found at state true_of (Num n) register = ((λ so. let no : false ≡ true = so in cc), λ both. both.0)
 guarded_right code found at state true_of (Ref n) register = ((λ so. (refl, (true_of.guarded n register at state).0 so)), λ both. (true_of.guarded n register at state).1 both.1)
 
-asked_register : (source : Op) (fields roots : ℕ) (i : TargetInstr) (needs : Needs) (r : Reg) → IsOpWithin source → IsTrue (is_target_instr fields roots i) → AreNeeds source needs
+asked_register : (source : Op) (kinds fields roots : ℕ) (i : TargetInstr) (needs : Needs) (r : Reg) → IsOpWithin source → IsTrue (is_target_instr kinds fields roots i) → AreNeeds source needs
     → IsTrue (needs_guard_by needs r i) → IsTrue (is_register r)
-asked_register source fields roots i needs r within limits asks so = elim (or_cases (target_exchanges r i) (target_commits i && is_kept_by needs.kept r) so) [
-  | inl one ↦ exchanges_within fields roots i r limits one
+asked_register source kinds fields roots i needs r within limits asks so = elim (or_cases (target_exchanges r i) (target_commits i && is_kept_by needs.kept r) so) [
+  | inl one ↦ exchanges_within kinds fields roots i r limits one
   | inr two ↦ carried_within source r within ((asks.kept r).0 (and_right (target_commits i) (is_kept_by needs.kept r) two)).1
 ]
 
@@ -172,7 +172,7 @@ more_right source code at i needs found state site = (
     tests : IsTrue (needs_more_by needs found at i (guard_number state)) ↔ ((r : Reg) × IsTrue (needs_guard_by needs r i) × (IsTrue (holds_reference r) × MayBeGuarded code r at state))
     tests =
         both_tests (λ r. needs_guard_by needs r i) (λ r. may_be_guarded_by found r at (guard_number state)) (λ r. IsTrue (holds_reference r) × MayBeGuarded code r at state)
-        (λ r so. asked_register source site.limits.0 site.limits.1 i needs r site.within site.limits.2 site.asks so) (guarded_right code found at state site.true_of)
+        (λ r so. asked_register source site.limits.0 site.limits.1 site.limits.2 i needs r site.within site.limits.3 site.asks so) (guarded_right code found at state site.true_of)
 
 -- a wrap-up guards a kept register
 abbrev guards_kept_by : Needs → TargetInstr → Bool
@@ -181,7 +181,7 @@ guards_kept_by needs i = list_any (λ r. guards r i && is_kept_by needs.kept r) 
 guards_kept_right : (source : Op) (code : List TargetInstr) (i : TargetInstr) (needs : Needs) (found : TargetFound) → IsTargetSite source code i needs found
     → IsTrue (guards_kept_by needs i) ↔ ((r : Reg) × IsTrue (guards r i) × IsKept source r)
 guards_kept_right source code i needs found site =
-    both_tests (λ r. guards r i) (is_kept_by needs.kept) (IsKept source) (λ r so. guards_within site.limits.0 site.limits.1 i r site.limits.2 so) (λ r register. site.asks.kept r)
+    both_tests (λ r. guards r i) (is_kept_by needs.kept) (IsKept source) (λ r so. guards_within site.limits.0 site.limits.1 site.limits.2 i r site.limits.3 so) (λ r register. site.asks.kept r)
 
 dropped_right : (source : Op) (wrapup : Bool) (code : List TargetInstr) (at : ℕ) (i : TargetInstr) (needs : Needs) (found : TargetFound) → IsTargetSite source code i needs found
     → IsTrue (needs_more_by needs found at i 3 || (wrapup && guards_kept_by needs i)) ↔ HasGuardDropped source wrapup code at i

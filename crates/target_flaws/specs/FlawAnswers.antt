@@ -15,7 +15,7 @@ use Rattle.target_flaws.specs.Found.{TargetFound, AreTargetFacts}
 -- an instruction within the limits, of a method compiled of an operation's, and what was found out about both
 pub record IsTargetSite (source : Op) (code : List TargetInstr) (i : TargetInstr) (needs : Needs) (found : TargetFound) : Type 0 where
   pub within : IsOpWithin source
-  pub limits : (fields roots : ℕ) × IsTrue (is_target_instr fields roots i)
+  pub limits : (kinds fields roots : ℕ) × IsTrue (is_target_instr kinds fields roots i)
   pub asks : AreNeeds source needs
   pub true_of : AreTargetFacts code found
 

@@ -64,11 +64,11 @@ passed_in_source method (last ∷ path) at i is (inr more) = by_option (slice_ge
     by_option (Some (Guard r)) among = among
 
 pub new_is_passed_once : NewIsPassedOnce
-new_is_passed_once target text normal erases method path at d came = (
-  is_false method.wrapup (λ wrap. keeps_at normal erases method N3 at (instr.New d) came.stands (inl wrap)),
+new_is_passed_once target text normal erases method path at d kind came = (
+  is_false method.wrapup (λ wrap. keeps_at normal erases method N3 at (instr.New d kind) came.stands (inl wrap)),
   λ contained.
       let place = source_place (code_in method) in
-      let among = passed_in_source method path at (instr.New d) came.stands (among_contained path at contained) in
+      let among = passed_in_source method path at (instr.New d kind) came.stands (among_contained path at contained) in
       let round = leads_round (IsSuccessor (source_in method)) 0 (place at) (place at) (source_path (code_in method) path) (paths_are_in_text target text normal erases method path at came.leads) among in
-      keeps_at normal erases method N3 at (instr.New d) came.stands (inr (round.0 ∷ round.1, round.2)),
+      keeps_at normal erases method N3 at (instr.New d kind) came.stands (inr (round.0 ∷ round.1, round.2)),
 )

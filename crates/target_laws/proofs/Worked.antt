@@ -5,12 +5,13 @@ use Rattle.std.specs.Prelude.{◌≡◌, ℕ, true, false, List, [], ◌∷◌, 
 use Rattle.std.proofs.Common.{inr}
 use Rattle.std.proofs.lemmas.Bool.{ltb-true}
 use Rattle.norm_lang.specs.declared.text.Reg.TheVariants.{Num, Ref}
-use Rattle.norm_lang.specs.declared.text.FieldKind.TheVariants as kinds
+use Rattle.norm_lang.specs.declared.text.FieldKind.TheVariants as holdings
 use Rattle.norm_lang.specs.declared.text.Start.TheVariants as starts
 use Rattle.norm_lang.specs.declared.text.Place.TheVariants as places
 use Rattle.norm_lang.specs.declared.text.CasEntry.{CasEntry}
 use Rattle.norm_lang.specs.declared.text.Instr.{Instr}
 use Rattle.norm_lang.specs.declared.text.Instr.TheVariants.{LoadRoot, New, Cas, IfMarked, Commit, ReturnNone}
+use Rattle.norm_lang.specs.LineWords.{item_kind}
 use Rattle.norm_lang.specs.Flow.{IsSuccessor, IsPath, IsCycle, goes_from}
 use Rattle.target_code.specs.declared.target.TargetInstr.{TargetInstr}
 use Rattle.target_code.specs.declared.target.TargetInstr.TheVariants.{Plain, Check, Guard}
@@ -107,7 +108,7 @@ guarded_late = refl
 -- ---- what is set and fresh
 
 abbrev makes : List TargetInstr
-makes = Plain (New (Ref 1)) ∷ Check ∷ Plain (LoadRoot (Ref 0) 0) ∷ Check ∷ Plain (Commit []) ∷ []
+makes = Plain (New (Ref 1) 0) ∷ Check ∷ Plain (LoadRoot (Ref 0) 0) ∷ Check ∷ Plain (Commit []) ∷ []
 
 fresh_past_check : is_fresh_along makes (3 ∷ 2 ∷ 1 ∷ 0 ∷ []) (Ref 1) ≡ true
 fresh_past_check = refl
@@ -126,8 +127,9 @@ x generator wrapup = record { name = codes "x"; args = 0; generator = generator;
 
 abbrev row : List TargetInstr → List TargetInstr → Target
 row generator wrapup = record {
-  fields = record { name = codes "next"; kind = kinds.Reference } ∷ [];
-  roots = record { name = codes "h"; kind = kinds.Reference; start = starts.Node 0 } ∷ [];
+  kinds = item_kind ∷ [];
+  fields = record { owner = 0; name = codes "next"; kind = holdings.Reference 0 } ∷ [];
+  roots = record { name = codes "h"; kind = holdings.Reference 0; start = starts.Node 0 } ∷ [];
   nodes = [];
   ops = x generator wrapup ∷ [];
 }

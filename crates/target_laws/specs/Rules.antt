@@ -39,8 +39,8 @@ InstructionsAreInForm =
 -- N3: a `new` stands in a generator, and is passed once on a path
 abbrev pub NewIsPassedOnce : Type 0
 NewIsPassedOnce =
-    (target : Target) (text : Text) → IsNormal text → ErasesTo target text → (method : Method target text) (path : List ℕ) (at : ℕ) (d : Reg)
-    → Arrives method path at (Plain (instr.New d)) → (method.wrapup ≡ false) × (¬ Contains path at)
+    (target : Target) (text : Text) → IsNormal text → ErasesTo target text → (method : Method target text) (path : List ℕ) (at : ℕ) (d : Reg) (kind : ℕ)
+    → Arrives method path at (Plain (instr.New d kind)) → (method.wrapup ≡ false) × (¬ Contains path at)
 
 -- N4: a put stands in a generator, its object is fresh, and what it puts isn't
 abbrev pub PutsGoToFresh : Type 0

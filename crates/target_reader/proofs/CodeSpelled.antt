@@ -99,7 +99,7 @@ instr_plain fields roots (instr.Null d) = is_plain (codes "null") refl refl refl
 instr_plain fields roots (instr.LoadRoot d x) = is_plain (codes "root") refl refl refl refl refl
 instr_plain fields roots (instr.LoadPick d x n a) = is_plain (codes "pick") refl refl refl refl refl
 instr_plain fields roots (instr.LoadField d a f) = is_plain (codes "load") refl refl refl refl refl
-instr_plain fields roots (instr.New d) = is_plain (codes "new") refl refl refl refl refl
+instr_plain fields roots (instr.New d kind) = is_plain (codes "new") refl refl refl refl refl
 instr_plain fields roots (instr.Put a f b) = is_plain (codes "put") refl refl refl refl refl
 instr_plain fields roots (instr.Cas entry l) = cas_plain fields roots entry.place entry l refl
 instr_plain fields roots (instr.Jump l) = is_plain (codes "jump") refl refl refl refl refl
@@ -159,7 +159,7 @@ step_line_read fields roots _ ops op (word ∷ rest) step is plain read room fif
 
 -- the lines of an instruction of the language
 plain_read : (fields : List FieldDecl) (roots : List RootDecl) (part : Part) (ops : List TargetOp) (op : TargetOp) (i : Instr) → IsMethod part → AreFields fields → AreRoots roots
-    → is_instr (length fields) (length roots) i ≡ true → has_place (in_code part ops op) ≡ true → is_fifth_target_new (in_code part ops op) (step_of i) ≡ false
+    → is_instr 1 (length fields) (length roots) i ≡ true → has_place (in_code part ops op) ≡ true → is_fifth_target_new (in_code part ops op) (step_of i) ≡ false
     → after_spelled fields roots (in_code part ops op) (instr_lines fields roots i) ≡ Ok (in_code part ops (with_target_instr part op (Plain i)))
 plain_read fields roots part ops op (instr.Commit entries) is fs rs fits room fifth =
     let draft = in_code part ops op in
@@ -189,12 +189,12 @@ guard_read fields roots WrapUp ops op r is room reference fits = rw (register_re
 guard_read fields roots _ ops op r is room reference fits = absurd is
 
 not_fifth : (draft : OpsDraft) (i : Instr) → (is_new i ≡ true → target_news_of draft.op ≤ 3) → is_fifth_target_new draft (step_of i) ≡ false
-not_fifth draft (instr.New d) few = let le : target_news_of draft.op ≤ 3 = few refl in le-ltb 3 (target_news_of draft.op) le
+not_fifth draft (instr.New d kind) few = let le : target_news_of draft.op ≤ 3 = few refl in le-ltb 3 (target_news_of draft.op) le
 not_fifth draft i few = refl
 
 -- the lines of an instruction
 instr_read : (fields : List FieldDecl) (roots : List RootDecl) (part : Part) (ops : List TargetOp) (op : TargetOp) (i : TargetInstr) → IsMethod part → AreFields fields → AreRoots roots
-    → is_target_instr (length fields) (length roots) i ≡ true → has_place (in_code part ops op) ≡ true → (is_target_new i ≡ true → target_news_of op ≤ 3)
+    → is_target_instr 1 (length fields) (length roots) i ≡ true → has_place (in_code part ops op) ≡ true → (is_target_new i ≡ true → target_news_of op ≤ 3)
     → after_spelled fields roots (in_code part ops op) (target_instr_lines fields roots i) ≡ Ok (in_code part ops (with_target_instr part op i))
 instr_read fields roots part ops op (Plain i) is fs rs fits room few = plain_read fields roots part ops op i is fs rs fits room (not_fifth (in_code part ops op) i few)
 instr_read fields roots part ops op Check is fs rs fits room few = check_read fields roots part ops op is room
@@ -244,7 +244,7 @@ one_more _ op done i is = absurd is
 
 -- the lines of a method's code
 pub code_read : (fields : List FieldDecl) (roots : List RootDecl) (part : Part) (ops : List TargetOp) (op : TargetOp) (done rest whole : List TargetInstr) → IsMethod part → AreFields fields → AreRoots roots
-    → list_all (is_target_instr (length fields) (length roots)) whole ≡ true → length whole ≤ 4096 → target_news_of (with_code part op whole) ≤ 4 → done ++ rest ≡ whole
+    → list_all (is_target_instr 1 (length fields) (length roots)) whole ≡ true → length whole ≤ 4096 → target_news_of (with_code part op whole) ≤ 4 → done ++ rest ≡ whole
     → after_spelled fields roots (in_code part ops (with_code part op done)) (target_code_lines fields roots rest) ≡ Ok (in_code part ops (with_code part op whole))
 code_read fields roots part ops op done [] whole is fs rs fit short few same = let e : done ≡ whole = sym (append-nil done) ∙ same in rw e refl
 code_read fields roots part ops op done (i ∷ rest) whole is fs rs fit short few same =
@@ -252,7 +252,7 @@ code_read fields roots part ops op done (i ∷ rest) whole is fs rs fit short fe
     let next = in_code part ops (with_code part op (done ++ i ∷ [])) in
     let last = in_code part ops (with_code part op whole) in
     lines_then fields roots draft next (target_instr_lines fields roots i) (target_code_lines fields roots rest) (Ok last)
-    (instr_read fields roots part ops (with_code part op done) i is fs rs (passes_among (is_target_instr (length fields) (length roots)) done rest whole i same fit)
+    (instr_read fields roots part ops (with_code part op done) i is fs rs (passes_among (is_target_instr 1 (length fields) (length roots)) done rest whole i same fit)
     (place_left part ops op done rest whole i is same short) (few_left part op done rest whole i is same few)
     ∙ ap (λ o. Ok (in_code part ops o)) (one_more part op done i is))
     (code_read fields roots part ops op (done ++ i ∷ []) rest whole is fs rs fit short few (append_assoc done (i ∷ []) rest ∙ same))

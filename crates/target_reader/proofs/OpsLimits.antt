@@ -33,7 +33,7 @@ use Rattle.target_reader.proofs.Opened.{opened_same}
 -- a method's instructions so far
 record CodeSoFar (fields roots : ℕ) (code : List TargetInstr) : Type 0 where
   few : nat_le (length code) 4096 ≡ true
-  each : list_all (is_target_instr fields roots) code ≡ true
+  each : list_all (is_target_instr 1 fields roots) code ≡ true
 
 -- the operation whose lines stand here
 record OpSoFar (fields roots : ℕ) (ops : List TargetOp) (op : TargetOp) : Type 0 where
@@ -56,7 +56,7 @@ Pending fields roots (suc left) code entries = CommitSoFar fields roots (suc lef
 
 -- the whole operations
 abbrev OpsSoFar : ℕ → ℕ → List TargetOp → Type 0
-OpsSoFar fields roots ops = SoFar 16 (λ op. op.name) (is_target_op fields roots) ops
+OpsSoFar fields roots ops = SoFar 16 (λ op. op.name) (is_target_op 1 fields roots) ops
 
 -- an operation's lines stand here
 record InOp (fields roots : ℕ) (part : Part) (draft : OpsDraft) : Type 0 where
@@ -122,7 +122,7 @@ begun_kept fields roots draft word rest h =
     either (bytes_eq word (codes "gen")) _ _ _ (λ _. anyhow (end_at rest) _ _ λ done. record { ops = h.ops; op = h.op; pending = tt }) λ _. tt
 
 -- one more instruction of a method
-code_pushed : (fields roots : ℕ) (code : List TargetInstr) (i : TargetInstr) → CodeSoFar fields roots code → nat_lt (length code) 4096 ≡ true → is_target_instr fields roots i ≡ true
+code_pushed : (fields roots : ℕ) (code : List TargetInstr) (i : TargetInstr) → CodeSoFar fields roots code → nat_lt (length code) 4096 ≡ true → is_target_instr 1 fields roots i ≡ true
     → CodeSoFar fields roots (code ++ i ∷ [])
 code_pushed fields roots code i h room fine = record { few = few_pushed; each = all_pushed _ code i h.each fine }
   where
@@ -153,7 +153,7 @@ news_fit n m false few fifth e = grind (arith, nat_tests)
 
 -- one more instruction of an operation
 op_pushed : (part : Part) (fields roots : ℕ) (ops : List TargetOp) (op : TargetOp) (i : TargetInstr) → OpSoFar fields roots ops op
-    → nat_lt (length (target_code_so_far part op)) 4096 ≡ true → not (is_target_new i && nat_lt 3 (target_news_of op)) ≡ true → is_target_instr fields roots i ≡ true
+    → nat_lt (length (target_code_so_far part op)) 4096 ≡ true → not (is_target_new i && nat_lt 3 (target_news_of op)) ≡ true → is_target_instr 1 fields roots i ≡ true
     → OpSoFar fields roots ops (with_target_instr part op i)
 op_pushed Generator fields roots ops op i h room fifth fine = record {
   next = record { room = h.next.room; new = h.next.new };
@@ -175,7 +175,7 @@ op_pushed _ fields roots ops op i h room fifth fine = record {
 -- one more instruction where an operation's lines stand
 pushed_in_op : (fields roots : ℕ) (part : Part) (draft : OpsDraft) (i : TargetInstr) → InOp fields roots part draft
     → nat_lt (length (target_code_so_far part draft.op)) 4096 ≡ true → not (is_target_new i && nat_lt 3 (target_news_of draft.op)) ≡ true
-    → is_target_instr fields roots i ≡ true
+    → is_target_instr 1 fields roots i ≡ true
     → InOp fields roots part (record (at part draft) { op = with_target_instr part draft.op i })
 pushed_in_op fields roots part draft i h room fifth fine = record { ops = h.ops; op = op_pushed part fields roots draft.ops draft.op i h.op room fifth fine; pending = tt }
 
@@ -227,7 +227,7 @@ plain_kept fields roots draft word rest next =
 
 -- a check or a guard, where each that fits keeps what holds
 added_kept : (fields roots : ℕ) (draft : OpsDraft) (word : List ℕ) (rest : List (List ℕ))
-    → ((i : TargetInstr) → is_target_instr fields roots i ≡ true → is_target_new i ≡ false → has_place draft ≡ true → Kept fields roots (with_one_more draft i))
+    → ((i : TargetInstr) → is_target_instr 1 fields roots i ≡ true → is_target_new i ≡ false → has_place draft ≡ true → Kept fields roots (with_one_more draft i))
     → IfOk (added_line draft word rest) (KeptIf fields roots)
 added_kept fields roots draft word rest next =
     either (bytes_eq word (codes "chk")) _ _ _
@@ -257,7 +257,7 @@ record IsNextDraft (fields roots left : ℕ) (next : OpsDraft) : Type 0 where
   some : nat_lt 0 (length next.ops) ≡ true
 
 op_is : (fields roots : ℕ) (ops : List TargetOp) (op : TargetOp) → OpSoFar fields roots ops op → nat_lt 0 (length op.generator) ≡ true → nat_lt 0 (length op.wrapup) ≡ true
-    → is_target_op fields roots op ≡ true
+    → is_target_op 1 fields roots op ≡ true
 op_is fields roots ops op h begun some =
     and_from _ _ h.named (and_from _ _ h.args (and_from _ _ (and_from _ _ (and_from _ _ begun h.generator.few) h.generator.each)
     (and_from _ _ (and_from _ _ (and_from _ _ some h.wrapup.few) h.wrapup.each) h.news)))
@@ -382,7 +382,7 @@ lines_kept fields roots draft (line ∷ lines) h =
     lines_kept fields roots next lines kept
 
 abbrev AreOps : List FieldDecl → List RootDecl → List TargetOp → Type 0
-AreOps fields roots ops = are_target_ops (length fields) (length roots) ops ≡ true
+AreOps fields roots ops = are_target_ops 1 (length fields) (length roots) ops ≡ true
 
 finished_in_is : (fields : List FieldDecl) (roots : List RootDecl) (part : Part) (draft : OpsDraft) → Keeps (length fields) (length roots) part draft → IfOk (finished_ops_in part draft) (AreOps fields roots)
 finished_in_is fields roots Outside draft h = tt

@@ -23,11 +23,11 @@ use Rattle.target_reader.proofs.CodeSpelled.{after_spelled, line_then, lines_the
 pub record IsCode (fields roots : ℕ) (code : List TargetInstr) : Type 0 where
   pub some : 1 ≤ length code
   pub short : length code ≤ 4096
-  pub each : list_all (is_target_instr fields roots) code ≡ true
+  pub each : list_all (is_target_instr 1 fields roots) code ≡ true
 
-code_is : (fields roots : ℕ) (code : List TargetInstr) → is_target_method fields roots code ≡ true → IsCode fields roots code
+code_is : (fields roots : ℕ) (code : List TargetInstr) → is_target_method 1 fields roots code ≡ true → IsCode fields roots code
 code_is fields roots code is =
-    let p = and_parts (has_between 1 4096 code) (list_all (is_target_instr fields roots) code) is in
+    let p = and_parts (has_between 1 4096 code) (list_all (is_target_instr 1 fields roots) code) is in
     let q = and_parts (nat_le 1 (length code)) (nat_le (length code) 4096) p.0 in
     record { some = leb-true 1 (length code) q.0; short = leb-true (length code) 4096 q.1; each = p.1 }
 
@@ -40,13 +40,13 @@ pub record IsOp (fields roots : ℕ) (op : TargetOp) : Type 0 where
   pub wrapup : IsCode fields roots op.wrapup
   pub news : target_news_of op ≤ 4
 
-pub op_is : (fields roots : ℕ) (op : TargetOp) → is_target_op fields roots op ≡ true → IsOp fields roots op
+pub op_is : (fields roots : ℕ) (op : TargetOp) → is_target_op 1 fields roots op ≡ true → IsOp fields roots op
 op_is fields roots op is =
-    let p = and_parts (is_name op.name && not (is_reserved op.name)) (nat_le op.args 4 && (is_target_method fields roots op.generator && (is_target_method fields roots op.wrapup && nat_le (target_news_of op) 4))) is in
+    let p = and_parts (is_name op.name && not (is_reserved op.name)) (nat_le op.args 4 && (is_target_method 1 fields roots op.generator && (is_target_method 1 fields roots op.wrapup && nat_le (target_news_of op) 4))) is in
     let n = and_parts (is_name op.name) (not (is_reserved op.name)) p.0 in
-    let a = and_parts (nat_le op.args 4) (is_target_method fields roots op.generator && (is_target_method fields roots op.wrapup && nat_le (target_news_of op) 4)) p.1 in
-    let g = and_parts (is_target_method fields roots op.generator) (is_target_method fields roots op.wrapup && nat_le (target_news_of op) 4) a.1 in
-    let w = and_parts (is_target_method fields roots op.wrapup) (nat_le (target_news_of op) 4) g.1 in
+    let a = and_parts (nat_le op.args 4) (is_target_method 1 fields roots op.generator && (is_target_method 1 fields roots op.wrapup && nat_le (target_news_of op) 4)) p.1 in
+    let g = and_parts (is_target_method 1 fields roots op.generator) (is_target_method 1 fields roots op.wrapup && nat_le (target_news_of op) 4) a.1 in
+    let w = and_parts (is_target_method 1 fields roots op.wrapup) (nat_le (target_news_of op) 4) g.1 in
     record {
       name = n.0;
       free = not-true (is_reserved op.name) n.1;
@@ -114,7 +114,7 @@ behind_ops done last (op ∷ rest) = behind_ops (done ++ last ∷ []) op rest
 
 -- each operation of a list is within its limits, and their names are different
 pub record AreOps (fields roots : ℕ) (ops : List TargetOp) : Type 0 where
-  pub each : list_all (is_target_op fields roots) ops ≡ true
+  pub each : list_all (is_target_op 1 fields roots) ops ≡ true
   pub different : are_different (map (λ op. op.name) ops) ≡ true
   pub few : length ops ≤ 16
 
@@ -125,17 +125,17 @@ ops_spelled fields roots done last [] whole fs rs are same = refl
 ops_spelled fields roots done last (op ∷ rest) whole fs rs are same =
     let behind : (done ++ last ∷ []) ++ op ∷ rest ≡ whole = append_assoc done (last ∷ []) (op ∷ rest) ∙ same in
     let long : length whole ≡ length (done ++ last ∷ []) + suc (length rest) = ap length (sym behind) ∙ length-append (done ++ last ∷ []) (op ∷ rest) in
-    let last_is = op_is (length fields) (length roots) last (passes_among (is_target_op (length fields) (length roots)) done (op ∷ rest) whole last same are.each) in
-    let this_is = op_is (length fields) (length roots) op (passes_among (is_target_op (length fields) (length roots)) (done ++ last ∷ []) rest whole op behind are.each) in
+    let last_is = op_is (length fields) (length roots) last (passes_among (is_target_op 1 (length fields) (length roots)) done (op ∷ rest) whole last same are.each) in
+    let this_is = op_is (length fields) (length roots) op (passes_among (is_target_op 1 (length fields) (length roots)) (done ++ last ∷ []) rest whole op behind are.each) in
     lines_then fields roots (in_code WrapUp done last) (in_code WrapUp (done ++ last ∷ []) op) (target_op_lines fields roots op) (flat_map (target_op_lines fields roots) rest) (Ok (behind_ops (done ++ last ∷ []) op rest))
     (next_op_read fields roots done last op fs rs (last_is.wrapup).some this_is (fresh_among (λ (op : TargetOp). op.name) (done ++ last ∷ []) rest whole op behind are.different) (omega (arith, are.few)))
     (ops_spelled fields roots (done ++ last ∷ []) op rest whole fs rs are behind)
 
 -- the operations after the last of them
-pub ops_finished : (fields roots : ℕ) (done : List TargetOp) (last : TargetOp) (rest whole : List TargetOp) → list_all (is_target_op fields roots) whole ≡ true → done ++ last ∷ rest ≡ whole
+pub ops_finished : (fields roots : ℕ) (done : List TargetOp) (last : TargetOp) (rest whole : List TargetOp) → list_all (is_target_op 1 fields roots) whole ≡ true → done ++ last ∷ rest ≡ whole
     → finished_ops (behind_ops done last rest) ≡ Ok whole
 ops_finished fields roots done last [] whole each same =
-    let last_is = op_is fields roots last (passes_among (is_target_op fields roots) done [] whole last same each) in
+    let last_is = op_is fields roots last (passes_among (is_target_op 1 fields roots) done [] whole last same each) in
     rw (lt-ltb 0 (length last.wrapup) (last_is.wrapup).some, same) refl
 ops_finished fields roots done last (op ∷ rest) whole each same =
     ops_finished fields roots (done ++ last ∷ []) op rest whole each (append_assoc done (last ∷ []) (op ∷ rest) ∙ same)

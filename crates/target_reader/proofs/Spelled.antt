@@ -1,7 +1,7 @@
 -- The spelling of a target within the limits spells it.
 use Rattle.std.specs.Prelude.{◌≡◌, ℕ, ◌+◌, ◌≤◌, ◌&&◌, Bool, true, false, List, [], ◌∷◌, ◌++◌, map, length, Result, Ok, codes, nat_le, nat_lt}
 use Rattle.std.specs.List.{list_all, flat_map, AllByRecursion}
-use Rattle.std.proofs.Common.{refl, ap, ◌∙◌, arith}
+use Rattle.std.proofs.Common.{refl, ap, ◌∙◌, sym, arith}
 use Rattle.std.proofs.lemmas.Bool.{and_parts, ltb-true, leb-true, lt-ltb}
 use Rattle.oa_text.specs.Lines.{numbered}
 use Rattle.norm_lang.specs.declared.text.Reg.{Reg}
@@ -10,12 +10,13 @@ use Rattle.norm_lang.specs.declared.text.RootDecl.{RootDecl}
 use Rattle.norm_lang.specs.declared.text.Instr.{Instr}
 use Rattle.norm_lang.specs.declared.text.Instr.TheVariants as instr
 use Rattle.norm_lang.specs.Faults.{LineFault, ◌>>=◌}
-use Rattle.norm_lang.specs.LineWords.{is_name}
+use Rattle.norm_lang.specs.LineWords.{item_kind, is_name}
 use Rattle.norm_lang.specs.Kept.{holds_reference}
 use Rattle.norm_lang.specs.Spelling.{joined_words, register_word, spelled_field, spelled_nodes, spelled_node, spelled_root, spelled_entry, entries_of, declaration_lines}
 use Rattle.norm_lang.specs.Grammar.{Opening, Fields, Roots, draft_at, after_lines}
-use Rattle.norm_lang.specs.Limits.{has_between, are_different, is_register, is_entry, is_instr, is_start, are_starts, are_fields, are_nodes, is_root, are_roots}
+use Rattle.norm_lang.specs.Limits.{has_between, are_different, is_register, is_entry, is_instr, are_kinds, is_field, are_fields, are_nodes, is_root, are_roots}
 use Rattle.norm_lang.proofs.SpelledLines.{is_visible, IsWord, IsLine, lines_found, words_found}
+use Rattle.text_laws.proofs.OneKind.{item_kinds, field_parts, is_node, node_parts, root_parts}
 use Rattle.text_laws.proofs.LinesSpelled.{gen_is, wrap_is, field_is, nodes_is, node_line_is, root_is, op_is, entry_is, instr_is}
 use Rattle.text_laws.proofs.WordsRead.{AreFields, AreRoots}
 use Rattle.text_laws.proofs.SpelledFolds as text
@@ -70,24 +71,24 @@ check_is = record { few = omega arith; word = (keyword (codes "chk") refl, tt) }
 guard_is : (fields : List FieldDecl) (roots : List RootDecl) (r : Reg) → AreFields fields → AreRoots roots → is_register r ≡ true → IsLine (codes "grd" ∷ register_word r ∷ [])
 guard_is fields roots r fs rs is = record { few = omega arith; word = (keyword (codes "grd") refl, (instr_is fields roots (instr.Null r) fs rs is).word.1) }
 
-entries_lines : (fields : List FieldDecl) (roots : List RootDecl) (i : Instr) → AreFields fields → AreRoots roots → is_instr (length fields) (length roots) i ≡ true
+entries_lines : (fields : List FieldDecl) (roots : List RootDecl) (i : Instr) → AreFields fields → AreRoots roots → is_instr 1 (length fields) (length roots) i ≡ true
     → Lines (map (spelled_entry fields roots) (entries_of i))
 entries_lines fields roots (instr.Commit entries) fs rs is =
     let p = and_parts (nat_le (length entries) 4) (list_all (is_entry (length fields) (length roots)) entries) is in
     each_line (spelled_entry fields roots) (is_entry (length fields) (length roots)) (λ entry is. entry_is fields roots entry fs rs is) entries p.1
 entries_lines fields roots _ fs rs is = tt
 
-instr_lines_are : (fields : List FieldDecl) (roots : List RootDecl) (i : TargetInstr) → AreFields fields → AreRoots roots → is_target_instr (length fields) (length roots) i ≡ true
+instr_lines_are : (fields : List FieldDecl) (roots : List RootDecl) (i : TargetInstr) → AreFields fields → AreRoots roots → is_target_instr 1 (length fields) (length roots) i ≡ true
     → Lines (target_instr_lines fields roots i)
 instr_lines_are fields roots (Plain i) fs rs is = (instr_is fields roots i fs rs is, entries_lines fields roots i fs rs is)
 instr_lines_are fields roots Check fs rs is = (check_is, tt)
 instr_lines_are fields roots (Guard r) fs rs is = (guard_is fields roots r fs rs (and_parts (holds_reference r) (is_register r) is).1, tt)
 
-code_are : (fields : List FieldDecl) (roots : List RootDecl) (code : List TargetInstr) → AreFields fields → AreRoots roots → list_all (is_target_instr (length fields) (length roots)) code ≡ true
+code_are : (fields : List FieldDecl) (roots : List RootDecl) (code : List TargetInstr) → AreFields fields → AreRoots roots → list_all (is_target_instr 1 (length fields) (length roots)) code ≡ true
     → Lines (target_code_lines fields roots code)
-code_are fields roots code fs rs all = each_lines (target_instr_lines fields roots) (is_target_instr (length fields) (length roots)) (λ i is. instr_lines_are fields roots i fs rs is) code all
+code_are fields roots code fs rs all = each_lines (target_instr_lines fields roots) (is_target_instr 1 (length fields) (length roots)) (λ i is. instr_lines_are fields roots i fs rs is) code all
 
-op_are : (fields : List FieldDecl) (roots : List RootDecl) (op : TargetOp) → AreFields fields → AreRoots roots → is_target_op (length fields) (length roots) op ≡ true → Lines (target_op_lines fields roots op)
+op_are : (fields : List FieldDecl) (roots : List RootDecl) (op : TargetOp) → AreFields fields → AreRoots roots → is_target_op 1 (length fields) (length roots) op ≡ true → Lines (target_op_lines fields roots op)
 op_are fields roots op fs rs within =
     let is = op_within (length fields) (length roots) op within in (
       op_is (opened op) is.name is.args,
@@ -100,10 +101,11 @@ op_are fields roots op fs rs within =
 
 -- a target within the limits, part by part
 pub record IsTarget (target : Target) : Type 0 where
+  pub kinds : target.kinds ≡ item_kind ∷ []
   pub fields : AreFields target.fields
   pub some_fields : 1 ≤ length target.fields
   pub few_fields : length target.fields ≤ 4
-  pub nodes : list_all (λ node. are_starts (length target.nodes) target.fields node.values) target.nodes ≡ true
+  pub nodes : list_all (is_node (length target.nodes) target.fields) target.nodes ≡ true
   pub few_nodes : nat_le (length target.nodes) 256 ≡ true
   pub root : list_all (is_root (length target.nodes)) target.roots ≡ true
   pub roots : AreRoots target.roots
@@ -116,8 +118,7 @@ root_names : (count : ℕ) (roots : List RootDecl) → list_all (is_root count) 
 root_names count [] all = refl
 root_names count (root ∷ roots) all =
     let p = and_parts (is_root count root) (list_all (is_root count) roots) all in
-    let q = and_parts (is_name root.name) (is_start count root.kind root.start) p.0 in
-    rw (q.0, root_names count roots p.1) refl
+    rw ((root_parts count root p.0).name, root_names count roots p.1) refl
 
 pub parts_of : (target : Target) → is_target_within_limits target ≡ true → IsTarget target
 parts_of target within =
@@ -128,22 +129,25 @@ parts_of target within =
     let count = length nodes in
     let f = length fields in
     let r = length roots in
-    let p = and_parts (are_fields fields) (are_nodes fields nodes && (are_roots count roots && are_target_ops f r ops)) within in
-    let q = and_parts (are_nodes fields nodes) (are_roots count roots && are_target_ops f r ops) p.1 in
-    let s = and_parts (are_roots count roots) (are_target_ops f r ops) q.1 in
-    let fp = and_parts (has_between 1 4 fields) (list_all (λ field. is_name field.name) fields && are_different (map (λ field. field.name) fields)) p.0 in
+    let first = and_parts (are_kinds target.kinds) (are_fields fields && (are_nodes fields nodes && (are_roots count roots && are_target_ops (length target.kinds) f r ops))) within in
+    let kinds = item_kinds target.kinds first.0 in
+    let p = and_parts (are_fields fields) (are_nodes fields nodes && (are_roots count roots && are_target_ops 1 f r ops)) (rw kinds at first.1) in
+    let q = and_parts (are_nodes fields nodes) (are_roots count roots && are_target_ops 1 f r ops) p.1 in
+    let s = and_parts (are_roots count roots) (are_target_ops 1 f r ops) q.1 in
+    let fp = and_parts (has_between 1 4 fields) (list_all is_field fields && are_different (map (λ field. field.name) fields)) p.0 in
     let fb = and_parts (nat_le 1 f) (nat_le f 4) fp.0 in
-    let fn = and_parts (list_all (λ field. is_name field.name) fields) (are_different (map (λ field. field.name) fields)) fp.1 in
-    let np = and_parts (has_between 0 256 nodes) (list_all (λ node. are_starts count fields node.values) nodes) q.0 in
+    let fn = and_parts (list_all is_field fields) (are_different (map (λ field. field.name) fields)) fp.1 in
+    let np = and_parts (has_between 0 256 nodes) (list_all (is_node count fields) nodes) q.0 in
     let nb = and_parts (nat_le 0 count) (nat_le count 256) np.0 in
     let rp = and_parts (has_between 1 256 roots) (list_all (is_root count) roots && are_different (map (λ root. root.name) roots)) s.0 in
     let rb = and_parts (nat_le 1 r) (nat_le r 256) rp.0 in
     let rn = and_parts (list_all (is_root count) roots) (are_different (map (λ root. root.name) roots)) rp.1 in
-    let op = and_parts (has_between 1 16 ops) (list_all (is_target_op f r) ops && are_different (map (λ op. op.name) ops)) s.1 in
+    let op = and_parts (has_between 1 16 ops) (list_all (is_target_op 1 f r) ops && are_different (map (λ op. op.name) ops)) s.1 in
     let ob = and_parts (nat_le 1 (length ops)) (nat_le (length ops) 16) op.0 in
-    let on = and_parts (list_all (is_target_op f r) ops) (are_different (map (λ op. op.name) ops)) op.1 in
+    let on = and_parts (list_all (is_target_op 1 f r) ops) (are_different (map (λ op. op.name) ops)) op.1 in
     record {
-      fields = record { names = fn.0; different = fn.1 };
+      kinds = kinds;
+      fields = record { each = fn.0; different = fn.1 };
       some_fields = leb-true 1 f fb.0;
       few_fields = leb-true f 4 fb.1;
       nodes = np.1;
@@ -165,13 +169,13 @@ declarations_are target is =
     let count = length nodes in
     let few : count ≤ 256 = leb-true count 256 is.few_nodes in
     both (map spelled_field fields) (spelled_nodes nodes ∷ (map spelled_node nodes ++ map spelled_root roots))
-    (each_line spelled_field (λ field. is_name field.name) field_is fields (is.fields).names) (
+    (each_line spelled_field is_field (λ field it. field_is field (field_parts field it).name) fields (is.fields).each) (
       nodes_is nodes is.few_nodes,
       both (map spelled_node nodes) (map spelled_root roots)
-          (each_line spelled_node (λ node. are_starts count fields node.values) (λ node starts. node_line_is count fields node is.few_fields few starts) nodes is.nodes)
+          (each_line spelled_node (is_node count fields) (λ node it. node_line_is count fields node is.few_fields few (node_parts count fields node it).starts) nodes is.nodes)
           (each_line spelled_root (is_root count) (λ root it.
-          let p = and_parts (is_name root.name) (is_start count root.kind root.start) it in
-          root_is count root few p.0 p.1) roots is.root),
+          let p = root_parts count root it in
+          root_is count root few p.name p.start) roots is.root),
     )
 
 -- the declarations give their draft
@@ -247,7 +251,11 @@ read_of lines =
     ops_read head.0.fields head.0.roots (length lines + 1) no_ops (from_line head.1 (numbered 1 lines)) >>= λ ops. Ok (target_of head.0 ops)
 
 abbrev head_of : Target → Head
-head_of target = record { fields = target.fields; roots = target.roots; nodes = target.nodes }
+head_of target = record { kinds = item_kind ∷ []; fields = target.fields; roots = target.roots; nodes = target.nodes }
+
+-- a target with these kinds
+abbrev pub target_of_kinds : Target → List (List ℕ) → Target
+target_of_kinds target kinds = record target { kinds = kinds }
 
 abbrev op_lines_of : Target → List TargetOp → List (List (List ℕ))
 op_lines_of target ops = flat_map (target_op_lines target.fields target.roots) ops
@@ -276,13 +284,13 @@ ops_read_of target past at op rest is same =
     let roots = target.roots in
     let last = behind_ops [] op rest in
     let are : AreOps (length fields) (length roots) (op ∷ rest) = rw same at is.ops in
-    let first = op_within (length fields) (length roots) op (and_parts (is_target_op (length fields) (length roots) op) (list_all (is_target_op (length fields) (length roots)) rest) are.each).0 in
+    let first = op_within (length fields) (length roots) op (and_parts (is_target_op 1 (length fields) (length roots) op) (list_all (is_target_op 1 (length fields) (length roots)) rest) are.each).0 in
     let given : after_spelled fields roots no_ops (op_lines_of target (op ∷ rest)) ≡ Ok last
     = lines_then fields roots no_ops (in_code WrapUp [] op) (target_op_lines fields roots op) (op_lines_of target rest) (Ok last) (first_op_read fields roots op is.fields is.roots first)
     (ops_spelled fields roots [] op rest (op ∷ rest) is.fields is.roots are refl) in
     let read : after_target_lines fields roots no_ops (numbered at (map joined_words (op_lines_of target (op ∷ rest)))) ≡ Ok last
     = lines_read fields roots (op_lines_of target (op ∷ rest)) at no_ops last
-    (each_lines (target_op_lines fields roots) (is_target_op (length fields) (length roots)) (λ op it. op_are fields roots op is.fields is.roots it) (op ∷ rest) are.each) given in
+    (each_lines (target_op_lines fields roots) (is_target_op 1 (length fields) (length roots)) (λ op it. op_are fields roots op is.fields is.roots it) (op ∷ rest) are.each) given in
     rw (read, ops_finished (length fields) (length roots) [] op rest (op ∷ rest) are.each refl) refl
 
 -- the whole target
@@ -297,7 +305,7 @@ read_of_spelled target (op ∷ rest) is same =
     let count : 1 + length (spelled_target_version ∷ lines) ≡ at = omega arith in
     let are : AreOps (length target.fields) (length target.roots) (op ∷ rest) = rw same at is.ops in
     let op_lines_are = op_are target.fields target.roots op is.fields is.roots
-    (and_parts (is_target_op (length target.fields) (length target.roots) op) (list_all (is_target_op (length target.fields) (length target.roots)) rest) are.each).0 in
+    (and_parts (is_target_op 1 (length target.fields) (length target.roots) op) (list_all (is_target_op 1 (length target.fields) (length target.roots)) rest) are.each).0 in
     rw (
       passes 1 2 (spelled_target_version ∷ []) (lines ++ behind) refl,
       head_read_of target past at (spelled_target_op op) _ is op_lines_are.0 refl refl,
@@ -308,7 +316,7 @@ read_of_spelled target (op ∷ rest) is same =
 pub spellings_spell : SpellingsSpell
 spellings_spell target within =
     let is = parts_of target within in
-    let ops_are = each_lines (target_op_lines target.fields target.roots) (is_target_op (length target.fields) (length target.roots))
+    let ops_are = each_lines (target_op_lines target.fields target.roots) (is_target_op 1 (length target.fields) (length target.roots))
     (λ op it. op_are target.fields target.roots op is.fields is.roots it) target.ops (is.ops).each in
     ap read_of (lines_found (spelled_target target) (version_is, both (declaration_lines (declared_by target)) (op_lines_of target target.ops) (declarations_are target is) ops_are))
-    ∙ read_of_spelled target target.ops is refl
+    ∙ read_of_spelled target target.ops is refl ∙ ap (λ kinds. Ok (target_of_kinds target kinds)) (sym is.kinds)

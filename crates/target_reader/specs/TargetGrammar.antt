@@ -241,7 +241,7 @@ version_end past lines = after_version (codes "oat") past lines
 
 -- declarations, with operations after them
 abbrev pub target_of : Head → List TargetOp → Target
-target_of head ops = record { fields = head.fields; roots = head.roots; nodes = head.nodes; ops = ops }
+target_of head ops = record { kinds = head.kinds; fields = head.fields; roots = head.roots; nodes = head.nodes; ops = ops }
 
 -- the target that bytes spell, or the first fault. Where a further line must follow, the fault is one line past the last
 abbrev pub target_read : List ℕ → Result Target LineFault

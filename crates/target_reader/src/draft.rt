@@ -53,7 +53,7 @@ fn no_operation(alloc: Global) -> TargetOp
 fn new(instr: &TargetInstr) -> bool
     ensures { result ≡ is_target_new instr.now }
 {
-    matches!(instr, TargetInstr::Plain(Instr::New(_)))
+    matches!(instr, TargetInstr::Plain(Instr::New(..)))
 }
 
 /// How many `new` a method has.

@@ -25,7 +25,7 @@ const MOST_NEWS: usize = 4;
 fn is_fifth(draft: &OpsDraft, instr: &Instr) -> bool
     ensures { result ≡ is_fifth_target_new (draft_shown draft.now) (Whole instr.now) }
 {
-    matches!(instr, Instr::New(_)) && draft.news() >= MOST_NEWS
+    matches!(instr, Instr::New(..)) && draft.news() >= MOST_NEWS
 }
 
 /// An instruction's line as it is read with no line after it: a commit whose entries are missing has the fault after it.

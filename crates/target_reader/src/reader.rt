@@ -122,6 +122,7 @@ pub fn read_target(alloc: Global, input: &[u8]) -> Result<Target, ParseError>
     let (head, first) = parse_head(alloc, input, behind)?;
     let ops = read_ops(alloc, input, first, &head.fields, &head.roots)?;
     Ok(Target {
+        kinds: head.kinds,
         fields: head.fields,
         roots: head.roots,
         nodes: head.nodes,

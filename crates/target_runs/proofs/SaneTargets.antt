@@ -33,7 +33,7 @@ use Rattle.target_runs.proofs.Limited.{MethodLimits, op_limits, some_op}
 module _ {target : Target} {text : Text} (runs : IsRunnable target text) (method : Method target text) where
   -- a `new` stands in a generator
   generates : (at : ℕ) (i : Instr) (path : List ℕ) → slice_get (code_in method) at ≡ Some (Plain i) → TargetPath (code_in method) path at → IsTrue (is_new i) → method.wrapup ≡ false
-  generates at (instr.New d) path is leads new = (new_is_passed_once target text runs.normal runs.barred.erases method path at d (record { leads = leads; stands = is })).0
+  generates at (instr.New d kind) path is leads new = (new_is_passed_once target text runs.normal runs.barred.erases method path at d kind (record { leads = leads; stands = is })).0
   generates at _ path is leads new = absurd cc
 
   instr_sane : (at : ℕ) (i : TargetInstr) (path : List ℕ) → slice_get (code_in method) at ≡ Some i → TargetPath (code_in method) path at → InstrSane target method.wrapup (length (code_in method)) i
@@ -50,7 +50,7 @@ module _ {target : Target} {text : Text} (runs : IsRunnable target text) (method
 
   sane_at : (at : ℕ) (i : TargetInstr) (path : List ℕ) → slice_get (code_in method) at ≡ Some i → TargetPath (code_in method) path at → SaneAt target method.wrapup (code_in method) at i
   sane_at at i path is leads = record {
-    limits = item_passes (is_target_instr (length target.fields) (length target.roots)) (code_in method) at i limits.each is;
+    limits = item_passes (is_target_instr (length target.kinds) (length target.fields) (length target.roots)) (code_in method) at i limits.each is;
     own = instr_sane at i path is leads;
     goes = subst (λ (o : Option TargetInstr). (to : ℕ) → IsTrue (target_goes_from o at to) → to < length (code_in method)) is
         (λ to goes. targets_stay_inside target text runs.small runs.normal runs.barred.erases method path at to leads goes);

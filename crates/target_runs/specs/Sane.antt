@@ -31,7 +31,7 @@ InstrSane target wrapup count (Guard r) = Unit {0}
 
 -- of an instruction to which a path leads: it is within the limits, and where control goes on it stays inside the method
 pub record SaneAt (target : Target) (wrapup : Bool) (code : List TargetInstr) (at : ℕ) (i : TargetInstr) : Type 0 where
-  pub limits : IsTrue (is_target_instr (length target.fields) (length target.roots) i)
+  pub limits : IsTrue (is_target_instr (length target.kinds) (length target.fields) (length target.roots) i)
   pub own : InstrSane target wrapup (length code) i
   pub goes : (to : ℕ) → IsTrue (target_goes_from (Some i) at to) → to < length code
 

@@ -8,6 +8,7 @@ use Rattle.oa_text.specs.Lines.{TextLine, lines_of, numbered}
 use Rattle.oa_text.specs.Tokens.{words_of}
 use Rattle.norm_lang.specs.declared.text.FieldDecl.{FieldDecl}
 use Rattle.norm_lang.specs.declared.text.RootDecl.{RootDecl}
+use Rattle.norm_lang.specs.LineWords.{item_kind}
 use Rattle.norm_lang.specs.Faults.{LineFault, ◌>>=◌, at_line}
 use Rattle.norm_lang.specs.Spelling.{declaration_lines, spelled_nodes, spelled_node, spelled_root}
 use Rattle.norm_lang.specs.Grammar.{Fields, Roots, Draft, draft_at, after_lines}
@@ -26,7 +27,7 @@ use Rattle.target_code.specs.TargetLimits.{is_target_op}
 use Rattle.target_reader.specs.TargetGrammar.{WrapUp, OpsDraft, no_ops, after_target_words, after_target_lines, ops_read, version_of, version_end, target_of}
 use Rattle.target_reader.proofs.CodeSpelled.{after_spelled, lines_then, in_code}
 use Rattle.target_reader.proofs.OpsSpelled.{op_is as op_within, AreOps, first_op_read, behind_ops, ops_spelled, ops_finished}
-use Rattle.target_reader.proofs.Spelled.{IsTarget, parts_of, declarations_read, fields_first, declarations_begin_none}
+use Rattle.target_reader.proofs.Spelled.{target_of_kinds, IsTarget, parts_of, declarations_read, fields_first, declarations_begin_none}
 use Rattle.target_text_laws.specs.TargetStandsFor.{TargetsAreSaid}
 use Rattle.target_text_laws.proofs.Parts.{Lines, told_both, all_later, from_twice, HeadSplit, head_split, SameParts, same_parts}
 use Rattle.target_text_laws.proofs.TargetsSaid.{read_of, target_of_bytes}
@@ -137,7 +138,7 @@ ops_given target past place lines op rest is same plain_lines tells =
     let roots = target.roots in
     let last = behind_ops [] op rest in
     let are : AreOps (length fields) (length roots) (op ∷ rest) = rw same at is.ops in
-    let first = op_within (length fields) (length roots) op (and_parts (is_target_op (length fields) (length roots) op) (list_all (is_target_op (length fields) (length roots)) rest) are.each).0 in
+    let first = op_within (length fields) (length roots) op (and_parts (is_target_op 1 (length fields) (length roots) op) (list_all (is_target_op 1 (length fields) (length roots)) rest) are.each).0 in
     let given : after_spelled fields roots no_ops (op_lines_of target (op ∷ rest)) ≡ Ok last
     = lines_then fields roots no_ops (in_code WrapUp [] op) (target_op_lines fields roots op) (op_lines_of target rest) (Ok last) (first_op_read fields roots op is.fields is.roots first)
     (ops_spelled fields roots [] op rest (op ∷ rest) is.fields is.roots are refl) in
@@ -146,7 +147,7 @@ ops_given target past place lines op rest is same plain_lines tells =
     rw (read, ops_finished (length fields) (length roots) [] op rest (op ∷ rest) are.each refl) refl
 
 abbrev head_of_target : Target → Head
-head_of_target target = record { fields = target.fields; roots = target.roots; nodes = target.nodes }
+head_of_target target = record { kinds = item_kind ∷ []; fields = target.fields; roots = target.roots; nodes = target.nodes }
 
 abbrev head_at : Target → ℕ → Result (Head × ℕ) LineFault
 head_at target at = Ok (head_of_target target, at)
@@ -214,5 +215,5 @@ target_given target lines (op ∷ rest) is same plain_lines tells =
 pub targets_are_said : TargetsAreSaid
 targets_are_said bytes target = (
   λ spells. let it = target_of_bytes bytes target spells in (it.plain_lines, it.within, it.told),
-  λ has. target_given target (lines_of bytes) target.ops (parts_of target has.1) refl has.0 has.2,
+  λ has. let is = parts_of target has.1 in target_given target (lines_of bytes) target.ops is refl has.0 has.2 ∙ ap (λ kinds. Ok (target_of_kinds target kinds)) (sym is.kinds),
 )

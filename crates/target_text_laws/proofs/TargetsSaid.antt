@@ -12,13 +12,14 @@ use Rattle.norm_lang.specs.declared.text.FieldDecl.{FieldDecl}
 use Rattle.norm_lang.specs.declared.text.RootDecl.{RootDecl}
 use Rattle.norm_lang.specs.declared.text.Text.{Text}
 use Rattle.norm_lang.specs.Faults.{LineFault, ◌>>=◌, form_fault, at_line}
-use Rattle.norm_lang.specs.Limits.{are_fields, are_nodes, are_roots}
+use Rattle.norm_lang.specs.Limits.{are_kinds, are_fields, are_nodes, are_roots}
 use Rattle.norm_lang.specs.Spelling.{spelled_version, declaration_lines}
 use Rattle.norm_lang.specs.Grammar.{Section, Start, Opening, Fields, Nodes, Roots, Begun, Generator, WrapUp, Shipped, Draft, draft_at, is_comment, after_lines}
 use Rattle.line_words.specs.Lines.{words_in, first_word}
 use Rattle.norm_parser.specs.declared.head.Head.{Head}
 use Rattle.norm_parser.specs.FrontRead.{from_line, ended, whole_in, whole_head, before_op, head_in, IsHeadWithinLimits}
 use Rattle.text_laws.specs.StandsFor.{is_plain_line, begins_with_hash, is_skipped, told_in, told}
+use Rattle.text_laws.proofs.OneKind.{item_kinds}
 use Rattle.text_laws.proofs.Readings.{then_has, demanded}
 use Rattle.text_laws.proofs.DraftLimits.{Keeps, Kept, lines_kept, at_line_has, nothing_declared, may_have_fields, roots_within}
 use Rattle.text_laws.proofs.DraftSaid.{SaysIn, SaidIn, told_line, same_comment, declared_lines}
@@ -42,7 +43,7 @@ read_of lines =
 
 -- the text that declares the same and has no operation
 abbrev pub head_text : Head → Text
-head_text head = record { fields = head.fields; roots = head.roots; nodes = head.nodes; ops = [] }
+head_text head = record { kinds = head.kinds; fields = head.fields; roots = head.roots; nodes = head.nodes; ops = [] }
 
 -- declarations that lines tell
 record TellsHead (lines : Lines) (head : Head) : Type 0 where
@@ -194,22 +195,24 @@ pub record TargetTold (lines : List (List ℕ)) (target : Target) : Type 0 where
   pub within : is_target_within_limits target ≡ true
   pub told : told_in lines ≡ spelled_target target
 
-within_of : (head : Head) (ops : List TargetOp) → IsHeadWithinLimits head → are_target_ops (length head.fields) (length head.roots) ops ≡ true → is_target_within_limits (target_of head ops) ≡ true
+within_of : (head : Head) (ops : List TargetOp) → IsHeadWithinLimits head → are_target_ops 1 (length head.fields) (length head.roots) ops ≡ true → is_target_within_limits (target_of head ops) ≡ true
 within_of head ops within last =
     let fields = are_fields head.fields in
     let nodes = are_nodes head.fields head.nodes in
     let roots = are_roots (length head.nodes) head.roots in
-    let all = are_target_ops (length head.fields) (length head.roots) ops in
-    let p = and_parts fields (nodes && roots) within in
+    let all = are_target_ops 1 (length head.fields) (length head.roots) ops in
+    let named = and_parts (are_kinds head.kinds) (fields && (nodes && roots)) within in
+    let p = and_parts fields (nodes && roots) named.1 in
     let q = and_parts nodes roots p.1 in
-    and_from fields (nodes && (roots && all)) p.0 (and_from nodes (roots && all) q.0 (and_from roots all q.1 last))
+    let with_ops : fields && (nodes && (roots && all)) ≡ true = and_from fields (nodes && (roots && all)) p.0 (and_from nodes (roots && all) q.0 (and_from roots all q.1 last)) in
+    and_from (are_kinds head.kinds) _ named.0 (rw (item_kinds head.kinds named.0) with_ops)
 
 pub target_told : (lines : List (List ℕ)) → IfOk (read_of lines) (TargetTold lines)
 target_told lines =
     then_has (version_end past (numbered 1 lines)) _ (VersionSplit 1 lines) (TargetTold lines) (version_split past 1 lines) λ behind version.
     then_has (head_in (from_line behind (numbered 1 lines)) past) _ (HeadTold behind version.rest) (TargetTold lines) (headed behind version) λ head told.
     then_has (ops_read head.0.fields head.0.roots past no_ops (from_line head.1 (numbered 1 lines))) _
-    (λ ops. OpsTold head.0.fields head.0.roots told.back ops × (are_target_ops (length head.0.fields) (length head.0.roots) ops ≡ true)) (TargetTold lines) (opsed behind version head told) λ ops has.
+    (λ ops. OpsTold head.0.fields head.0.roots told.back ops × (are_target_ops 1 (length head.0.fields) (length head.0.roots) ops ≡ true)) (TargetTold lines) (opsed behind version head told) λ ops has.
     record {
       plain_lines = version.plain_too (told.plain_too has.0.plain_lines);
       within = within_of head.0 ops told.within has.1;
@@ -223,11 +226,11 @@ target_told lines =
     headed behind version = rw version.left (head_told behind past version.rest)
 
     opsed : (behind : ℕ) (version : VersionSplit 1 lines behind) (head : Head × ℕ) (told : HeadTold behind version.rest head)
-        → IfOk (ops_read head.0.fields head.0.roots past no_ops (from_line head.1 (numbered 1 lines))) (λ ops. OpsTold head.0.fields head.0.roots told.back ops × (are_target_ops (length head.0.fields) (length head.0.roots) ops ≡ true))
+        → IfOk (ops_read head.0.fields head.0.roots past no_ops (from_line head.1 (numbered 1 lines))) (λ ops. OpsTold head.0.fields head.0.roots told.back ops × (are_target_ops 1 (length head.0.fields) (length head.0.roots) ops ≡ true))
     opsed behind version head told =
         let from : from_line head.1 (numbered 1 lines) ≡ numbered head.1 told.back
         = sym (from_twice head.1 behind (numbered 1 lines) told.later) ∙ ap (from_line head.1) version.left ∙ told.left in
-        rw from (both (ops_read head.0.fields head.0.roots past no_ops (numbered head.1 told.back)) (OpsTold head.0.fields head.0.roots told.back) (λ ops. are_target_ops (length head.0.fields) (length head.0.roots) ops ≡ true)
+        rw from (both (ops_read head.0.fields head.0.roots past no_ops (numbered head.1 told.back)) (OpsTold head.0.fields head.0.roots told.back) (λ ops. are_target_ops 1 (length head.0.fields) (length head.0.roots) ops ≡ true)
         (ops_told head.0.fields head.0.roots head.1 past told.back) (ops_within head.0.fields head.0.roots past (numbered head.1 told.back)))
 
 pub target_of_bytes : (bytes : List ℕ) (target : Target) → Spells bytes target → TargetTold (lines_of bytes) target

@@ -14,6 +14,7 @@ use Rattle.norm_lang.specs.declared.text.CasEntry.{CasEntry}
 use Rattle.norm_lang.specs.declared.text.Instr.{Instr}
 use Rattle.norm_lang.specs.declared.text.Instr.TheVariants as instr
 use Rattle.norm_lang.specs.declared.text.Op.{Op}
+use Rattle.norm_lang.specs.LineWords.{item_kind}
 use Rattle.norm_lang.specs.Spelling.{spelled_cas, spelled_entry, spelled_instr, instr_lines, code_lines}
 use Rattle.norm_lang.specs.Instructions.{Step, Whole, Commits}
 use Rattle.norm_lang.specs.Grammar.{Section, Generator, WrapUp, Draft, is_new, news_in, news_of, with_instr, with_entries, with_step, is_fifth_new, has_room, is_comment, after_words}
@@ -43,7 +44,7 @@ instr_inside fields roots (instr.Null d) = refl
 instr_inside fields roots (instr.LoadRoot d x) = refl
 instr_inside fields roots (instr.LoadPick d x n a) = refl
 instr_inside fields roots (instr.LoadField d a f) = refl
-instr_inside fields roots (instr.New d) = refl
+instr_inside fields roots (instr.New d kind) = refl
 instr_inside fields roots (instr.Put a f b) = refl
 instr_inside fields roots (instr.Cas entry l) = cas_inside fields roots entry.place entry l refl
 instr_inside fields roots (instr.Jump l) = refl
@@ -95,7 +96,7 @@ abbrev pub in_code : Section → ℕ → List FieldDecl → List NodeDecl → Li
 in_code section count fields nodes roots ops op = record {
   section = section;
   nodes = count;
-  text = record { fields = fields; roots = roots; nodes = nodes; ops = ops };
+  text = record { kinds = item_kind ∷ []; fields = fields; roots = roots; nodes = nodes; ops = ops };
   op = op;
   left = 0;
   entries = [];
@@ -118,7 +119,7 @@ step_line_read _ count fields nodes roots ops op (word ∷ rest) step is inside 
 
 -- the lines of an instruction in a method
 instr_read : (section : Section) (count : ℕ) (fields : List FieldDecl) (nodes : List NodeDecl) (roots : List RootDecl) (ops : List Op) (op : Op) (i : Instr)
-    → IsMethod section → AreFields fields → AreRoots roots → is_instr (length fields) (length roots) i ≡ true → has_room (in_code section count fields nodes roots ops op) (step_of i) ≡ true
+    → IsMethod section → AreFields fields → AreRoots roots → is_instr 1 (length fields) (length roots) i ≡ true → has_room (in_code section count fields nodes roots ops op) (step_of i) ≡ true
     → after_spelled (in_code section count fields nodes roots ops op) (instr_lines fields roots i) ≡ Ok (in_code section count fields nodes roots ops (with_instr section op i))
 instr_read section count fields nodes roots ops op (instr.Commit entries) is fs rs fits room =
     let draft = in_code section count fields nodes roots ops op in
@@ -154,7 +155,7 @@ news_before done rest whole i same new =
     omega arith
 
 not_fifth : (op : Op) (i : Instr) → (is_new i ≡ true → news_of op ≤ 3) → is_fifth_new op (step_of i) ≡ false
-not_fifth op (instr.New d) few = let le : news_of op ≤ 3 = few refl in le-ltb 3 (news_of op) le
+not_fifth op (instr.New d kind) few = let le : news_of op ≤ 3 = few refl in le-ltb 3 (news_of op) le
 not_fifth op i few = refl
 
 room_left : (section : Section) (count : ℕ) (fields : List FieldDecl) (nodes : List NodeDecl) (roots : List RootDecl) (ops : List Op) (op : Op) (done rest whole : List Instr) (i : Instr)
@@ -179,7 +180,7 @@ one_more _ op done i is = absurd is
 
 -- the lines of a method's code
 pub code_read : (section : Section) (count : ℕ) (fields : List FieldDecl) (nodes : List NodeDecl) (roots : List RootDecl) (ops : List Op) (op : Op) (done rest whole : List Instr)
-    → IsMethod section → AreFields fields → AreRoots roots → list_all (is_instr (length fields) (length roots)) whole ≡ true → length whole ≤ 256 → news_of (with_code section op whole) ≤ 4
+    → IsMethod section → AreFields fields → AreRoots roots → list_all (is_instr 1 (length fields) (length roots)) whole ≡ true → length whole ≤ 256 → news_of (with_code section op whole) ≤ 4
     → done ++ rest ≡ whole
     → after_spelled (in_code section count fields nodes roots ops (with_code section op done)) (code_lines fields roots rest) ≡ Ok (in_code section count fields nodes roots ops (with_code section op whole))
 code_read section count fields nodes roots ops op done [] whole is fs rs fit short few same = let e : done ≡ whole = sym (append-nil done) ∙ same in rw e refl
@@ -188,7 +189,7 @@ code_read section count fields nodes roots ops op done (i ∷ rest) whole is fs 
     let next = in_code section count fields nodes roots ops (with_code section op (done ++ i ∷ [])) in
     let last = in_code section count fields nodes roots ops (with_code section op whole) in
     lines_then draft next (instr_lines fields roots i) (code_lines fields roots rest) (Ok last)
-    (instr_read section count fields nodes roots ops (with_code section op done) i is fs rs (passes_among (is_instr (length fields) (length roots)) done rest whole i same fit)
+    (instr_read section count fields nodes roots ops (with_code section op done) i is fs rs (passes_among (is_instr 1 (length fields) (length roots)) done rest whole i same fit)
     (room_left section count fields nodes roots ops op done rest whole i is same short few)
     ∙ ap (λ o. Ok (in_code section count fields nodes roots ops o)) (one_more section op done i is))
     (code_read section count fields nodes roots ops op (done ++ i ∷ []) rest whole is fs rs fit short few (append_assoc done (i ∷ []) rest ∙ same))

@@ -17,28 +17,30 @@ use Rattle.norm_lang.specs.declared.text.Instr.TheVariants as instr
 use Rattle.norm_lang.specs.declared.text.Op.{Op}
 use Rattle.norm_lang.specs.declared.text.Text.{Text}
 use Rattle.norm_lang.specs.Faults.{at_line, form_fault, too_many}
-use Rattle.norm_lang.specs.LineWords.{is_name, end_at}
+use Rattle.norm_lang.specs.LineWords.{item_kind, is_name, end_at}
 use Rattle.norm_lang.specs.Declarations.{version_line, field_line, nodes_line, node_line, root_line, op_line, use_line, is_reserved}
 use Rattle.norm_lang.specs.Instructions.{Step, Whole, Commits, step_line, entry_line}
 use Rattle.norm_lang.specs.Grammar.{Section, Start, Opening, Fields, Nodes, Roots, Begun, Generator, WrapUp, Shipped, Draft, draft_at, among_nodes, with_whole_op, is_new, news_in, news_of, code_so_far, with_instr, with_entries, with_step, has_room, in_start, in_fields, in_opening, in_nodes, in_roots, in_begun, in_method, in_generator, in_wrap_up, in_section, in_place, is_comment, after_words, plain, after_line, after_lines, finished_in, finished, text_in}
 use Rattle.norm_lang.specs.Laws.{TextsAreWithin}
-use Rattle.norm_lang.specs.Limits.{are_fields, are_nodes, are_roots, are_starts, is_root, is_op, is_instr, is_entry, is_within_limits}
+use Rattle.norm_lang.specs.Limits.{are_kinds, is_field, are_fields, are_nodes, are_roots, is_root, is_op, is_instr, is_entry, is_within_limits}
 use Rattle.text_laws.proofs.Readings.{then_has, anyhow, demanded, either}
+use Rattle.text_laws.proofs.OneKind.{is_node}
 use Rattle.text_laws.proofs.Declared.{SoFar, IsNext, pushed, all_pushed, whole_list}
 use Rattle.text_laws.proofs.DeclarationLimits.{NextField, field_fits, nodes_fit, node_fits, NextRoot, root_fits, NextOp, op_fits, use_fits}
 use Rattle.text_laws.proofs.InstrLimits.{StepFits, step_fits, entry_fits}
 
 abbrev pub FieldsSoFar : List FieldDecl → Type 0
-FieldsSoFar fields = SoFar 4 (λ field. field.name) (λ field. is_name field.name) fields
+FieldsSoFar fields = SoFar 4 (λ field. field.name) is_field fields
 
 abbrev pub RootsSoFar : ℕ → List RootDecl → Type 0
 RootsSoFar nodes roots = SoFar 256 (λ root. root.name) (is_root nodes) roots
 
 abbrev pub OpsSoFar : ℕ → ℕ → List Op → Type 0
-OpsSoFar fields roots ops = SoFar 16 (λ op. op.name) (is_op fields roots) ops
+OpsSoFar fields roots ops = SoFar 16 (λ op. op.name) (is_op 1 fields roots) ops
 
 -- nothing is declared
 pub record IsEmpty (text : Text) : Type 0 where
+  pub kinds : text.kinds ≡ item_kind ∷ []
   pub fields : text.fields ≡ []
   pub nodes : text.nodes ≡ []
   pub roots : text.roots ≡ []
@@ -46,6 +48,7 @@ pub record IsEmpty (text : Text) : Type 0 where
 
 -- fields alone are declared
 pub record HasFields (text : Text) : Type 0 where
+  pub kinds : text.kinds ≡ item_kind ∷ []
   pub fields : FieldsSoFar text.fields
   pub nodes : text.nodes ≡ []
   pub roots : text.roots ≡ []
@@ -53,15 +56,17 @@ pub record HasFields (text : Text) : Type 0 where
 
 -- fields and nodes are declared, up to the count
 pub record HasNodes (count : ℕ) (text : Text) : Type 0 where
+  pub kinds : text.kinds ≡ item_kind ∷ []
   pub fields : are_fields text.fields ≡ true
   pub few : nat_le count 256 ≡ true
-  pub each : list_all (λ node. are_starts count text.fields node.values) text.nodes ≡ true
+  pub each : list_all (is_node count text.fields) text.nodes ≡ true
   pub within : nat_le (length text.nodes) count ≡ true
   pub roots : text.roots ≡ []
   pub ops : text.ops ≡ []
 
 -- fields, all nodes and roots are declared
 pub record HasRoots (count : ℕ) (text : Text) : Type 0 where
+  pub kinds : text.kinds ≡ item_kind ∷ []
   pub fields : are_fields text.fields ≡ true
   pub nodes : are_nodes text.fields text.nodes ≡ true
   pub all : length text.nodes ≡ count
@@ -70,6 +75,7 @@ pub record HasRoots (count : ℕ) (text : Text) : Type 0 where
 
 -- the declarations are whole, and operations stand after them
 pub record HasOps (text : Text) : Type 0 where
+  kinds : text.kinds ≡ item_kind ∷ []
   fields : are_fields text.fields ≡ true
   nodes : are_nodes text.fields text.nodes ≡ true
   roots : are_roots (length text.nodes) text.roots ≡ true
@@ -78,7 +84,7 @@ pub record HasOps (text : Text) : Type 0 where
 -- a method's instructions so far
 pub record CodeSoFar (fields roots : ℕ) (code : List Instr) : Type 0 where
   few : nat_le (length code) 256 ≡ true
-  each : list_all (is_instr fields roots) code ≡ true
+  each : list_all (is_instr 1 fields roots) code ≡ true
 
 -- the operation whose lines stand here
 pub record OpSoFar (fields roots : ℕ) (ops : List Op) (op : Op) : Type 0 where
@@ -142,7 +148,7 @@ least n = grind (arith, nat_tests)
 
 -- fields may follow where nothing is declared
 pub may_have_fields : (text : Text) → IsEmpty text → HasFields text
-may_have_fields text h = record { fields = rw h.fields no_fields; nodes = h.nodes; roots = h.roots; ops = h.ops }
+may_have_fields text h = record { kinds = h.kinds; fields = rw h.fields no_fields; nodes = h.nodes; roots = h.roots; ops = h.ops }
 
 -- once all nodes are declared, roots follow
 among_kept : (draft : Draft) → HasNodes draft.nodes draft.text → Kept (among_nodes draft)
@@ -154,6 +160,7 @@ among_kept draft h = go (nat_lt (length draft.text.nodes) draft.nodes) refl
         let within : nat_le (length draft.text.nodes) draft.nodes ≡ true = h.within in
         let all : length draft.text.nodes ≡ draft.nodes = grind (arith, nat_tests) in
         record {
+          kinds = h.kinds;
           fields = h.fields;
           nodes = and_from _ _ (and_from _ _ (least (length draft.text.nodes)) (rw all h.few)) (rw all h.each);
           all = all;
@@ -165,6 +172,7 @@ fields_kept : (draft : Draft) (word : List ℕ) (rest : List (List ℕ)) → Has
 fields_kept draft word rest h =
     either (bytes_eq word (codes "field")) _ _ _
     (λ _. then_has (field_line draft.text.fields rest) _ (NextField draft.text.fields) _ (field_fits draft.text.fields rest) λ field next. record {
+      kinds = h.kinds;
       fields = pushed 4 _ _ draft.text.fields field h.fields next.0 next.1;
       nodes = h.nodes;
       roots = h.roots;
@@ -172,6 +180,7 @@ fields_kept draft word rest h =
     }) λ _.
     either (bytes_eq word (codes "nodes") && nat_lt 0 (length draft.text.fields)) _ _ _
     (λ e. then_has (nodes_line rest) _ (λ count. nat_le count 256 ≡ true) _ (nodes_fit rest) λ count few. among_kept (record draft { nodes = count }) (record {
+      kinds = h.kinds;
       fields = whole_list 4 _ _ draft.text.fields h.fields (and_parts _ _ e).1;
       few = few;
       each = rw h.nodes refl;
@@ -188,8 +197,9 @@ opening_kept draft word rest h =
 nodes_kept : (draft : Draft) (word : List ℕ) (rest : List (List ℕ)) → Keeps Nodes draft → IfOk (in_nodes draft word rest) Kept
 nodes_kept draft word rest h =
     either (bytes_eq word (codes "node")) _ _ _
-    (λ _. then_has (node_line draft.text.fields draft.nodes rest) _ (λ node. are_starts draft.nodes draft.text.fields node.values ≡ true) _ (node_fits draft.text.fields draft.nodes rest) λ node fits.
+    (λ _. then_has (node_line draft.text.fields draft.nodes rest) _ (λ node. is_node draft.nodes draft.text.fields node ≡ true) _ (node_fits draft.text.fields draft.nodes rest) λ node fits.
     among_kept (record draft { text = record draft.text { nodes = draft.text.nodes ++ node ∷ [] } }) (record {
+      kinds = h.0.kinds;
       fields = h.0.fields;
       few = h.0.few;
       each = all_pushed _ draft.text.nodes node h.0.each fits;
@@ -219,6 +229,7 @@ roots_kept : (draft : Draft) (word : List ℕ) (rest : List (List ℕ)) → Keep
 roots_kept draft word rest h =
     either (bytes_eq word (codes "root")) _ _ _
     (λ _. then_has (root_line draft.nodes draft.text.roots rest) _ (NextRoot draft.nodes draft.text.roots) _ (root_fits draft.nodes draft.text.roots rest) λ root next. record {
+      kinds = h.kinds;
       fields = h.fields;
       nodes = h.nodes;
       all = h.all;
@@ -228,6 +239,7 @@ roots_kept draft word rest h =
     either (bytes_eq word (codes "op") && nat_lt 0 (length draft.text.roots)) _ _ _
     (λ e. then_has (op_line draft.text.ops rest) _ (NextOp draft.text.ops) _ (op_fits draft.text.ops rest) λ op next. record {
       text = record {
+        kinds = h.kinds;
         fields = h.fields;
         nodes = h.nodes;
         roots = rw h.all (whole_list 256 _ _ draft.text.roots h.roots (and_parts _ _ e).1);
@@ -242,7 +254,7 @@ begun_kept draft word rest h =
     either (bytes_eq word (codes "gen")) _ _ _ (λ _. anyhow (end_at rest) _ _ λ done. record { text = h.text; op = h.op; pending = tt }) λ _. tt
 
 -- one more instruction of a method
-code_pushed : (fields roots : ℕ) (code : List Instr) (i : Instr) → CodeSoFar fields roots code → nat_lt (length code) 256 ≡ true → is_instr fields roots i ≡ true
+code_pushed : (fields roots : ℕ) (code : List Instr) (i : Instr) → CodeSoFar fields roots code → nat_lt (length code) 256 ≡ true → is_instr 1 fields roots i ≡ true
     → CodeSoFar fields roots (code ++ i ∷ [])
 code_pushed fields roots code i h room fine = record { few = few_pushed; each = all_pushed _ code i h.each fine }
   where
@@ -273,7 +285,7 @@ news_fit n m false few fifth e = grind (arith, nat_tests)
 
 -- one more instruction of an operation
 op_pushed : (section : Section) (fields roots : ℕ) (ops : List Op) (op : Op) (i : Instr) → OpSoFar fields roots ops op
-    → nat_lt (length (code_so_far section op)) 256 ≡ true → not (is_new i && nat_lt 3 (news_of op)) ≡ true → is_instr fields roots i ≡ true
+    → nat_lt (length (code_so_far section op)) 256 ≡ true → not (is_new i && nat_lt 3 (news_of op)) ≡ true → is_instr 1 fields roots i ≡ true
     → OpSoFar fields roots ops (with_instr section op i)
 op_pushed Generator fields roots ops op i h room fifth fine = record {
   next = record { room = h.next.room; new = h.next.new };
@@ -295,7 +307,7 @@ op_pushed _ fields roots ops op i h room fifth fine = record {
 -- a whole instruction, or a commit whose entries follow
 whole_in_op : (section : Section) (draft : Draft) (i : Instr) → InOp section draft
     → nat_lt (length (code_so_far section draft.op)) 256 ≡ true → not (is_new i && nat_lt 3 (news_of draft.op)) ≡ true
-    → is_instr (length draft.text.fields) (length draft.text.roots) i ≡ true
+    → is_instr 1 (length draft.text.fields) (length draft.text.roots) i ≡ true
     → InOp section (record (at section draft) { op = with_instr section draft.op i })
 whole_in_op section draft i h room fifth fine = record { text = h.text; op = op_pushed section _ _ draft.text.ops draft.op i h.op room fifth fine; pending = tt }
 
@@ -357,7 +369,7 @@ record IsNextDraft (left : ℕ) (next : Draft) : Type 0 where
   left_as_before : next.left ≡ left
   some : nat_lt 0 (length next.text.ops) ≡ true
 
-op_is : (fields roots : ℕ) (ops : List Op) (op : Op) → OpSoFar fields roots ops op → nat_lt 0 (length op.generator) ≡ true → nat_lt 0 (length op.wrapup) ≡ true → is_op fields roots op ≡ true
+op_is : (fields roots : ℕ) (ops : List Op) (op : Op) → OpSoFar fields roots ops op → nat_lt 0 (length op.generator) ≡ true → nat_lt 0 (length op.wrapup) ≡ true → is_op 1 fields roots op ≡ true
 op_is fields roots ops op h begun some =
     and_from _ _ h.named (and_from _ _ h.args (and_from _ _ (and_from _ _ (and_from _ _ begun h.generator.few) h.generator.each)
     (and_from _ _ (and_from _ _ (and_from _ _ some h.wrapup.few) h.wrapup.each) h.news)))
@@ -366,6 +378,7 @@ whole_op_has : (draft : Draft) → Keeps WrapUp draft → IfOk (with_whole_op dr
 whole_op_has draft h =
     demanded form_fault (nat_lt 0 (length draft.op.wrapup)) _ _ λ some. record {
       text = record {
+        kinds = h.0.text.kinds;
         fields = h.0.text.fields;
         nodes = h.0.text.nodes;
         roots = h.0.text.roots;
@@ -479,7 +492,7 @@ few_in Begun draft h = few_of draft.text h.text
 few_in Generator draft h = few_of draft.text h.text
 few_in WrapUp draft h = few_of draft.text h.0.text
 few_in Shipped draft h =
-    let parts = and_parts _ _ h in
+    let parts = and_parts _ _ (and_parts _ _ h).1 in
     (few_fields draft.text.fields parts.0, few_roots (length draft.text.nodes) draft.text.roots (and_parts _ _ (and_parts _ _ parts.1).1).0)
 
 -- at most 4 fields and 256 roots are declared
@@ -488,8 +501,9 @@ few_declared draft h = few_in draft.section draft h
 
 -- declarations with at least one root are those of a text within the limits
 pub roots_within : (draft : Draft) → Keeps Roots draft → nat_lt 0 (length draft.text.roots) ≡ true
-    → are_fields draft.text.fields && (are_nodes draft.text.fields draft.text.nodes && are_roots (length draft.text.nodes) draft.text.roots) ≡ true
-roots_within draft h some = and_from _ _ h.fields (and_from _ _ h.nodes (rw h.all (whole_list 256 _ _ draft.text.roots h.roots some)))
+    → are_kinds draft.text.kinds && (are_fields draft.text.fields && (are_nodes draft.text.fields draft.text.nodes && are_roots (length draft.text.nodes) draft.text.roots)) ≡ true
+roots_within draft h some =
+    and_from _ _ (rw h.kinds refl) (and_from _ _ h.fields (and_from _ _ h.nodes (rw h.all (whole_list 256 _ _ draft.text.roots h.roots some))))
 
 -- a text that ends is within the limits
 finished_in_is : (section : Section) (draft : Draft) → Keeps section draft → IfOk (finished_in section draft) (λ text. is_within_limits text ≡ true)
@@ -502,14 +516,15 @@ finished_in_is Begun draft h = tt
 finished_in_is Generator draft h = tt
 finished_in_is WrapUp draft h =
     then_has (with_whole_op draft) _ (IsNextDraft draft.left) _ (whole_op_has draft h) λ next last.
-    and_from _ _ last.text.fields (and_from _ _ last.text.nodes (and_from _ _ last.text.roots (whole_list 16 _ _ next.text.ops last.text.ops last.some)))
+    and_from _ _ (rw last.text.kinds refl) (and_from _ _ last.text.fields (and_from _ _ last.text.nodes
+    (and_from _ _ last.text.roots (rw last.text.kinds (whole_list 16 _ _ next.text.ops last.text.ops last.some)))))
 finished_in_is Shipped draft h = h
 
 pub finished_is : (draft : Draft) → Kept draft → IfOk (finished draft) (λ text. is_within_limits text ≡ true)
 finished_is draft h = demanded form_fault (draft.left == 0) _ _ λ _. finished_in_is draft.section draft h
 
 pub nothing_declared : IsEmpty (draft_at Start).text
-nothing_declared = record { fields = refl; nodes = refl; roots = refl; ops = refl }
+nothing_declared = record { kinds = refl; fields = refl; nodes = refl; roots = refl; ops = refl }
 
 -- a text that lines spell is within the limits
 text_in_is : (lines : List (List ℕ)) → IfOk (text_in lines) (λ text. is_within_limits text ≡ true)

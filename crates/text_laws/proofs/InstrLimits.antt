@@ -14,12 +14,12 @@ use Rattle.text_laws.proofs.LineLimits.{number_then, positive_then, register_the
 
 -- an instruction within the limits, or a commit of at most 4 entries
 abbrev pub StepFits : ℕ → ℕ → Step → Type 0
-StepFits fields roots (Whole i) = is_instr fields roots i ≡ true
+StepFits fields roots (Whole i) = is_instr 1 fields roots i ≡ true
 StepFits fields roots (Commits count) = nat_le count 4 ≡ true
 
 -- every instruction that is read is within the limits, for so many fields and roots
 abbrev Gives : ℕ → ℕ → Result Instr ℕ → Type 0
-Gives fields roots read = IfOk read (λ i. is_instr fields roots i ≡ true)
+Gives fields roots read = IfOk read (λ i. is_instr 1 fields roots i ≡ true)
 
 module _ (fields : List FieldDecl) (roots : List RootDecl) where
   as_step : (read : Result Instr ℕ) → Gives (length fields) (length roots) read → IfOk (whole read) (StepFits (length fields) (length roots))
@@ -60,7 +60,7 @@ module _ (fields : List FieldDecl) (roots : List RootDecl) where
   load_fits words = register_then words _ _ λ d rest dh. register_then rest _ _ λ a rest ah. name_then rest _ _ λ x rest _. anyhow (end_at rest) _ _ λ done. field_then fields x _ _ λ i hi. and_from _ _ dh (and_from _ _ ah hi)
 
   new_fits : (words : List (List ℕ)) → Gives (length fields) (length roots) (new_line words)
-  new_fits words = one_then words _ _ λ a ha. ha
+  new_fits words = one_then words _ _ λ a ha. and_from _ _ ha refl
 
   put_fits : (words : List (List ℕ)) → Gives (length fields) (length roots) (put_line fields words)
   put_fits words = register_then words _ _ λ a rest ah. name_then rest _ _ λ x rest _. one_then rest _ _ λ b hb. field_then fields x _ _ λ i hi. and_from _ _ ah (and_from _ _ hi hb)

@@ -16,6 +16,7 @@ use Rattle.norm_lang.specs.Spelling.{retire_words, spelled_cas, spelled_entry, s
 use Rattle.norm_lang.specs.Faults.{form_fault}
 use Rattle.norm_lang.specs.Instructions.{retire_at, Step, Whole, Commits, step_line, entry_line}
 use Rattle.norm_lang.specs.Limits.{is_number, is_register, is_target, is_retire, is_entry, is_instr}
+use Rattle.text_laws.proofs.OneKind.{only_kind}
 use Rattle.text_laws.proofs.WordsRead.{number_read, register_read, AreFields, AreRoots, field_spelled, field_read, root_spelled, root_read}
 
 -- a line of a method, by its first word
@@ -82,7 +83,7 @@ cas_spelled fields roots (places.Field a f) expected replacement retire l fs rs 
     rw (register_read a o.0, field_spelled fields f fs o.1, register_read expected q.0, register_read replacement t.0, number_read l (target_small l to), retire_read retire t.1, field_read fields f fs o.1, to) refl
 
 -- the line of an instruction is read as it
-pub instr_spelled : (fields : List FieldDecl) (roots : List RootDecl) (i : Instr) → AreFields fields → AreRoots roots → is_instr (length fields) (length roots) i ≡ true
+pub instr_spelled : (fields : List FieldDecl) (roots : List RootDecl) (i : Instr) → AreFields fields → AreRoots roots → is_instr 1 (length fields) (length roots) i ≡ true
     → step_read fields roots (spelled_instr fields roots i) ≡ Ok (step_of i)
 instr_spelled fields roots (instr.Set d n) fs rs is =
     let p = and_parts (is_register d) (is_number n) is in
@@ -123,7 +124,9 @@ instr_spelled fields roots (instr.LoadField d a f) fs rs is =
     let p = and_parts (is_register d) (is_register a && nat_lt f (length fields)) is in
     let q = and_parts (is_register a) (nat_lt f (length fields)) p.1 in
     rw (register_read d p.0, register_read a q.0, field_spelled fields f fs q.1, field_read fields f fs q.1) refl
-instr_spelled fields roots (instr.New d) fs rs is = rw (register_read d is) refl
+instr_spelled fields roots (instr.New d kind) fs rs is =
+    let p = and_parts (is_register d) (nat_lt kind 1) is in
+    rw (register_read d p.0, only_kind kind p.1) refl
 instr_spelled fields roots (instr.Put a f b) fs rs is =
     let p = and_parts (is_register a) (nat_lt f (length fields) && is_register b) is in
     let q = and_parts (nat_lt f (length fields)) (is_register b) p.1 in

@@ -6,6 +6,7 @@ pub mod InstrLimits
 pub mod InstrsRead
 pub mod LineLimits
 pub mod LinesSpelled
+pub mod OneKind
 pub mod OneText
 pub mod OpsRead
 pub mod Readings

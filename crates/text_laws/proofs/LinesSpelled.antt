@@ -8,7 +8,7 @@ use Rattle.std.proofs.lemmas.Fmt.{decimal_digit, length-decimal-le}
 use Rattle.norm_lang.specs.declared.text.Reg.{Reg}
 use Rattle.norm_lang.specs.declared.text.Reg.TheVariants.{Num, Ref}
 use Rattle.norm_lang.specs.declared.text.FieldKind.{FieldKind}
-use Rattle.norm_lang.specs.declared.text.FieldKind.TheVariants as kinds
+use Rattle.norm_lang.specs.declared.text.FieldKind.TheVariants as holdings
 use Rattle.norm_lang.specs.declared.text.Start.{Start}
 use Rattle.norm_lang.specs.declared.text.Start.TheVariants as starts
 use Rattle.norm_lang.specs.declared.text.FieldDecl.{FieldDecl}
@@ -72,8 +72,8 @@ register_is (Num k) is = letter_word 110 k refl is
 register_is (Ref k) is = letter_word 114 k refl is
 
 kind_is : (kind : FieldKind) → IsWord (kind_word kind)
-kind_is kinds.Number = keyword (codes "num") refl
-kind_is kinds.Reference = keyword (codes "ref") refl
+kind_is holdings.Number = keyword (codes "num") refl
+kind_is (holdings.Reference k) = keyword (codes "ref") refl
 
 node_is : (j : ℕ) → j ≤ 256 → IsWord (node_word j)
 node_is zero few = keyword (codes "null") refl
@@ -88,10 +88,10 @@ node_is (suc j) few =
 
 -- a first value, with so many nodes
 start_is : (count : ℕ) (kind : FieldKind) (start : Start) → count ≤ 256 → is_start count kind start ≡ true → IsWord (start_word start)
-start_is count kinds.Number (starts.Value n) few is = number_word n is
-start_is count kinds.Reference (starts.Value n) few is = let e : false ≡ true = is in absurd (let f : ⊥ = cc in f)
-start_is count kinds.Number (starts.Node j) few is = let e : false ≡ true = is in absurd (let f : ⊥ = cc in f)
-start_is count kinds.Reference (starts.Node j) few is = let le : j ≤ count = leb-true j count is in node_is j (omega arith)
+start_is count holdings.Number (starts.Value n) few is = number_word n is
+start_is count (holdings.Reference k) (starts.Value n) few is = let e : false ≡ true = is in absurd (let f : ⊥ = cc in f)
+start_is count holdings.Number (starts.Node j) few is = let e : false ≡ true = is in absurd (let f : ⊥ = cc in f)
+start_is count (holdings.Reference k) (starts.Node j) few is = let le : j ≤ count = leb-true j count is in node_is j (omega arith)
 
 starts_are : (count : ℕ) (fields : List FieldDecl) (values : List Start) → count ≤ 256 → are_starts count fields values ≡ true → AllByRecursion IsWord (map start_word values)
 starts_are count [] [] few are = tt
@@ -184,7 +184,7 @@ cas_is fields roots (places.Field a f) expected replacement retire l fs rs is to
     record { few = omega (arith, retire_few retire); word = (keyword (codes "cas") refl, (register_is a o.0, (name_word (field_name fields f) (field_spelled fields f fs o.1), (w.0, (w.1.0, (target_word l to, w.1.1)))))) }
 
 -- the line of an instruction
-pub instr_is : (fields : List FieldDecl) (roots : List RootDecl) (i : Instr) → AreFields fields → AreRoots roots → is_instr (length fields) (length roots) i ≡ true
+pub instr_is : (fields : List FieldDecl) (roots : List RootDecl) (i : Instr) → AreFields fields → AreRoots roots → is_instr 1 (length fields) (length roots) i ≡ true
     → IsLine (spelled_instr fields roots i)
 instr_is fields roots (instr.Set d n) fs rs is =
     let p = and_parts (is_register d) (is_number n) is in
@@ -226,8 +226,9 @@ instr_is fields roots (instr.LoadField d a f) fs rs is =
     let p = and_parts (is_register d) (is_register a && nat_lt f (length fields)) is in
     let q = and_parts (is_register a) (nat_lt f (length fields)) p.1 in
     record { few = omega arith; word = (keyword (codes "load") refl, (register_is d p.0, (register_is a q.0, (name_word (field_name fields f) (field_spelled fields f fs q.1), tt)))) }
-instr_is fields roots (instr.New d) fs rs is =
-    record { few = omega arith; word = (keyword (codes "new") refl, (register_is d is, tt)) }
+instr_is fields roots (instr.New d kind) fs rs is =
+    let p = and_parts (is_register d) (nat_lt kind 1) is in
+    record { few = omega arith; word = (keyword (codes "new") refl, (register_is d p.0, tt)) }
 instr_is fields roots (instr.Put a f b) fs rs is =
     let p = and_parts (is_register a) (nat_lt f (length fields) && is_register b) is in
     let q = and_parts (nat_lt f (length fields)) (is_register b) p.1 in

@@ -9,7 +9,7 @@ use Rattle.norm_lang.specs.declared.text.NodeDecl.{NodeDecl}
 use Rattle.norm_lang.specs.declared.text.Op.{Op}
 use Rattle.norm_lang.specs.declared.text.Instr.{Instr}
 use Rattle.norm_lang.specs.Spelling.{spelled_op, op_lines, code_lines}
-use Rattle.norm_lang.specs.LineWords.{is_name}
+use Rattle.norm_lang.specs.LineWords.{item_kind, is_name}
 use Rattle.norm_lang.specs.Declarations.{is_reserved, has_op, op_line}
 use Rattle.norm_lang.specs.Grammar.{Roots, Begun, Generator, WrapUp, Draft, news_of, finished}
 use Rattle.norm_lang.specs.Limits.{has_between, are_different, is_instr, is_method, is_op}
@@ -22,11 +22,11 @@ use Rattle.text_laws.proofs.TextRead.{declared}
 pub record IsCode (fields roots : ℕ) (code : List Instr) : Type 0 where
   pub some : 1 ≤ length code
   pub short : length code ≤ 256
-  pub each : list_all (is_instr fields roots) code ≡ true
+  pub each : list_all (is_instr 1 fields roots) code ≡ true
 
-pub code_is : (fields roots : ℕ) (code : List Instr) → is_method fields roots code ≡ true → IsCode fields roots code
+pub code_is : (fields roots : ℕ) (code : List Instr) → is_method 1 fields roots code ≡ true → IsCode fields roots code
 code_is fields roots code is =
-    let p = and_parts (has_between 1 256 code) (list_all (is_instr fields roots) code) is in
+    let p = and_parts (has_between 1 256 code) (list_all (is_instr 1 fields roots) code) is in
     let q = and_parts (nat_le 1 (length code)) (nat_le (length code) 256) p.0 in
     record { some = leb-true 1 (length code) q.0; short = leb-true (length code) 256 q.1; each = p.1 }
 
@@ -39,13 +39,13 @@ pub record IsOp (fields roots : ℕ) (op : Op) : Type 0 where
   pub wrapup : IsCode fields roots op.wrapup
   pub news : news_of op ≤ 4
 
-pub op_is : (fields roots : ℕ) (op : Op) → is_op fields roots op ≡ true → IsOp fields roots op
+pub op_is : (fields roots : ℕ) (op : Op) → is_op 1 fields roots op ≡ true → IsOp fields roots op
 op_is fields roots op is =
-    let p = and_parts (is_name op.name && not (is_reserved op.name)) (nat_le op.args 4 && (is_method fields roots op.generator && (is_method fields roots op.wrapup && nat_le (news_of op) 4))) is in
+    let p = and_parts (is_name op.name && not (is_reserved op.name)) (nat_le op.args 4 && (is_method 1 fields roots op.generator && (is_method 1 fields roots op.wrapup && nat_le (news_of op) 4))) is in
     let n = and_parts (is_name op.name) (not (is_reserved op.name)) p.0 in
-    let a = and_parts (nat_le op.args 4) (is_method fields roots op.generator && (is_method fields roots op.wrapup && nat_le (news_of op) 4)) p.1 in
-    let g = and_parts (is_method fields roots op.generator) (is_method fields roots op.wrapup && nat_le (news_of op) 4) a.1 in
-    let w = and_parts (is_method fields roots op.wrapup) (nat_le (news_of op) 4) g.1 in
+    let a = and_parts (nat_le op.args 4) (is_method 1 fields roots op.generator && (is_method 1 fields roots op.wrapup && nat_le (news_of op) 4)) p.1 in
+    let g = and_parts (is_method 1 fields roots op.generator) (is_method 1 fields roots op.wrapup && nat_le (news_of op) 4) a.1 in
+    let w = and_parts (is_method 1 fields roots op.wrapup) (nat_le (news_of op) 4) g.1 in
     record {
       name = n.0;
       free = not-true (is_reserved op.name) n.1;
@@ -114,7 +114,7 @@ behind_ops count fields nodes roots done last (op ∷ rest) = behind_ops count f
 
 -- each operation of a list is within its limits, and their names are different
 pub record AreOps (fields roots : ℕ) (ops : List Op) : Type 0 where
-  pub each : list_all (is_op fields roots) ops ≡ true
+  pub each : list_all (is_op 1 fields roots) ops ≡ true
   pub different : are_different (map (λ op. op.name) ops) ≡ true
   pub few : length ops ≤ 16
 
@@ -125,18 +125,18 @@ ops_read count fields nodes roots done last [] whole fs rs are same = refl
 ops_read count fields nodes roots done last (op ∷ rest) whole fs rs are same =
     let behind : (done ++ last ∷ []) ++ op ∷ rest ≡ whole = append_assoc done (last ∷ []) (op ∷ rest) ∙ same in
     let long : length whole ≡ length (done ++ last ∷ []) + suc (length rest) = ap length (sym behind) ∙ length-append (done ++ last ∷ []) (op ∷ rest) in
-    let last_is = op_is (length fields) (length roots) last (passes_among (is_op (length fields) (length roots)) done (op ∷ rest) whole last same are.each) in
-    let this_is = op_is (length fields) (length roots) op (passes_among (is_op (length fields) (length roots)) (done ++ last ∷ []) rest whole op behind are.each) in
+    let last_is = op_is (length fields) (length roots) last (passes_among (is_op 1 (length fields) (length roots)) done (op ∷ rest) whole last same are.each) in
+    let this_is = op_is (length fields) (length roots) op (passes_among (is_op 1 (length fields) (length roots)) (done ++ last ∷ []) rest whole op behind are.each) in
     lines_then (in_code WrapUp count fields nodes roots done last) (in_code WrapUp count fields nodes roots (done ++ last ∷ []) op) (op_lines fields roots op) (flat_map (op_lines fields roots) rest) (Ok (behind_ops count fields nodes roots (done ++ last ∷ []) op rest))
     (next_op_read count fields nodes roots done last op fs rs (last_is.wrapup).some this_is (fresh_among (λ (op : Op). op.name) (done ++ last ∷ []) rest whole op behind are.different) (omega (arith, are.few)))
     (ops_read count fields nodes roots (done ++ last ∷ []) op rest whole fs rs are behind)
 
 -- the text after the last of the operations
 pub ops_finished : (count : ℕ) (fields : List FieldDecl) (nodes : List NodeDecl) (roots : List RootDecl) (done : List Op) (last : Op) (rest whole : List Op)
-    → list_all (is_op (length fields) (length roots)) whole ≡ true → done ++ last ∷ rest ≡ whole
-    → finished (behind_ops count fields nodes roots done last rest) ≡ Ok (record { fields = fields; roots = roots; nodes = nodes; ops = whole })
+    → list_all (is_op 1 (length fields) (length roots)) whole ≡ true → done ++ last ∷ rest ≡ whole
+    → finished (behind_ops count fields nodes roots done last rest) ≡ Ok (record { kinds = item_kind ∷ []; fields = fields; roots = roots; nodes = nodes; ops = whole })
 ops_finished count fields nodes roots done last [] whole each same =
-    let last_is = op_is (length fields) (length roots) last (passes_among (is_op (length fields) (length roots)) done [] whole last same each) in
+    let last_is = op_is (length fields) (length roots) last (passes_among (is_op 1 (length fields) (length roots)) done [] whole last same each) in
     rw (lt-ltb 0 (length last.wrapup) (last_is.wrapup).some, same) refl
 ops_finished count fields nodes roots done last (op ∷ rest) whole each same =
     ops_finished count fields nodes roots (done ++ last ∷ []) op rest whole each (append_assoc done (last ∷ []) (op ∷ rest) ∙ same)

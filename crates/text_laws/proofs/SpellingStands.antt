@@ -12,11 +12,12 @@ use Rattle.norm_lang.specs.declared.text.Text.{Text}
 use Rattle.oa_text.specs.Lines.{numbered}
 use Rattle.norm_lang.specs.Laws.{SpellingsStand}
 use Rattle.norm_lang.specs.Spelling.{joined_words, spelled_version, spelled_field, spelled_nodes, spelled_node, spelled_root, spelled_entry, entries_of, instr_lines, code_lines, op_lines, declaration_lines, spelled}
-use Rattle.norm_lang.specs.LineWords.{is_name}
+use Rattle.norm_lang.specs.LineWords.{item_kind, is_name}
 use Rattle.norm_lang.specs.Grammar.{Start, Opening, Fields, Roots, WrapUp, Draft, draft_at, after_lines, finished, text_in}
-use Rattle.norm_lang.specs.Limits.{has_between, are_different, is_entry, is_instr, is_start, are_starts, are_fields, are_nodes, is_root, are_roots, is_op, are_ops, is_within_limits}
+use Rattle.norm_lang.specs.Limits.{has_between, are_different, is_entry, is_instr, are_kinds, is_field, are_fields, are_nodes, is_root, are_roots, is_op, are_ops, is_within_limits}
 use Rattle.norm_lang.proofs.SpelledLines.{IsLine, lines_found}
 use Rattle.text_laws.proofs.LinesSpelled.{version_is, gen_is, wrap_is, field_is, nodes_is, node_line_is, root_is, op_is, entry_is, instr_is}
+use Rattle.text_laws.proofs.OneKind.{item_kinds, text_of_kinds, field_parts, is_node, node_parts, root_parts}
 use Rattle.text_laws.proofs.WordsRead.{AreFields, AreRoots}
 use Rattle.text_laws.proofs.SpelledFolds.{after_spelled, line_then, lines_then, lines_read}
 use Rattle.text_laws.proofs.CodeRead.{in_code}
@@ -42,19 +43,19 @@ each_lines lines test are (x ∷ xs) all =
     let p = and_parts (test x) (list_all test xs) all in
     both (lines x) (flat_map lines xs) (are x p.0) (each_lines lines test are xs p.1)
 
-entries_lines : (fields : List FieldDecl) (roots : List RootDecl) (i : Instr) → AreFields fields → AreRoots roots → is_instr (length fields) (length roots) i ≡ true
+entries_lines : (fields : List FieldDecl) (roots : List RootDecl) (i : Instr) → AreFields fields → AreRoots roots → is_instr 1 (length fields) (length roots) i ≡ true
     → Lines (map (spelled_entry fields roots) (entries_of i))
 entries_lines fields roots (instr.Commit entries) fs rs is =
     let p = and_parts (nat_le (length entries) 4) (list_all (is_entry (length fields) (length roots)) entries) is in
     each_line (spelled_entry fields roots) (is_entry (length fields) (length roots)) (λ entry is. entry_is fields roots entry fs rs is) entries p.1
 entries_lines fields roots _ fs rs is = tt
 
-code_are : (fields : List FieldDecl) (roots : List RootDecl) (code : List Instr) → AreFields fields → AreRoots roots → list_all (is_instr (length fields) (length roots)) code ≡ true
+code_are : (fields : List FieldDecl) (roots : List RootDecl) (code : List Instr) → AreFields fields → AreRoots roots → list_all (is_instr 1 (length fields) (length roots)) code ≡ true
     → Lines (code_lines fields roots code)
 code_are fields roots code fs rs all =
-    each_lines (instr_lines fields roots) (is_instr (length fields) (length roots)) (λ i is. (instr_is fields roots i fs rs is, entries_lines fields roots i fs rs is)) code all
+    each_lines (instr_lines fields roots) (is_instr 1 (length fields) (length roots)) (λ i is. (instr_is fields roots i fs rs is, entries_lines fields roots i fs rs is)) code all
 
-op_are : (fields : List FieldDecl) (roots : List RootDecl) (op : Op) → AreFields fields → AreRoots roots → is_op (length fields) (length roots) op ≡ true → Lines (op_lines fields roots op)
+op_are : (fields : List FieldDecl) (roots : List RootDecl) (op : Op) → AreFields fields → AreRoots roots → is_op 1 (length fields) (length roots) op ≡ true → Lines (op_lines fields roots op)
 op_are fields roots op fs rs within =
     let is = op_within (length fields) (length roots) op within in (
       op_is op is.name is.args,
@@ -67,10 +68,11 @@ op_are fields roots op fs rs within =
 
 -- a text within the limits, part by part
 pub record IsText (text : Text) : Type 0 where
+  kinds : text.kinds ≡ item_kind ∷ []
   fields : AreFields text.fields
   some_fields : 1 ≤ length text.fields
   few_fields : length text.fields ≤ 4
-  nodes : list_all (λ node. are_starts (length text.nodes) text.fields node.values) text.nodes ≡ true
+  nodes : list_all (is_node (length text.nodes) text.fields) text.nodes ≡ true
   few_nodes : nat_le (length text.nodes) 256 ≡ true
   root : list_all (is_root (length text.nodes)) text.roots ≡ true
   roots : AreRoots text.roots
@@ -83,8 +85,7 @@ root_names : (count : ℕ) (roots : List RootDecl) → list_all (is_root count) 
 root_names count [] all = refl
 root_names count (root ∷ roots) all =
     let p = and_parts (is_root count root) (list_all (is_root count) roots) all in
-    let q = and_parts (is_name root.name) (is_start count root.kind root.start) p.0 in
-    rw (q.0, root_names count roots p.1) refl
+    rw ((root_parts count root p.0).name, root_names count roots p.1) refl
 
 pub parts_of : (text : Text) → is_within_limits text ≡ true → IsText text
 parts_of text within =
@@ -95,22 +96,25 @@ parts_of text within =
     let count = length nodes in
     let f = length fields in
     let r = length roots in
-    let p = and_parts (are_fields fields) (are_nodes fields nodes && (are_roots count roots && are_ops f r ops)) within in
-    let q = and_parts (are_nodes fields nodes) (are_roots count roots && are_ops f r ops) p.1 in
-    let s = and_parts (are_roots count roots) (are_ops f r ops) q.1 in
-    let fp = and_parts (has_between 1 4 fields) (list_all (λ field. is_name field.name) fields && are_different (map (λ field. field.name) fields)) p.0 in
+    let first = and_parts (are_kinds text.kinds) (are_fields fields && (are_nodes fields nodes && (are_roots count roots && are_ops (length text.kinds) f r ops))) within in
+    let kinds = item_kinds text.kinds first.0 in
+    let p = and_parts (are_fields fields) (are_nodes fields nodes && (are_roots count roots && are_ops 1 f r ops)) (rw kinds at first.1) in
+    let q = and_parts (are_nodes fields nodes) (are_roots count roots && are_ops 1 f r ops) p.1 in
+    let s = and_parts (are_roots count roots) (are_ops 1 f r ops) q.1 in
+    let fp = and_parts (has_between 1 4 fields) (list_all is_field fields && are_different (map (λ field. field.name) fields)) p.0 in
     let fb = and_parts (nat_le 1 f) (nat_le f 4) fp.0 in
-    let fn = and_parts (list_all (λ field. is_name field.name) fields) (are_different (map (λ field. field.name) fields)) fp.1 in
-    let np = and_parts (has_between 0 256 nodes) (list_all (λ node. are_starts count fields node.values) nodes) q.0 in
+    let fn = and_parts (list_all is_field fields) (are_different (map (λ field. field.name) fields)) fp.1 in
+    let np = and_parts (has_between 0 256 nodes) (list_all (is_node count fields) nodes) q.0 in
     let nb = and_parts (nat_le 0 count) (nat_le count 256) np.0 in
     let rp = and_parts (has_between 1 256 roots) (list_all (is_root count) roots && are_different (map (λ root. root.name) roots)) s.0 in
     let rb = and_parts (nat_le 1 r) (nat_le r 256) rp.0 in
     let rn = and_parts (list_all (is_root count) roots) (are_different (map (λ root. root.name) roots)) rp.1 in
-    let op = and_parts (has_between 1 16 ops) (list_all (is_op f r) ops && are_different (map (λ op. op.name) ops)) s.1 in
+    let op = and_parts (has_between 1 16 ops) (list_all (is_op 1 f r) ops && are_different (map (λ op. op.name) ops)) s.1 in
     let ob = and_parts (nat_le 1 (length ops)) (nat_le (length ops) 16) op.0 in
-    let on = and_parts (list_all (is_op f r) ops) (are_different (map (λ op. op.name) ops)) op.1 in
+    let on = and_parts (list_all (is_op 1 f r) ops) (are_different (map (λ op. op.name) ops)) op.1 in
     record {
-      fields = record { names = fn.0; different = fn.1 };
+      kinds = kinds;
+      fields = record { each = fn.0; different = fn.1 };
       some_fields = leb-true 1 f fb.0;
       few_fields = leb-true f 4 fb.1;
       nodes = np.1;
@@ -134,15 +138,15 @@ spelled_are text is =
       version_is,
       both (declaration_lines text) (flat_map (op_lines fields roots) text.ops)
           (both (map spelled_field fields) (spelled_nodes nodes ∷ (map spelled_node nodes ++ map spelled_root roots))
-          (each_line spelled_field (λ field. is_name field.name) field_is fields (is.fields).names) (
+          (each_line spelled_field is_field (λ field it. field_is field (field_parts field it).name) fields (is.fields).each) (
             nodes_is nodes is.few_nodes,
             both (map spelled_node nodes) (map spelled_root roots)
-                (each_line spelled_node (λ node. are_starts count fields node.values) (λ node starts. node_line_is count fields node is.few_fields few starts) nodes is.nodes)
+                (each_line spelled_node (is_node count fields) (λ node it. node_line_is count fields node is.few_fields few (node_parts count fields node it).starts) nodes is.nodes)
                 (each_line spelled_root (is_root count) (λ root it.
-                let p = and_parts (is_name root.name) (is_start count root.kind root.start) it in
-                root_is count root few p.0 p.1) roots is.root),
+                let p = root_parts count root it in
+                root_is count root few p.name p.start) roots is.root),
           ))
-          (each_lines (op_lines fields roots) (is_op (length fields) (length roots)) (λ op it. op_are fields roots op is.fields is.roots it) text.ops (is.ops).each),
+          (each_lines (op_lines fields roots) (is_op 1 (length fields) (length roots)) (λ op it. op_are fields roots op is.fields is.roots it) text.ops (is.ops).each),
     )
 
 -- the declarations give their draft
@@ -179,8 +183,8 @@ ops_give text (op ∷ rest) is same =
     let start = declared Roots count fields nodes roots in
     let begun = in_code WrapUp count fields nodes roots [] op in
     let last = behind_ops count fields nodes roots [] op rest in
-    let each : list_all (is_op (length fields) (length roots)) (op ∷ rest) ≡ true = ap (list_all (is_op (length fields) (length roots))) (sym same) ∙ (is.ops).each in
-    let first = op_within (length fields) (length roots) op (and_parts (is_op (length fields) (length roots) op) (list_all (is_op (length fields) (length roots)) rest) each).0 in
+    let each : list_all (is_op 1 (length fields) (length roots)) (op ∷ rest) ≡ true = ap (list_all (is_op 1 (length fields) (length roots))) (sym same) ∙ (is.ops).each in
+    let first = op_within (length fields) (length roots) op (and_parts (is_op 1 (length fields) (length roots) op) (list_all (is_op 1 (length fields) (length roots)) rest) each).0 in
     record {
       draft = last;
       read =
@@ -189,7 +193,7 @@ ops_give text (op ∷ rest) is same =
           (lines_then start begun (op_lines fields roots op) (flat_map (op_lines fields roots) rest) (Ok last)
           (first_op_read count fields nodes roots op is.fields is.roots is.some_roots first)
           (ops_read count fields nodes roots [] op rest text.ops is.fields is.roots is.ops (sym same))));
-      done = ops_finished count fields nodes roots [] op rest text.ops (is.ops).each (sym same);
+      done = ops_finished count fields nodes roots [] op rest text.ops (is.ops).each (sym same) ∙ ap (λ kinds. Ok (text_of_kinds text kinds)) (sym is.kinds);
     }
 
 pub text_from : (found : List (List ℕ)) (draft : Draft) (text : Text) → after_lines (draft_at Start) (numbered 1 found) ≡ Ok draft → finished draft ≡ Ok text → text_in found ≡ Ok text

@@ -8,10 +8,11 @@ use Rattle.norm_lang.specs.declared.text.RootDecl.{RootDecl}
 use Rattle.norm_lang.specs.declared.text.NodeDecl.{NodeDecl}
 use Rattle.norm_lang.specs.declared.text.Start.{Start}
 use Rattle.norm_lang.specs.Spelling.{start_word, spelled_field, spelled_nodes, spelled_node, spelled_root}
-use Rattle.norm_lang.specs.LineWords.{is_name, is_great}
+use Rattle.norm_lang.specs.LineWords.{is_great}
 use Rattle.norm_lang.specs.Declarations.{values_at, starts_of}
 use Rattle.norm_lang.specs.Grammar.{Section, Opening, Fields, Nodes, Roots, Draft, no_op, after_words}
-use Rattle.norm_lang.specs.Limits.{are_different, is_start, are_starts, is_root}
+use Rattle.norm_lang.specs.Limits.{are_different, is_field, is_start, are_starts, is_root}
+use Rattle.text_laws.proofs.OneKind.{field_parts, field_owned, is_node, node_parts, node_owned, root_parts}
 use Rattle.text_laws.proofs.WordsRead.{number_read, kind_read, start_read_as, start_read, start_fits, start_found, AreFields}
 use Rattle.text_laws.proofs.SpelledFolds.{after_spelled, items_read, passes_among, fresh_among}
 use Rattle.text_laws.proofs.CodeRead.{in_code}
@@ -28,12 +29,15 @@ among_fields (field ∷ fields) = declared Fields 0 (field ∷ fields) [] []
 field_read : (done rest whole : List FieldDecl) (field : FieldDecl) → AreFields whole → length whole ≤ 4 → done ++ field ∷ rest ≡ whole
     → after_words (among_fields done) (spelled_field field) ≡ Ok (among_fields (done ++ field ∷ []))
 field_read [] rest whole field are short same =
-    rw (passes_among (λ field. is_name field.name) [] rest whole field same are.names, kind_read field.kind) refl
+    let is = field_parts field (passes_among is_field [] rest whole field same are.each) in
+    rw (is.name, kind_read field.kind is.kind) (ap (λ o. Ok (among_fields (field_owned field o ∷ []))) (sym is.owner))
 field_read (first ∷ done) rest whole field are short same =
     let fields = first ∷ done in
     let long : length whole ≡ length fields + suc (length rest) = ap length (sym same) ∙ length-append fields (field ∷ rest) in
     let room : nat_lt (length fields) 4 ≡ true = lt-ltb (length fields) 4 (omega arith) in
-    rw (passes_among (λ field. is_name field.name) fields rest whole field same are.names, kind_read field.kind, fresh_among (λ (field : FieldDecl). field.name) fields rest whole field same are.different, room) refl
+    let is = field_parts field (passes_among is_field fields rest whole field same are.each) in
+    rw (is.name, kind_read field.kind is.kind, fresh_among (λ (field : FieldDecl). field.name) fields rest whole field same are.different, room)
+    (ap (λ o. Ok (among_fields (fields ++ field_owned field o ∷ []))) (sym is.owner))
 
 among_some : (fields : List FieldDecl) → 1 ≤ length fields → among_fields fields ≡ declared Fields 0 fields [] []
 among_some [] some = absurd (omega arith)
@@ -81,15 +85,17 @@ values_found count (field ∷ fields) (start ∷ values) are =
     rw (start_found count field.kind start p.0, values_found count fields values p.1) refl
 
 node_read : (fields : List FieldDecl) (done rest whole : List NodeDecl) (node : NodeDecl) → length whole ≤ 256
-    → list_all (λ node. are_starts (length whole) fields node.values) whole ≡ true → done ++ node ∷ rest ≡ whole
+    → list_all (is_node (length whole) fields) whole ≡ true → done ++ node ∷ rest ≡ whole
     → after_words (among_nodes fields (length whole) done) (spelled_node node) ≡ Ok (among_nodes fields (length whole) (done ++ node ∷ []))
 node_read fields done rest whole node few are same =
     let long : length whole ≡ length done + suc (length rest) = ap length (sym same) ∙ length-append done (node ∷ rest) in
     let more : nat_lt (length done) (length whole) ≡ true = lt-ltb (length done) (length whole) (omega arith) in
-    let starts = passes_among (λ node. are_starts (length whole) fields node.values) done rest whole node same are in
-    rw (more, values_read (length whole) fields node.values few starts, values_fit (length whole) fields node.values starts, values_found (length whole) fields node.values starts) refl
+    let is = node_parts (length whole) fields node (passes_among (is_node (length whole) fields) done rest whole node same are) in
+    let starts = is.starts in
+    rw (more, values_read (length whole) fields node.values few starts, values_fit (length whole) fields node.values starts, values_found (length whole) fields node.values starts)
+    (ap (λ o. Ok (among_nodes fields (length whole) (done ++ node_owned node o ∷ []))) (sym is.owner))
 
-pub nodes_read : (fields : List FieldDecl) (nodes : List NodeDecl) → length nodes ≤ 256 → list_all (λ node. are_starts (length nodes) fields node.values) nodes ≡ true
+pub nodes_read : (fields : List FieldDecl) (nodes : List NodeDecl) → length nodes ≤ 256 → list_all (is_node (length nodes) fields) nodes ≡ true
     → after_spelled (among_nodes fields (length nodes) []) (map spelled_node nodes) ≡ Ok (declared Roots (length nodes) fields nodes [])
 nodes_read fields nodes few are =
     let none : nat_lt (length nodes) (length nodes) ≡ false = le-ltb (length nodes) (length nodes) (omega arith) in
@@ -102,8 +108,8 @@ root_read : (count : ℕ) (fields : List FieldDecl) (nodes : List NodeDecl) (don
 root_read count fields nodes done rest whole root few short are different same =
     let long : length whole ≡ length done + suc (length rest) = ap length (sym same) ∙ length-append done (root ∷ rest) in
     let room : nat_lt (length done) 256 ≡ true = lt-ltb (length done) 256 (omega arith) in
-    let p = and_parts (is_name root.name) (is_start count root.kind root.start) (passes_among (is_root count) done rest whole root same are) in
-    rw (p.0, kind_read root.kind, start_read count root.kind root.start few p.1, start_found count root.kind root.start p.1, fresh_among (λ (root : RootDecl). root.name) done rest whole root same different, room) refl
+    let is = root_parts count root (passes_among (is_root count) done rest whole root same are) in
+    rw (is.name, kind_read root.kind is.kind, start_read count root.kind root.start few is.start, start_found count root.kind root.start is.start, fresh_among (λ (root : RootDecl). root.name) done rest whole root same different, room) refl
 
 pub roots_read : (count : ℕ) (fields : List FieldDecl) (nodes : List NodeDecl) (roots : List RootDecl) → count ≤ 256 → length roots ≤ 256
     → list_all (is_root count) roots ≡ true → are_different (map (λ root. root.name) roots) ≡ true

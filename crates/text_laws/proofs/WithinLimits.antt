@@ -1,13 +1,14 @@
 -- What a text within the limits has, part by part.
-use Rattle.std.specs.Prelude.{◌≡◌, ℕ, ◌≤◌, Bool, true, ◌&&◌, List, map, length, nat_le}
+use Rattle.std.specs.Prelude.{◌≡◌, ℕ, ◌≤◌, Bool, true, ◌&&◌, List, [], ◌∷◌, map, length, nat_le}
 use Rattle.std.specs.List.{list_all}
 use Rattle.std.proofs.lemmas.Bool.{and_parts, leb-true}
 use Rattle.norm_lang.specs.declared.text.Instr.{Instr}
 use Rattle.norm_lang.specs.declared.text.Op.{Op}
 use Rattle.norm_lang.specs.declared.text.Text.{Text}
-use Rattle.norm_lang.specs.LineWords.{is_name}
+use Rattle.norm_lang.specs.LineWords.{item_kind, is_name}
 use Rattle.norm_lang.specs.Grammar.{news_of}
-use Rattle.norm_lang.specs.Limits.{has_between, are_different, is_instr, is_method, is_op, is_root, are_fields, are_nodes, are_roots, are_ops, IsWithinLimits}
+use Rattle.norm_lang.specs.Limits.{has_between, are_different, is_instr, is_method, is_op, is_root, are_kinds, is_field, are_fields, are_nodes, are_roots, are_ops, IsWithinLimits}
+use Rattle.text_laws.proofs.OneKind.{item_kinds}
 
 -- a list's bounds
 pub record Between {A : Type 0} (least most : ℕ) (items : List A) : Type 0 where
@@ -33,34 +34,38 @@ declared least most name good items h =
     record { count = between least most items parts.0; each = rest.0; apart = rest.1 }
 
 pub record Parts (text : Text) : Type 0 where
-  pub fields : Declared 1 4 (λ field. field.name) (λ field. is_name field.name) text.fields
+  pub kinds : text.kinds ≡ item_kind ∷ []
+  pub fields : Declared 1 4 (λ field. field.name) is_field text.fields
   pub nodes : are_nodes text.fields text.nodes ≡ true
   pub nodes_count : length text.nodes ≤ 256
   pub roots : Declared 1 256 (λ root. root.name) (is_root (length text.nodes)) text.roots
-  pub ops : Declared 1 16 (λ op. op.name) (is_op (length text.fields) (length text.roots)) text.ops
+  pub ops : Declared 1 16 (λ op. op.name) (is_op 1 (length text.fields) (length text.roots)) text.ops
 
 -- the parts of a text within the limits
 pub parts_of : (text : Text) → IsWithinLimits text → Parts text
 parts_of text h =
-    let first = and_parts (are_fields text.fields) _ h in
+    let named = and_parts (are_kinds text.kinds) _ h in
+    let kinds = item_kinds text.kinds named.0 in
+    let first = and_parts (are_fields text.fields) _ named.1 in
     let second = and_parts (are_nodes text.fields text.nodes) _ first.1 in
-    let third = and_parts (are_roots (length text.nodes) text.roots) (are_ops (length text.fields) (length text.roots) text.ops) second.1 in
+    let third = and_parts (are_roots (length text.nodes) text.roots) (are_ops (length text.kinds) (length text.fields) (length text.roots) text.ops) second.1 in
     record {
+      kinds = kinds;
       fields = declared 1 4 _ _ text.fields first.0;
       nodes = second.0;
       nodes_count = (between 0 256 text.nodes (and_parts _ _ second.0).0).few;
       roots = declared 1 256 _ _ text.roots third.0;
-      ops = declared 1 16 _ _ text.ops third.1;
+      ops = declared 1 16 _ _ text.ops (rw kinds at third.1);
     }
 
 -- a method's instructions
 pub record Method (fields roots : ℕ) (code : List Instr) : Type 0 where
   pub count : Between 1 256 code
-  pub each : list_all (is_instr fields roots) code ≡ true
+  pub each : list_all (is_instr 1 fields roots) code ≡ true
 
-pub method_of : (fields roots : ℕ) (code : List Instr) → is_method fields roots code ≡ true → Method fields roots code
+pub method_of : (fields roots : ℕ) (code : List Instr) → is_method 1 fields roots code ≡ true → Method fields roots code
 method_of fields roots code h =
-    let parts = and_parts (has_between 1 256 code) (list_all (is_instr fields roots) code) h in
+    let parts = and_parts (has_between 1 256 code) (list_all (is_instr 1 fields roots) code) h in
     record { count = between 1 256 code parts.0; each = parts.1 }
 
 pub record OpParts (fields roots : ℕ) (op : Op) : Type 0 where
@@ -71,12 +76,12 @@ pub record OpParts (fields roots : ℕ) (op : Op) : Type 0 where
   pub news : news_of op ≤ 4
 
 -- the parts of an operation within the limits
-pub op_parts_of : (fields roots : ℕ) (op : Op) → is_op fields roots op ≡ true → OpParts fields roots op
+pub op_parts_of : (fields roots : ℕ) (op : Op) → is_op 1 fields roots op ≡ true → OpParts fields roots op
 op_parts_of fields roots op h =
     let name = and_parts _ _ h in
     let args = and_parts (nat_le op.args 4) _ name.1 in
-    let generator = and_parts (is_method fields roots op.generator) _ args.1 in
-    let wrapup = and_parts (is_method fields roots op.wrapup) (nat_le (news_of op) 4) generator.1 in
+    let generator = and_parts (is_method 1 fields roots op.generator) _ args.1 in
+    let wrapup = and_parts (is_method 1 fields roots op.wrapup) (nat_le (news_of op) 4) generator.1 in
     record {
       named = (and_parts _ _ name.0).0;
       args = leb-true _ _ args.0;

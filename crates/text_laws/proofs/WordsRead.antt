@@ -4,7 +4,7 @@ use Rattle.std.specs.List.{list_all, list_any, position, position_or_len}
 use Rattle.std.specs.Str.{bytes_eq}
 use Rattle.std.proofs.Common.{refl, ap, ◌∙◌, sym, arith}
 use Rattle.std.proofs.Math.Numerals.{one-add}
-use Rattle.std.proofs.lemmas.Bool.{and_parts, or_parts, lt-ltb, ltb-true, leb-true, not-true, false_from_ne_true}
+use Rattle.std.proofs.lemmas.Bool.{and_parts, or_parts, eqb-true, lt-ltb, ltb-true, leb-true, not-true, false_from_ne_true}
 use Rattle.std.proofs.lemmas.Bool.Decides.{nat_tests}
 use Rattle.std.proofs.lemmas.Fmt.{decimal_digit}
 use Rattle.std.proofs.lemmas.Option.{slice_get_within}
@@ -12,7 +12,7 @@ use Rattle.std.proofs.lemmas.Slice.Eq.{bytes_eq-Decides}
 use Rattle.norm_lang.specs.declared.text.Reg.{Reg}
 use Rattle.norm_lang.specs.declared.text.Reg.TheVariants.{Num, Ref}
 use Rattle.norm_lang.specs.declared.text.FieldKind.{FieldKind}
-use Rattle.norm_lang.specs.declared.text.FieldKind.TheVariants as kinds
+use Rattle.norm_lang.specs.declared.text.FieldKind.TheVariants as holdings
 use Rattle.norm_lang.specs.declared.text.Start.{Start}
 use Rattle.norm_lang.specs.declared.text.Start.TheVariants as starts
 use Rattle.norm_lang.specs.declared.text.FieldDecl.{FieldDecl}
@@ -20,7 +20,8 @@ use Rattle.norm_lang.specs.declared.text.RootDecl.{RootDecl}
 use Rattle.norm_lang.specs.Spelling.{register_word, kind_word, start_word, field_name, root_name}
 use Rattle.norm_lang.specs.LineWords.{StartWord, Value, Null, At, is_name, number_in, register_of, register_in, kind_in, start_in, is_great, start_of}
 use Rattle.norm_lang.specs.Instructions.{field_named, root_named}
-use Rattle.norm_lang.specs.Limits.{is_number, is_register, is_start, are_different}
+use Rattle.norm_lang.specs.Limits.{is_number, is_register, is_kind, is_field, is_start, are_different}
+use Rattle.text_laws.proofs.OneKind.{field_parts}
 use Rattle.text_laws.proofs.SpelledWords.{decimal_numeral, decimal_value}
 
 -- a number
@@ -43,9 +44,9 @@ register_read (Num k) small = letter_read 110 k small
 register_read (Ref k) small = letter_read 114 k small
 
 -- a kind
-pub kind_read : (kind : FieldKind) → kind_in (kind_word kind) ≡ Ok kind
-kind_read kinds.Number = refl
-kind_read kinds.Reference = refl
+pub kind_read : (kind : FieldKind) → is_kind kind ≡ true → kind_in (kind_word kind) ≡ Ok kind
+kind_read holdings.Number is = refl
+kind_read (holdings.Reference k) is = let zero : k ≡ 0 = eqb-true k 0 is in rw zero refl
 
 -- what a first value's word says
 abbrev pub start_read_as : Start → StartWord
@@ -55,11 +56,11 @@ start_read_as (starts.Node (suc j)) = At (Some (suc j))
 
 -- a first value, with so many nodes
 pub start_read : (count : ℕ) (kind : FieldKind) (start : Start) → count ≤ 256 → is_start count kind start ≡ true → start_in kind (start_word start) ≡ Ok (start_read_as start)
-start_read count kinds.Number (starts.Value n) few is = rw (number_read n is) refl
-start_read count kinds.Number (starts.Node j) few is = let e : false ≡ true = is in absurd (let f : ⊥ = cc in f)
-start_read count kinds.Reference (starts.Value n) few is = let e : false ≡ true = is in absurd (let f : ⊥ = cc in f)
-start_read count kinds.Reference (starts.Node zero) few is = refl
-start_read count kinds.Reference (starts.Node (suc j)) few is =
+start_read count holdings.Number (starts.Value n) few is = rw (number_read n is) refl
+start_read count holdings.Number (starts.Node j) few is = let e : false ≡ true = is in absurd (let f : ⊥ = cc in f)
+start_read count (holdings.Reference k) (starts.Value n) few is = let e : false ≡ true = is in absurd (let f : ⊥ = cc in f)
+start_read count (holdings.Reference k) (starts.Node zero) few is = refl
+start_read count (holdings.Reference k) (starts.Node (suc j)) few is =
     let le : suc j ≤ count = leb-true (suc j) count is in
     let small : is_number (suc j) ≡ true = lt-ltb (suc j) (2 ^ 64) (omega arith) in
     rw (number_read (suc j) small) refl
@@ -72,8 +73,8 @@ start_fits count kind (starts.Node (suc j)) is = refl
 pub start_found : (count : ℕ) (kind : FieldKind) (start : Start) → is_start count kind start ≡ true → start_of count (start_read_as start) ≡ Ok start
 start_found count kind (starts.Value n) is = refl
 start_found count kind (starts.Node zero) is = refl
-start_found count kinds.Number (starts.Node (suc j)) is = let e : false ≡ true = is in absurd (let f : ⊥ = cc in f)
-start_found count kinds.Reference (starts.Node (suc j)) is =
+start_found count holdings.Number (starts.Node (suc j)) is = let e : false ≡ true = is in absurd (let f : ⊥ = cc in f)
+start_found count (holdings.Reference k) (starts.Node (suc j)) is =
     let some : nat_lt 0 (suc j) ≡ true = lt-ltb 0 (suc j) (omega arith) in
     rw (some, is) refl
 
@@ -127,7 +128,7 @@ item_at (x ∷ items) (suc at) lt = item_at items at (omega arith)
 
 -- well-formed fields, with different names
 pub record AreFields (fields : List FieldDecl) : Type 0 where
-  pub names : list_all (λ field. is_name field.name) fields ≡ true
+  pub each : list_all is_field fields ≡ true
   pub different : are_different (map (λ field. field.name) fields) ≡ true
 
 pub record AreRoots (roots : List RootDecl) : Type 0 where
@@ -137,7 +138,7 @@ pub record AreRoots (roots : List RootDecl) : Type 0 where
 pub field_spelled : (fields : List FieldDecl) (f : ℕ) → AreFields fields → nat_lt f (length fields) ≡ true → is_name (field_name fields f) ≡ true
 field_spelled fields f are within =
     let item = item_at fields f (ltb-true f (length fields) within) in
-    rw item.1 (passes_at (λ field. is_name field.name) fields f item.0 item.1 are.names)
+    rw item.1 (field_parts item.0 (passes_at is_field fields f item.0 item.1 are.each)).name
 
 pub field_read : (fields : List FieldDecl) (f : ℕ) → AreFields fields → nat_lt f (length fields) ≡ true → field_named fields (field_name fields f) ≡ Ok f
 field_read fields f are within =

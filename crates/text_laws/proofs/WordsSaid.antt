@@ -12,7 +12,7 @@ use Rattle.std.proofs.lemmas.Slice.Eq.{bytes_eq-Decides}
 use Rattle.oa_text.specs.Numbers.{is_digit, is_numeral, with_digit, number_of}
 use Rattle.norm_lang.specs.declared.text.Reg.{Reg}
 use Rattle.norm_lang.specs.declared.text.FieldKind.{FieldKind}
-use Rattle.norm_lang.specs.declared.text.FieldKind.TheVariants as kinds
+use Rattle.norm_lang.specs.declared.text.FieldKind.TheVariants as holdings
 use Rattle.norm_lang.specs.declared.text.FieldDecl.{FieldDecl}
 use Rattle.norm_lang.specs.declared.text.RootDecl.{RootDecl}
 use Rattle.norm_lang.specs.Faults.{◌>>=◌, or_fault, form_fault, unknown_name}
@@ -130,8 +130,8 @@ node_in_said [] = tt
 node_in_said (b ∷ bytes) = demanded form_fault (b == 64) _ _ λ sign. then_has (number_in bytes) _ (SaysNumber bytes) _ (number_in_said bytes) λ j said. at_said b bytes j sign said
 
 pub start_in_said : (kind : FieldKind) (word : List ℕ) → IfOk (start_in kind word) (SaysStart word)
-start_in_said kinds.Number word = then_has (number_in word) _ (SaysNumber word) _ (number_in_said word) λ n said. value_said word n said
-start_in_said kinds.Reference word =
+start_in_said holdings.Number word = then_has (number_in word) _ (SaysNumber word) _ (number_in_said word) λ n said. value_said word n said
+start_in_said (holdings.Reference k) word =
     either (bytes_eq word (codes "null")) _ _ _ (λ e. record { says = λ count. same_word word (codes "null") e }) (λ _. node_in_said word)
 
 -- a number of an item among so many, found by its name

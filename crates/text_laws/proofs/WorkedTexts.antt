@@ -4,7 +4,7 @@ use Rattle.std.specs.List.{list_all, flat_map}
 use Rattle.std.specs.Fmt.{digits}
 use Rattle.std.proofs.Common.{refl}
 use Rattle.norm_lang.specs.declared.text.Reg.TheVariants.{Num, Ref}
-use Rattle.norm_lang.specs.declared.text.FieldKind.TheVariants as kinds
+use Rattle.norm_lang.specs.declared.text.FieldKind.TheVariants as holdings
 use Rattle.norm_lang.specs.declared.text.Start.TheVariants as starts
 use Rattle.norm_lang.specs.declared.text.Place.TheVariants as places
 use Rattle.norm_lang.specs.declared.text.Instr.TheVariants as instr
@@ -40,8 +40,9 @@ counter =
 
 abbrev counter_text : Text
 counter_text = record {
-  fields = record { name = codes "pad"; kind = kinds.Number } ∷ [];
-  roots = record { name = codes "total"; kind = kinds.Number; start = starts.Value 0 } ∷ [];
+  kinds = codes "item" ∷ [];
+  fields = record { owner = 0; name = codes "pad"; kind = holdings.Number } ∷ [];
+  roots = record { name = codes "total"; kind = holdings.Number; start = starts.Value 0 } ∷ [];
   nodes = [];
   ops =
       record {
@@ -298,12 +299,13 @@ every : text_in (generator ++ (
     ∷ codes "returnnone"
     ∷ codes "again"
     ∷ [])) ≡ Ok (record {
-      fields = record { name = codes "key"; kind = kinds.Number } ∷ record { name = codes "next"; kind = kinds.Reference } ∷ [];
+      kinds = codes "item" ∷ [];
+      fields = record { owner = 0; name = codes "key"; kind = holdings.Number } ∷ record { owner = 0; name = codes "next"; kind = holdings.Reference 0 } ∷ [];
       roots =
-          record { name = codes "total"; kind = kinds.Number; start = starts.Value 0 }
-          ∷ record { name = codes "top"; kind = kinds.Reference; start = starts.Node 2 }
+          record { name = codes "total"; kind = holdings.Number; start = starts.Value 0 }
+          ∷ record { name = codes "top"; kind = holdings.Reference 0; start = starts.Node 2 }
           ∷ [];
-      nodes = record { values = starts.Value 5 ∷ starts.Node 0 ∷ [] } ∷ record { values = starts.Value 6 ∷ starts.Node 1 ∷ [] } ∷ [];
+      nodes = record { owner = 0; values = starts.Value 5 ∷ starts.Node 0 ∷ [] } ∷ record { owner = 0; values = starts.Value 6 ∷ starts.Node 1 ∷ [] } ∷ [];
       ops = record {
         name = codes "add";
         args = 1;
@@ -319,7 +321,7 @@ every : text_in (generator ++ (
             ∷ instr.LoadRoot (Ref 3) 1
             ∷ instr.LoadPick (Ref 4) 1 256 (Num 3)
             ∷ instr.LoadField (Ref 5) (Ref 4) 1
-            ∷ instr.New (Ref 6)
+            ∷ instr.New (Ref 6) 0
             ∷ instr.Put (Ref 6) 0 (Num 2)
             ∷ instr.Cas (record { place = places.Field (Ref 5) 1; expected = Ref 1; replacement = Ref 2; retire = None }) 65535
             ∷ instr.Cas (record { place = places.Field (Ref 5) 1; expected = Ref 1; replacement = Ref 2; retire = Some (Ref 1) }) 3

@@ -3,7 +3,7 @@ use Rattle.std.specs.Prelude.{◌≡◌, ℕ, zero, suc, Bool, true, false, List
 use Rattle.std.proofs.Common.{inl, inr, ap, arith}
 use Rattle.std.proofs.lemmas.Bool.Decides.{nat_tests}
 use Rattle.norm_lang.specs.declared.text.FieldKind.{FieldKind}
-use Rattle.norm_lang.specs.declared.text.FieldKind.TheVariants as kinds
+use Rattle.norm_lang.specs.declared.text.FieldKind.TheVariants as holdings
 use Rattle.norm_lang.specs.declared.text.Start.{Start}
 use Rattle.norm_lang.specs.declared.text.Start.TheVariants as starts
 use Rattle.norm_lang.specs.declared.text.FieldDecl.{FieldDecl}
@@ -21,8 +21,8 @@ use Rattle.worked_rows.specs.TargetRows.{original, compiled, other_field, other_
 -- What is seen of a part: a number that tells it.
 
 abbrev kind_seen : FieldKind → ℕ
-kind_seen kinds.Number = 0
-kind_seen kinds.Reference = 1
+kind_seen holdings.Number = 0
+kind_seen (holdings.Reference k) = 1
 
 abbrev start_seen : Start → ℕ
 start_seen (starts.Value v) = v
@@ -148,32 +148,32 @@ same_first true = refl
 
 name_differs : IsOtherAt other_name original 1 false
 name_differs =
-    second_generator other_name original (record { fields = refl; roots = refl; nodes = refl; count = refl }) same_first
+    second_generator other_name original (record { kinds = refl; fields = refl; roots = refl; nodes = refl; count = refl }) same_first
     (λ same. let no : ⊥ = omega (arith, ap name_seen same) in no)
 
 args_differ : IsOtherAt other_args original 1 false
 args_differ =
-    second_generator other_args original (record { fields = refl; roots = refl; nodes = refl; count = refl }) same_first
+    second_generator other_args original (record { kinds = refl; fields = refl; roots = refl; nodes = refl; count = refl }) same_first
     (λ same. let no : ⊥ = omega (arith, ap args_seen same) in no)
 
 generator_differs : IsOtherAt other_generator original 1 false
 generator_differs =
-    second_generator other_generator original (record { fields = refl; roots = refl; nodes = refl; count = refl }) same_first
+    second_generator other_generator original (record { kinds = refl; fields = refl; roots = refl; nodes = refl; count = refl }) same_first
     (λ same. let no : ⊥ = omega (arith, ap generator_seen same) in no)
 
 wrap_up_differs : IsOtherAt other_wrap_up original 1 true
 wrap_up_differs =
-    second_wrap_up other_wrap_up original (record { fields = refl; roots = refl; nodes = refl; count = refl }) same_first refl
+    second_wrap_up other_wrap_up original (record { kinds = refl; fields = refl; roots = refl; nodes = refl; count = refl }) same_first refl
     (λ same. let no : ⊥ = omega (arith, ap wrap_up_seen same) in no)
 
 jump_differs : IsOtherAt other_jump original 1 false
 jump_differs =
-    second_generator other_jump original (record { fields = refl; roots = refl; nodes = refl; count = refl }) same_first
+    second_generator other_jump original (record { kinds = refl; fields = refl; roots = refl; nodes = refl; count = refl }) same_first
     (λ same. let no : ⊥ = omega (arith, ap jump_seen same) in no)
 
 first_of_two_told : IsOtherAt two_differences original 0 true
 first_of_two_told =
-    first_wrap_up two_differences original (record { fields = refl; roots = refl; nodes = refl; count = refl }) refl
+    first_wrap_up two_differences original (record { kinds = refl; fields = refl; roots = refl; nodes = refl; count = refl }) refl
     (λ same. let no : ⊥ = omega (arith, ap wrap_up_seen same) in no)
 
 same_picks : (inside : Bool) → part_at (erased uses_and_differs) 0 inside ≡ part_at text_that_picks 0 inside
@@ -182,7 +182,7 @@ same_picks true = refl
 
 told_before_flaws : IsOtherAt uses_and_differs text_that_picks 1 true
 told_before_flaws =
-    second_wrap_up uses_and_differs text_that_picks (record { fields = refl; roots = refl; nodes = refl; count = refl }) same_picks refl
+    second_wrap_up uses_and_differs text_that_picks (record { kinds = refl; fields = refl; roots = refl; nodes = refl; count = refl }) same_picks refl
     (λ same. let no : ⊥ = omega (arith, ap wrap_up_seen same) in no)
 
 pub erasing_rows : ErasingRows

@@ -29,7 +29,7 @@ wrong_kinds =
     ∷ LoadField n1 n0 key
     ∷ LoadField r1 r0 key
     ∷ LoadField n1 r0 next
-    ∷ New n1
+    ∷ New n1 0
     ∷ Put n1 key n0
     ∷ Put r0 key r1
     ∷ Put r0 next n0
@@ -66,7 +66,7 @@ right_kinds =
     ∷ LoadPick n1 ten 3 r1
     ∷ LoadField n1 r0 key
     ∷ LoadField r1 r0 next
-    ∷ New r0
+    ∷ New r0 0
     ∷ Put r0 key n0
     ∷ Put r0 next r1
     ∷ Cas (retiring (root_entry ten n0 n1) n2) 0
@@ -114,7 +114,7 @@ not_looking =
     ∷ Null r0
     ∷ Mark r1 r0
     ∷ Unmark r1 r0
-    ∷ New r0
+    ∷ New r0 0
     ∷ Put r0 key n0
     ∷ Jump 0
     ∷ IfEq n0 n1 0

@@ -38,7 +38,7 @@ exchanges_once = counts (Set n1 10 ∷ Set n2 11 ∷ Commit (root_entry ten n1 n
 
 -- a new node with the argument as its key becomes the root `none`
 abbrev pub makes_node : Text
-makes_node = small (Null r1 ∷ New r0 ∷ Put r0 key n0 ∷ Commit (root_entry none r1 r0 ∷ []) ∷ []) (ReturnNone ∷ [])
+makes_node = small (Null r1 ∷ New r0 0 ∷ Put r0 key n0 ∷ Commit (root_entry none r1 r0 ∷ []) ∷ []) (ReturnNone ∷ [])
 
 pub record MethodRows : Type 0 where
   -- a restart of a generator gives it its first registers: 5 + 1 and not 6 + 1; and so it does before the first exchange

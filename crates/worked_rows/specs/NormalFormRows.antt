@@ -17,11 +17,11 @@ WrapUpBreaks wrapup rule at = Breaks (small (LoadRoot r0 first ∷ Commit [] ∷
 
 -- a wrap-up with a `new`, and with a put into it
 abbrev pub makes_node : List Instr
-makes_node = New r1 ∷ Put r1 key n7 ∷ ReturnNone ∷ []
+makes_node = New r1 0 ∷ Put r1 key n7 ∷ ReturnNone ∷ []
 
 -- a new node is given to a root, and the wrap-up reads its register
 abbrev pub shows_and_keeps : List Instr
-shows_and_keeps = Null r1 ∷ New r0 ∷ Commit (root_entry first r1 r0 ∷ []) ∷ []
+shows_and_keeps = Null r1 ∷ New r0 0 ∷ Commit (root_entry first r1 r0 ∷ []) ∷ []
 
 abbrev pub reads_kept : List Instr
 reads_kept = IfMarked r0 1 ∷ ReturnNone ∷ []

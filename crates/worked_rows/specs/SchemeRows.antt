@@ -117,7 +117,7 @@ pub record CheckRows : Type 0 where
   pub computed : checks_of (LoadRoot n1 ten ∷ Set n2 5 ∷ Add n3 n2 n2 ∷ Return n3 ∷ []) ≡ none ∷ none ∷ none ∷ before ∷ []
   pub computed_before : checks_of (Set n2 5 ∷ LoadRoot n1 ten ∷ Return n2 ∷ []) ≡ none ∷ none ∷ none ∷ []
   -- a `new` has the check before it that was due, and makes one due
-  pub made : checks_of (LoadRoot n1 ten ∷ New r1 ∷ Put r1 key n1 ∷ Commit [] ∷ []) ≡ none ∷ before ∷ before ∷ none ∷ []
+  pub made : checks_of (LoadRoot n1 ten ∷ New r1 0 ∷ Put r1 key n1 ∷ Commit [] ∷ []) ≡ none ∷ before ∷ before ∷ none ∷ []
   -- where a jump leads to the next instruction, a due check ends the block, and one that isn't due doesn't
   pub loop_head : checks_of (LoadRoot n1 ten ∷ Set n2 5 ∷ Set n3 5 ∷ Jump 2 ∷ []) ≡ none ∷ after ∷ none ∷ none ∷ []
   pub loop_head_clean : checks_of (Set n2 5 ∷ Set n3 5 ∷ Jump 1 ∷ []) ≡ none ∷ none ∷ none ∷ []
@@ -153,7 +153,7 @@ enqueue_barred =
     ∷ Check
     ∷ Plain (Cas (root_entry 1 r0 r1) 0)
     ∷ Plain (Jump 0)
-    ∷ Plain (New r3)
+    ∷ Plain (New r3 0)
     ∷ Check
     ∷ Plain (Put r3 0 n0)
     ∷ Guard r0

@@ -2,7 +2,7 @@
 use Rattle.std.specs.Prelude.{ℕ, List, [], ◌∷◌, None, codes}
 use Rattle.norm_lang.specs.declared.text.Reg.{Reg}
 use Rattle.norm_lang.specs.declared.text.Reg.TheVariants.{Num, Ref}
-use Rattle.norm_lang.specs.declared.text.FieldKind.TheVariants as kinds
+use Rattle.norm_lang.specs.declared.text.FieldKind.TheVariants as holdings
 use Rattle.norm_lang.specs.declared.text.Start.TheVariants as starts
 use Rattle.norm_lang.specs.declared.text.FieldDecl.{FieldDecl}
 use Rattle.norm_lang.specs.declared.text.RootDecl.{RootDecl}
@@ -12,6 +12,7 @@ use Rattle.norm_lang.specs.declared.text.CasEntry.{CasEntry}
 use Rattle.norm_lang.specs.declared.text.Instr.{Instr}
 use Rattle.norm_lang.specs.declared.text.Op.{Op}
 use Rattle.norm_lang.specs.declared.text.Text.{Text}
+use Rattle.norm_lang.specs.LineWords.{item_kind}
 use Rattle.norm_lang.specs.Shipped.{number_field, reference_field, reference_root}
 
 abbrev pub n0 : Reg
@@ -54,8 +55,8 @@ small_fields = number_field (codes "key") ∷ reference_field (codes "next") ∷
 -- the nodes: the first has key 4 and leads to the second, which has key 6 and leads nowhere
 abbrev pub small_nodes : List NodeDecl
 small_nodes =
-    record { values = starts.Value 4 ∷ starts.Node 2 ∷ [] }
-    ∷ record { values = starts.Value 6 ∷ starts.Node 0 ∷ [] }
+    record { owner = 0; values = starts.Value 4 ∷ starts.Node 2 ∷ [] }
+    ∷ record { owner = 0; values = starts.Value 6 ∷ starts.Node 0 ∷ [] }
     ∷ []
 
 -- the roots: of the first node, of the second, and of none; and 10, 20 and 30
@@ -78,7 +79,7 @@ abbrev pub thirty : ℕ
 thirty = 5
 
 abbrev pub number_root : List ℕ → ℕ → RootDecl
-number_root name value = record { name = name; kind = kinds.Number; start = starts.Value value }
+number_root name value = record { name = name; kind = holdings.Number; start = starts.Value value }
 
 abbrev pub small_roots : List RootDecl
 small_roots =
@@ -96,7 +97,7 @@ does generator wrapup = record { name = codes "does"; args = 1; generator = gene
 
 -- operations over these
 abbrev pub over : List Op → Text
-over ops = record { fields = small_fields; roots = small_roots; nodes = small_nodes; ops = ops }
+over ops = record { kinds = item_kind ∷ []; fields = small_fields; roots = small_roots; nodes = small_nodes; ops = ops }
 
 -- one operation over these
 abbrev pub small : List Instr → List Instr → Text

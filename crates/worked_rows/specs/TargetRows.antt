@@ -4,6 +4,7 @@ use Rattle.norm_lang.specs.declared.text.Start.TheVariants as starts
 use Rattle.norm_lang.specs.declared.text.Instr.{Instr}
 use Rattle.norm_lang.specs.declared.text.Instr.TheVariants.{Set, Null, LoadRoot, LoadPick, LoadField, New, Put, IfEq, IfMarked, Commit, Return, ReturnNone}
 use Rattle.norm_lang.specs.declared.text.Text.{Text}
+use Rattle.norm_lang.specs.LineWords.{item_kind}
 use Rattle.norm_lang.specs.Shipped.{reference_field, reference_root, root_entry}
 use Rattle.target_code.specs.declared.target.TargetInstr.{TargetInstr}
 use Rattle.target_code.specs.declared.target.TargetInstr.TheVariants.{Plain, Check, Guard}
@@ -15,7 +16,7 @@ use Rattle.worked_rows.specs.Small.{n0, n1, n2, n7, r0, r1, key, first, ten, sma
 
 -- operations of a target over the small declarations
 abbrev pub barred_over : List TargetOp → Target
-barred_over ops = record { fields = small_fields; roots = small_roots; nodes = small_nodes; ops = ops }
+barred_over ops = record { kinds = item_kind ∷ []; fields = small_fields; roots = small_roots; nodes = small_nodes; ops = ops }
 
 abbrev pub barred : List TargetInstr → List TargetInstr → Target
 barred generator wrapup = barred_over (record { name = codes "does"; args = 1; generator = generator; wrapup = wrapup } ∷ [])
@@ -47,7 +48,7 @@ abbrev pub loads_key : List TargetInstr
 loads_key = Plain (LoadRoot r0 first) ∷ Check ∷ Plain (LoadField n1 r0 key) ∷ Plain (IfEq n1 n0 4) ∷ Plain (Commit []) ∷ []
 
 abbrev pub makes : List TargetInstr
-makes = Plain (New r0) ∷ Plain (Put r0 key n0) ∷ Plain (Commit []) ∷ []
+makes = Plain (New r0 0) ∷ Plain (Put r0 key n0) ∷ Plain (Commit []) ∷ []
 
 -- a load into n7 right before the commit, and a wrap-up that returns n7
 abbrev pub loads_count : List TargetInstr
@@ -92,7 +93,7 @@ abbrev pub other_root : Target
 other_root = record compiled { roots = reference_root (codes "first") 2 ∷ drop 1 small_roots }
 
 abbrev pub other_node : Target
-other_node = record compiled { nodes = record { values = starts.Value 5 ∷ starts.Node 2 ∷ [] } ∷ record { values = starts.Value 6 ∷ starts.Node 0 ∷ [] } ∷ [] }
+other_node = record compiled { nodes = record { owner = 0; values = starts.Value 5 ∷ starts.Node 2 ∷ [] } ∷ record { owner = 0; values = starts.Value 6 ∷ starts.Node 0 ∷ [] } ∷ [] }
 
 -- by how many operations there are
 abbrev pub more_operations : Target

@@ -86,7 +86,7 @@ unchecking = record (set_text 1) {
         generator = search_code 1 16 22 ++ ((
             instr.Set (Num 2) 1
             ∷ instr.LoadField (Ref 2) (Ref 1) next_field
-            ∷ instr.New (Ref 4)
+            ∷ instr.New (Ref 4) 0
             ∷ instr.Put (Ref 4) first_field (Num 0)
             ∷ instr.Put (Ref 4) next_field (Ref 2)
             ∷ instr.Commit (next_entry (Ref 0) (Ref 1) (Ref 4) ∷ [])

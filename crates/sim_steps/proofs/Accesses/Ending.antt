@@ -32,8 +32,8 @@ use Rattle.sim_steps.proofs.Accesses.Failing.{fails_stay}
 
 pub entry_fails : (t : Plan) (c : ℕ) (s : Shared) (x : Caller) (k : ℕ) (entry : CasEntry) (entries : List CasEntry) → IsPlan t → SharedHolds t s → Base t s c x → (w : InExecutor t s c x k)
     → slice_get (code_in w.0.walk.method) x.entry.hand.at ≡ Some (Plain (instr.Commit entries)) → slice_get (list_of (instr_in t.target x.entry)) k ≡ Some entry
-    → Offers t s c (spared t w.0.walk) x.entry.hand.registers w.0.mirror entry → exchange entry w.0.mirror s.source ≡ None
-    → Kept t c s x (after_access s.memory (exchange_wanted entry x.entry.hand.registers)) (entry_made t.target t.setting.sizes k entry (s.memory (word_of (exchange_wanted entry x.entry.hand.registers))) (counted x.entry))
+    → Offers t s c (spared t w.0.walk) x.entry.hand.registers w.0.mirror entry → exchange t.text.fields entry w.0.mirror s.source ≡ None
+    → Kept t c s x (after_access s.memory (exchange_wanted t.target.fields entry x.entry.hand.registers)) (entry_made t.target t.setting.sizes k entry (s.memory (word_of (exchange_wanted t.target.fields entry x.entry.hand.registers))) (counted x.entry))
 entry_fails t c s x k entry entries plan f b w here there offers none =
     let m = w.0 in
     let list : List CasEntry = list_of (instr_in t.target x.entry) in
@@ -55,12 +55,12 @@ entry_fails t c s x k entry entries plan f b w here there offers none =
     ) in
     let base : Base t s c y = record { number = b.number; seen = b.seen; old = λ n p is lt. f.tagged n p is; hazard = b.hazard; protects = b.protects; known = λ n got. absurd (let z : false ≡ true = got in cc); cradle = b.cradle } in
     let ended = list_ends t s c y k entries plan base committed here in
-    let fails : succeeds entry x.entry.hand.registers (s.memory (word_of (exchange_wanted entry x.entry.hand.registers))) ≡ false = tests_agree t s c (spared t m.walk) x.entry.hand.registers m.mirror entry plan.null f offers ∙ ap is_some none in
-    subst (λ (z : Bool). Kept t c s x (after_access s.memory (exchange_wanted entry x.entry.hand.registers))
+    let fails : succeeds entry x.entry.hand.registers (s.memory (word_of (exchange_wanted t.target.fields entry x.entry.hand.registers))) ≡ false = tests_agree t s c (spared t m.walk) x.entry.hand.registers m.mirror entry plan.null f offers ∙ ap is_some none in
+    subst (λ (z : Bool). Kept t c s x (after_access s.memory (exchange_wanted t.target.fields entry x.entry.hand.registers))
     (told (Accesses ∷ []) (if z then retires_then t.target t.setting.sizes (onward.List k) (to_retire entry.retire x.entry.hand.registers) (with_published entry.replacement (counted x.entry)) else quiet (list_ended t.target t.setting.sizes k (counted x.entry))))) (sym fails) (record {
       s' = s;
       x' = ended.x';
-      memory = fails_stay s.memory entry x.entry.hand.registers fails;
+      memory = fails_stay t.target.fields s.memory entry x.entry.hand.registers fails;
       present = refl;
       entry = ended.entry;
       names = ended.names;

@@ -154,19 +154,19 @@ record Tries (t : Plan) (c : ℕ) (s : Shared) (x : Caller) (m : Trail t) (k : �
 record Done (t : Plan) (c : ℕ) (s : Shared) (x : Caller) (m : Trail t) (k : ℕ) (entry : CasEntry) (entries : List CasEntry) (n : ℕ) (s1 : Shared) (after : Memory) : Type 0 where
   tries : Tries t c s x m k entry entries
   name : n ≡ name_of (value_in m.mirror entry.replacement)
-  makes : exchange entry m.mirror s.source ≡ Some after
+  makes : exchange t.text.fields entry m.mirror s.source ≡ Some after
   after_is : after ≡ with_name_retired (to_drop entry.retire m.mirror) s1.source
   typed : IsTyped t.text after
   passes : Passes t c s s1 n
   drops : Drops t s x.entry.hand.registers m.mirror entry.retire
-  memory : after_access s.memory (exchange_wanted entry x.entry.hand.registers) ≡ s1.memory
+  memory : after_access s.memory (exchange_wanted t.target.fields entry x.entry.hand.registers) ≡ s1.memory
   unused : s1.unused ≡ s.unused
   present : (j : ℕ) → s1.present j ≡ s.present j
   retired : s1.source.retired ≡ s.source.retired
   tag : (i : ℕ) → s1.tag i ≡ s.tag i
   once : IsOnce after.retired
 
-once_after : (t : Plan) (c : ℕ) (s : Shared) (x : Caller) (m : Trail t) (k : ℕ) (entry : CasEntry) (entries : List CasEntry) (after : Memory) → Tries t c s x m k entry entries → exchange entry m.mirror s.source ≡ Some after → IsOnce after.retired
+once_after : (t : Plan) (c : ℕ) (s : Shared) (x : Caller) (m : Trail t) (k : ℕ) (entry : CasEntry) (entries : List CasEntry) (after : Memory) → Tries t c s x m k entry entries → exchange t.text.fields entry m.mirror s.source ≡ Some after → IsOnce after.retired
 once_after t c s x m k entry entries after w some =
     let op = ap (slice_get t.text.ops) w.walks.number ∙ m.walk.method.in_text in
     let turns = (lists_are_made t.text c m.walk.method.op (source_place (code_in m.walk.method) x.entry.hand.at) (list_of (instr_in t.target x.entry)) k m.mirror m.walk.call s.source op).succeeds entry after w.before.here some in
@@ -175,7 +175,7 @@ once_after t c s x m k entry entries after w some =
     let proper : IsProperPoint q = w.before.proper (Accesses ∷ []) q (makes Accesses [] (point s x) q (ap (λ caller. is_enabled_for t.text (events.Access c 0) (Some caller) s.source) w.source ∙ turns.enabled) (done q)) in
     subst IsOnce (ap (λ turn. turn.memory.retired) turned) proper.once
 
-is_done : (t : Plan) (c : ℕ) (s : Shared) (x : Caller) (m : Trail t) (k : ℕ) (entry : CasEntry) (entries : List CasEntry) (after : Memory) → Tries t c s x m k entry entries → exchange entry m.mirror s.source ≡ Some after
+is_done : (t : Plan) (c : ℕ) (s : Shared) (x : Caller) (m : Trail t) (k : ℕ) (entry : CasEntry) (entries : List CasEntry) (after : Memory) → Tries t c s x m k entry entries → exchange t.text.fields entry m.mirror s.source ≡ Some after
     → Done t c s x m k entry entries (name_of (value_in m.mirror entry.replacement)) (placed t (published_if t s (name_of (value_in m.mirror entry.replacement))) m.mirror entry.place (value_in m.mirror entry.replacement)) after
 is_done t c s x m k entry entries after w some =
     let plan = w.before.plan in
@@ -195,7 +195,7 @@ is_done t c s x m k entry entries after w some =
     (under_resident t s c (spared t m.walk) (name_of (value_in m.mirror entry.replacement)) plan.null f w.offers.new)
     (known_now t s (name_of (value_in m.mirror entry.replacement)))
     (typed_before t (to_drop entry.retire m.mirror) (placed t s m.mirror entry.place (value_in m.mirror entry.replacement)).source (subst (λ (memory : Memory). IsTyped t.text memory) made.after_is typed)) in
-    let succeeded : succeeds entry x.entry.hand.registers (s.memory (word_of (exchange_wanted entry x.entry.hand.registers))) ≡ true = tests_agree t s c (spared t m.walk) x.entry.hand.registers m.mirror entry plan.null f w.offers ∙ ap is_some some in
+    let succeeded : succeeds entry x.entry.hand.registers (s.memory (word_of (exchange_wanted t.target.fields entry x.entry.hand.registers))) ≡ true = tests_agree t s c (spared t m.walk) x.entry.hand.registers m.mirror entry plan.null f w.offers ∙ ap is_some some in
     record {
       tries = w;
       name = refl;
@@ -226,7 +226,7 @@ is_done t c s x m k entry entries after w some =
 
 -- the entry enters, in what both machines come to
 enters_at : (t : Plan) (c : ℕ) (s s' : Shared) (x : Caller) (m : Trail t) (k : ℕ) (entry : CasEntry) (entries : List CasEntry) → Tries t c s x m k entry entries → Passes t c s s' (name_of (value_in m.mirror entry.replacement))
-    → exchange entry m.mirror s.source ≡ Some s'.source → Enters t s s' c x m k (name_of (value_in m.mirror entry.replacement)) entry (cradles_after entry.replacement x.entry.hand.registers x.entry.cradles)
+    → exchange t.text.fields entry m.mirror s.source ≡ Some s'.source → Enters t s s' c x m k (name_of (value_in m.mirror entry.replacement)) entry (cradles_after entry.replacement x.entry.hand.registers x.entry.cradles)
 enters_at t c s s' x m k entry entries w passes after = record {
   plan = w.before.plan;
   shared_holds = w.before.shared_holds;
@@ -245,22 +245,22 @@ enters_at t c s s' x m k entry entries w passes after = record {
 -- the core's step, by whether it succeeds and the slot that it retires
 abbrev pub EntryKept : (t : Plan) (c : ℕ) (s : Shared) (x : Caller) (k : ℕ) (entry : CasEntry) → ℕ → Type 0
 EntryKept t c s x k entry j =
-    Kept t c s x (after_access s.memory (exchange_wanted entry x.entry.hand.registers))
+    Kept t c s x (after_access s.memory (exchange_wanted t.target.fields entry x.entry.hand.registers))
     (told (Accesses ∷ []) (retires_then t.target t.setting.sizes (onward.List k) j (record (counted x.entry) { cradles = cradles_after entry.replacement x.entry.hand.registers x.entry.cradles })))
 
-by_retirement : (t : Plan) (c : ℕ) (s : Shared) (x : Caller) (m : Trail t) (k : ℕ) (entry : CasEntry) (entries : List CasEntry) (after : Memory) (j : ℕ) → Tries t c s x m k entry entries → exchange entry m.mirror s.source ≡ Some after
+by_retirement : (t : Plan) (c : ℕ) (s : Shared) (x : Caller) (m : Trail t) (k : ℕ) (entry : CasEntry) (entries : List CasEntry) (after : Memory) (j : ℕ) → Tries t c s x m k entry entries → exchange t.text.fields entry m.mirror s.source ≡ Some after
     → to_retire entry.retire x.entry.hand.registers ≡ j → EntryKept t c s x k entry j
-    → Kept t c s x (after_access s.memory (exchange_wanted entry x.entry.hand.registers)) (entry_made t.target t.setting.sizes k entry (s.memory (word_of (exchange_wanted entry x.entry.hand.registers))) (counted x.entry))
+    → Kept t c s x (after_access s.memory (exchange_wanted t.target.fields entry x.entry.hand.registers)) (entry_made t.target t.setting.sizes k entry (s.memory (word_of (exchange_wanted t.target.fields entry x.entry.hand.registers))) (counted x.entry))
 by_retirement t c s x m k entry entries after j w some slot kept =
-    let succeeded : succeeds entry x.entry.hand.registers (s.memory (word_of (exchange_wanted entry x.entry.hand.registers))) ≡ true = tests_agree t s c (spared t m.walk) x.entry.hand.registers m.mirror entry w.before.plan.null w.before.shared_holds w.offers ∙ ap is_some some in
-    subst (λ (z : Bool). Kept t c s x (after_access s.memory (exchange_wanted entry x.entry.hand.registers))
+    let succeeded : succeeds entry x.entry.hand.registers (s.memory (word_of (exchange_wanted t.target.fields entry x.entry.hand.registers))) ≡ true = tests_agree t s c (spared t m.walk) x.entry.hand.registers m.mirror entry w.before.plan.null w.before.shared_holds w.offers ∙ ap is_some some in
+    subst (λ (z : Bool). Kept t c s x (after_access s.memory (exchange_wanted t.target.fields entry x.entry.hand.registers))
     (told (Accesses ∷ []) (if z then retires_then t.target t.setting.sizes (onward.List k) (to_retire entry.retire x.entry.hand.registers) (with_published entry.replacement (counted x.entry)) else quiet (list_ended t.target t.setting.sizes k (counted x.entry))))) (sym succeeded)
-    (subst (λ (e : Entry). Kept t c s x (after_access s.memory (exchange_wanted entry x.entry.hand.registers)) (told (Accesses ∷ []) (retires_then t.target t.setting.sizes (onward.List k) (to_retire entry.retire x.entry.hand.registers) e))) (sym (published_entry entry.replacement (counted x.entry)))
+    (subst (λ (e : Entry). Kept t c s x (after_access s.memory (exchange_wanted t.target.fields entry x.entry.hand.registers)) (told (Accesses ∷ []) (retires_then t.target t.setting.sizes (onward.List k) (to_retire entry.retire x.entry.hand.registers) e))) (sym (published_entry entry.replacement (counted x.entry)))
     (subst (λ (i : ℕ). EntryKept t c s x k entry i) (sym slot) kept))
 
 -- where nothing is retired the next entry follows, or the wrap-up's start
 keeps_on : (t : Plan) (c : ℕ) (s s' : Shared) (x : Caller) (m : Trail t) (k : ℕ) (entry : CasEntry) (entries : List CasEntry) → Tries t c s x m k entry entries → Passes t c s s' (name_of (value_in m.mirror entry.replacement))
-    → exchange entry m.mirror s.source ≡ Some s'.source → s'.memory ≡ after_access s.memory (exchange_wanted entry x.entry.hand.registers) → s'.unused ≡ s.unused → s'.present ≡ s.present → ((i : ℕ) → has i s'.source.retired ≡ true → has i s.source.retired ≡ true) → EntryKept t c s x k entry 0
+    → exchange t.text.fields entry m.mirror s.source ≡ Some s'.source → s'.memory ≡ after_access s.memory (exchange_wanted t.target.fields entry x.entry.hand.registers) → s'.unused ≡ s.unused → s'.present ≡ s.present → ((i : ℕ) → has i s'.source.retired ≡ true → has i s.source.retired ≡ true) → EntryKept t c s x k entry 0
 keeps_on t c s s' x m k entry entries w passes after memory unused present old = of (nat_lt (k + 1) (length (list_of (instr_in t.target x.entry)))) (λ routine. enters t s s' c x m k n entry cradles routine (enters_at t c s s' x m k entry entries w passes after)) where
   n : ℕ
   n = name_of (value_in m.mirror entry.replacement)
@@ -271,7 +271,7 @@ keeps_on t c s s' x m k entry entries w passes after memory unused present old =
   of : (b : Bool)
       → ((routine : Routine) → let y = entered t c s s' x (cradles_after entry.replacement x.entry.hand.registers x.entry.cradles) routine in
       PlaysEvent t.text (events.Access c 0) s.source x.source x.watch s'.source y.source y.watch × Base t s' c y × AfterExchange t s' c y (k + 1) b)
-      → Kept t c s x (after_access s.memory (exchange_wanted entry x.entry.hand.registers))
+      → Kept t c s x (after_access s.memory (exchange_wanted t.target.fields entry x.entry.hand.registers))
       (told (Accesses ∷ []) (quiet (if b then with_routine (record (counted x.entry) { cradles = cradles_after entry.replacement x.entry.hand.registers x.entry.cradles }) (InList (k + 1))
       else list_ended t.target t.setting.sizes (k + 1) (record (counted x.entry) { cradles = cradles_after entry.replacement x.entry.hand.registers x.entry.cradles }))))
   of true facts =
@@ -313,7 +313,7 @@ keeps_on t c s s' x m k entry entries w passes after memory unused present old =
 
 -- and a name that is retired goes into the retire routine
 retires_on : (t : Plan) (c : ℕ) (s s' : Shared) (x : Caller) (m : Trail t) (k : ℕ) (entry : CasEntry) (entries : List CasEntry) (j n : ℕ) → Tries t c s x m k entry entries → Passes t c s s' (name_of (value_in m.mirror entry.replacement))
-    → exchange entry m.mirror s.source ≡ Some s'.source → s'.memory ≡ after_access s.memory (exchange_wanted entry x.entry.hand.registers) → s'.unused ≡ s.unused → s'.present ≡ s.present → IsRetiring s' c (suc j) n None
+    → exchange t.text.fields entry m.mirror s.source ≡ Some s'.source → s'.memory ≡ after_access s.memory (exchange_wanted t.target.fields entry x.entry.hand.registers) → s'.unused ≡ s.unused → s'.present ≡ s.present → IsRetiring s' c (suc j) n None
     → ((i : ℕ) → has i s'.source.retired ≡ true → (has i s.source.retired ≡ true) ⊎ (t.home i ≡ suc j)) → EntryKept t c s x k entry (suc j)
 retires_on t c s s' x m k entry entries j n w passes after memory unused present retiring new =
     let cradles = cradles_after entry.replacement x.entry.hand.registers x.entry.cradles in
@@ -374,7 +374,7 @@ retired_kept t c s s1 x m k entry entries after n d is j home =
     public_of (inl z) = let no : ⊥ = omega (arith, z) in absurd no
     public_of (inr p) = p
 
-    by_slot : (j : ℕ) → t.home (suc n) ≡ j → t.home (suc n) ≢ 0 → Passes t c s (dropped t s1 c (suc n)) (name_of (value_in m.mirror entry.replacement)) → exchange entry m.mirror s.source ≡ Some (dropped t s1 c (suc n)).source
+    by_slot : (j : ℕ) → t.home (suc n) ≡ j → t.home (suc n) ≢ 0 → Passes t c s (dropped t s1 c (suc n)) (name_of (value_in m.mirror entry.replacement)) → exchange t.text.fields entry m.mirror s.source ≡ Some (dropped t s1 c (suc n)).source
         → IsRetiring (dropped t s1 c (suc n)) c (t.home (suc n)) (suc n) None → EntryKept t c s x k entry j
     by_slot zero home ne passes made retiring = absurd (ne home)
     by_slot (suc j) home ne passes made retiring = retires_on t c s (dropped t s1 c (suc n)) x m k entry entries j (suc n) d.tries passes made (sym d.memory) d.unused (λ i l. d.present l i)
@@ -382,10 +382,10 @@ retired_kept t c s s1 x m k entry entries after n d is j home =
         (λ i new. ⊎_elim (λ (was : has i s1.source.retired ≡ true). inl (subst (λ (ns : List ℕ). has i ns ≡ true) d.retired was)) (λ (now : i ≡ suc n). inr (ap t.home now ∙ home)) (has_last i (suc n) s1.source.retired new))
 
 made_kept : (t : Plan) (c : ℕ) (s s1 : Shared) (x : Caller) (m : Trail t) (k : ℕ) (entry : CasEntry) (entries : List CasEntry) (after : Memory) → Done t c s x m k entry entries (name_of (value_in m.mirror entry.replacement)) s1 after
-    → Kept t c s x (after_access s.memory (exchange_wanted entry x.entry.hand.registers)) (entry_made t.target t.setting.sizes k entry (s.memory (word_of (exchange_wanted entry x.entry.hand.registers))) (counted x.entry))
+    → Kept t c s x (after_access s.memory (exchange_wanted t.target.fields entry x.entry.hand.registers)) (entry_made t.target t.setting.sizes k entry (s.memory (word_of (exchange_wanted t.target.fields entry x.entry.hand.registers))) (counted x.entry))
 made_kept t c s s1 x m k entry entries after d = by_drop (to_drop entry.retire m.mirror) refl where
   by_drop : (n : ℕ) → to_drop entry.retire m.mirror ≡ n
-      → Kept t c s x (after_access s.memory (exchange_wanted entry x.entry.hand.registers)) (entry_made t.target t.setting.sizes k entry (s.memory (word_of (exchange_wanted entry x.entry.hand.registers))) (counted x.entry))
+      → Kept t c s x (after_access s.memory (exchange_wanted t.target.fields entry x.entry.hand.registers)) (entry_made t.target t.setting.sizes k entry (s.memory (word_of (exchange_wanted t.target.fields entry x.entry.hand.registers))) (counted x.entry))
   by_drop zero none = by_retirement t c s x m k entry entries after 0 d.tries d.makes (d.drops.slot ∙ (ap t.home none ∙ d.tries.before.plan.null))
       (keeps_on t c s s1 x m k entry entries d.tries d.passes (d.makes ∙ ap Some (d.after_is ∙ ap (λ (n : ℕ). with_name_retired n s1.source) none)) (sym d.memory) d.unused (λ i l. d.present l i) (λ i is. subst (λ (ns : List ℕ). has i ns ≡ true) d.retired is))
   by_drop (suc n) is =
@@ -394,10 +394,10 @@ made_kept t c s s1 x m k entry entries after d = by_drop (to_drop entry.retire m
 
 -- an exchange of a list, whether it fails or succeeds, and whatever it retires
 pub entry_step : (t : Plan) (c : ℕ) (s : Shared) (x : Caller) (k : ℕ) (entry : CasEntry) → AtEntry t c s x k entry
-    → Kept t c s x (after_access s.memory (exchange_wanted entry x.entry.hand.registers)) (entry_made t.target t.setting.sizes k entry (s.memory (word_of (exchange_wanted entry x.entry.hand.registers))) (counted x.entry))
+    → Kept t c s x (after_access s.memory (exchange_wanted t.target.fields entry x.entry.hand.registers)) (entry_made t.target t.setting.sizes k entry (s.memory (word_of (exchange_wanted t.target.fields entry x.entry.hand.registers))) (counted x.entry))
 entry_step t c s x k entry w = by_spot (subst (λ (r : Routine). HoldsAt t s c x r) w.at w.caller_holds.spot) (commit_there (instr_in t.target x.entry) k entry w.here) where
   by_spot : InExecutor t s c x k → (entries : List CasEntry) × (instr_in t.target x.entry ≡ Some (Plain (instr.Commit entries)))
-      → Kept t c s x (after_access s.memory (exchange_wanted entry x.entry.hand.registers)) (entry_made t.target t.setting.sizes k entry (s.memory (word_of (exchange_wanted entry x.entry.hand.registers))) (counted x.entry))
+      → Kept t c s x (after_access s.memory (exchange_wanted t.target.fields entry x.entry.hand.registers)) (entry_made t.target t.setting.sizes k entry (s.memory (word_of (exchange_wanted t.target.fields entry x.entry.hand.registers))) (counted x.entry))
   by_spot spot commit =
       let m = spot.0 in
       let here = sym (instr_is t s c x (spot_of x.entry.hand) spot.0 spot.1) ∙ commit.1 in
@@ -415,10 +415,10 @@ entry_step t c s x k entry w = by_spot (subst (λ (r : Routine). HoldsAt t s c x
         proper = w.proper [] (point s x) (done (point s x));
       }) in
       let tries : Tries t c s x spot.0 k entry commit.0 = record { before = w; walks = spot.1; guards = spot.2; generator = spot.3; source = spot.4; shown = spot.5; commits = commit.1; here = here; one = one; offers = offered } in
-      by_result spot commit.0 tries (exchange entry spot.0.mirror s.source) refl
+      by_result spot commit.0 tries (exchange t.text.fields entry spot.0.mirror s.source) refl
     where
-      by_result : (spot : InExecutor t s c x k) (entries : List CasEntry) → Tries t c s x spot.0 k entry entries → (o : Option Memory) → exchange entry spot.0.mirror s.source ≡ o
-          → Kept t c s x (after_access s.memory (exchange_wanted entry x.entry.hand.registers)) (entry_made t.target t.setting.sizes k entry (s.memory (word_of (exchange_wanted entry x.entry.hand.registers))) (counted x.entry))
+      by_result : (spot : InExecutor t s c x k) (entries : List CasEntry) → Tries t c s x spot.0 k entry entries → (o : Option Memory) → exchange t.text.fields entry spot.0.mirror s.source ≡ o
+          → Kept t c s x (after_access s.memory (exchange_wanted t.target.fields entry x.entry.hand.registers)) (entry_made t.target t.setting.sizes k entry (s.memory (word_of (exchange_wanted t.target.fields entry x.entry.hand.registers))) (counted x.entry))
       by_result spot entries tries None none = entry_fails t c s x k entry entries w.plan w.shared_holds w.caller_holds.base spot tries.here w.here tries.offers none
       by_result spot entries tries (Some after) some =
           made_kept t c s (placed t (published_if t s (name_of (value_in spot.0.mirror entry.replacement))) spot.0.mirror entry.place (value_in spot.0.mirror entry.replacement)) x spot.0 k entry entries after (is_done t c s x spot.0 k entry entries after tries some)

@@ -1,13 +1,15 @@
 -- An auxiliary exchange that fails.
-use Rattle.std.proofs.Common.{ℕ, zero, suc, ◌≡◌, ◌==◌, ◌+◌, ◌∙◌, ◌&&◌, ◌||◌, not, Bool, true, false, [], ◌∷◌, Option, Some, None, arith, inl, sym, ap, subst, refl, if◌then◌else◌}
+use Rattle.std.proofs.Common.{ℕ, zero, suc, ◌≡◌, ◌==◌, ◌+◌, ◌∙◌, ◌&&◌, ◌||◌, not, Bool, true, false, List, [], ◌∷◌, Option, Some, None, arith, inl, sym, ap, subst, refl, if◌then◌else◌}
 use Rattle.std.specs.Prelude.{slice_get, IsTrue, is_some}
 use Rattle.std.proofs.lemmas.Bool.Decides.{nat_tests}
 use Rattle.norm_lang.specs.declared.text.Place.{Place}
 use Rattle.norm_lang.specs.declared.text.Place.TheVariants as places
 use Rattle.norm_lang.specs.declared.text.CasEntry.{CasEntry}
 use Rattle.norm_lang.specs.declared.text.Instr.TheVariants as instr
+use Rattle.norm_lang.specs.declared.text.FieldDecl.{FieldDecl}
 use Rattle.norm_lang.specs.declared.registers.Registers.{Registers}
 use Rattle.norm_lang.specs.Local.{Spot}
+use Rattle.norm_lang.specs.KindFields.{place_of}
 use Rattle.target_code.specs.declared.target.TargetInstr.TheVariants.{Plain}
 use Rattle.target_code.specs.Erasing.{source_place}
 use Rattle.oa_words.specs.Words.{Word, FieldOf, Cell}
@@ -53,15 +55,15 @@ object_stays : (m : Word → ℕ) (n f e r : ℕ) → (not (n == 0) && (m (word_
 object_stays m zero f e r fails = store_idle m (FieldOf 0 f)
 object_stays m (suc j) f e r fails = let some : (suc j == 0) ≡ false = grind (arith, nat_tests) in stays m (FieldOf (suc j) f) e r (m (FieldOf (suc j) f) == e) refl (sym (rw some refl) ∙ fails)
 
-place_stays : (m : Word → ℕ) (p : Place) (registers : Registers) (e r : ℕ) → (has_object p registers && (m (word_of (place_exchange p registers e r)) == e)) ≡ false → m ≡ after_access m (place_exchange p registers e r)
-place_stays m (places.Root x) registers e r fails = stays m (Cell x) e r (m (Cell x) == e) refl fails
-place_stays m (places.Field a f) registers e r fails = object_stays m (slot_in registers a) f e r fails
+place_stays : (fields : List FieldDecl) (m : Word → ℕ) (p : Place) (registers : Registers) (e r : ℕ) → (has_object p registers && (m (word_of (place_exchange fields p registers e r)) == e)) ≡ false → m ≡ after_access m (place_exchange fields p registers e r)
+place_stays fields m (places.Root x) registers e r fails = stays m (Cell x) e r (m (Cell x) == e) refl fails
+place_stays fields m (places.Field a f) registers e r fails = object_stays m (slot_in registers a) (place_of fields f) e r fails
 
-pub fails_stay : (m : Word → ℕ) (entry : CasEntry) (registers : Registers) → succeeds entry registers (m (word_of (exchange_wanted entry registers))) ≡ false → m ≡ after_access m (exchange_wanted entry registers)
-fails_stay m entry registers fails = place_stays m entry.place registers (word_in registers entry.expected) (word_in registers entry.replacement) fails
+pub fails_stay : (fields : List FieldDecl) (m : Word → ℕ) (entry : CasEntry) (registers : Registers) → succeeds entry registers (m (word_of (exchange_wanted fields entry registers))) ≡ false → m ≡ after_access m (exchange_wanted fields entry registers)
+fails_stay fields m entry registers fails = place_stays fields m entry.place registers (word_in registers entry.expected) (word_in registers entry.replacement) fails
 
 -- to the other instruction: the source's fails too
-pub failure_takes : (t : Plan) (s : Shared) (c : ℕ) (x : Caller) (m : Trail t) (entry : CasEntry) (l : ℕ) (accessed : Bool) → Reads t s c x m (instr.Cas entry l) → Stands t x m → Guards t x m → exchange entry m.mirror s.source ≡ None
+pub failure_takes : (t : Plan) (s : Shared) (c : ℕ) (x : Caller) (m : Trail t) (entry : CasEntry) (l : ℕ) (accessed : Bool) → Reads t s c x m (instr.Cas entry l) → Stands t x m → Guards t x m → exchange t.text.fields entry m.mirror s.source ≡ None
     → (m.walk.method.wrapup ≡ true → accessed ≡ true)
     → let next : Spot = record { at = l; registers = x.entry.hand.registers } in
     let y = took t s c 0 x next accessed 0 x.was_set in
@@ -105,8 +107,8 @@ failure_takes t s c x m entry l accessed w st guards none marked =
 
 -- a failed auxiliary exchange, and the local code after it
 pub failure_kept : (t : Plan) (c : ℕ) (s : Shared) (x : Caller) (entry : CasEntry) (l : ℕ) → IsPlan t → SharedHolds t s → Base t s c x → (walk : Running t s c x (spot_of x.entry.hand))
-    → slice_get (code_in walk.0.walk.method) x.entry.hand.at ≡ Some (Plain (instr.Cas entry l)) → Offers t s c (spared t walk.0.walk) x.entry.hand.registers walk.0.mirror entry → exchange entry walk.0.mirror s.source ≡ None
-    → KeptSetting t c s x (set_plain t.target (instr.Cas entry l) (s.memory (word_of (exchange_wanted entry x.entry.hand.registers))) x.entry x.was_set) (after_access s.memory (exchange_wanted entry x.entry.hand.registers)) (plain_accepted t.target t.setting.sizes (instr.Cas entry l) (s.memory (word_of (exchange_wanted entry x.entry.hand.registers))) (counted x.entry))
+    → slice_get (code_in walk.0.walk.method) x.entry.hand.at ≡ Some (Plain (instr.Cas entry l)) → Offers t s c (spared t walk.0.walk) x.entry.hand.registers walk.0.mirror entry → exchange t.text.fields entry walk.0.mirror s.source ≡ None
+    → KeptSetting t c s x (set_plain t.target (instr.Cas entry l) (s.memory (word_of (exchange_wanted t.target.fields entry x.entry.hand.registers))) x.entry x.was_set) (after_access s.memory (exchange_wanted t.target.fields entry x.entry.hand.registers)) (plain_accepted t.target t.setting.sizes (instr.Cas entry l) (s.memory (word_of (exchange_wanted t.target.fields entry x.entry.hand.registers))) (counted x.entry))
 failure_kept t c s x entry l plan f base walk here offers none =
     let y = counted_caller x in
     let moves = running_moved t s c x (spot_of x.entry.hand) (one_more x.entry.running.steps) x.entry.counts x.entry.routine walk in
@@ -114,15 +116,15 @@ failure_kept t c s x entry l plan f base walk here offers none =
     let taken = failure_takes t s c y walk.0 entry l x.entry.hand.wrapup w moves.2 moves.4 none (λ e. walk.1.wrapup ∙ e) in
     let next : Spot = record { at = l; registers = x.entry.hand.registers } in
     let z = took t s c 0 y next x.entry.hand.wrapup 0 x.was_set in
-    let word : ℕ = s.memory (word_of (exchange_wanted entry x.entry.hand.registers)) in
+    let word : ℕ = s.memory (word_of (exchange_wanted t.target.fields entry x.entry.hand.registers)) in
     let fails : succeeds entry x.entry.hand.registers word ≡ false = tests_agree t s c (spared t walk.0.walk) x.entry.hand.registers walk.0.mirror entry plan.null f offers ∙ ap is_some none in
     let ended = settles_ends t s c (made_by x z.source z.watch z.held x.was_set) next plan f taken.1.0 taken.1.1 in
     let e = with_access (counted x.entry) in
-    subst (λ (b : Bool). KeptSetting t c s x (set_exchanged t.target entry l x.entry x.was_set b) (after_access s.memory (exchange_wanted entry x.entry.hand.registers))
+    subst (λ (b : Bool). KeptSetting t c s x (set_exchanged t.target entry l x.entry x.was_set b) (after_access s.memory (exchange_wanted t.target.fields entry x.entry.hand.registers))
     (told (Accesses ∷ []) (if b then retires_then t.target t.setting.sizes onward.Next (to_retire entry.retire x.entry.hand.registers) e else cas_failed t.target t.setting.sizes l e))) (sym fails) (record {
       s' = s;
       x' = ended.x';
-      memory = fails_stay s.memory entry x.entry.hand.registers fails;
+      memory = fails_stay t.target.fields s.memory entry x.entry.hand.registers fails;
       present = refl;
       entry = ended.entry;
       names = ended.names;

@@ -10,6 +10,7 @@ use Rattle.norm_lang.specs.declared.text.FieldKind.TheVariants as field_kinds
 use Rattle.norm_lang.specs.declared.text.Instr.{Instr}
 use Rattle.norm_lang.specs.declared.text.Instr.TheVariants as instr
 use Rattle.norm_lang.specs.declared.text.Text.{Text}
+use Rattle.norm_lang.specs.declared.text.FieldDecl.{FieldDecl}
 use Rattle.norm_lang.specs.declared.registers.Reference.{Reference}
 use Rattle.norm_lang.specs.declared.registers.Registers.{Registers}
 use Rattle.norm_lang.specs.Grammar.{is_new}
@@ -18,6 +19,7 @@ use Rattle.norm_lang.specs.Local.{Spot, remainder}
 use Rattle.norm_lang.specs.NormalForm.{N13}
 use Rattle.norm_lang.specs.Registers.{number_in, reference_in}
 use Rattle.norm_lang.specs.RegisterUse.{reads, destination}
+use Rattle.norm_lang.specs.KindFields.{place_of}
 use Rattle.target_code.specs.declared.target.TargetInstr.TheVariants.{Plain}
 use Rattle.target_code.specs.Erasing.{source_place, redirected}
 use Rattle.oa_words.specs.Words.{Word, FieldOf, Cell}
@@ -92,9 +94,9 @@ pub reads_back : (home : ℕ → ℕ) (kind : FieldKind) (d : Reg) (word : ℕ) 
 reads_back home field_kinds.Number (Num r) word (Number n) right typed is = is
 reads_back home field_kinds.Number (Num r) word (Node y) right typed is = absurd typed
 reads_back home field_kinds.Number (Ref r) word v right typed is = absurd right
-reads_back home field_kinds.Reference (Num r) word v right typed is = absurd right
-reads_back home field_kinds.Reference (Ref r) word (Number n) right typed is = absurd typed
-reads_back home field_kinds.Reference (Ref r) word (Node y) right typed is =
+reads_back home (field_kinds.Reference k) (Num r) word v right typed is = absurd right
+reads_back home (field_kinds.Reference k) (Ref r) word (Number n) right typed is = absurd typed
+reads_back home (field_kinds.Reference k) (Ref r) word (Node y) right typed is =
     (ap slot_part is ∙ (unpacks (home y.node) y.marked).0, ap is_marked is ∙ (unpacks (home y.node) y.marked).1)
 
 -- and something of its kind from any word
@@ -102,9 +104,9 @@ pub reads_kind : (kind : FieldKind) (d : Reg) (word : ℕ) (v : Value) → IsReg
 reads_kind field_kinds.Number (Num r) word (Number n) right typed = (tt, tt)
 reads_kind field_kinds.Number (Num r) word (Node y) right typed = absurd typed
 reads_kind field_kinds.Number (Ref r) word v right typed = absurd right
-reads_kind field_kinds.Reference (Num r) word v right typed = absurd right
-reads_kind field_kinds.Reference (Ref r) word (Number n) right typed = absurd typed
-reads_kind field_kinds.Reference (Ref r) word (Node y) right typed = (tt, tt)
+reads_kind (field_kinds.Reference k) (Num r) word v right typed = absurd right
+reads_kind (field_kinds.Reference k) (Ref r) word (Number n) right typed = absurd typed
+reads_kind (field_kinds.Reference k) (Ref r) word (Node y) right typed = (tt, tt)
 
 same_name : (v : Value) → (name_in v ≡ name_of v) × (name_in v ≡ name_of v)
 same_name (Number n) = (refl, refl)
@@ -113,8 +115,8 @@ same_name (Node y) = (refl, refl)
 -- ---- what is found
 
 -- where a load looks
-abbrev pub LooksAt : Instr → Registers → Word → Type 0
-LooksAt i registers w = plain_wanted i registers ≡ Some (Loads w)
+abbrev pub LooksAt : List FieldDecl → Instr → Registers → Word → Type 0
+LooksAt fields i registers w = plain_wanted fields i registers ≡ Some (Loads w)
 
 pub record Found (t : Plan) (s : Shared) (c : ℕ) (x : Caller) (m : Trail t) (i : Instr) (d : Reg) (w : Word) : Type 0 where
   pub kind : IsValueFor d (read_as d (s.memory w)) × IsValueFor d (loaded t.text i m.mirror s.source)
@@ -189,7 +191,7 @@ refuted false never = refl
 some_load : (v w : Word) → Some (Loads v) ≡ Some (Loads w) → v ≡ w
 some_load v w is = cc
 
-pub finds : (t : Plan) (s : Shared) (c : ℕ) (x : Caller) (m : Trail t) (i : Instr) (d : Reg) (w : Word) → Reading t s c x m i → loads_into i ≡ Some d → LooksAt i x.entry.hand.registers w → Found t s c x m i d w
+pub finds : (t : Plan) (s : Shared) (c : ℕ) (x : Caller) (m : Trail t) (i : Instr) (d : Reg) (w : Word) → Reading t s c x m i → loads_into i ≡ Some d → LooksAt t.target.fields i x.entry.hand.registers w → Found t s c x m i d w
 finds t s c x m (instr.LoadRoot e z) d w rd loads looks =
     subst (λ (r : Reg). Found t s c x m (instr.LoadRoot e z) r w) (let same : e ≡ d = cc in same) (subst (λ (v : Word). Found t s c x m (instr.LoadRoot e z) e v) (some_load (Cell z) w looks)
     (by_kind t s c x m (instr.LoadRoot e z) e (Cell z) _ (root_finds t.text e z m.mirror s.source (kind_right m.walk.method rd.plan.compiled x.entry.hand.at (instr.LoadRoot e z) rd.here) rd.shared_holds.typed) (λ calm. rd.shared_holds.store.root z) (rd.shared_holds.store.top z)))
@@ -207,8 +209,8 @@ finds t s c x m (instr.LoadPick e z n a) d w rd loads looks =
 finds t s c x m (instr.LoadField e a f) d w rd loads looks =
     let i = instr.LoadField e a f in
     let slot : (reference_in x.entry.hand.registers a).node ≡ t.home (reference_in m.mirror a).node = (references_agree t.home x.entry.hand.registers m.mirror a rd.plan.null (read_agrees t s c x m i a rd (reads_first a false))).0 in
-    subst (λ (r : Reg). Found t s c x m i r w) (let same : e ≡ d = cc in same) (subst (λ (v : Word). Found t s c x m i e v) (ap (λ (j : ℕ). FieldOf j f) (sym slot) ∙ some_load (FieldOf (slot_in x.entry.hand.registers a) f) w looks)
-    (by_kind t s c x m i e (FieldOf (t.home (reference_in m.mirror a).node) f) _ (field_finds t.text e a f m.mirror s.source (kind_right m.walk.method rd.plan.compiled x.entry.hand.at i rd.here) rd.shared_holds.typed)
+    subst (λ (r : Reg). Found t s c x m i r w) (let same : e ≡ d = cc in same) (subst (λ (v : Word). Found t s c x m i e v) (ap (λ (j : ℕ). FieldOf j (place_of t.target.fields f)) (sym slot) ∙ some_load (FieldOf (slot_in x.entry.hand.registers a) (place_of t.target.fields f)) w looks)
+    (by_kind t s c x m i e (FieldOf (t.home (reference_in m.mirror a).node) (place_of t.target.fields f)) _ (field_finds t.text e a f m.mirror s.source (kind_right m.walk.method rd.plan.compiled x.entry.hand.at i rd.here) rd.shared_holds.typed)
     (λ calm. field_word t s (reference_in m.mirror a) f rd.plan.null rd.shared_holds (object_resident t s c x m i a rd (reads_first a false) calm)) (field_known t s (reference_in m.mirror a) f rd.plan.null rd.shared_holds)))
 finds t s c x m _ d w rd loads looks = absurd (let never : None ≡ Some d = loads in cc)
 
@@ -334,7 +336,7 @@ made_by x source watch held were = record x { source = source; watch = watch; he
 
 -- a load, and the local code after it
 pub load_kept : (t : Plan) (c : ℕ) (s : Shared) (x : Caller) (i : Instr) (d : Reg) (w : Word) → IsPlan t → SharedHolds t s → Base t s c x → (walk : Running t s c x (spot_of x.entry.hand)) → c < t.setting.sizes.callers → IsProperFor s x
-    → slice_get (code_in walk.0.walk.method) x.entry.hand.at ≡ Some (Plain i) → loads_into i ≡ Some d → LooksAt i x.entry.hand.registers w
+    → slice_get (code_in walk.0.walk.method) x.entry.hand.at ≡ Some (Plain i) → loads_into i ≡ Some d → LooksAt t.target.fields i x.entry.hand.registers w
     → KeptSetting t c s x (set_plain t.target i (s.memory w) x.entry x.was_set) (store s.memory w (s.memory w)) (plain_accepted t.target t.setting.sizes i (s.memory w) (counted x.entry))
 load_kept t c s x i d w plan f b walk below proper here loads looks =
     let y = counted_caller x in

@@ -113,7 +113,7 @@ keeps_gets t c s s' x m q g = record {
 }
 
 -- the access of an exchange that succeeds in the source
-pub exchange_makes : (t : Plan) (s : Shared) (c : ℕ) (x : Caller) (m : Trail t) (entry : CasEntry) (l : ℕ) (after : Memory) → Reads t s c x m (instr.Cas entry l) → exchange entry m.mirror s.source ≡ Some after
+pub exchange_makes : (t : Plan) (s : Shared) (c : ℕ) (x : Caller) (m : Trail t) (entry : CasEntry) (l : ℕ) (after : Memory) → Reads t s c x m (instr.Cas entry l) → exchange t.text.fields entry m.mirror s.source ≡ Some after
     → Makes t s c 0 x m (instr.Cas entry l) 0 (record { at = x.entry.hand.at + 1; registers = x.entry.hand.registers }) m.mirror
 exchange_makes t s c x m entry l after w some =
     let place = source_place (code_in m.walk.method) in
@@ -134,7 +134,7 @@ exchange_makes t s c x m entry l after w some =
 
 -- to the next instruction, in what is shared after the exchange: the source's succeeds too
 pub success_takes : (t : Plan) (s s' : Shared) (c : ℕ) (x : Caller) (m : Trail t) (entry : CasEntry) (l : ℕ) (accessed : Bool) → Reads t s c x m (instr.Cas entry l) → Stands t x m → Guards t x m
-    → exchange entry m.mirror s.source ≡ Some s'.source → SharedHolds t s' → Keeps t c s s' → (m.walk.method.wrapup ≡ true → accessed ≡ true)
+    → exchange t.text.fields entry m.mirror s.source ≡ Some s'.source → SharedHolds t s' → Keeps t c s s' → (m.walk.method.wrapup ≡ true → accessed ≡ true)
     → let next : Spot = record { at = x.entry.hand.at + 1; registers = x.entry.hand.registers } in
     let y = took t s c 0 x next accessed 0 x.was_set in
     PlaysEvent t.text (events.Access c 0) s.source x.source x.watch s'.source y.source y.watch × (Base t s' c y × Running t s' c y next)
@@ -173,26 +173,26 @@ pub record Succeeds (t : Plan) (s s' : Shared) (c : ℕ) (x : Caller) (m : Trail
   pub stands : Stands t x m
   pub guards : Guards t x m
   pub offers : Offers t s c (spared t m.walk) x.entry.hand.registers m.mirror entry
-  pub makes : exchange entry m.mirror s.source ≡ Some s'.source
+  pub makes : exchange t.text.fields entry m.mirror s.source ≡ Some s'.source
   pub shared_holds : SharedHolds t s'
   pub goes : MayChange t c s s'
   pub keeps : Keeps t c s s'
   pub unused : s'.unused ≡ s.unused
-  pub memory : s'.memory ≡ after_access s.memory (exchange_wanted entry x.entry.hand.registers)
+  pub memory : s'.memory ≡ after_access s.memory (exchange_wanted t.target.fields entry x.entry.hand.registers)
   -- what it newly retires is in the slot to retire
   pub retires : (i : ℕ) → has i s'.source.retired ≡ true → (has i s.source.retired ≡ true) ⊎ ((to_retire entry.retire x.entry.hand.registers ≡ t.home i) × (t.home i ≢ 0))
 
 -- how the core goes on where the exchange was made, by the slot to retire
 goes_by_slot : (t : Plan) (s s' : Shared) (c : ℕ) (x : Caller) (m : Trail t) (entry : CasEntry) (l j : ℕ) → Succeeds t s s' c x m entry l → to_retire entry.retire x.entry.hand.registers ≡ j
-    → KeptSetting t c s x (set_unless_retiring t.target x.entry x.was_set j) (after_access s.memory (exchange_wanted entry x.entry.hand.registers)) (told (Accesses ∷ []) (retires_then t.target t.setting.sizes onward.Next j (with_access (counted x.entry))))
-    → KeptSetting t c s x (set_plain t.target (instr.Cas entry l) (s.memory (word_of (exchange_wanted entry x.entry.hand.registers))) x.entry x.was_set) (after_access s.memory (exchange_wanted entry x.entry.hand.registers)) (plain_accepted t.target t.setting.sizes (instr.Cas entry l) (s.memory (word_of (exchange_wanted entry x.entry.hand.registers))) (counted x.entry))
+    → KeptSetting t c s x (set_unless_retiring t.target x.entry x.was_set j) (after_access s.memory (exchange_wanted t.target.fields entry x.entry.hand.registers)) (told (Accesses ∷ []) (retires_then t.target t.setting.sizes onward.Next j (with_access (counted x.entry))))
+    → KeptSetting t c s x (set_plain t.target (instr.Cas entry l) (s.memory (word_of (exchange_wanted t.target.fields entry x.entry.hand.registers))) x.entry x.was_set) (after_access s.memory (exchange_wanted t.target.fields entry x.entry.hand.registers)) (plain_accepted t.target t.setting.sizes (instr.Cas entry l) (s.memory (word_of (exchange_wanted t.target.fields entry x.entry.hand.registers))) (counted x.entry))
 goes_by_slot t s s' c x m entry l j w slot k =
     let e = with_access (counted x.entry) in
-    let succeeded : succeeds entry x.entry.hand.registers (s.memory (word_of (exchange_wanted entry x.entry.hand.registers))) ≡ true =
+    let succeeded : succeeds entry x.entry.hand.registers (s.memory (word_of (exchange_wanted t.target.fields entry x.entry.hand.registers))) ≡ true =
     tests_agree t s c (spared t m.walk) x.entry.hand.registers m.mirror entry w.reads.plan.null w.reads.shared_holds w.offers ∙ ap is_some w.makes in
-    subst (λ (b : Bool). KeptSetting t c s x (set_exchanged t.target entry l x.entry x.was_set b) (after_access s.memory (exchange_wanted entry x.entry.hand.registers))
+    subst (λ (b : Bool). KeptSetting t c s x (set_exchanged t.target entry l x.entry x.was_set b) (after_access s.memory (exchange_wanted t.target.fields entry x.entry.hand.registers))
     (told (Accesses ∷ []) (if b then retires_then t.target t.setting.sizes onward.Next (to_retire entry.retire x.entry.hand.registers) e else cas_failed t.target t.setting.sizes l e))) (sym succeeded)
-    (subst (λ (i : ℕ). KeptSetting t c s x (set_unless_retiring t.target x.entry x.was_set i) (after_access s.memory (exchange_wanted entry x.entry.hand.registers)) (told (Accesses ∷ []) (retires_then t.target t.setting.sizes onward.Next i e))) (sym slot) k)
+    (subst (λ (i : ℕ). KeptSetting t c s x (set_unless_retiring t.target x.entry x.was_set i) (after_access s.memory (exchange_wanted t.target.fields entry x.entry.hand.registers)) (told (Accesses ∷ []) (retires_then t.target t.setting.sizes onward.Next i e))) (sym slot) k)
 
 reads_counted : (t : Plan) (s : Shared) (c : ℕ) (x : Caller) (m : Trail t) (i : Instr) → Reads t s c x m i → Reads t s c (counted_caller x) m i
 reads_counted t s c x m i w = record {
@@ -205,7 +205,7 @@ reads_counted t s c x m i w = record {
 }
 
 pub success_kept : (t : Plan) (c : ℕ) (s s' : Shared) (x : Caller) (m : Trail t) (entry : CasEntry) (l : ℕ) → Succeeds t s s' c x m entry l → to_retire entry.retire x.entry.hand.registers ≡ 0
-    → KeptSetting t c s x (set_plain t.target (instr.Cas entry l) (s.memory (word_of (exchange_wanted entry x.entry.hand.registers))) x.entry x.was_set) (after_access s.memory (exchange_wanted entry x.entry.hand.registers)) (plain_accepted t.target t.setting.sizes (instr.Cas entry l) (s.memory (word_of (exchange_wanted entry x.entry.hand.registers))) (counted x.entry))
+    → KeptSetting t c s x (set_plain t.target (instr.Cas entry l) (s.memory (word_of (exchange_wanted t.target.fields entry x.entry.hand.registers))) x.entry x.was_set) (after_access s.memory (exchange_wanted t.target.fields entry x.entry.hand.registers)) (plain_accepted t.target t.setting.sizes (instr.Cas entry l) (s.memory (word_of (exchange_wanted t.target.fields entry x.entry.hand.registers))) (counted x.entry))
 success_kept t c s s' x m entry l w none =
     let y = counted_caller x in
     let next : Spot = record { at = x.entry.hand.at + 1; registers = x.entry.hand.registers } in
@@ -230,7 +230,7 @@ success_kept t c s s' x m entry l w none =
 
 -- the slot to retire goes into the retire routine, after which the next instruction stands
 pub success_retires : (t : Plan) (c : ℕ) (s s' : Shared) (x : Caller) (m : Trail t) (entry : CasEntry) (l j n : ℕ) → Succeeds t s s' c x m entry l → to_retire entry.retire x.entry.hand.registers ≡ suc j → IsRetiring s' c (suc j) n None
-    → KeptSetting t c s x (set_plain t.target (instr.Cas entry l) (s.memory (word_of (exchange_wanted entry x.entry.hand.registers))) x.entry x.was_set) (after_access s.memory (exchange_wanted entry x.entry.hand.registers)) (plain_accepted t.target t.setting.sizes (instr.Cas entry l) (s.memory (word_of (exchange_wanted entry x.entry.hand.registers))) (counted x.entry))
+    → KeptSetting t c s x (set_plain t.target (instr.Cas entry l) (s.memory (word_of (exchange_wanted t.target.fields entry x.entry.hand.registers))) x.entry x.was_set) (after_access s.memory (exchange_wanted t.target.fields entry x.entry.hand.registers)) (plain_accepted t.target t.setting.sizes (instr.Cas entry l) (s.memory (word_of (exchange_wanted t.target.fields entry x.entry.hand.registers))) (counted x.entry))
 success_retires t c s s' x m entry l j n w some retiring =
     let y = counted_caller x in
     let next : Spot = record { at = x.entry.hand.at + 1; registers = x.entry.hand.registers } in

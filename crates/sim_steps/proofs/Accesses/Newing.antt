@@ -68,6 +68,7 @@ zeroing_moved t s c x m r k g w = record {
   held = w.held;
   zeros = w.zeros;
   empty = w.empty;
+  kind = w.kind;
   here = w.here;
   number = w.number;
   generator = w.generator;
@@ -89,11 +90,11 @@ goes_new t s c k j g one two = record {
 }
 
 -- a store of 0 at a `new`: the next field's, or the draw and the local code after it
-pub new_stores : (t : Plan) (c : ℕ) (s : Shared) (x : Caller) (m : Trail t) (r k g : ℕ) → Zeroing t s c x m r k g → Stands t x m → instr_in t.target x.entry ≡ Some (Plain (instr.New (Ref r)))
+pub new_stores : (t : Plan) (c : ℕ) (s : Shared) (x : Caller) (m : Trail t) (r k g : ℕ) → (w : Zeroing t s c x m r k g) → Stands t x m → instr_in t.target x.entry ≡ Some (Plain (instr.New (Ref r) w.kind))
     → (nat_lt (g + 1) (zero_count t.target t.setting.sizes (instr_in t.target x.entry)) ≡ false → Drawing t (zeroed s (cradle_of x.entry k) g) c (counted_caller x) m r k g)
     → KeptWith t c s x x.names (set_zeroed t.target x.entry x.was_set k (nat_lt (g + 1) (zero_count t.target t.setting.sizes (instr_in t.target x.entry)))) (store s.memory (FieldOf (cradle_of x.entry k) g) 0) (core_zeroed t.target t.setting.sizes k g (counted x.entry)) (named_at (nat_lt (g + 1) (zero_count t.target t.setting.sizes (instr_in t.target x.entry))) (cradle_of x.entry k) s.unused (put s.present (cradle_of x.entry k) 0))
 new_stores t c s x m r k g w st is draw = of (nat_lt (g + 1) (zero_count t.target t.setting.sizes (instr_in t.target x.entry))) refl where
-  last : nat_lt (g + 1) (zero_count t.target t.setting.sizes (instr_in t.target x.entry)) ≡ false → KeptWith t c s x x.names (set_onward t.target x.entry (set_by (Some (Plain (instr.New (Ref r)))) x.was_set) (with_new (Some (Plain (instr.New (Ref r)))) (cradle_of x.entry k) x.entry.hand.registers)) (store s.memory (FieldOf (cradle_of x.entry k) g) 0) (told (Draws (cradle_of x.entry k) ∷ []) (goes_on t.target t.setting.sizes (with_new (Some (Plain (instr.New (Ref r)))) (cradle_of x.entry k) x.entry.hand.registers) (counted x.entry))) (put (put s.present (cradle_of x.entry k) 0) (cradle_of x.entry k) s.unused)
+  last : nat_lt (g + 1) (zero_count t.target t.setting.sizes (instr_in t.target x.entry)) ≡ false → KeptWith t c s x x.names (set_onward t.target x.entry (set_by (Some (Plain (instr.New (Ref r) w.kind))) x.was_set) (with_new (Some (Plain (instr.New (Ref r) w.kind))) (cradle_of x.entry k) x.entry.hand.registers)) (store s.memory (FieldOf (cradle_of x.entry k) g) 0) (told (Draws (cradle_of x.entry k) ∷ []) (goes_on t.target t.setting.sizes (with_new (Some (Plain (instr.New (Ref r) w.kind))) (cradle_of x.entry k) x.entry.hand.registers) (counted x.entry))) (put (put s.present (cradle_of x.entry k) 0) (cradle_of x.entry k) s.unused)
   last ends =
       let d = draw ends in
       let j = cradle_of x.entry k in
@@ -102,7 +103,7 @@ new_stores t c s x m r k g w st is draw = of (nat_lt (g + 1) (zero_count t.targe
       let y = counted_caller x in
       let own = w.base.cradle k w.held in
       let taken = new_takes t s1 c y m r k g d in
-      let z = took t s1 c s.unused y (behind_new x r j) x.entry.hand.accessed s.unused (set_by (Some (Plain (instr.New (Ref r)))) x.was_set) in
+      let z = took t s1 c s.unused y (behind_new x r j) x.entry.hand.accessed s.unused (set_by (Some (Plain (instr.New (Ref r) w.kind))) x.was_set) in
       let ended = settles_ends t s' c (record (turned y z.source z.watch) { held = z.held; was_set = z.was_set }) (behind_new x r j) w.plan taken.1 taken.2 taken.3 in
       record {
         s' = s';

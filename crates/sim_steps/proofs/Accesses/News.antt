@@ -65,7 +65,8 @@ pub record Zeroing (t : Plan) (s : Shared) (c : ℕ) (x : Caller) (m : Trail t) 
   pub held : cradle_of x.entry k ≢ 0
   pub zeros : Zeroed s (cradle_of x.entry k) g
   pub empty : Empty x
-  pub here : slice_get (code_in m.walk.method) x.entry.hand.at ≡ Some (Plain (instr.New (Ref r)))
+  pub kind : ℕ
+  pub here : slice_get (code_in m.walk.method) x.entry.hand.at ≡ Some (Plain (instr.New (Ref r) kind))
   pub number : k ≡ cradle_number (code_in m.walk.method) x.entry.hand.at
   pub generator : m.walk.method.wrapup ≡ false
 
@@ -75,7 +76,7 @@ bare t s c x m r k g w i = unprotected t s c i w.shared_holds (w.base.hazard i �
 -- null, or a name that the run has got: its slot is another
 away : (t : Plan) (s : Shared) (c : ℕ) (x : Caller) (m : Trail t) (r k g n : ℕ) → Zeroing t s c x m r k g → (n ≡ 0) ⊎ (has n x.held.got ≡ true) → Resident t s n → t.home n ≢ cradle_of x.entry k
 away t s c x m r k g n w (inl z) here e = w.held (sym e ∙ (ap t.home z ∙ w.plan.null))
-away t s c x m r k g n w (inr got) here e = slot_is_new t s c x (spot_of x.entry.hand) m (Ref r) n k w.plan w.walks w.gets w.here w.number got (ap s.owner e ∙ w.base.cradle k w.held) here
+away t s c x m r k g n w (inr got) here e = slot_is_new t s c x (spot_of x.entry.hand) m (Ref r) w.kind n k w.plan w.walks w.gets w.here w.number got (ap s.owner e ∙ w.base.cradle k w.held) here
 
 own_zeroed : (t : Plan) (s : Shared) (c : ℕ) (x : Caller) (m : Trail t) (r k g n : ℕ) → Zeroing t s c x m r k g → (n ≡ 0) ⊎ (has n x.held.got ≡ true) → Own t s c n → Own t (zeroed s (cradle_of x.entry k) g) c n
 own_zeroed t s c x m r k g n w known own = (own.0, own.1, put_other s.present (cradle_of x.entry k) (t.home n) 0 (away t s c x m r k g n w known own.2) ∙ own.2)
@@ -108,6 +109,7 @@ zeroing_on t s c x m r k g w = record {
   held = w.held;
   zeros = ((λ some. put_same s.present j 0), (λ h lt. zero_at h lt (eqb_tells h g)));
   empty = w.empty;
+  kind = w.kind;
   here = w.here;
   number = w.number;
   generator = w.generator;
@@ -187,22 +189,22 @@ draws t s c x m r k g d = record {
   none = d.zeroing.zeros.0 (omega arith);
   home = d.home;
   zeros = λ i ne. ⊎_elim (λ (lt : i < g + 1). d.zeroing.zeros.1 i lt) (λ (le : g + 1 ≤ i). d.beyond i (omega (arith, le))) (cases_lt i (g + 1));
-  typed = new_typed t.text s.unused 0 (Ref r) m.mirror s.source d.zeroing.shared_holds.typed;
+  typed = new_typed t.text s.unused 0 (Ref r) d.zeroing.kind m.mirror s.source d.zeroing.shared_holds.typed;
 }
 
 abbrev pub behind_new : Caller → ℕ → ℕ → Spot
 behind_new x r j = record { at = x.entry.hand.at + 1; registers = with_reference x.entry.hand.registers (Ref r) (record { node = j; marked = false }) }
 
-pub new_takes : (t : Plan) (s : Shared) (c : ℕ) (x : Caller) (m : Trail t) (r k g : ℕ) → Drawing t s c x m r k g
+pub new_takes : (t : Plan) (s : Shared) (c : ℕ) (x : Caller) (m : Trail t) (r k g : ℕ) → (d : Drawing t s c x m r k g)
     → let j = cradle_of x.entry k in
     let s' = drawn t s j g in
-    let y = took t s c s.unused x (behind_new x r j) x.entry.hand.accessed s.unused (set_by (Some (Plain (instr.New (Ref r)))) x.was_set) in
+    let y = took t s c s.unused x (behind_new x r j) x.entry.hand.accessed s.unused (set_by (Some (Plain (instr.New (Ref r) d.zeroing.kind))) x.was_set) in
     PlaysEvent t.text (events.Access c s.unused) s.source x.source x.watch s'.source y.source y.watch × SharedHolds t s' × Base t s' c y × Running t s' c y (behind_new x r j)
 new_takes t s c x m r k g d =
     let z = d.zeroing in
     let j = cradle_of x.entry k in
     let name = s.unused in
-    let i = instr.New (Ref r) in
+    let i = instr.New (Ref r) z.kind in
     let method = m.walk.method in
     let place = source_place (code_in method) in
     let at = x.entry.hand.at in
@@ -298,15 +300,15 @@ new_takes t s c x m r k g d =
         (λ (other : t.home n ≢ cradle_of x.entry k). sym (put_other s.present (cradle_of x.entry k) (t.home n) s.unused other) ∙ is)
         (cases_eq (t.home n) (cradle_of x.entry k))
 
-    by_shown : m.walk.method.wrapup ≡ false → (q : ℕ) (b : Bool) → sets (Ref q) (instr.New (Ref r)) ≡ b
-        → (sets (Ref q) (instr.New (Ref r)) ≡ false → node_in (with_reference m.mirror (Ref r) (record { node = s.unused; marked = false })) q ≡ node_in m.mirror q)
-        → (if sets (Ref q) (instr.New (Ref r)) then true else is_fresh_along (code_in m.walk.method) m.path (Ref q)) ≡ false → Shown s (node_in (with_reference m.mirror (Ref r) (record { node = s.unused; marked = false })) q)
+    by_shown : m.walk.method.wrapup ≡ false → (q : ℕ) (b : Bool) → sets (Ref q) (instr.New (Ref r) d.zeroing.kind) ≡ b
+        → (sets (Ref q) (instr.New (Ref r) d.zeroing.kind) ≡ false → node_in (with_reference m.mirror (Ref r) (record { node = s.unused; marked = false })) q ≡ node_in m.mirror q)
+        → (if sets (Ref q) (instr.New (Ref r) d.zeroing.kind) then true else is_fresh_along (code_in m.walk.method) m.path (Ref q)) ≡ false → Shown s (node_in (with_reference m.mirror (Ref r) (record { node = s.unused; marked = false })) q)
     by_shown gen q true set leaves shut = absurd (let never : true ≡ false = sym (rw set refl) ∙ shut in cc)
     by_shown gen q false set leaves shut = subst (λ (n : ℕ). Shown s n) (sym (leaves set)) (d.zeroing.gets.shown gen q (sym (rw set refl) ∙ shut))
 
-    by_fresh : m.walk.method.wrapup ≡ false → (q : ℕ) (b : Bool) → sets (Ref q) (instr.New (Ref r)) ≡ b
-        → (sets (Ref q) (instr.New (Ref r)) ≡ false → node_in (with_reference m.mirror (Ref r) (record { node = s.unused; marked = false })) q ≡ node_in m.mirror q)
-        → (if sets (Ref q) (instr.New (Ref r)) then true else is_fresh_along (code_in m.walk.method) m.path (Ref q)) ≡ true
+    by_fresh : m.walk.method.wrapup ≡ false → (q : ℕ) (b : Bool) → sets (Ref q) (instr.New (Ref r) d.zeroing.kind) ≡ b
+        → (sets (Ref q) (instr.New (Ref r) d.zeroing.kind) ≡ false → node_in (with_reference m.mirror (Ref r) (record { node = s.unused; marked = false })) q ≡ node_in m.mirror q)
+        → (if sets (Ref q) (instr.New (Ref r) d.zeroing.kind) then true else is_fresh_along (code_in m.walk.method) m.path (Ref q)) ≡ true
         → Own t (drawn t s (cradle_of x.entry k) g) c (node_in (with_reference m.mirror (Ref r) (record { node = s.unused; marked = false })) q)
     by_fresh gen q true set leaves fresh = let same : q ≡ r = (let e : (q == r) ≡ true = set in grind (arith, nat_tests)) in own_new _ (ap (λ (n : ℕ). node_in (with_reference m.mirror (Ref r) (record { node = s.unused; marked = false })) n) same ∙ d.register)
     by_fresh gen q false set leaves fresh = subst (λ (n : ℕ). Own t (drawn t s (cradle_of x.entry k) g) c n) (sym (leaves set)) (own_still (node_in m.mirror q) (fresh_got t s c x m r k (g + 1) q d.zeroing) (d.zeroing.gets.fresh gen q (sym (rw set refl) ∙ fresh)))

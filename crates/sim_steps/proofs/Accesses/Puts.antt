@@ -10,6 +10,7 @@ use Rattle.norm_lang.specs.declared.text.Instr.TheVariants as instr
 use Rattle.norm_lang.specs.InstructionRules.{holds_number, is_unlike, field_kind}
 use Rattle.norm_lang.specs.Local.{Spot}
 use Rattle.norm_lang.specs.RegisterUse.{reads}
+use Rattle.norm_lang.specs.KindFields.{place_of}
 use Rattle.target_code.specs.declared.target.TargetInstr.TheVariants.{Plain}
 use Rattle.target_code.specs.Erasing.{source_place}
 use Rattle.oa_words.specs.Words.{FieldOf}
@@ -131,7 +132,7 @@ pub put_takes : (t : Plan) (s : Shared) (c : ℕ) (x : Caller) (m : Trail t) (r 
     let next : Spot = record { at = x.entry.hand.at + 1; registers = x.entry.hand.registers } in
     let y = took t s c 0 x next x.entry.hand.accessed 0 x.was_set in
     PlaysEvent t.text (events.Access c 0) s.source x.source x.watch s'.source y.source y.watch
-    × (s'.memory ≡ store s.memory (FieldOf (slot_in x.entry.hand.registers (Ref r)) f) (word_in x.entry.hand.registers b))
+    × (s'.memory ≡ store s.memory (FieldOf (slot_in x.entry.hand.registers (Ref r)) (place_of t.target.fields f)) (word_in x.entry.hand.registers b))
     × SharedHolds t s' × Base t s' c y × ((k : ℕ) × (s.owner (t.home (node_in m.mirror r)) ≡ Held c k)) × Links t s (node_in m.mirror r) f v × Running t s' c y next
 put_takes t s c x m r f b w st guards =
     let i = instr.Put (Ref r) f b in
@@ -187,7 +188,7 @@ put_takes t s c x m r f b w st guards =
 -- a put, and the local code after it
 pub put_kept : (t : Plan) (c : ℕ) (s : Shared) (x : Caller) (a : Reg) (f : ℕ) (b : Reg) → IsPlan t → SharedHolds t s → Base t s c x → (walk : Running t s c x (spot_of x.entry.hand))
     → slice_get (code_in walk.0.walk.method) x.entry.hand.at ≡ Some (Plain (instr.Put a f b))
-    → KeptSetting t c s x (set_onward t.target x.entry x.was_set x.entry.hand.registers) (store s.memory (FieldOf (slot_in x.entry.hand.registers a) f) (word_in x.entry.hand.registers b)) (plain_accepted t.target t.setting.sizes (instr.Put a f b) (s.memory (FieldOf (slot_in x.entry.hand.registers a) f)) (counted x.entry))
+    → KeptSetting t c s x (set_onward t.target x.entry x.was_set x.entry.hand.registers) (store s.memory (FieldOf (slot_in x.entry.hand.registers a) (place_of t.target.fields f)) (word_in x.entry.hand.registers b)) (plain_accepted t.target t.setting.sizes (instr.Put a f b) (s.memory (FieldOf (slot_in x.entry.hand.registers a) (place_of t.target.fields f))) (counted x.entry))
 put_kept t c s x (Num r) f b plan fine base walk here = absurd (let z : true ≡ false = (or_parts true (is_unlike (field_kind t.text.fields f) b) (kind_right walk.0.walk.method plan.compiled x.entry.hand.at (instr.Put (Num r) f b) here)).0 in cc)
 put_kept t c s x (Ref r) f b plan fine base walk here =
     let y = counted_caller x in

@@ -54,10 +54,10 @@ abbrev pub PlainKept : (t : Plan) (c : ℕ) (s : Shared) (x : Caller) → Instr 
 PlainKept t c s x i None = Unit {0}
 PlainKept t c s x i (Some a) = KeptSetting t c s x (set_plain t.target i (s.memory (word_of a)) x.entry x.was_set) (after_access s.memory a) (plain_accepted t.target t.setting.sizes i (s.memory (word_of a)) (counted x.entry))
 
-pub put_step : (t : Plan) (c : ℕ) (s : Shared) (x : Caller) (a b : Reg) (f : ℕ) → AtPlain t c s x (instr.Put a f b) → PlainKept t c s x (instr.Put a f b) (plain_wanted (instr.Put a f b) x.entry.hand.registers)
+pub put_step : (t : Plan) (c : ℕ) (s : Shared) (x : Caller) (a b : Reg) (f : ℕ) → AtPlain t c s x (instr.Put a f b) → PlainKept t c s x (instr.Put a f b) (plain_wanted t.target.fields (instr.Put a f b) x.entry.hand.registers)
 put_step t c s x a b f w = put_kept t c s x a f b w.plan w.shared_holds w.caller_holds.base (running_at t c s x (instr.Put a f b) w) (code_at t c s x (instr.Put a f b) w)
 
-pub load_at : (t : Plan) (c : ℕ) (s : Shared) (x : Caller) (i : Instr) (d : Reg) (word : Word) → AtPlain t c s x i → loads_into i ≡ Some d → LooksAt i x.entry.hand.registers word → PlainKept t c s x i (Some (Loads word))
+pub load_at : (t : Plan) (c : ℕ) (s : Shared) (x : Caller) (i : Instr) (d : Reg) (word : Word) → AtPlain t c s x i → loads_into i ≡ Some d → LooksAt t.target.fields i x.entry.hand.registers word → PlainKept t c s x i (Some (Loads word))
 load_at t c s x i d word w loads looks =
     let r = running_at t c s x i w in
     load_kept t c s x i d word w.plan w.shared_holds w.caller_holds.base r w.below (proper_here t c s x w.proper r.2.tied) (code_at t c s x i w) loads looks

@@ -22,6 +22,7 @@ use Rattle.source_machine.specs.Proper.{has, IsOnce}
 use Rattle.source_machine.proofs.Places.{put_same, put_other}
 use Rattle.caller_steps.specs.Wants.{exchange_wanted, plain_wanted}
 use Rattle.caller_parts.specs.Operands.{succeeds, to_retire}
+use Rattle.caller_parts.proofs.News.{new_there}
 use Rattle.caller_steps.specs.Signs.{Accesses}
 use Rattle.target_laws.specs.Methods.{code_in}
 use Rattle.target_laws.proofs.Entries.{reads_entry}
@@ -37,7 +38,6 @@ use Rattle.sim_relation.specs.Views.{Plan, IsPlan, Held, Living, Retiring, Share
 use Rattle.sim_relation.specs.Callers.{IsRetiring, Known, Shown, Base, Trail, Stands, Gets, Guards, Running, HasMade, spared, spot_of}
 use Rattle.sim_relation.specs.Points.{StaysProper, IsProperPoint, point, played, makes, done}
 use Rattle.sim_relation.specs.Steps.{after_access}
-use Rattle.sim_relation.proofs.Codes.{new_there}
 use Rattle.sim_relation.proofs.Names.{has_slot_of}
 use Rattle.sim_steps.proofs.Pools.Slots.{apart}
 use Rattle.sim_steps.proofs.Walks.Accessing.{turns}
@@ -64,7 +64,7 @@ got_shown t s c x m n plan b g wrap (inr got) = of (b.known n got) where
   of (inr (inr own)) =
       let made : HasMade (code_in m.walk.method) m.path own.0 = g.made n own.0 got own.1 own.2 in
       let new = new_there (slice_get (code_in m.walk.method) made.0) made.2 in
-      absurd (keeps_at plan.compiled.normal plan.compiled.barred.erases m.walk.method N3 made.0 (instr.New new.0) new.1 (inl wrap))
+      absurd (keeps_at plan.compiled.normal plan.compiled.barred.erases m.walk.method N3 made.0 (instr.New new.0 new.1) new.2 (inl wrap))
 
 -- an operand is null or was published
 pub operand_shown : (t : Plan) (s : Shared) (c : ℕ) (x : Caller) (m : Trail t) (entry : CasEntry) (l r : ℕ) → Reads t s c x m (instr.Cas entry l) → IsTrue (list_any (same_register (Ref r)) (operands_of entry)) → Shown s (node_in m.mirror r)
@@ -84,7 +84,7 @@ value_shown t s c x m entry l (Ref r) w operand = operand_shown t s c x m entry 
 -- ---- the exchange succeeds
 
 -- no name is retired twice by it, since the text is proper
-once_after : (t : Plan) (s : Shared) (c : ℕ) (x : Caller) (m : Trail t) (entry : CasEntry) (l : ℕ) (after : Memory) → Reads t s c x m (instr.Cas entry l) → Stands t x m → exchange entry m.mirror s.source ≡ Some after
+once_after : (t : Plan) (s : Shared) (c : ℕ) (x : Caller) (m : Trail t) (entry : CasEntry) (l : ℕ) (after : Memory) → Reads t s c x m (instr.Cas entry l) → Stands t x m → exchange t.text.fields entry m.mirror s.source ≡ Some after
     → StaysProper t.text c (point s x) → IsOnce after.retired
 once_after t s c x m entry l after w st some stays =
     let next : Spot = record { at = x.entry.hand.at + 1; registers = x.entry.hand.registers } in
@@ -105,19 +105,19 @@ record Tries (t : Plan) (s : Shared) (c : ℕ) (x : Caller) (m : Trail t) (entry
 -- it is made, and what is known of it
 record Done (t : Plan) (s : Shared) (c : ℕ) (x : Caller) (m : Trail t) (entry : CasEntry) (l : ℕ) (after : Memory) : Type 0 where
   tries : Tries t s c x m entry l
-  makes : exchange entry m.mirror s.source ≡ Some after
+  makes : exchange t.text.fields entry m.mirror s.source ≡ Some after
   after_is : after ≡ with_name_retired (to_drop entry.retire m.mirror) (placed t s m.mirror entry.place (value_in m.mirror entry.replacement)).source
   typed : IsTyped t.text after
   writes : Writes t c s (place_memory t s.memory m.mirror entry.place (value_in m.mirror entry.replacement)) (placed t s m.mirror entry.place (value_in m.mirror entry.replacement)).source.nodes (placed t s m.mirror entry.place (value_in m.mirror entry.replacement)).source.roots
   drops : Drops t s x.entry.hand.registers m.mirror entry.retire
-  memory : after_access s.memory (exchange_wanted entry x.entry.hand.registers) ≡ place_memory t s.memory m.mirror entry.place (value_in m.mirror entry.replacement)
+  memory : after_access s.memory (exchange_wanted t.target.fields entry x.entry.hand.registers) ≡ place_memory t s.memory m.mirror entry.place (value_in m.mirror entry.replacement)
   once : IsOnce after.retired
 
 typed_before : (t : Plan) (n : ℕ) (memory : Memory) → IsTyped t.text (with_name_retired n memory) → IsTyped t.text memory
 typed_before t zero memory typed = typed
 typed_before t (suc n) memory typed = record { roots = typed.roots; nodes = typed.nodes }
 
-is_done : (t : Plan) (s : Shared) (c : ℕ) (x : Caller) (m : Trail t) (entry : CasEntry) (l : ℕ) (after : Memory) → Tries t s c x m entry l → exchange entry m.mirror s.source ≡ Some after → Done t s c x m entry l after
+is_done : (t : Plan) (s : Shared) (c : ℕ) (x : Caller) (m : Trail t) (entry : CasEntry) (l : ℕ) (after : Memory) → Tries t s c x m entry l → exchange t.text.fields entry m.mirror s.source ≡ Some after → Done t s c x m entry l after
 is_done t s c x m entry l after w some =
     let r = w.reads in
     let v = value_in m.mirror entry.replacement in
@@ -126,7 +126,7 @@ is_done t s c x m entry l after w some =
     let after_made = makes_after t s m.mirror entry after some in
     let there = place_there t s c (spared t m.walk) x.entry.hand.registers m.mirror entry.place kind.0 after_made.found r.shared_holds w.offers.place kind.1 after_made.finds in
     let typed : IsTyped t.text after = exchange_typed t.text entry m.mirror s.source after right some r.shared_holds.typed in
-    let succeeded : succeeds entry x.entry.hand.registers (s.memory (word_of (exchange_wanted entry x.entry.hand.registers))) ≡ true = tests_agree t s c (spared t m.walk) x.entry.hand.registers m.mirror entry r.plan.null r.shared_holds w.offers ∙ ap is_some some in
+    let succeeded : succeeds entry x.entry.hand.registers (s.memory (word_of (exchange_wanted t.target.fields entry x.entry.hand.registers))) ≡ true = tests_agree t s c (spared t m.walk) x.entry.hand.registers m.mirror entry r.plan.null r.shared_holds w.offers ∙ ap is_some some in
     record {
       tries = w;
       makes = some;
@@ -232,8 +232,8 @@ retires t s c x m entry l n after d is =
 
 -- ---- the whole step
 
-pub cas_step : (t : Plan) (c : ℕ) (s : Shared) (x : Caller) (entry : CasEntry) (l : ℕ) → AtPlain t c s x (instr.Cas entry l) → PlainKept t c s x (instr.Cas entry l) (plain_wanted (instr.Cas entry l) x.entry.hand.registers)
-cas_step t c s x entry l w = by_result (exchange entry m.mirror s.source) refl where
+pub cas_step : (t : Plan) (c : ℕ) (s : Shared) (x : Caller) (entry : CasEntry) (l : ℕ) → AtPlain t c s x (instr.Cas entry l) → PlainKept t c s x (instr.Cas entry l) (plain_wanted t.target.fields (instr.Cas entry l) x.entry.hand.registers)
+cas_step t c s x entry l w = by_result (exchange t.text.fields entry m.mirror s.source) refl where
   run : Running t s c x (spot_of x.entry.hand)
   run = running_at t c s x (instr.Cas entry l) w
 
@@ -266,21 +266,21 @@ cas_step t c s x entry l w = by_result (exchange entry m.mirror s.source) refl w
     proper = w.proper;
   }
 
-  by_slot : (after : Memory) (n : ℕ) (q : Retired t s c x run.0 entry l n) (j : ℕ) → t.home (suc n) ≡ j → PlainKept t c s x (instr.Cas entry l) (plain_wanted (instr.Cas entry l) x.entry.hand.registers)
+  by_slot : (after : Memory) (n : ℕ) (q : Retired t s c x run.0 entry l n) (j : ℕ) → t.home (suc n) ≡ j → PlainKept t c s x (instr.Cas entry l) (plain_wanted t.target.fields (instr.Cas entry l) x.entry.hand.registers)
   by_slot after n q zero is = absurd (q.some is)
   by_slot after n q (suc j) is = success_retires t c s (dropped t (placed t s run.0.mirror entry.place (value_in run.0.mirror entry.replacement)) c (suc n)) x run.0 entry l j (suc n) q.succeeds (q.slot ∙ is)
       (subst (λ (i : ℕ). IsRetiring (dropped t (placed t s run.0.mirror entry.place (value_in run.0.mirror entry.replacement)) c (suc n)) c i (suc n) None) is q.retiring)
 
-  by_drop : (after : Memory) → Done t s c x run.0 entry l after → (n : ℕ) → to_drop entry.retire run.0.mirror ≡ n → PlainKept t c s x (instr.Cas entry l) (plain_wanted (instr.Cas entry l) x.entry.hand.registers)
+  by_drop : (after : Memory) → Done t s c x run.0 entry l after → (n : ℕ) → to_drop entry.retire run.0.mirror ≡ n → PlainKept t c s x (instr.Cas entry l) (plain_wanted t.target.fields (instr.Cas entry l) x.entry.hand.registers)
   by_drop after d zero none = success_kept t c s (placed t s run.0.mirror entry.place (value_in run.0.mirror entry.replacement)) x run.0 entry l (leaves t s c x run.0 entry l after d none) (d.drops.slot ∙ (ap t.home none ∙ w.plan.null))
   by_drop after d (suc n) is = by_slot after n (retires t s c x run.0 entry l n after d is) (t.home (suc n)) refl
 
-  by_result : (o : Option Memory) → exchange entry run.0.mirror s.source ≡ o → PlainKept t c s x (instr.Cas entry l) (plain_wanted (instr.Cas entry l) x.entry.hand.registers)
+  by_result : (o : Option Memory) → exchange t.text.fields entry run.0.mirror s.source ≡ o → PlainKept t c s x (instr.Cas entry l) (plain_wanted t.target.fields (instr.Cas entry l) x.entry.hand.registers)
   by_result None none = failure_kept t c s x entry l w.plan w.shared_holds w.caller_holds.base run here offered none
   by_result (Some after) some = by_drop after (is_done t s c x run.0 entry l after tries some) (to_drop entry.retire run.0.mirror) refl
 
 -- each plain instruction with an access of its own
-pub plain_step : (t : Plan) (c : ℕ) (s : Shared) (x : Caller) (i : Instr) → AtPlain t c s x i → PlainKept t c s x i (plain_wanted i x.entry.hand.registers)
+pub plain_step : (t : Plan) (c : ℕ) (s : Shared) (x : Caller) (i : Instr) → AtPlain t c s x i → PlainKept t c s x i (plain_wanted t.target.fields i x.entry.hand.registers)
 plain_step t c s x (instr.LoadRoot d z) w = load_at t c s x (instr.LoadRoot d z) d _ w refl refl
 plain_step t c s x (instr.LoadPick d z n a) w = load_at t c s x (instr.LoadPick d z n a) d _ w refl refl
 plain_step t c s x (instr.LoadField d a f) w = load_at t c s x (instr.LoadField d a f) d _ w refl refl

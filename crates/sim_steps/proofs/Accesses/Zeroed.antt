@@ -1,6 +1,7 @@
 -- The stores of a `new` at a caller that belongs.
 use Rattle.std.proofs.Common.{ℕ, zero, suc, ◌≡◌, ◌≢◌, ◌==◌, ◌+◌, ◌<◌, ◌⊎◌, ◌∙◌, ◌&&◌, Bool, true, false, inl, inr, length, Some, arith, sym, ap, subst, refl, if◌then◌else◌, set}
 use Rattle.std.specs.Prelude.{nat_lt}
+use Rattle.std.proofs.lemmas.Bool.{and_parts}
 use Rattle.std.proofs.lemmas.Bool.Decides.{nat_tests, eqb_tells}
 use Rattle.std.proofs.lemmas.List.{get_or-set_same}
 use Rattle.std.proofs.lemmas.Option.{unwrap_or-slice_get}
@@ -19,6 +20,7 @@ use Rattle.caller_parts.specs.declared.routine.Routine.TheVariants.{Zeroes}
 use Rattle.caller_steps.specs.Belongs.{Belongs, Stands as CoreStands}
 use Rattle.caller_steps.specs.Entries.{cradle_of, instr_in, zero_count}
 use Rattle.caller_parts.specs.Operands.{cradle_number}
+use Rattle.caller_parts.proofs.News.{new_there}
 use Rattle.caller_steps.specs.After.{counted, node_made, zeroed as core_zeroed}
 use Rattle.caller_steps.specs.Signs.{quiet}
 use Rattle.run_ahead.specs.Agreeing.{node_in}
@@ -30,7 +32,7 @@ use Rattle.sim_relation.specs.Points.{DrawsHome}
 use Rattle.sim_relation.specs.Naming.{emptied_at, named_at}
 use Rattle.sim_relation.specs.Steps.{KeptWith}
 use Rattle.sim_relation.specs.WasSet.{set_zeroed}
-use Rattle.sim_relation.proofs.Codes.{code_is, instr_is, new_there}
+use Rattle.sim_relation.proofs.Codes.{code_is, instr_is}
 use Rattle.sim_steps.proofs.Walks.Quieting.{sane_here}
 use Rattle.sim_steps.proofs.Guards.Unguarding.{counted_caller}
 use Rattle.sim_steps.proofs.Accesses.News.{Zeroing, zeroing_on}
@@ -86,26 +88,26 @@ zero_step t c s x k field w =
     let stands : CoreStands t.target t.setting x.entry (Zeroes k field) = subst (λ (r : Routine). CoreStands t.target t.setting x.entry r) w.at w.belongs.stands in
     let there = new_there (instr_in t.target x.entry) stands.0 in
     subst (λ (present : ℕ → ℕ). KeptWith t c s x x.names (set_zeroed t.target x.entry x.was_set k (nat_lt (field + 1) (zero_count t.target t.setting.sizes (instr_in t.target x.entry)))) (store s.memory (FieldOf (cradle_of x.entry k) field) 0) (core_zeroed t.target t.setting.sizes k field (counted x.entry)) (named_at (nat_lt (field + 1) (zero_count t.target t.setting.sizes (instr_in t.target x.entry))) (cradle_of x.entry k) s.unused present))
-    (none_before s.present (cradle_of x.entry k) field spot.1.0) (by_register there.0 there.1 spot stands)
+    (none_before s.present (cradle_of x.entry k) field spot.1.0) (by_register there.0 there.1 there.2 spot stands)
   where
     draws_home : (b : Bool) → b ≡ false → DrawsHome t.home (if b then quiet (record (counted x.entry) { routine = Zeroes k (field + 1) }) else node_made t.target t.setting.sizes (cradle_of x.entry k) (counted x.entry)).signs s.unused → t.home s.unused ≡ cradle_of x.entry k
     draws_home true is home = absurd (let z : true ≡ false = is in cc)
     draws_home false is home = home.0
 
-    by_register : (d : Reg) → instr_in t.target x.entry ≡ Some (Plain (instr.New d)) → HoldsAt t s c x (Zeroes k field) → CoreStands t.target t.setting x.entry (Zeroes k field)
+    by_register : (d : Reg) (kind : ℕ) → instr_in t.target x.entry ≡ Some (Plain (instr.New d kind)) → HoldsAt t s c x (Zeroes k field) → CoreStands t.target t.setting x.entry (Zeroes k field)
         → KeptWith t c s x x.names (set_zeroed t.target x.entry x.was_set k (nat_lt (field + 1) (zero_count t.target t.setting.sizes (instr_in t.target x.entry)))) (store s.memory (FieldOf (cradle_of x.entry k) field) 0) (core_zeroed t.target t.setting.sizes k field (counted x.entry))
         (named_at (nat_lt (field + 1) (zero_count t.target t.setting.sizes (instr_in t.target x.entry))) (cradle_of x.entry k) s.unused (put s.present (cradle_of x.entry k) 0))
-    by_register (Num r) is spot stands =
+    by_register (Num r) kind is spot stands =
         let at = spot.2 in
         let here = sym (instr_is t s c x (spot_of x.entry.hand) at.0 at.1) ∙ is in
-        absurd (let z : true ≡ false = kind_right at.0.walk.method w.plan.compiled x.entry.hand.at (instr.New (Num r)) here in cc)
-    by_register (Ref r) is spot stands =
+        absurd (let z : true ≡ false = kind_right at.0.walk.method w.plan.compiled x.entry.hand.at (instr.New (Num r) kind) here in cc)
+    by_register (Ref r) kind is spot stands =
         let at = spot.2 in
         let m : Trail t = at.0 in
         let walks : Walks t s c x (spot_of x.entry.hand) m = at.1 in
         let here = sym (instr_is t s c x (spot_of x.entry.hand) m walks) ∙ is in
-        let sane = sane_here t s c x (spot_of x.entry.hand) m (Plain (instr.New (Ref r))) w.plan walks here in
-        let less : r < 8 = (let limit : nat_lt r 8 ≡ true = sane.limits in grind (arith, nat_tests, limit)) in
+        let sane = sane_here t s c x (spot_of x.entry.hand) m (Plain (instr.New (Ref r) kind)) w.plan walks here in
+        let less : r < 8 = (let limit : nat_lt r 8 ≡ true = (and_parts (nat_lt r 8) (nat_lt kind (length t.target.kinds)) sane.limits).0 in grind (arith, nat_tests, limit)) in
         let zeroing : Zeroing t s c x m r k field = record {
           plan = w.plan;
           shared_holds = w.shared_holds;
@@ -115,6 +117,7 @@ zero_step t c s x k field w =
           held = spot.0;
           zeros = spot.1;
           empty = spot.3;
+          kind = kind;
           here = here;
           number = stands.1 ∙ ap (λ code. cradle_number code x.entry.hand.at) (code_is t s c x (spot_of x.entry.hand) m walks);
           generator = sane.own.news refl;

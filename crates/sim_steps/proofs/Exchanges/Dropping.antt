@@ -37,7 +37,7 @@ not_true true is = refl
 not_true false is = absurd (let z : true ≡ false = is in cc)
 
 pub drops : (t : Plan) (s : Shared) (c : ℕ) (own : ℕ → Bool) (core mirror : Registers) (entry : CasEntry) (found : Value) → t.home 0 ≡ 0 → SharedHolds t s → Offers t s c own core mirror entry
-    → found_at entry.place mirror s.source ≡ Some found → name_of found ≡ name_of (value_in mirror entry.expected)
+    → found_at t.text.fields entry.place mirror s.source ≡ Some found → name_of found ≡ name_of (value_in mirror entry.expected)
     → ((r f : ℕ) → entry.place ≡ places.Field (Ref r) f → Shown s (node_in mirror r)) → is_stranger entry entry.retire ≡ false → Drops t s core mirror entry.retire
 drops t s c own core mirror entry found null_home f w finds same object right = by_retire entry.retire right where
   of_expected : (r : ℕ) → entry.expected ≡ Ref r → Drops t s core mirror (Some (Ref r))

@@ -121,7 +121,7 @@ pub record Enters (t : Plan) (s s' : Shared) (c : ℕ) (x : Caller) (m : Trail t
   pub cradle : (i : ℕ) → slice_index cradles i ≢ 0 → (slice_index cradles i ≡ slice_index x.entry.cradles i) × (n ≢ 0 → slice_index cradles i ≢ t.home n)
   -- the source's exchange
   pub entry_is : slice_get (list_of (instr_in t.target x.entry)) k ≡ Some entry
-  pub after : exchange entry m.mirror s.source ≡ Some s'.source
+  pub after : exchange t.text.fields entry m.mirror s.source ≡ Some s'.source
 
 -- the caller after it, at a routine
 abbrev pub entered : Plan → ℕ → Shared → Shared → Caller → List ℕ → Routine → Caller

@@ -10,6 +10,7 @@ use Rattle.norm_lang.specs.declared.text.Place.TheVariants as places
 use Rattle.norm_lang.specs.declared.text.CasEntry.{CasEntry}
 use Rattle.norm_lang.specs.declared.registers.Registers.{Registers}
 use Rattle.norm_lang.specs.Registers.{reference_in, same_bool}
+use Rattle.norm_lang.specs.KindFields.{place_of}
 use Rattle.oa_words.specs.Words.{FieldOf, Cell}
 use Rattle.oa_words.specs.Packed.{ref_word}
 use Rattle.phase_pools.specs.Accesses.{word_of}
@@ -95,7 +96,7 @@ pub record Offers (t : Plan) (s : Shared) (c : ℕ) (own : ℕ → Bool) (core m
   pub guarded : IsUnder s c own (name_of (value_in mirror entry.expected))
   pub new : IsUnder s c own (name_of (value_in mirror entry.replacement))
   -- where a value is found, it is of the kind that is expected
-  pub alike : (v : Value) → found_at entry.place mirror s.source ≡ Some v → AreAlike v (value_in mirror entry.expected)
+  pub alike : (v : Value) → found_at t.text.fields entry.place mirror s.source ≡ Some v → AreAlike v (value_in mirror entry.expected)
   -- the content of what is guarded is told by its word
   pub pairs : (o e g : ℕ) → own o ≡ false → s.protects c o ≢ 0 → s.protects c e ≢ 0 → Apart t (link s (s.protects c o) g) (s.protects c e)
 
@@ -120,40 +121,40 @@ word_there (suc j) f e r = refl
 
 -- so the test of an exchange agrees with the source's
 pub tests_agree : (t : Plan) (s : Shared) (c : ℕ) (own : ℕ → Bool) (core mirror : Registers) (entry : CasEntry) → t.home 0 ≡ 0 → SharedHolds t s → Offers t s c own core mirror entry
-    → succeeds entry core (s.memory (word_of (exchange_wanted entry core))) ≡ is_some (exchange entry mirror s.source)
+    → succeeds entry core (s.memory (word_of (exchange_wanted t.target.fields entry core))) ≡ is_some (exchange t.text.fields entry mirror s.source)
 tests_agree t s c own core mirror entry null_home f w = by_place entry.place refl where
   expected_word : word_in core entry.expected ≡ word_for t.home (value_in mirror entry.expected)
   expected_word = word_agrees t core mirror entry.expected w.expected
 
   test : (v : Value) (word : ℕ) → word ≡ word_for t.home v → AreAlike v (value_in mirror entry.expected) → Apart t (name_of v) (name_of (value_in mirror entry.expected))
-      → (word == word_in core entry.expected) ≡ is_some (exchange_on (Some v) entry mirror s.source)
+      → (word == word_in core entry.expected) ≡ is_some (exchange_on t.text.fields (Some v) entry mirror s.source)
   test v word is alike apart = rw (is, expected_word) (words_tell t v (value_in mirror entry.expected) alike apart) ∙ sym (some_if (same_value v (value_in mirror entry.expected)) Memory _)
 
   by_place : (p : Place) → entry.place ≡ p
-      → (has_object p core && (s.memory (word_of (place_exchange p core (word_in core entry.expected) (word_in core entry.replacement))) == word_in core entry.expected)) ≡ is_some (exchange_on (found_at p mirror s.source) entry mirror s.source)
+      → (has_object p core && (s.memory (word_of (place_exchange t.target.fields p core (word_in core entry.expected) (word_in core entry.replacement))) == word_in core entry.expected)) ≡ is_some (exchange_on t.text.fields (found_at t.text.fields p mirror s.source) entry mirror s.source)
   by_place (places.Root z) is =
       let live = subst (λ (p : Place). PlaceUnder t s c own core mirror p) is w.place in
-      let alike = subst (λ (p : Place). (v : Value) → found_at p mirror s.source ≡ Some v → AreAlike v (value_in mirror entry.expected)) is w.alike in
+      let alike = subst (λ (p : Place). (v : Value) → found_at t.text.fields p mirror s.source ≡ Some v → AreAlike v (value_in mirror entry.expected)) is w.alike in
       test (value_at s.source.roots z) (s.memory (Cell z)) (f.store.root z) (alike (value_at s.source.roots z) refl)
       (residents_apart t s (top s z) (name_of (value_in mirror entry.expected)) (root_resident t s z null_home f live) (under_resident t s c own (name_of (value_in mirror entry.expected)) null_home f w.guarded))
   by_place (places.Field a g) is =
       let object = subst (λ (p : Place). PlaceUnder t s c own core mirror p) is w.place in
-      let alike = subst (λ (p : Place). (v : Value) → found_at p mirror s.source ≡ Some v → AreAlike v (value_in mirror entry.expected)) is w.alike in
+      let alike = subst (λ (p : Place). (v : Value) → found_at t.text.fields p mirror s.source ≡ Some v → AreAlike v (value_in mirror entry.expected)) is w.alike in
       let o : ℕ = (reference_in mirror a).node in
       let slot : (reference_in core a).node ≡ t.home o = object.0.0 in
       ⊎_elim
       (λ (z : o ≡ 0).
       let none : (slot_in core a == 0) ≡ true = (let e : (reference_in core a).node ≡ 0 = slot ∙ (ap t.home z ∙ null_home) in grind (arith, nat_tests)) in
-      let nothing : found_at (places.Field a g) mirror s.source ≡ None = ap (λ (n : ℕ). option_map (λ fields. value_at fields g) (fields_named n s.source.nodes)) z ∙ ap (option_map (λ fields. value_at fields g)) f.store.null_node in
+      let nothing : found_at t.text.fields (places.Field a g) mirror s.source ≡ None = ap (λ (n : ℕ). option_map (λ fields. value_at fields g) (fields_named n s.source.nodes)) z ∙ ap (option_map (λ fields. value_at fields g)) f.store.null_node in
       rw (none, nothing) refl)
       (λ (some : o ≢ 0).
       let here : Resident t s o = under_resident t s c own o null_home f object.1 in
       let there : (slot_in core a == 0) ≡ false = (let e : t.home o ≢ 0 = has_slot_of t s o f here some in let d : (reference_in core a).node ≢ 0 = (λ z. e (sym slot ∙ z)) in grind (arith, nat_tests)) in
       let node = f.store.node (t.home o) (λ z. some (sym here ∙ z)) in
       let fields : fields_named o s.source.nodes ≡ Some node.0 = ap (λ (n : ℕ). fields_named n s.source.nodes) (sym here) ∙ node.1 in
-      let found : found_at (places.Field a g) mirror s.source ≡ Some (value_at node.0 g) = ap (option_map (λ fields. value_at fields g)) fields in
+      let found : found_at t.text.fields (places.Field a g) mirror s.source ≡ Some (value_at node.0 g) = ap (option_map (λ fields. value_at fields g)) fields in
       let value : field_of s.source o g ≡ value_at node.0 g = ap (λ (x : Option (List Value)). value_at (unwrap_or x []) g) fields in
-      let word : s.memory (word_of (object_exchange (slot_in core a) g (word_in core entry.expected) (word_in core entry.replacement))) ≡ word_for t.home (value_at node.0 g) =
+      let word : s.memory (word_of (object_exchange (slot_in core a) (place_of t.target.fields g) (word_in core entry.expected) (word_in core entry.replacement))) ≡ word_for t.home (value_at node.0 g) =
       ap s.memory (word_there (slot_in core a) g _ _) ∙ (ap (λ (j : ℕ). s.memory (FieldOf j g)) slot ∙ (f.store.field (t.home o) g (λ z. some (sym here ∙ z)) ∙ (ap (λ (n : ℕ). word_for t.home (field_of s.source n g)) here ∙ ap (word_for t.home) value))) in
       rw (there, found) (test (value_at node.0 g) _ word (alike (value_at node.0 g) found)
       (subst (λ (v : Value). Apart t (name_of v) (name_of (value_in mirror entry.expected))) value

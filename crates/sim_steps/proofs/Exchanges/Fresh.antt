@@ -114,7 +114,7 @@ blank_value t [] g null = (refl, refl)
 blank_value t (field ∷ fields) zero null = of field.kind where
   of : (kind : FieldKind) → (word_for t.home (blank_of kind) ≡ 0) × (name_of (blank_of kind) ≡ 0)
   of field_kinds.Number = (refl, refl)
-  of field_kinds.Reference = (rw null refl, refl)
+  of (field_kinds.Reference k) = (rw null refl, refl)
 blank_value t (field ∷ fields) (suc g) null = blank_value t fields g null
 
 each_drawn : (t : Plan) (s : Shared) (P : ℕ → ℕ → Value → Type 0) (nodes : List NamedNode) (name : ℕ) → ((g : ℕ) → P name g (value_at (blank_fields t.text) g)) → ((n g : ℕ) → n ≢ name → P n g (value_at (unwrap_or (fields_named n nodes) []) g))

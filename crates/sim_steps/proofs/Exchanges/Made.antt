@@ -25,9 +25,9 @@ has_contained n (m ∷ ns) is = of (m == n) refl is (λ h. has_contained n ns h)
     of true same h more = (0, omega arith, grind (arith, nat_tests))
     of false same h more = let rest = more h in (suc rest.0, (let lt = rest.1 in omega (arith, lt)), rest.2)
 
-pub slot_is_new : (t : Plan) (s : Shared) (c : ℕ) (x : Caller) (core : Spot) (m : Trail t) (d : Reg) (n k : ℕ) → IsPlan t → Walks t s c x core m → Gets t s c x m → slice_get (code_in m.walk.method) core.at ≡ Some (Plain (instr.New d))
+pub slot_is_new : (t : Plan) (s : Shared) (c : ℕ) (x : Caller) (core : Spot) (m : Trail t) (d : Reg) (kind n k : ℕ) → IsPlan t → Walks t s c x core m → Gets t s c x m → slice_get (code_in m.walk.method) core.at ≡ Some (Plain (instr.New d kind))
     → k ≡ cradle_number (code_in m.walk.method) core.at → has n x.held.got ≡ true → s.owner (t.home n) ≡ Held c k → Resident t s n → ⊥
-slot_is_new t s c x core m d n k plan w g is number got own here =
+slot_is_new t s c x core m d kind n k plan w g is number got own here =
     let made = g.made n k got own here in
     let code = code_in m.walk.method in
     let new : is_new_at (slice_get code core.at) ≡ true = ap is_new_at is in
@@ -35,4 +35,4 @@ slot_is_new t s c x core m d n k plan w g is number got own here =
     (λ (e : made.0 ≡ core.at). e)
     (λ (ne : made.0 ≢ core.at). absurd (cradle_numbers_apart code made.0 core.at made.2 new ne (made.3 ∙ number)))
     (cases_eq made.0 core.at) in
-    (new_is_passed_once t.target t.text plan.compiled.normal plan.compiled.barred.erases m.walk.method m.path core.at d (record { leads = w.ahead.path_is; stands = is })).1 (subst (λ (i : ℕ). Contains m.path i) same (has_contained made.0 m.path made.1))
+    (new_is_passed_once t.target t.text plan.compiled.normal plan.compiled.barred.erases m.walk.method m.path core.at d kind (record { leads = w.ahead.path_is; stands = is })).1 (subst (λ (i : ℕ). Contains m.path i) same (has_contained made.0 m.path made.1))

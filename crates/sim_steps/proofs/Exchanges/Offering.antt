@@ -126,18 +126,18 @@ roots_live t s x z f proper = of (value_at s.source.roots z) refl where
 value_right : (kind : FieldKind) (registers : Registers) (r : Reg) → IsRegisterFor kind r → IsOfKind kind (value_in registers r)
 value_right field_kinds.Number registers (Num r) right = tt
 value_right field_kinds.Number registers (Ref r) right = absurd right
-value_right field_kinds.Reference registers (Num r) right = absurd right
-value_right field_kinds.Reference registers (Ref r) right = tt
+value_right (field_kinds.Reference k) registers (Num r) right = absurd right
+value_right (field_kinds.Reference k) registers (Ref r) right = tt
 
 same_kind : (kind : FieldKind) (v u : Value) → IsOfKind kind v → IsOfKind kind u → AreAlike v u
 same_kind field_kinds.Number (Number n) (Number m) a b = tt
 same_kind field_kinds.Number (Number n) (Node y) a b = absurd b
 same_kind field_kinds.Number (Node y) u a b = absurd a
-same_kind field_kinds.Reference (Number n) u a b = absurd a
-same_kind field_kinds.Reference (Node y) (Number m) a b = absurd b
-same_kind field_kinds.Reference (Node y) (Node z) a b = tt
+same_kind (field_kinds.Reference k) (Number n) u a b = absurd a
+same_kind (field_kinds.Reference k) (Node y) (Number m) a b = absurd b
+same_kind (field_kinds.Reference k) (Node y) (Node z) a b = tt
 
-found_right : (text : Text) (memory : Memory) (mirror : Registers) (p : Place) (kind : FieldKind) (v : Value) → IsTyped text memory → place_kind text.fields text.roots p ≡ Some kind → found_at p mirror memory ≡ Some v → IsOfKind kind v
+found_right : (text : Text) (memory : Memory) (mirror : Registers) (p : Place) (kind : FieldKind) (v : Value) → IsTyped text memory → place_kind text.fields text.roots p ≡ Some kind → found_at text.fields p mirror memory ≡ Some v → IsOfKind kind v
 found_right text memory mirror (places.Root z) kind v typed is found =
     let same : value_at memory.roots z ≡ v = cc in subst (IsOfKind kind) same (value_of_kind (root_kinds text) memory.roots z kind typed.roots (root_at text z kind is))
 found_right text memory mirror (places.Field a f) kind v typed is found = of (fields_named (reference_in mirror a).node memory.nodes) (behind_typed text (reference_in mirror a).node memory.nodes typed.nodes) found where

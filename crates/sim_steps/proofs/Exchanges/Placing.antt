@@ -11,6 +11,7 @@ use Rattle.norm_lang.specs.declared.text.CasEntry.{CasEntry}
 use Rattle.norm_lang.specs.declared.registers.Registers.{Registers}
 use Rattle.norm_lang.specs.InstructionRules.{place_kind}
 use Rattle.norm_lang.specs.Registers.{reference_in}
+use Rattle.norm_lang.specs.KindFields.{place_of}
 use Rattle.oa_words.specs.Words.{Word, FieldOf, Cell}
 use Rattle.oa_words.specs.Memories.{store}
 use Rattle.phase_pools.specs.Accesses.{word_of}
@@ -37,17 +38,17 @@ use Rattle.sim_steps.proofs.Exchanges.Entering.{written, Writes}
 -- the words where a place is written
 abbrev pub place_memory : Plan → (Word → ℕ) → Registers → Place → Value → Word → ℕ
 place_memory t memory mirror (places.Root z) v = store memory (Cell z) (word_for t.home v)
-place_memory t memory mirror (places.Field a f) v = store memory (FieldOf (t.home (reference_in mirror a).node) f) (word_for t.home v)
+place_memory t memory mirror (places.Field a f) v = store memory (FieldOf (t.home (reference_in mirror a).node) (place_of t.text.fields f)) (word_for t.home v)
 
 -- both machines, where a place is written
 abbrev pub placed : Plan → Shared → Registers → Place → Value → Shared
-placed t s mirror p v = written s (place_memory t s.memory mirror p v) (with_place p mirror v s.source).nodes (with_place p mirror v s.source).roots
+placed t s mirror p v = written s (place_memory t s.memory mirror p v) (with_place t.text.fields p mirror v s.source).nodes (with_place t.text.fields p mirror v s.source).roots
 
 -- the place is there, and an object is under a guard of the caller
 abbrev pub PlaceThere : Plan → Shared → ℕ → (ℕ → Bool) → Registers → Place → Type 0
 PlaceThere t s c own mirror (places.Root z) = z < length s.source.roots
 PlaceThere t s c own mirror (places.Field a f) =
-    IsUnder s c own (reference_in mirror a).node × ((reference_in mirror a).node ≢ 0) × ((values : List Value) × (fields_named (reference_in mirror a).node s.source.nodes ≡ Some values) × (f < length values))
+    IsUnder s c own (reference_in mirror a).node × ((reference_in mirror a).node ≢ 0) × ((values : List Value) × (fields_named (reference_in mirror a).node s.source.nodes ≡ Some values) × (place_of t.text.fields f < length values))
 
 -- what is under a guard of the caller is in no cradle of another
 no_other : (t : Plan) (s : Shared) (c : ℕ) (own : ℕ → Bool) (o : ℕ) → SharedHolds t s → IsUnder s c own o → o ≢ 0 → (d k : ℕ) → d ≢ c → s.owner (t.home o) ≡ Held d k → ⊥
@@ -61,7 +62,7 @@ no_other t s c own o f (under r free is _) some d k ne held = of (f.mine c r (λ
 
 pub place_writes : (t : Plan) (s : Shared) (c : ℕ) (own : ℕ → Bool) (mirror : Registers) (p : Place) (v : Value) → t.home 0 ≡ 0 → SharedHolds t s → PlaceThere t s c own mirror p → Resident t s (name_of v)
     → (name_of v ≡ 0) ⊎ (s.public (name_of v) ≡ true) → IsTyped t.text (placed t s mirror p v).source
-    → Writes t c s (place_memory t s.memory mirror p v) (with_place p mirror v s.source).nodes (with_place p mirror v s.source).roots
+    → Writes t c s (place_memory t s.memory mirror p v) (with_place t.text.fields p mirror v s.source).nodes (with_place t.text.fields p mirror v s.source).roots
 place_writes t s c own mirror (places.Root z) v null_home f there here known typed = record {
   shared_holds = fine_linked_root t s z v f (record { within = there; known = known; typed = typed });
   goes = goes_linked_root t c s z v;
@@ -105,38 +106,38 @@ retired_is : (retire : Option Reg) (mirror : Registers) (memory : Memory) → wi
 retired_is None mirror memory = refl
 retired_is (Some r) mirror memory = refl
 
-place_source : (t : Plan) (s : Shared) (mirror : Registers) (p : Place) (v : Value) → with_place p mirror v s.source ≡ (placed t s mirror p v).source
+place_source : (t : Plan) (s : Shared) (mirror : Registers) (p : Place) (v : Value) → with_place t.text.fields p mirror v s.source ≡ (placed t s mirror p v).source
 place_source t s mirror (places.Root z) v = refl
 place_source t s mirror (places.Field a f) v = refl
 
 -- an exchange that succeeds: what it finds, and memory after it
 pub record Makes (t : Plan) (s : Shared) (mirror : Registers) (entry : CasEntry) (after : Memory) : Type 0 where
   pub found : Value
-  pub finds : found_at entry.place mirror s.source ≡ Some found
+  pub finds : found_at t.text.fields entry.place mirror s.source ≡ Some found
   pub same : name_of found ≡ name_of (value_in mirror entry.expected)
   pub after_is : after ≡ with_name_retired (to_drop entry.retire mirror) (placed t s mirror entry.place (value_in mirror entry.replacement)).source
 
-pub makes : (t : Plan) (s : Shared) (mirror : Registers) (entry : CasEntry) (after : Memory) → exchange entry mirror s.source ≡ Some after → Makes t s mirror entry after
-makes t s mirror entry after is = by_found (found_at entry.place mirror s.source) refl is where
-  by_test : (found : Value) → found_at entry.place mirror s.source ≡ Some found → (b : Bool) → same_value found (value_in mirror entry.expected) ≡ b
-      → (if b then Some (with_retired entry.retire mirror (with_place entry.place mirror (value_in mirror entry.replacement) s.source)) else None) ≡ Some after → Makes t s mirror entry after
+pub makes : (t : Plan) (s : Shared) (mirror : Registers) (entry : CasEntry) (after : Memory) → exchange t.text.fields entry mirror s.source ≡ Some after → Makes t s mirror entry after
+makes t s mirror entry after is = by_found (found_at t.text.fields entry.place mirror s.source) refl is where
+  by_test : (found : Value) → found_at t.text.fields entry.place mirror s.source ≡ Some found → (b : Bool) → same_value found (value_in mirror entry.expected) ≡ b
+      → (if b then Some (with_retired entry.retire mirror (with_place t.text.fields entry.place mirror (value_in mirror entry.replacement) s.source)) else None) ≡ Some after → Makes t s mirror entry after
   by_test found finds true same made = record {
     found = found;
     finds = finds;
     same = same_names found (value_in mirror entry.expected) same;
-    after_is = (let e : after ≡ with_retired entry.retire mirror (with_place entry.place mirror (value_in mirror entry.replacement) s.source) = cc in e)
-        ∙ (retired_is entry.retire mirror (with_place entry.place mirror (value_in mirror entry.replacement) s.source)
+    after_is = (let e : after ≡ with_retired entry.retire mirror (with_place t.text.fields entry.place mirror (value_in mirror entry.replacement) s.source) = cc in e)
+        ∙ (retired_is entry.retire mirror (with_place t.text.fields entry.place mirror (value_in mirror entry.replacement) s.source)
         ∙ ap (with_name_retired (to_drop entry.retire mirror)) (place_source t s mirror entry.place (value_in mirror entry.replacement)));
   }
   by_test found finds false same made = absurd (let never : None ≡ Some after = made in cc)
 
-  by_found : (o : Option Value) → found_at entry.place mirror s.source ≡ o → exchange_on o entry mirror s.source ≡ Some after → Makes t s mirror entry after
+  by_found : (o : Option Value) → found_at t.text.fields entry.place mirror s.source ≡ o → exchange_on t.text.fields o entry mirror s.source ≡ Some after → Makes t s mirror entry after
   by_found None finds made = absurd (let never : None ≡ Some after = made in cc)
   by_found (Some found) finds made = by_test found finds (same_value found (value_in mirror entry.expected)) refl made
 
 -- where a value is found the place is there
 pub place_there : (t : Plan) (s : Shared) (c : ℕ) (own : ℕ → Bool) (core mirror : Registers) (p : Place) (kind : FieldKind) (found : Value) → SharedHolds t s → PlaceUnder t s c own core mirror p
-    → place_kind t.text.fields t.text.roots p ≡ Some kind → found_at p mirror s.source ≡ Some found → PlaceThere t s c own mirror p
+    → place_kind t.text.fields t.text.roots p ≡ Some kind → found_at t.text.fields p mirror s.source ≡ Some found → PlaceThere t s c own mirror p
 place_there t s c own core mirror (places.Root z) kind found f place is finds = is_within (root_kinds t.text) s.source.roots z kind f.typed.roots (root_at t.text z kind is)
 place_there t s c own core mirror (places.Field a g) kind found f place is finds =
     of (fields_named (reference_in mirror a).node s.source.nodes) refl (behind_typed t.text (reference_in mirror a).node s.source.nodes f.typed.nodes) finds
@@ -148,7 +149,7 @@ place_there t s c own core mirror (places.Field a g) kind found f place is finds
         (place.1, (λ z. (let e : None ≡ Some values = sym f.store.null_node ∙ (ap (λ (n : ℕ). fields_named n s.source.nodes) (sym z) ∙ fields) in cc)), (values, fields, is_within (field_kinds t.text) values g kind typed (field_at t.text g kind is)))
 
 -- what is found is null or was published
-pub found_shown : (t : Plan) (s : Shared) (mirror : Registers) (p : Place) (found : Value) → SharedHolds t s → found_at p mirror s.source ≡ Some found → (name_of found ≡ 0) ⊎ (s.public (name_of found) ≡ true)
+pub found_shown : (t : Plan) (s : Shared) (mirror : Registers) (p : Place) (found : Value) → SharedHolds t s → found_at t.text.fields p mirror s.source ≡ Some found → (name_of found ≡ 0) ⊎ (s.public (name_of found) ≡ true)
 found_shown t s mirror (places.Root z) found f finds =
     let same : value_at s.source.roots z ≡ found = cc in subst (λ (v : Value). (name_of v ≡ 0) ⊎ (s.public (name_of v) ≡ true)) same (f.store.top z)
 found_shown t s mirror (places.Field a g) found f finds = of (fields_named (reference_in mirror a).node s.source.nodes) refl finds where
@@ -172,18 +173,18 @@ object_written m (suc j) f e r made = let found : (m (FieldOf (suc j) f) == e) �
 
 -- a word that an exchange writes
 pub words_written : (t : Plan) (s : Shared) (c : ℕ) (own : ℕ → Bool) (core mirror : Registers) (entry : CasEntry) → Offers t s c own core mirror entry
-    → succeeds entry core (s.memory (word_of (exchange_wanted entry core))) ≡ true
-    → after_access s.memory (exchange_wanted entry core) ≡ place_memory t s.memory mirror entry.place (value_in mirror entry.replacement)
+    → succeeds entry core (s.memory (word_of (exchange_wanted t.target.fields entry core))) ≡ true
+    → after_access s.memory (exchange_wanted t.target.fields entry core) ≡ place_memory t s.memory mirror entry.place (value_in mirror entry.replacement)
 words_written t s c own core mirror entry w made = by_place entry.place w.place made where
   new : word_in core entry.replacement ≡ word_for t.home (value_in mirror entry.replacement)
   new = word_agrees t core mirror entry.replacement w.replacement
 
   by_place : (p : Place) → PlaceUnder t s c own core mirror p
-      → (has_object p core && (s.memory (word_of (place_exchange p core (word_in core entry.expected) (word_in core entry.replacement))) == word_in core entry.expected)) ≡ true
-      → after_access s.memory (place_exchange p core (word_in core entry.expected) (word_in core entry.replacement)) ≡ place_memory t s.memory mirror p (value_in mirror entry.replacement)
+      → (has_object p core && (s.memory (word_of (place_exchange t.target.fields p core (word_in core entry.expected) (word_in core entry.replacement))) == word_in core entry.expected)) ≡ true
+      → after_access s.memory (place_exchange t.target.fields p core (word_in core entry.expected) (word_in core entry.replacement)) ≡ place_memory t s.memory mirror p (value_in mirror entry.replacement)
   by_place (places.Root z) place made = rw made (ap (store s.memory (Cell z)) new)
   by_place (places.Field a f) place made =
-      object_written s.memory (slot_in core a) f (word_in core entry.expected) (word_in core entry.replacement) made
+      object_written s.memory (slot_in core a) (place_of t.target.fields f) (word_in core entry.expected) (word_in core entry.replacement) made
       ∙ (ap (λ (j : ℕ). store s.memory (FieldOf j f) (word_in core entry.replacement)) place.0.0 ∙ ap (store s.memory (FieldOf (t.home (reference_in mirror a).node) f)) new)
 
 -- ---- no name is retired twice

@@ -35,6 +35,7 @@ use Rattle.run_ahead.specs.Standing.{Call, caller_of}
 use Rattle.run_ahead.proofs.Ends.{giving_up_is_followed}
 use Rattle.caller_steps.specs.Signs.{GivesUp, quiet, told}
 use Rattle.caller_parts.specs.Pairing.{replied_by}
+use Rattle.caller_parts.proofs.News.{new_there}
 use Rattle.sim_relation.specs.Views.{Plan, IsPlan, Pool, Held, Shared, Caller, settled_names}
 use Rattle.sim_relation.specs.Shared.{SharedHolds}
 use Rattle.sim_relation.specs.Points.{done, point}
@@ -51,7 +52,7 @@ use Rattle.source_machine.proofs.Places.{put_same, put_other}
 use Rattle.sim_relation.proofs.Lists.{index_set, index_set_other}
 use Rattle.sim_steps.proofs.Pools.Phases.{with_chain, head_stored, fine_chain, goes_chain}
 use Rattle.sim_steps.proofs.Pools.Sweeping.{SweepNext, sweep_step}
-use Rattle.sim_relation.proofs.Codes.{instr_is, new_there}
+use Rattle.sim_relation.proofs.Codes.{instr_is}
 
 -- a caller in a claim, but for what the claim itself knows
 pub record Claiming (t : Plan) (s : Shared) (c : ℕ) (x : Caller) : Type 0 where
@@ -88,8 +89,8 @@ gave_up t c s s' x phase takes memory' present' plan f f' g source unused memory
     let m : Trail t = w.running.0 in
     let walks = w.running.1 in
     let new = new_there (instr_in t.target x.entry) w.at_new in
-    let is : slice_get (code_in m.walk.method) x.entry.hand.at ≡ Some (Plain (instr.New new.0)) = sym (instr_is t s c x (spot_of x.entry.hand) m walks) ∙ new.1 in
-    let turns = giving_up_is_followed (Calm s c x) t.target t.text plan.compiled t.home m.walk m.path (spot_of x.entry.hand) m.mirror x.entry.hand.accessed x.source (follows_of t s c x m walks w.running.2) new.0 is c phase s.source in
+    let is : slice_get (code_in m.walk.method) x.entry.hand.at ≡ Some (Plain (instr.New new.0 new.1)) = sym (instr_is t s c x (spot_of x.entry.hand) m walks) ∙ new.2 in
+    let turns = giving_up_is_followed (Calm s c x) t.target t.text plan.compiled t.home m.walk m.path (spot_of x.entry.hand) m.mirror x.entry.hand.accessed x.source (follows_of t s c x m walks w.running.2) new.0 new.1 is c phase s.source in
     let x' : Caller = record x {
       names = settled_names x.names;
       entry = entry_replied (given_up phase) (with_routine (claim_counted takes (counted x.entry)) At);

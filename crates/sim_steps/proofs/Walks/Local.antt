@@ -30,7 +30,7 @@ use Rattle.sim_steps.proofs.Walks.Along.{walks_along, gets_along, guards_along}
 use Rattle.sim_relation.proofs.Codes.{code_is, blank}
 
 local_is_old : (i : Instr) (at : ℕ) (registers : Registers) (next : Spot) → local_step i at registers ≡ Some next → is_new i ≡ false
-local_is_old (instr.New d) at registers next is = absurd (let z : None ≡ Some next = is in cc)
+local_is_old (instr.New d kind) at registers next is = absurd (let z : None ≡ Some next = is in cc)
 local_is_old _ at registers next is = refl
 
 abbrev pub at_spot : Caller → Spot → Caller

@@ -43,7 +43,7 @@ stopped_ends t s c x plan f b walk = by_instr (instr_in t.target x.entry) refl w
   here = ends_quiet t s c x At b (running_moved t s c x (spot_of x.entry.hand) x.entry.running.steps x.entry.counts At walk)
 
   by_plain : (i : Instr) → instr_in t.target x.entry ≡ Some (Plain i) → Ends t s c x (plain_stop t.target t.setting.sizes i x.entry)
-  by_plain (instr.New d) is = cleared_new t s c x b (walk.0, walk.1, walk.2, walk.3)
+  by_plain (instr.New d kind) is = cleared_new t s c x b (walk.0, walk.1, walk.2, walk.3)
   by_plain (instr.Commit []) is =
       let at : slice_get (code_in walk.0.walk.method) x.entry.hand.at ≡ Some (Plain (instr.Commit [])) = sym (instr_is t s c x (spot_of x.entry.hand) walk.0 walk.1) ∙ is in
       empty_list_ends t s c x walk.0 plan f b walk.1 walk.2 walk.3 walk.4 at

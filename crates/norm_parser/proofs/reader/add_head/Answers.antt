@@ -1,7 +1,7 @@
 use Rattle.std.proofs.Common.{rules, ◌+◌, length}
 use Rattle.oa_text.specs.Lines.{lines_of, numbered}
 use Rattle.oa_text.specs.Shown.{line_shown}
-use Rattle.text_drafts.specs.DraftShown.{draft_shown}
+use Rattle.norm_parser.specs.DraftShown.{draft_shown}
 use Rattle.norm_parser.specs.FrontRead.{from_line, head_end}
 use Rattle.norm_parser.proofs.Fronts.{head_goes_on}
 use Rattle.norm_parser.proofs.Reading.{kept_on}

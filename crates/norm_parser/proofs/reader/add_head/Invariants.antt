@@ -1,7 +1,7 @@
 use Rattle.std.proofs.Common.{◌≡◌, ◌+◌, length}
 use Rattle.oa_text.specs.Lines.{lines_of, numbered}
 use Rattle.text_laws.proofs.DraftLimits.{Kept}
-use Rattle.text_drafts.specs.DraftShown.{draft_shown}
+use Rattle.norm_parser.specs.DraftShown.{draft_shown}
 use Rattle.norm_parser.specs.FrontRead.{from_line, head_end}
 use Rattle.norm_parser.proofs.Fronts.{head_from}
 use Rattle.norm_parser.proofs.reader.add_head.Given as goal

@@ -1,6 +1,6 @@
 use Rattle.std.proofs.Common.{rules}
 use Rattle.oa_text.specs.Shown.{line_shown}
-use Rattle.text_drafts.specs.DraftShown.{draft_shown}
+use Rattle.norm_parser.specs.DraftShown.{draft_shown}
 use Rattle.norm_parser.proofs.Reading.{kept_on}
 use Rattle.norm_parser.proofs.reader.add_lines.Goals as goal
 

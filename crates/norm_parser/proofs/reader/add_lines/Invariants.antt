@@ -2,7 +2,7 @@ use Rattle.std.proofs.Common.{◌≡◌, ◌+◌, length}
 use Rattle.oa_text.specs.Lines.{lines_of, numbered}
 use Rattle.norm_lang.specs.Grammar.{Start, draft_at, after_lines}
 use Rattle.text_laws.proofs.DraftLimits.{Kept}
-use Rattle.text_drafts.specs.DraftShown.{draft_shown}
+use Rattle.norm_parser.specs.DraftShown.{draft_shown}
 use Rattle.norm_parser.proofs.reader.add_lines.Given as goal
 
 abbrev pub invariant-loop-line : goal.invariant-loop-line

@@ -1,5 +1,5 @@
 use Rattle.oa_text.specs.Lines.{lines_of, numbered}
-use Rattle.text_drafts.specs.DraftShown.{draft_shown}
+use Rattle.norm_parser.specs.DraftShown.{draft_shown}
 use Rattle.norm_parser.proofs.Reading.{text_is_within}
 use Rattle.norm_parser.proofs.reader.parse.Goals as goal
 

@@ -1,6 +1,6 @@
 use Rattle.std.proofs.Common.{◌+◌, length}
 use Rattle.oa_text.specs.Lines.{lines_of, numbered}
-use Rattle.text_drafts.specs.DraftShown.{draft_shown}
+use Rattle.norm_parser.specs.DraftShown.{draft_shown}
 use Rattle.norm_parser.specs.FaultShown.{fault_shown}
 use Rattle.norm_parser.specs.FrontRead.{from_line}
 use Rattle.norm_parser.proofs.Reading.{front_is_within}

@@ -8,11 +8,11 @@ use Rattle.reader_rows.proofs.flaws.found.Goals as goal
 pub returns : goal.returns
 returns c = (
   c.requires,
-  λ source fields roots within limits asks.
+  λ source kinds fields roots within limits asks.
       subst (λ (code : List TargetInstr). AreFlawAnswers source c.args.wrapup code c.args.at c.args.instr.now c.flaws.result) c.code_of-code.ensures
       (c.flaws.ensures source c.code_of-code.result.now (record {
         within = within;
-        limits = (fields, roots, limits);
+        limits = (kinds, fields, roots, limits);
         asks = subst (λ (needs : Needs). AreNeeds source needs) (sym c.needs_of-needs.ensures) asks;
         true_of = c.in_ok-facts.ensures;
       })),

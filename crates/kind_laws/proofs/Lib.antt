@@ -1,0 +1,4 @@
+pub mod Closed
+pub mod InText
+pub mod Typed
+mod Worked

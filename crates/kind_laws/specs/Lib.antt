@@ -1,0 +1,4 @@
+pub mod TargetKinds
+pub mod AlongPaths
+pub mod TextKinds
+pub mod Laws

@@ -1,5 +1,0 @@
-use Rattle.std.proofs.Common.{rules}
-use Rattle.line_operands.proofs.operands.last_target.Goals as goal
-
-pub returns : goal.returns
-returns c = search rules

@@ -1,0 +1,110 @@
+//! The words after the first that several instruction lines have: registers, fields and roots by their names, the place of a
+//! jump, and `retire R`.
+
+ghost use Rattle.std.specs.Prelude.{◌≡◌, ◌≤◌, ◌<◌, length, IfSome};
+ghost use Rattle.std.specs.List.{position};
+ghost use Rattle.std.specs.Str.{bytes_eq};
+ghost use Rattle.norm_lang.specs.LineWords.{up_to};
+ghost use Rattle.norm_lang.specs.Instructions.{field_named, root_named, one_register, two_registers, three_registers, retire_at, target_at};
+ghost use Rattle.line_words.specs.Answered.{Reads};
+
+use crate::fault::Fault;
+use crate::words::{Words, up_to, value_of};
+use norm_lang::text::{FieldDecl, Reg, RootDecl};
+
+const LAST_TARGET: u64 = 65535;
+
+fn field_place(fields: &[FieldDecl], name: &[u8]) -> Option<usize>
+    ensures place { result ≡ position (λ field. bytes_eq field.name name.now) fields.now }
+    ensures within { IfSome result (λ place. place < length fields.now) }
+{
+    fields.iter().position(|field| field.name.items() == name)
+}
+
+/// The number of the field so named.
+pub fn field_number(fields: &[FieldDecl], name: &[u8]) -> Result<u8, Fault>
+    requires { length fields.now ≤ 4 }
+    ensures { Reads (λ f. f) result (field_named fields.now name.now) }
+{
+    match field_place(fields, name) {
+        Some(place) => Ok(place as u8),
+        None => Err(Fault::UnknownName),
+    }
+}
+
+fn root_place(roots: &[RootDecl], name: &[u8]) -> Option<usize>
+    ensures place { result ≡ position (λ root. bytes_eq root.name name.now) roots.now }
+    ensures within { IfSome result (λ place. place < length roots.now) }
+{
+    roots.iter().position(|root| root.name.items() == name)
+}
+
+/// The number of the root so named.
+pub fn root_number(roots: &[RootDecl], name: &[u8]) -> Result<u16, Fault>
+    requires { length roots.now ≤ 256 }
+    ensures { Reads (λ x. x) result (root_named roots.now name.now) }
+{
+    match root_place(roots, name) {
+        Some(place) => Ok(place as u16),
+        None => Err(Fault::UnknownName),
+    }
+}
+
+/// `R`, and then the end.
+pub fn one_register(words: &mut Words) -> Result<Reg, Fault>
+    ensures { Reads (λ r. r) result (one_register words.old) }
+{
+    let a = words.register()?;
+    words.end()?;
+    Ok(a)
+}
+
+/// `R R`, and then the end.
+pub fn two_registers(words: &mut Words) -> Result<(Reg, Reg), Fault>
+    ensures { Reads (λ r. r) result (two_registers words.old) }
+{
+    let a = words.register()?;
+    let b = one_register(words)?;
+    Ok((a, b))
+}
+
+/// `R R R`, and then the end.
+pub fn three_registers(words: &mut Words) -> Result<(Reg, Reg, Reg), Fault>
+    ensures { Reads (λ r. (r.0, (r.1, r.2))) result (three_registers words.old) }
+{
+    let a = words.register()?;
+    let (b, c) = two_registers(words)?;
+    Ok((a, b, c))
+}
+
+/// The end, or `retire R` and then the end.
+pub fn retired(words: &mut Words) -> Result<Option<Reg>, Fault>
+    ensures { Reads (λ r. r) result (retire_at words.old) }
+{
+    match words.word() {
+        Err(_) => Ok(None),
+        Ok(word) => {
+            if word == b"retire".as_slice() {
+                Ok(Some(one_register(words)?))
+            } else {
+                Err(Fault::Form)
+            }
+        }
+    }
+}
+
+/// The number of an instruction, to which a jump leads.
+pub fn target(l: u64) -> Result<u16, Fault>
+    ensures { Reads (λ l. l) result (up_to 65535 l) }
+{
+    Ok(up_to(LAST_TARGET, l)? as u16)
+}
+
+/// `L`, and then the end.
+pub fn last_target(words: &mut Words) -> Result<u16, Fault>
+    ensures { Reads (λ l. l) result (target_at words.old) }
+{
+    let l = words.number()?;
+    words.end()?;
+    target(value_of(l)?)
+}

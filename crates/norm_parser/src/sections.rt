@@ -1,0 +1,245 @@
+//! What a line adds to a draft, by where it stands.
+
+ghost use Rattle.std.specs.Prelude.{◌≡◌, ◌≤◌, suc, length, Ok};
+ghost use Rattle.norm_lang.specs.Grammar.{has_room, with_step, in_start, in_opening, in_fields, in_nodes, in_roots, in_begun, in_method, in_generator, next_op, in_wrap_up, in_section, in_place};
+ghost use Rattle.line_words.specs.Answered.{Gives};
+ghost use Rattle.text_lines.specs.Steps.{step_shown};
+ghost use Rattle.norm_parser.specs.DraftShown.{draft_shown};
+
+use crate::draft::{Draft, Section};
+use line_words::fault::{Fault, Stop};
+use line_words::words::Words;
+use norm_lang::text::Instr;
+use std::alloc::Global;
+use text_lines::{Step, declarations, read_entry, read_step};
+
+/// The most instructions of a method.
+const MOST_INSTRS: usize = 256;
+
+/// The most `new` of an operation.
+const MOST_NEWS: usize = 4;
+
+/// The version line.
+fn in_start(draft: &mut Draft, word: &[u8], words: &mut Words) -> Result<(), Stop>
+    ensures { Gives (λ _. draft_shown draft.new) result (in_start (draft_shown draft.old) word.now words.old) }
+{
+    if word != b"oa".as_slice() {
+        return Err(Stop::Fault(Fault::Form));
+    }
+    declarations::version(words)?;
+    draft.section = Section::Opening;
+    Ok(())
+}
+
+/// A field, or after at least one the count of nodes.
+fn in_fields(draft: &mut Draft, alloc: Global, word: &[u8], words: &mut Words) -> Result<(), Stop>
+    ensures { Gives (λ _. draft_shown draft.new) result (in_fields (draft_shown draft.old) word.now words.old) }
+{
+    if word == b"field".as_slice() {
+        let field = declarations::field(alloc, draft.text.fields.items(), words)?;
+        draft.add_field(field)?;
+        Ok(())
+    } else if word == b"nodes".as_slice() && !draft.text.fields.items().is_empty() {
+        draft.begin_nodes(declarations::nodes(words)?);
+        Ok(())
+    } else {
+        Err(Stop::Fault(Fault::Form))
+    }
+}
+
+/// A shipped text, or the first field.
+fn in_opening(draft: &mut Draft, alloc: Global, word: &[u8], words: &mut Words) -> Result<(), Stop>
+    ensures { Gives (λ _. draft_shown draft.new) result (in_opening (draft_shown draft.old) word.now words.old) }
+{
+    if word == b"use".as_slice() {
+        draft.text = declarations::shipped(alloc, words)?;
+        draft.section = Section::Shipped;
+        Ok(())
+    } else {
+        in_fields(draft, alloc, word, words)
+    }
+}
+
+/// A node.
+fn in_nodes(draft: &mut Draft, alloc: Global, word: &[u8], words: &mut Words) -> Result<(), Stop>
+    ensures { Gives (λ _. draft_shown draft.new) result (in_nodes (draft_shown draft.old) word.now words.old) }
+{
+    if word != b"node".as_slice() {
+        return Err(Stop::Fault(Fault::Form));
+    }
+    let node = declarations::node(alloc, draft.text.fields.items(), draft.nodes, words)?;
+    draft.add_node(node)?;
+    Ok(())
+}
+
+/// A root, or after at least one the first operation.
+fn in_roots(draft: &mut Draft, alloc: Global, word: &[u8], words: &mut Words) -> Result<(), Stop>
+    ensures { Gives (λ _. draft_shown draft.new) result (in_roots (draft_shown draft.old) word.now words.old) }
+{
+    if word == b"root".as_slice() {
+        let root = declarations::root(alloc, draft.nodes, draft.text.roots.items(), words)?;
+        draft.add_root(root)?;
+        Ok(())
+    } else if word == b"op".as_slice() && !draft.text.roots.items().is_empty() {
+        let op = declarations::op(alloc, draft.text.ops.items(), words)?;
+        draft.begin_op(op);
+        Ok(())
+    } else {
+        Err(Stop::Fault(Fault::Form))
+    }
+}
+
+/// `gen`
+fn in_begun(draft: &mut Draft, word: &[u8], words: &mut Words) -> Result<(), Stop>
+    ensures { Gives (λ _. draft_shown draft.new) result (in_begun (draft_shown draft.old) word.now words.old) }
+{
+    if word != b"gen".as_slice() {
+        return Err(Stop::Fault(Fault::Form));
+    }
+    words.end()?;
+    draft.section = Section::Generator;
+    Ok(())
+}
+
+/// Whether a method has room for one more instruction, and its operation for one more `new` if it is that.
+fn room(draft: &Draft, step: &Step) -> bool
+    ensures { result ≡ has_room (draft_shown draft.now) (step_shown step.now) }
+{
+    if draft.code().len() >= MOST_INSTRS {
+        return false;
+    }
+    match step {
+        Step::Whole(Instr::New(..)) => draft.news() < MOST_NEWS,
+        _ => true,
+    }
+}
+
+fn add_step(draft: &mut Draft, alloc: Global, step: Step) -> Result<(), Stop>
+    ensures { Gives (λ _. draft_shown draft.new) result (Ok (with_step (draft_shown draft.old) (step_shown step))) }
+{
+    match step {
+        Step::Whole(instr) => draft.add_instr(instr)?,
+        Step::Commits(count) => draft.begin_commit(alloc, count)?,
+    }
+    Ok(())
+}
+
+/// An instruction of a method.
+fn in_method(draft: &mut Draft, alloc: Global, word: &[u8], words: &mut Words) -> Result<(), Stop>
+    requires few_fields { length draft.old.text.fields ≤ 4 }
+    requires few_roots { length draft.old.text.roots ≤ 256 }
+    ensures { Gives (λ _. draft_shown draft.new) result (in_method (draft_shown draft.old) word.now words.old) }
+{
+    let step = read_step(
+        draft.text.fields.items(),
+        draft.text.roots.items(),
+        word,
+        words,
+    )?;
+    if room(draft, &step) {
+        add_step(draft, alloc, step)
+    } else {
+        Err(Stop::Fault(Fault::TooMany))
+    }
+}
+
+/// An instruction, or after at least one `wrap`.
+fn in_generator(
+    draft: &mut Draft,
+    alloc: Global,
+    word: &[u8],
+    words: &mut Words,
+) -> Result<(), Stop>
+    requires few_fields { length draft.old.text.fields ≤ 4 }
+    requires few_roots { length draft.old.text.roots ≤ 256 }
+    ensures { Gives (λ _. draft_shown draft.new) result (in_generator (draft_shown draft.old) word.now words.old) }
+{
+    if word == b"wrap".as_slice() && !draft.op.generator.items().is_empty() {
+        words.end()?;
+        draft.section = Section::WrapUp;
+        Ok(())
+    } else {
+        in_method(draft, alloc, word, words)
+    }
+}
+
+/// `op NAME A` after a whole operation.
+fn next_op(draft: &mut Draft, alloc: Global, words: &mut Words) -> Result<(), Stop>
+    ensures { Gives (λ _. draft_shown draft.new) result (next_op (draft_shown draft.old) words.old) }
+{
+    draft.end_op(alloc)?;
+    let op = declarations::op(alloc, draft.text.ops.items(), words)?;
+    draft.begin_op(op);
+    Ok(())
+}
+
+/// An instruction, or another operation after a whole one.
+fn in_wrap_up(draft: &mut Draft, alloc: Global, word: &[u8], words: &mut Words) -> Result<(), Stop>
+    requires few_fields { length draft.old.text.fields ≤ 4 }
+    requires few_roots { length draft.old.text.roots ≤ 256 }
+    ensures { Gives (λ _. draft_shown draft.new) result (in_wrap_up (draft_shown draft.old) word.now words.old) }
+{
+    if word == b"op".as_slice() {
+        next_op(draft, alloc, words)
+    } else {
+        in_method(draft, alloc, word, words)
+    }
+}
+
+fn in_section(draft: &mut Draft, alloc: Global, word: &[u8], words: &mut Words) -> Result<(), Stop>
+    requires few_fields { length draft.old.text.fields ≤ 4 }
+    requires few_roots { length draft.old.text.roots ≤ 256 }
+    ensures { Gives (λ _. draft_shown draft.new) result (in_section (draft_shown draft.old).section (draft_shown draft.old) word.now words.old) }
+{
+    match draft.section {
+        Section::Start => in_start(draft, word, words),
+        Section::Opening => in_opening(draft, alloc, word, words),
+        Section::Fields => in_fields(draft, alloc, word, words),
+        Section::Nodes => in_nodes(draft, alloc, word, words),
+        Section::Roots => in_roots(draft, alloc, word, words),
+        Section::Begun => in_begun(draft, word, words),
+        Section::Generator => in_generator(draft, alloc, word, words),
+        Section::WrapUp => in_wrap_up(draft, alloc, word, words),
+        Section::Shipped => Err(Stop::Fault(Fault::Form)),
+    }
+}
+
+/// An entry of a commit, after which so many lines are left.
+fn in_commit(
+    draft: &mut Draft,
+    alloc: Global,
+    left: u8,
+    word: &[u8],
+    words: &mut Words,
+) -> Result<(), Stop>
+    requires few_fields { length draft.old.text.fields ≤ 4 }
+    requires few_roots { length draft.old.text.roots ≤ 256 }
+    ensures { Gives (λ _. draft_shown draft.new) result (in_place (suc left) (draft_shown draft.old) word.now words.old) }
+{
+    let entry = read_entry(
+        draft.text.fields.items(),
+        draft.text.roots.items(),
+        word,
+        words,
+    )?;
+    draft.add_entry(alloc, entry, left)?;
+    Ok(())
+}
+
+/// Adds what a line declares, by its first word and the words after it. Where entry lines of a commit must follow, they
+/// alone may stand.
+pub(crate) fn in_place(
+    draft: &mut Draft,
+    alloc: Global,
+    word: &[u8],
+    words: &mut Words,
+) -> Result<(), Stop>
+    requires few_fields { length draft.old.text.fields ≤ 4 }
+    requires few_roots { length draft.old.text.roots ≤ 256 }
+    ensures { Gives (λ _. draft_shown draft.new) result (in_place (draft_shown draft.old).left (draft_shown draft.old) word.now words.old) }
+{
+    match draft.left.checked_sub(1) {
+        Some(left) => in_commit(draft, alloc, left, word, words),
+        None => in_section(draft, alloc, word, words),
+    }
+}

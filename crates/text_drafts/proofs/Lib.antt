@@ -1,2 +1,0 @@
-mod LineReads
-mod News
