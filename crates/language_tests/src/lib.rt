@@ -1,5 +1,5 @@
 //! Tests of the language, on what was worked out by hand: proper texts and copies against the shipped texts, which nodes a path
-//! leads to, facts on graphs, what a commit hands over, what is read back, runs of the source machine, and histories of sets
+//! leads to, facts on graphs, kinds that mix, what a commit hands over, what is read back, runs of the source machine, and histories of sets
 //! and of the queue. They stand apart from the crates that they test, since a crate with tests is proved twice. How texts and
 //! targets are spelled, the rules of the normal form and the flaws of targets are rows of the program `reader_rows`.
 #![tactic(auto)]
@@ -8,6 +8,8 @@
 mod facts;
 #[cfg(test)]
 mod forks;
+#[cfg(test)]
+mod kinds;
 #[cfg(test)]
 mod needs;
 #[cfg(test)]
