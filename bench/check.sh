@@ -1,9 +1,9 @@
 #!/usr/bin/env bash
-# Times `oa check`, `oa compile` and the verifier on texts of 16 operations with 64, 128 and 256 instructions in each method,
+# Times `oa check`, `oa compile` and `oa replay` on texts of 16 operations with 64, 128 and 256 instructions in each method,
 # less the time of the least text. In the one kind of text every second instruction branches, to and fro, so that each leads to
 # each. In the other the generators have commits that need eight registers guarded and the wrap-ups exchanges that need three,
-# so that their targets are up to ten times as long. What the verifier takes is the time of the program `oa_bench` less
-# that of the same program where it doesn't verify. Five runs each; the least is taken. It needs the proved program (`./prove`).
+# so that their targets are up to ten times as long. A replay checks, compiles and verifies the text, and makes one step of one
+# call (`fuel 1`). Five runs each; the least is taken. It needs the proved program (`./prove`).
 set -eu
 cd "$(dirname "$0")/.."
 work=$(mktemp -d)
@@ -76,28 +76,32 @@ guards() {
     }'
 }
 
-# The text is to be accepted, and its target barred: otherwise what is timed is a refusal.
+# The text is to be accepted: otherwise what is timed is a refusal.
 accepted() {
   ./oa check <"$1" >"$work/out" || { echo "refused: $(head -c 100 "$work/out")"; exit 1; }
-  [ "$("$verifier" verify <"$1")" = barred ] || { echo "not barred"; exit 1; }
 }
 
-verifier=crates/oa_bench/out/oa_bench
-[ -x "$verifier" ] || (cd crates/oa_bench && rt run -- verify <stdin >"$work/log" 2>&1) || { tail -n 20 "$work/log"; exit 2; }
+# The text with one call, which is given up after one step.
+begun() { cat "$1" && printf 'fuel 1\nscript 0\no0%s\n' "$2"; }
 
-branches 1 2 >"$work/least"
-accepted "$work/least"
-check=$(least check "$work/least")
-compile=$(least compile "$work/least")
 for kind in branches guards; do
+  argument=
+  [ $kind = guards ] || argument=' 1'
+  "$kind" 1 $([ $kind = guards ] && echo 10 || echo 2) >"$work/least"
+  accepted "$work/least"
+  check=$(least check "$work/least")
+  compile=$(least compile "$work/least")
+  begun "$work/least" "$argument" >"$work/begun"
+  replay=$(least replay "$work/begun")
   for count in 64 128 256; do
     "$kind" 16 "$count" >"$work/in"
     accepted "$work/in"
     checked=$(($(least check "$work/in") - check))
     compiled=$(($(least compile "$work/in") - compile))
     size=$(wc -c <"$work/out")
-    verified=$(($(program=$verifier least verify "$work/in") - $(program=$verifier least compile "$work/in")))
+    begun "$work/in" "$argument" >"$work/begun"
+    replayed=$(($(least replay "$work/begun") - replay))
     echo "$kind, $count instructions a method ($(wc -c <"$work/in") bytes, compiled $size): checked $checked," \
-      "checked and compiled $compiled, verified $verified microseconds"
+      "checked and compiled $compiled, checked, compiled and verified $replayed microseconds"
   done
 done

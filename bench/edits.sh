@@ -1,35 +1,27 @@
 #!/usr/bin/env bash
-# Tries each wrong body of the shared must-fail edits alone: `crates/CRATE/must-fail/shared_*.edit` have several, each under a line `# NAME`, and the gate, which
-# tries such an edit in one check, tells only that it is refused. `bench/edits.sh CRATE..` tries those of some crates. It works on a copy of this checkout, its
-# uncommitted files among them, in which each wrong body has an edit of its own, and has `rt ci CRATE..` try them there, which proves these crates and those
-# below, and tries their other edits too; what passed on this machine isn't done again. It prints a line for each, and ends with the status 1 where one isn't refused.
+# Tries each mutant of the shared must-fail edits alone: `crates/CRATE/must-fail/shared_*.edit` have several, each under a line `# NAME`, and the gate, which
+# tries such an edit in one check, tells only that it is rejected. `bench/edits.sh [CRATE..]` tries those of these crates or of all, in a copy of this checkout
+# with its uncommitted files and what `rt` keeps in `out/`, in which each mutant has an edit of its own: `rt must-fail` first proves the crates below, as far
+# as they aren't kept. It prints a line for each. The status is 1 if one isn't rejected.
 set -euo pipefail
 cd "$(dirname "$0")/.."
 root=$PWD
-[ $# -gt 0 ] || set -- $(ls crates/*/must-fail/shared_*.edit | cut -d/ -f2 | uniq)
-for crate; do
-  ls "crates/$crate/must-fail"/shared_*.edit >/dev/null 2>&1 || { echo "$crate has no shared edits" >&2; exit 2; }
-done
+[ $# -gt 0 ] || set -- $(ls crates/*/must-fail/shared_*.edit | cut -d/ -f2 | sort -u)
 copy=$(mktemp -d)
 trap 'rm -rf "$copy"' EXIT
-git ls-files -co --exclude-standard | while read -r file; do [ ! -f "$file" ] || echo "$file"; done | tar -cf - -T - | tar -xf - -C "$copy"
+find . -mindepth 1 -maxdepth 1 ! -name .git -exec cp -a {} "$copy"/ \;
 cd "$copy"
 git init -q
+rejected=0 others=0
 for crate; do
-  awk '/^# / { name = $2; next } name { print > (folder "/" name ".edit") }' folder="crates/$crate/must-fail" "crates/$crate/must-fail"/shared_*.edit
-  rm "crates/$crate/must-fail"/shared_*.edit
+  folder=crates/$crate/must-fail
+  rm -rf "$folder" && mkdir -p "$folder"
+  awk '/^# / { name = $2; next } name { print > (folder "/" name ".edit") }' folder="$folder" "$root/$folder"/shared_*.edit
+  said=$(rt must-fail "$crate" 2>&1) || true
+  grep -F "must-fail $crate/" <<<"$said" || printf '%s\n' "$said" | tail -n 20 >&2
+  wanted=$(find "$folder" -name '*.edit' | wc -l)
+  got=$(grep -cF ': refused, as it must be' <<<"$said" || true)
+  rejected=$((rejected + got)) others=$((others + wanted - got))
 done
-rt ci "$@" >"$copy/said" 2>&1 || true
-refused=0 others=0
-for crate; do
-  for name in $(sed -n 's/^# //p' "$root/crates/$crate/must-fail"/shared_*.edit); do
-    line=$(grep -F "must-fail $crate/$name.edit: " "$copy/said" || true)
-    case $line in
-      *": refused, as it must be"*) refused=$((refused + 1)) ;;
-      *) others=$((others + 1)) ;;
-    esac
-    echo "${line:-rt: must-fail $crate/$name.edit: not tried}"
-  done
-done
-echo "$refused wrong bodies refused, $others not"
-[ $others -eq 0 ] || { tail -n 20 "$copy/said" >&2; exit 1; }
+echo "$rejected rejected, $others not"
+[ $others -eq 0 ]

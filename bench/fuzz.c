@@ -40,8 +40,8 @@ static const char *const words[] = {
     "null", "@0", "@1", "@2", "@256", "num", "ref", "key", "next", "value", "head", "tail", "b0", "set", "mov", "add", "sub", "rem", "mark", "unmark",
     "root", "pick", "load", "new", "put", "cas", "casroot", "jump", "ifeq", "ifless", "ifmarked", "commit", "with", "withroot", "return",
     "returnnone", "again", "chk", "grd", "retire", "oa", "oat", "use", "list", "queue", "field", "nodes", "node", "op", "gen", "wrap", "slots",
-    "phases", "fuel", "script", "schedule", "step", "upto", "check", "exchange", "insert", "remove", "contains", "enqueue", "dequeue", "#", "\t", "~",
-    "\x7f"};
+    "phases", "fuel", "script", "schedule", "step", "upto", "check", "exchange", "insert", "remove", "contains", "enqueue", "dequeue", "events",
+    "begin", "access", "restart", "full", "replies", "reply", "none", "#", "\t", "~", "\x7f"};
 
 static void put(size_t at, size_t taken, const char *with, size_t size) {
   if (length - taken + size > MOST) return;
@@ -148,8 +148,8 @@ static void change(void) {
   }
 }
 
-enum { RUN, REPLAY, CHECK, SHOW, COMPILE, WORKLOAD, COMMANDS };
-static const char *const commands[] = {"run", "replay", "check", "show", "compile", "workload"};
+enum { RUN, REPLAY, CHECK, SHOW, COMPILE, UPGRADE, MAKE, JUDGE, WORKLOAD, COMMANDS };
+static const char *const commands[] = {"run", "replay", "check", "show", "compile", "upgrade", "judge make", "judge check", "workload"};
 
 /* Words that may stand after `workload`, those that its grammar has first. */
 enum { GOOD_COUNTS = 5, GOOD_CALLERS = 4, WORDS = 10 };
@@ -158,8 +158,9 @@ static const char *const callers[WORDS] = {"1", "2", "3", "8", "0", "9", "02", "
 
 /* The words of the call, with a null after the last; answers whether they are in the grammar. */
 static int draw_words(int command, char **call) {
-  call[1] = (char *)commands[command];
-  call[2] = NULL;
+  call[1] = command == MAKE || command == JUDGE ? "judge" : (char *)commands[command];
+  call[2] = command == MAKE ? "make" : command == JUDGE ? "check" : NULL;
+  call[3] = NULL;
   if (command != WORKLOAD) return 1;
   size_t count = drawn(2) ? drawn(GOOD_COUNTS) : drawn(WORDS), caller = drawn(2) ? drawn(GOOD_CALLERS) : drawn(WORDS), size = drawn(8) ? 4 : 1 + drawn(5);
   call[2] = (char *)counts[count], call[3] = (char *)callers[caller], call[4] = (char *)counts[0];
@@ -175,7 +176,7 @@ static const char *last_line(const char *said) {
   return said + size;
 }
 
-static regex_t fault_line, refusal_line, shape_line, done_line, partial_line, workload_lines;
+static regex_t fault_line, refusal_line, shape_line, rejected_line, done_line, partial_line, workload_lines;
 static int matches(const regex_t *form, const char *line) { return regexec(form, line, 0, NULL, 0) == 0; }
 
 /* whether a status may come of the command, with what was written beside it */
@@ -186,12 +187,13 @@ static int is_in_table(int command, int is_right, int status, const char *said, 
   if (command == WORKLOAD) return status == 0 && matches(&workload_lines, said); /* the document is left unread */
   switch (status) {
   case 0:
-    return runs ? matches(&done_line, last_line(said)) : command == CHECK ? strcmp(said, "accepted\n") == 0
-         : begins(said, command == SHOW ? "oa 1\n" : "oat 1\n");
-  case 1: return runs && matches(&partial_line, last_line(said));
+    return runs ? matches(&done_line, last_line(said)) : command == CHECK || command == JUDGE ? strcmp(said, "accepted\n") == 0
+         : begins(said, command == COMPILE ? "oat 2\n" : "oa 2\n");
+  case 1: return command == MAKE ? begins(said, "oa 2\n") : runs && matches(&partial_line, last_line(said));
   case 5: return matches(&fault_line, said);
-  case 6: return command != SHOW && matches(&refusal_line, said);
-  case 7: return runs && matches(&shape_line, said);
+  case 6: return command != SHOW && command != UPGRADE && matches(&refusal_line, said);
+  case 7: return (runs || command == MAKE || command == JUDGE) && matches(&shape_line, said);
+  case 11: return command == JUDGE && matches(&rejected_line, said);
   default: return 0; /* the input is short and whole, and there is memory */
   }
 }
@@ -235,11 +237,13 @@ int main(int argc, char **argv) {
   state = strtoull(argv[3], NULL, 10) * 2 + 1;
   for (int i = 0; i < 16; i++) drawn(2);
   count_of_good = strtoull(argv[4], NULL, 10);
+  int judged = getenv("certificates") != NULL; /* certificates alone */
   read_documents(argc - 5, argv + 5);
   if (count_of_good == 0 || count_of_good > count_of_documents) return fputs("fuzz: no such count of good files\n", stderr), 2;
-  compiled(&fault_line, "^line [1-9][0-9]* fault [1-7]\n$");
-  compiled(&refusal_line, "^refused N([1-9]|1[0-4]) op [a-z][a-z0-9_]{0,15} (gen|wrap) (0|[1-9][0-9]*)\n$");
+  compiled(&fault_line, "^line [1-9][0-9]* fault [1-8]\n$");
+  compiled(&refusal_line, "^refused N([1-9]|1[0-5]) op [a-z][a-z0-9_]{0,15} (gen|wrap) (0|[1-9][0-9]*)\n$");
   compiled(&shape_line, "^shape ([1-9]|1[01]) at (0|[1-9][0-9]*)\n$");
+  compiled(&rejected_line, "^rejected [123] at (0|[1-9][0-9]*)\n$");
   compiled(&done_line, "^replies [0-9]+ short 0 phase [0-9]+ claims [0-9]+ restarts [0-9]+\n$");
   compiled(&partial_line, "^replies [0-9]+ short [1-9][0-9]* phase [0-9]+ claims [0-9]+ restarts [0-9]+\n$");
   compiled(&workload_lines, "^part 1 callers [1-8] operations [0-9]+ ones [0-9]+ zeros [0-9]+ short 0\n"
@@ -263,7 +267,7 @@ int main(int argc, char **argv) {
     size_t base = drawn(drawn(4) ? count_of_good : count_of_documents);
     memcpy(text, documents[base], length = lengths[base]);
     for (uint64_t changes = drawn(2) ? 1 : 1 + drawn(4); changes > 0; changes--) change();
-    int command = drawn(16) ? (int)drawn(WORKLOAD) : WORKLOAD, raw;
+    int command = judged ? JUDGE : drawn(16) ? (int)drawn(WORKLOAD) : WORKLOAD, raw;
     if (ftruncate(in, 0) || ftruncate(out, 0) || ftruncate(err, 0) || pwrite(in, text, length, 0) != (ssize_t)length) return perror("memfd"), 2;
     lseek(in, 0, SEEK_SET), lseek(out, 0, SEEK_SET), lseek(err, 0, SEEK_SET);
     char *call[6] = {program};
@@ -284,7 +288,7 @@ int main(int argc, char **argv) {
     tally[status < 15 ? status : 15][command]++;
     struct stat told;
     fstat(err, &told);
-    if (status > 9 || (size_t)size != strlen(said) || !is_in_table(command, is_right, status, said, told.st_size > 0)) bad++, tell_failure(number, commands[command], raw, said);
+    if (status > 11 || (size_t)size != strlen(said) || !is_in_table(command, is_right, status, said, told.st_size > 0)) bad++, tell_failure(number, commands[command], raw, said);
   }
   printf("%llu documents, seed %s, %zu to begin with\nstatus", (unsigned long long)wanted, argv[3], count_of_documents);
   for (int command = 0; command < COMMANDS; command++) printf(" %s", commands[command]);

@@ -1,14 +1,14 @@
 #!/usr/bin/env python3
-"""Runs small random documents of the set and the queue on threads, and looks for one legal order of their calls.
+"""Runs small random documents of the set, the queue, and two stacks with nodes of two kinds on threads, and looks for one legal order of their calls.
 
 usage: bench/histories.py [SECONDS [PROGRAM [SEED [JUDGE [SLOTS]]]]]
 
 Eight callers share a row with few slots to spare, three in most documents, or SLOTS in each. In a third of them calls have little fuel, so that
 callers stop in the middle of a call and stand still, with the guards and cradles that they have, while the others go on. A run is legal where the
-calls can be put in one order, each caller's in its own, in which each reply is that of a set or of a queue. A call that is printed as `spent` may
+calls can be put in one order, each caller's in its own, in which each reply is that of a set, a queue or two stacks. A call that is printed as `spent` may
 have had its effect or not; one that is `full`, `phases` or `unreached` has none.
 
-Half of the documents have ten calls at most. Their runs are judged by the proved program `history_rows` (JUDGE), and by the search of this script as
+Half of the documents have ten calls at most. Runs of these on sets and queues are judged by the proved program `history_rows` (JUDGE), and by the search of this script as
 well; larger ones by that search alone. The status is 1 where a run has no legal order, answers anything else, or is judged otherwise by the one than by the
 other. Where too many orders would have to be looked at, the run is left open, and counted.
 """
@@ -27,17 +27,30 @@ MOST_JUDGED = 10
 MOST_STATES = 200_000
 
 
+TOP = os.path.dirname(os.path.dirname(os.path.abspath(__file__)))
+
+
 def a_set(random):
     buckets = random.choice([1, 1, 2])
     keys = [random.randrange(1, 5) for _ in range(3)]
-    call = lambda: (random.choice(["insert", "insert", "remove", "contains"]), random.choice(keys))
-    return "list" if buckets == 1 else f"set {buckets}", buckets, 3, call
+    call = lambda: (random.choice(["insert", "insert", "remove", "contains"]), (random.choice(keys),))
+    return "set", ["oa 1", "use list" if buckets == 1 else f"use set {buckets}"], [""], buckets, 3, call
 
 
 def a_queue(random):
     number = iter(range(1, 1000))
-    call = lambda: ("enqueue", next(number)) if random.random() < 0.55 else ("dequeue", None)
-    return "queue", 1, 2, call
+    call = lambda: ("enqueue", (next(number),)) if random.random() < 0.55 else ("dequeue", ())
+    return "queue", ["oa 1", "use queue"], [""], 1, 2, call
+
+
+def two_stacks(random):
+    """The text of examples/two_stacks.oa, whose stacks have nodes of different kinds."""
+    number = iter(range(1, 1000))
+    calls = {"push": lambda: (next(number),), "pop": tuple, "push_two": lambda: (next(number), next(number)), "pop_two": tuple}
+    with open(os.path.join(TOP, "examples", "two_stacks.oa")) as file:
+        text = file.read().split("\nslots ")[0]
+    call = lambda: (lambda name: (name, calls[name]()))(random.choice(["push", "push", "pop", "push_two", "push_two", "pop_two"]))
+    return "stacks", text.split("\n"), ["number ", "pair "], 0, 2, call
 
 
 def counts(random, most):
@@ -51,23 +64,33 @@ def counts(random, most):
 
 
 def document(random, wanted):
-    kind = random.choice([a_set, a_queue])
-    text, nodes, most, call = kind(random)
+    model, lines, kinds, nodes, most, call = random.choice([a_set, a_queue, two_stacks])(random)
     scripts = [[call() for _ in range(count)] for count in counts(random, most)]
-    adds = sum(name in ("insert", "enqueue") for script in scripts for name, _ in script)
-    slots = random.choice([3, 3, 3, nodes + 1, nodes + adds])
-    lines = ["oa 1", f"use {text}", f"slots {wanted or slots}"]
+    adds = sum(name in ("insert", "enqueue", "push", "push_two") for script in scripts for name, _ in script)
+    lines += [f"slots {kind}{wanted or random.choice([3, 3, 3, nodes + 1, nodes + adds]) or 1}" for kind in kinds]
     if random.random() < 0.33:
         lines.append(f"fuel {random.randrange(4, 60)}")
     for number, script in enumerate(scripts):
         lines.append(f"script {number}")
         lines += [spelled(*call) for call in script]
-    return text == "queue", scripts, "\n".join(lines) + "\n"
+    return model, scripts, "\n".join(lines) + "\n"
 
 
-def after(is_queue, state, name, key):
+def after_on_stack(stacks, at, pushed):
+    """Returns the reply of a call on one of the stacks, and all of them after it; what is pushed is a number, or None for a pop."""
+    stack = stacks[at]
+    if pushed is None and not stack:
+        return "none", stacks
+    later = stack[:-1] if pushed is None else stack + (pushed,)
+    return str(stack[-1]) if pushed is None else "none", stacks[:at] + (later,) + stacks[at + 1 :]
+
+
+def after(model, state, name, arguments):
     """Returns the reply of a call, and the state after it."""
-    if is_queue:
+    if model == "stacks":
+        return after_on_stack(state, int(name.endswith("_two")), sum(arguments) if arguments else None)
+    key = arguments[0] if arguments else None
+    if model == "queue":
         if name == "enqueue":
             return str(key), state + (key,)
         return ("none", state) if not state else (str(state[0]), state[1:])
@@ -85,9 +108,9 @@ def is_stuck(scripts, answers, places, state):
     return bool(state) and waits and not any(answer in (str(state[0]), "spent") for _, answer in left)
 
 
-def is_legal(is_queue, scripts, answers):
+def is_legal(model, scripts, answers):
     """Returns whether the calls can be put in one order in which each has its answer, or None where the search grows too large."""
-    start = (0,) * CALLERS, () if is_queue else frozenset()
+    start = (0,) * CALLERS, {"set": frozenset(), "queue": (), "stacks": ((), ())}[model]
     seen, left = {start}, [start]
     while left:
         if len(seen) > MOST_STATES:
@@ -99,7 +122,7 @@ def is_legal(is_queue, scripts, answers):
             if at == len(scripts[caller]):
                 continue
             answer = answers[caller][at]
-            reply, later = after(is_queue, state, *scripts[caller][at])
+            reply, later = after(model, state, *scripts[caller][at])
             nexts = []
             if answer == "unreached" or answer == "full" or answer.startswith("phases "):
                 nexts = [state]
@@ -109,20 +132,20 @@ def is_legal(is_queue, scripts, answers):
                 nexts = [later]
             for it in nexts:
                 found = places[:caller] + (at + 1,) + places[caller + 1 :], it
-                if found not in seen and not (is_queue and is_stuck(scripts, answers, *found)):
+                if found not in seen and not (model == "queue" and is_stuck(scripts, answers, *found)):
                     seen.add(found)
                     left.append(found)
     return False
 
 
-def spelled(name, key):
-    return name if key is None else f"{name} {key}"
+def spelled(name, arguments):
+    return " ".join([name, *map(str, arguments)])
 
 
-def is_legal_by(judge, is_queue, scripts, answers):
+def is_legal_by(judge, model, scripts, answers):
     """Returns what the proved program says of a small history."""
     parts = (", ".join(f"{spelled(*call)}: {answer}" for call, answer in zip(*both)) for both in zip(scripts, answers))
-    row = " | ".join(["queue" if is_queue else "set", *parts])
+    row = " | ".join([model, *parts])
     said = subprocess.run([judge], input=row.encode() + b"\n", capture_output=True, timeout=600).stdout.decode().splitlines()
     assert said[:1] == [row] and said[1:] in (["legal"], ["no legal order"]), said
     return said[1] == "legal"
@@ -134,8 +157,8 @@ def answers_in(output, scripts):
     found = []
     for caller, script in enumerate(scripts):
         found.append([])
-        for index, (name, key) in enumerate(script):
-            called = f"{caller} {index} {spelled(name, key)}: "
+        for index, call in enumerate(script):
+            called = f"{caller} {index} {spelled(*call)}: "
             line = next(lines, "")
             if not line.startswith(called):
                 return None
@@ -153,25 +176,26 @@ def main():
         if not os.access(needed, os.X_OK):
             print(f"{needed} isn't there: the gate makes it, or `rt run` in its crate's folder", file=sys.stderr)
             return 2
-    source, end, runs, three, judged, stopped, full, unsettled = random.Random(seed), time.monotonic() + seconds, 0, 0, 0, 0, 0, 0
+    source, end, runs, three, two_kinds, judged, stopped, full, unsettled = random.Random(seed), time.monotonic() + seconds, 0, 0, 0, 0, 0, 0, 0
     while time.monotonic() < end:
-        is_queue, scripts, text = document(source, wanted)
+        model, scripts, text = document(source, wanted)
         run = subprocess.run([program, "run"], input=text.encode(), capture_output=True, timeout=600)
         answers = answers_in(run.stdout.decode(), scripts)
-        legal = answers is not None and is_legal(is_queue, scripts, answers)
-        is_small = answers is not None and sum(map(len, scripts)) <= MOST_JUDGED
-        agreed = not is_small or is_legal_by(judge, is_queue, scripts, answers) == legal
+        legal = answers is not None and is_legal(model, scripts, answers)
+        is_small = model != "stacks" and answers is not None and sum(map(len, scripts)) <= MOST_JUDGED
+        agreed = not is_small or is_legal_by(judge, model, scripts, answers) == legal
         if run.returncode not in (0, 1) or legal is False or not agreed:
             why = "no legal order" if agreed else "judged otherwise by the proved program"
             print(f"{why} (seed {seed}, run {runs}, status {run.returncode}):\n{text}{run.stdout.decode()}", end="")
             return 1
         runs += 1
-        three += "\nslots 3\n" in text
+        three += any(line.startswith("slots ") and line.endswith(" 3") for line in text.split("\n"))
+        two_kinds += model == "stacks"
         judged += is_small
         unsettled += legal is None
         stopped += any(it == "spent" for own in answers for it in own)
         full += any(it == "full" for own in answers for it in own)
-    print(f"{runs} runs, {three} of them with three slots; {unsettled} not settled, and each other with a legal order, {judged} by the proved program;"
+    print(f"{runs} runs, {three} of them with three slots, {two_kinds} of two kinds; {unsettled} not settled, and each other with a legal order, {judged} by the proved program;"
           f" in {stopped} a caller stopped in a call, in {full} one found the row full (seed {seed})")
     return 0
 

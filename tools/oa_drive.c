@@ -1,21 +1,24 @@
 /* oa_drive.c: makes the calls of a text that tools/oa2c has turned into C11, for tools/test_oa2c. The text's header is text.h, its prefix `text`.
  *
  *     replay              makes the steps of a schedule as `oa replay` does, and prints the same report (built with OA_REPLAY)
+ *     log SEED            makes the callers' steps in an order that follows from the seed, and prints what a certificate has behind its document
  *     run                 makes the calls of each script on a thread, and prints the same lines as `oa run`
  *     own OPS ..          random calls on threads, each caller with keys of its own: the answers are those of the caller alone
  *     fifo|bag PUT,TAKE   each number that was put is taken once; of `fifo` those of one caller in their order
- *     cell STORE,READ     a reader finds numbers that were stored, and those of one caller in their order
+ *     cell STORE,READ     a reader finds numbers that were stored, those of one caller in their order, and that of the start before all
  *     sum ADD             each `ADD 1` answers another sum, without gaps
  *
  * The last five take SEED CALLS CALLERS KEYS and a count of slots for each kind. The status is 1 where an answer is wrong, or is short. Built with
  * OA_REPLAY they make the callers' steps on one thread, in an order that follows from the seed.
- * `replay` and `run` read from standard input what tools/test_oa2c makes of the end of a document:
+ * `replay`, `log` and `run` read from standard input what tools/test_oa2c makes of the end of a document:
  *     slots S ..   phases F L   fuel N   script   call OP ARGUMENT ..   turn step|op|load|check|exchange C N
  */
 #ifdef OA_REPLAY
 #include <ucontext.h>
 static void before_step(int kind);
+static void log_event(int event);
 #define OA_STEP(kind) before_step(kind)
+#define OA_EVENT(event) log_event(event)
 #endif
 #define OA_TABLE
 #ifndef OA_SLOT_BITS
@@ -186,10 +189,39 @@ static void before_step(int kind) {
   spent[c]++;
 }
 
+/* What a certificate has of a run. The callers make their accesses one after the other, so the order of the lines is theirs. */
+static int logs;
+static int wrap_up_looked[MOST_CALLERS]; /* whether its wrap-up has made an access */
+static uint64_t nodes;
+
+static void log_event(int event) {
+  unsigned c = running;
+  if (!logs) return;
+  switch (event) {
+    case OA_EVENT_NEW: printf("access %u %" PRIu64 "\n", c, ++nodes); break;
+    case OA_EVENT_RESTART: printf("restart %u\n", c); break;
+    case OA_EVENT_FULL: printf("full %u\n", c); break;
+    case OA_EVENT_PHASES: printf("phases %u %" PRIu64 "\n", c, last_phase); break;
+    case OA_EVENT_ACCESS:
+    case OA_EVENT_LIST_END: printf("access %u 0\n", c); break;
+    case OA_EVENT_ANSWER:
+      if (wrap_up_looked[c]) printf("access %u 0\n", c);
+  }
+  wrap_up_looked[c] = event == OA_EVENT_ACCESS;
+}
+
+static void log_begin(unsigned c, const a_call *call) {
+  if (!logs) return;
+  printf("begin %u %s", c, text_OPERATIONS[call->op].name);
+  for (unsigned i = 0; i < text_OPERATIONS[call->op].arguments; i++) printf(" %" PRIu64, call->argument[i]);
+  printf("\n");
+}
+
 static void make_script(void) {
   unsigned c = running;
   for (; script[c].ended < script[c].count; script[c].ended++) {
     spent[c] = 0;
+    log_begin(c, &script[c].call[script[c].ended]);
     make(oa_caller_of(&pool, c), &script[c].call[script[c].ended]);
   }
   over[c] = 1;
@@ -252,6 +284,28 @@ static int make_steps_at_random(void) {
   }
   running = callers;
   return 1;
+}
+
+static void log_replies(void) {
+  printf("replies\n");
+  for (unsigned c = 0; c < callers; c++)
+    for (size_t at = 0; at < script[c].count; at++) {
+      const a_call *call = &script[c].call[at];
+      if (call->end == OA_NUMBER) printf("reply %u %" PRIu64 "\n", c, call->reply);
+      if (call->end == OA_NONE) printf("reply %u none\n", c);
+      if (call->end == OA_FULL) printf("reply %u full\n", c);
+      if (call->end == OA_PHASES) printf("reply %u phases %" PRIu64 "\n", c, last_phase);
+    }
+}
+
+static int write_log(uint64_t seed) {
+  for (unsigned kind = 0; kind < text_LAYOUT.kinds; kind++) nodes += text_LAYOUT.nodes[kind];
+  random_state = seed * 2 + 1;
+  logs = 1;
+  printf("events\n");
+  if (!make_steps_at_random()) fail("the calls don't come to an end");
+  log_replies();
+  return 0;
 }
 
 static int replay(void) {
@@ -332,13 +386,15 @@ static int check_taken(unsigned put, unsigned take, int ordered, int once) {
   for (unsigned c = 0; c < callers; c++) memset(seen[c] = room_for(NULL, script[c].count + 1), 0, script[c].count + 1);
   for (unsigned c = 0; c < callers; c++) {
     uint64_t before[MOST_CALLERS] = {0};
+    int is_first = 1; /* the number that was there at the start may be found, which is below all that are put */
     for (size_t at = 0; at < script[c].count; at++) {
       a_call *call = &script[c].call[at];
       if (is_short(call)) return 1;
-      if (call->op != take || call->end != OA_NUMBER || call->reply < MOST_CALLERS) continue;
+      if (call->op != take || call->end != OA_NUMBER || (call->reply < MOST_CALLERS && (is_first || once))) continue;
+      is_first = 0;
       unsigned from = call->reply % MOST_CALLERS;
       uint64_t place = call->reply / MOST_CALLERS;
-      int was_put = from < callers && place <= script[from].count && script[from].call[place - 1].op == put;
+      int was_put = place > 0 && from < callers && place <= script[from].count && script[from].call[place - 1].op == put;
       if (!was_put || (once && seen[from][place]++) || (ordered && (once ? place <= before[from] : place < before[from]))) {
         printf("%u %zu: %" PRIu64 " was taken twice, out of order, or was never put\n", c, at, call->reply);
         return 1;
@@ -425,12 +481,12 @@ static int stress(int count, char **word) {
 }
 
 int main(int count, char **word) {
-  if (count < 2) fail("replay, run, own, fifo, bag, cell or sum");
-  if (strcmp(word[1], "replay") && strcmp(word[1], "run")) return stress(count, word);
+  if (count < 2) fail("replay, log, run, own, fifo, bag, cell or sum");
+  if (strcmp(word[1], "replay") && strcmp(word[1], "log") && strcmp(word[1], "run")) return stress(count, word);
   read_document();
   open_pool(slots, callers);
 #ifdef OA_REPLAY
-  return replay();
+  return count == 3 && !strcmp(word[1], "log") ? write_log(strtoull(word[2], NULL, 10)) : replay();
 #else
   run_threads();
   return report();

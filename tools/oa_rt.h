@@ -102,6 +102,12 @@ enum { OA_STEP_OTHER, OA_STEP_LOAD, OA_STEP_CHECK, OA_STEP_EXCHANGE };
 #define OA_STEP(kind) ((void)0)
 #endif
 
+/* A program that logs its run as a certificate defines OA_EVENT: it stands behind what the certificate of a run has, and where a wrap-up begins. */
+enum { OA_EVENT_ACCESS, OA_EVENT_NEW, OA_EVENT_RESTART, OA_EVENT_FULL, OA_EVENT_PHASES, OA_EVENT_LIST_END, OA_EVENT_WRAP_UP, OA_EVENT_ANSWER };
+#ifndef OA_EVENT
+#define OA_EVENT(event) ((void)0)
+#endif
+
 #define OA_LOAD(word, order, kind) (OA_STEP(kind), atomic_load_explicit((word), (order)))
 #define OA_STORE(word, value, order) (OA_STEP(OA_STEP_OTHER), atomic_store_explicit((word), (value), (order)))
 #define OA_ON_FAILURE(order) \
@@ -163,6 +169,7 @@ static inline int oa_is_warned(oa_caller *caller, uint64_t *seen) {
   if (found == *seen) return 0;
   *seen = found;
   caller->restarts++;
+  OA_EVENT(OA_EVENT_RESTART);
   return 1;
 }
 
@@ -194,8 +201,17 @@ static inline void oa_clear(oa_own *own, unsigned *guards, unsigned kept) {
 #endif
 
 #define OA_SEEN(caller) OA_LOAD(&(caller)->own->warning, OA_ORDER_SEEN, OA_STEP_OTHER)
-#define OA_READ(word) OA_LOAD(word, OA_ORDER_READ, OA_STEP_LOAD)
-#define OA_PUT(word, value) OA_STORE(word, value, OA_ORDER_PUT)
+
+static inline uint64_t oa_read(oa_word *word) {
+  uint64_t found = OA_LOAD(word, OA_ORDER_READ, OA_STEP_LOAD);
+  OA_EVENT(OA_EVENT_ACCESS);
+  return found;
+}
+
+static inline void oa_put(oa_word *word, uint64_t value) {
+  OA_STORE(word, value, OA_ORDER_PUT);
+  OA_EVENT(OA_EVENT_ACCESS);
+}
 
 /* The words of a reference's node, where `below` slots stand before those of its kind; null's are the first. */
 static inline oa_word *oa_row(oa_word *rows, uint64_t reference, uint64_t below, unsigned stride) {
@@ -205,13 +221,15 @@ static inline oa_word *oa_row(oa_word *rows, uint64_t reference, uint64_t below,
 
 static inline int oa_exchange(oa_word *word, uint64_t expected, uint64_t value) {
   OA_STEP(OA_STEP_EXCHANGE);
-  return OA_SWAP(word, expected, value, OA_ORDER_EXCHANGE);
+  int done = OA_SWAP(word, expected, value, OA_ORDER_EXCHANGE);
+  OA_EVENT(OA_EVENT_ACCESS);
+  return done;
 }
 
 /* An exchange of a field of the node that `object` names. On null it is a load, and fails. */
 static inline int oa_exchange_of(uint64_t object, oa_word *word, uint64_t expected, uint64_t value) {
   if (object >> 1) return oa_exchange(word, expected, value);
-  (void)OA_READ(word);
+  (void)oa_read(word);
   return 0;
 }
 
@@ -303,11 +321,15 @@ static inline int oa_new(oa_caller *caller, unsigned kind, unsigned number, unsi
   unsigned cradle = OA_NEWS * kind + number;
   if (!caller->cradle[cradle]) {
     int end = oa_claim(caller, kind, cradle);
-    if (end != OA_NONE) return end;
+    if (end != OA_NONE) {
+      OA_EVENT(end == OA_FULL ? OA_EVENT_FULL : OA_EVENT_PHASES);
+      return end;
+    }
   }
   *reference = 2 * caller->cradle[cradle];
   oa_word *row = oa_row(caller->pool->field[kind], *reference, caller->pool->first[kind] - 1, stride);
-  for (unsigned field = 0; field < fields; field++) OA_PUT(&row[field], 0);
+  for (unsigned field = 0; field < fields; field++) OA_STORE(&row[field], 0, OA_ORDER_PUT);
+  OA_EVENT(OA_EVENT_NEW);
   return OA_NONE;
 }
 

@@ -4,7 +4,7 @@ program=$(readlink -f "${1-$(dirname "$0")/../oa}")
 cd "$(dirname "$0")" || exit 2
 [ -x "$program" ] || { echo "test.sh: there is no program $program" >&2; exit 2; }
 status=0
-for test in test_texts test_install test_oa2c; do
+for test in test_texts test_certificates test_install test_oa2c; do
   "./$test" "$program" || status=1
 done
 exit $status

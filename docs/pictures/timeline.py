@@ -1,5 +1,15 @@
 #!/usr/bin/env python3
-"""Draws a timeline of each docs/pictures/*.run, as an SVG of its name beside it. It takes no arguments, and needs Python alone.
+"""Draws runs as SVG: those told in docs/pictures/*.run, access by access, and any certificate that `oa judge make` writes.
+
+usage: timeline.py                            draws each docs/pictures/*.run and *.cert, as an SVG of its name beside it
+       timeline.py CERTIFICATE [FROM [TO]]    writes the SVG of a certificate to standard output; `-` is standard input
+
+It needs Python alone.
+
+A certificate is drawn with its calls folded: what a caller does of one call before another caller's event is one box, which counts its
+accesses, and names the nodes that it makes; a call that nobody meets is one box. The number beside a box is the place of its first event,
+counted from 0, as `rejected 1 at P` counts them. FROM and TO are such places: only the boxes from the one to the other are drawn. Whether
+such a run is possible isn't asked here: that is what `oa judge check` does.
 
 A .run file tells a run of compiled code, an access a line, in the order of time. Words are named and not addressed. The program keeps
 the words as the accesses leave them, and refuses a line that finds another word than stands there; whether a caller would make
@@ -212,6 +222,15 @@ class Sheet:
             self.put("path", d="M%.1f %.1f l%.1f %.1f v%.1f z" % (x2, y, 2 * size * back, -size / 1.4, 2 * size / 1.4), fill=stroke)
 
 
+def page(height, title, story, parts, patterns=()):
+    """An SVG of these parts, on a white ground."""
+    head = '<svg xmlns="http://www.w3.org/2000/svg" viewBox="0 0 {0} {1}" width="{0}" height="{1}" role="img" ' \
+        'font-family="Helvetica, Arial, \'DejaVu Sans\', sans-serif" font-size="{2}" fill="{3}">'.format(WIDTH, int(height), TEXT, INK)
+    told = "<title>%s</title><desc>%s</desc>" % (html.escape(title, False), html.escape(story, False))
+    ground = '<rect width="%d" height="%d" fill="white"/>' % (WIDTH, height)
+    return "\n".join([head, told, *patterns, ground, *parts, "</svg>", ""])
+
+
 class Drawing:
     def __init__(self, run, rows):
         self.run, self.rows, self.sheet, self.y = run, rows, Sheet(), 0.0
@@ -358,8 +377,8 @@ class Drawing:
                 told(text, 26)
         sheet.text(at[0], at[1] + 4, "grey: as before", SMALL, PALE)
         at[:] = MARGIN + 4.0, at[1] + 22
-        for kind, text in (("used", "used 1: in use, taken under a head of phase 1 or there at the start"), ("retired", "retired 1: retired in phase 1"),
-                           ("ready", "ready 2: made ready in phase 2")):
+        for kind, text in (("used", "used 1: in use, taken under a head of phase 1 or there at the start"),
+                           ("retired", "retired 1: retired in phase 1"), ("ready", "ready 2: made ready in phase 2")):
             sheet.box(at[0], at[1] - 7, 26, 14, "url(#%s)" % kind, INK)
             told(text, 26)
         self.y = at[1] + 18
@@ -380,21 +399,184 @@ class Drawing:
             caller = row.caller
         lanes = self.lanes_to(self.y + 4)
         self.draw_legend()
-        head = '<svg xmlns="http://www.w3.org/2000/svg" viewBox="0 0 {0} {1}" width="{0}" height="{1}" role="img" ' \
-            'font-family="Helvetica, Arial, \'DejaVu Sans\', sans-serif" font-size="{2}" fill="{3}">'.format(WIDTH, int(self.y), TEXT, INK)
-        title = "<title>%s</title><desc>%s</desc>" % (html.escape(self.run.title, False), html.escape(" ".join(self.run.story), False))
-        ground = '<rect width="%d" height="%d" fill="white"/>' % (WIDTH, self.y)
-        return "\n".join([head, title, PATTERNS, ground] + lanes + self.sheet.parts + ["</svg>", ""])
+        return page(self.y, self.run.title, " ".join(self.run.story), lanes + self.sheet.parts, [PATTERNS])
 
 
-def main():
-    here = os.path.dirname(os.path.abspath(__file__))
-    for path in sorted(glob.glob(os.path.join(here, "*.run"))):
+# ---- certificates
+
+MOST_CALLERS, MOST_BOXES, NO_REPLY = 8, 400, "no reply"
+
+
+class Box:
+    """What a caller does of one call, from one event to the last before another caller's.
+
+    call: as it began, or None where the caller has begun none; before: the call's box before this one; end: in its last box how the call ends.
+    """
+
+    def __init__(self, caller, call, first, before=None):
+        self.caller, self.call, self.before, self.end = caller, call, before, None
+        self.first, self.last = first, first
+        self.accesses, self.made, self.restarts, self.gives_up = 0, [], 0, False
+
+    def add(self, at, kind, rest):
+        self.last = at
+        if kind == "access":
+            self.accesses += 1
+            self.made += [name for name in rest if name != "0"]
+        elif kind == "restart":
+            self.restarts += 1
+        elif kind != "begin":
+            self.gives_up = True
+
+    def told(self):
+        """What happens in it, in words."""
+        parts = [counted(self.accesses, "access", "accesses")] if self.accesses else []
+        parts += ["makes node" + ("s " if len(self.made) > 1 else " ") + ", ".join(self.made)] if self.made else []
+        parts += [counted(self.restarts, "restart", "restarts")] if self.restarts else []
+        return "; ".join(parts + ["gives up"] * self.gives_up)
+
+
+def counted(count, one, several):
+    return "%d %s" % (count, one if count == 1 else several)
+
+
+def read_certificate(name, lines):
+    """The count of callers, the events as (kind, caller, further words), and the replies of each caller. The text before them isn't read."""
+    state, callers, events, replies = "text", 0, [], {}
+    for number, words in enumerate(map(str.split, lines), 1):
+        if not words or words[0].startswith("#"):
+            continue
+        if (state, words) in (("text", ["schedule"]), ("schedule", ["events"]), ("events", ["replies"])):
+            state = words[0]
+        elif state == "text":
+            callers += words[0] == "script" and len(words) == 2
+        elif state == "events" and words[0] in ("begin", "access", "restart", "full", "phases") and in_range(words, callers):
+            events.append((words[0], int(words[1]), words[2:]))
+        elif state == "replies" and words[0] == "reply" and in_range(words, callers):
+            replies.setdefault(int(words[1]), []).append(" ".join(words[2:]))
+        elif state != "schedule":
+            sys.exit("%s, line %d: this isn't a line of the %s of a certificate" % (name, number, state))
+    if state != "replies":
+        sys.exit("%s: this is no certificate: it has no line `%s`" % (name, {"text": "schedule", "schedule": "events", "events": "replies"}[state]))
+    return callers, events, replies
+
+
+def in_range(words, callers):
+    return len(words) > 1 and words[1].isdigit() and int(words[1]) < callers
+
+
+def folded(events, replies):
+    """The boxes, in the order of time. The replies of a caller belong to its calls, in order; those to no call come last."""
+    boxes, latest = [], {}  # latest: each caller's last box
+    left = {caller: list(found) for caller, found in replies.items()}
+
+    def end(box):
+        box.end = left[box.caller].pop(0) if left.get(box.caller) else NO_REPLY
+
+    for at, (kind, caller, rest) in enumerate(events):
+        box = latest.get(caller)
+        if kind == "begin":
+            if box:
+                end(box)
+            boxes.append(Box(caller, " ".join(rest), at))
+        elif not box or boxes[-1] is not box:
+            boxes.append(Box(caller, box and box.call, at, box))
+        latest[caller] = boxes[-1]
+        latest[caller].add(at, kind, rest)
+    for box in latest.values():
+        end(box)
+    for caller, reply in [(caller, reply) for caller in sorted(left) for reply in left[caller]]:
+        boxes.append(Box(caller, None, len(events)))
+        boxes[-1].end = reply
+    return boxes
+
+
+def fitted(text, size, room, weight="normal"):
+    """Its lines, as `wrapped` has them, with those cut that are still too wide."""
+    out = []
+    for line in wrapped(text, size, room, weight):
+        out.append("")
+        for letter in line:
+            if wide(out[-1] + letter, size, weight) > room:
+                out.append("")
+            out[-1] += letter
+    return out
+
+
+def draw_box(sheet, box, x, y, width):
+    """Draws a box, and returns its height."""
+    room = width - 30
+    head = (box.call or "no call") + (", further" if box.before else "")
+    lines = [(line, None if box.before else "bold", None) for line in fitted(head, TEXT, room, "bold")]
+    lines += [(line, None, PALE) for line in fitted(box.told(), SMALL, room) if line]
+    if box.end:
+        fill = PALE if box.end == NO_REPLY else HELP if box.call else HARM
+        lines += [(line, "bold", fill) for line in fitted("\N{RIGHTWARDS ARROW} " + box.end, TEXT, room, "bold")]
+    height = LINE * len(lines) + 8.0
+    sheet.box(x + 14, y, width - 22, height, "#f6f6f6", "#b0b0b0", 0.8, corners=3)
+    for at, (line, weight, fill) in enumerate(lines):
+        sheet.text(x + 20, y + 15 + LINE * at, line, None if weight else SMALL, fill, weight=weight)
+    return height
+
+
+def draw_certificate(name, lines, first=0, last=None):
+    """The SVG of a certificate: a column for each caller, and a bar beside each call, from its begin to its end."""
+    callers, events, replies = read_certificate(name, lines)
+    if not 1 <= callers <= MOST_CALLERS:
+        sys.exit("%s: a run has 1 to %d callers, and this certificate has %d scripts" % (name, MOST_CALLERS, callers))
+    boxes = [box for box in folded(events, replies) if box.last >= first and (last is None or box.first <= last)]
+    if len(boxes) > MOST_BOXES:
+        sys.exit("%s: %d boxes are too many to draw: say from which event to which, as in `timeline.py %s 0 1000`" % (name, len(boxes), name))
+    sheet, y, column = Sheet(), 92.0, min((WIDTH - 2 * MARGIN - STEPS) / callers, 300.0)
+    left = [MARGIN + STEPS + column * caller for caller in range(callers)]
+    title = os.path.basename(name)
+    story = "%s, folded into %s. A bar is a call, from its begin to its end; bars side by side are calls at one time." % (
+        counted(len(events), "event", "events"), counted(len(boxes), "box", "boxes"))
+    sheet.text(MARGIN, 24, title, 17, weight="bold")
+    sheet.text(MARGIN, 46, story)
+    sheet.text(MARGIN + STEPS - 8, 76, "event", SMALL, PALE, "end")
+    for caller, x in enumerate(left):
+        sheet.text(x + 14, 76, "caller %d" % caller, weight="bold")
+    sheet.line(MARGIN, 84, WIDTH - MARGIN, 84, width=1.2)
+    bottom = {}
+    for box in boxes:
+        x = left[box.caller]
+        height = draw_box(sheet, box, x, y, column)
+        top = bottom.get(box.before, y)
+        sheet.box(x + 4, top, 6, y + height - top, HELP if box.call else HARM)
+        sheet.text(MARGIN + STEPS - 8, y + 15, str(box.first), SMALL, PALE, "end")
+        y += height + 4
+        bottom[box] = y - 4
+    return page(y + 6, title, story, sheet.parts)
+
+
+def draw_folder(folder, into):
+    """Draws what stands in a folder."""
+    for path in sorted(glob.glob(os.path.join(folder, "*.run"))):
         run = read(path)
         pictures = [(os.path.basename(path)[:-4], run.rows)] + ([(run.small, parts_alone(run.rows))] if run.small else [])
         for name, rows in pictures:
-            with open(os.path.join(here, name + ".svg"), "w", encoding="utf-8") as out:
-                out.write(Drawing(run, rows).svg())
+            write(into, name, Drawing(run, rows).svg())
+    for path in sorted(glob.glob(os.path.join(folder, "*.cert"))):
+        with open(path, encoding="ascii") as lines:
+            write(into, os.path.basename(path)[:-5], draw_certificate(path, lines))
+
+
+def write(folder, name, picture):
+    with open(os.path.join(folder, name + ".svg"), "w", encoding="utf-8") as out:
+        out.write(picture)
+
+
+def main():
+    words = sys.argv[1:]
+    if not words:
+        here = os.path.dirname(os.path.realpath(__file__))
+        return draw_folder(here, here)
+    if len(words) > 3 or (words[0].startswith("-") and words[0] != "-") or not all(word.isdigit() for word in words[1:]):
+        sys.exit(__doc__[__doc__.index("usage"):__doc__.index("It needs")].rstrip())
+    with open(0 if words[0] == "-" else words[0], encoding="ascii", errors="replace") as lines:
+        picture = draw_certificate("standard input" if words[0] == "-" else words[0], lines, *map(int, words[1:]))
+    sys.stdout.buffer.write(picture.encode("utf-8"))
 
 
 if __name__ == "__main__":

@@ -6,7 +6,7 @@ use Rattle.std.proofs.lemmas.Bool.Decides.{nat_tests}
 use Rattle.norm_lang.specs.declared.text.Text.{Text}
 use Rattle.norm_lang.specs.LineWords.{is_name}
 use Rattle.norm_lang.specs.Declarations.{is_reserved}
-use Rattle.norm_lang.specs.Limits.{are_kinds, are_fields, are_nodes, are_roots, has_between, are_different}
+use Rattle.norm_lang.specs.Limits.{are_kinds, are_fields, are_nodes, are_roots, has_between, are_different, owners_of}
 use Rattle.norm_paths.proofs.Within.{and_left, and_right, all_get}
 use Rattle.target_code.specs.declared.target.TargetInstr.{TargetInstr}
 use Rattle.target_code.specs.declared.target.TargetOp.{TargetOp}
@@ -21,9 +21,9 @@ use Rattle.barrier_check.proofs.Differing.{length_map}
 target_ops_within : (target : Target) → IsTargetWithinLimits target → IsTrue (are_target_ops (length target.kinds) (length target.fields) (length target.roots) target.ops)
 target_ops_within target within =
     let ops = are_target_ops (length target.kinds) (length target.fields) (length target.roots) target.ops in
-    let roots = are_roots (length target.nodes) target.roots in
-    let nodes = are_nodes target.fields target.nodes in
-    let fields = are_fields target.fields in
+    let roots = are_roots (length target.kinds) (owners_of target.nodes) target.roots in
+    let nodes = are_nodes (length target.kinds) target.fields target.nodes in
+    let fields = are_fields (length target.kinds) target.fields in
     and_right roots ops
     (and_right nodes (roots && ops) (and_right fields (nodes && (roots && ops)) (and_right (are_kinds target.kinds) (fields && (nodes && (roots && ops))) within)))
 

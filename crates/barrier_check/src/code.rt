@@ -2,6 +2,7 @@
 
 ghost use Rattle.std.specs.Prelude.{◌≡◌, None, IfOk, option_copied};
 ghost use Rattle.std.specs.Bool.{Decides};
+ghost use Rattle.norm_lang.specs.declared.text.Instr.TheVariants.{Cas, Jump, IfEq, IfLess, IfMarked, Commit};
 ghost use Rattle.target_code.specs.Erasing.{redirected, plain_code, erased_code};
 ghost use Rattle.barrier_check.specs.SourcePlaces.{place_by};
 ghost use Rattle.barrier_check.specs.SourceCode.{Leaves};
@@ -10,27 +11,63 @@ ghost use Rattle.barrier_check.specs.Contents.{content_of};
 use crate::content::content_of;
 use crate::places::Places;
 use crate::same::{Same, are_same};
-use norm_lang::text::Instr;
+use norm_lang::text::{CasEntry, Instr, Reg};
 use std::alloc::{AllocError, Global};
 use target_code::target::TargetInstr;
+
+/// Whether an instruction of a text is this exchange, with its jump to this place.
+fn is_cas(entry: &CasEntry, place: usize, source: &Instr) -> bool
+    ensures { Decides result (Cas entry.now place ≡ source.now) }
+{
+    matches!(source, Instr::Cas(other, l) if entry.is_same(other) && place == *l as usize)
+}
+
+/// Whether an instruction of a text is a jump to this place.
+fn is_jump(place: usize, source: &Instr) -> bool
+    ensures { Decides result (Jump place ≡ source.now) }
+{
+    matches!(source, Instr::Jump(l) if place == *l as usize)
+}
+
+/// Whether an instruction of a text is this branch, to this place.
+fn is_if_equal(a: Reg, b: Reg, place: usize, source: &Instr) -> bool
+    ensures { Decides result (IfEq a b place ≡ source.now) }
+{
+    matches!(source, Instr::IfEq(f, g, l) if (a, b, place) == (*f, *g, *l as usize))
+}
+
+/// Whether an instruction of a text is this branch, to this place.
+fn is_if_less(a: Reg, b: Reg, place: usize, source: &Instr) -> bool
+    ensures { Decides result (IfLess a b place ≡ source.now) }
+{
+    matches!(source, Instr::IfLess(f, g, l) if (a, b, place) == (*f, *g, *l as usize))
+}
+
+/// Whether an instruction of a text is this branch, to this place.
+fn is_if_marked(a: Reg, place: usize, source: &Instr) -> bool
+    ensures { Decides result (IfMarked a place ≡ source.now) }
+{
+    matches!(source, Instr::IfMarked(f, l) if (a, place) == (*f, *l as usize))
+}
+
+/// Whether an instruction of a text is this commit.
+fn is_commit(entries: &[CasEntry], source: &Instr) -> bool
+    ensures { Decides result (Commit entries.now ≡ source.now) }
+{
+    matches!(source, Instr::Commit(others) if are_same(entries, others.items()))
+}
 
 /// Whether an instruction that jumps or commits, its jump taken to the place in the source, is that of a text.
 fn is_jump_or_commit(places: &Places, instr: &Instr, source: &Instr) -> bool
     ensures { content_of instr.now ≡ None → Decides result (redirected (place_by places.now) instr.now ≡ source.now) }
 {
     match instr {
-        Instr::Cas(i, l) =>
-            matches!(source, Instr::Cas(j, m) if i.is_same(j) && places.at(*l) == *m as usize),
-        Instr::Jump(l) => matches!(source, Instr::Jump(m) if places.at(*l) == *m as usize),
-        Instr::IfEq(a, b, l) => {
-            matches!(source, Instr::IfEq(f, g, m) if (a, b, places.at(*l)) == (f, g, *m as usize))
-        }
-        Instr::IfLess(a, b, l) => {
-            matches!(source, Instr::IfLess(f, g, m) if (a, b, places.at(*l)) == (f, g, *m as usize))
-        }
-        Instr::IfMarked(a, l) =>
-            matches!(source, Instr::IfMarked(f, m) if (a, places.at(*l)) == (f, *m as usize)),
-        Instr::Commit(i) => matches!(source, Instr::Commit(j) if are_same(i.items(), j.items())),
+        Instr::Cas(entry, l) => is_cas(entry, places.at(*l), source),
+        Instr::Jump(l) => is_jump(places.at(*l), source),
+        Instr::IfEq(a, b, l) => is_if_equal(*a, *b, places.at(*l), source),
+        Instr::IfLess(a, b, l) => is_if_less(*a, *b, places.at(*l), source),
+        Instr::IfMarked(a, l) => is_if_marked(*a, places.at(*l), source),
+        Instr::Commit(entries) => is_commit(entries.items(), source),
         _ => false,
     }
 }

@@ -1,9 +1,10 @@
 //! Judging the instructions of a target: one, a method, an operation, and all operations.
 
-ghost use Rattle.std.specs.Prelude.{◌≡◌, ◌≤◌, Bool, Some, slice_get, length, IfOk};
+ghost use Rattle.std.specs.Prelude.{◌≡◌, ◌≤◌, Bool, [], Some, slice_get, length, IfOk};
 ghost use Rattle.norm_lang.specs.Limits.{IsWithinLimits};
 ghost use Rattle.norm_check.specs.KeptTable.{AreKeptOf};
 ghost use Rattle.norm_paths.specs.Found.{AreKept, IsOpWithin};
+ghost use Rattle.norm_paths.specs.OpFound.{AreOpFacts};
 ghost use Rattle.target_code.specs.Barred.{HasFlaw};
 ghost use Rattle.target_code.specs.Paths.{target_code_of};
 ghost use Rattle.target_code.specs.TargetLimits.{IsTargetWithinLimits};
@@ -81,8 +82,30 @@ fn judge_instr(
     }
 }
 
-/// Judges the instructions of a method, up to the first that has a flaw.
+/// Judges the instructions of a method by what is known of it, up to the first that has a flaw.
 #[tactic(auto, using(crate::proofs::Parts::none_above, crate::proofs::Parts::one_further, crate::proofs::Whole::whole_method))]
+fn judge_code(
+    subject: &Subject,
+    needs: &Needs,
+    facts: &TargetFacts,
+    wrapup: bool,
+    code: &[TargetInstr],
+) -> Result<(), VerifyError>
+    requires subject { IsSubject subject.now.target.now subject.now.text.now subject.now.number subject.now.op.now subject.now.source.now }
+    requires within { IsOpWithin subject.now.source.now }
+    requires limits { IsTargetOpWithin subject.now.op.now }
+    requires needs { AreNeeds subject.now.source.now needs.now }
+    requires facts { AreTargetFacts (target_code_of subject.now.op.now wrapup) facts.now }
+    requires code { code.now ≡ target_code_of subject.now.op.now wrapup }
+    ensures { Judges (HasFlaw subject.now.target.now subject.now.text.now) (InMethod subject.now.number wrapup) result }
+{
+    for (at, instr) in code.iter().enumerate() {
+        judge_instr(subject, needs, facts, wrapup, at, instr)?;
+    }
+    Ok(())
+}
+
+/// Judges the instructions of a method, up to the first that has a flaw.
 fn judge_method(
     alloc: Global,
     subject: &Subject,
@@ -97,10 +120,7 @@ fn judge_method(
 {
     let code = code_of(subject.op, wrapup);
     let facts = TargetFacts::of_code(alloc, code)?;
-    for (at, instr) in code.iter().enumerate() {
-        judge_instr(subject, needs, &facts, wrapup, at, instr)?;
-    }
-    Ok(())
+    judge_code(subject, needs, &facts, wrapup, code)
 }
 
 /// Judges both methods of an operation, the generator first.
@@ -116,6 +136,36 @@ fn judge_methods(alloc: Global, subject: &Subject, needs: &Needs) -> Result<(), 
     judge_method(alloc, subject, needs, true)
 }
 
+/// Judges an operation of a target by what is known of the text's.
+fn judge_by(alloc: Global, subject: &Subject, facts: &OpFacts) -> Result<(), VerifyError>
+    requires subject { IsSubject subject.now.target.now subject.now.text.now subject.now.number subject.now.op.now subject.now.source.now }
+    requires within { IsOpWithin subject.now.source.now }
+    requires limits { IsTargetOpWithin subject.now.op.now }
+    requires facts { AreOpFacts subject.now.source.now facts.now }
+    ensures { Judges (HasFlaw subject.now.target.now subject.now.text.now) (InOp subject.now.number) result }
+{
+    let needs = Needs::of_op(subject.source, facts);
+    judge_methods(alloc, subject, &needs)
+}
+
+/// What is kept, where the operation has no flaw. It stands alone, since what is known of the operation would be dropped
+/// on each way out.
+fn with_kept(
+    _subject: &Subject,
+    kept: Kept,
+    judged: Result<(), VerifyError>,
+) -> Result<Kept, VerifyError>
+    requires judges { Judges (HasFlaw _subject.now.target.now _subject.now.text.now) (InOp _subject.now.number) judged }
+    requires kept { AreKept _subject.now.source.now kept }
+    ensures judges { Judges (HasFlaw _subject.now.target.now _subject.now.text.now) (InOp _subject.now.number) result }
+    ensures kept { IfOk result (AreKept _subject.now.source.now) }
+{
+    match judged {
+        Ok(()) => Ok(kept),
+        Err(error) => Err(error),
+    }
+}
+
 /// Judges an operation of a target, and answers which references the wrap-up of the text's operation keeps.
 #[tactic(auto, using(norm_check::proofs::Tables::sized))]
 fn judge_op(alloc: Global, subject: &Subject) -> Result<Kept, VerifyError>
@@ -126,14 +176,44 @@ fn judge_op(alloc: Global, subject: &Subject) -> Result<Kept, VerifyError>
     ensures kept { IfOk result (AreKept subject.now.source.now) }
 {
     let facts = OpFacts::of_op(alloc, subject.source)?;
-    let needs = Needs::of_op(subject.source, &facts);
-    judge_methods(alloc, subject, &needs)?;
-    Ok(facts.kept)
+    let judged = judge_by(alloc, subject, &facts);
+    with_kept(subject, facts.kept, judged)
+}
+
+/// Judges a target for a text with as many operations, and adds which references the wrap-up of each of the text's
+/// operations keeps.
+#[tactic(auto, using(crate::proofs::Parts::none_earlier, crate::proofs::Parts::one_operation_further, crate::proofs::Whole::all_operations, crate::proofs::Parts::flawed_anywhere, norm_check::proofs::Tables::no_table, norm_check::proofs::Tables::one_kept_further, norm_check::proofs::Tables::all_kept, norm_check::proofs::Tables::op_within, norm_check::proofs::Tables::few_ops))]
+fn add_judged(
+    table: &mut Listed<Kept>,
+    alloc: Global,
+    target: &Target,
+    text: &Text,
+) -> Result<(), VerifyError>
+    requires target { IsTargetWithinLimits target.now }
+    requires text { IsWithinLimits text.now }
+    requires count { length target.now.ops ≡ length text.now.ops }
+    requires empty { table.old ≡ [] }
+    ensures judges { Judges (HasFlaw target.now text.now) Anywhere result }
+    ensures kept { IfOk result (λ _. AreKeptOf text.now table.new) }
+{
+    let ops = target.ops.items();
+    let sources = text.ops.items();
+    for (number, op) in ops.iter().enumerate() {
+        let subject = Subject {
+            target,
+            text,
+            number: number as u8,
+            op,
+            source: &sources[number],
+        };
+        let kept = judge_op(alloc, &subject)?;
+        table.push(kept)?;
+    }
+    Ok(())
 }
 
 /// Judges a target for a text with as many operations, and answers which references the wrap-up of each of the text's
 /// operations keeps. The cost grows with the count of instructions.
-#[tactic(auto, using(crate::proofs::Parts::none_earlier, crate::proofs::Parts::one_operation_further, crate::proofs::Whole::all_operations, crate::proofs::Parts::flawed_anywhere, norm_check::proofs::Tables::no_table, norm_check::proofs::Tables::one_kept_further, norm_check::proofs::Tables::all_kept, norm_check::proofs::Tables::op_within, norm_check::proofs::Tables::few_ops))]
 pub(crate) fn judge_ops(
     alloc: Global,
     target: &Target,
@@ -146,17 +226,6 @@ pub(crate) fn judge_ops(
     ensures kept { IfOk result (λ table. AreKeptOf text.now table) }
 {
     let mut table = Listed::empty(alloc);
-    let ops = target.ops.items();
-    let sources = text.ops.items();
-    for (number, op) in ops.iter().enumerate() {
-        let subject = Subject {
-            target,
-            text,
-            number: number as u8,
-            op,
-            source: &sources[number],
-        };
-        table.push(judge_op(alloc, &subject)?)?;
-    }
+    add_judged(&mut table, alloc, target, text)?;
     Ok(table)
 }

@@ -17,7 +17,7 @@ use Rattle.norm_lang.specs.declared.text.Text.{Text}
 use Rattle.norm_lang.specs.LineWords.{is_name}
 use Rattle.norm_lang.specs.Declarations.{is_reserved}
 use Rattle.norm_lang.specs.Grammar.{is_new, news_in, news_of}
-use Rattle.norm_lang.specs.Limits.{has_between, are_different, is_register, is_target, is_place, is_retire, is_entry, is_instr, is_method, is_op, are_kinds, are_fields, are_nodes, are_roots, are_ops, IsWithinLimits}
+use Rattle.norm_lang.specs.Limits.{has_between, are_different, is_register, is_target, is_place, is_retire, is_entry, is_instr, is_method, is_op, are_kinds, are_fields, are_nodes, are_roots, are_ops, IsWithinLimits, owners_of}
 use Rattle.norm_lang.specs.RegisterUse.{same_register, objects_of, operands_of}
 use Rattle.norm_lang.specs.Kept.{holds_reference}
 use Rattle.norm_lang.specs.PathRules.{is_commit}
@@ -244,9 +244,9 @@ ops_within marks all kinds fields roots ops is =
 pub scheme_is_within : (marks : List Instr → List Marked) → MarksAll marks → (text : Text) → IsWithinLimits text → IsTargetWithinLimits (scheme marks text)
 scheme_is_within marks all text =
     let kinds = are_kinds text.kinds in
-    let fields = are_fields text.fields in
-    let nodes = are_nodes text.fields text.nodes in
-    let roots = are_roots (length text.nodes) text.roots in
+    let fields = are_fields (length text.kinds) text.fields in
+    let nodes = are_nodes (length text.kinds) text.fields text.nodes in
+    let roots = are_roots (length text.kinds) (owners_of text.nodes) text.roots in
     let before = are_ops (length text.kinds) (length text.fields) (length text.roots) text.ops in
     let after = are_target_ops (length text.kinds) (length text.fields) (length text.roots) (map (scheme_op marks) text.ops) in
     and_kept kinds (fields && (nodes && (roots && before))) (fields && (nodes && (roots && after)))

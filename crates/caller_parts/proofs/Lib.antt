@@ -3,3 +3,5 @@ pub mod News
 pub mod Slots
 pub mod Turns
 pub mod Emptying
+pub mod Tables
+pub mod KindCounts

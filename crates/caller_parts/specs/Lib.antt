@@ -1,4 +1,6 @@
 pub mod Pairing
+pub mod KindCounts
+pub mod FieldTables
 pub mod Settings
 pub mod Calls
 pub mod Operands

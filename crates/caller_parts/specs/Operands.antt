@@ -1,5 +1,5 @@
 -- What a caller's instruction works on: registers as words and as slots, the code of a method, exchanges, cradles.
-use Rattle.std.specs.Prelude.{ℕ, zero, suc, ◌+◌, ◌<◌, ◌^◌, Bool, true, false, ◌&&◌, not, List, [], Option, Some, None, ◌==◌, if◌then◌else◌, slice_get}
+use Rattle.std.specs.Prelude.{ℕ, zero, suc, ◌+◌, ◌*◌, ◌<◌, ◌^◌, Bool, true, false, ◌&&◌, not, List, [], Option, Some, None, ◌==◌, if◌then◌else◌, slice_get}
 use Rattle.norm_lang.specs.declared.text.Reg.{Reg}
 use Rattle.norm_lang.specs.declared.text.Reg.TheVariants.{Num, Ref}
 use Rattle.norm_lang.specs.declared.text.Place.{Place}
@@ -88,18 +88,32 @@ abbrev pub is_new_at : Option TargetInstr → Bool
 is_new_at None = false
 is_new_at (Some i) = is_target_new i
 
--- how many `new` stand before a place
-abbrev pub news_before : List TargetInstr → ℕ → ℕ
-news_before code zero = 0
-news_before code (suc n) = if is_new_at (slice_get code n) then news_before code n + 1 else news_before code n
+-- a `new` of a node of a kind
+abbrev pub is_new_of : ℕ → Option TargetInstr → Bool
+is_new_of kind (Some (Plain (instr.New d k))) = k == kind
+is_new_of kind _ = false
 
--- how many cradles a caller has
+-- the kind of the node that a `new` makes; for any other instruction the first
+abbrev pub kind_made : Option TargetInstr → ℕ
+kind_made (Some (Plain (instr.New d kind))) = kind
+kind_made _ = 0
+
+-- how many `new` of a kind stand before a place
+abbrev pub news_before : ℕ → List TargetInstr → ℕ → ℕ
+news_before kind code zero = 0
+news_before kind code (suc n) = if is_new_of kind (slice_get code n) then news_before kind code n + 1 else news_before kind code n
+
+-- how many cradles a caller has: four for each of four kinds
 abbrev pub cradle_count : ℕ
-cradle_count = 4
+cradle_count = 16
 
--- which of them is that of the `new` at a place: they go by instruction order
+-- which of them is that of a `new` of a kind at a place: those of a kind go by instruction order
+abbrev pub cradle_of_kind : ℕ → List TargetInstr → ℕ → ℕ
+cradle_of_kind kind code at = 4 * kind + news_before kind code at
+
+-- the same by the place
 abbrev pub cradle_number : List TargetInstr → ℕ → ℕ
-cradle_number code at = news_before code at
+cradle_number code at = cradle_of_kind (kind_made (slice_get code at)) code at
 
 -- the register that a `new` sets gets the unmarked reference
 abbrev pub with_new : Option TargetInstr → ℕ → Registers → Registers

@@ -1,37 +1,50 @@
 -- What a run is told once.
-use Rattle.std.specs.Prelude.{◌≡◌, ℕ, ◌≤◌, ◌^◌, Bool, ◌&&◌, nat_le, nat_lt, if◌then◌else◌, Result, Ok, Err, length}
+use Rattle.std.specs.Prelude.{◌≡◌, ℕ, zero, suc, ◌≤◌, ◌<◌, ◌^◌, Bool, true, ◌&&◌, List, nat_le, if◌then◌else◌, Result, Ok, Err, length, slice_index}
 use Rattle.oa_words.specs.Words.{Sizes}
+use Rattle.oa_words.specs.SlotKinds.{slots_of}
 use Rattle.oa_words.specs.Within.{AreSizes}
 use Rattle.target_code.specs.declared.target.Target.{Target}
+use Rattle.caller_parts.specs.KindCounts.{greatest_count, node_counts}
 use Rattle.caller_parts.specs.declared.setting.SettingFault.{SettingFault}
 use Rattle.caller_parts.specs.declared.setting.SettingFault.TheVariants as faults
 
--- the sizes of the row, the first and the last phase, and the count of initial nodes
+-- the sizes of the row, the first and the last phase, and how many initial nodes each of four kinds has
 pub record Setting : Type 0 where
   pub sizes : Sizes
   pub first : ℕ
   pub last : ℕ
-  pub nodes : ℕ
+  pub nodes : List ℕ
 
--- a setting fits a target: as many fields, roots and initial nodes
+-- a setting fits a target: as many kinds and roots, as many fields as the kind with the most, and as many initial nodes of each kind
 pub record Fits (target : Target) (setting : Setting) : Type 0 where
-  pub fields : setting.sizes.fields ≡ length target.fields
+  pub kinds : length setting.sizes.kinds ≡ length target.kinds
+  pub fields : setting.sizes.fields ≡ greatest_count target
   pub cells : setting.sizes.cells ≡ length target.roots
-  pub nodes : setting.nodes ≡ length target.nodes
+  pub nodes : setting.nodes ≡ node_counts target
 
--- what every setting keeps: sizes within the limits, phases from 1 to 2^50, and no more initial nodes than slots
+-- no kind of the row has more initial nodes than slots; numbers past the kinds aren't judged
+abbrev pub HaveSlots : Sizes → List ℕ → Type 0
+HaveSlots sizes nodes = (t : ℕ) → t < length sizes.kinds → slice_index nodes t ≤ slots_of sizes t
+
+-- what every setting keeps: sizes within the limits, phases from 1 to 2^50, and slots for its initial nodes
 pub record IsSetting (setting : Setting) : Type 0 where
   pub sizes : AreSizes setting.sizes
   pub first : 1 ≤ setting.first
   pub phases : setting.first ≤ setting.last
   pub last : setting.last ≤ 2 ^ 50
-  pub nodes : setting.nodes ≤ setting.sizes.slots
+  pub nodes : HaveSlots setting.sizes setting.nodes
 
 abbrev pub are_phases : ℕ → ℕ → Bool
 are_phases first last = nat_le 1 first && (nat_le first last && nat_le last (2 ^ 50))
 
+-- whether none of the first so many kinds has more initial nodes than slots
+abbrev pub have_slots : Sizes → List ℕ → ℕ → Bool
+have_slots sizes nodes zero = true
+have_slots sizes nodes (suc t) = have_slots sizes nodes t && nat_le (slice_index nodes t) (slots_of sizes t)
+
 -- a setting, or the fault for which it is refused
 abbrev pub setting_or_fault : Setting → Result Setting SettingFault
 setting_or_fault setting =
-    if nat_lt setting.sizes.slots setting.nodes then Err faults.Nodes
-    else (if are_phases setting.first setting.last then Ok setting else Err faults.Phases)
+    if have_slots setting.sizes setting.nodes (length setting.sizes.kinds)
+    then (if are_phases setting.first setting.last then Ok setting else Err faults.Phases)
+    else Err faults.Nodes

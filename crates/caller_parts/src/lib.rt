@@ -3,6 +3,8 @@
 #![tactic(auto)]
 
 pub mod call;
+pub mod counts;
+pub mod fields;
 pub mod local;
 pub mod operands;
 pub mod program;
@@ -11,6 +13,7 @@ pub mod routine;
 pub mod setting;
 
 pub use call::{Call, Replied, Reply, Running};
+pub use fields::FieldTable;
 pub use program::Program;
 pub use replies::Replies;
 pub use routine::{AfterClear, AfterRetire, MethodStart, Routine};

@@ -1,7 +1,7 @@
 //! What an instruction works on: registers as words, slots, exchanges of a list, cradles.
 
-ghost use Rattle.std.specs.Prelude.{◌≡◌, ◌<◌, ◌≤◌, option_copied, slice_get, slice_set, map};
-ghost use Rattle.caller_parts.specs.Operands.{word_in, with_word, slot_in, list_of, is_new_at, news_before, cradle_number, has_object, succeeds, to_retire, emptied, with_new, AreSlots};
+ghost use Rattle.std.specs.Prelude.{◌≡◌, ◌<◌, ◌≤◌, length, option_copied, slice_get, slice_set, map};
+ghost use Rattle.caller_parts.specs.Operands.{word_in, with_word, slot_in, list_of, is_new_of, kind_made, news_before, cradle_of_kind, cradle_number, has_object, succeeds, to_retire, emptied, with_new, AreSlots};
 
 use crate::local::instr_at;
 use norm_lang::registers::{
@@ -95,19 +95,34 @@ pub fn exchange_at(list: &[CasEntry], k: usize) -> Option<&CasEntry>
     list.get(k)
 }
 
-fn is_new_at(instr: Option<&TargetInstr>) -> bool
-    ensures { result ≡ is_new_at (option_copied instr.entry) }
+/// Whether it is a `new` of a node of a kind.
+fn is_new_of(kind: u8, instr: Option<&TargetInstr>) -> bool
+    ensures { result ≡ is_new_of kind (option_copied instr.entry) }
 {
-    matches!(instr, Some(TargetInstr::Plain(Instr::New(..))))
+    match instr {
+        Some(TargetInstr::Plain(Instr::New(_, made))) => *made == kind,
+        _ => false,
+    }
 }
 
-/// How many `new` stand before a place.
-fn news_before(code: &[TargetInstr], at: usize) -> usize
-    ensures { result ≡ news_before code.now at }
+/// The kind of the node that a `new` makes; for any other instruction the first.
+pub fn kind_made(instr: Option<&TargetInstr>) -> u8
+    ensures { result ≡ kind_made (option_copied instr.entry) }
+{
+    match instr {
+        Some(TargetInstr::Plain(Instr::New(_, kind))) => *kind,
+        _ => 0,
+    }
+}
+
+/// How many `new` of a kind stand before a place.
+fn news_before(kind: u8, code: &[TargetInstr], at: usize) -> usize
+    ensures same { result ≡ news_before kind code.now at }
+    ensures few { result ≤ length code.now }
 {
     let mut count = 0;
     for place in 0..at {
-        if is_new_at(instr_at(code, place)) {
+        if is_new_of(kind, instr_at(code, place)) {
             count += 1;
         }
     }
@@ -118,7 +133,9 @@ fn news_before(code: &[TargetInstr], at: usize) -> usize
 pub fn cradle_number(code: &[TargetInstr], at: usize) -> usize
     ensures { result ≡ cradle_number code.now at }
 {
-    news_before(code, at)
+    let _length = code.len();
+    let kind = kind_made(instr_at(code, at));
+    4 * kind as usize + news_before(kind, code, at)
 }
 
 /// Puts the unmarked reference to a slot into the register that a `new` sets.
@@ -145,7 +162,7 @@ pub fn put_cradle(cradles: &mut [u32], k: usize, slot: u32)
 
 /// Empties each cradle that holds a slot.
 #[tactic(auto, using(crate::proofs::Emptying::map_turn))]
-pub fn empty_cradles(cradles: &mut [u32; 4], slot: u32)
+pub fn empty_cradles(cradles: &mut [u32; 16], slot: u32)
     ensures { cradles.new ≡ map (emptied slot) cradles.old }
 {
     for cradle in cradles.iter_mut() {

@@ -2,37 +2,48 @@
 
 ghost use Rattle.std.specs.Prelude.{◌≡◌, slice_get, slice_index_or, option_copied};
 ghost use Rattle.norm_lang.specs.KindFields.{place_of};
+ghost use Rattle.caller_parts.specs.KindCounts.{field_count};
+ghost use Rattle.caller_parts.specs.FieldTables.{IsFieldTable};
 ghost use Rattle.caller_parts.specs.Operands.{method_code};
 ghost use Rattle.caller_parts.specs.Spared.{kept_by, none_spared, KeptIs};
 
+use crate::fields::FieldTable;
+use norm_lang::fields::{count_of, place_of};
 use std::marker::Model;
 use target_code::target::{Target, TargetInstr, TargetOp};
 
-/// A target, and for each of its operations which of the reference registers r0 to r7 its wrap-up keeps.
+/// A target, for each of its operations which of the reference registers r0 to r7 its wrap-up keeps, and the table of its fields.
 #[derive(Drop)]
 pub struct Program<'a> {
     target: &'a Target,
     kept: &'a [[bool; 8]],
+    table: &'a FieldTable,
 }
 
 impl<'a> Model for Program<'a> {
     ghost use Rattle.target_code.specs.declared.target.Target.{Target};
     ghost use Rattle.caller_parts.specs.Spared.{KeptIs};
+    ghost use Rattle.caller_parts.specs.FieldTables.{IsFieldTable};
 
     ghost Value = { Target };
 
     ghost view = { λ p. p.target.now };
 
-    ghost invariant = { λ p. KeptIs p.target.now p.kept.now };
+    ghost invariant = { λ p. KeptIs p.target.now p.kept.now × IsFieldTable p.target.now.fields p.table.now };
 }
 
 impl<'a> Program<'a> {
-    /// A target with its table of kept registers.
-    pub fn new(target: &'a Target, kept: &'a [[bool; 8]]) -> Program<'a>
-        requires { KeptIs target.now kept.now }
+    /// A target with its tables, of kept registers and of fields.
+    pub fn new(target: &'a Target, kept: &'a [[bool; 8]], table: &'a FieldTable) -> Program<'a>
+        requires kept { KeptIs target.now kept.now }
+        requires fields { IsFieldTable target.now.fields table.now }
         ensures { result ≡ target.now }
     {
-        Program { target, kept }
+        Program {
+            target,
+            kept,
+            table,
+        }
     }
 
     /// The code of a method; none where the target has no such operation.
@@ -51,11 +62,25 @@ impl<'a> Program<'a> {
         }
     }
 
-    /// The place of a field among those of its kind, which is the field's number.
-    pub fn place_of(&self, field: u8) -> u8
+    /// The place of a field among those of its kind.
+    #[tactic(auto, using(crate::proofs::Tables::place_small))]
+    pub fn place_of(&self, field: u8) -> u32
         ensures { result ≡ place_of self.now.fields field }
     {
-        field
+        match self.table.places.get(field as usize) {
+            Some(place) => *place as u32,
+            None => place_of(self.target.fields.items(), field) as u32,
+        }
+    }
+
+    /// How many fields a kind has.
+    pub fn field_count(&self, kind: u8) -> usize
+        ensures { result ≡ field_count self.now.fields kind }
+    {
+        match self.table.counts.get(kind as usize) {
+            Some(count) => *count,
+            None => count_of(self.target.fields.items(), kind),
+        }
     }
 
     /// What an operation's wrap-up keeps.

@@ -1,7 +1,7 @@
 //! What a run is told once.
 
-ghost use Rattle.std.specs.Prelude.{◌≡◌, ◌≤◌, ◌^◌};
-ghost use Rattle.caller_parts.specs.Settings.{setting_or_fault, IsSetting};
+ghost use Rattle.std.specs.Prelude.{◌≡◌, ◌≤◌, ◌^◌, length};
+ghost use Rattle.caller_parts.specs.Settings.{setting_or_fault, have_slots, HaveSlots, IsSetting};
 
 use oa_words::shape::Shape;
 use std::marker::Model;
@@ -9,20 +9,20 @@ use std::marker::Model;
 /// Why a setting is refused.
 #[derive(Clone, Copy, Debug, PartialEq, Eq)]
 pub enum SettingFault {
-    /// There are more initial nodes than slots.
+    /// A kind has more initial nodes than slots.
     Nodes,
     /// The phases aren't in order, from 1 to 2^50.
     Phases,
 }
 
-/// The shape of the row of words, the first and the last phase, and how many initial nodes there are: no more than slots.
+/// The shape of the row of words, the first and the last phase, and how many initial nodes each kind has: no more than slots.
 /// Phases are from 1 to 2^50.
 #[derive(Drop)]
 pub struct Setting {
     shape: Shape,
     first: u64,
     last: u64,
-    nodes: u32,
+    nodes: [u32; 4],
 }
 
 impl Model for Setting {
@@ -35,20 +35,33 @@ impl Model for Setting {
     ghost invariant = { λ s. IsSetting (record { sizes = s.shape; first = s.first; last = s.last; nodes = s.nodes }) };
 }
 
+/// Whether each kind has a slot for each of its initial nodes.
+fn have_slots(shape: &Shape, nodes: &[u32; 4]) -> bool
+    ensures { result ≡ have_slots shape.now nodes.now (length shape.now.kinds) }
+{
+    let mut fit = true;
+    for kind in 0..shape.kinds() {
+        fit = fit && nodes[kind as usize] <= shape.slots_of(kind);
+    }
+    fit
+}
+
 impl Setting {
-    /// A setting of a shape, the first and the last phase, and a count of initial nodes.
+    /// A setting of a shape, the first and the last phase, and the counts of initial nodes of the kinds; numbers past the kinds aren't
+    /// judged.
     ///
     /// # Errors
-    /// `Nodes` where there are more initial nodes than slots, else `Phases` where `1 <= first_phase <= last_phase <= 2^50` fails.
+    /// `Nodes` where a kind has more initial nodes than slots, else `Phases` where `1 <= first_phase <= last_phase <= 2^50` fails.
+    #[tactic(auto, using(crate::proofs::KindCounts::kinds_have_slots))]
     pub fn new(
         shape: Shape,
         first_phase: u64,
         last_phase: u64,
-        nodes: u32,
+        nodes: [u32; 4],
     ) -> Result<Setting, SettingFault>
         ensures { result ≡ setting_or_fault (record { sizes = shape; first = first_phase; last = last_phase; nodes = nodes }) }
     {
-        if nodes > shape.slots() {
+        if !have_slots(&shape, &nodes) {
             return Err(SettingFault::Nodes);
         }
         if !(1 <= first_phase && first_phase <= last_phase && last_phase <= 1 << 50) {
@@ -92,10 +105,10 @@ impl Setting {
         self.last
     }
 
-    /// How many initial nodes there are.
-    pub fn nodes(&self) -> u32
+    /// How many initial nodes each kind has.
+    pub fn nodes(&self) -> [u32; 4]
         ensures same { result ≡ self.now.nodes }
-        ensures few { result ≤ self.now.sizes.slots }
+        ensures few { HaveSlots self.now.sizes result }
     {
         self.nodes
     }

@@ -1,7 +1,7 @@
 //! Callers on the words of a table, call by call and step by step, on one thread.
 
 ghost use Rattle.std.specs.Prelude.{◌≡◌, length, IfOk};
-ghost use Rattle.table_rule.specs.Rule.{callers_of};
+ghost use Rattle.word_runner.specs.table_rule.Rule.{callers_of};
 ghost use Rattle.word_runner.specs.Shown.{CameFrom};
 
 use crate::hall::{Hall, both, enter};
@@ -108,10 +108,10 @@ fn rest_both(
 {
     match both(alloc, hall, blank) {
         Some((mut one, mut two)) => {
-            match go_together(hall, &mut one, &mut two, moves, out) {
-                Ok(()) => Ok(one.rest().merge(two.rest(), hall.arena())),
-                Err(error) => Err(error),
-            }
+            let gone = go_together(hall, &mut one, &mut two, moves, out);
+            let rest = one.rest().merge(two.rest(), hall.arena());
+            gone?;
+            Ok(rest)
         }
         None => Err(RowError::Wrong),
     }
@@ -136,6 +136,19 @@ fn rest_of(
     }
 }
 
+/// The rest, if it is that of all callers.
+fn whole(hall: &Hall, rest: Rest) -> Result<Rest, RowError>
+    requires came { CameFrom hall.now rest.table rest.fixed }
+    ensures came { IfOk result (λ rest. CameFrom hall.now rest.table rest.fixed) }
+    ensures all { IfOk result (λ rest. length rest.entries ≡ callers_of hall.now.fixed) }
+{
+    if hall.has_all(&rest) {
+        Ok(rest)
+    } else {
+        Err(RowError::Wrong)
+    }
+}
+
 /// All callers of the hall go as the row's kind says, and then rest.
 fn all_rest(
     alloc: Global,
@@ -150,11 +163,11 @@ fn all_rest(
     ensures all { IfOk result (λ rest. length rest.entries ≡ callers_of hall.now.fixed) }
 {
     let moves = moves_in(alloc, moves, "operates", "resumes")?;
-    let rest = rest_of(alloc, hall, blank, kind, &moves, out)?;
-    if hall.has_all(&rest) {
-        Ok(rest)
-    } else {
-        Err(RowError::Wrong)
+    let rest = rest_of(alloc, hall, blank, kind, &moves, out);
+    drop(moves);
+    match rest {
+        Ok(rest) => whole(hall, rest),
+        Err(error) => Err(error),
     }
 }
 

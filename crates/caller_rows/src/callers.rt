@@ -1,5 +1,6 @@
 //! Callers who take calls and make steps.
 
+ghost use Rattle.std.specs.Prelude.{◌<◌};
 ghost use Rattle.caller_parts.specs.Settings.{Fits};
 ghost use Rattle.core_entries.specs.Callers.{BelongsTo};
 ghost use Rattle.core_entries.specs.Steps.{WordsSound};
@@ -10,7 +11,7 @@ use crate::told::{add_access, add_entry, add_replies};
 use barrier_check::Barred;
 use oa_core::{Entry, PlainWords, Setting};
 use row_spelling::RowError;
-use std::alloc::{AllocError, Global};
+use std::alloc::Global;
 
 /// A caller makes so many steps, and each access is told.
 fn make_steps(
@@ -20,7 +21,7 @@ fn make_steps(
     words: &mut PlainWords,
     count: u64,
     out: &mut String,
-) -> Result<(), AllocError>
+) -> Result<(), RowError>
     requires belongs { BelongsTo barred.now setting.now entry.old.core }
     requires lawful { WordsSound barred.now.target setting.now words.old }
     ensures belongs { BelongsTo barred.now setting.now entry.new.core }
@@ -71,10 +72,11 @@ fn make_move(
     ensures belongs { BelongsTo barred.now setting.now entry.new.core }
     ensures lawful { WordsSound barred.now.target setting.now words.new }
 {
-    match deed {
-        Deed::Begins { call, with } => take_call(barred, setting, entry, call, with, out)?,
-        Deed::GoesOn(count) => make_steps(barred, setting, entry, words, count, out)?,
-    }
+    let made = match deed {
+        Deed::Begins { call, with } => take_call(barred, setting, entry, call, with, out),
+        Deed::GoesOn(count) => make_steps(barred, setting, entry, words, count, out),
+    };
+    made?;
     Ok(add_entry(out, entry)?)
 }
 
@@ -110,6 +112,26 @@ fn act(
     add_all_replies(out, first, last)
 }
 
+/// What the first caller of a target and that with the number do on its words, each with as much room as the first has.
+fn act_with_last(
+    alloc: Global,
+    barred: &Barred,
+    setting: &Setting,
+    number: u32,
+    first: &mut Entry,
+    words: &mut PlainWords,
+    moves: &[(Who, Deed)],
+    out: &mut String,
+) -> Result<(), RowError>
+    requires fits { Fits barred.now.target setting.now }
+    requires number { number < setting.now.sizes.callers }
+    requires first { BelongsTo barred.now setting.now first.old.core }
+    requires lawful { WordsSound barred.now.target setting.now words.old }
+{
+    let mut last = entry_of(alloc, barred, setting, number, first.spare())?;
+    act(barred, setting, first, &mut last, words, moves, out)
+}
+
 /// What the first and the last caller of a target do on its words.
 fn act_by_two(
     alloc: Global,
@@ -125,8 +147,16 @@ fn act_by_two(
 {
     let count = setting.shape().callers();
     let mut first = entry_of(alloc, barred, setting, 0, room)?;
-    let mut last = entry_of(alloc, barred, setting, count - 1, room)?;
-    act(barred, setting, &mut first, &mut last, words, moves, out)
+    act_with_last(
+        alloc,
+        barred,
+        setting,
+        count - 1,
+        &mut first,
+        words,
+        moves,
+        out,
+    )
 }
 
 /// What a row has the first and the last caller of a target do, from the words at the start on.

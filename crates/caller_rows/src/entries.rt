@@ -61,10 +61,10 @@ fn add_setting(out: &mut String, setting: &Setting) -> Result<(), AllocError> {
     let callers = setting.shape().callers();
     let first = setting.first_phase();
     let last = setting.last_phase();
-    let nodes = setting.nodes();
+    let [items, pairs, third, fourth] = setting.nodes();
     writeln!(
         out,
-        "callers {callers}, first {first}, last {last}, nodes {nodes}"
+        "callers {callers}, first {first}, last {last}, nodes {items} {pairs} {third} {fourth}"
     )
 }
 
@@ -73,7 +73,7 @@ fn add_set(
     shape: Shape,
     first: u64,
     last: u64,
-    nodes: u32,
+    nodes: [u32; 4],
     out: &mut String,
 ) -> Result<(), AllocError> {
     match Setting::new(shape, first, last, nodes) {
@@ -82,20 +82,43 @@ fn add_set(
     }
 }
 
+/// A count of initial nodes; one that isn't of 32 bits is more than any kind has slots.
+fn count_of(nodes: u64) -> u32 {
+    u32::try_from(nodes).unwrap_or(u32::MAX)
+}
+
 fn add_set_of(numbers: &[u64], out: &mut String) -> Result<(), RowError> {
-    let [callers, slots, fields, roots, first, last, nodes] = numbers else {
-        return Err(RowError::Wrong);
-    };
-    match (
-        Shape::new(*callers, *slots, *fields, *roots),
-        u32::try_from(*nodes),
-    ) {
-        (Ok(shape), Ok(nodes)) => Ok(add_set(shape, *first, *last, nodes, out)?),
+    match numbers {
+        [callers, slots, fields, roots, first, last, nodes] => {
+            let Ok(shape) = Shape::new(*callers, *slots, *fields, *roots) else {
+                return Err(RowError::Wrong);
+            };
+            Ok(add_set(shape, *first, *last, [count_of(*nodes), 0, 0, 0], out)?)
+        }
+        [
+            callers,
+            items,
+            pairs,
+            fields,
+            roots,
+            first,
+            last,
+            nodes,
+            others,
+        ] => {
+            let slots = [*items, *pairs, 0, 0];
+            let Ok(shape) = Shape::of_kinds(*callers, slots, 2, *fields, *roots) else {
+                return Err(RowError::Wrong);
+            };
+            let nodes = [count_of(*nodes), count_of(*others), 9, 9];
+            Ok(add_set(shape, *first, *last, nodes, out)?)
+        }
         _ => Err(RowError::Wrong),
     }
 }
 
-/// The row of a setting: callers, slots, fields, roots, the first and the last phase, and initial nodes.
+/// The row of a setting: callers, slots, fields, roots, the first and the last phase, and initial nodes. Of two kinds slots and
+/// initial nodes are two numbers each; the counts of initial nodes past the kinds are 9.
 pub(crate) fn setting_row(alloc: Global, row: &str, out: &mut String) -> Result<(), RowError> {
     let numbers = numbers(alloc, row)?;
     add_set_of(&numbers, out)

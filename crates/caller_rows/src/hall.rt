@@ -2,12 +2,13 @@
 
 ghost use Rattle.std.specs.Prelude.{◌≡◌, true, length, IfSome, IsTrue};
 ghost use Rattle.caller_parts.specs.Calls.{is_call};
+ghost use Rattle.documents.specs.DocumentLimits.{IsWithinDocumentLimits};
 ghost use Rattle.script_plans.specs.Plans.{IsReady};
-ghost use Rattle.table_rule.specs.Rule.{callers_of};
+ghost use Rattle.word_runner.specs.table_rule.Rule.{callers_of};
 ghost use Rattle.word_runner.specs.Shown.{CameFrom};
 
 use caller_steps::Call;
-use documents::read_document;
+use documents::{Document, read_document};
 use row_spelling::few;
 use script_plans::{CallLists, Plan, plan_of};
 use std::alloc::Global;
@@ -24,7 +25,7 @@ pub(crate) struct Hall {
 impl Model for Hall {
     ghost use Rattle.std.specs.Prelude.{◌≡◌, length, All};
     ghost use Rattle.caller_parts.specs.Calls.{AreCalls};
-    ghost use Rattle.table_rule.specs.Rule.{callers_of};
+    ghost use Rattle.word_runner.specs.table_rule.Rule.{callers_of};
     ghost use Rattle.word_runner.specs.Shown.{ArenaShown};
 
     ghost Value = { ArenaShown };
@@ -32,6 +33,17 @@ impl Model for Hall {
     ghost view = { λ h. h.arena };
 
     ghost invariant = { λ h. All (AreCalls h.arena.fixed.target.target) h.scripts × (length h.scripts ≡ callers_of h.arena.fixed) };
+}
+
+/// The plan of a document, if it can be run.
+fn plan_in(alloc: Global, document: &Document) -> Option<Plan>
+    requires { IsWithinDocumentLimits document.now }
+    ensures { IfSome result (λ plan. IsReady plan) }
+{
+    match plan_of(alloc, document) {
+        Ok(plan) => Some(plan),
+        Err(_) => None,
+    }
 }
 
 /// The plan of a document.
@@ -43,7 +55,7 @@ pub(crate) fn planned(alloc: Global, input: &[u8]) -> Option<Plan>
     }
     match read_document(alloc, input) {
         Ok(document) => {
-            let plan = plan_of(alloc, &document).ok();
+            let plan = plan_in(alloc, &document);
             drop(document);
             plan
         }
@@ -91,6 +103,29 @@ pub(crate) fn second(alloc: Global, hall: &Hall, blank: &mut Blank) -> Option<Bl
     }
 }
 
+/// A hall's two callers, if the second has entered too.
+fn paired(hall: &Hall, one: Caller, two: Option<Caller>) -> Option<(Caller, Caller)>
+    requires one { CameFrom hall.now one.table one.fixed }
+    requires two { IfSome two (λ caller. CameFrom hall.now caller.table caller.fixed) }
+    ensures { IfSome result (λ p. CameFrom hall.now p.0.table p.0.fixed × CameFrom hall.now p.1.table p.1.fixed) }
+{
+    match two {
+        Some(two) => Some((one, two)),
+        None => None,
+    }
+}
+
+/// Two blanks of a hall become callers.
+fn both_entered(hall: &Hall, blank: Blank, other: Blank) -> Option<(Caller, Caller)>
+    requires blank { CameFrom hall.now blank.table blank.fixed }
+    requires other { CameFrom hall.now other.table other.fixed }
+    ensures { IfSome result (λ p. CameFrom hall.now p.0.table p.0.fixed × CameFrom hall.now p.1.table p.1.fixed) }
+{
+    let one = enter(hall, blank)?;
+    let two = enter(hall, other);
+    paired(hall, one, two)
+}
+
 /// A blank and another of its hall become callers.
 pub(crate) fn both(alloc: Global, hall: &Hall, blank: Blank) -> Option<(Caller, Caller)>
     requires came { CameFrom hall.now blank.table blank.fixed }
@@ -98,9 +133,7 @@ pub(crate) fn both(alloc: Global, hall: &Hall, blank: Blank) -> Option<(Caller, 
 {
     let mut blank = blank;
     let other = second(alloc, hall, &mut blank)?;
-    let one = enter(hall, blank)?;
-    let two = enter(hall, other)?;
-    Some((one, two))
+    both_entered(hall, blank, other)
 }
 
 impl Hall {

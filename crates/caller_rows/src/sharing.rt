@@ -8,11 +8,19 @@ use oa_core::Entry;
 use oa_text::OpenGate;
 use row_spelling::RowError;
 use script_plans::Plan;
-use std::alloc::Global;
+use std::alloc::{AllocError, Global};
 use std::fmt::Write;
 use std::thread::Threads;
 use thread_runs::run_scripts;
 use word_runner::Final;
+
+/// How a run has ended, if it had memory.
+fn end_of(ran: Result<Final, AllocError>) -> Option<Final> {
+    match ran {
+        Ok(end) => Some(end),
+        Err(_) => None,
+    }
+}
 
 #[tactic(auto, using(crate::proofs::Suits::plan_suits))]
 fn run_plan<R: Threads + Sync>(rt: &R, alloc: Global, plan: Plan) -> Option<Final>
@@ -24,7 +32,9 @@ fn run_plan<R: Threads + Sync>(rt: &R, alloc: Global, plan: Plan) -> Option<Fina
         scripts,
         fuel,
     } = plan;
-    run_scripts(rt, alloc, barred, setting, scripts.items(), fuel, &OpenGate).ok()
+    let ran = run_scripts(rt, alloc, barred, setting, scripts.items(), fuel, &OpenGate);
+    drop(scripts);
+    end_of(ran)
 }
 
 /// What the entries at the end add up to.

@@ -1,11 +1,12 @@
 //! Barred targets of texts, and settings that fit them.
 
-ghost use Rattle.std.specs.Prelude.{◌≡◌, IsTrue, IfOk};
+ghost use Rattle.std.specs.Prelude.{◌≡◌, ◌<◌, ◌^◌, length, IsTrue, IfOk};
 ghost use Rattle.norm_lang.specs.Limits.{IsWithinLimits};
 ghost use Rattle.caller_parts.specs.Settings.{Fits};
 
 use barrier_check::{Barred, verify};
 use barrier_compiler::compile;
+use caller_parts::counts::{greatest_count, node_counts};
 use norm_check::{Normal, check};
 use norm_lang::Text;
 use norm_parser::parse;
@@ -13,6 +14,7 @@ use oa_core::Setting;
 use oa_words::shape::Shape;
 use row_spelling::{RowError, few};
 use std::alloc::Global;
+use target_code::Target;
 
 fn barred_of_normal(alloc: Global, normal: &Normal) -> Result<Barred, RowError> {
     let target = compile(alloc, normal)?;
@@ -42,29 +44,64 @@ pub(crate) fn read(alloc: Global, bytes: &[u8]) -> Result<Barred, RowError> {
     }
 }
 
+/// A target has no more than four kinds and 256 initial nodes.
+fn is_small(target: &Target) -> bool
+    ensures { IsTrue result → (length target.now.kinds < 256) × (length target.now.nodes < 2 ^ 32) }
+{
+    target.kinds.items().len() <= 4 && target.nodes.items().len() <= 256
+}
+
+fn same_counts(nodes: [u32; 4], others: [u32; 4]) -> bool
+    ensures { IsTrue result → nodes ≡ others }
+{
+    nodes == others
+}
+
+fn suits(target: &Target, setting: &Setting) -> bool
+    requires kinds { length target.now.kinds < 256 }
+    requires nodes { length target.now.nodes < 2 ^ 32 }
+    ensures { IsTrue result → Fits target.now setting.now }
+{
+    let shape = setting.shape();
+    shape.kinds() as usize == target.kinds.items().len()
+        && shape.fields() as usize == greatest_count(target)
+        && shape.cells() as usize == target.roots.items().len()
+        && same_counts(setting.nodes(), node_counts(target))
+}
+
 fn fits(barred: &Barred, setting: &Setting) -> bool
     ensures { IsTrue result → Fits barred.now.target setting.now }
 {
     let target = barred.target();
-    setting.shape().fields() as usize == target.fields.items().len()
-        && setting.shape().cells() as usize == target.roots.items().len()
-        && setting.nodes() as usize == target.nodes.items().len()
+    is_small(target) && suits(target, setting)
 }
 
-fn made(barred: &Barred, numbers: &[u64]) -> Option<Setting> {
+/// A setting with so many slots for each kind.
+fn made_for(target: &Target, numbers: &[u64]) -> Option<Setting>
+    requires kinds { length target.now.kinds < 256 }
+    requires nodes { length target.now.nodes < 2 ^ 32 }
+{
     let ([callers, slots, first, last] | [callers, slots, first, last, _]) = numbers else {
         return None;
     };
-    let target = barred.target();
-    let fields = target.fields.items().len() as u64;
+    let kinds = target.kinds.items().len() as u64;
+    let fields = greatest_count(target) as u64;
     let roots = target.roots.items().len() as u64;
-    let shape = Shape::new(*callers, *slots, fields, roots).ok()?;
-    let nodes = u32::try_from(target.nodes.items().len()).ok()?;
-    Setting::new(shape, *first, *last, nodes).ok()
+    let shape = Shape::of_kinds(*callers, [*slots; 4], kinds, fields, roots).ok()?;
+    Setting::new(shape, *first, *last, node_counts(target)).ok()
 }
 
-/// A setting for so many callers and slots, with these first and last phases. For how many replies the callers have room may
-/// come after these numbers.
+fn made(barred: &Barred, numbers: &[u64]) -> Option<Setting> {
+    let target = barred.target();
+    if is_small(target) {
+        made_for(target, numbers)
+    } else {
+        None
+    }
+}
+
+/// A setting for so many callers, and so many slots for each kind, with these first and last phases. For how many replies the
+/// callers have room may come after these numbers.
 pub(crate) fn setting_for(barred: &Barred, numbers: &[u64]) -> Result<Setting, RowError>
     ensures { IfOk result (λ setting. Fits barred.now.target setting) }
 {

@@ -19,6 +19,7 @@ use Rattle.guard_words.specs.Guards.{with_guard, pass_check}
 use Rattle.oa_words.specs.Words.{Sizes}
 use Rattle.phase_pools.specs.declared.access.ClaimEnd.{ClaimEnd}
 use Rattle.phase_pools.specs.declared.access.ClaimEnd.TheVariants as ends
+use Rattle.phase_pools.specs.declared.stages.Scheme.TheVariants.{Warned}
 use Rattle.phase_pools.specs.Pools.{Claim, ClaimTurn, claim_begun, claim_takes, claim_accepts, Retirement, retire_begun, retire_accepts}
 use Rattle.caller_parts.specs.declared.call.Call.{Call}
 use Rattle.caller_parts.specs.declared.call.Reply.{Reply}
@@ -34,7 +35,7 @@ use Rattle.caller_parts.specs.declared.routine.Routine.{Routine}
 use Rattle.caller_parts.specs.declared.routine.Routine.TheVariants.{Idle, LoadSeen, At, InList, Retires, Restarts, Clears, Claims, Zeroes}
 use Rattle.caller_parts.specs.Pairing.{replied_by}
 use Rattle.caller_parts.specs.Settings.{Setting}
-use Rattle.caller_steps.specs.Entries.{Entry, one_more, code_in, instr_in, new_number, zero_count, cradle_of}
+use Rattle.caller_steps.specs.Entries.{Entry, one_more, code_in, instr_in, new_kind, new_number, zero_count, cradle_of}
 use Rattle.caller_parts.specs.Operands.{with_word, slot_in, register_number, list_of, succeeds, to_retire, emptied, with_new}
 use Rattle.caller_steps.specs.Clearing.{restart_next, clear_next, unguarded}
 use Rattle.caller_steps.specs.Signs.{Sign, Begins, Accesses, Draws, Renews, GivesUp, Moved, quiet, told}
@@ -51,14 +52,14 @@ with_hand e hand = record e { hand = hand }
 abbrev pub replied : Reply → Entry → Entry
 replied reply e = record e { routine = Idle; replies = e.replies ++ replied_by reply e.running ∷ [] }
 
--- at a `new` that has its slot already the fields come next, else the claim
-abbrev pub new_on : Sizes → ℕ → ℕ → Entry → Entry
-new_on sizes k zero e = with_routine e (Claims (claim_begun sizes))
-new_on sizes k (suc j) e = with_routine e (Zeroes k 0)
+-- at a `new` whose cradle has a slot already the fields come next, else the claim of a slot of the kind, whose sweeps warn the callers
+abbrev pub new_on : Sizes → ℕ → ℕ → ℕ → Entry → Entry
+new_on sizes kind k zero e = with_routine e (Claims (claim_begun sizes kind Warned))
+new_on sizes kind k (suc j) e = with_routine e (Zeroes k 0)
 
 -- what follows a clear that has nothing left to clear
 abbrev pub then_goes : Target → Sizes → AfterClear → Entry → Entry
-then_goes target sizes clears.New e = new_on sizes (new_number target e) (cradle_of e (new_number target e)) e
+then_goes target sizes clears.New e = new_on sizes (new_kind target e) (new_number target e) (cradle_of e (new_number target e)) e
 then_goes target sizes clears.WrapUp e = with_routine e (LoadSeen starts.WrapUp)
 then_goes target sizes (clears.Reply reply) e = replied reply e
 then_goes target sizes clears.Again e = with_routine e (LoadSeen starts.Again)
@@ -304,7 +305,7 @@ node_made target sizes slot e = told (Draws slot ∷ []) (goes_on target sizes (
 
 abbrev pub zeroed : Target → Sizes → ℕ → ℕ → Entry → Moved
 zeroed target sizes k field e =
-    if nat_lt (field + 1) (zero_count target sizes (instr_in target e)) then quiet (with_routine e (Zeroes k (field + 1))) else node_made target sizes (cradle_of e k) e
+    if nat_lt (field + 1) (zero_count target (instr_in target e)) then quiet (with_routine e (Zeroes k (field + 1))) else node_made target sizes (cradle_of e k) e
 
 -- ---- a step
 

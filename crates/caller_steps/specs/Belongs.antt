@@ -1,5 +1,5 @@
 -- An entry belongs to a target and a setting: what holds of each caller in every reachable state.
-use Rattle.std.specs.Prelude.{◌≡◌, ◌≢◌, ℕ, ◌≤◌, ◌<◌, Bool, true, false, List, length, Option, Some, None, slice_get, slice_index}
+use Rattle.std.specs.Prelude.{◌≡◌, ◌≢◌, ℕ, ◌+◌, ◌*◌, ◌≤◌, ◌<◌, Bool, true, false, List, length, Option, Some, None, slice_get, slice_index}
 use Rattle.std.specs.List.{All}
 use Rattle.norm_lang.specs.declared.text.Reg.TheVariants.{Ref}
 use Rattle.norm_lang.specs.declared.text.CasEntry.{CasEntry}
@@ -10,11 +10,16 @@ use Rattle.norm_lang.specs.declared.registers.Registers.{Registers}
 use Rattle.norm_lang.specs.Registers.{reference_in}
 use Rattle.target_code.specs.declared.target.TargetInstr.{TargetInstr}
 use Rattle.target_code.specs.declared.target.TargetInstr.TheVariants.{Plain, Check, Guard}
+use Rattle.target_code.specs.declared.target.TargetOp.{TargetOp}
 use Rattle.target_code.specs.declared.target.Target.{Target}
 use Rattle.target_code.specs.Paths.{TargetPath}
 use Rattle.target_code.specs.PathStates.{IsSurelyFreshInTarget}
-use Rattle.oa_words.specs.Words.{slot_range}
+use Rattle.kind_laws.specs.TargetKinds.{AreTyped}
+use Rattle.oa_words.specs.Words.{Sizes, slot_range}
+use Rattle.oa_words.specs.SlotKinds.{kind_of, IsNullOrOf}
 use Rattle.guard_words.specs.Guards.{Guards, IsRow, guard_at}
+use Rattle.phase_pools.specs.declared.stages.Scheme.{Scheme}
+use Rattle.phase_pools.specs.declared.stages.Scheme.TheVariants.{Warned, Announced}
 use Rattle.phase_pools.specs.declared.stages.SweepStage.{SweepStage}
 use Rattle.phase_pools.specs.declared.stages.SweepStage.TheVariants as sweeps
 use Rattle.phase_pools.specs.declared.stages.ClaimStage.{ClaimStage}
@@ -32,7 +37,7 @@ use Rattle.caller_steps.specs.declared.entry.Hand.{Hand}
 use Rattle.caller_parts.specs.Settings.{Setting}
 use Rattle.caller_parts.specs.declared.routine.Routine.{Routine}
 use Rattle.caller_parts.specs.declared.routine.Routine.TheVariants.{Idle, LoadSeen, At, InList, Retires, Restarts, Clears, Claims, Zeroes}
-use Rattle.caller_steps.specs.Entries.{Entry, code_in, instr_in, new_number, zero_count, cradle_of}
+use Rattle.caller_steps.specs.Entries.{Entry, op_of, code_in, instr_in, new_kind, new_number, zero_count, cradle_of}
 use Rattle.caller_parts.specs.Operands.{list_of, is_new_at, cradle_count}
 use Rattle.caller_steps.specs.Clearing.{restart_next, clear_next}
 
@@ -50,10 +55,12 @@ GuardsSlots slots guards = record {
   within : (r : ℕ) → guard_at guards r ≤ slots;
 }
 
-abbrev pub HoldsSlots : ℕ → List ℕ → Type 0
-HoldsSlots slots cradles = record {
+-- four cradles for each kind, by the kinds' order: each is empty or holds a slot of its kind
+abbrev pub HoldsSlots : Sizes → List ℕ → Type 0
+HoldsSlots n cradles = record {
   count : length cradles ≡ cradle_count;
-  within : (k : ℕ) → slice_index cradles k ≤ slots;
+  within : (k : ℕ) → slice_index cradles k ≤ n.slots;
+  kinds : (t k : ℕ) → k < 4 → IsNullOrOf n t (slice_index cradles (4 * t + k));
 }
 
 -- what a method run holds
@@ -74,6 +81,11 @@ Reaches code at registers = record {
   fresh : (r : ℕ) → IsSurelyFreshInTarget code (Ref r) at → (reference_in registers (Ref r)).node ≢ 0;
 }
 
+-- each register of references names null, or a slot of a kind that it may have at a place of the operation's method
+abbrev pub HaveKinds : Target → Setting → Option TargetOp → Bool → ℕ → Registers → Type 0
+HaveKinds target setting None wrapup at registers = Unit {0}
+HaveKinds target setting (Some op) wrapup at registers = AreTyped (kind_of setting.sizes) target.fields target.roots op wrapup at registers
+
 -- the slots that hold nodes: those that are claimed, retired and swept
 abbrev pub first_slot : Setting → ℕ
 first_slot setting = (slot_range setting.sizes).first
@@ -81,7 +93,7 @@ first_slot setting = (slot_range setting.sizes).first
 abbrev pub last_slot : Setting → ℕ
 last_slot setting = (slot_range setting.sizes).last
 
--- where a sweep stands
+-- where a sweep stands; a push goes to the head of its slot's kind, whose top is of the kind
 abbrev pub SweepStands : Setting → ℕ → SweepStage → Type 0
 SweepStands setting bound sweeps.ReadPhase = Unit {0}
 SweepStands setting bound (sweeps.RaisePhase p) = (setting.first ≤ p) × (p < setting.last)
@@ -89,9 +101,12 @@ SweepStands setting bound (sweeps.Warn c) = c < setting.sizes.callers
 SweepStands setting bound (sweeps.ReadHazard c r) = (c < setting.sizes.callers) × (r < 8)
 SweepStands setting bound (sweeps.ReadStatus j) = (first_slot setting ≤ j) × (j ≤ last_slot setting)
 SweepStands setting bound (sweeps.MakeReady j q) = (first_slot setting ≤ j) × (j ≤ last_slot setting) × (q ≤ setting.last)
-SweepStands setting bound (sweeps.PushHead j) = (first_slot setting ≤ j) × (j ≤ last_slot setting)
-SweepStands setting bound (sweeps.PushLink j q t) = (first_slot setting ≤ j) × (j ≤ last_slot setting) × (q ≤ setting.last) × (t ≤ setting.sizes.slots)
-SweepStands setting bound (sweeps.PushTop j q t) = (first_slot setting ≤ j) × (j ≤ last_slot setting) × (q ≤ setting.last) × (t ≤ setting.sizes.slots)
+SweepStands setting bound (sweeps.PushHead k j) = (first_slot setting ≤ j) × (j ≤ last_slot setting) × (k ≡ kind_of setting.sizes j)
+SweepStands setting bound (sweeps.PushLink j q t) =
+    (first_slot setting ≤ j) × (j ≤ last_slot setting) × (q ≤ setting.last) × IsNullOrOf setting.sizes (kind_of setting.sizes j) t
+SweepStands setting bound (sweeps.PushTop k j q t) =
+    (first_slot setting ≤ j) × (j ≤ last_slot setting) × (q ≤ setting.last) × IsNullOrOf setting.sizes (kind_of setting.sizes j) t
+    × (k ≡ kind_of setting.sizes j)
 
 -- a sweep that has its s has one of the run's phases; before that it has none past the last
 abbrev pub HasBound : Setting → ℕ → SweepStage → Type 0
@@ -99,26 +114,36 @@ HasBound setting bound sweeps.ReadPhase = bound ≤ setting.last
 HasBound setting bound (sweeps.RaisePhase p) = bound ≤ setting.last
 HasBound setting bound _ = (setting.first ≤ bound) × (bound ≤ setting.last)
 
+-- a sweep that warns the callers recycles what was retired before the phase to which it raises
+abbrev pub HasLow : Scheme → ℕ → ℕ → Type 0
+HasLow Warned bound low = low ≡ bound
+HasLow (Announced own) bound low = low ≤ bound
+
 abbrev pub SweepBelongs : Setting → Sweep → Type 0
 SweepBelongs setting sweep = record {
   stands : SweepStands setting sweep.bound sweep.stage;
   bound : HasBound setting sweep.bound sweep.stage;
+  low : HasLow sweep.scheme sweep.bound sweep.low;
   gathered : All (λ j. j ≤ setting.sizes.slots) sweep.gathered;
 }
 
--- where a claim stands; no look takes slot 0
-abbrev pub ClaimStands : Setting → ClaimStage → Type 0
-ClaimStands setting claims.ReadHead = Unit {0}
-ClaimStands setting (claims.ReadLink q t) = (first_slot setting ≤ t) × (t ≤ last_slot setting) × (q ≤ setting.last)
-ClaimStands setting (claims.Take q t next) = (first_slot setting ≤ t) × (t ≤ last_slot setting) × (q ≤ setting.last) × (next ≤ setting.sizes.slots)
-ClaimStands setting (claims.StoreUsed q t) = (first_slot setting ≤ t) × (t ≤ last_slot setting) × (q ≤ setting.last)
-ClaimStands setting claims.Sweeps = Unit {0}
+-- where a claim of a slot of a kind stands; no look takes slot 0
+abbrev pub ClaimStands : Setting → ℕ → ClaimStage → Type 0
+ClaimStands setting k claims.ReadHead = Unit {0}
+ClaimStands setting k (claims.ReadLink q t) = (first_slot setting ≤ t) × (t ≤ last_slot setting) × (q ≤ setting.last) × (kind_of setting.sizes t ≡ k)
+ClaimStands setting k (claims.Take q t next) =
+    (first_slot setting ≤ t) × (t ≤ last_slot setting) × (q ≤ setting.last) × IsNullOrOf setting.sizes k next × (kind_of setting.sizes t ≡ k)
+ClaimStands setting k (claims.StoreUsed q t) = (first_slot setting ≤ t) × (t ≤ last_slot setting) × (q ≤ setting.last) × (kind_of setting.sizes t ≡ k)
+ClaimStands setting k (claims.Withdraw own) = ⊥
+ClaimStands setting k claims.Sweeps = Unit {0}
 
--- its sweep belongs, whether it is under way or has ended: the slots and phases of one that has ended stay with the claim that
--- looks again
+-- its kind is one of the row's, and its sweeps warn the callers. Its sweep belongs, whether it is under way or has ended: the slots and
+-- phases of one that has ended stay with the claim that looks again
 abbrev pub ClaimBelongs : Setting → Claim → Type 0
 ClaimBelongs setting claim = record {
-  stands : ClaimStands setting claim.stage;
+  kind : claim.kind < length setting.sizes.kinds;
+  scheme : claim.sweep.scheme ≡ Warned;
+  stands : ClaimStands setting claim.kind claim.stage;
   sweep : SweepBelongs setting claim.sweep;
 }
 
@@ -200,19 +225,29 @@ Stands target setting e (InList k) = k < length (list_of (instr_in target e))
 Stands target setting e (Retires retirement go) = RetireBelongs setting retirement × RetireFits (instr_in target e) go
 Stands target setting e Restarts = (is_check_at (instr_in target e) ≡ true) × IsSomeOf (restart_next target e)
 Stands target setting e (Clears next) = ClearStands (instr_in target e) e.hand next × IsSomeOf (clear_next target next e)
-Stands target setting e (Claims claim) = (is_new_at (instr_in target e) ≡ true) × ClaimBelongs setting claim
+Stands target setting e (Claims claim) = (is_new_at (instr_in target e) ≡ true) × ClaimBelongs setting claim × (claim.kind ≡ new_kind target e)
 Stands target setting e (Zeroes k field) =
-    (is_new_at (instr_in target e) ≡ true) × (k ≡ new_number target e) × (cradle_of e k ≢ 0) × (field < zero_count target setting.sizes (instr_in target e))
+    (is_new_at (instr_in target e) ≡ true) × (k ≡ new_number target e) × (cradle_of e k ≢ 0) × (field < zero_count target (instr_in target e))
 
 -- where it runs it has come to its instruction
 abbrev pub RunsAt : Target → Entry → Routine → Type 0
 RunsAt target e Idle = e.hand.at < length (code_in target e)
 RunsAt target e _ = Reaches (code_in target e) e.hand.at e.hand.registers
 
+-- and its registers name slots of kinds that they may have there; in a wrap-up those of its start name slots of kinds that they may have at
+-- its first instruction
+abbrev pub RunsWithKinds : Target → Setting → Entry → Routine → Type 0
+RunsWithKinds target setting e Idle = Unit {0}
+RunsWithKinds target setting e _ = record {
+  now : HaveKinds target setting (op_of target e) e.hand.wrapup e.hand.at e.hand.registers;
+  started : e.hand.wrapup ≡ true → HaveKinds target setting (op_of target e) true 0 e.hand.started;
+}
+
 pub record Belongs (target : Target) (setting : Setting) (e : Entry) : Type 0 where
   pub number : e.number < setting.sizes.callers
   pub op : e.running.call.op < length target.ops
   pub hand : HandBelongs setting e.hand
-  pub cradles : HoldsSlots setting.sizes.slots e.cradles
+  pub cradles : HoldsSlots setting.sizes e.cradles
   pub reaches : RunsAt target e e.routine
+  pub kinds : RunsWithKinds target setting e e.routine
   pub stands : Stands target setting e e.routine

@@ -5,11 +5,11 @@ use Rattle.target_code.specs.declared.target.TargetInstr.{TargetInstr}
 use Rattle.target_code.specs.declared.target.TargetOp.{TargetOp}
 use Rattle.target_code.specs.declared.target.Target.{Target}
 use Rattle.guard_words.specs.Guards.{no_guards}
-use Rattle.oa_words.specs.Words.{Sizes}
+use Rattle.caller_parts.specs.KindCounts.{field_count}
 use Rattle.caller_parts.specs.declared.call.Call.{Call}
 use Rattle.caller_parts.specs.declared.call.Running.{Running}
 use Rattle.caller_parts.specs.declared.call.Replied.{Replied}
-use Rattle.caller_parts.specs.Operands.{code_at, instr_at, cradle_count, cradle_number}
+use Rattle.caller_parts.specs.Operands.{code_at, instr_at, kind_made, cradle_count, cradle_number}
 use Rattle.caller_steps.specs.declared.entry.Hand.{Hand}
 use Rattle.caller_steps.specs.declared.entry.Counts.{Counts}
 use Rattle.caller_parts.specs.declared.routine.Routine.{Routine}
@@ -80,13 +80,16 @@ code_in target e = code_at target e.running.call.op e.hand.wrapup
 abbrev pub instr_in : Target → Entry → Option TargetInstr
 instr_in target e = instr_at target e.running.call.op e.hand.wrapup e.hand.at
 
--- the number of the cradle of the `new` at which a caller stands
+-- the kind of the node that the `new` at which a caller stands makes, and the number of its cradle
+abbrev pub new_kind : Target → Entry → ℕ
+new_kind target e = kind_made (instr_in target e)
+
 abbrev pub new_number : Target → Entry → ℕ
 new_number target e = cradle_number (code_in target e) e.hand.at
 
--- how many fields of its node a `new` stores 0 to, from field 0 on: those of the row
-abbrev pub zero_count : Target → Sizes → Option TargetInstr → ℕ
-zero_count target sizes i = sizes.fields
+-- how many fields of its node a `new` stores 0 to, from the first on: those of its kind
+abbrev pub zero_count : Target → Option TargetInstr → ℕ
+zero_count target i = field_count target.fields (kind_made i)
 
 -- the slot in a cradle, 0 for none
 abbrev pub cradle_of : Entry → ℕ → ℕ

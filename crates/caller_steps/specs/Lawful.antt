@@ -3,18 +3,24 @@ use Rattle.std.specs.Prelude.{◌≡◌, ℕ, zero, suc, ◌≤◌, Bool, true, 
 use Rattle.norm_lang.specs.declared.text.FieldKind.{FieldKind}
 use Rattle.norm_lang.specs.declared.text.FieldKind.TheVariants as holdings
 use Rattle.norm_lang.specs.InstructionRules.{field_kind, root_kind}
+use Rattle.norm_lang.specs.KindFields.{fields_of}
 use Rattle.target_code.specs.declared.target.Target.{Target}
-use Rattle.oa_words.specs.Words.{in_row, Word, Phase, Place, Warning, Hazard, Status, FieldOf, Cell, Head, Link}
-use Rattle.oa_words.specs.Packed.{slot_part}
-use Rattle.phase_pools.specs.Ranges.{IsStatus, IsHead}
+use Rattle.oa_words.specs.Words.{Sizes, in_row, Word, Phase, Place, Warning, Hazard, Status, FieldOf, Cell, Head, Link}
+use Rattle.oa_words.specs.Packed.{slot_part, head_parts}
+use Rattle.oa_words.specs.SlotKinds.{kind_of, IsNullOrOf}
+use Rattle.phase_pools.specs.Ranges.{IsStatus}
 use Rattle.phase_pools.specs.Accesses.{word_of, word_after, WordAccess, Loads, Stores, Exchanges, Raises}
 use Rattle.caller_parts.specs.Settings.{Setting}
 
--- any number, or a reference to a slot of the row
-abbrev pub LawfulValue : ℕ → Option FieldKind → ℕ → Type 0
-LawfulValue slots None word = Unit {0}
-LawfulValue slots (Some holdings.Number) word = Unit {0}
-LawfulValue slots (Some (holdings.Reference k)) word = slot_part word ≤ slots
+-- what the field at a place of a kind's nodes holds, if the kind has one there
+abbrev pub held_at : Target → ℕ → ℕ → Option FieldKind
+held_at target t g = field_kind (fields_of t target.fields) g
+
+-- any number, or a reference to null or to a slot of the kind to which the root or field refers
+abbrev pub LawfulValue : Sizes → Option FieldKind → ℕ → Type 0
+LawfulValue n None word = Unit {0}
+LawfulValue n (Some holdings.Number) word = Unit {0}
+LawfulValue n (Some (holdings.Reference t)) word = IsNullOrOf n t (slot_part word)
 
 -- a phase of the run
 abbrev pub LawfulPhase : Setting → ℕ → Type 0
@@ -24,8 +30,13 @@ LawfulPhase setting word = (setting.first ≤ word) × (word ≤ setting.last)
 abbrev pub LawfulStatus : ℕ → ℕ → Type 0
 LawfulStatus last word = IsStatus last word
 
--- Of a place, which no caller accesses, any word is, and so of a root that isn't declared, or of a node's field that isn't. Null has no
--- node: each of its fields is 0, so that a load through null finds null, or the number 0.
+-- a head with a phase that isn't past the last, and on top a slot of its kind or none
+abbrev pub LawfulHead : Setting → ℕ → ℕ → Type 0
+LawfulHead setting t word = ((head_parts word).phase ≤ setting.last) × IsNullOrOf setting.sizes t (head_parts word).top
+
+-- Of a place, which no caller accesses, any word is, and so of a root that isn't declared, or of a field that the slot's kind doesn't have.
+-- Null has no node: each of its fields is 0, so that a load through null finds null, or the number 0. A slot's fields are those of its kind,
+-- by their places among them, and its link names a slot of its kind, or none.
 abbrev pub IsLawful : Target → Setting → Word → ℕ → Type 0
 IsLawful target setting Phase word = LawfulPhase setting word
 IsLawful target setting (Place c) word = Unit {0}
@@ -33,10 +44,10 @@ IsLawful target setting (Warning c) word = LawfulPhase setting word
 IsLawful target setting (Hazard c r) word = word ≤ setting.sizes.slots
 IsLawful target setting (Status j) word = LawfulStatus setting.last word
 IsLawful target setting (FieldOf zero g) word = word ≡ 0
-IsLawful target setting (FieldOf (suc j) g) word = LawfulValue setting.sizes.slots (field_kind target.fields g) word
-IsLawful target setting (Cell x) word = LawfulValue setting.sizes.slots (root_kind target.roots x) word
-IsLawful target setting Head word = IsHead setting.sizes setting.last word
-IsLawful target setting (Link j) word = word ≤ setting.sizes.slots
+IsLawful target setting (FieldOf (suc j) g) word = LawfulValue setting.sizes (held_at target (kind_of setting.sizes (suc j)) g) word
+IsLawful target setting (Cell x) word = LawfulValue setting.sizes (root_kind target.roots x) word
+IsLawful target setting (Head t) word = LawfulHead setting t word
+IsLawful target setting (Link j) word = IsNullOrOf setting.sizes (kind_of setting.sizes j) word
 
 -- what an entry that wants this access may be told: of a store, anything
 abbrev pub Accepts : Target → Setting → WordAccess → ℕ → Type 0
@@ -58,7 +69,7 @@ is_place (Hazard c r) = false
 is_place (Status j) = false
 is_place (FieldOf j g) = false
 is_place (Cell x) = false
-is_place Head = false
+is_place (Head t) = false
 is_place (Link j) = false
 
 -- an access to a word of the row, which isn't a place, and which goes on to hold a lawful word

@@ -1,5 +1,6 @@
 pub mod Entries
 pub mod Clearing
+pub mod Stands
 pub mod Wants
 pub mod Signs
 pub mod After

@@ -2,18 +2,21 @@
 
 ghost use Rattle.std.specs.Prelude.{◌≡◌, ◌<◌, ◌≤◌, ◌^◌, length, option_copied, slice_get, Some, None};
 ghost use Rattle.phase_pools.specs.Ranges.{ClaimInRange, ClaimTold, RetireTold};
-ghost use Rattle.caller_steps.specs.Entries.{instr_in};
+ghost use Rattle.caller_parts.specs.declared.routine.Routine.TheVariants.{At};
+ghost use Rattle.caller_steps.specs.Entries.{code_in, instr_in};
 ghost use Rattle.caller_parts.specs.Operands.{list_of, AreSlots};
 ghost use Rattle.caller_steps.specs.Clearing.{restart_next, clear_next, unguarded};
 ghost use Rattle.caller_steps.specs.After.{seen_loaded, check_passed, check_failed, checked, guarded, loaded, put_made, list_on, onward_goes, retires_then, cas_ended, cas_made, plain_accepted, instr_accepted, with_published, entry_ended, entry_made, list_accepted, restart_cleared, then_cleared, claim_counted, slot_claimed, claim_ended, node_made, zeroed, after};
-ghost use Rattle.caller_steps.specs.Asking.{IsNear, IsRegister, InstrAccepts, CanAccept};
+ghost use Rattle.caller_steps.specs.Asking.{NewsFit, IsNear, IsRegister, InstrAccepts, CanAccept};
 
 use crate::entry::{Entry, one_more};
+use crate::stand::Stand;
+use caller_parts::local::instr_at;
 use caller_parts::operands::{
-    empty_cradles, exchange_at, list_of, put_cradle, put_new, put_word, slot_in, succeeds,
-    to_retire,
+    empty_cradles, exchange_at, kind_made, list_of, put_cradle, put_new, put_word, slot_in,
+    succeeds, to_retire,
 };
-use caller_parts::{AfterClear, AfterRetire, MethodStart, Program, Reply, Routine, Setting};
+use caller_parts::{AfterClear, AfterRetire, MethodStart, Program, Reply, Setting};
 use norm_lang::text::{CasEntry, Instr, Reg};
 use oa_words::shape::Shape;
 use phase_pools::access::ClaimEnd;
@@ -23,7 +26,8 @@ use target_code::target::TargetInstr;
 impl Entry {
     /// The own warning was loaded.
     fn seen_loaded(&mut self, program: &Program, shape: &Shape, why: MethodStart, word: u64)
-        requires { length self.old.core.replies < self.old.room }
+        requires spare { length self.old.core.replies < self.old.room }
+        requires kinds { NewsFit program.now shape.now }
         ensures { self.new ≡ record self.old { core = (seen_loaded program.now shape.now why word self.old.core).entry } }
     {
         self.hand.seen = word;
@@ -33,17 +37,22 @@ impl Entry {
         }
     }
 
-    fn check_passed(&mut self, program: &Program, shape: &Shape)
+    #[inline(always)]
+    fn check_passed(&mut self, program: &Program, shape: &Shape, code: &[TargetInstr])
         requires spare { length self.old.core.replies < self.old.room }
+        requires kinds { NewsFit program.now shape.now }
         requires near { self.old.core.hand.at < 2 ^ 62 }
+        requires code { code.now ≡ code_in program.now self.old.core }
         ensures { self.new ≡ record self.old { core = (check_passed program.now shape.now self.old.core).entry } }
     {
         self.hand.guards.pass_check();
-        self.go_on(program, shape, self.hand.registers);
+        self.go_on_in(program, shape, code);
     }
 
+    #[inline(never)]
     fn check_failed(&mut self, program: &Program, shape: &Shape, found: u64)
-        requires { length self.old.core.replies < self.old.room }
+        requires spare { length self.old.core.replies < self.old.room }
+        requires kinds { NewsFit program.now shape.now }
         ensures { self.new ≡ record self.old { core = (check_failed program.now shape.now found self.old.core).entry } }
     {
         self.counts.restarts = one_more(self.counts.restarts);
@@ -52,51 +61,67 @@ impl Entry {
         self.restarted(program, shape);
     }
 
-    fn checked(&mut self, program: &Program, shape: &Shape, word: u64)
+    #[inline(always)]
+    fn checked(&mut self, program: &Program, shape: &Shape, code: &[TargetInstr], word: u64)
         requires spare { length self.old.core.replies < self.old.room }
+        requires kinds { NewsFit program.now shape.now }
         requires near { self.old.core.hand.at < 2 ^ 62 }
+        requires code { code.now ≡ code_in program.now self.old.core }
         ensures { self.new ≡ record self.old { core = (checked program.now shape.now word self.old.core).entry } }
     {
         if word == self.hand.seen {
-            self.check_passed(program, shape);
+            self.check_passed(program, shape, code);
         } else {
             self.check_failed(program, shape, word);
         }
     }
 
     /// The slot of a register was stored in its hazard.
-    fn guarded(&mut self, program: &Program, shape: &Shape, register: u8)
+    #[inline(always)]
+    fn guarded(&mut self, program: &Program, shape: &Shape, code: &[TargetInstr], register: u8)
         requires spare { length self.old.core.replies < self.old.room }
+        requires kinds { NewsFit program.now shape.now }
         requires near { self.old.core.hand.at < 2 ^ 62 }
         requires slots { AreSlots self.old.core.hand.registers }
         requires register { register < 8 }
+        requires code { code.now ≡ code_in program.now self.old.core }
         ensures { self.new ≡ record self.old { core = (guarded program.now shape.now (Reg.Ref register) self.old.core).entry } }
     {
         let slot = slot_in(&self.hand.registers, Reg::Ref(register));
         self.hand.guards.put(register as u32, slot);
-        self.go_on(program, shape, self.hand.registers);
+        self.go_on_in(program, shape, code);
     }
 
     /// A word of the text was loaded into a register.
-    fn loaded(&mut self, program: &Program, shape: &Shape, register: Reg, word: u64)
+    #[inline(always)]
+    fn loaded(
+        &mut self,
+        program: &Program,
+        shape: &Shape,
+        code: &[TargetInstr],
+        register: Reg,
+        word: u64,
+    )
         requires spare { length self.old.core.replies < self.old.room }
+        requires kinds { NewsFit program.now shape.now }
         requires near { self.old.core.hand.at < 2 ^ 62 }
+        requires code { code.now ≡ code_in program.now self.old.core }
         ensures { self.new ≡ record self.old { core = (loaded program.now shape.now register word self.old.core).entry } }
     {
-        let mut registers = self.hand.registers;
-        put_word(&mut registers, register, word);
+        put_word(&mut self.hand.registers, register, word);
         self.hand.accessed = self.hand.wrapup;
-        self.go_on(program, shape, registers);
+        self.go_on_in(program, shape, code);
     }
 
     /// After the exchange of a list with this number.
     fn list_on(&mut self, program: &Program, shape: &Shape, k: usize)
         requires spare { length self.old.core.replies < self.old.room }
+        requires kinds { NewsFit program.now shape.now }
         requires near { k < 2 ^ 62 }
         ensures { self.new ≡ record self.old { core = list_on program.now shape.now k self.old.core } }
     {
         if k + 1 < list_of(self.instr_in(program)).len() {
-            self.routine = Routine::InList(k + 1);
+            self.stand = Stand::InList(k + 1);
         } else {
             self.list_ended(program, shape, k + 1);
         }
@@ -104,12 +129,13 @@ impl Entry {
 
     fn onward_goes(&mut self, program: &Program, shape: &Shape, onward: AfterRetire)
         requires spare { length self.old.core.replies < self.old.room }
+        requires kinds { NewsFit program.now shape.now }
         requires near { self.old.core.hand.at < 2 ^ 62 }
         requires few { IsNear onward }
         ensures { self.new ≡ record self.old { core = (onward_goes program.now shape.now onward self.old.core).entry } }
     {
         match onward {
-            AfterRetire::Next => self.go_on(program, shape, self.hand.registers),
+            AfterRetire::Next => self.go_on(program, shape),
             AfterRetire::List(k) => self.list_on(program, shape, k),
         }
     }
@@ -117,6 +143,7 @@ impl Entry {
     /// After an exchange that succeeded; slot 0 isn't retired.
     fn retires_then(&mut self, program: &Program, shape: &Shape, onward: AfterRetire, slot: u32)
         requires spare { length self.old.core.replies < self.old.room }
+        requires kinds { NewsFit program.now shape.now }
         requires near { self.old.core.hand.at < 2 ^ 62 }
         requires few { IsNear onward }
         ensures { self.new ≡ record self.old { core = (retires_then program.now shape.now onward slot self.old.core).entry } }
@@ -124,7 +151,7 @@ impl Entry {
         if slot == 0 {
             self.onward_goes(program, shape, onward);
         } else {
-            self.routine = Routine::Retires(RetireState::begin(slot), onward);
+            self.stand = Stand::Retires(RetireState::begin(slot), onward);
         }
     }
 
@@ -137,6 +164,7 @@ impl Entry {
         word: u64,
     )
         requires spare { length self.old.core.replies < self.old.room }
+        requires kinds { NewsFit program.now shape.now }
         requires near { self.old.core.hand.at < 2 ^ 62 }
         requires slots { AreSlots self.old.core.hand.registers }
         ensures { self.new ≡ record self.old { core = (cas_ended program.now shape.now exchange.now failed word self.old.core).entry } }
@@ -145,11 +173,13 @@ impl Entry {
             let slot = to_retire(exchange.retire, &self.hand.registers);
             self.retires_then(program, shape, AfterRetire::Next, slot);
         } else {
-            self.settle(program, shape, failed as usize, self.hand.registers);
+            let code = self.code_in(program);
+            self.settle(program, shape, code, failed as usize);
         }
     }
 
     /// An auxiliary exchange was made.
+    #[inline(never)]
     fn cas_made(
         &mut self,
         program: &Program,
@@ -159,6 +189,7 @@ impl Entry {
         word: u64,
     )
         requires spare { length self.old.core.replies < self.old.room }
+        requires kinds { NewsFit program.now shape.now }
         requires near { self.old.core.hand.at < 2 ^ 62 }
         requires slots { AreSlots self.old.core.hand.registers }
         ensures { self.new ≡ record self.old { core = (cas_made program.now shape.now exchange.now failed word self.old.core).entry } }
@@ -167,17 +198,27 @@ impl Entry {
         self.cas_ended(program, shape, exchange, failed, word);
     }
 
-    fn plain_accepted(&mut self, program: &Program, shape: &Shape, instr: &Instr, word: u64)
+    #[inline(always)]
+    fn plain_accepted(
+        &mut self,
+        program: &Program,
+        shape: &Shape,
+        code: &[TargetInstr],
+        instr: &Instr,
+        word: u64,
+    )
         requires spare { length self.old.core.replies < self.old.room }
+        requires kinds { NewsFit program.now shape.now }
         requires near { self.old.core.hand.at < 2 ^ 62 }
         requires slots { AreSlots self.old.core.hand.registers }
+        requires code { code.now ≡ code_in program.now self.old.core }
         ensures { self.new ≡ record self.old { core = (plain_accepted program.now shape.now instr.now word self.old.core).entry } }
     {
         match instr {
             Instr::LoadRoot(d, _) | Instr::LoadPick(d, _, _, _) | Instr::LoadField(d, _, _) => {
-                self.loaded(program, shape, *d, word);
+                self.loaded(program, shape, code, *d, word);
             }
-            Instr::Put(_, _, _) => self.go_on(program, shape, self.hand.registers),
+            Instr::Put(_, _, _) => self.go_on_in(program, shape, code),
             Instr::Cas(exchange, failed) => {
                 self.cas_made(program, shape, exchange, *failed, word);
             }
@@ -185,20 +226,46 @@ impl Entry {
         }
     }
 
-    fn instr_accepted(&mut self, program: &Program, shape: &Shape, word: u64)
+    #[inline(always)]
+    fn instr_accepted(
+        &mut self,
+        program: &Program,
+        shape: &Shape,
+        code: &[TargetInstr],
+        instr: Option<&TargetInstr>,
+        word: u64,
+    )
+        requires code { code.now ≡ code_in program.now self.old.core }
+        requires instr { option_copied instr ≡ instr_in program.now self.old.core }
         requires spare { length self.old.core.replies < self.old.room }
+        requires kinds { NewsFit program.now shape.now }
         requires near { self.old.core.hand.at < 2 ^ 62 }
         requires slots { AreSlots self.old.core.hand.registers }
         requires can { InstrAccepts (instr_in program.now self.old.core) }
         ensures { self.new ≡ record self.old { core = (instr_accepted program.now shape.now (instr_in program.now self.old.core) word self.old.core).entry } }
     {
-        match self.instr_in(program) {
+        match instr {
             None => {}
-            Some(TargetInstr::Plain(instr)) => self.plain_accepted(program, shape, instr, word),
-            Some(TargetInstr::Check) => self.checked(program, shape, word),
-            Some(TargetInstr::Guard(Reg::Ref(r))) => self.guarded(program, shape, *r),
+            Some(TargetInstr::Plain(instr)) => {
+                self.plain_accepted(program, shape, code, instr, word);
+            }
+            Some(TargetInstr::Check) => self.checked(program, shape, code, word),
+            Some(TargetInstr::Guard(Reg::Ref(r))) => self.guarded(program, shape, code, *r),
             Some(TargetInstr::Guard(Reg::Num(_))) => {}
         }
+    }
+
+    /// The same of the instruction at which the entry stands.
+    fn here_accepted(&mut self, program: &Program, shape: &Shape, word: u64)
+        requires spare { length self.old.core.replies < self.old.room }
+        requires kinds { NewsFit program.now shape.now }
+        requires near { self.old.core.hand.at < 2 ^ 62 }
+        requires slots { AreSlots self.old.core.hand.registers }
+        requires can { InstrAccepts (instr_in program.now self.old.core) }
+        ensures { self.new ≡ record self.old { core = (instr_accepted program.now shape.now (instr_in program.now self.old.core) word self.old.core).entry } }
+    {
+        let code = self.code_in(program);
+        self.instr_accepted(program, shape, code, instr_at(code, self.hand.at), word);
     }
 
     /// Each cradle that holds the slot of the operand is emptied.
@@ -222,6 +289,7 @@ impl Entry {
         word: u64,
     )
         requires spare { length self.old.core.replies < self.old.room }
+        requires kinds { NewsFit program.now shape.now }
         requires near { self.old.core.hand.at < 2 ^ 62 }
         requires slots { AreSlots self.old.core.hand.registers }
         requires few { k < 2 ^ 62 }
@@ -238,6 +306,7 @@ impl Entry {
 
     fn list_accepted(&mut self, program: &Program, shape: &Shape, k: usize, word: u64)
         requires spare { length self.old.core.replies < self.old.room }
+        requires kinds { NewsFit program.now shape.now }
         requires near { self.old.core.hand.at < 2 ^ 62 }
         requires slots { AreSlots self.old.core.hand.registers }
         requires few { k < 2 ^ 62 }
@@ -259,6 +328,7 @@ impl Entry {
 
     fn restart_cleared(&mut self, program: &Program, shape: &Shape)
         requires spare { length self.old.core.replies < self.old.room }
+        requires kinds { NewsFit program.now shape.now }
         requires register { IsRegister (restart_next program.now self.old.core) }
         ensures { self.new ≡ record self.old { core = (restart_cleared program.now shape.now self.old.core).entry } }
     {
@@ -269,6 +339,7 @@ impl Entry {
 
     fn then_cleared(&mut self, program: &Program, shape: &Shape, next: AfterClear)
         requires spare { length self.old.core.replies < self.old.room }
+        requires kinds { NewsFit program.now shape.now }
         requires register { IsRegister (clear_next program.now next self.old.core) }
         ensures { self.new ≡ record self.old { core = then_cleared program.now shape.now next self.old.core } }
     {
@@ -292,7 +363,7 @@ impl Entry {
     {
         let k = self.new_number(program);
         put_cradle(&mut self.cradles, k, slot);
-        self.routine = Routine::Zeroes(k, 0);
+        self.stand = Stand::Zeroes(k, 0);
     }
 
     fn claim_ended(&mut self, program: &Program, end: ClaimEnd)
@@ -309,33 +380,63 @@ impl Entry {
     /// The last field of a `new` was stored.
     fn node_made(&mut self, program: &Program, shape: &Shape, slot: u32)
         requires spare { length self.old.core.replies < self.old.room }
+        requires kinds { NewsFit program.now shape.now }
         requires near { self.old.core.hand.at < 2 ^ 62 }
         ensures { self.new ≡ record self.old { core = (node_made program.now shape.now slot self.old.core).entry } }
     {
-        let mut registers = self.hand.registers;
-        put_new(&mut registers, self.instr_in(program), slot);
-        self.go_on(program, shape, registers);
+        let code = self.code_in(program);
+        put_new(&mut self.hand.registers, instr_at(code, self.hand.at), slot);
+        self.go_on_in(program, shape, code);
     }
 
     fn zeroed(&mut self, program: &Program, shape: &Shape, k: usize, field: u32)
         requires spare { length self.old.core.replies < self.old.room }
+        requires kinds { NewsFit program.now shape.now }
         requires near { self.old.core.hand.at < 2 ^ 62 }
         requires field { field < shape.now.fields }
         ensures { self.new ≡ record self.old { core = (zeroed program.now shape.now k field self.old.core).entry } }
     {
-        let fields = shape.fields();
-        if field + 1 < fields {
-            self.routine = Routine::Zeroes(k, field + 1);
+        let _row = shape.fields();
+        let fields = program.field_count(kind_made(self.instr_in(program)));
+        if field as usize + 1 < fields {
+            self.stand = Stand::Zeroes(k, field + 1);
         } else {
             self.node_made(program, shape, self.cradle(k));
         }
     }
 
+    /// `accept` where the caller stands at an access of its method, whose code and instruction are given.
+    #[inline(always)]
+    #[tactic(auto, using(crate::proofs::Standing::after_at))]
+    pub fn accept_at(
+        &mut self,
+        program: &Program,
+        setting: &Setting,
+        code: &[TargetInstr],
+        instr: Option<&TargetInstr>,
+        word: u64,
+    )
+        requires spare { length self.old.core.replies < self.old.room }
+        requires kinds { NewsFit program.now setting.now.sizes }
+        requires near { self.old.core.hand.at < 2 ^ 62 }
+        requires slots { AreSlots self.old.core.hand.registers }
+        requires stands { self.old.core.routine ≡ At }
+        requires code { code.now ≡ code_in program.now self.old.core }
+        requires instr { option_copied instr ≡ instr_in program.now self.old.core }
+        requires can { CanAccept program.now setting.now self.old.core word self.old.core.routine }
+        ensures { self.new ≡ record self.old { core = after program.now setting.now self.old.core word } }
+    {
+        self.running.steps = one_more(self.running.steps);
+        self.instr_accepted(program, setting.shape(), code, instr, word);
+    }
+
     /// The entry after its wanted access found a word. It runs, with room for a reply, its registers name slots, and the word
     /// is one that its routine may be told.
     #[tactic(auto, unfolding(crate::specs::After::after))]
+    #[inline(always)]
     pub fn accept(&mut self, program: &Program, setting: &Setting, word: u64)
         requires spare { length self.old.core.replies < self.old.room }
+        requires kinds { NewsFit program.now setting.now.sizes }
         requires near { self.old.core.hand.at < 2 ^ 62 }
         requires slots { AreSlots self.old.core.hand.registers }
         requires can { CanAccept program.now setting.now self.old.core word self.old.core.routine }
@@ -343,30 +444,33 @@ impl Entry {
     {
         let shape = setting.shape();
         self.running.steps = one_more(self.running.steps);
-        match &mut self.routine {
-            Routine::Idle => {}
-            &mut Routine::LoadSeen(why) => self.seen_loaded(program, shape, why, word),
-            Routine::At => self.instr_accepted(program, shape, word),
-            &mut Routine::InList(k) => self.list_accepted(program, shape, k, word),
-            Routine::Retires(retirement, onward) => {
+        match &mut self.stand {
+            Stand::Idle => {}
+            &mut Stand::LoadSeen(why) => self.seen_loaded(program, shape, why, word),
+            Stand::At => self.here_accepted(program, shape, word),
+            &mut Stand::InList(k) => self.list_accepted(program, shape, k, word),
+            Stand::Retires(retirement, onward) => {
                 let onward = *onward;
                 if retirement.accept(shape, word) {
-                    self.routine = Routine::At;
+                    self.stand = Stand::At;
                     self.onward_goes(program, shape, onward);
                 }
             }
-            Routine::Restarts => self.restart_cleared(program, shape),
-            &mut Routine::Clears(next) => self.then_cleared(program, shape, next),
-            Routine::Claims(claim) => {
-                let takes = claim.takes(shape, word);
-                let ended = claim.accept(shape, setting.last_phase(), word);
-                self.count_claim(takes);
-                if let Some(end) = ended {
-                    self.routine = Routine::At;
-                    self.claim_ended(program, end);
+            Stand::Restarts => self.restart_cleared(program, shape),
+            &mut Stand::Clears(next) => self.then_cleared(program, shape, next),
+            Stand::Claims => match &mut self.claim {
+                Some(claim) => {
+                    let takes = claim.takes(shape, word);
+                    let ended = claim.accept(shape, setting.last_phase(), word);
+                    self.count_claim(takes);
+                    if let Some(end) = ended {
+                        self.stand = Stand::At;
+                        self.claim_ended(program, end);
+                    }
                 }
-            }
-            &mut Routine::Zeroes(k, field) => self.zeroed(program, shape, k, field),
+                None => self.here_accepted(program, shape, word),
+            },
+            &mut Stand::Zeroes(k, field) => self.zeroed(program, shape, k, field),
         }
     }
 }

@@ -5,9 +5,11 @@ ghost use Rattle.caller_parts.specs.Pairing.{reply_of, run_of};
 ghost use Rattle.caller_steps.specs.Entries.{idle_entry, is_idle, one_more};
 ghost use Rattle.caller_steps.specs.After.{taken};
 
-use caller_parts::{Call, MethodStart, Replies, Reply, Routine, Running};
+use crate::stand::Stand;
+use caller_parts::{Call, MethodStart, Replies, Reply, Running};
 use guard_words::row::GuardRow;
 use norm_lang::registers::{Registers, starting_registers};
+use phase_pools::claim::ClaimState;
 use std::alloc::{AllocError, Global};
 use std::marker::Model;
 
@@ -51,10 +53,13 @@ pub struct Entry {
     pub running: Running,
     /// Its method run.
     pub hand: Hand,
-    /// The slots that were claimed and aren't published yet, by the number of the `new`; 0 for none.
-    pub cradles: [u32; 4],
-    /// Where the caller stands.
-    pub routine: Routine,
+    /// The slots that were claimed and aren't published yet, four for each kind, by the number of the `new` among those of its kind; 0
+    /// for none.
+    pub cradles: [u32; 16],
+    /// Where the caller stands, but for the claim.
+    pub stand: Stand,
+    /// The claim that it makes if it stands in one, else the last one.
+    pub claim: Option<ClaimState>,
     /// The replies so far.
     pub replies: Replies,
     /// What it has counted.
@@ -63,10 +68,11 @@ pub struct Entry {
 
 impl Model for Entry {
     ghost use Rattle.caller_steps.specs.Entries.{RoomyEntry};
+    ghost use Rattle.caller_steps.specs.Stands.{routine_of};
 
     ghost Value = { RoomyEntry };
 
-    ghost view = { λ e. record { core = record { number = e.number; running = e.running; hand = e.hand; cradles = e.cradles; routine = e.routine; replies = e.replies.items; counts = e.counts }; room = e.replies.room } };
+    ghost view = { λ e. record { core = record { number = e.number; running = e.running; hand = e.hand; cradles = e.cradles; routine = routine_of e.stand e.claim; replies = e.replies.items; counts = e.counts }; room = e.replies.room } };
 }
 
 /// A count that stays at its type's end.
@@ -100,8 +106,9 @@ impl Entry {
                 guards: GuardRow::empty(),
                 accessed: false,
             },
-            cradles: [0; 4],
-            routine: Routine::Idle,
+            cradles: [0; 16],
+            stand: Stand::Idle,
+            claim: None,
             replies,
             counts: Counts {
                 restarts: 0,
@@ -126,14 +133,14 @@ impl Entry {
         self.hand.at = 0;
         self.hand.registers = starting_registers(&call.args);
         self.hand.started = starting_registers(&[0; 4]);
-        self.routine = Routine::LoadSeen(MethodStart::Begin);
+        self.stand = Stand::LoadSeen(MethodStart::Begin);
     }
 
     /// Whether no call runs.
     pub fn is_idle(&self) -> bool
         ensures { result ≡ is_idle self.now.core.routine }
     {
-        matches!(self.routine, Routine::Idle)
+        matches!(self.stand, Stand::Idle)
     }
 
     /// The replies in order.

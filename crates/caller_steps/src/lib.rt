@@ -4,6 +4,7 @@
 mod accepting;
 pub mod entry;
 mod moving;
+pub mod stand;
 mod wanting;
 
 pub use caller_parts::{
@@ -11,3 +12,4 @@ pub use caller_parts::{
     Setting, SettingFault,
 };
 pub use entry::{Counts, Entry, Hand};
+pub use stand::Stand;

@@ -2,14 +2,16 @@
 
 ghost use Rattle.std.specs.Prelude.{◌≡◌, ◌<◌, ◌≤◌, option_copied, slice_get, Some, None};
 ghost use Rattle.phase_pools.specs.Accesses.{located};
+ghost use Rattle.caller_parts.specs.declared.routine.Routine.TheVariants.{At};
 ghost use Rattle.caller_steps.specs.Entries.{instr_in};
 ghost use Rattle.caller_parts.specs.Operands.{list_of, AreSlots};
 ghost use Rattle.caller_steps.specs.Wants.{exchange_wanted, object_exchange, plain_wanted, instr_wanted, list_wanted, clear_wanted, wants};
 ghost use Rattle.caller_steps.specs.Asking.{located_option, CanExchange, CanAsk, CanAskPlain, CanAskInstr, CanAskList, IsRegister};
 
 use crate::entry::Entry;
+use crate::stand::Stand;
 use caller_parts::operands::{exchange_at, list_of, slot_in, word_in};
-use caller_parts::{Program, Routine, Setting};
+use caller_parts::{Program, Setting};
 use norm_lang::registers::{Registers, number_at};
 use norm_lang::text::{CasEntry, Instr, Place, Reg};
 use oa_words::shape::Shape;
@@ -17,12 +19,12 @@ use phase_pools::access::Access;
 use target_code::target::TargetInstr;
 
 /// The exchange of a node's field; where the object is null the field is loaded.
-fn object_exchange(shape: &Shape, slot: u32, field: u8, expected: u64, replacement: u64) -> Access
+fn object_exchange(shape: &Shape, slot: u32, field: u32, expected: u64, replacement: u64) -> Access
     requires slot { slot ≤ shape.now.slots }
     requires field { field < shape.now.fields }
     ensures { result ≡ located shape.now (object_exchange slot field expected replacement) }
 {
-    let at = shape.field_at(slot, field as u32);
+    let at = shape.field_at(slot, field);
     if slot == 0 {
         return Access::Load { at };
     }
@@ -33,6 +35,7 @@ fn object_exchange(shape: &Shape, slot: u32, field: u8, expected: u64, replaceme
     }
 }
 
+#[inline(always)]
 fn exchange_wanted(
     program: &Program,
     shape: &Shape,
@@ -40,7 +43,7 @@ fn exchange_wanted(
     registers: &Registers,
 ) -> Access
     requires slots { AreSlots registers.now }
-    requires can { CanExchange shape.now exchange.now.place registers.now }
+    requires can { CanExchange program.now.fields shape.now exchange.now.place registers.now }
     ensures { result ≡ located shape.now (exchange_wanted program.now.fields exchange.now registers.now) }
 {
     let expected = word_in(registers, exchange.expected);
@@ -63,6 +66,7 @@ fn exchange_wanted(
     }
 }
 
+#[inline(always)]
 fn plain_wanted(
     program: &Program,
     shape: &Shape,
@@ -70,7 +74,7 @@ fn plain_wanted(
     registers: &Registers,
 ) -> Option<Access>
     requires slots { AreSlots registers.now }
-    requires can { CanAskPlain shape.now instr.now registers.now }
+    requires can { CanAskPlain program.now.fields shape.now instr.now registers.now }
     ensures { result ≡ located_option shape.now (plain_wanted program.now.fields instr.now registers.now) }
 {
     match instr {
@@ -86,10 +90,10 @@ fn plain_wanted(
             })
         }
         Instr::LoadField(_, a, f) => Some(Access::Load {
-            at: shape.field_at(slot_in(registers, *a), program.place_of(*f) as u32),
+            at: shape.field_at(slot_in(registers, *a), program.place_of(*f)),
         }),
         Instr::Put(a, f, b) => Some(Access::Store {
-            at: shape.field_at(slot_in(registers, *a), program.place_of(*f) as u32),
+            at: shape.field_at(slot_in(registers, *a), program.place_of(*f)),
             word: word_in(registers, *b),
         }),
         Instr::Cas(exchange, _) => Some(exchange_wanted(program, shape, exchange, registers)),
@@ -113,13 +117,19 @@ fn clear_wanted(shape: &Shape, caller: u32, register: Option<u32>) -> Option<Acc
 }
 
 impl Entry {
-    fn instr_wanted(&self, program: &Program, shape: &Shape) -> Option<Access>
+    #[inline(always)]
+    fn instr_wanted(
+        &self,
+        program: &Program,
+        shape: &Shape,
+        instr: Option<&TargetInstr>,
+    ) -> Option<Access>
         requires caller { self.now.core.number < shape.now.callers }
         requires slots { AreSlots self.now.core.hand.registers }
-        requires can { CanAskInstr shape.now (instr_in program.now self.now.core) self.now.core.hand.registers }
-        ensures { result ≡ located_option shape.now (instr_wanted program.now.fields self.now.core.number (instr_in program.now self.now.core) self.now.core.hand.registers) }
+        requires can { CanAskInstr program.now.fields shape.now (option_copied instr) self.now.core.hand.registers }
+        ensures { result ≡ located_option shape.now (instr_wanted program.now.fields self.now.core.number (option_copied instr.entry) self.now.core.hand.registers) }
     {
-        match self.instr_in(program) {
+        match instr {
             None => None,
             Some(TargetInstr::Plain(instr)) => plain_wanted(
                 program,
@@ -140,7 +150,7 @@ impl Entry {
 
     fn list_wanted(&self, program: &Program, shape: &Shape, k: usize) -> Option<Access>
         requires slots { AreSlots self.now.core.hand.registers }
-        requires can { CanAskList shape.now (slice_get (list_of (instr_in program.now self.now.core)) k) self.now.core.hand.registers }
+        requires can { CanAskList program.now.fields shape.now (slice_get (list_of (instr_in program.now self.now.core)) k) self.now.core.hand.registers }
         ensures { result ≡ located_option shape.now (list_wanted program.now.fields (slice_get (list_of (instr_in program.now self.now.core)) k) self.now.core.hand.registers) }
     {
         match exchange_at(list_of(self.instr_in(program)), k) {
@@ -149,9 +159,29 @@ impl Entry {
         }
     }
 
+    /// The same where the caller stands at an access of its method, whose instruction is given.
+    #[inline(always)]
+    #[tactic(auto, using(crate::proofs::Standing::wants_at))]
+    pub fn pending_at(
+        &self,
+        program: &Program,
+        setting: &Setting,
+        instr: Option<&TargetInstr>,
+    ) -> Option<Access>
+        requires caller { self.now.core.number < setting.now.sizes.callers }
+        requires slots { AreSlots self.now.core.hand.registers }
+        requires stands { self.now.core.routine ≡ At }
+        requires instr { option_copied instr ≡ instr_in program.now self.now.core }
+        requires can { CanAsk program.now setting.now self.now.core self.now.core.routine }
+        ensures { result ≡ located_option setting.now.sizes (wants program.now self.now.core) }
+    {
+        self.instr_wanted(program, setting.shape(), instr)
+    }
+
     /// The one access that the entry makes next; none exactly where it is idle, or stands at no access. What it stands at is
     /// in the row, and its registers name slots.
     #[tactic(auto, unfolding(crate::specs::Wants::wants))]
+    #[inline(always)]
     pub fn pending(&self, program: &Program, setting: &Setting) -> Option<Access>
         requires caller { self.now.core.number < setting.now.sizes.callers }
         requires slots { AreSlots self.now.core.hand.registers }
@@ -159,20 +189,23 @@ impl Entry {
         ensures { result ≡ located_option setting.now.sizes (wants program.now self.now.core) }
     {
         let shape = setting.shape();
-        match &self.routine {
-            Routine::Idle => None,
-            Routine::LoadSeen(_) => Some(Access::Load {
+        match &self.stand {
+            Stand::Idle => None,
+            Stand::LoadSeen(_) => Some(Access::Load {
                 at: shape.warning_at(self.number),
             }),
-            Routine::At => self.instr_wanted(program, shape),
-            Routine::InList(k) => self.list_wanted(program, shape, *k),
-            Routine::Retires(retirement, _) => Some(retirement.pending(shape)),
-            Routine::Restarts => clear_wanted(shape, self.number, self.restart_next(program)),
-            Routine::Clears(next) => {
+            Stand::At => self.instr_wanted(program, shape, self.instr_in(program)),
+            Stand::InList(k) => self.list_wanted(program, shape, *k),
+            Stand::Retires(retirement, _) => Some(retirement.pending(shape)),
+            Stand::Restarts => clear_wanted(shape, self.number, self.restart_next(program)),
+            Stand::Clears(next) => {
                 clear_wanted(shape, self.number, self.clear_next(program, *next))
             }
-            Routine::Claims(claim) => Some(claim.pending(shape, setting.last_phase())),
-            Routine::Zeroes(k, field) => Some(Access::Store {
+            Stand::Claims => match &self.claim {
+                Some(claim) => Some(claim.pending(shape, setting.last_phase())),
+                None => self.instr_wanted(program, shape, self.instr_in(program)),
+            },
+            Stand::Zeroes(k, field) => Some(Access::Store {
                 at: shape.field_at(self.cradle(*k), *field),
                 word: 0,
             }),

@@ -1,11 +1,13 @@
 -- The pool by itself: its words, and callers that claim and retire by its routines. What the rest of the core does is left open: which
 -- used slot a caller retires, and when, and what it stores in words that aren't the pool's.
-use Rattle.std.specs.Prelude.{ℕ, zero, suc, ◌+◌, ◌-◌, ◌&&◌, Bool, true, false, List, [], ◌∷◌, Option, Some, None, length, nat_le, ◌==◌, if◌then◌else◌}
+use Rattle.std.specs.Prelude.{ℕ, zero, suc, ◌+◌, ◌-◌, ◌&&◌, Bool, true, false, List, [], ◌∷◌, Option, Some, None, length, nat_le, nat_lt, ◌==◌, if◌then◌else◌}
 use Rattle.oa_words.specs.declared.packed.Kind.TheVariants as kinds
 use Rattle.oa_words.specs.Words.{Word, Phase, Place, Warning, Hazard, Status, FieldOf, Cell, Head, Link, Sizes, SlotRange, slot_range}
+use Rattle.oa_words.specs.SlotKinds.{range_of, kind_of, range_at}
 use Rattle.oa_words.specs.Packed.{status_word, head_word}
-use Rattle.oa_words.specs.Starts.{Beginning, first_ready}
+use Rattle.oa_words.specs.Starts.{Beginning, nodes_of, first_ready}
 use Rattle.phase_pools.specs.declared.access.ClaimEnd.{ClaimEnd}
+use Rattle.phase_pools.specs.declared.stages.Scheme.{Scheme}
 use Rattle.phase_pools.specs.declared.stages.SweepStage.{SweepStage}
 use Rattle.phase_pools.specs.declared.stages.SweepStage.TheVariants as sweeps
 use Rattle.phase_pools.specs.declared.stages.ClaimStage.{ClaimStage}
@@ -28,16 +30,17 @@ sweep_hands c s (sweeps.Warn d) memory hands = hands
 sweep_hands c s (sweeps.ReadHazard d r) memory hands = hands
 sweep_hands c s (sweeps.ReadStatus j) memory hands = hands
 sweep_hands c s (sweeps.MakeReady j q) memory hands = if memory (Status j) == status_word q kinds.Retired then handed hands j (Pushing c s) else hands
-sweep_hands c s (sweeps.PushHead j) memory hands = hands
+sweep_hands c s (sweeps.PushHead k j) memory hands = hands
 sweep_hands c s (sweeps.PushLink j q t) memory hands = hands
-sweep_hands c s (sweeps.PushTop j q t) memory hands = if memory Head == head_word q t then with_top hands j else hands
+sweep_hands c s (sweeps.PushTop k j q t) memory hands = if memory (Head k) == head_word q t then with_top hands k j else hands
 
-abbrev pub claim_hands : ℕ → Sweep → ClaimStage → (Word → ℕ) → Hands → Hands
-claim_hands c sweep claims.ReadHead memory hands = hands
-claim_hands c sweep (claims.ReadLink q t) memory hands = hands
-claim_hands c sweep (claims.Take q t next) memory hands = if memory Head == head_word q t then without_top hands c t else hands
-claim_hands c sweep (claims.StoreUsed q t) memory hands = handed hands t Outside
-claim_hands c sweep claims.Sweeps memory hands = sweep_hands c sweep.bound sweep.stage memory hands
+abbrev pub claim_hands : ℕ → ℕ → Sweep → ClaimStage → (Word → ℕ) → Hands → Hands
+claim_hands c k sweep claims.ReadHead memory hands = hands
+claim_hands c k sweep (claims.ReadLink q t) memory hands = hands
+claim_hands c k sweep (claims.Take q t next) memory hands = if memory (Head k) == head_word q t then without_top hands k c t else hands
+claim_hands c k sweep (claims.StoreUsed q t) memory hands = handed hands t Outside
+claim_hands c k sweep (claims.Withdraw own) memory hands = hands
+claim_hands c k sweep claims.Sweeps memory hands = sweep_hands c sweep.bound sweep.stage memory hands
 
 abbrev pub retire_hands : ℕ → ℕ → RetireStage → (Word → ℕ) → Hands → Hands
 retire_hands c j retires.ReadPhase memory hands = handed hands j (Retiring c (Some (memory Phase)))
@@ -63,7 +66,7 @@ pub record PoolState : Type 0 where
   pub who : ℕ → Standing
 
 pub data PoolEvent : Type 0 where
-  BeginsClaim : (c : ℕ) → PoolEvent
+  BeginsClaim : (c k : ℕ) (scheme : Scheme) → PoolEvent  -- of a slot of kind k
   BeginsRetirement : (c j : ℕ) → PoolEvent
   Steps : (c : ℕ) → PoolEvent  -- the access that c wants in its routine
   Writes : (w : Word) (x : ℕ) → PoolEvent  -- an access of the rest
@@ -77,7 +80,7 @@ is_other (Hazard c r) = true
 is_other (Status j) = false
 is_other (FieldOf j g) = true
 is_other (Cell x) = true
-is_other Head = false
+is_other (Head k) = false
 is_other (Link j) = false
 
 abbrev pub is_outside : Owner → Bool
@@ -112,7 +115,7 @@ stepped n last state c (Claims claim) =
     let turn = claim_accepts n last claim (state.memory (word_of (claim_wants claim))) in
     Some (record {
       memory = after_access state.memory (claim_wants claim);
-      hands = claim_hands c claim.sweep claim.stage state.memory state.hands;
+      hands = claim_hands c claim.kind claim.sweep claim.stage state.memory state.hands;
       who = put state.who c (claim_left turn.claim turn.ended);
     })
 stepped n last state c (Retires retirement) =
@@ -124,7 +127,8 @@ stepped n last state c (Retires retirement) =
 
 -- one event, where it is enabled. A caller retires only what is used, and what nobody else retires
 abbrev pub pool_event : Sizes → ℕ → PoolState → PoolEvent → Option PoolState
-pool_event n last state (BeginsClaim c) = begins (state.who c) (record state { who = put state.who c (Claims (claim_begun n)) })
+pool_event n last state (BeginsClaim c k scheme) =
+    if nat_lt k (length n.kinds) then begins (state.who c) (record state { who = put state.who c (Claims (claim_begun n k scheme)) }) else None
 pool_event n last state (BeginsRetirement c j) =
     if is_slot (slot_range n) j && is_outside (state.hands.owner j)
     then begins (state.who c) (record state { hands = handed state.hands j (Retiring c None); who = put state.who c (Retires (retire_begun j)) })
@@ -148,7 +152,7 @@ abbrev pub slots_from : ℕ → ℕ → List ℕ
 slots_from j zero = []
 slots_from j (suc count) = j ∷ slots_from (j + 1) count
 
--- the slots after those of the initial nodes are in the chain
+-- the slots of a range after those of the initial nodes are in a chain
 abbrev pub start_chain : SlotRange → ℕ → List ℕ
 start_chain range nodes = slots_from (first_ready range nodes) (range.last + 1 - first_ready range nodes)
 
@@ -159,6 +163,9 @@ start_owner range nodes j = if nat_le (first_ready range nodes) j && nat_le j ra
 abbrev pub pool_start : Sizes → Beginning → (Word → ℕ) → PoolState
 pool_start n start memory = record {
   memory = memory;
-  hands = record { owner = start_owner (slot_range n) (length start.nodes); chain = start_chain (slot_range n) (length start.nodes) };
+  hands = record {
+    owner = λ j. start_owner (range_at n j) (nodes_of start (kind_of n j)) j;
+    chain = λ k. start_chain (range_of n k) (nodes_of start k);
+  };
   who = λ c. Elsewhere;
 }

@@ -1,6 +1,7 @@
 -- What a caller knows of the pool where it stands in a claim, a sweep or a retirement.
-use Rattle.std.specs.Prelude.{ℕ, ◌≡◌, ◌≢◌, ◌≤◌, ◌<◌, ◌⊎◌, Option, Some, None}
+use Rattle.std.specs.Prelude.{ℕ, ◌≡◌, ◌≢◌, ◌≤◌, ◌<◌, ◌⊎◌, length, Option, Some, None}
 use Rattle.oa_words.specs.Words.{Word, Phase, Link, Sizes}
+use Rattle.oa_words.specs.SlotKinds.{kind_of}
 use Rattle.phase_pools.specs.declared.stages.SweepStage.{SweepStage}
 use Rattle.phase_pools.specs.declared.stages.SweepStage.TheVariants as sweeps
 use Rattle.phase_pools.specs.declared.stages.ClaimStage.{ClaimStage}
@@ -12,8 +13,8 @@ use Rattle.phase_pools.specs.declared.access.SweepEnd.{SweepEnd}
 use Rattle.phase_pools.specs.Pools.{Sweep, Claim, Retirement}
 use Rattle.chain_laws.specs.Chains.{Owner, Chained, Taken, Pushing, Outside, Retiring, Retired, caller_of, Hands, stamp, PoolHolds}
 
--- a slot outside the chain that will be pushed only under a greater phase than this one: its retirement loads the phase after
--- it was taken, and a sweep pushes what was retired before the phase that it announced
+-- a slot outside its kind's chain that will be pushed only under a greater phase than this one: its retirement loads the phase after
+-- it was taken, and a sweep pushes what was retired before a phase that isn't past the one to which it raises
 abbrev pub ComesAbove : ℕ → Owner → Type 0
 ComesAbove q Chained = ⊥
 ComesAbove q (Taken c) = Unit {0}
@@ -23,33 +24,37 @@ ComesAbove q (Retiring c None) = Unit {0}
 ComesAbove q (Retiring c (Some tag)) = q ≤ tag
 ComesAbove q (Retired tag) = q ≤ tag
 
--- the head can't be stamped with q over this slot any more
-abbrev pub Gone : (Word → ℕ) → Hands → ℕ → ℕ → Type 0
-Gone memory hands q t = (q < stamp memory) ⊎ ComesAbove q (hands.owner t)
+-- the head of its kind can't be stamped with q over this slot any more
+abbrev pub Gone : Sizes → (Word → ℕ) → Hands → ℕ → ℕ → Type 0
+Gone n memory hands q t = (q < stamp memory (kind_of n t)) ⊎ ComesAbove q (hands.owner t)
 
--- a look has loaded the head (q, t): t has stood in the chain since, with what is known of its link; or the head won't be (q, t) again
-abbrev pub Loaded : (Word → ℕ) → Hands → ℕ → ℕ → Type 0 → Type 0
-Loaded memory hands q t IsLinked = (t ≢ 0) × (t < 8192) × (q ≤ stamp memory) × (((hands.owner t ≡ Chained) × IsLinked) ⊎ Gone memory hands q t)
+-- a look has loaded a kind's head (q, t): t is of the kind and has stood in its chain since, with what is known of its link; or the head
+-- won't be (q, t) again
+abbrev pub Loaded : Sizes → (Word → ℕ) → Hands → ℕ → ℕ → ℕ → Type 0 → Type 0
+Loaded n memory hands k q t IsLinked =
+    (t ≢ 0) × (t < 8192) × (kind_of n t ≡ k) × (q ≤ stamp memory k) × (((hands.owner t ≡ Chained) × IsLinked) ⊎ Gone n memory hands q t)
 
--- a sweep of c that announced s
-abbrev pub SweepStands : Sizes → (Word → ℕ) → Hands → ℕ → ℕ → SweepStage → Type 0
-SweepStands n memory hands c s sweeps.ReadPhase = Unit {0}
-SweepStands n memory hands c s (sweeps.RaisePhase p) = p ≤ memory Phase
-SweepStands n memory hands c s (sweeps.Warn d) = s ≤ memory Phase
-SweepStands n memory hands c s (sweeps.ReadHazard d r) = s ≤ memory Phase
-SweepStands n memory hands c s (sweeps.ReadStatus j) = (s ≤ memory Phase) × (j ≤ n.slots)
-SweepStands n memory hands c s (sweeps.MakeReady j q) = (s ≤ memory Phase) × (j ≤ n.slots) × (q < s)
-SweepStands n memory hands c s (sweeps.PushHead j) = (s ≤ memory Phase) × (hands.owner j ≡ Pushing c s)
-SweepStands n memory hands c s (sweeps.PushLink j q t) = (s ≤ memory Phase) × (hands.owner j ≡ Pushing c s) × (t < 8192)
-SweepStands n memory hands c s (sweeps.PushTop j q t) = (s ≤ memory Phase) × (hands.owner j ≡ Pushing c s) × (t < 8192) × (memory (Link j) ≡ t)
+-- a sweep of c that raises to s and recycles what was retired before low. What it pushes goes to the head of the slot's kind
+abbrev pub SweepStands : Sizes → (Word → ℕ) → Hands → ℕ → ℕ → ℕ → SweepStage → Type 0
+SweepStands n memory hands c s low sweeps.ReadPhase = Unit {0}
+SweepStands n memory hands c s low (sweeps.RaisePhase p) = p ≤ memory Phase
+SweepStands n memory hands c s low (sweeps.Warn d) = (s ≤ memory Phase) × (low ≤ s)
+SweepStands n memory hands c s low (sweeps.ReadHazard d r) = (s ≤ memory Phase) × (low ≤ s)
+SweepStands n memory hands c s low (sweeps.ReadStatus j) = (s ≤ memory Phase) × (low ≤ s) × (j ≤ n.slots)
+SweepStands n memory hands c s low (sweeps.MakeReady j q) = (s ≤ memory Phase) × (low ≤ s) × (j ≤ n.slots) × (q < low)
+SweepStands n memory hands c s low (sweeps.PushHead k j) = (s ≤ memory Phase) × (low ≤ s) × (hands.owner j ≡ Pushing c s) × (k ≡ kind_of n j)
+SweepStands n memory hands c s low (sweeps.PushLink j q t) = (s ≤ memory Phase) × (low ≤ s) × (hands.owner j ≡ Pushing c s) × (t < 8192)
+SweepStands n memory hands c s low (sweeps.PushTop k j q t) =
+    (s ≤ memory Phase) × (low ≤ s) × (hands.owner j ≡ Pushing c s) × (k ≡ kind_of n j) × (t < 8192) × (memory (Link j) ≡ t)
 
--- a claim of c
-abbrev pub ClaimStands : Sizes → (Word → ℕ) → Hands → ℕ → Sweep → ClaimStage → Type 0
-ClaimStands n memory hands c sweep claims.ReadHead = Unit {0}
-ClaimStands n memory hands c sweep (claims.ReadLink q t) = Loaded memory hands q t (Unit {0})
-ClaimStands n memory hands c sweep (claims.Take q t next) = Loaded memory hands q t (memory (Link t) ≡ next)
-ClaimStands n memory hands c sweep (claims.StoreUsed q t) = hands.owner t ≡ Taken c
-ClaimStands n memory hands c sweep claims.Sweeps = SweepStands n memory hands c sweep.bound sweep.stage
+-- a claim of c, of a slot of kind k
+abbrev pub ClaimStands : Sizes → (Word → ℕ) → Hands → ℕ → ℕ → Sweep → ClaimStage → Type 0
+ClaimStands n memory hands c k sweep claims.ReadHead = Unit {0}
+ClaimStands n memory hands c k sweep (claims.ReadLink q t) = Loaded n memory hands k q t (Unit {0})
+ClaimStands n memory hands c k sweep (claims.Take q t next) = Loaded n memory hands k q t (memory (Link t) ≡ next)
+ClaimStands n memory hands c k sweep (claims.StoreUsed q t) = (hands.owner t ≡ Taken c) × (kind_of n t ≡ k)
+ClaimStands n memory hands c k sweep (claims.Withdraw own) = Unit {0}
+ClaimStands n memory hands c k sweep claims.Sweeps = SweepStands n memory hands c sweep.bound sweep.low sweep.stage
 
 -- the retirement of a slot by c
 abbrev pub RetireStands : Hands → ℕ → ℕ → RetireStage → Type 0
@@ -64,15 +69,16 @@ slot_of_sweep (sweeps.Warn d) = 0
 slot_of_sweep (sweeps.ReadHazard d r) = 0
 slot_of_sweep (sweeps.ReadStatus j) = 0
 slot_of_sweep (sweeps.MakeReady j q) = 0
-slot_of_sweep (sweeps.PushHead j) = j
+slot_of_sweep (sweeps.PushHead k j) = j
 slot_of_sweep (sweeps.PushLink j q t) = j
-slot_of_sweep (sweeps.PushTop j q t) = j
+slot_of_sweep (sweeps.PushTop k j q t) = j
 
 abbrev pub slot_of_claim : Sweep → ClaimStage → ℕ
 slot_of_claim sweep claims.ReadHead = 0
 slot_of_claim sweep (claims.ReadLink q t) = 0
 slot_of_claim sweep (claims.Take q t next) = 0
 slot_of_claim sweep (claims.StoreUsed q t) = t
+slot_of_claim sweep (claims.Withdraw own) = 0
 slot_of_claim sweep claims.Sweeps = slot_of_sweep sweep.stage
 
 -- a caller has at most this slot
@@ -80,13 +86,13 @@ abbrev pub HasOnly : Hands → ℕ → ℕ → Type 0
 HasOnly hands c slot = (j : ℕ) → caller_of (hands.owner j) ≡ Some c → slot ≡ j
 
 -- what a step of c may do to the pool, and so to what is known of the others
-pub record MayMove (c : ℕ) (memory : Word → ℕ) (hands : Hands) (memory' : Word → ℕ) (hands' : Hands) : Type 0 where
+pub record MayMove (n : Sizes) (c : ℕ) (memory : Word → ℕ) (hands : Hands) (memory' : Word → ℕ) (hands' : Hands) : Type 0 where
   pub phase : memory Phase ≤ memory' Phase
-  pub stamped : stamp memory ≤ stamp memory'
-  -- a slot of the chain stays there with its link, or c takes it
+  pub stamped : (k : ℕ) → stamp memory k ≤ stamp memory' k
+  -- a slot of a chain stays there with its link, or c takes it
   pub chained : (j : ℕ) → hands.owner j ≡ Chained → ((hands'.owner j ≡ Chained) × (memory' (Link j) ≡ memory (Link j))) ⊎ (hands'.owner j ≡ Taken c)
   -- what comes above a phase up to the stamp still does, or has come
-  pub gone : (q t : ℕ) → q ≤ stamp memory → ComesAbove q (hands.owner t) → Gone memory' hands' q t
+  pub gone : (q t : ℕ) → q ≤ stamp memory (kind_of n t) → ComesAbove q (hands.owner t) → Gone n memory' hands' q t
   -- what is another's stays so
   pub taken : (j d : ℕ) → d ≢ c → hands.owner j ≡ Taken d → hands'.owner j ≡ Taken d
   pub pushing : (j d s : ℕ) → d ≢ c → hands.owner j ≡ Pushing d s → (hands'.owner j ≡ Pushing d s) × (memory' (Link j) ≡ memory (Link j))
@@ -110,16 +116,16 @@ slot_after_retirement (Some retirement) = retirement.slot
 -- what a step of c keeps, and what its routine knows afterwards
 pub record PoolKept (n : Sizes) (c : ℕ) (memory : Word → ℕ) (hands : Hands) (memory' : Word → ℕ) (hands' : Hands) (Next : Type 0) : Type 0 where
   pub fine : PoolHolds n memory' hands'
-  pub goes : MayMove c memory hands memory' hands'
+  pub goes : MayMove n c memory hands memory' hands'
   pub next : Next
 
 -- a sweep and a claim that go on, or have ended
 abbrev pub SweepNext : Sizes → (Word → ℕ) → Hands → ℕ → Sweep → Option SweepEnd → Type 0
-SweepNext n memory hands c sweep None = SweepStands n memory hands c sweep.bound sweep.stage
+SweepNext n memory hands c sweep None = SweepStands n memory hands c sweep.bound sweep.low sweep.stage
 SweepNext n memory hands c sweep (Some end) = Unit {0}
 
 abbrev pub ClaimNext : Sizes → (Word → ℕ) → Hands → ℕ → Claim → Option ClaimEnd → Type 0
-ClaimNext n memory hands c claim None = ClaimStands n memory hands c claim.sweep claim.stage
+ClaimNext n memory hands c claim None = (claim.kind < length n.kinds) × ClaimStands n memory hands c claim.kind claim.sweep claim.stage
 ClaimNext n memory hands c claim (Some end) = Unit {0}
 
 abbrev pub RetireNext : Hands → ℕ → Option Retirement → Type 0

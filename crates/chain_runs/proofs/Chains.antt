@@ -1,5 +1,5 @@
--- The chain of a memory is one, and so is where a list with one more event is split.
-use Rattle.std.proofs.Common.{ℕ, ◌≡◌, ◌≢◌, ◌≤◌, ◌⊎◌, ◌∙◌, ◌++◌, List, [], ◌∷◌, inl, inr, arith, ⊎_elim, sym, ap, subst, refl}
+-- The chain of a kind in a memory is one, and so is where a list with one more event is split.
+use Rattle.std.proofs.Common.{ℕ, ◌≡◌, ◌≢◌, ◌≤◌, ◌<◌, ◌⊎◌, ◌∙◌, ◌++◌, List, [], ◌∷◌, length, inl, inr, arith, ⊎_elim, sym, ap, subst, refl}
 use Rattle.std.proofs.lemmas.Bool.{cases_eq}
 use Rattle.oa_words.specs.Words.{Word, Sizes}
 use Rattle.chain_laws.specs.Chains.{IsChain, Hands, PoolHolds, links, times, top}
@@ -14,21 +14,21 @@ chain_is_one link t (i ∷ below) (j ∷ lower) a b =
     let tail : below ≡ lower = chain_is_one link (link i) below lower a.2 (subst (λ (k : ℕ). IsChain link (link k) lower) (sym same) b.2) in
     ap (λ (k : ℕ). k ∷ below) same ∙ ap (λ (rest : List ℕ). j ∷ rest) tail
 
--- to stand in the chain is to stand in the one that is known
-pub stands_in : (n : Sizes) (memory : Word → ℕ) (hands : Hands) (j : ℕ) → PoolHolds n memory hands → times j hands.chain ≡ 1 → InChain memory j
-stands_in n memory hands j fine once = record { chain = hands.chain; linked = fine.linked; once = once }
+-- to stand in a kind's chain is to stand in the one that is known
+pub stands_in : (n : Sizes) (memory : Word → ℕ) (hands : Hands) (k j : ℕ) → k < length n.kinds → PoolHolds n memory hands → times j (hands.chain k) ≡ 1 → InChain memory k j
+stands_in n memory hands k j lt fine once = record { chain = hands.chain k; linked = fine.linked k lt; once = once }
 
-pub is_in : (n : Sizes) (memory : Word → ℕ) (hands : Hands) (j : ℕ) → PoolHolds n memory hands → InChain memory j → times j hands.chain ≡ 1
-is_in n memory hands j fine k = ap (times j) (chain_is_one (links memory) (top memory) hands.chain k.chain fine.linked k.linked) ∙ k.once
+pub is_in : (n : Sizes) (memory : Word → ℕ) (hands : Hands) (k j : ℕ) → k < length n.kinds → PoolHolds n memory hands → InChain memory k j → times j (hands.chain k) ≡ 1
+is_in n memory hands k j lt fine there = ap (times j) (chain_is_one (links memory) (top memory k) (hands.chain k) there.chain (fine.linked k lt) there.linked) ∙ there.once
 
-pub is_out : (n : Sizes) (memory : Word → ℕ) (hands : Hands) (j : ℕ) → PoolHolds n memory hands → times j hands.chain ≡ 0 → ¬ InChain memory j
-is_out n memory hands j fine none k = let z : 0 ≡ 1 = sym none ∙ is_in n memory hands j fine k in let no : ⊥ = omega (arith, z) in no
+pub is_out : (n : Sizes) (memory : Word → ℕ) (hands : Hands) (k j : ℕ) → k < length n.kinds → PoolHolds n memory hands → times j (hands.chain k) ≡ 0 → ¬ InChain memory k j
+is_out n memory hands k j lt fine none there = let z : 0 ≡ 1 = sym none ∙ is_in n memory hands k j lt fine there in let no : ⊥ = omega (arith, z) in no
 
-pub none_in : (n : Sizes) (memory : Word → ℕ) (hands : Hands) (j : ℕ) → PoolHolds n memory hands → times j hands.chain ≤ 1 → ¬ InChain memory j → times j hands.chain ≡ 0
-none_in n memory hands j fine most out = ⊎_elim
-    (λ (is : times j hands.chain ≡ 1). absurd (out (stands_in n memory hands j fine is)))
-    (λ (ne : times j hands.chain ≢ 1). omega (arith, most, ne))
-    (cases_eq (times j hands.chain) 1)
+pub none_in : (n : Sizes) (memory : Word → ℕ) (hands : Hands) (k j : ℕ) → k < length n.kinds → PoolHolds n memory hands → times j (hands.chain k) ≤ 1 → ¬ InChain memory k j → times j (hands.chain k) ≡ 0
+none_in n memory hands k j lt fine most out = ⊎_elim
+    (λ (is : times j (hands.chain k) ≡ 1). absurd (out (stands_in n memory hands k j lt fine is)))
+    (λ (ne : times j (hands.chain k) ≢ 1). omega (arith, most, ne))
+    (cases_eq (times j (hands.chain k)) 1)
 
 -- ---- a list with one more at its end
 

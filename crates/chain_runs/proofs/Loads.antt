@@ -1,18 +1,21 @@
--- An exchange on the head word expects what its caller's last load of it found: where a caller stands in a look or a push, its last load
--- found the phase and the top that it has.
-use Rattle.std.proofs.Common.{ℕ, ◌≡◌, ◌≢◌, ◌+◌, ◌-◌, ◌<◌, ◌∙◌, ◌++◌, ◌==◌, ◌&&◌, not, Bool, true, false, List, [], ◌∷◌, Option, Some, None, arith, ⊎_elim, sym, ap, subst, refl, append_assoc, append-nil, if◌then◌else◌}
+-- An exchange on a kind's head word expects what its caller's last load of it found: where a caller stands in a look or a push, its last
+-- load found the phase and the top that it has.
+use Rattle.std.proofs.Common.{ℕ, zero, suc, ◌≡◌, ◌≢◌, ◌+◌, ◌-◌, ◌<◌, ◌∙◌, ◌++◌, ◌==◌, ◌&&◌, not, Bool, true, false, List, [], ◌∷◌, Option, Some, None, arith, ⊎_elim, sym, ap, subst, refl, append_assoc, append-nil, if◌then◌else◌}
 use Rattle.std.specs.Prelude.{nat_lt}
 use Rattle.std.proofs.Math.Seq.{append_snoc}
 use Rattle.target_code.specs.declared.target.Target.{Target}
 use Rattle.oa_words.specs.declared.packed.Kind.{Kind}
 use Rattle.oa_words.specs.declared.packed.Kind.TheVariants as kinds
 use Rattle.oa_words.specs.Words.{Word, Phase, Status, Head, Sizes, slot_range}
+use Rattle.oa_words.specs.SlotKinds.{kind_of}
 use Rattle.oa_words.specs.Packed.{StatusParts, head_parts, head_word, status_parts, status_word}
 use Rattle.guard_words.specs.Guards.{has_slot}
 use Rattle.phase_pools.specs.declared.access.ClaimEnd.{ClaimEnd}
 use Rattle.phase_pools.specs.declared.access.ClaimEnd.TheVariants as ends
 use Rattle.phase_pools.specs.declared.access.SweepEnd.{SweepEnd}
 use Rattle.phase_pools.specs.declared.access.SweepEnd.TheVariants as swept
+use Rattle.phase_pools.specs.declared.stages.Scheme.{Scheme}
+use Rattle.phase_pools.specs.declared.stages.Scheme.TheVariants.{Warned, Announced}
 use Rattle.phase_pools.specs.declared.stages.SweepStage.{SweepStage}
 use Rattle.phase_pools.specs.declared.stages.SweepStage.TheVariants as sweeps
 use Rattle.phase_pools.specs.declared.stages.ClaimStage.{ClaimStage}
@@ -20,7 +23,7 @@ use Rattle.phase_pools.specs.declared.stages.ClaimStage.TheVariants as claims
 use Rattle.phase_pools.specs.declared.stages.RetireStage.{RetireStage}
 use Rattle.phase_pools.specs.declared.stages.RetireStage.TheVariants as retires
 use Rattle.phase_pools.specs.Accesses.{WordAccess, Loads, Exchanges, word_of}
-use Rattle.phase_pools.specs.Pools.{Sweep, SweepTurn, sweep_begun, sweep_goes, sweep_ends, sweep_on, sweep_wants_at, sweep_accepts_at, hazard_next, warn_next, has_lower, freeing, status_read, Claim, ClaimTurn, claim_goes, claim_ends, claim_wants, claim_wants_at, claim_accepts, claim_accepts_at, look_ended, sweep_ended, retire_wants_at}
+use Rattle.phase_pools.specs.Pools.{Sweep, SweepTurn, sweep_goes, sweep_ends, sweep_on, warn_wanted, sweep_wants_at, sweep_accepts_at, hazard_next, warned_all, warn_next, has_lower, freeing, status_read, Claim, ClaimTurn, claim_goes, claim_ends, claim_wants, claim_wants_at, claim_accepts, claim_accepts_at, look_ended, sweep_follows, sweep_ended, retire_wants_at}
 use Rattle.chain_laws.specs.Machine.{Elsewhere}
 use Rattle.chain_laws.proofs.Lists.{each_put}
 use Rattle.caller_parts.specs.declared.routine.Routine.{Routine}
@@ -34,10 +37,10 @@ use Rattle.core_runs.specs.Views.{IsShaped, Moves, view}
 use Rattle.core_runs.proofs.Reaching.{run_more, some_is}
 use Rattle.core_runs.proofs.Seeing.{events_are_seen}
 use Rattle.core_runs.proofs.Starting.{start_is_seen}
-use Rattle.caller_laws.proofs.Equations.{wants_claims, wants_retires}
-use Rattle.caller_laws.proofs.Routed.{HoldsAtBegins, after_routed}
-use Rattle.core_sound.specs.Standing.{standing_of}
-use Rattle.core_sound.proofs.Stamping.{elsewhere_wants}
+use Rattle.core_runs.proofs.caller_laws.Equations.{wants_claims, wants_retires}
+use Rattle.core_runs.proofs.caller_laws.Routed.{HoldsAtBegins, after_routed}
+use Rattle.core_runs.specs.core_sound.Standing.{standing_of}
+use Rattle.core_runs.proofs.core_sound.Stamping.{elsewhere_wants}
 use Rattle.chain_runs.specs.Slots.{words}
 use Rattle.chain_runs.specs.Tops.{Moment, LoadsHead, LastLoad}
 use Rattle.chain_runs.proofs.Chains.{snoc_split}
@@ -58,21 +61,21 @@ either_way P false x y one other = other
 module _ (target : Target) (setting : Setting) where
   -- ---- one more event
 
-  -- no load of the head by c comes after these events
-  abbrev pub IsLast : List CoreEvent → ℕ → List CoreEvent → Type 0
-  IsLast events c before = (m : Moment target setting events) → LoadsHead target setting events m c → (between : List CoreEvent) × (m.before ++ between ≡ before)
+  -- no load of the kind's head by c comes after these events
+  abbrev pub IsLast : List CoreEvent → ℕ → ℕ → List CoreEvent → Type 0
+  IsLast events c i before = (m : Moment target setting events) → LoadsHead target setting events m c i → (between : List CoreEvent) × (m.before ++ between ≡ before)
 
   -- what is made now is the last
-  pub now_last : (past : List CoreEvent) (c : ℕ) → IsLast (past ++ Steps c ∷ []) c past
-  now_last past c m loads = ⊎_elim
+  pub now_last : (past : List CoreEvent) (c i : ℕ) → IsLast (past ++ Steps c ∷ []) c i past
+  now_last past c i m loads = ⊎_elim
       (λ (last : (m.before ≡ past) × (Steps c ≡ Steps c)). ([], append-nil m.before ∙ last.0))
       (λ (among : (less : List CoreEvent) × (m.before ++ (Steps c ∷ less) ≡ past)). (Steps c ∷ among.0, among.1))
       (snoc_split m.before (Steps c) loads.0.0 past (Steps c) (sym (ap (λ (l : List CoreEvent). m.before ++ l) loads.0.1) ∙ m.split))
 
   -- an event that is no load of the head by c leaves the last one the last
-  pub still_last : (past : List CoreEvent) (state : CoreState) (event : CoreEvent) (c : ℕ) (before : List CoreEvent) → core_run target setting past (core_start target setting) ≡ Some state
-      → (event ≡ Steps c → wants target ((view setting state).who c) ≢ Some (Loads Head)) → IsLast past c before → IsLast (past ++ event ∷ []) c before
-  still_last past state event c before runs none l m loads = ⊎_elim
+  pub still_last : (past : List CoreEvent) (state : CoreState) (event : CoreEvent) (c i : ℕ) (before : List CoreEvent) → core_run target setting past (core_start target setting) ≡ Some state
+      → (event ≡ Steps c → wants target ((view setting state).who c) ≢ Some (Loads (Head i))) → IsLast past c i before → IsLast (past ++ event ∷ []) c i before
+  still_last past state event c i before runs none l m loads = ⊎_elim
       (λ (last : (m.before ≡ past) × (Steps c ≡ event)).
       let same : m.state ≡ state = some_is m.state state (sym m.leads ∙ (ap (λ (e : List CoreEvent). core_run target setting e (core_start target setting)) last.0 ∙ runs)) in
       absurd (none (sym last.1) (ap (λ (s : CoreState). wants target ((view setting s).who c)) (sym same) ∙ loads.1)))
@@ -80,29 +83,30 @@ module _ (target : Target) (setting : Setting) where
       l (record { before = m.before; rest = Steps c ∷ among.0; split = among.1; state = m.state; leads = m.leads }) ((among.0, refl), loads.1))
       (snoc_split m.before (Steps c) loads.0.0 past event (sym (ap (λ (e : List CoreEvent). m.before ++ e) loads.0.1) ∙ m.split))
 
-  loaded_now : (past : List CoreEvent) (state : CoreState) (c found : ℕ) → core_run target setting past (core_start target setting) ≡ Some state → wants target ((view setting state).who c) ≡ Some (Loads Head)
-      → words setting state Head ≡ found → LastLoad target setting (past ++ Steps c ∷ []) c found
-  loaded_now past state c found runs want finds = record {
+  loaded_now : (past : List CoreEvent) (state : CoreState) (c i found : ℕ) → core_run target setting past (core_start target setting) ≡ Some state → wants target ((view setting state).who c) ≡ Some (Loads (Head i))
+      → words setting state (Head i) ≡ found → LastLoad target setting (past ++ Steps c ∷ []) c i found
+  loaded_now past state c i found runs want finds = record {
     at = record { before = past; rest = Steps c ∷ []; split = refl; state = state; leads = runs };
     loads = (([], refl), want);
     finds = finds;
-    last = now_last past c;
+    last = now_last past c i;
   }
 
-  still_loaded : (past : List CoreEvent) (state : CoreState) (event : CoreEvent) (c found : ℕ) → core_run target setting past (core_start target setting) ≡ Some state → (event ≡ Steps c → wants target ((view setting state).who c) ≢ Some (Loads Head))
-      → LastLoad target setting past c found → LastLoad target setting (past ++ event ∷ []) c found
-  still_loaded past state event c found runs none l = record {
+  still_loaded : (past : List CoreEvent) (state : CoreState) (event : CoreEvent) (c i found : ℕ) → core_run target setting past (core_start target setting) ≡ Some state → (event ≡ Steps c → wants target ((view setting state).who c) ≢ Some (Loads (Head i)))
+      → LastLoad target setting past c i found → LastLoad target setting (past ++ event ∷ []) c i found
+  still_loaded past state event c i found runs none l = record {
     at = record { before = l.at.before; rest = l.at.rest ++ event ∷ []; split = sym (append_assoc l.at.before l.at.rest (event ∷ [])) ∙ ap (λ (e : List CoreEvent). e ++ event ∷ []) l.at.split; state = l.at.state; leads = l.at.leads };
     loads = ((l.loads.0.0 ++ event ∷ [], ap (λ (e : List CoreEvent). e ++ event ∷ []) l.loads.0.1), l.loads.1);
     finds = l.finds;
-    last = still_last past state event c l.at.before runs none l.last;
+    last = still_last past state event c i l.at.before runs none l.last;
   }
 
   -- ---- where a caller stands in a look or a push
 
-  abbrev Found : List CoreEvent → ℕ → ℕ → ℕ → Type 0
-  Found events c q t = LastLoad target setting events c (head_word q t)
+  abbrev Found : List CoreEvent → ℕ → ℕ → ℕ → ℕ → Type 0
+  Found events c i q t = LastLoad target setting events c i (head_word q t)
 
+  -- a push goes to the head of its slot's kind
   abbrev AtSweep : List CoreEvent → ℕ → SweepStage → Type 0
   AtSweep events c sweeps.ReadPhase = Unit {0}
   AtSweep events c (sweeps.RaisePhase p) = Unit {0}
@@ -110,16 +114,17 @@ module _ (target : Target) (setting : Setting) where
   AtSweep events c (sweeps.ReadHazard d r) = Unit {0}
   AtSweep events c (sweeps.ReadStatus j) = Unit {0}
   AtSweep events c (sweeps.MakeReady j q) = Unit {0}
-  AtSweep events c (sweeps.PushHead j) = Unit {0}
-  AtSweep events c (sweeps.PushLink j q t) = Found events c q t
-  AtSweep events c (sweeps.PushTop j q t) = Found events c q t
+  AtSweep events c (sweeps.PushHead i j) = i ≡ kind_of setting.sizes j
+  AtSweep events c (sweeps.PushLink j q t) = Found events c (kind_of setting.sizes j) q t
+  AtSweep events c (sweeps.PushTop i j q t) = Found events c i q t
 
-  abbrev AtStage : List CoreEvent → ℕ → Sweep → ClaimStage → Type 0
-  AtStage events c sweep claims.ReadHead = Unit {0}
-  AtStage events c sweep (claims.ReadLink q t) = Found events c q t
-  AtStage events c sweep (claims.Take q t next) = Found events c q t
-  AtStage events c sweep (claims.StoreUsed q t) = Unit {0}
-  AtStage events c sweep claims.Sweeps = AtSweep events c sweep.stage
+  abbrev AtStage : List CoreEvent → ℕ → ℕ → Sweep → ClaimStage → Type 0
+  AtStage events c i sweep claims.ReadHead = Unit {0}
+  AtStage events c i sweep (claims.ReadLink q t) = Found events c i q t
+  AtStage events c i sweep (claims.Take q t next) = Found events c i q t
+  AtStage events c i sweep (claims.StoreUsed q t) = Unit {0}
+  AtStage events c i sweep (claims.Withdraw own) = Unit {0}
+  AtStage events c i sweep claims.Sweeps = AtSweep events c sweep.stage
 
   abbrev AtRoutine : List CoreEvent → ℕ → Routine → Type 0
   AtRoutine events c Idle = Unit {0}
@@ -129,11 +134,11 @@ module _ (target : Target) (setting : Setting) where
   AtRoutine events c (Retires retirement go) = Unit {0}
   AtRoutine events c Restarts = Unit {0}
   AtRoutine events c (Clears next) = Unit {0}
-  AtRoutine events c (Claims claim) = AtStage events c claim.sweep claim.stage
+  AtRoutine events c (Claims claim) = AtStage events c claim.kind claim.sweep claim.stage
   AtRoutine events c (Zeroes k field) = Unit {0}
 
   -- what a caller that doesn't move keeps
-  module _ (past more : List CoreEvent) (c : ℕ) (keep : (q t : ℕ) → Found past c q t → Found more c q t) where
+  module _ (past more : List CoreEvent) (c : ℕ) (keep : (i q t : ℕ) → Found past c i q t → Found more c i q t) where
     stays_sweep : (stage : SweepStage) → AtSweep past c stage → AtSweep more c stage
     stays_sweep sweeps.ReadPhase k = tt
     stays_sweep (sweeps.RaisePhase p) k = tt
@@ -141,16 +146,17 @@ module _ (target : Target) (setting : Setting) where
     stays_sweep (sweeps.ReadHazard d r) k = tt
     stays_sweep (sweeps.ReadStatus j) k = tt
     stays_sweep (sweeps.MakeReady j q) k = tt
-    stays_sweep (sweeps.PushHead j) k = tt
-    stays_sweep (sweeps.PushLink j q t) k = keep q t k
-    stays_sweep (sweeps.PushTop j q t) k = keep q t k
+    stays_sweep (sweeps.PushHead i j) k = k
+    stays_sweep (sweeps.PushLink j q t) k = keep (kind_of setting.sizes j) q t k
+    stays_sweep (sweeps.PushTop i j q t) k = keep i q t k
 
-    stays_stage : (sweep : Sweep) (stage : ClaimStage) → AtStage past c sweep stage → AtStage more c sweep stage
-    stays_stage sweep claims.ReadHead k = tt
-    stays_stage sweep (claims.ReadLink q t) k = keep q t k
-    stays_stage sweep (claims.Take q t next) k = keep q t k
-    stays_stage sweep (claims.StoreUsed q t) k = tt
-    stays_stage sweep claims.Sweeps k = stays_sweep sweep.stage k
+    stays_stage : (i : ℕ) (sweep : Sweep) (stage : ClaimStage) → AtStage past c i sweep stage → AtStage more c i sweep stage
+    stays_stage i sweep claims.ReadHead k = tt
+    stays_stage i sweep (claims.ReadLink q t) k = keep i q t k
+    stays_stage i sweep (claims.Take q t next) k = keep i q t k
+    stays_stage i sweep (claims.StoreUsed q t) k = tt
+    stays_stage i sweep (claims.Withdraw own) k = tt
+    stays_stage i sweep claims.Sweeps k = stays_sweep sweep.stage k
 
     stays_routine : (r : Routine) → AtRoutine past c r → AtRoutine more c r
     stays_routine Idle k = tt
@@ -160,20 +166,20 @@ module _ (target : Target) (setting : Setting) where
     stays_routine (Retires retirement go) k = tt
     stays_routine Restarts k = tt
     stays_routine (Clears next) k = tt
-    stays_routine (Claims claim) k = stays_stage claim.sweep claim.stage k
+    stays_routine (Claims claim) k = stays_stage claim.kind claim.sweep claim.stage k
     stays_routine (Zeroes n field) k = tt
 
   -- ---- a step of a claim
 
-  -- what the access that c wants makes of its last load: another access than a load of the head keeps it, a load of the head is it
+  -- what the access that c wants makes of its last load of each head: another access than a load of the head keeps it, a load of it is it
   record Turns (past : List CoreEvent) (c : ℕ) (memory : Word → ℕ) (a : WordAccess) : Type 0 where
-    keeps : (q t : ℕ) → a ≢ Loads Head → Found past c q t → Found (past ++ Steps c ∷ []) c q t
-    loads : a ≡ Loads Head → Found (past ++ Steps c ∷ []) c (head_parts (memory Head)).phase (head_parts (memory Head)).top
+    keeps : (i q t : ℕ) → a ≢ Loads (Head i) → Found past c i q t → Found (past ++ Steps c ∷ []) c i q t
+    loads : (i : ℕ) → a ≡ Loads (Head i) → Found (past ++ Steps c ∷ []) c i (head_parts (memory (Head i))).phase (head_parts (memory (Head i))).top
 
   turns_by : (past : List CoreEvent) (state : CoreState) (c : ℕ) (a : WordAccess) → core_run target setting past (core_start target setting) ≡ Some state → wants target ((view setting state).who c) ≡ Some a → Turns past c (words setting state) a
   turns_by past state c a runs want = record {
-    keeps = λ q t other l. still_loaded past state (Steps c) c (head_word q t) runs (λ same load. other (same_access a (Loads Head) (sym want ∙ load))) l;
-    loads = λ is. loaded_now past state c _ runs (want ∙ ap Some is) (whole (words setting state Head));
+    keeps = λ i q t other l. still_loaded past state (Steps c) c i (head_word q t) runs (λ same load. other (same_access a (Loads (Head i)) (sym want ∙ load))) l;
+    loads = λ i is. loaded_now past state c i _ runs (want ∙ ap Some is) (whole (words setting state (Head i)));
   }
 
   abbrev SweepNow : List CoreEvent → ℕ → SweepTurn → Option SweepEnd → Type 0
@@ -181,7 +187,7 @@ module _ (target : Target) (setting : Setting) where
   SweepNow events c turn (Some end) = Unit {0}
 
   abbrev ClaimNow : List CoreEvent → ℕ → ClaimTurn → Option ClaimEnd → Type 0
-  ClaimNow events c turn None = AtStage events c turn.claim.sweep turn.claim.stage
+  ClaimNow events c turn None = AtStage events c turn.claim.kind turn.claim.sweep turn.claim.stage
   ClaimNow events c turn (Some end) = Unit {0}
 
   module _ (past : List CoreEvent) (c : ℕ) (memory : Word → ℕ) where
@@ -194,64 +200,78 @@ module _ (target : Target) (setting : Setting) where
     abbrev IsClaimed : ClaimTurn → Type 0
     IsClaimed turn = ClaimNow now c turn turn.ended
 
-    sweep_onward : (n : Sizes) (sweep : Sweep) (j : ℕ) → IsSwept (sweep_on n sweep j)
-    sweep_onward n sweep j = either_way IsSwept (has_lower n j) (sweep_goes sweep (sweeps.ReadStatus (j - 1))) (sweep_ends sweep swept.Swept) tt tt
+    abbrev n : Sizes
+    n = setting.sizes
 
-    hazard_onward : (n : Sizes) (d r : ℕ) → AtSweep now c (hazard_next n d r)
-    hazard_onward n d r = either_way (AtSweep now c) (nat_lt (r + 1) 8) (sweeps.ReadHazard d (r + 1)) (if nat_lt (d + 1) n.callers then sweeps.ReadHazard (d + 1) 0 else sweeps.ReadStatus (slot_range n).last) tt
+    sweep_onward : (sweep : Sweep) (j : ℕ) → IsSwept (sweep_on n sweep j)
+    sweep_onward sweep j = either_way IsSwept (has_lower n j) (sweep_goes sweep (sweeps.ReadStatus (j - 1))) (sweep_ends sweep swept.Swept) tt tt
+
+    hazard_onward : (d r : ℕ) → AtSweep now c (hazard_next n d r)
+    hazard_onward d r = either_way (AtSweep now c) (nat_lt (r + 1) 8) (sweeps.ReadHazard d (r + 1)) (if nat_lt (d + 1) n.callers then sweeps.ReadHazard (d + 1) 0 else sweeps.ReadStatus (slot_range n).last) tt
         (either_way (AtSweep now c) (nat_lt (d + 1) n.callers) (sweeps.ReadHazard (d + 1) 0) (sweeps.ReadStatus (slot_range n).last) tt tt)
 
-    warn_onward : (n : Sizes) (d : ℕ) → AtSweep now c (warn_next n d)
-    warn_onward n d = either_way (AtSweep now c) (nat_lt (d + 1) n.callers) (sweeps.Warn (d + 1)) (sweeps.ReadHazard 0 0) tt tt
+    all_warned : (scheme : Scheme) → AtSweep now c (warned_all n scheme)
+    all_warned Warned = tt
+    all_warned (Announced own) = tt
 
-    freeing_onward : (n : Sizes) (sweep : Sweep) (j q : ℕ) (kind : Kind) → IsSwept (freeing n sweep j q kind)
-    freeing_onward n sweep j q kinds.Ready = sweep_onward n sweep j
-    freeing_onward n sweep j q kinds.Used = sweep_onward n sweep j
-    freeing_onward n sweep j q kinds.Retired = either_way IsSwept (nat_lt q sweep.bound && not (has_slot sweep.gathered j)) (sweep_goes sweep (sweeps.MakeReady j q)) (sweep_on n sweep j) tt (sweep_onward n sweep j)
+    warn_onward : (scheme : Scheme) (d : ℕ) → AtSweep now c (warn_next n scheme d)
+    warn_onward scheme d = either_way (AtSweep now c) (nat_lt (d + 1) n.callers) (sweeps.Warn (d + 1)) (warned_all n scheme) tt (all_warned scheme)
 
-    status_onward : (n : Sizes) (sweep : Sweep) (j : ℕ) (o : Option StatusParts) → IsSwept (status_read n sweep j o)
-    status_onward n sweep j None = sweep_onward n sweep j
-    status_onward n sweep j (Some parts) = freeing_onward n sweep j parts.phase parts.kind
+    freeing_onward : (sweep : Sweep) (j q : ℕ) (kind : Kind) → IsSwept (freeing n sweep j q kind)
+    freeing_onward sweep j q kinds.Ready = sweep_onward sweep j
+    freeing_onward sweep j q kinds.Used = sweep_onward sweep j
+    freeing_onward sweep j q kinds.Retired = either_way IsSwept (nat_lt q sweep.low && not (has_slot sweep.gathered j)) (sweep_goes sweep (sweeps.MakeReady j q)) (sweep_on n sweep j) tt (sweep_onward sweep j)
 
-    sweep_onwards : (n : Sizes) (last : ℕ) (sweep : Sweep) (stage : SweepStage) → Turns past c memory (sweep_wants_at stage sweep.bound) → AtSweep past c stage
-        → IsSwept (sweep_accepts_at n last sweep (memory (word_of (sweep_wants_at stage sweep.bound))) stage)
-    sweep_onwards n last sweep sweeps.ReadPhase t k = either_way IsSwept (memory Phase == last) (sweep_ends sweep (swept.PhasesOver (memory Phase))) (sweep_goes sweep (sweeps.RaisePhase (memory Phase))) tt tt
-    sweep_onwards n last sweep (sweeps.RaisePhase p) t k = tt
-    sweep_onwards n last sweep (sweeps.Warn d) t k = warn_onward n d
-    sweep_onwards n last sweep (sweeps.ReadHazard d r) t k = hazard_onward n d r
-    sweep_onwards n last sweep (sweeps.ReadStatus j) t k = status_onward n sweep j (status_parts (memory (Status j)))
-    sweep_onwards n last sweep (sweeps.MakeReady j q) t k = either_way IsSwept (memory (Status j) == status_word q kinds.Retired) (sweep_goes sweep (sweeps.PushHead j)) (sweep_on n sweep j) tt (sweep_onward n sweep j)
-    sweep_onwards n last sweep (sweeps.PushHead j) t k = t.loads refl
-    sweep_onwards n last sweep (sweeps.PushLink j q x) t k = t.keeps q x (λ is. cc) k
-    sweep_onwards n last sweep (sweeps.PushTop j q x) t k = either_way IsSwept (memory Head == head_word q x) (sweep_on n sweep j) (sweep_goes sweep (sweeps.PushHead j)) (sweep_onward n sweep j) tt
+    status_onward : (sweep : Sweep) (j : ℕ) (o : Option StatusParts) → IsSwept (status_read n sweep j o)
+    status_onward sweep j None = sweep_onward sweep j
+    status_onward sweep j (Some parts) = freeing_onward sweep j parts.phase parts.kind
+
+    sweep_onwards : (last : ℕ) (sweep : Sweep) (stage : SweepStage) → Turns past c memory (sweep_wants_at sweep.scheme stage sweep.bound) → AtSweep past c stage
+        → IsSwept (sweep_accepts_at n last sweep (memory (word_of (sweep_wants_at sweep.scheme stage sweep.bound))) stage)
+    sweep_onwards last sweep sweeps.ReadPhase t k = either_way IsSwept (memory Phase == last) (sweep_ends sweep (swept.PhasesOver (memory Phase))) (sweep_goes sweep (sweeps.RaisePhase (memory Phase))) tt tt
+    sweep_onwards last sweep (sweeps.RaisePhase p) t k = tt
+    sweep_onwards last sweep (sweeps.Warn d) t k = warn_onward sweep.scheme d
+    sweep_onwards last sweep (sweeps.ReadHazard d r) t k = hazard_onward d r
+    sweep_onwards last sweep (sweeps.ReadStatus j) t k = status_onward sweep j (status_parts (memory (Status j)))
+    sweep_onwards last sweep (sweeps.MakeReady j q) t k = either_way IsSwept (memory (Status j) == status_word q kinds.Retired) (sweep_goes sweep (sweeps.PushHead (kind_of n j) j)) (sweep_on n sweep j) refl (sweep_onward sweep j)
+    sweep_onwards last sweep (sweeps.PushHead i j) t k =
+        subst (λ (kind : ℕ). Found now c kind (head_parts (memory (Head i))).phase (head_parts (memory (Head i))).top) k (t.loads i refl)
+    sweep_onwards last sweep (sweeps.PushLink j q x) t k = t.keeps (kind_of n j) q x (λ is. cc) k
+    sweep_onwards last sweep (sweeps.PushTop i j q x) t k = either_way IsSwept (memory (Head i) == head_word q x) (sweep_on n sweep j) (sweep_goes sweep (sweeps.PushHead (kind_of n j) j)) (sweep_onward sweep j) refl
+
+    follows_onward : (claim : Claim) (scheme : Scheme) (made : ℕ) → IsClaimed (sweep_follows scheme made claim)
+    follows_onward claim Warned made = tt
+    follows_onward claim (Announced own) zero = tt
+    follows_onward claim (Announced own) (suc made) = tt
 
     look_onward : (claim : Claim) → IsClaimed (look_ended claim)
-    look_onward claim = either_way IsClaimed (claim.sweeps == 2) (claim_ends claim ends.Full) (record { claim = record claim { stage = claims.Sweeps; sweep = sweep_begun }; ended = None }) tt tt
+    look_onward claim = either_way IsClaimed (claim.sweeps == 2) (claim_ends claim ends.Full) (sweep_follows claim.sweep.scheme claim.sweeps claim) tt (follows_onward claim claim.sweep.scheme claim.sweeps)
 
     swept_onward : (claim : Claim) (turn : SweepTurn) (end : Option SweepEnd) → claim.stage ≡ claims.Sweeps → SweepNow now c turn end → ClaimNow now c (sweep_ended claim turn.sweep end) (sweep_ended claim turn.sweep end).ended
-    swept_onward claim turn None is k = subst (λ (stage : ClaimStage). AtStage now c turn.sweep stage) (sym is) k
+    swept_onward claim turn None is k = subst (λ (stage : ClaimStage). AtStage now c claim.kind turn.sweep stage) (sym is) k
     swept_onward claim turn (Some swept.Swept) is k = tt
     swept_onward claim turn (Some (swept.PhasesOver p)) is k = tt
 
-    claim_onwards : (n : Sizes) (last : ℕ) (claim : Claim) (stage : ClaimStage) → claim.stage ≡ stage → Turns past c memory (claim_wants_at claim.sweep stage) → AtStage past c claim.sweep stage
-        → IsClaimed (claim_accepts_at n last claim (memory (word_of (claim_wants_at claim.sweep stage))) stage)
-    claim_onwards n last claim claims.ReadHead is t k =
-        let parts = head_parts (memory Head) in either_way IsClaimed (parts.top == 0) (look_ended claim) (claim_goes claim (claims.ReadLink parts.phase parts.top)) (look_onward claim) (t.loads refl)
-    claim_onwards n last claim (claims.ReadLink q x) is t k = t.keeps q x (λ same. cc) k
-    claim_onwards n last claim (claims.Take q x next) is t k = either_way IsClaimed (memory Head == head_word q x) (claim_goes claim (claims.StoreUsed q x)) (claim_goes claim claims.ReadHead) tt tt
-    claim_onwards n last claim (claims.StoreUsed q x) is t k = tt
-    claim_onwards n last claim claims.Sweeps is t k =
-        let turn = sweep_accepts_at n last claim.sweep (memory (word_of (sweep_wants_at claim.sweep.stage claim.sweep.bound))) claim.sweep.stage in
-        swept_onward claim turn turn.ended is (sweep_onwards n last claim.sweep claim.sweep.stage t k)
+    claim_onwards : (last : ℕ) (claim : Claim) (stage : ClaimStage) → claim.stage ≡ stage → Turns past c memory (claim_wants_at claim.kind claim.sweep stage) → AtStage past c claim.kind claim.sweep stage
+        → IsClaimed (claim_accepts_at n last claim (memory (word_of (claim_wants_at claim.kind claim.sweep stage))) stage)
+    claim_onwards last claim claims.ReadHead is t k =
+        let parts = head_parts (memory (Head claim.kind)) in either_way IsClaimed (parts.top == 0) (look_ended claim) (claim_goes claim (claims.ReadLink parts.phase parts.top)) (look_onward claim) (t.loads claim.kind refl)
+    claim_onwards last claim (claims.ReadLink q x) is t k = t.keeps claim.kind q x (λ same. cc) k
+    claim_onwards last claim (claims.Take q x next) is t k = either_way IsClaimed (memory (Head claim.kind) == head_word q x) (claim_goes claim (claims.StoreUsed q x)) (claim_goes claim claims.ReadHead) tt tt
+    claim_onwards last claim (claims.StoreUsed q x) is t k = tt
+    claim_onwards last claim (claims.Withdraw own) is t k = tt
+    claim_onwards last claim claims.Sweeps is t k =
+        let turn = sweep_accepts_at n last claim.sweep (memory (word_of (sweep_wants_at claim.sweep.scheme claim.sweep.stage claim.sweep.bound))) claim.sweep.stage in
+        swept_onward claim turn turn.ended is (sweep_onwards last claim.sweep claim.sweep.stage t k)
 
     -- a claim that goes on hasn't ended
-    not_ended : (turn : ClaimTurn) → turn.ended ≡ None → ClaimNow now c turn turn.ended → AtStage now c turn.claim.sweep turn.claim.stage
+    not_ended : (turn : ClaimTurn) → turn.ended ≡ None → ClaimNow now c turn turn.ended → AtStage now c turn.claim.kind turn.claim.sweep turn.claim.stage
     not_ended turn is k = subst (λ (o : Option ClaimEnd). ClaimNow now c turn o) is k
 
   -- ---- events
 
-  begins_loadless : (events : List CoreEvent) (c : ℕ) → HoldsAtBegins setting.sizes (AtRoutine events c)
-  begins_loadless events c = record { idle = tt; seen = λ why. tt; here = tt; lists = λ k. tt; retires = λ j go. tt; restarts = tt; clears = λ next. tt; claims = tt; zeroes = λ k field. tt }
+  begins_loadless : (events : List CoreEvent) (c : ℕ) → HoldsAtBegins target setting.sizes (AtRoutine events c)
+  begins_loadless events c = record { idle = tt; seen = λ why. tt; here = tt; lists = λ k. tt; retires = λ j go. tt; restarts = tt; clears = λ next. tt; claims = λ e. tt; zeroes = λ k field. tt }
 
   own_step : (past : List CoreEvent) (state : CoreState) (c : ℕ) (a : WordAccess) → core_run target setting past (core_start target setting) ≡ Some state → wants target ((view setting state).who c) ≡ Some a → AtRoutine past c ((view setting state).who c).routine
       → AtRoutine (past ++ Steps c ∷ []) c (after target setting ((view setting state).who c) (words setting state (word_of a))).routine
@@ -263,9 +283,9 @@ module _ (target : Target) (setting : Setting) where
         → AtRoutine (past ++ Steps c ∷ []) c (Claims (claim_accepts setting.sizes setting.last claim (words setting state (word_of a))).claim)
     goes_on claim same goes =
         let is : a ≡ claim_wants claim = same_access a (claim_wants claim) (sym want ∙ wants_claims target ((view setting state).who c) claim same) in
-        let here : AtStage past c claim.sweep claim.stage = subst (AtRoutine past c) same k in
+        let here : AtStage past c claim.kind claim.sweep claim.stage = subst (AtRoutine past c) same k in
         let turns : Turns past c (words setting state) (claim_wants claim) = subst (Turns past c (words setting state)) is (turns_by past state c a runs want) in
-        let on = claim_onwards past c (words setting state) setting.sizes setting.last claim claim.stage refl turns here in
+        let on = claim_onwards past c (words setting state) setting.last claim claim.stage refl turns here in
         let ended : (claim_accepts setting.sizes setting.last claim (words setting state (word_of (claim_wants claim)))).ended ≡ None =
         ap (λ (b : WordAccess). (claim_accepts setting.sizes setting.last claim (words setting state (word_of b))).ended) (sym is) ∙ goes in
         subst (λ (b : WordAccess). AtRoutine (past ++ Steps c ∷ []) c (Claims (claim_accepts setting.sizes setting.last claim (words setting state (word_of b))).claim)) (sym is)
@@ -280,14 +300,14 @@ module _ (target : Target) (setting : Setting) where
       subst (λ (who : ℕ → Entry). (c : ℕ) → c < setting.sizes.callers → AtRoutine (past ++ Takes d call ∷ []) c (who c).routine) (sym m.4)
       (each_put (λ c (e : Entry). c < setting.sizes.callers → AtRoutine (past ++ Takes d call ∷ []) c e.routine) (view setting state).who d (taken call ((view setting state).who d)) (λ lt. tt)
       (λ c ne lt. stays_routine past (past ++ Takes d call ∷ []) c
-      (λ q t l. still_loaded past state (Takes d call) c (head_word q t) runs (λ same. absurd (let no : Takes d call ≡ Steps c = same in cc)) l)
+      (λ i q t l. still_loaded past state (Takes d call) c i (head_word q t) runs (λ same. absurd (let no : Takes d call ≡ Steps c = same in cc)) l)
       ((view setting state).who c).routine (all c lt)))
   event_at past state later (Steps d) runs m all =
       subst (λ (who : ℕ → Entry). (c : ℕ) → c < setting.sizes.callers → AtRoutine (past ++ Steps d ∷ []) c (who c).routine) (sym m.5)
       (each_put (λ c (e : Entry). c < setting.sizes.callers → AtRoutine (past ++ Steps d ∷ []) c e.routine) (view setting state).who d (after target setting ((view setting state).who d) ((view setting state).memory (word_of m.0)))
       (λ lt. own_step past state d m.0 runs m.2 (all d lt))
       (λ c ne lt. stays_routine past (past ++ Steps d ∷ []) c
-      (λ q t l. still_loaded past state (Steps d) c (head_word q t) runs (λ same. absurd (ne (sym (steps_same d c same)))) l)
+      (λ i q t l. still_loaded past state (Steps d) c i (head_word q t) runs (λ same. absurd (ne (sym (steps_same d c same)))) l)
       ((view setting state).who c).routine (all c lt)))
 
   -- ---- runs
@@ -308,49 +328,62 @@ module _ (target : Target) (setting : Setting) where
 
   -- ---- what an exchange on the head expects
 
-  elsewhere : (e : Entry) (expected replacement : ℕ) → standing_of e.routine ≡ Elsewhere → wants target e ≡ Some (Exchanges Head expected replacement) → ⊥
-  elsewhere e expected replacement at want = let no : false ≡ true = elsewhere_wants target e (Exchanges Head expected replacement) at want in cc
+  elsewhere : (e : Entry) (i expected replacement : ℕ) → standing_of e.routine ≡ Elsewhere → wants target e ≡ Some (Exchanges (Head i) expected replacement) → ⊥
+  elsewhere e i expected replacement at want = let no : false ≡ true = elsewhere_wants target e (Exchanges (Head i) expected replacement) at want in cc
 
-  retiring : (slot : ℕ) (stage : RetireStage) (expected replacement : ℕ) → retire_wants_at slot stage ≡ Exchanges Head expected replacement → ⊥
-  retiring slot retires.ReadPhase expected replacement is = cc
-  retiring slot (retires.StoreStatus p) expected replacement is = cc
+  retiring : (slot : ℕ) (stage : RetireStage) (i expected replacement : ℕ) → retire_wants_at slot stage ≡ Exchanges (Head i) expected replacement → ⊥
+  retiring slot retires.ReadPhase i expected replacement is = cc
+  retiring slot (retires.StoreStatus p) i expected replacement is = cc
 
-  -- the word that an exchange expects
-  expected_is : (x y expected replacement : ℕ) → Exchanges Head x y ≡ Exchanges Head expected replacement → x ≡ expected
-  expected_is x y expected replacement is = cc
+  -- the head of an exchange, and the word that it expects
+  head_is : (j i x y expected replacement : ℕ) → Exchanges (Head j) x y ≡ Exchanges (Head i) expected replacement → j ≡ i
+  head_is j i x y expected replacement is = cc
 
-  sweeping : (events : List CoreEvent) (c expected replacement bound : ℕ) (stage : SweepStage) → AtSweep events c stage → sweep_wants_at stage bound ≡ Exchanges Head expected replacement → LastLoad target setting events c expected
-  sweeping events c expected replacement bound sweeps.ReadPhase k is = absurd cc
-  sweeping events c expected replacement bound (sweeps.RaisePhase p) k is = absurd cc
-  sweeping events c expected replacement bound (sweeps.Warn d) k is = absurd cc
-  sweeping events c expected replacement bound (sweeps.ReadHazard d r) k is = absurd cc
-  sweeping events c expected replacement bound (sweeps.ReadStatus j) k is = absurd cc
-  sweeping events c expected replacement bound (sweeps.MakeReady j q) k is = absurd cc
-  sweeping events c expected replacement bound (sweeps.PushHead j) k is = absurd cc
-  sweeping events c expected replacement bound (sweeps.PushLink j q t) k is = absurd cc
-  sweeping events c expected replacement bound (sweeps.PushTop j q t) k is = subst (LastLoad target setting events c) (expected_is (head_word q t) _ expected replacement is) k
+  expected_is : (j i x y expected replacement : ℕ) → Exchanges (Head j) x y ≡ Exchanges (Head i) expected replacement → x ≡ expected
+  expected_is j i x y expected replacement is = cc
 
-  claiming : (events : List CoreEvent) (c expected replacement : ℕ) (sweep : Sweep) (stage : ClaimStage) → AtStage events c sweep stage → claim_wants_at sweep stage ≡ Exchanges Head expected replacement → LastLoad target setting events c expected
-  claiming events c expected replacement sweep claims.ReadHead k is = absurd cc
-  claiming events c expected replacement sweep (claims.ReadLink q t) k is = absurd cc
-  claiming events c expected replacement sweep (claims.Take q t next) k is = subst (LastLoad target setting events c) (expected_is (head_word q t) _ expected replacement is) k
-  claiming events c expected replacement sweep (claims.StoreUsed q t) k is = absurd cc
-  claiming events c expected replacement sweep claims.Sweeps k is = sweeping events c expected replacement sweep.bound sweep.stage k is
+  found_is : (events : List CoreEvent) (c j i q t y expected replacement : ℕ) → Found events c j q t → Exchanges (Head j) (head_word q t) y ≡ Exchanges (Head i) expected replacement → LastLoad target setting events c i expected
+  found_is events c j i q t y expected replacement k is =
+      subst (LastLoad target setting events c i) (expected_is j i (head_word q t) y expected replacement is)
+      (subst (λ (kind : ℕ). LastLoad target setting events c kind (head_word q t)) (head_is j i (head_word q t) y expected replacement is) k)
 
-  expects_at : (events : List CoreEvent) (c expected replacement : ℕ) (e : Entry) (r : Routine) → e.routine ≡ r → AtRoutine events c r → wants target e ≡ Some (Exchanges Head expected replacement) → LastLoad target setting events c expected
-  expects_at events c expected replacement e Idle at k want = absurd (elsewhere e expected replacement (ap standing_of at) want)
-  expects_at events c expected replacement e (LoadSeen why) at k want = absurd (elsewhere e expected replacement (ap standing_of at) want)
-  expects_at events c expected replacement e At at k want = absurd (elsewhere e expected replacement (ap standing_of at) want)
-  expects_at events c expected replacement e (InList n) at k want = absurd (elsewhere e expected replacement (ap standing_of at) want)
-  expects_at events c expected replacement e (Retires retirement go) at k want =
-      absurd (retiring retirement.slot retirement.stage expected replacement (same_access _ _ (sym (wants_retires target e retirement go at) ∙ want)))
-  expects_at events c expected replacement e Restarts at k want = absurd (elsewhere e expected replacement (ap standing_of at) want)
-  expects_at events c expected replacement e (Clears next) at k want = absurd (elsewhere e expected replacement (ap standing_of at) want)
-  expects_at events c expected replacement e (Claims claim) at k want = claiming events c expected replacement claim.sweep claim.stage k (same_access _ _ (sym (wants_claims target e claim at) ∙ want))
-  expects_at events c expected replacement e (Zeroes n field) at k want = absurd (elsewhere e expected replacement (ap standing_of at) want)
+  warning : (scheme : Scheme) (d bound i expected replacement : ℕ) → warn_wanted scheme d bound ≡ Exchanges (Head i) expected replacement → ⊥
+  warning Warned d bound i expected replacement is = cc
+  warning (Announced own) d bound i expected replacement is = cc
+
+  sweeping : (events : List CoreEvent) (c i expected replacement : ℕ) (scheme : Scheme) (bound : ℕ) (stage : SweepStage) → AtSweep events c stage → sweep_wants_at scheme stage bound ≡ Exchanges (Head i) expected replacement → LastLoad target setting events c i expected
+  sweeping events c i expected replacement scheme bound sweeps.ReadPhase k is = absurd cc
+  sweeping events c i expected replacement scheme bound (sweeps.RaisePhase p) k is = absurd cc
+  sweeping events c i expected replacement scheme bound (sweeps.Warn d) k is = absurd (warning scheme d bound i expected replacement is)
+  sweeping events c i expected replacement scheme bound (sweeps.ReadHazard d r) k is = absurd cc
+  sweeping events c i expected replacement scheme bound (sweeps.ReadStatus j) k is = absurd cc
+  sweeping events c i expected replacement scheme bound (sweeps.MakeReady j q) k is = absurd cc
+  sweeping events c i expected replacement scheme bound (sweeps.PushHead m j) k is = absurd cc
+  sweeping events c i expected replacement scheme bound (sweeps.PushLink j q t) k is = absurd cc
+  sweeping events c i expected replacement scheme bound (sweeps.PushTop m j q t) k is = found_is events c m i q t _ expected replacement k is
+
+  claiming : (events : List CoreEvent) (c i expected replacement kind : ℕ) (sweep : Sweep) (stage : ClaimStage) → AtStage events c kind sweep stage → claim_wants_at kind sweep stage ≡ Exchanges (Head i) expected replacement → LastLoad target setting events c i expected
+  claiming events c i expected replacement kind sweep claims.ReadHead k is = absurd cc
+  claiming events c i expected replacement kind sweep (claims.ReadLink q t) k is = absurd cc
+  claiming events c i expected replacement kind sweep (claims.Take q t next) k is = found_is events c kind i q t _ expected replacement k is
+  claiming events c i expected replacement kind sweep (claims.StoreUsed q t) k is = absurd cc
+  claiming events c i expected replacement kind sweep (claims.Withdraw own) k is = absurd cc
+  claiming events c i expected replacement kind sweep claims.Sweeps k is = sweeping events c i expected replacement sweep.scheme sweep.bound sweep.stage k is
+
+  expects_at : (events : List CoreEvent) (c i expected replacement : ℕ) (e : Entry) (r : Routine) → e.routine ≡ r → AtRoutine events c r → wants target e ≡ Some (Exchanges (Head i) expected replacement) → LastLoad target setting events c i expected
+  expects_at events c i expected replacement e Idle at k want = absurd (elsewhere e i expected replacement (ap standing_of at) want)
+  expects_at events c i expected replacement e (LoadSeen why) at k want = absurd (elsewhere e i expected replacement (ap standing_of at) want)
+  expects_at events c i expected replacement e At at k want = absurd (elsewhere e i expected replacement (ap standing_of at) want)
+  expects_at events c i expected replacement e (InList n) at k want = absurd (elsewhere e i expected replacement (ap standing_of at) want)
+  expects_at events c i expected replacement e (Retires retirement go) at k want =
+      absurd (retiring retirement.slot retirement.stage i expected replacement (same_access _ _ (sym (wants_retires target e retirement go at) ∙ want)))
+  expects_at events c i expected replacement e Restarts at k want = absurd (elsewhere e i expected replacement (ap standing_of at) want)
+  expects_at events c i expected replacement e (Clears next) at k want = absurd (elsewhere e i expected replacement (ap standing_of at) want)
+  expects_at events c i expected replacement e (Claims claim) at k want = claiming events c i expected replacement claim.kind claim.sweep claim.stage k (same_access _ _ (sym (wants_claims target e claim at) ∙ want))
+  expects_at events c i expected replacement e (Zeroes n field) at k want = absurd (elsewhere e i expected replacement (ap standing_of at) want)
 
   -- at every state of a run
   pub expects : ((past : List CoreEvent) (state : CoreState) → core_run target setting past (core_start target setting) ≡ Some state → IsShaped target setting state) → (events : List CoreEvent) (state : CoreState) → core_run target setting events (core_start target setting) ≡ Some state
-      → (c expected replacement : ℕ) → c < setting.sizes.callers → wants target ((view setting state).who c) ≡ Some (Exchanges Head expected replacement) → LastLoad target setting events c expected
-  expects shaped events state is c expected replacement lt want =
-      expects_at events c expected replacement ((view setting state).who c) ((view setting state).who c).routine refl (from shaped events [] (core_start target setting) state refl start_at is c lt) want
+      → (c i expected replacement : ℕ) → c < setting.sizes.callers → wants target ((view setting state).who c) ≡ Some (Exchanges (Head i) expected replacement) → LastLoad target setting events c i expected
+  expects shaped events state is c i expected replacement lt want =
+      expects_at events c i expected replacement ((view setting state).who c) ((view setting state).who c).routine refl (from shaped events [] (core_start target setting) state refl start_at is c lt) want

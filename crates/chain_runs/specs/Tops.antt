@@ -1,4 +1,4 @@
--- What stands on top of the chain between a load of the head word and an exchange, and under which phase a slot comes back there.
+-- What stands on top of a kind's chain between a load of the kind's head word and an exchange, and under which phase a slot comes back there.
 use Rattle.std.specs.Prelude.{ℕ, ◌≡◌, ◌≢◌, ◌<◌, List, ◌∷◌, ◌++◌, Some}
 use Rattle.norm_lang.specs.declared.text.Text.{Text}
 use Rattle.target_code.specs.declared.target.Target.{Target}
@@ -29,33 +29,34 @@ NotAfter target setting events m later = (between : List CoreEvent) × (m.before
 abbrev pub StepsNext : (target : Target) (setting : Setting) (events : List CoreEvent) → Moment target setting events → ℕ → Type 0
 StepsNext target setting events m c = (after : List CoreEvent) × (m.rest ≡ Steps c ∷ after)
 
--- and it loads the head word
-abbrev pub LoadsHead : (target : Target) (setting : Setting) (events : List CoreEvent) → Moment target setting events → ℕ → Type 0
-LoadsHead target setting events m c = StepsNext target setting events m c × (wants target ((view setting m.state).who c) ≡ Some (Loads Head))
+-- and it loads the head word of a kind
+abbrev pub LoadsHead : (target : Target) (setting : Setting) (events : List CoreEvent) → Moment target setting events → ℕ → ℕ → Type 0
+LoadsHead target setting events m c k = StepsNext target setting events m c × (wants target ((view setting m.state).who c) ≡ Some (Loads (Head k)))
 
--- the last load of the head word by c in a run, and the word that it found
-pub record LastLoad (target : Target) (setting : Setting) (events : List CoreEvent) (c found : ℕ) : Type 0 where
+-- the last load of a kind's head word by c in a run, and the word that it found
+pub record LastLoad (target : Target) (setting : Setting) (events : List CoreEvent) (c k found : ℕ) : Type 0 where
   pub at : Moment target setting events
-  pub loads : LoadsHead target setting events at c
-  pub finds : words setting at.state Head ≡ found
-  pub last : (m : Moment target setting events) → LoadsHead target setting events m c → NotAfter target setting events m at
+  pub loads : LoadsHead target setting events at c k
+  pub finds : words setting at.state (Head k) ≡ found
+  pub last : (m : Moment target setting events) → LoadsHead target setting events m c k → NotAfter target setting events m at
 
--- a slot as it stood in the chain at a moment, with its link
-pub record StandsAsBefore (before now : Word → ℕ) (j : ℕ) : Type 0 where
-  pub stands : InChain now j
+-- a slot as it stood in a kind's chain at a moment, with its link
+pub record StandsAsBefore (before now : Word → ℕ) (k j : ℕ) : Type 0 where
+  pub stands : InChain now k j
   pub link : now (Link j) ≡ before (Link j)
 
 -- after a run's events, in the state that they lead to
 pub record Stood (target : Target) (setting : Setting) (events : List CoreEvent) (state : CoreState) : Type 0 where
-  -- an exchange on the head word expects what its caller's last load of it found
-  pub expects : (c expected replacement : ℕ) → c < setting.sizes.callers → wants target ((view setting state).who c) ≡ Some (Exchanges Head expected replacement) → LastLoad target setting events c expected
-  -- where the head word is what that load found, and a slot is on top, that slot has stood in the chain at each moment since the load, and
-  -- its link is unchanged
-  pub stood : (c found : ℕ) (load : LastLoad target setting events c found) → words setting state Head ≡ found → (head_parts found).top ≢ 0
-      → (m : Moment target setting events) → NotAfter target setting events load.at m → StandsAsBefore (words setting load.at.state) (words setting m.state) (head_parts found).top
+  -- an exchange on a kind's head word expects what its caller's last load of it found
+  pub expects : (c k expected replacement : ℕ) → c < setting.sizes.callers → wants target ((view setting state).who c) ≡ Some (Exchanges (Head k) expected replacement)
+      → LastLoad target setting events c k expected
+  -- where the head word is what that load found, and a slot is on top, that slot has stood in the kind's chain at each moment since the
+  -- load, and its link is unchanged
+  pub stood : (c k found : ℕ) (load : LastLoad target setting events c k found) → words setting state (Head k) ≡ found → (head_parts found).top ≢ 0
+      → (m : Moment target setting events) → NotAfter target setting events load.at m → StandsAsBefore (words setting load.at.state) (words setting m.state) k (head_parts found).top
   -- a slot that was taken from under a head with phase q is pushed again only under a greater phase
-  pub above : (c d q j below : ℕ) (m : Moment target setting events) → StepsNext target setting events m c → TakesTop setting m.state c q j → PutsOnTop setting state d j below
-      → (later : CoreState) → core_event target setting state (Steps d) ≡ Some later → q < stamp (words setting later)
+  pub above : (c d q k i j below : ℕ) (m : Moment target setting events) → StepsNext target setting events m c → TakesTop setting m.state c k q j → PutsOnTop setting state d i j below
+      → (later : CoreState) → core_event target setting state (Steps d) ≡ Some later → q < stamp (words setting later) i
 
 -- of a proper text
 abbrev pub TopsHaveStood : Target → Text → Setting → Type 0

@@ -19,6 +19,7 @@ use Rattle.guard_words.specs.Guards.{guard_at, pass_check, with_guard}
 use Rattle.oa_words.specs.Words.{Sizes}
 use Rattle.phase_pools.specs.declared.access.ClaimEnd.{ClaimEnd}
 use Rattle.phase_pools.specs.declared.access.ClaimEnd.TheVariants as ends
+use Rattle.phase_pools.specs.declared.stages.Scheme.TheVariants.{Warned}
 use Rattle.phase_pools.specs.Pools.{Claim, claim_begun, claim_takes, claim_accepts, Retirement, retire_begun, retire_accepts, retire_accepts_at}
 use Rattle.caller_parts.specs.declared.call.Reply.TheVariants as replies
 use Rattle.caller_parts.specs.declared.routine.AfterClear.{AfterClear}
@@ -31,7 +32,7 @@ use Rattle.phase_pools.specs.declared.stages.RetireStage.TheVariants as stages
 use Rattle.caller_parts.specs.declared.routine.Routine.{Routine}
 use Rattle.caller_parts.specs.declared.routine.Routine.TheVariants.{Idle, LoadSeen, At, InList, Retires, Restarts, Clears, Claims, Zeroes}
 use Rattle.caller_parts.specs.Settings.{Setting}
-use Rattle.caller_steps.specs.Entries.{Entry, code_in, instr_in, new_number, zero_count, cradle_of}
+use Rattle.caller_steps.specs.Entries.{Entry, code_in, instr_in, new_kind, new_number, zero_count, cradle_of}
 use Rattle.caller_parts.specs.Operands.{with_word, slot_in, register_number, list_of, succeeds, to_retire, with_new}
 use Rattle.caller_steps.specs.Clearing.{restart_next, clear_next, unguarded}
 use Rattle.caller_steps.specs.Signs.{quiet}
@@ -74,8 +75,8 @@ module _ (target : Target) (sizes : Sizes) (j : ℕ) (some : 1 ≤ j) where
 
   then_avoids : (next : AfterClear) (e : Entry) → IsFree j e → EntryAvoids j (then_goes target sizes next e)
   then_avoids clears.New e f = of (cradle_of e (new_number target e)) where
-    of : (k : ℕ) → EntryAvoids j (new_on sizes (new_number target e) k e)
-    of zero = to e (Claims (claim_begun sizes)) f ((λ k d lt. absurd (let none : k < 0 = lt in omega (arith, none))), tt)
+    of : (k : ℕ) → EntryAvoids j (new_on sizes (new_kind target e) (new_number target e) k e)
+    of zero = to e (Claims (claim_begun sizes (new_kind target e) Warned)) f ((λ k d lt. absurd (let none : k < 0 = lt in omega (arith, none))), tt)
     of (suc k) = to e (Zeroes (new_number target e) 0) f tt
   then_avoids clears.WrapUp e f = to e (LoadSeen starts.WrapUp) f tt
   then_avoids (clears.Reply reply) e f = record { registers = f.registers; started = f.started; guards = f.guards; cradles = f.cradles; routine = tt }
@@ -285,7 +286,7 @@ module _ (target : Target) (sizes : Sizes) (j : ℕ) (some : 1 ≤ j) where
   new_avoids (Some (Plain instr.Again)) slot registers other s = s
 
   zeroed_avoids : (k field : ℕ) (e : Entry) → IsFree j e → EntryAvoids j (zeroed target sizes k field e).entry
-  zeroed_avoids k field e f = of (nat_lt (field + 1) (zero_count target sizes (instr_in target e))) where
+  zeroed_avoids k field e f = of (nat_lt (field + 1) (zero_count target (instr_in target e))) where
     of : (b : Bool) → EntryAvoids j (if b then quiet (with_routine e (Zeroes k (field + 1))) else node_made target sizes (cradle_of e k) e).entry
     of true = to e (Zeroes k (field + 1)) f tt
     of false = on_avoids (with_new (instr_in target e) (cradle_of e k) e.hand.registers) e f (new_avoids (instr_in target e) (cradle_of e k) e.hand.registers (f.cradles k) f.registers)

@@ -1,19 +1,21 @@
 -- A call of an operation with one `new`: it claims at most once before it has published, and past that it claims no more.
-use Rattle.std.proofs.Common.{◌≡◌, ◌≢◌, ◌⊎◌, inl, inr, ⊎_elim, ℕ, ◌+◌, ◌≤◌, ◌<◌, ◌==◌, if◌then◌else◌, Bool, true, false, List, [], ◌∷◌, ◌++◌, length, set, Option, Some, None, refl, sym, ◌∙◌, ap, subst, arith, get_or-set_same}
+use Rattle.std.proofs.Common.{◌≡◌, ◌≢◌, ◌⊎◌, inl, inr, ⊎_elim, ℕ, zero, suc, ◌+◌, ◌≤◌, ◌<◌, ◌==◌, if◌then◌else◌, Bool, true, false, List, [], ◌∷◌, ◌++◌, length, set, Option, Some, None, refl, sym, ◌∙◌, ap, subst, arith, get_or-set_same}
 use Rattle.std.specs.Prelude.{slice_get, slice_index}
 use Rattle.std.proofs.lemmas.List.{append_assoc}
 use native.Mathlib.Decide.{ℕ_discrete}
 use mathlib.Core.Logic.{dite}
 use Rattle.norm_lang.specs.declared.text.Reg.{Reg}
 use Rattle.norm_lang.specs.declared.text.Instr.TheVariants as instr
+use Rattle.target_code.specs.declared.target.TargetInstr.{TargetInstr}
 use Rattle.target_code.specs.declared.target.TargetInstr.TheVariants.{Plain}
 use Rattle.target_code.specs.declared.target.TargetOp.{TargetOp}
 use Rattle.target_code.specs.declared.target.Target.{Target}
-use Rattle.target_code.specs.TargetLimits.{target_news_in}
+use Rattle.target_code.specs.TargetLimits.{is_target_new, target_news_in}
 use Rattle.phase_pools.specs.declared.access.ClaimEnd.{ClaimEnd}
 use Rattle.phase_pools.specs.declared.access.ClaimEnd.TheVariants as ends
 use Rattle.phase_pools.specs.declared.stages.ClaimStage.{ClaimStage}
 use Rattle.phase_pools.specs.declared.stages.ClaimStage.TheVariants as claims
+use Rattle.oa_words.specs.SlotKinds.{kind_of}
 use Rattle.phase_pools.specs.Pools.{Claim, ClaimTurn, claim_accepts, claim_accepts_at, claim_ends, claim_goes, claim_takes, takes_at}
 use Rattle.oa_words.specs.Packed.{head_word}
 use Rattle.caller_parts.proofs.News.{new_there}
@@ -29,18 +31,18 @@ use Rattle.caller_parts.specs.declared.routine.Routine.TheVariants.{Idle, LoadSe
 use Rattle.caller_parts.specs.Pairing.{replied_by}
 use Rattle.caller_parts.specs.Settings.{Setting}
 use Rattle.caller_steps.specs.Entries.{Entry, is_idle, code_in, cradle_of, instr_in, new_number}
-use Rattle.caller_parts.specs.Operands.{is_new_at, method_code}
+use Rattle.caller_parts.specs.Operands.{is_new_at, kind_made, code_at, cradle_number, method_code}
 use Rattle.caller_steps.specs.Signs.{Moved}
 use Rattle.caller_steps.specs.After.{after, counted, claim_counted, claim_on, is_wrap_up}
 use Rattle.caller_steps.specs.Belongs.{Belongs, ClaimStands, RunsAt, Stands}
 use Rattle.core_runs.specs.Advances.{RunsOn, Ends}
 use Rattle.core_runs.proofs.Turning.{after_turns}
-use Rattle.target_runs.specs.Sane.{SaneAt}
-use Rattle.caller_laws.proofs.Methods.{Methods}
-use Rattle.caller_laws.proofs.Equations.{after_is, moved_claims}
-use Rattle.caller_laws.proofs.Stopping.{site_of}
-use Rattle.caller_laws.proofs.Cradles.{cradle_number_first, new_counts}
-use Rattle.caller_laws.proofs.Pools.{ClaimOn}
+use Rattle.target_laws.specs.target_runs.Sane.{SaneAt}
+use Rattle.core_runs.proofs.caller_laws.Methods.{Methods, SettingSane}
+use Rattle.core_runs.proofs.caller_laws.Equations.{after_is, moved_claims}
+use Rattle.core_runs.proofs.caller_laws.Stopping.{site_of}
+use Rattle.core_runs.proofs.caller_laws.Cradles.{cradle_number_small, new_counts}
+use Rattle.core_runs.proofs.caller_laws.Pools.{ClaimOn}
 use Rattle.claim_laws.specs.CallSteps.{StepMade}
 use Rattle.claim_laws.specs.Publishing.{news_of, news_of_call, HasFewNews, Publishes}
 use Rattle.claim_laws.proofs.Onward.{IsAnswer, IsBefore, IsNoClaim, StandsAfter, after_answers, ClaimStarts, KeepsFrom, IsPastAt, IsPast, StepKeeps, after_keeps}
@@ -51,14 +53,41 @@ generator_news : (o : Option TargetOp) → target_news_in (method_code o false) 
 generator_news None = refl
 generator_news (Some op) = refl
 
+-- the generator of the operation that a caller runs
+abbrev generator_of : Target → Entry → List TargetInstr
+generator_of target e = code_at target e.running.call.op false
+
+-- it stands at one of its `new`, and the cradle for which it claims is that of this
+pub record ClaimsForNew (target : Target) (e : Entry) : Type 0 where
+  pub new : is_new_at (slice_get (generator_of target e) e.hand.at) ≡ true
+  pub number : new_number target e ≡ cradle_number (generator_of target e) e.hand.at
+
+two : {n : ℕ} (here : Bool) → here ≡ true → 1 ≤ n → (if here then n + 1 else n) ≤ 1 → ⊥
+two true is some few = omega (arith, some, few)
+two false is some few = let z : false ≡ true = is in cc
+
+-- where a method has no more than one `new`, its places of one are the same
+only_place : (code : List TargetInstr) (a b : ℕ) → target_news_in code ≤ 1 → is_new_at (slice_get code a) ≡ true → is_new_at (slice_get code b) ≡ true → a ≡ b
+only_place [] a b few new also = absurd (let z : false ≡ true = new in cc)
+only_place (i ∷ code) zero zero few new also = refl
+only_place (i ∷ code) zero (suc b) few new also = absurd (two (is_target_new i) new (new_counts code b also) few)
+only_place (i ∷ code) (suc a) zero few new also = absurd (two (is_target_new i) also (new_counts code a new) few)
+only_place (i ∷ code) (suc a) (suc b) few new also = ap suc (only_place code a b (fewer (is_target_new i) few) new also) where
+  fewer : (here : Bool) → (if here then target_news_in code + 1 else target_news_in code) ≤ 1 → target_news_in code ≤ 1
+  fewer true le = omega (arith, le)
+  fewer false le = le
+
 module _ (target : Target) (setting : Setting) (sane : Methods target) where
-  -- a caller that claims is in a generator, at one of its `new`, and where that has no other, for the first cradle
+  -- a caller that claims is in a generator, at one of its `new`, for the cradle of this
   pub claims_at_new : (e : Entry) (claim : Claim) → Belongs target setting e → e.routine ≡ Claims claim
-      → (e.hand.wrapup ≡ false) × (1 ≤ news_of_call target e.running.call) × (news_of_call target e.running.call ≤ 1 → new_number target e ≡ 0)
+      → (e.hand.wrapup ≡ false) × (1 ≤ news_of_call target e.running.call) × ClaimsForNew target e
   claims_at_new e claim b is = (
     in_generator,
     subst (λ (n : ℕ). 1 ≤ n) count (new_counts (code_in target e) e.hand.at stands),
-    (λ few. cradle_number_first (code_in target e) e.hand.at (subst (λ (n : ℕ). n ≤ 1) (sym count) few) stands),
+    record {
+      new = subst (λ (w : Bool). is_new_at (slice_get (code_at target e.running.call.op w) e.hand.at) ≡ true) in_generator stands;
+      number = ap (λ (w : Bool). cradle_number (code_at target e.running.call.op w) e.hand.at) in_generator;
+    },
   ) where
     stands : is_new_at (instr_in target e) ≡ true
     stands = let all : Stands target setting e (Claims claim) = subst (Stands target setting e) is b.stands in all.0
@@ -67,7 +96,7 @@ module _ (target : Target) (setting : Setting) (sane : Methods target) where
     there = new_there (instr_in target e) stands
 
     site : SaneAt target e.hand.wrapup (code_in target e) e.hand.at (Plain (instr.New there.0 there.1))
-    site = site_of target e setting.sizes.slots (Plain (instr.New there.0 there.1)) sane (record { reached = subst (RunsAt target e) is b.reaches; names = b.hand.registers }) there.2
+    site = site_of target e (Plain (instr.New there.0 there.1)) sane (subst (RunsAt target e) is b.reaches) there.2
 
     in_generator : e.hand.wrapup ≡ false
     in_generator = site.own.news refl
@@ -133,15 +162,20 @@ TookAt claims.ReadHead = ⊥
 TookAt (claims.ReadLink q t) = ⊥
 TookAt (claims.Take q t next) = ⊥
 TookAt (claims.StoreUsed q t) = Unit {0}
+TookAt (claims.Withdraw own) = ⊥
 TookAt claims.Sweeps = ⊥
 
 abbrev Took : Routine → Type 0
 Took (Claims claim) = TookAt claim.stage
 Took _ = ⊥
 
--- the one cradle holds its slot, or gets it with the next access
-abbrev Holds : Entry → Type 0
-Holds e = ((cradle_of e 0 ≢ 0) × NoClaim e.routine) ⊎ Took e.routine
+-- the cradle of a `new` of its operation has a slot
+abbrev HasSlot : Target → Entry → Type 0
+HasSlot target e = (at : ℕ) × (is_new_at (slice_get (generator_of target e) at) ≡ true) × (cradle_of e (cradle_number (generator_of target e) at) ≢ 0)
+
+-- its cradle holds its slot, or gets it with the next access
+abbrev Holds : Target → Entry → Type 0
+Holds target e = (HasSlot target e × NoClaim e.routine) ⊎ Took e.routine
 
 took_claims : (routine : Routine) → Took routine → IsNoClaim routine → ⊥
 took_claims (Claims claim) took none = none
@@ -157,7 +191,7 @@ took_claims (Zeroes k field) took none = took
 -- it has claimed nothing, or it has claimed once and holds the slot, or it has published the node and is past its generator
 abbrev HasClaimed : Target → Setting → Entry → List StepMade → Type 0
 HasClaimed target setting e steps =
-    (e.counts.claims ≤ credits target e.replies + 1) × (1 ≤ news_of_call target e.running.call) × (Holds e ⊎ (HasPublished target setting steps × IsPast e))
+    (e.counts.claims ≤ credits target e.replies + 1) × (1 ≤ news_of_call target e.running.call) × (Holds target e ⊎ (HasPublished target setting steps × IsPast e))
 
 abbrev pub Standing : Target → Setting → Entry → List StepMade → Type 0
 Standing target setting e steps = (e.counts.claims ≤ credits target e.replies) ⊎ HasClaimed target setting e steps
@@ -175,7 +209,7 @@ pub record Going (target : Target) (setting : Setting) (e later : Entry) (steps 
   pub given : later.replies ≡ e.replies
   pub stands : Standing target setting later steps
 
-module _ (target : Target) (setting : Setting) (sane : Methods target) (few : HasFewNews target) (e : Entry) (word : ℕ) (steps : List StepMade) where
+module _ (target : Target) (setting : Setting) (sane : Methods target) (row : SettingSane setting) (few : HasFewNews target) (e : Entry) (word : ℕ) (steps : List StepMade) where
   abbrev s : StepMade
   s = record { entry = e; found = word }
 
@@ -194,9 +228,13 @@ module _ (target : Target) (setting : Setting) (sane : Methods target) (few : Ha
     publishes = p.publishes;
   }
 
-  -- the one `new` of an operation has the first cradle
-  only_new : (x : Entry) (claim : Claim) → Belongs target setting x → x.routine ≡ Claims claim → (new_number target x ≡ 0) × (1 ≤ news_of_call target x.running.call)
-  only_new x claim b is = let at = claims_at_new target setting sane x claim b is in (at.2 (few x.running.call.op), at.1)
+  -- the cradle for which a caller claims is that of the one `new` of its operation
+  only_new : (x : Entry) (claim : Claim) → Belongs target setting x → x.routine ≡ Claims claim → (at : ℕ) → is_new_at (slice_get (generator_of target x) at) ≡ true
+      → new_number target x ≡ cradle_number (generator_of target x) at
+  only_new x claim b is at new =
+      let own = (claims_at_new target setting sane x claim b is).2 in
+      let one : target_news_in (generator_of target x) ≤ 1 = subst (λ (n : ℕ). n ≤ 1) (sym (generator_news (slice_get target.ops x.running.call.op))) (few x.running.call.op) in
+      own.number ∙ ap (cradle_number (generator_of target x)) (only_place (generator_of target x) x.hand.at at one own.new new)
 
   module _ (b : Belongs target setting e) (b_later : Belongs target setting later) (busy : is_idle e.routine ≡ false) (before : IsBefore e.routine)
       (never : e.routine ≡ LoadSeen starts.Again → HasPublished target setting steps → ⊥) (standing : Standing target setting e steps) where
@@ -242,7 +280,7 @@ module _ (target : Target) (setting : Setting) (sane : Methods target) (few : Ha
         by (Zeroes k field) is stands = absurd (let z : false ≡ true = sym (ap is_idle is) ∙ idle in cc)
 
       -- it goes on: what is left to say is whether it still holds its slot or is past its generator
-      goes_so : RunsOn (counted e) later → (Holds e → Holds later ⊎ (HasPublished target setting all × IsPast later)) → (HasPublished target setting steps → IsPast e → IsPast later) → Going target setting e later all
+      goes_so : RunsOn (counted e) later → (Holds target e → Holds target later ⊎ (HasPublished target setting all × IsPast later)) → (HasPublished target setting steps → IsPast e → IsPast later) → Going target setting e later all
       goes_so runs holds past = record { busy = runs.0; given = runs.1; stands = by standing } where
         same : later.counts.claims ≡ e.counts.claims
         same = answers.0
@@ -259,20 +297,26 @@ module _ (target : Target) (setting : Setting) (sane : Methods target) (few : Ha
           (let le = claimed.0 in omega (arith, le, same, given)),
           (let some = claimed.1 in omega (arith, some, news)),
           ⊎_elim
-              (λ (t : Holds e). holds t)
+              (λ (t : Holds target e). holds t)
               (λ (t : HasPublished target setting steps × IsPast e). inr (published_on t.0, past t.0 t.1))
               claimed.2,
         )
 
+      -- the call's generator stays
+      slot_later : RunsOn (counted e) later → (at : ℕ) → cradle_of later (cradle_number (generator_of target e) at) ≢ 0 → is_new_at (slice_get (generator_of target e) at) ≡ true → HasSlot target later
+      slot_later runs at full new =
+          let code : generator_of target e ≡ generator_of target later = ap (λ (run : Running). code_at target run.call.op false) (sym runs.2) in
+          (at, subst (λ (code : List TargetInstr). is_new_at (slice_get code at) ≡ true) code new, subst (λ (code : List TargetInstr). cradle_of later (cradle_number code at) ≢ 0) code full)
+
       -- its cradles are those before, and where it claims now its cradle is empty
-      holds_on : later.cradles ≡ e.cradles → ClaimStarts target later later.routine → Holds e → Holds later
-      holds_on same starts (inr took) = absurd (took_claims e.routine took plain)
-      holds_on same starts (inl holds) = inl (full, by later.routine refl starts) where
-        full : cradle_of later 0 ≢ 0
-        full = subst (λ (l : List ℕ). slice_index l 0 ≢ 0) (sym same) holds.0
+      holds_on : RunsOn (counted e) later → later.cradles ≡ e.cradles → ClaimStarts target later later.routine → Holds target e → Holds target later
+      holds_on runs same starts (inr took) = absurd (took_claims e.routine took plain)
+      holds_on runs same starts (inl holds) = inl (full, by later.routine refl starts) where
+        full : HasSlot target later
+        full = slot_later runs holds.0.0 (subst (λ (l : List ℕ). slice_index l (cradle_number (generator_of target e) holds.0.0) ≢ 0) (sym same) holds.0.2) holds.0.1
 
         by : (routine : Routine) → later.routine ≡ routine → ClaimStarts target later routine → NoClaim later.routine
-        by (Claims claim) is empty = absurd (full (ap (cradle_of later) (sym (only_new later claim b_later is).0) ∙ empty))
+        by (Claims claim) is empty = absurd (full.2 (ap (cradle_of later) (sym (only_new later claim b_later is full.0 full.1)) ∙ empty))
         by Idle is empty = subst NoClaim (sym is) tt
         by (LoadSeen why) is empty = subst NoClaim (sym is) tt
         by At is empty = subst NoClaim (sym is) tt
@@ -287,7 +331,7 @@ module _ (target : Target) (setting : Setting) (sane : Methods target) (few : Ha
 
       -- a step that keeps cradles and wrap-ups
       kept_goes : RunsOn (counted e) later → (wrapup : Bool) → KeepsFrom target e.cradles wrapup later → (HasPublished target setting steps → IsPast e → wrapup ≡ true) → Going target setting e later all
-      kept_goes runs wrapup keeps wraps = goes_so runs (λ holds. inl (holds_on keeps.0 keeps.2 holds)) (λ published past. past_busy runs.0 (keeps.1 (wraps published past)))
+      kept_goes runs wrapup keeps wraps = goes_so runs (λ holds. inl (holds_on runs keeps.0 keeps.2 holds)) (λ published past. past_busy runs.0 (keeps.1 (wraps published past)))
 
       no_claim_past : (x : Entry) (routine : Routine) → x.routine ≡ routine → IsPastAt x routine → NoClaim x.routine
       no_claim_past x (Claims claim) is past = absurd past
@@ -303,11 +347,13 @@ module _ (target : Target) (setting : Setting) (sane : Methods target) (few : Ha
       -- a step of a list, which may publish
       list_goes : RunsOn (counted e) later → IsPast later → Going target setting e later all
       list_goes runs past = goes_so runs on (λ published was. past) where
-        on : Holds e → Holds later ⊎ (HasPublished target setting all × IsPast later)
+        on : Holds target e → Holds target later ⊎ (HasPublished target setting all × IsPast later)
         on (inr took) = absurd (took_claims e.routine took plain)
-        on (inl holds) = dite (ℕ_discrete (cradle_of later 0) 0)
-            (λ (empty : cradle_of later 0 ≡ 0). inr (record { before = steps; step = s; later = []; among = refl; publishes = (0, holds.0, empty) }, past))
-            (λ (full : cradle_of later 0 ≢ 0). inl (inl (full, no_claim_past later later.routine refl past)))
+        on (inl holds) = dite (ℕ_discrete (cradle_of later own) 0)
+            (λ (empty : cradle_of later own ≡ 0). inr (record { before = steps; step = s; later = []; among = refl; publishes = (own, holds.0.2, empty) }, past))
+            (λ (full : cradle_of later own ≢ 0). inl (inl (slot_later runs holds.0.0 full holds.0.1, no_claim_past later later.routine refl past))) where
+              own : ℕ
+              own = cradle_number (generator_of target e) holds.0.0
 
       busy_goes : RunsOn (counted e) later → Going target setting e later all
       busy_goes runs = by e.routine refl (after_keeps target setting e word) where
@@ -358,12 +404,12 @@ module _ (target : Target) (setting : Setting) (sane : Methods target) (few : Ha
       none_yet : (TookAt claim.stage → ⊥) → Standing target setting e steps → e.counts.claims ≤ credits target e.replies
       none_yet other (inl le) = le
       none_yet other (inr claimed) = ⊎_elim
-          (λ (t : Holds e). absurd (⊎_elim (λ (h : (cradle_of e 0 ≢ 0) × NoClaim e.routine). subst NoClaim there h.1) (λ (took : Took e.routine). other (subst Took there took)) t))
+          (λ (t : Holds target e). absurd (⊎_elim (λ (h : HasSlot target e × NoClaim e.routine). subst NoClaim there h.1) (λ (took : Took e.routine). other (subst Took there took)) t))
           (λ (t : HasPublished target setting steps × IsPast e). absurd (subst (IsPastAt e) there t.1))
           claimed.2
 
-      only : (new_number target e ≡ 0) × (1 ≤ news_of_call target e.running.call)
-      only = only_new e claim b there
+      at_new : (e.hand.wrapup ≡ false) × (1 ≤ news_of_call target e.running.call) × ClaimsForNew target e
+      at_new = claims_at_new target setting sane e claim b there
 
       -- a step that takes no slot and doesn't end with one
       by_end : e.counts.claims ≤ credits target e.replies → (next : Claim) (o : Option ClaimEnd) → ClaimOn setting o next → Outcome (claim_on target next o (claim_counted false (counted e))).entry
@@ -374,7 +420,7 @@ module _ (target : Target) (setting : Setting) (sane : Methods target) (few : Ha
         idle = refl;
         given = refl;
         claims = (let sum = credits_more target e.replies (replied_by replies.Full (counted e).running) in omega (arith, none, sum));
-        full = λ z. only.1;
+        full = λ z. at_new.1;
       })
       by_end none next (Some (ends.PhasesOver p)) on = inr (record {
         reply = replies.Phases p;
@@ -391,13 +437,24 @@ module _ (target : Target) (setting : Setting) (sane : Methods target) (few : Ha
       -- the slot that was taken goes into the cradle
       fills : (j : ℕ) → 1 ≤ j → Outcome (claim_on target claim (Some (ends.Claimed j)) (claim_counted false (counted e))).entry
       fills j low =
-          let few_cradles : 0 < length e.cradles = (let four = b.cradles.count in omega (arith, four)) in
-          let held : slice_index (set e.cradles (new_number target e) j) 0 ≡ j = ap (λ (k : ℕ). slice_index (set e.cradles k j) 0) only.0 ∙ get_or-set_same e.cradles 0 j 0 few_cradles in
-          inl (record { busy = refl; given = refl; stands = inr (most_one standing, only.1, inl (inl ((λ null. let z : j ≡ 0 = sym held ∙ null in omega (arith, low, z)), tt))) })
+          let number : ℕ = new_number target e in
+          let held : slice_index (set e.cradles number j) number ≡ j = get_or-set_same e.cradles number j 0 inside in
+          let full : slice_index (set e.cradles number j) number ≢ 0 = (λ null. let z : j ≡ 0 = sym held ∙ null in omega (arith, low, z)) in
+          let slot = subst (λ (k : ℕ). slice_index (set e.cradles number j) k ≢ 0) at_new.2.number full in
+          inl (record { busy = refl; given = refl; stands = inr (most_one standing, at_new.1, inl (inl ((e.hand.at, at_new.2.new, slot), tt))) }) where
+            inside : new_number target e < length e.cradles
+            inside =
+                let all_stands : Stands target setting e (Claims claim) = subst (Stands target setting e) there b.stands in
+                let known = all_stands.1.kind in
+                let own = all_stands.2 in
+                let most = row.kinds.few in
+                let kind : kind_made (slice_get (code_in target e) e.hand.at) < 4 = omega (arith, known, own, most) in
+                let small = cradle_number_small target e.hand.wrapup (code_in target e) e.hand.at (sane.code e.running.call.op e.hand.wrapup) all_stands.0 kind in
+                let count = b.cradles.count in omega (arith, small, count)
 
       claim_step : ClaimOn setting turn.ended turn.claim → Outcome later
       claim_step on = of claim.stage refl where
-        stands : ClaimStands setting claim.stage
+        stands : ClaimStands setting claim.kind claim.stage
         stands = (let all_stands : Stands target setting e (Claims claim) = subst (Stands target setting e) there b.stands in all_stands.1.stands)
 
         other : (stage : ClaimStage) → claim.stage ≡ stage → takes_at stage word ≡ false → (TookAt stage → ⊥) → Outcome later
@@ -407,9 +464,10 @@ module _ (target : Target) (setting : Setting) (sane : Methods target) (few : Ha
         of : (stage : ClaimStage) → claim.stage ≡ stage → Outcome later
         of claims.ReadHead is = other claims.ReadHead is refl (λ z. z)
         of (claims.ReadLink q t) is = other (claims.ReadLink q t) is refl (λ z. z)
+        of (claims.Withdraw own) is = other (claims.Withdraw own) is refl (λ z. z)
         of claims.Sweeps is = other claims.Sweeps is refl (λ z. z)
         of (claims.StoreUsed q t) is =
-            let low : (1 ≤ t) × (t ≤ setting.sizes.slots) × (q ≤ setting.last) = subst (ClaimStands setting) is stands in
+            let low : (1 ≤ t) × (t ≤ setting.sizes.slots) × (q ≤ setting.last) × (kind_of setting.sizes t ≡ claim.kind) = subst (ClaimStands setting claim.kind) is stands in
             subst Outcome (sym (later_by false (claim_ends claim (ends.Claimed t)) (ap (λ (x : ClaimStage). takes_at x word) is) (ap (claim_accepts_at setting.sizes setting.last claim word) is))) (fills t low.0)
         of (claims.Take q t next) is = by (word == head_word q t) refl where
           turns_by : (d : Bool) → (word == head_word q t) ≡ d → turn ≡ (if d then claim_goes claim (claims.StoreUsed q t) else claim_goes claim claims.ReadHead)
@@ -421,7 +479,7 @@ module _ (target : Target) (setting : Setting) (sane : Methods target) (few : Ha
               (inl (record {
                 busy = refl;
                 given = refl;
-                stands = inr ((let none = none_yet (λ z. subst TookAt is z) standing in omega (arith, none)), only.1, inl (inr tt));
+                stands = inr ((let none = none_yet (λ z. subst TookAt is z) standing in omega (arith, none)), at_new.1, inl (inr tt));
               }))
 
     pub call_step : ((claim : Claim) → e.routine ≡ Claims claim → (let turn = claim_accepts setting.sizes setting.last claim word in ClaimOn setting turn.ended turn.claim)) → Going target setting e later all ⊎ Ended target e later

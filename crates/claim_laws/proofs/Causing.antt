@@ -15,7 +15,7 @@ use Rattle.caller_steps.specs.Signs.{Moved}
 use Rattle.caller_steps.specs.After.{after, counted, claim_counted, claim_on}
 use Rattle.core_runs.specs.Advances.{RunsOn, Ends}
 use Rattle.core_runs.proofs.Turning.{after_turns}
-use Rattle.caller_laws.proofs.Equations.{after_is, moved_claims}
+use Rattle.core_runs.proofs.caller_laws.Equations.{after_is, moved_claims}
 use Rattle.claim_laws.specs.CallSteps.{StepMade}
 use Rattle.claim_laws.specs.Causes.{IsSweepsPhaseLoad, FoundLastPhase, FindsNoTop, EndsInFailedLook, IsCaused, FoundNeither}
 use Rattle.claim_laws.proofs.Lasts.{last_same, last_or_before}

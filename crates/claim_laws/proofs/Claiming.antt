@@ -1,5 +1,5 @@
 -- One step of a claim: how the claim ends, and what the step then found.
-use Rattle.std.proofs.Common.{◌≡◌, ℕ, ◌-◌, ◌==◌, ◌&&◌, not, Bool, true, false, Option, Some, None, refl, ◌∙◌, ap, arith, if◌then◌else◌}
+use Rattle.std.proofs.Common.{◌≡◌, ℕ, zero, suc, ◌-◌, ◌==◌, ◌&&◌, not, Bool, true, false, Option, Some, None, refl, ◌∙◌, ap, arith, if◌then◌else◌}
 use Rattle.std.specs.Prelude.{nat_lt}
 use Rattle.std.proofs.lemmas.Bool.Decides.{nat_tests}
 use Rattle.oa_words.specs.declared.packed.Kind.{Kind}
@@ -16,7 +16,10 @@ use Rattle.phase_pools.specs.declared.stages.SweepStage.TheVariants as sweeps
 use Rattle.phase_pools.specs.declared.stages.ClaimStage.{ClaimStage}
 use Rattle.phase_pools.specs.declared.stages.ClaimStage.TheVariants as claims
 use Rattle.phase_pools.specs.Accesses.{Loads}
-use Rattle.phase_pools.specs.Pools.{Sweep, sweep_begun, has_lower, sweep_wants_at, sweep_goes, sweep_ends, sweep_on, sweep_accepts, sweep_accepts_at, freeing, status_read, Claim, claim_wants, claim_wants_at, claim_accepts, claim_accepts_at, claim_goes, claim_ends, look_ended, look_begun, sweep_ended}
+use Rattle.oa_words.specs.SlotKinds.{kind_of}
+use Rattle.phase_pools.specs.declared.stages.Scheme.{Scheme}
+use Rattle.phase_pools.specs.declared.stages.Scheme.TheVariants.{Warned, Announced}
+use Rattle.phase_pools.specs.Pools.{Sweep, has_lower, warn_wanted, sweep_follows, sweep_wants_at, sweep_goes, sweep_ends, sweep_on, sweep_accepts, sweep_accepts_at, freeing, status_read, Claim, claim_wants, claim_wants_at, claim_accepts, claim_accepts_at, claim_goes, claim_ends, look_ended, look_begun, sweep_ended}
 use Rattle.caller_parts.specs.declared.routine.Routine.TheVariants.{Claims}
 use Rattle.caller_parts.specs.Settings.{Setting}
 use Rattle.claim_laws.specs.CallSteps.{StepMade}
@@ -39,7 +42,7 @@ module _ (setting : Setting) (sweep : Sweep) where
   freeing_gives : (stage : SweepStage) (word j q : ℕ) (kind : Kind) → SweepGives setting stage word (freeing setting.sizes sweep j q kind).ended
   freeing_gives stage word j q kinds.Ready = on_gives stage word j
   freeing_gives stage word j q kinds.Used = on_gives stage word j
-  freeing_gives stage word j q kinds.Retired = of (nat_lt q sweep.bound && not (has_slot sweep.gathered j)) where
+  freeing_gives stage word j q kinds.Retired = of (nat_lt q sweep.low && not (has_slot sweep.gathered j)) where
     of : (b : Bool) → SweepGives setting stage word (if b then sweep_goes sweep (sweeps.MakeReady j q) else sweep_on setting.sizes sweep j).ended
     of true = tt
     of false = on_gives stage word j
@@ -59,14 +62,14 @@ module _ (setting : Setting) (sweep : Sweep) where
   sweep_gives word (sweeps.ReadHazard c r) = tt
   sweep_gives word (sweeps.ReadStatus j) = status_gives (sweeps.ReadStatus j) word j (status_parts word)
   sweep_gives word (sweeps.MakeReady j q) = of (word == status_word q kinds.Retired) where
-    of : (b : Bool) → SweepGives setting (sweeps.MakeReady j q) word (if b then sweep_goes sweep (sweeps.PushHead j) else sweep_on setting.sizes sweep j).ended
+    of : (b : Bool) → SweepGives setting (sweeps.MakeReady j q) word (if b then sweep_goes sweep (sweeps.PushHead (kind_of setting.sizes j) j) else sweep_on setting.sizes sweep j).ended
     of true = tt
     of false = on_gives (sweeps.MakeReady j q) word j
-  sweep_gives word (sweeps.PushHead j) = tt
+  sweep_gives word (sweeps.PushHead k j) = tt
   sweep_gives word (sweeps.PushLink j q t) = tt
-  sweep_gives word (sweeps.PushTop j q t) = of (word == head_word q t) where
-    of : (b : Bool) → SweepGives setting (sweeps.PushTop j q t) word (if b then sweep_on setting.sizes sweep j else sweep_goes sweep (sweeps.PushHead j)).ended
-    of true = on_gives (sweeps.PushTop j q t) word j
+  sweep_gives word (sweeps.PushTop k j q t) = of (word == head_word q t) where
+    of : (b : Bool) → SweepGives setting (sweeps.PushTop k j q t) word (if b then sweep_on setting.sizes sweep j else sweep_goes sweep (sweeps.PushHead (kind_of setting.sizes j) j)).ended
+    of true = on_gives (sweeps.PushTop k j q t) word j
     of false = tt
 
 -- ---- claims
@@ -78,20 +81,25 @@ module _ (setting : Setting) (s : StepMade) (claim : Claim) (there : s.entry.rou
   GivesAt (Some ends.Full) = FindsNoTop s
   GivesAt (Some (ends.PhasesOver p)) = (p ≡ setting.last) × (s.found ≡ p) × (claim_wants claim ≡ Loads Phase)
 
+  follows_gives : (scheme : Scheme) (made : ℕ) → GivesAt (sweep_follows scheme made claim).ended
+  follows_gives Warned made = tt
+  follows_gives (Announced own) zero = tt
+  follows_gives (Announced own) (suc made) = tt
+
   begun_gives : claim.stage ≡ claims.ReadHead → GivesAt (look_begun claim (head_parts s.found)).ended
   begun_gives is = of ((head_parts s.found).top == 0) refl (claim.sweeps == 2) refl where
     of : (b : Bool) → ((head_parts s.found).top == 0) ≡ b → (d : Bool) → (claim.sweeps == 2) ≡ d
-        → GivesAt (if b then (if d then claim_ends claim ends.Full else record { claim = record claim { stage = claims.Sweeps; sweep = sweep_begun }; ended = None })
+        → GivesAt (if b then (if d then claim_ends claim ends.Full else sweep_follows claim.sweep.scheme claim.sweeps claim)
         else claim_goes claim (claims.ReadLink (head_parts s.found).phase (head_parts s.found).top)).ended
     of true none true two = record { claim = claim; claims = there; sweeps = grind (arith, nat_tests); looks = is; empty = grind (arith, nat_tests) }
-    of true none false two = tt
+    of true none false two = follows_gives claim.sweep.scheme claim.sweeps
     of false none d two = tt
 
   swept_gives : (next : Sweep) (end : Option SweepEnd) → claim.stage ≡ claims.Sweeps → SweepGives setting claim.sweep.stage s.found end → GivesAt (sweep_ended claim next end).ended
   swept_gives next None is gives = tt
   swept_gives next (Some swept.Swept) is gives = tt
   swept_gives next (Some (swept.PhasesOver p)) is gives =
-      (gives.0, gives.1, ap (claim_wants_at claim.sweep) is ∙ ap (λ (stage : SweepStage). sweep_wants_at stage claim.sweep.bound) gives.2)
+      (gives.0, gives.1, ap (claim_wants_at claim.kind claim.sweep) is ∙ ap (λ (stage : SweepStage). sweep_wants_at claim.sweep.scheme stage claim.sweep.bound) gives.2)
 
   stage_gives : (stage : ClaimStage) → claim.stage ≡ stage → GivesAt (claim_accepts_at setting.sizes setting.last claim s.found stage).ended
   stage_gives claims.ReadHead is = begun_gives is
@@ -101,6 +109,7 @@ module _ (setting : Setting) (s : StepMade) (claim : Claim) (there : s.entry.rou
     of true = tt
     of false = tt
   stage_gives (claims.StoreUsed q t) is = tt
+  stage_gives (claims.Withdraw own) is = tt
   stage_gives claims.Sweeps is =
       let turn = sweep_accepts setting.sizes setting.last claim.sweep s.found in
       swept_gives turn.sweep turn.ended is (sweep_gives setting claim.sweep s.found claim.sweep.stage)
@@ -111,29 +120,34 @@ module _ (setting : Setting) (s : StepMade) (claim : Claim) (there : s.entry.rou
 -- ---- the other way
 
 module _ (setting : Setting) (claim : Claim) (word : ℕ) where
-  phase_ends : (stage : SweepStage) → sweep_wants_at stage claim.sweep.bound ≡ Loads Phase → word ≡ setting.last
+  no_phase : (scheme : Scheme) (c s : ℕ) → warn_wanted scheme c s ≡ Loads Phase → ⊥
+  no_phase Warned c s is = cc
+  no_phase (Announced own) c s is = cc
+
+  phase_ends : (stage : SweepStage) → sweep_wants_at claim.sweep.scheme stage claim.sweep.bound ≡ Loads Phase → word ≡ setting.last
       → (sweep_accepts_at setting.sizes setting.last claim.sweep word stage).ended ≡ Some (swept.PhasesOver word)
   phase_ends sweeps.ReadPhase is last = let same : (word == setting.last) ≡ true = grind (arith, nat_tests) in
       ap (λ (b : Bool). (if b then sweep_ends claim.sweep (swept.PhasesOver word) else sweep_goes claim.sweep (sweeps.RaisePhase word)).ended) same
   phase_ends (sweeps.RaisePhase p) is last = absurd cc
-  phase_ends (sweeps.Warn c) is last = absurd cc
+  phase_ends (sweeps.Warn c) is last = absurd (no_phase claim.sweep.scheme c claim.sweep.bound is)
   phase_ends (sweeps.ReadHazard c r) is last = absurd cc
   phase_ends (sweeps.ReadStatus j) is last = absurd cc
   phase_ends (sweeps.MakeReady j q) is last = absurd cc
-  phase_ends (sweeps.PushHead j) is last = absurd cc
+  phase_ends (sweeps.PushHead k j) is last = absurd cc
   phase_ends (sweeps.PushLink j q t) is last = absurd cc
-  phase_ends (sweeps.PushTop j q t) is last = absurd cc
+  phase_ends (sweeps.PushTop k j q t) is last = absurd cc
 
   over_ends : (next : Sweep) (end : Option SweepEnd) → end ≡ Some (swept.PhasesOver word) → (sweep_ended claim next end).ended ≡ Some (ends.PhasesOver word)
   over_ends next end is = rw is refl
 
   -- a sweep's load that finds the last phase ends the claim
-  pub phases_end : (stage : ClaimStage) → claim_wants_at claim.sweep stage ≡ Loads Phase → word ≡ setting.last
+  pub phases_end : (stage : ClaimStage) → claim_wants_at claim.kind claim.sweep stage ≡ Loads Phase → word ≡ setting.last
       → (claim_accepts_at setting.sizes setting.last claim word stage).ended ≡ Some (ends.PhasesOver word)
   phases_end claims.ReadHead is last = absurd cc
   phases_end (claims.ReadLink q t) is last = absurd cc
   phases_end (claims.Take q t next) is last = absurd cc
   phases_end (claims.StoreUsed q t) is last = absurd cc
+  phases_end (claims.Withdraw own) is last = absurd cc
   phases_end claims.Sweeps is last = let turn = sweep_accepts setting.sizes setting.last claim.sweep word in over_ends turn.sweep turn.ended (phase_ends claim.sweep.stage is last)
 
   -- a third look that finds no slot on top ends it too
@@ -143,4 +157,4 @@ module _ (setting : Setting) (claim : Claim) (word : ℕ) where
       let second : (claim.sweeps == 2) ≡ true = grind (arith, nat_tests) in
       ap (λ (x : ClaimStage). (claim_accepts_at setting.sizes setting.last claim word x).ended) is
       ∙ (ap (λ (b : Bool). (if b then look_ended claim else claim_goes claim (claims.ReadLink (head_parts word).phase (head_parts word).top)).ended) here
-      ∙ ap (λ (b : Bool). (if b then claim_ends claim ends.Full else record { claim = record claim { stage = claims.Sweeps; sweep = sweep_begun }; ended = None }).ended) second)
+      ∙ ap (λ (b : Bool). (if b then claim_ends claim ends.Full else sweep_follows claim.sweep.scheme claim.sweeps claim).ended) second)

@@ -1,51 +1,59 @@
 -- From the start on: where a reply says that the pool is full, each slot holds an initial node or was claimed.
-use Rattle.std.proofs.Common.{◌≡◌, ◌≢◌, ◌⊎◌, inl, inr, ℕ, zero, suc, ◌+◌, ◌-◌, ◌≤◌, ◌<◌, true, false, List, [], length, map, Option, Some, None, refl, sym, ◌∙◌, ap, subst, arith}
-use Rattle.std.specs.Prelude.{slice_get, slice_index, nat_lt}
+use Rattle.std.proofs.Common.{◌≡◌, ◌≢◌, ◌⊎◌, inl, inr, ℕ, zero, suc, ◌+◌, ◌-◌, ◌≤◌, ◌<◌, Bool, true, false, List, [], ◌∷◌, length, map, replicate, Option, Some, None, refl, sym, ◌∙◌, ap, subst, arith, if◌then◌else◌}
+use Rattle.std.specs.Prelude.{slice_get, slice_index, nat_lt, option_map}
 use Rattle.std.proofs.lemmas.Bool.Decides.{nat_tests}
 use Rattle.std.proofs.lemmas.List.{length-map}
-use Rattle.norm_lang.specs.declared.text.FieldKind.{FieldKind}
-use Rattle.norm_lang.specs.declared.text.FieldKind.TheVariants as holdings
-use Rattle.norm_lang.specs.InstructionRules.{field_kind, root_kind}
+use Rattle.std.proofs.lemmas.Option.{slice_get-map}
+use Rattle.norm_lang.specs.declared.text.NodeDecl.{NodeDecl}
+use Rattle.norm_lang.specs.KindFields.{fields_of}
+use Rattle.norm_lang.specs.Limits.{are_starts, owners_of}
 use Rattle.target_code.specs.declared.target.Target.{Target}
 use Rattle.target_code.specs.TargetLimits.{IsTargetWithinLimits}
 use Rattle.norm_lang.specs.declared.text.Text.{Text}
-use Rattle.target_runs.specs.Runnable.{IsRunnable}
+use Rattle.target_laws.specs.target_runs.Runnable.{IsRunnable}
+use Rattle.target_laws.proofs.target_runs.Limited.{parts, roots_are}
 use Rattle.oa_words.specs.declared.packed.Kind.TheVariants as statuses
-use Rattle.oa_words.specs.Words.{Word, Phase, Place, Warning, Hazard, Status, FieldOf, Cell, Head, Link, slot_range, in_row}
+use Rattle.oa_words.specs.Words.{Word, Phase, Place, Warning, Hazard, Status, FieldOf, Cell, Head, Link, IsSlot, in_row}
+use Rattle.oa_words.specs.SlotKinds.{together, kind_in, sum_before, slots_of, first_of, range_of, kind_of, range_at}
+use Rattle.oa_words.specs.Within.{AreKinds}
+use Rattle.oa_words.proofs.KindRanges.{kind_small, in_range_is_of_kind, part_within}
 use Rattle.oa_words.specs.Packed.{status_word}
-use Rattle.oa_words.specs.Starts.{start_node, first_ready, start_kind, start_word, field_word}
+use Rattle.oa_words.specs.Starts.{nodes_of, start_node, first_ready, start_kind, start_word, field_word}
 use Rattle.oa_words.specs.Memories.{seen}
 use Rattle.guard_words.specs.Guards.{guard_at, no_guards, has_slot}
-use Rattle.claim_order.specs.Frontier.{IsOrdered, Fits as StandingFits}
-use Rattle.claim_order.proofs.Frontier.{start_open}
+use Rattle.chain_laws.specs.claim_order.Frontier.{IsOrdered, AreOrdered, Fits as StandingFits}
+use Rattle.chain_laws.proofs.claim_order.Frontier.{start_open}
 use Rattle.caller_parts.specs.declared.call.Reply.TheVariants as replies
 use Rattle.caller_parts.specs.declared.call.Replied.{Replied}
 use Rattle.caller_parts.specs.Settings.{Setting, Fits, IsSetting}
+use Rattle.caller_parts.specs.KindCounts.{node_counts}
+use Rattle.caller_parts.specs.Operands.{cradle_count}
 use Rattle.caller_steps.specs.Entries.{Entry, idle_entry}
-use Rattle.caller_steps.specs.Lawful.{LawfulValue}
-use Rattle.core_runs.specs.Machine.{CoreState, Reachable, core_start, beginning_of, node_home, node_words, root_word}
+use Rattle.caller_steps.specs.Lawful.{held_at}
+use Rattle.core_runs.specs.Machine.{CoreState, Reachable, core_start, beginning_of, node_home, node_words}
 use Rattle.core_runs.proofs.Reaching.{induct_reached}
 use Rattle.core_runs.proofs.Starting.{start_is_seen}
-use Rattle.caller_laws.specs.Laws.{ForRuns}
-use Rattle.caller_laws.proofs.Methods.{setting_sane}
-use Rattle.caller_laws.proofs.Together.{methods}
-use Rattle.core_sound.specs.Standing.{standing_of}
-use Rattle.core_sound.proofs.StartSound.{nodes_lawful, roots_lawful, filled, rooted, named, suits, idle_at}
-use Rattle.core_sound.proofs.Reached.{states_are_sound}
-use Rattle.claim_laws.specs.Untouched.{ValueAvoids, WordAvoids, EntryAvoids, IsUntouched}
-use Rattle.claim_laws.specs.Full.{claims_in, FullTakesClaims}
-use Rattle.claim_laws.proofs.Naming.{null, first_avoid}
+use Rattle.core_runs.specs.caller_laws.Laws.{ForRuns}
+use Rattle.core_runs.proofs.caller_laws.Methods.{setting_sane}
+use Rattle.core_runs.proofs.caller_laws.Together.{methods}
+use Rattle.core_runs.specs.core_sound.Standing.{standing_of}
+use Rattle.core_runs.proofs.core_sound.Grouped.{NodesStand, nodes_stand, nodes_together, node_is, node_at, node_of_part}
+use Rattle.core_runs.proofs.core_sound.StartSound.{named, suits, idle_at}
+use Rattle.core_runs.proofs.core_sound.Reached.{states_are_sound}
+use Rattle.claim_laws.specs.Untouched.{nodes_in, HeldNone, ValueAvoids, WordAvoids, EntryAvoids, IsUntouched}
+use Rattle.claim_laws.specs.Full.{claims_in, FillAKind, FullTakesClaims}
+use Rattle.claim_laws.proofs.FirstValues.{home_is_other, fields_avoid, roots_avoid}
+use Rattle.claim_laws.proofs.Naming.{null, zero_avoids, first_avoid}
 use Rattle.claim_laws.proofs.Counting.{covers}
-use Rattle.claim_laws.proofs.Touching.{IsTouched, AllTouched}
-use Rattle.claim_laws.proofs.Pooling.{NoneFull, CallerPool, Pool, IsPooled, event_pool}
+use Rattle.claim_laws.proofs.Touching.{IsTouched, AllTouched, held_some}
+use Rattle.claim_laws.proofs.Pooling.{NoneFull, KindTouched, CallerPool, Pool, IsPooled, event_pool}
 
 -- ---- the start
 
--- a first value names an initial node or null
-node_avoids : (j nodes : ℕ) (kind : Option FieldKind) (word : ℕ) → nodes < j → LawfulValue nodes kind word → ValueAvoids j kind word
-node_avoids j nodes None word lt lawful = tt
-node_avoids j nodes (Some holdings.Number) word lt lawful = tt
-node_avoids j nodes (Some (holdings.Reference k)) word lt lawful = λ same. omega (arith, lawful, lt, same)
+none_there : (n k : ℕ) → slice_index (replicate n 0) k ≡ 0
+none_there zero k = refl
+none_there (suc n) zero = refl
+none_there (suc n) (suc k) = none_there n k
 
 idle_avoids : (j c : ℕ) → 1 ≤ j → EntryAvoids j (idle_entry c)
 idle_avoids j c some = record { registers = first_avoid j some []; started = first_avoid j some []; guards = guards; cradles = cradles; routine = tt } where
@@ -61,45 +69,98 @@ idle_avoids j c some = record { registers = first_avoid j some []; started = fir
   guards (suc (suc (suc (suc (suc (suc (suc (suc r)))))))) = null j some
 
   cradles : (k : ℕ) → slice_index (idle_entry c).cradles k ≢ j
-  cradles zero = null j some
-  cradles (suc zero) = null j some
-  cradles (suc (suc zero)) = null j some
-  cradles (suc (suc (suc zero))) = null j some
-  cradles (suc (suc (suc (suc k)))) = null j some
+  cradles k = subst (λ (n : ℕ). n ≢ j) (sym (none_there cradle_count k)) (null j some)
 
 module _ {target : Target} {setting : Setting} (within : IsTargetWithinLimits target) (own : IsSetting setting) (fits : Fits target setting) where
-  module _ (j : ℕ) (past : setting.nodes < j) (le : j ≤ setting.sizes.slots) where
+  -- as many initial nodes as are told
+  nodes_same : (k : ℕ) → nodes_of (beginning_of target setting) k ≡ nodes_in setting k
+  nodes_same k = ap (λ (counts : List ℕ). slice_index counts k) (sym fits.nodes)
+
+  few_kinds : length target.kinds ≤ 4
+  few_kinds = let few = own.sizes.8.few in let same = fits.kinds in omega (arith, few, same)
+
+  stand : NodesStand target
+  stand = nodes_stand target few_kinds (parts target within).nodes
+
+  -- a node of a number below the counts of all kinds
+  node_there : (i : ℕ) → i < together (node_counts target) → (node : NodeDecl) × (slice_get target.nodes i ≡ Some node)
+  node_there i lt = of target.nodes i (let all = nodes_together target stand in omega (arith, lt, all)) where
+    of : (nodes : List NodeDecl) (i : ℕ) → i < length nodes → (node : NodeDecl) × (slice_get nodes i ≡ Some node)
+    of [] i lt = absurd (let none : i < 0 = lt in let no : ⊥ = omega (arith, none) in no)
+    of (node ∷ nodes) zero lt = (node, refl)
+    of (node ∷ nodes) (suc i) lt = of nodes i (omega (arith, lt))
+
+  -- the least slot of each kind that held none
+  abbrev ready_from : ℕ → ℕ
+  ready_from k = first_ready (range_of setting.sizes k) (nodes_in setting k)
+
+  module _ (j : ℕ) (past : HeldNone setting j) (le : j ≤ setting.sizes.slots) where
     some : 1 ≤ j
-    some = omega (arith, past)
+    some = held_some setting j past
 
-    past_nodes : length target.nodes < j
-    past_nodes = let same = fits.nodes in omega (arith, past, same)
+    -- no initial node stands there
+    others : (i : ℕ) → i ≤ length (owners_of target.nodes) → node_home target setting.sizes i ≢ j
+    others zero le same = omega (arith, some, same)
+    others (suc i) le same = home_is_other setting.sizes (node_counts target) (suits within own fits).nodes i small known j there same where
+      small : i < together (node_counts target)
+      small = let all = nodes_together target stand in let count = length-map target.nodes (λ (node : NodeDecl). node.owner) in omega (arith, le, all, count)
 
-    slot_avoids : (i g : ℕ) → ValueAvoids j (field_kind target.fields g) (field_word (start_node (beginning_of target setting) i) g)
-    slot_avoids zero g = node_avoids j (length target.nodes) (field_kind target.fields g) 0 past_nodes (of (field_kind target.fields g)) where
-      of : (kind : Option FieldKind) → LawfulValue (length target.nodes) kind 0
-      of None = tt
-      of (Some holdings.Number) = tt
-      of (Some (holdings.Reference k)) = omega arith
-    slot_avoids (suc i) g = node_avoids j (length target.nodes) (field_kind target.fields g) (field_word (start_node (beginning_of target setting) (suc i)) g) past_nodes
-        (nodes_lawful node_home (length target.nodes) (length target.nodes) (λ k le. le) target.fields target.nodes i g (filled within own fits))
+      known : kind_in (node_counts target) (suc i) < length setting.sizes.kinds
+      known =
+          let node = node_there i small in
+          let kind = (node_at target i node.0 stand node.1).kind in
+          let lt = (node_is target i node.0 stand node.1).known in
+          let same = fits.kinds in omega (arith, kind, lt, same)
 
-    start_avoids : (w : Word) → WordAvoids target j w (start_word setting.sizes (beginning_of target setting) w)
+      there : first_ready (range_at setting.sizes j) (slice_index (node_counts target) (kind_of setting.sizes j)) ≤ j
+      there = let same = nodes_same (kind_of setting.sizes j) in omega (arith, past, same)
+
+    slot_avoids : (i g : ℕ) → WordAvoids target setting.sizes j (FieldOf i g) (field_word (start_node setting.sizes (beginning_of target setting) i) g)
+    slot_avoids zero g = null j some
+    slot_avoids (suc i) g = of (nat_lt place (nodes_of (beginning_of target setting) t)) refl where
+      t : ℕ
+      t = kind_of setting.sizes (suc i)
+
+      place : ℕ
+      place = suc i - first_of setting.sizes t
+
+      known : t < length target.kinds
+      known = let lt = kind_small setting.sizes (suc i) own.sizes.8 in let same = fits.kinds in omega (arith, lt, same)
+
+      Avoids : Option (List ℕ) → Type 0
+      Avoids o = ValueAvoids j (held_at target t g) (field_word o g)
+
+      of : (b : Bool) → nat_lt place (nodes_of (beginning_of target setting) t) ≡ b
+          → Avoids (if b then slice_get (map (node_words (node_home target setting.sizes)) target.nodes) (sum_before (node_counts target) t + place) else None)
+      of true is =
+          let lt : place < slice_index (node_counts target) t = grind (arith, nat_tests) in
+          let number = sum_before (node_counts target) t + place in
+          let part = part_within (node_counts target) t in
+          let node = node_there number (omega (arith, lt, part)) in
+          let owner = node_of_part target t number node.0 stand node.1 (omega (arith, known, few_kinds)) (omega arith) (omega (arith, lt)) in
+          let filled = subst (λ (k : ℕ). are_starts (owners_of target.nodes) (fields_of k target.fields) node.0.values ≡ true) owner (node_is target number node.0 stand node.1).starts in
+          subst Avoids
+          (sym (slice_get-map (node_words (node_home target setting.sizes)) target.nodes number ∙ ap (option_map (node_words (node_home target setting.sizes))) node.1))
+          (fields_avoid j (node_home target setting.sizes) (length target.kinds) (owners_of target.nodes) others (fields_of t target.fields) node.0.values g filled)
+      of false is = zero_avoids j some (held_at target t g)
+
+    start_avoids : (w : Word) → WordAvoids target setting.sizes j w (start_word setting.sizes (beginning_of target setting) w)
     start_avoids Phase = tt
     start_avoids (Place c) = tt
     start_avoids (Warning c) = tt
     start_avoids (Hazard c r) = null j some
     start_avoids (Status i) = tt
     start_avoids (FieldOf i g) = slot_avoids i g
-    start_avoids (Cell x) = node_avoids j (length target.nodes) (root_kind target.roots x) (slice_index (map (root_word node_home) target.roots) x) past_nodes
-        (roots_lawful node_home (length target.nodes) (length target.nodes) (λ k le. le) target.roots x (rooted within own fits))
-    start_avoids Head = tt
+    start_avoids (Cell x) = roots_avoid j (node_home target setting.sizes) (length target.kinds) (owners_of target.nodes) others target.roots x
+        (roots_are (length target.kinds) (owners_of target.nodes) target.roots (parts target within).roots)
+    start_avoids (Head t) = tt
     start_avoids (Link i) = tt
 
-    ready_there : start_kind (slot_range setting.sizes) (length (map (node_words node_home) target.nodes)) j ≡ statuses.Ready
+    ready_there : start_kind (range_at setting.sizes j) (nodes_of (beginning_of target setting) (kind_of setting.sizes j)) j ≡ statuses.Ready
     ready_there =
-        let count : length (map (node_words node_home) target.nodes) ≡ length target.nodes = length-map target.nodes (node_words node_home) in
-        let other : nat_lt j (first_ready (slot_range setting.sizes) (length (map (node_words node_home) target.nodes))) ≡ false = (let lt : length (map (node_words node_home) target.nodes) < j = omega (arith, count, past_nodes) in grind (arith, nat_tests)) in
+        let same = nodes_same (kind_of setting.sizes j) in
+        let from : first_ready (range_at setting.sizes j) (nodes_of (beginning_of target setting) (kind_of setting.sizes j)) ≤ j = omega (arith, past, same) in
+        let other : nat_lt j (first_ready (range_at setting.sizes j) (nodes_of (beginning_of target setting) (kind_of setting.sizes j))) ≡ false = grind (arith, nat_tests) in
         rw other refl
 
     status_row : in_row setting.sizes (Status j) ≡ true
@@ -108,27 +169,24 @@ module _ {target : Target} {setting : Setting} (within : IsTargetWithinLimits ta
     pub start_untouched : IsUntouched target setting (core_start target setting) j
     start_untouched = record {
       status = (named within own fits).words (Status j) status_row ∙ ap (status_word setting.first) ready_there;
-      words = λ w row. subst (WordAvoids target j w) (sym ((named within own fits).words w row)) (start_avoids w);
+      words = λ w row. subst (WordAvoids target setting.sizes j w) (sym ((named within own fits).words w row)) (start_avoids w);
       entries = λ c e is. (let there = idle_at 0 setting.sizes.callers c e is in subst (EntryAvoids j) (sym there.1) (idle_avoids j (0 + c) some));
     }
 
-  nodes_same : length (map (node_words node_home) target.nodes) ≡ setting.nodes
-  nodes_same = length-map target.nodes (node_words node_home) ∙ sym fits.nodes
-
   -- the words at the start, in which no slot was claimed
-  start_ordered : IsOrdered (slot_range setting.sizes) setting.nodes setting.first (seen setting.sizes (core_start target setting).words) (setting.nodes + 1)
-  start_ordered = subst (λ (n : ℕ). IsOrdered (slot_range setting.sizes) n setting.first (seen setting.sizes (core_start target setting).words) (n + 1)) nodes_same
-      (start_open setting.sizes (beginning_of target setting) (seen setting.sizes (core_start target setting).words) own.sizes.3 (let most = own.nodes in let same = nodes_same in omega (arith, most, same))
-      ((start_is_seen target setting).memory (suits within own fits))).words
+  start_ordered : AreOrdered setting.sizes (nodes_in setting) setting.first (seen setting.sizes (core_start target setting).words) ready_from
+  start_ordered k lt = subst (λ (n : ℕ). IsOrdered (range_of setting.sizes k) k n setting.first (seen setting.sizes (core_start target setting).words) (first_ready (range_of setting.sizes k) n)) (nodes_same k)
+      ((start_open setting.sizes (beginning_of target setting) (seen setting.sizes (core_start target setting).words) own.sizes.8 own.sizes.3 (suits within own fits).nodes
+      ((start_is_seen target setting).memory (suits within own fits))).words k lt)
 
-  start_pool : Pool target setting (core_start target setting) [] (setting.nodes + 1)
+  start_pool : Pool target setting (core_start target setting) [] ready_from
   start_pool = record {
     untouched = λ j u. start_untouched j u.0 u.1;
     past = λ j low lt. absurd (omega (arith, low, lt));
     ahead = λ j from. refl;
     words = start_ordered;
     fits = λ c e is. (let there = idle_at 0 setting.sizes.callers c e is in
-        subst (λ (x : Entry). StandingFits (slot_range setting.sizes) (seen setting.sizes (core_start target setting).words) (setting.nodes + 1) (standing_of x.routine)) (sym there.1) tt);
+        subst (λ (x : Entry). StandingFits setting.sizes (seen setting.sizes (core_start target setting).words) ready_from (standing_of x.routine)) (sym there.1) tt);
     callers = λ c e is. (let there = idle_at 0 setting.sizes.callers c e is in
         subst (CallerPool setting []) (sym there.1) (record { before = tt; full = inl (λ i r got full. let z : None ≡ Some r = got in cc) }));
     count = omega arith;
@@ -137,30 +195,39 @@ module _ {target : Target} {setting : Setting} (within : IsTargetWithinLimits ta
 -- ---- every state
 
 pub reached_pool : (target : Target) (text : Text) (setting : Setting) → IsRunnable target text → IsSetting setting → Fits target setting → (state : CoreState) → Reachable target setting state → IsPooled target setting state
-reached_pool target text setting runs own fits state reached = induct_reached target setting (IsPooled target setting) (record { slots = []; frontier = setting.nodes + 1; pool = start_pool runs.within own fits })
+reached_pool target text setting runs own fits state reached = induct_reached target setting (IsPooled target setting) (record { slots = []; frontier = ready_from runs.within own fits; pool = start_pool runs.within own fits })
     (λ now later event was pool goes. event_pool target setting (methods target text runs) (setting_sane setting own) fits now later event (states_are_sound target text setting now runs own fits was) pool goes) state reached
 
+-- where each slot of a kind held an initial node or was claimed, as many slots as these and the claims
+fills : (setting : Setting) (slots : List ℕ) (k : ℕ) → AreKinds setting.sizes → k < length setting.sizes.kinds → AllTouched setting k slots → slots_of setting.sizes k ≤ nodes_in setting k + length slots
+fills setting slots k are lt touched = let cover = covers (slots_of setting.sizes k - nodes_in setting k) base slots claimed in omega (arith, cover) where
+  base : ℕ
+  base = sum_before setting.sizes.kinds k + nodes_in setting k
+
+  claimed : (i : ℕ) → base < i → i ≤ base + (slots_of setting.sizes k - nodes_in setting k) → has_slot slots i ≡ true
+  claimed i low high = by (touched i within) where
+    within : IsSlot (range_of setting.sizes k) i
+    within = (omega (arith, low), omega (arith, low, high))
+
+    by : IsTouched setting slots i → has_slot slots i ≡ true
+    by (inl node) =
+        let ready : i < first_ready (range_of setting.sizes k) (nodes_in setting k)
+        = subst (λ (a : ℕ). i < first_ready (range_of setting.sizes a) (nodes_in setting a)) (in_range_is_of_kind setting.sizes k i lt within) node in
+        absurd (omega (arith, low, ready))
+    by (inr has) = has
+
+-- then there is a kind whose initial nodes, with the claims of all callers, are at least its slots
 pub full_takes : ForRuns FullTakesClaims
-full_takes target text setting runs own fits = record { each = λ state c i e replied reached there got full. enough state c i e replied reached there got full } where
-  all : (state : CoreState) → Reachable target setting state → IsPooled target setting state
-  all state reached = reached_pool target text setting runs own fits state reached
-
-  fills : (slots : List ℕ) → AllTouched setting slots → setting.sizes.slots ≤ setting.nodes + length slots
-  fills slots touched =
-      let few = own.nodes in
-      let cover = covers (setting.sizes.slots - setting.nodes) setting.nodes slots (λ i low high. by i low (touched i (omega (arith, high, few)))) in
-      omega (arith, cover, few) where
-        by : (i : ℕ) → setting.nodes < i → IsTouched setting slots i → has_slot slots i ≡ true
-        by i low (inl node) = absurd (omega (arith, low, node))
-        by i low (inr has) = has
-
-  enough : (state : CoreState) (c i : ℕ) (e : Entry) (replied : Replied) → Reachable target setting state → slice_get state.entries c ≡ Some e → slice_get e.replies i ≡ Some replied
-      → replied.reply ≡ replies.Full → setting.sizes.slots ≤ setting.nodes + claims_in state.entries
-  enough state c i e replied reached there got full = of ((all state reached).pool.callers c e there).full where
-    of : NoneFull e.replies ⊎ AllTouched setting (all state reached).slots → setting.sizes.slots ≤ setting.nodes + claims_in state.entries
-    of (inl none) = absurd (none i replied got full)
-    of (inr touched) =
-        let enough_slots = fills (all state reached).slots touched in
-        let count = (all state reached).pool.count in
+full_takes target text setting runs own fits = record { each = λ state c i e replied reached there got full. of state (reached_pool target text setting runs own fits state reached) c i e replied there got full } where
+  of : (state : CoreState) (pooled : IsPooled target setting state) (c i : ℕ) (e : Entry) (replied : Replied) → slice_get state.entries c ≡ Some e → slice_get e.replies i ≡ Some replied → replied.reply ≡ replies.Full
+      → FillAKind setting (claims_in state.entries)
+  of state pooled c i e replied there got full = by (pooled.pool.callers c e there).full where
+    by : NoneFull e.replies ⊎ KindTouched setting pooled.slots → FillAKind setting (claims_in state.entries)
+    by (inl none) = absurd (none i replied got full)
+    by (inr touched) =
+        let k : ℕ = touched.0 in
+        let enough = fills setting pooled.slots k own.sizes.8 touched.1 touched.2 in
+        let count = pooled.pool.count in
         let few : setting.sizes.slots ≤ 4096 = own.sizes.3 in
-        omega (arith, enough_slots, count, few)
+        let some : slots_of setting.sizes k ≤ setting.sizes.slots = (let part = part_within setting.sizes.kinds k in let whole = own.sizes.8.whole in omega (arith, part, whole)) in
+        (k, touched.1, omega (arith, enough, count, few, some))

@@ -17,7 +17,7 @@ use Rattle.caller_steps.specs.After.{after, taken, counted}
 use Rattle.core_runs.specs.Machine.{CoreState, CoreEvent, Takes, Steps, core_event, core_run, run_on, core_start, event_by, stepped, found_by, made, idle_from}
 use Rattle.core_runs.proofs.Reaching.{some_is}
 use Rattle.core_runs.proofs.Keeping.{idle_wants, got_same, got_other, run_count}
-use Rattle.caller_laws.specs.Laws.{ForRuns}
+use Rattle.core_runs.specs.caller_laws.Laws.{ForRuns}
 use Rattle.claim_laws.specs.CallSteps.{StepMade, steps_wanted, steps_by, with_steps, event_steps, steps_on, events_steps, call_steps}
 use Rattle.claim_laws.specs.Causes.{IsCaused, FoundNeither, RepliesAreCaused}
 use Rattle.claim_laws.proofs.Lasts.{never_nil}

@@ -1,3 +1,4 @@
+pub mod FirstValues
 pub mod Claiming
 pub mod Lasts
 pub mod Causing

@@ -20,8 +20,8 @@ use Rattle.target_code.specs.LocalCode.{target_local_at, target_run}
 use Rattle.oa_words.specs.Packed.{ref_word, slot_part}
 use Rattle.guard_words.specs.Guards.{Guards, guard_at, with_guard, with_slot}
 use Rattle.caller_parts.specs.Operands.{unpacked, with_word, word_in, slot_in, emptied, to_retire}
-use Rattle.caller_laws.proofs.Named.{set_keeps}
-use Rattle.caller_laws.proofs.Going.{are_alike}
+use Rattle.core_runs.proofs.caller_laws.Named.{set_keeps}
+use Rattle.core_runs.proofs.caller_laws.Going.{are_alike}
 use Rattle.claim_laws.specs.Untouched.{ValueAvoids, RegistersAvoid}
 
 -- what avoids the slot where the one is held does so where the other is

@@ -18,6 +18,7 @@ use Rattle.target_code.specs.declared.target.Target.{Target}
 use Rattle.target_code.specs.LocalCode.{target_run}
 use Rattle.guard_words.specs.Guards.{pass_check, with_guard}
 use Rattle.oa_words.specs.Words.{Sizes}
+use Rattle.phase_pools.specs.declared.stages.Scheme.TheVariants.{Warned}
 use Rattle.phase_pools.specs.Pools.{claim_begun, Retirement, retire_accepts}
 use Rattle.caller_parts.specs.declared.call.Reply.{Reply}
 use Rattle.caller_parts.specs.declared.routine.AfterClear.{AfterClear}
@@ -25,7 +26,7 @@ use Rattle.caller_parts.specs.declared.routine.AfterRetire.{AfterRetire}
 use Rattle.caller_parts.specs.declared.routine.Routine.{Routine}
 use Rattle.caller_parts.specs.declared.routine.Routine.TheVariants.{Idle, LoadSeen, At, InList, Retires, Restarts, Clears, Claims, Zeroes}
 use Rattle.caller_parts.specs.Settings.{Setting}
-use Rattle.caller_steps.specs.Entries.{Entry, code_in, instr_in, new_number, zero_count, cradle_of}
+use Rattle.caller_steps.specs.Entries.{Entry, code_in, instr_in, new_kind, new_number, zero_count, cradle_of}
 use Rattle.caller_parts.specs.Operands.{with_word, slot_in, register_number, list_of, succeeds, to_retire, with_new}
 use Rattle.caller_steps.specs.Clearing.{restart_next, clear_next, unguarded}
 use Rattle.caller_steps.specs.Signs.{quiet}
@@ -51,7 +52,7 @@ IsOfAnswer _ = Unit {0}
 abbrev pub StandsAfter : Sizes → Entry → Entry → Routine → Type 0
 StandsAfter sizes before later Idle = (reply : Reply) × IsAnswer reply × (later.replies ≡ before.replies ++ replied_by reply before.running ∷ [])
 StandsAfter sizes before later (Clears next) = IsOfAnswer next
-StandsAfter sizes before later (Claims claim) = claim ≡ claim_begun sizes
+StandsAfter sizes before later (Claims claim) = (kind : ℕ) × (claim ≡ claim_begun sizes kind Warned)
 StandsAfter sizes before later _ = Unit {0}
 
 abbrev pub Answers : Sizes → Entry → Entry → Type 0
@@ -101,8 +102,8 @@ module _ (target : Target) (sizes : Sizes) where
 
   then_moves : (next : AfterClear) (e : Entry) → MovesIf next e (then_goes target sizes next e)
   then_moves clears.New e = of (cradle_of e (new_number target e)) refl where
-    of : (j : ℕ) → cradle_of e (new_number target e) ≡ j → MovesIf clears.New e (new_on sizes (new_number target e) j e)
-    of zero is = ((refl, (λ w. w), is), (λ of_answer. (refl, refl)))
+    of : (j : ℕ) → cradle_of e (new_number target e) ≡ j → MovesIf clears.New e (new_on sizes (new_kind target e) (new_number target e) j e)
+    of zero is = ((refl, (λ w. w), is), (λ of_answer. (refl, (new_kind target e, refl))))
     of (suc j) is = ((refl, (λ w. w), tt), (λ of_answer. (refl, tt)))
   then_moves clears.WrapUp e = ((refl, (λ w. w), tt), (λ of_answer. (refl, tt)))
   then_moves (clears.Reply reply) e = ((refl, (λ w. w), tt), (λ of_answer. (refl, (reply, of_answer, refl))))
@@ -250,7 +251,7 @@ module _ (target : Target) (sizes : Sizes) where
   retired_moves go (Some retirement) e = ((refl, (λ w. w), tt), (refl, tt))
 
   zeroed_moves : (k field : ℕ) (e : Entry) → Moves target sizes e (zeroed target sizes k field e).entry
-  zeroed_moves k field e = of (nat_lt (field + 1) (zero_count target sizes (instr_in target e))) where
+  zeroed_moves k field e = of (nat_lt (field + 1) (zero_count target (instr_in target e))) where
     of : (b : Bool) → Moves target sizes e (if b then quiet (with_routine e (Zeroes k (field + 1))) else node_made target sizes (cradle_of e k) e).entry
     of true = ((refl, (λ w. w), tt), (refl, tt))
     of false = on_moves (with_new (instr_in target e) (cradle_of e k) e.hand.registers) e

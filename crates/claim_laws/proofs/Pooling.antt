@@ -6,7 +6,10 @@ use Rattle.std.proofs.lemmas.Bool.{cases_lt}
 use Rattle.std.proofs.lemmas.Bool.Decides.{nat_tests, eqb_tells}
 use Rattle.target_code.specs.declared.target.Target.{Target}
 use Rattle.oa_words.specs.declared.packed.Kind.TheVariants as kinds
-use Rattle.oa_words.specs.Words.{Word, Status, Head, SlotRange, slot_range, address_of, in_row, word_count}
+use Rattle.oa_words.specs.SlotKinds.{range_of, kind_of, range_at}
+use Rattle.oa_words.specs.Starts.{first_ready}
+use Rattle.oa_words.proofs.KindRanges.{kind_small, in_range_is_of_kind}
+use Rattle.oa_words.specs.Words.{Word, Status, Head, Sizes, address_of, in_row, word_count}
 use Rattle.oa_words.specs.Packed.{head_parts, head_word, status_word}
 use Rattle.oa_words.specs.Memories.{seen, store}
 use Rattle.oa_words.proofs.Places.{apart, within}
@@ -19,10 +22,12 @@ use Rattle.phase_pools.specs.Accesses.{WordAccess, word_of, word_after}
 use Rattle.phase_pools.specs.Pools.{Claim, ClaimTurn, claim_accepts, claim_takes, claim_wants, Retirement, retire_wants, takes_at}
 use Rattle.chain_laws.specs.Chains.{top}
 use Rattle.chain_laws.specs.Machine.{Elsewhere}
-use Rattle.chain_laws.specs.Memories.{after_access}
+use Rattle.chain_laws.specs.Memories.{after_access, put}
+use Rattle.chain_laws.proofs.Lists.{each_put, put_same}
 use Rattle.chain_laws.proofs.Same.{same_written}
-use Rattle.claim_order.specs.Frontier.{ClaimFits, Fits, IsOrdered, frontier_at}
-use Rattle.claim_order.proofs.Frontier.{ClaimOn, Moves, Stays, claim_open, fits_later, near_below, near_none, ordered_same, retire_open}
+use Rattle.chain_laws.specs.claim_order.Frontier.{ClaimFits, Fits, IsOrdered, AreOrdered, frontier_at}
+use Rattle.chain_laws.proofs.claim_order.Ranges.{near_below, near_inside, near_none}
+use Rattle.chain_laws.proofs.claim_order.Frontier.{ClaimOn, AllMove, Kept, all_stay, claim_open, fits_later, ordered_same, retire_open}
 use Rattle.caller_parts.specs.declared.call.Call.{Call}
 use Rattle.caller_parts.specs.declared.call.Reply.{Reply}
 use Rattle.caller_parts.specs.declared.call.Reply.TheVariants as replies
@@ -46,16 +51,16 @@ use Rattle.core_runs.proofs.Reaching.{some_is}
 use Rattle.core_runs.proofs.Seeing.{found_is, seen_set}
 use Rattle.core_runs.proofs.Turning.{after_turns}
 use Rattle.core_runs.proofs.Keeping.{idle_wants}
-use Rattle.caller_laws.proofs.Methods.{Methods, SettingSane}
-use Rattle.caller_laws.proofs.Equations.{after_is, moved_claims, wants_claims, wants_retires}
-use Rattle.caller_laws.proofs.Routed.{HoldsAsGoesOn, HoldsAtBegins, after_routed}
-use Rattle.caller_laws.proofs.Safety.{wants_safe}
-use Rattle.caller_laws.proofs.Steps.{after_belongs}
-use Rattle.core_sound.specs.Sound.{IsSound}
-use Rattle.core_sound.specs.Standing.{standing_of}
-use Rattle.core_sound.proofs.Machine.{found_told, set_got}
-use Rattle.core_sound.proofs.Stamping.{elsewhere_wants}
-use Rattle.claim_laws.specs.Untouched.{WordAvoids, EntryAvoids, IsUntouched, RoutineAvoids}
+use Rattle.core_runs.proofs.caller_laws.Methods.{Methods, SettingSane, news_fit}
+use Rattle.core_runs.proofs.caller_laws.Equations.{after_is, moved_claims, wants_claims, wants_retires}
+use Rattle.core_runs.proofs.caller_laws.Routed.{HoldsAsGoesOn, HoldsAtBegins, after_routed}
+use Rattle.core_runs.proofs.caller_laws.Safety.{wants_safe}
+use Rattle.core_runs.proofs.caller_laws.Steps.{after_belongs}
+use Rattle.core_runs.specs.core_sound.Sound.{IsSound}
+use Rattle.core_runs.specs.core_sound.Standing.{standing_of}
+use Rattle.core_runs.proofs.core_sound.Machine.{found_told, set_got}
+use Rattle.core_runs.proofs.core_sound.Stamping.{elsewhere_wants}
+use Rattle.claim_laws.specs.Untouched.{nodes_in, HeldNone, WordAvoids, EntryAvoids, IsUntouched, RoutineAvoids}
 use Rattle.claim_laws.specs.Causes.{FindsNoTop}
 use Rattle.claim_laws.specs.CallSteps.{StepMade}
 use Rattle.claim_laws.proofs.Onward.{IsAnswer, IsBefore, IsNoClaim, StandsAfter, after_answers}
@@ -64,7 +69,7 @@ use Rattle.claim_laws.proofs.Naming.{first_avoid}
 use Rattle.claim_laws.proofs.Claiming.{GivesAt, claim_gives}
 use Rattle.claim_laws.proofs.Meeting.{ClaimsOther, TakesOther, ToldAvoids, LeavesOther, step_found, step_leaves}
 use Rattle.claim_laws.proofs.Counting.{IsCounted, counts_same, counts_more}
-use Rattle.claim_laws.proofs.Touching.{LeavesReady, step_leaves_ready, IsUntaken, AllTouched, touched_more, untaken_before}
+use Rattle.claim_laws.proofs.Touching.{LeavesReady, step_leaves_ready, IsUntaken, AllTouched, held_some, touched_more, untaken_before}
 
 -- ---- one word changes
 
@@ -87,43 +92,55 @@ stored setting words v w x count row there = ⊎_elim
 abbrev pub NoneFull : List Replied → Type 0
 NoneFull given = (i : ℕ) (r : Replied) → slice_get given i ≡ Some r → r.reply ≡ replies.Full → ⊥
 
+-- all slots of a kind held an initial node or were claimed
+abbrev pub KindTouched : Setting → List ℕ → Type 0
+KindTouched setting slots = (k : ℕ) × (k < length setting.sizes.kinds) × AllTouched setting k slots
+
 abbrev pub FullOnly : Setting → List ℕ → List Replied → Type 0
-FullOnly setting slots given = NoneFull given ⊎ AllTouched setting slots
+FullOnly setting slots given = NoneFull given ⊎ KindTouched setting slots
 
 -- of one caller
 pub record CallerPool (setting : Setting) (slots : List ℕ) (e : Entry) : Type 0 where
   pub before : IsBefore e.routine
   pub full : FullOnly setting slots e.replies
 
--- the slots that were claimed are among these, and as many claims are counted. They are those that held no initial node and stand before v
-pub record Pool (target : Target) (setting : Setting) (state : CoreState) (slots : List ℕ) (v : ℕ) : Type 0 where
+-- the slots that were claimed are among these, and as many claims are counted. They are those that held no initial node and stand before the
+-- frontier of their kind
+pub record Pool (target : Target) (setting : Setting) (state : CoreState) (slots : List ℕ) (v : ℕ → ℕ) : Type 0 where
   pub untouched : (j : ℕ) → IsUntaken setting slots j → IsUntouched target setting state j
-  pub past : (j : ℕ) → setting.nodes < j → j < v → has_slot slots j ≡ true
-  pub ahead : (j : ℕ) → v ≤ j → has_slot slots j ≡ false
-  pub words : IsOrdered (slot_range setting.sizes) setting.nodes setting.first (seen setting.sizes state.words) v
-  pub fits : (c : ℕ) (e : Entry) → slice_get state.entries c ≡ Some e → Fits (slot_range setting.sizes) (seen setting.sizes state.words) v (standing_of e.routine)
+  pub past : (j : ℕ) → HeldNone setting j → j < v (kind_of setting.sizes j) → has_slot slots j ≡ true
+  pub ahead : (j : ℕ) → v (kind_of setting.sizes j) ≤ j → has_slot slots j ≡ false
+  pub words : AreOrdered setting.sizes (nodes_in setting) setting.first (seen setting.sizes state.words) v
+  pub fits : (c : ℕ) (e : Entry) → slice_get state.entries c ≡ Some e → Fits setting.sizes (seen setting.sizes state.words) v (standing_of e.routine)
   pub callers : (c : ℕ) (e : Entry) → slice_get state.entries c ≡ Some e → CallerPool setting slots e
   pub count : IsCounted (length slots) state.entries
 
 pub record IsPooled (target : Target) (setting : Setting) (state : CoreState) : Type 0 where
   pub slots : List ℕ
-  pub frontier : ℕ
+  pub frontier : ℕ → ℕ
   pub pool : Pool target setting state slots frontier
 
 full_more : (setting : Setting) (slots : List ℕ) (k : ℕ) (given : List Replied) → FullOnly setting slots given → FullOnly setting (k ∷ slots) given
 full_more setting slots k given (inl none) = inl none
-full_more setting slots k given (inr all) = inr (λ i le. touched_more setting slots k i (all i le))
+full_more setting slots k given (inr all) = inr (all.0, all.1, (λ i within. touched_more setting slots k i (all.2 i within)))
 
 caller_more : (setting : Setting) (slots : List ℕ) (k : ℕ) (e : Entry) → CallerPool setting slots e → CallerPool setting (k ∷ slots) e
 caller_more setting slots k e p = record { before = p.before; full = full_more setting slots k e.replies p.full }
 
--- where no slot is on top each was claimed
-all_touched : (setting : Setting) (slots : List ℕ) (m : Word → ℕ) (v : ℕ) → IsOrdered (slot_range setting.sizes) setting.nodes setting.first m v → ((j : ℕ) → setting.nodes < j → j < v → has_slot slots j ≡ true) → top m ≡ 0
-    → AllTouched setting slots
-all_touched setting slots m v o past none i le = ⊎_elim
-    (λ (node : i < setting.nodes + 1). inl (omega (arith, node)))
-    (λ (other : setting.nodes + 1 ≤ i). inr (past i (omega (arith, other)) (let over = near_none (slot_range setting.sizes) v (top m) o.above_null none o.top_good.0 in omega (arith, le, over))))
-    (cases_lt i (setting.nodes + 1))
+-- where no slot of a kind is on top each was claimed
+all_touched : (setting : Setting) (slots : List ℕ) (m : Word → ℕ) (v : ℕ → ℕ) (k : ℕ) → k < length setting.sizes.kinds → AreOrdered setting.sizes (nodes_in setting) setting.first m v
+    → ((j : ℕ) → HeldNone setting j → j < v (kind_of setting.sizes j) → has_slot slots j ≡ true) → top m k ≡ 0 → AllTouched setting k slots
+all_touched setting slots m v k lt o past none i within = ⊎_elim (λ (node : i < ready). inl node) (λ (other : ready ≤ i). inr (past i other below)) (cases_lt i ready) where
+  ready : ℕ
+  ready = first_ready (range_at setting.sizes i) (nodes_in setting (kind_of setting.sizes i))
+
+  words : IsOrdered (range_of setting.sizes k) k (nodes_in setting k) setting.first m (v k)
+  words = o k lt
+
+  below : i < v (kind_of setting.sizes i)
+  below =
+      let over = near_none (range_of setting.sizes k) (v k) (top m k) words.above_null none words.top_good.0 in
+      subst (λ (a : ℕ). i < v a) (sym (in_range_is_of_kind setting.sizes k i lt within)) (let high = within.1 in omega (arith, high, over))
 
 -- one more reply
 pub got_last : (given : List Replied) (i : ℕ) (r new : Replied) → slice_get (given ++ new ∷ []) i ≡ Some r → (slice_get given i ≡ Some r) ⊎ (new ≡ r)
@@ -138,7 +155,7 @@ not_full replies.Nothing is e = cc
 not_full replies.Full is e = is
 not_full (replies.Phases p) is e = is
 
-add_reply : (setting : Setting) (slots : List ℕ) (given : List Replied) (reply : Reply) (run : Running) → (reply ≡ replies.Full → AllTouched setting slots) → (reply ≡ replies.Full → ⊥) ⊎ (reply ≡ replies.Full)
+add_reply : (setting : Setting) (slots : List ℕ) (given : List Replied) (reply : Reply) (run : Running) → (reply ≡ replies.Full → KindTouched setting slots) → (reply ≡ replies.Full → ⊥) ⊎ (reply ≡ replies.Full)
     → FullOnly setting slots given → FullOnly setting slots (given ++ replied_by reply run ∷ [])
 add_reply setting slots given reply run gives which (inr all) = inr all
 add_reply setting slots given reply run gives (inr is) (inl none) = inr (gives is)
@@ -222,20 +239,20 @@ module _ (target : Target) (setting : Setting) where
       by (Zeroes k field) is stands = same (Zeroes k field) is refl tt
 
     -- one of a claim: where it ends with `Full` each slot was claimed
-    claim_end : (next : Claim) (o : Option ClaimEnd) (x : Entry) → (o ≡ Some ends.Full → AllTouched setting slots) → FullOnly setting slots x.replies → CallerPool setting slots (claim_on target next o x).entry
+    claim_end : (next : Claim) (o : Option ClaimEnd) (x : Entry) → (o ≡ Some ends.Full → KindTouched setting slots) → FullOnly setting slots x.replies → CallerPool setting slots (claim_on target next o x).entry
     claim_end next None x touches full = record { before = tt; full = full }
     claim_end next (Some (ends.Claimed k)) x touches full = record { before = tt; full = full }
     claim_end next (Some ends.Full) x touches full = record { before = tt; full = add_reply setting slots x.replies replies.Full x.running (λ is. touches refl) (inr refl) full }
     claim_end next (Some (ends.PhasesOver q)) x touches full = record { before = tt; full = add_reply setting slots x.replies (replies.Phases q) x.running (λ is. absurd cc) (inl (λ is. cc)) full }
 
-    claim_step : (claim : Claim) → e.routine ≡ Claims claim → ((claim_accepts setting.sizes setting.last claim word).ended ≡ Some ends.Full → AllTouched setting slots) → CallerPool setting slots later
+    claim_step : (claim : Claim) → e.routine ≡ Claims claim → ((claim_accepts setting.sizes setting.last claim word).ended ≡ Some ends.Full → KindTouched setting slots) → CallerPool setting slots later
     claim_step claim is touches =
         let turn : ClaimTurn = claim_accepts setting.sizes setting.last claim word in
         subst (CallerPool setting slots) (sym (after_is target setting e word ∙ ap (λ (m : Moved). m.entry) (moved_claims target setting e word claim is)))
         (claim_end turn.claim turn.ended (claim_counted (claim_takes claim word) (counted e)) touches p.full)
 
     -- either
-    pub caller_step : ((claim : Claim) → e.routine ≡ Claims claim → (claim_accepts setting.sizes setting.last claim word).ended ≡ Some ends.Full → AllTouched setting slots) → CallerPool setting slots later
+    pub caller_step : ((claim : Claim) → e.routine ≡ Claims claim → (claim_accepts setting.sizes setting.last claim word).ended ≡ Some ends.Full → KindTouched setting slots) → CallerPool setting slots later
     caller_step touches = of e.routine refl where
       of : (routine : Routine) → e.routine ≡ routine → CallerPool setting slots later
       of Idle is = absurd (let z : true ≡ false = sym (ap is_idle is) ∙ busy in cc)
@@ -250,33 +267,33 @@ module _ (target : Target) (setting : Setting) where
 
 -- ---- the words after a step, and which slots it leaves unclaimed
 
--- from the words m, of which v is the frontier, by the access a
-pub record Advances (setting : Setting) (m : Word → ℕ) (slots : List ℕ) (v : ℕ) (e : Entry) (a : WordAccess) (slots' : List ℕ) (v' : ℕ) : Type 0 where
-  pub words : IsOrdered (slot_range setting.sizes) setting.nodes setting.first (after_access m a) v'
-  pub moves : Moves (slot_range setting.sizes) m (after_access m a) v v'
+-- from the words m, of which v is each kind's frontier, by the access a
+pub record Advances (setting : Setting) (m : Word → ℕ) (slots : List ℕ) (v : ℕ → ℕ) (e : Entry) (a : WordAccess) (slots' : List ℕ) (v' : ℕ → ℕ) : Type 0 where
+  pub words : AreOrdered setting.sizes (nodes_in setting) setting.first (after_access m a) v'
+  pub moves : AllMove setting.sizes m (after_access m a) v v'
   pub untaken : (j : ℕ) → IsUntaken setting slots' j → IsUntaken setting slots j × ClaimsOther j (m (word_of a)) e.routine
-  pub past : (j : ℕ) → setting.nodes < j → j < v' → has_slot slots' j ≡ true
-  pub ahead : (j : ℕ) → v' ≤ j → has_slot slots' j ≡ false
-  pub on : (claim : Claim) → e.routine ≡ Claims claim → (let turn = claim_accepts setting.sizes setting.last claim (m (word_of a)) in ClaimOn (slot_range setting.sizes) (after_access m a) v' turn.claim turn.ended)
+  pub past : (j : ℕ) → HeldNone setting j → j < v' (kind_of setting.sizes j) → has_slot slots' j ≡ true
+  pub ahead : (j : ℕ) → v' (kind_of setting.sizes j) ≤ j → has_slot slots' j ≡ false
+  pub on : (claim : Claim) → e.routine ≡ Claims claim → (let turn = claim_accepts setting.sizes setting.last claim (m (word_of a)) in ClaimOn setting.sizes (after_access m a) v' turn.claim turn.ended)
 
 -- it takes no slot, or one
-abbrev pub AdvancesBy : Setting → (Word → ℕ) → List ℕ → ℕ → Entry → WordAccess → Type 0
+abbrev pub AdvancesBy : Setting → (Word → ℕ) → List ℕ → (ℕ → ℕ) → Entry → WordAccess → Type 0
 AdvancesBy setting m slots v e a =
     ((takes_in e.routine (m (word_of a)) ≡ false) × Advances setting m slots v e a slots v)
-    ⊎ ((takes_in e.routine (m (word_of a)) ≡ true) × (t : ℕ) × (v' : ℕ) × Advances setting m slots v e a (t ∷ slots) v')
+    ⊎ ((takes_in e.routine (m (word_of a)) ≡ true) × (t : ℕ) × (v' : ℕ → ℕ) × Advances setting m slots v e a (t ∷ slots) v')
 
-module _ (setting : Setting) (some : SettingSane setting) (m : Word → ℕ) (slots : List ℕ) (v : ℕ) (e : Entry) (ordered : IsOrdered (slot_range setting.sizes) setting.nodes setting.first m v)
-    (past : (j : ℕ) → setting.nodes < j → j < v → has_slot slots j ≡ true) (ahead : (j : ℕ) → v ≤ j → has_slot slots j ≡ false) where
+module _ (setting : Setting) (some : SettingSane setting) (m : Word → ℕ) (slots : List ℕ) (v : ℕ → ℕ) (e : Entry) (ordered : AreOrdered setting.sizes (nodes_in setting) setting.first m v)
+    (past : (j : ℕ) → HeldNone setting j → j < v (kind_of setting.sizes j) → has_slot slots j ≡ true) (ahead : (j : ℕ) → v (kind_of setting.sizes j) ≤ j → has_slot slots j ≡ false) where
   -- no claim
-  still : (a : WordAccess) → IsOrdered (slot_range setting.sizes) setting.nodes setting.first (after_access m a) v × Stays (slot_range setting.sizes) v m (after_access m a) → ((j : ℕ) → ClaimsOther j (m (word_of a)) e.routine)
-      → ((claim : Claim) → e.routine ≡ Claims claim → (let turn = claim_accepts setting.sizes setting.last claim (m (word_of a)) in ClaimOn (slot_range setting.sizes) (after_access m a) v turn.claim turn.ended))
+  still : (a : WordAccess) → Kept setting.sizes (nodes_in setting) setting.first m (after_access m a) v → ((j : ℕ) → ClaimsOther j (m (word_of a)) e.routine)
+      → ((claim : Claim) → e.routine ≡ Claims claim → (let turn = claim_accepts setting.sizes setting.last claim (m (word_of a)) in ClaimOn setting.sizes (after_access m a) v turn.claim turn.ended))
       → Advances setting m slots v e a slots v
-  still a k other on = record { words = k.0; moves = inl (refl, k.1); untaken = λ j u. (u, other j); past = past; ahead = ahead; on = on }
+  still a k other on = record { words = k.0; moves = all_stay setting.sizes m (after_access m a) v k.1; untaken = λ j u. (u, other j); past = past; ahead = ahead; on = on }
 
   elsewhere_advances : (target : Target) (a : WordAccess) → standing_of e.routine ≡ Elsewhere → wants target e ≡ Some a → AdvancesBy setting m slots v e a
   elsewhere_advances target a at want = inl (
     takes_none e.routine at,
-    still a (ordered_same (slot_range setting.sizes) setting.nodes setting.first m (after_access m a) v (same_written m (word_of a) (word_after a (m (word_of a))) (elsewhere_wants target e a at want)) ordered)
+    still a (ordered_same setting.sizes (nodes_in setting) setting.first m (after_access m a) v (same_written m (word_of a) (word_after a (m (word_of a))) (elsewhere_wants target e a at want)) ordered)
         (λ j. other_none j e.routine at) (λ claim is. absurd (no_claim claim (sym (ap standing_of is) ∙ at))),
   ) where
     no_claim : (claim : Claim) → standing_of (Claims claim) ≡ Elsewhere → ⊥
@@ -304,14 +321,14 @@ module _ (setting : Setting) (some : SettingSane setting) (m : Word → ℕ) (sl
     other_none j (Clears next) is = tt
     other_none j (Zeroes k field) is = tt
 
-  retires_advances : (retirement : Retirement) (go : AfterRetire) → e.routine ≡ Retires retirement go → retirement.slot < v → AdvancesBy setting m slots v e (retire_wants retirement)
+  retires_advances : (retirement : Retirement) (go : AfterRetire) → e.routine ≡ Retires retirement go → retirement.slot < v (kind_of setting.sizes retirement.slot) → AdvancesBy setting m slots v e (retire_wants retirement)
   retires_advances retirement go is lt = inl (
     ap (λ (r : Routine). takes_in r (m (word_of (retire_wants retirement)))) is,
-    still (retire_wants retirement) (retire_open setting.sizes setting.nodes setting.first m v retirement.slot retirement.stage lt ordered).0
+    still (retire_wants retirement) (retire_open setting.sizes (nodes_in setting) setting.first m v retirement.slot retirement.stage lt ordered).0
         (λ j. subst (ClaimsOther j (m (word_of (retire_wants retirement)))) (sym is) tt) (λ claim claims_is. absurd (let no : Retires retirement go ≡ Claims claim = sym is ∙ claims_is in cc)),
   )
 
-  module _ (claim : Claim) (is : e.routine ≡ Claims claim) (fits : ClaimFits (slot_range setting.sizes) m v claim.sweep.stage claim.stage) where
+  module _ (claim : Claim) (is : e.routine ≡ Claims claim) (known : claim.kind < length setting.sizes.kinds) (fits : ClaimFits setting.sizes claim.kind m v claim.sweep.stage claim.stage) where
     abbrev told : ℕ
     told = m (word_of (claim_wants claim))
 
@@ -324,59 +341,59 @@ module _ (setting : Setting) (some : SettingSane setting) (m : Word → ℕ) (sl
     same_claim : (a b : Claim) → Claims a ≡ Claims b → a ≡ b
     same_claim a b both = cc
 
-    on_of : (v' : ℕ) → ClaimOn (slot_range setting.sizes) m' v' turn.claim turn.ended → (other : Claim) → e.routine ≡ Claims other
-        → (let turn' = claim_accepts setting.sizes setting.last other told in ClaimOn (slot_range setting.sizes) m' v' turn'.claim turn'.ended)
+    on_of : (v' : ℕ → ℕ) → ClaimOn setting.sizes m' v' turn.claim turn.ended → (other : Claim) → e.routine ≡ Claims other
+        → (let turn' = claim_accepts setting.sizes setting.last other told in ClaimOn setting.sizes m' v' turn'.claim turn'.ended)
     on_of v' on other also =
-        subst (λ (c : Claim). let turn' = claim_accepts setting.sizes setting.last c told in ClaimOn (slot_range setting.sizes) m' v' turn'.claim turn'.ended) (same_claim claim other (sym is ∙ also)) on
+        subst (λ (c : Claim). let turn' = claim_accepts setting.sizes setting.last c told in ClaimOn setting.sizes m' v' turn'.claim turn'.ended) (same_claim claim other (sym is ∙ also)) on
 
     takes_is : takes_in e.routine told ≡ takes_at claim.stage told
     takes_is = ap (λ (r : Routine). takes_in r told) is
 
     -- where the exchange takes nothing
-    none_taken : takes_at claim.stage told ≡ false → frontier_at claim.stage m v ≡ v → ((j : ℕ) → TakesOther j claim.stage told) → AdvancesBy setting m slots v e (claim_wants claim)
+    none_taken : takes_at claim.stage told ≡ false → frontier_at claim.kind claim.stage m v ≡ v → ((j : ℕ) → TakesOther j claim.stage told) → AdvancesBy setting m slots v e (claim_wants claim)
     none_taken takes front other =
-        let k = claim_open setting.sizes setting.last setting.nodes setting.first m v 0 claim claim.stage refl some.slots some.few ordered fits in
+        let k = claim_open setting.sizes setting.last (nodes_in setting) setting.first m v 0 claim claim.stage refl some.kinds some.few known ordered fits in
         inl (
           takes_is ∙ takes,
           record {
-            words = subst (λ (x : ℕ). IsOrdered (slot_range setting.sizes) setting.nodes setting.first m' x) front k.words;
-            moves = subst (λ (x : ℕ). Moves (slot_range setting.sizes) m m' v x) front k.moves;
+            words = subst (λ (x : ℕ → ℕ). AreOrdered setting.sizes (nodes_in setting) setting.first m' x) front k.words;
+            moves = subst (λ (x : ℕ → ℕ). AllMove setting.sizes m m' v x) front k.moves;
             untaken = λ j u. (u, subst (ClaimsOther j told) (sym is) (other j));
             past = past;
             ahead = ahead;
-            on = on_of v (subst (λ (x : ℕ). ClaimOn (slot_range setting.sizes) m' x turn.claim turn.ended) front k.on);
+            on = on_of v (subst (λ (x : ℕ → ℕ). ClaimOn setting.sizes m' x turn.claim turn.ended) front k.on);
           },
         )
 
-    -- where it takes t, which stands before the frontier or at it
-    one_taken : (q t next : ℕ) → claim.stage ≡ claims.Take q t next → t ≤ v → (m Head == head_word q t) ≡ true → AdvancesBy setting m slots v e (claim_wants claim)
-    one_taken q t next at le finds =
-        let k = claim_open setting.sizes setting.last setting.nodes setting.first m v 0 claim claim.stage refl some.slots some.few ordered fits in
+    -- where it takes t, a slot of the claim's kind, which stands before the kind's frontier or at it
+    one_taken : (q t next : ℕ) → claim.stage ≡ claims.Take q t next → kind_of setting.sizes t ≡ claim.kind → t ≤ v claim.kind → (m (Head claim.kind) == head_word q t) ≡ true → AdvancesBy setting m slots v e (claim_wants claim)
+    one_taken q t next at its le finds =
+        let k = claim_open setting.sizes setting.last (nodes_in setting) setting.first m v 0 claim claim.stage refl some.kinds some.few known ordered fits in
         inr (
           takes_is ∙ takes,
           t,
-          on_by (t == v),
+          on_by (t == v claim.kind),
           record {
-            words = subst (λ (x : ℕ). IsOrdered (slot_range setting.sizes) setting.nodes setting.first m' x) front k.words;
-            moves = subst (λ (x : ℕ). Moves (slot_range setting.sizes) m m' v x) front k.moves;
+            words = subst (λ (x : ℕ → ℕ). AreOrdered setting.sizes (nodes_in setting) setting.first m' x) front k.words;
+            moves = subst (λ (x : ℕ → ℕ). AllMove setting.sizes m m' v x) front k.moves;
             untaken = λ j u. (let was = untaken_before setting slots t j u in (was.0, subst (ClaimsOther j told) (sym is) (subst (λ (stage : ClaimStage). TakesOther j stage told) (sym at) (λ took. was.1))));
-            past = λ j low lt. has_past (t == v) refl j low lt;
-            ahead = λ j from. has_ahead (t == v) refl j from;
-            on = on_of (on_by (t == v)) (subst (λ (x : ℕ). ClaimOn (slot_range setting.sizes) m' x turn.claim turn.ended) front k.on);
+            past = λ j low lt. has_past (t == v claim.kind) refl j low lt;
+            ahead = λ j from. has_ahead (t == v claim.kind) refl j from;
+            on = on_of (on_by (t == v claim.kind)) (subst (λ (x : ℕ → ℕ). ClaimOn setting.sizes m' x turn.claim turn.ended) front k.on);
           },
         )
       where
-        on_by : Bool → ℕ
-        on_by b = if b then v + 1 else v
+        on_by : Bool → ℕ → ℕ
+        on_by b = if b then put v claim.kind (v claim.kind + 1) else v
 
-        told_is_head : told ≡ m Head
+        told_is_head : told ≡ m (Head claim.kind)
         told_is_head = ap (λ (stage : ClaimStage). m (word_of (claim_wants (record claim { stage = stage })))) at
 
         takes : takes_at claim.stage told ≡ true
         takes = ap (λ (stage : ClaimStage). takes_at stage told) at ∙ (ap (λ (n : ℕ). n == head_word q t) told_is_head ∙ finds)
 
-        front : frontier_at claim.stage m v ≡ on_by (t == v)
-        front = ap (λ (stage : ClaimStage). frontier_at stage m v) at ∙ ap (λ (b : Bool). if b then (if t == v then v + 1 else v) else v) finds
+        front : frontier_at claim.kind claim.stage m v ≡ on_by (t == v claim.kind)
+        front = ap (λ (stage : ClaimStage). frontier_at claim.kind stage m v) at ∙ ap (λ (b : Bool). if b then on_by (t == v claim.kind) else v) finds
 
         more : (j : ℕ) → has_slot slots j ≡ true → has_slot (t ∷ slots) j ≡ true
         more j has = of (t == j) (has_slot slots j) has where
@@ -387,38 +404,62 @@ module _ (setting : Setting) (some : SettingSane setting) (m : Word → ℕ) (sl
         here : (j : ℕ) → t ≡ j → has_slot (t ∷ slots) j ≡ true
         here j same = let one : (t == j) ≡ true = grind (arith, nat_tests) in rw one refl
 
-        has_past : (b : Bool) → (t == v) ≡ b → (j : ℕ) → setting.nodes < j → j < on_by b → has_slot (t ∷ slots) j ≡ true
-        has_past true same j low lt = ⊎_elim
-            (λ (before : j < v). more j (past j low before))
-            (λ (from : v ≤ j). here j (let e : t ≡ v = grind (arith, nat_tests) in omega (arith, e, from, lt)))
-            (cases_lt j v)
+        -- the slots before the frontier of a kind that moves on, or stays
+        has_past : (b : Bool) → (t == v claim.kind) ≡ b → (j : ℕ) → HeldNone setting j → j < on_by b (kind_of setting.sizes j) → has_slot (t ∷ slots) j ≡ true
+        has_past true same j low lt = of (kind_of setting.sizes j) refl lt (past j low) where
+          of : (i : ℕ) → kind_of setting.sizes j ≡ i → j < put v claim.kind (v claim.kind + 1) i → (j < v i → has_slot slots j ≡ true) → has_slot (t ∷ slots) j ≡ true
+          of i is = each_put (λ i (x : ℕ). j < x → (j < v i → has_slot slots j ≡ true) → has_slot (t ∷ slots) j ≡ true) v claim.kind (v claim.kind + 1)
+              (λ below before. ⊎_elim
+              (λ (lt : j < v claim.kind). more j (before lt))
+              (λ (from : v claim.kind ≤ j). here j (let e : t ≡ v claim.kind = grind (arith, nat_tests) in omega (arith, e, from, below)))
+              (cases_lt j (v claim.kind)))
+              (λ i ne below before. more j (before below)) i
         has_past false same j low lt = more j (past j low lt)
 
         other : (j : ℕ) → t ≢ j → has_slot slots j ≡ false → has_slot (t ∷ slots) j ≡ false
         other j ne none = let one : (t == j) ≡ false = grind (arith, nat_tests) in rw (one, none) refl
 
-        has_ahead : (b : Bool) → (t == v) ≡ b → (j : ℕ) → on_by b ≤ j → has_slot (t ∷ slots) j ≡ false
-        has_ahead true same j from = let e : t ≡ v = grind (arith, nat_tests) in other j (λ z. omega (arith, z, e, from)) (ahead j (omega (arith, from)))
-        has_ahead false same j from = let ne : t ≢ v = grind (arith, nat_tests) in other j (λ z. omega (arith, z, ne, from, le)) (ahead j from)
+        -- and t isn't one of those from there on
+        before_it : (b : Bool) → (t == v claim.kind) ≡ b → t < on_by b claim.kind
+        before_it true same = let e : t ≡ v claim.kind = grind (arith, nat_tests) in let up = put_same v claim.kind (v claim.kind + 1) in omega (arith, e, up)
+        before_it false same = let ne : t ≢ v claim.kind = grind (arith, nat_tests) in omega (arith, ne, le)
+
+        frontier_up : (b : Bool) (i : ℕ) → v i ≤ on_by b i
+        frontier_up true i = each_put (λ i (x : ℕ). v i ≤ x) v claim.kind (v claim.kind + 1) (omega arith) (λ i ne. omega arith) i
+        frontier_up false i = omega arith
+
+        has_ahead : (b : Bool) → (t == v claim.kind) ≡ b → (j : ℕ) → on_by b (kind_of setting.sizes j) ≤ j → has_slot (t ∷ slots) j ≡ false
+        has_ahead b same j from = other j
+            (λ z.
+            let kind : kind_of setting.sizes j ≡ claim.kind = ap (kind_of setting.sizes) (sym z) ∙ its in
+            let at_or_past : on_by b claim.kind ≤ j = subst (λ (i : ℕ). on_by b i ≤ j) kind from in
+            let below = before_it b same in
+            omega (arith, z, at_or_past, below))
+            (ahead j (let up = frontier_up b (kind_of setting.sizes j) in omega (arith, up, from)))
 
     claims_advance : AdvancesBy setting m slots v e (claim_wants claim)
     claims_advance = of claim.stage refl fits where
-      of : (stage : ClaimStage) → claim.stage ≡ stage → ClaimFits (slot_range setting.sizes) m v claim.sweep.stage stage → AdvancesBy setting m slots v e (claim_wants claim)
+      of : (stage : ClaimStage) → claim.stage ≡ stage → ClaimFits setting.sizes claim.kind m v claim.sweep.stage stage → AdvancesBy setting m slots v e (claim_wants claim)
       of claims.ReadHead at w =
-          none_taken (ap (λ (x : ClaimStage). takes_at x told) at) (ap (λ (x : ClaimStage). frontier_at x m v) at) (λ j. subst (λ (x : ClaimStage). TakesOther j x told) (sym at) tt)
+          none_taken (ap (λ (x : ClaimStage). takes_at x told) at) (ap (λ (x : ClaimStage). frontier_at claim.kind x m v) at) (λ j. subst (λ (x : ClaimStage). TakesOther j x told) (sym at) tt)
       of (claims.ReadLink q t) at w =
-          none_taken (ap (λ (x : ClaimStage). takes_at x told) at) (ap (λ (x : ClaimStage). frontier_at x m v) at) (λ j. subst (λ (x : ClaimStage). TakesOther j x told) (sym at) tt)
+          none_taken (ap (λ (x : ClaimStage). takes_at x told) at) (ap (λ (x : ClaimStage). frontier_at claim.kind x m v) at) (λ j. subst (λ (x : ClaimStage). TakesOther j x told) (sym at) tt)
       of (claims.StoreUsed q t) at w =
-          none_taken (ap (λ (x : ClaimStage). takes_at x told) at) (ap (λ (x : ClaimStage). frontier_at x m v) at) (λ j. subst (λ (x : ClaimStage). TakesOther j x told) (sym at) tt)
+          none_taken (ap (λ (x : ClaimStage). takes_at x told) at) (ap (λ (x : ClaimStage). frontier_at claim.kind x m v) at) (λ j. subst (λ (x : ClaimStage). TakesOther j x told) (sym at) tt)
+      of (claims.Withdraw own) at w =
+          none_taken (ap (λ (x : ClaimStage). takes_at x told) at) (ap (λ (x : ClaimStage). frontier_at claim.kind x m v) at) (λ j. subst (λ (x : ClaimStage). TakesOther j x told) (sym at) tt)
       of claims.Sweeps at w =
-          none_taken (ap (λ (x : ClaimStage). takes_at x told) at) (ap (λ (x : ClaimStage). frontier_at x m v) at) (λ j. subst (λ (x : ClaimStage). TakesOther j x told) (sym at) tt)
-      of (claims.Take q t next) at w = by (m Head == head_word q t) refl where
-        at_head : told ≡ m Head
+          none_taken (ap (λ (x : ClaimStage). takes_at x told) at) (ap (λ (x : ClaimStage). frontier_at claim.kind x m v) at) (λ j. subst (λ (x : ClaimStage). TakesOther j x told) (sym at) tt)
+      of (claims.Take q t next) at w = by (m (Head claim.kind) == head_word q t) refl where
+        at_head : told ≡ m (Head claim.kind)
         at_head = ap (λ (stage : ClaimStage). m (word_of (claim_wants (record claim { stage = stage })))) at
 
-        by : (b : Bool) → (m Head == head_word q t) ≡ b → AdvancesBy setting m slots v e (claim_wants claim)
-        by true finds = one_taken q t next at (near_below (slot_range setting.sizes) v t w.1.0) finds
-        by false fails = none_taken (ap (λ (x : ClaimStage). takes_at x told) at ∙ lost) (ap (λ (x : ClaimStage). frontier_at x m v) at ∙ ap (λ (b : Bool). if b then (if t == v then v + 1 else v) else v) fails)
+        its : kind_of setting.sizes t ≡ claim.kind
+        its = in_range_is_of_kind setting.sizes claim.kind t known (w.0, near_inside (range_of setting.sizes claim.kind) (v claim.kind) t w.1.0)
+
+        by : (b : Bool) → (m (Head claim.kind) == head_word q t) ≡ b → AdvancesBy setting m slots v e (claim_wants claim)
+        by true finds = one_taken q t next at its (near_below (range_of setting.sizes claim.kind) (v claim.kind) t w.1.0) finds
+        by false fails = none_taken (ap (λ (x : ClaimStage). takes_at x told) at ∙ lost) (ap (λ (x : ClaimStage). frontier_at claim.kind x m v) at ∙ ap (λ (b : Bool). if b then (if t == v claim.kind then put v claim.kind (v claim.kind + 1) else v) else v) fails)
             (λ j. subst (λ (x : ClaimStage). TakesOther j x told) (sym at) (λ took. absurd (let z : false ≡ true = sym lost ∙ took in cc))) where
               lost : (told == head_word q t) ≡ false
               lost = ap (λ (n : ℕ). n == head_word q t) at_head ∙ fails
@@ -438,9 +479,9 @@ take_untouched target setting state c call e j low there was = record {
 }
 
 -- what a step leaves of claims
-abbrev ClaimsFit : SlotRange → (Word → ℕ) → ℕ → Routine → Type 0
-ClaimsFit range m v (Claims claim) = ClaimFits range m v claim.sweep.stage claim.stage
-ClaimsFit range m v _ = Unit {0}
+abbrev ClaimsFit : Sizes → (Word → ℕ) → (ℕ → ℕ) → Routine → Type 0
+ClaimsFit n m v (Claims claim) = (claim.kind < length n.kinds) × ClaimFits n claim.kind m v claim.sweep.stage claim.stage
+ClaimsFit n m v _ = Unit {0}
 
 module _ (target : Target) (setting : Setting) (sane : Methods target) (some : SettingSane setting) (fits : FitsTarget target setting) where
   abbrev stepped_state : CoreState → ℕ → Entry → WordAccess → CoreState
@@ -464,14 +505,14 @@ module _ (target : Target) (setting : Setting) (sane : Methods target) (some : S
       held : EntryAvoids j e
       held = u.entries c e there
 
-      left : LeavesOther target j (Some a)
-      left = subst (LeavesOther target j) want (step_leaves target setting sane j low e own held)
+      left : LeavesOther target setting.sizes j (Some a)
+      left = subst (LeavesOther target setting.sizes j) want (step_leaves target setting sane j low e own held)
 
-      words : (w : Word) → in_row setting.sizes w ≡ true → WordAvoids target j w (word_at setting (stepped_state state c e a) w)
+      words : (w : Word) → in_row setting.sizes w ≡ true → WordAvoids target setting.sizes j w (word_at setting (stepped_state state c e a) w)
       words w in_it = ⊎_elim
           (λ (t : (w ≡ word_of a) × (word_at setting (stepped_state state c e a) w ≡ word_after a found)).
-          subst (WordAvoids target j w) (sym t.1) (subst (λ (v : Word). WordAvoids target j v (word_after a found)) (sym t.0) (left found (u.words (word_of a) safe.row))))
-          (λ (t : word_at setting (stepped_state state c e a) w ≡ word_at setting state w). subst (WordAvoids target j w) (sym t) (u.words w in_it))
+          subst (WordAvoids target setting.sizes j w) (sym t.1) (subst (λ (v : Word). WordAvoids target setting.sizes j v (word_after a found)) (sym t.0) (left found (u.words (word_of a) safe.row))))
+          (λ (t : word_at setting (stepped_state state c e a) w ≡ word_at setting state w). subst (WordAvoids target setting.sizes j w) (sym t) (u.words w in_it))
           (stored setting state.words (word_of a) w (word_after a found) sound.count safe.row in_it)
 
       ready_left : word_of a ≡ Status j → word_after a found ≡ status_word setting.first kinds.Ready
@@ -490,7 +531,7 @@ module _ (target : Target) (setting : Setting) (sane : Methods target) (some : S
       entries d f got = ⊎_elim
           (λ (t : (d ≡ c) × (f ≡ after target setting e found)). subst (EntryAvoids j) (sym t.1)
           (after_avoids target setting j found e low held
-          (step_found target setting sane j low e found own held (subst (λ (o : Option WordAccess). ToldAvoids target j o found) (sym want) (u.words (word_of a) safe.row)) other)))
+          (step_found target setting sane j low e found own held (subst (λ (o : Option WordAccess). ToldAvoids target setting.sizes j o found) (sym want) (u.words (word_of a) safe.row)) other)))
           (λ (t : slice_get state.entries d ≡ Some f). u.entries d f t)
           (set_got state.entries c d (after target setting e found) f got)
 
@@ -504,9 +545,9 @@ module _ (target : Target) (setting : Setting) (sane : Methods target) (some : S
     later_seen = seen_set setting.sizes state.words (word_of a) (word_after a found) sound.count safe.row ∙ ap (λ (k : ℕ). store m (word_of a) (word_after a k)) (sym found_seen)
 
     later_belongs : Belongs target setting (after target setting e found)
-    later_belongs = after_belongs target setting e found sane some own (subst (λ (o : Option WordAccess). MayBeTold target setting o found) (sym want) (found_told target setting state a sound safe))
+    later_belongs = after_belongs target setting e found sane some fits own (subst (λ (o : Option WordAccess). MayBeTold target setting o found) (sym want) (found_told target setting state a sound safe))
 
-    module _ (slots : List ℕ) (v : ℕ) (pool : Pool target setting state slots v) where
+    module _ (slots : List ℕ) (v : ℕ → ℕ) (pool : Pool target setting state slots v) where
       mine : CallerPool setting slots e
       mine = pool.callers c e there
 
@@ -518,9 +559,9 @@ module _ (target : Target) (setting : Setting) (sane : Methods target) (some : S
         same_access : (x : WordAccess) → wants target e ≡ Some x → x ≡ a
         same_access x is = let both : Some x ≡ Some a = sym is ∙ want in cc
 
-        of : (routine : Routine) → e.routine ≡ routine → Fits (slot_range setting.sizes) m v (standing_of routine) → AdvancesBy setting m slots v e a
+        of : (routine : Routine) → e.routine ≡ routine → Fits setting.sizes m v (standing_of routine) → AdvancesBy setting m slots v e a
         of (Claims claim) is w =
-            subst (AdvancesBy setting m slots v e) (same_access (claim_wants claim) (wants_claims target e claim is)) (claims_advance setting some m slots v e pool.words pool.past pool.ahead claim is w)
+            subst (AdvancesBy setting m slots v e) (same_access (claim_wants claim) (wants_claims target e claim is)) (claims_advance setting some m slots v e pool.words pool.past pool.ahead claim is w.0 w.1)
         of (Retires retirement go) is w =
             subst (AdvancesBy setting m slots v e) (same_access (retire_wants retirement) (wants_retires target e retirement go is)) (retires_advances setting some m slots v e pool.words pool.past pool.ahead retirement go is w)
         of Idle is w = elsewhere_advances setting some m slots v e pool.words pool.past pool.ahead target a (ap standing_of is) want
@@ -532,44 +573,47 @@ module _ (target : Target) (setting : Setting) (sane : Methods target) (some : S
         of (Zeroes k field) is w = elsewhere_advances setting some m slots v e pool.words pool.past pool.ahead target a (ap standing_of is) want
 
       -- a third look that found no slot on top
-      touches : (claim : Claim) → e.routine ≡ Claims claim → (claim_accepts setting.sizes setting.last claim found).ended ≡ Some ends.Full → AllTouched setting slots
+      touches : (claim : Claim) → e.routine ≡ Claims claim → (claim_accepts setting.sizes setting.last claim found).ended ≡ Some ends.Full → KindTouched setting slots
       touches claim is full =
           let s : StepMade = record { entry = e; found = found } in
           let finds : FindsNoTop s = subst (GivesAt setting s claim is) full (claim_gives setting s claim is) in
-          all_touched setting slots m v pool.words pool.past (at_top finds (wanted finds)) where
-            wanted : FindsNoTop (record { entry = e; found = found }) → word_of a ≡ Head
+          (finds.claim.kind, known finds, all_touched setting slots m v finds.claim.kind (known finds) pool.words pool.past (at_top finds (wanted finds))) where
+            known : (finds : FindsNoTop (record { entry = e; found = found })) → finds.claim.kind < length setting.sizes.kinds
+            known finds = let stands : Stands target setting e (Claims finds.claim) = subst (Stands target setting e) finds.claims own.stands in stands.1.kind
+
+            wanted : (finds : FindsNoTop (record { entry = e; found = found })) → word_of a ≡ Head finds.claim.kind
             wanted finds =
                 let both : Some (claim_wants finds.claim) ≡ Some a = sym (wants_claims target e finds.claim finds.claims) ∙ want in
                 let same : claim_wants finds.claim ≡ a = cc in
                 ap word_of (sym same) ∙ ap (λ (stage : ClaimStage). word_of (claim_wants (record finds.claim { stage = stage }))) finds.looks
 
-            at_top : FindsNoTop (record { entry = e; found = found }) → word_of a ≡ Head → top m ≡ 0
+            at_top : (finds : FindsNoTop (record { entry = e; found = found })) → word_of a ≡ Head finds.claim.kind → top m finds.claim.kind ≡ 0
             at_top finds head = ap (λ (n : ℕ). (head_parts n).top) (ap m (sym head) ∙ found_seen) ∙ finds.empty
 
-      module _ (slots' : List ℕ) (v' : ℕ) (adv : Advances setting m slots v e a slots' v') (more : (f : Entry) → CallerPool setting slots f → CallerPool setting slots' f) where
+      module _ (slots' : List ℕ) (v' : ℕ → ℕ) (adv : Advances setting m slots v e a slots' v') (more : (f : Entry) → CallerPool setting slots f → CallerPool setting slots' f) where
         untouched_then : (j : ℕ) → IsUntaken setting slots' j → IsUntouched target setting (stepped_state state c e a) j
         untouched_then j u =
             let was = adv.untaken j u in
-            untouched_stays j (let low = u.0 in omega (arith, low)) (status_row j u.1) (pool.untouched j was.0) (subst (λ (n : ℕ). ClaimsOther j n e.routine) found_seen was.1)
+            untouched_stays j (held_some setting j u.0) (status_row j u.1) (pool.untouched j was.0) (subst (λ (n : ℕ). ClaimsOther j n e.routine) found_seen was.1)
 
-        begins_fit : HoldsAtBegins setting.sizes (ClaimsFit (slot_range setting.sizes) (after_access m a) v')
-        begins_fit = record { idle = tt; seen = λ why. tt; here = tt; lists = λ k. tt; retires = λ j go. tt; restarts = tt; clears = λ next. tt; claims = tt; zeroes = λ k field. tt }
+        begins_fit : HoldsAtBegins target setting.sizes (ClaimsFit setting.sizes (after_access m a) v')
+        begins_fit = record { idle = tt; seen = λ why. tt; here = tt; lists = λ k. tt; retires = λ j go. tt; restarts = tt; clears = λ next. tt; claims = λ e. (news_fit target setting sane some fits e.running.call.op e.hand.wrapup e.hand.at, tt); zeroes = λ k field. tt }
 
-        going_fit : HoldsAsGoesOn setting (m (word_of a)) (ClaimsFit (slot_range setting.sizes) (after_access m a) v') e.routine
+        going_fit : HoldsAsGoesOn setting (m (word_of a)) (ClaimsFit setting.sizes (after_access m a) v') e.routine
         going_fit = record {
           claims = λ claim is none. of (claim_accepts setting.sizes setting.last claim (m (word_of a))).claim (claim_accepts setting.sizes setting.last claim (m (word_of a))).ended none (adv.on claim is);
           retires = λ retirement left go is goes. tt;
         } where
-          of : (next : Claim) (o : Option ClaimEnd) → o ≡ None → ClaimOn (slot_range setting.sizes) (after_access m a) v' next o → ClaimFits (slot_range setting.sizes) (after_access m a) v' next.sweep.stage next.stage
+          of : (next : Claim) (o : Option ClaimEnd) → o ≡ None → ClaimOn setting.sizes (after_access m a) v' next o → ClaimsFit setting.sizes (after_access m a) v' (Claims next)
           of next None none on = on
           of next (Some end) none on = absurd cc
 
-        claims_fit : ClaimsFit (slot_range setting.sizes) (after_access m a) v' (after target setting e found).routine
-        claims_fit = subst (λ (n : ℕ). ClaimsFit (slot_range setting.sizes) (after_access m a) v' (after target setting e n).routine) found_seen
-            (after_routed target setting (ClaimsFit (slot_range setting.sizes) (after_access m a) v') begins_fit e (m (word_of a)) going_fit)
+        claims_fit : ClaimsFit setting.sizes (after_access m a) v' (after target setting e found).routine
+        claims_fit = subst (λ (n : ℕ). ClaimsFit setting.sizes (after_access m a) v' (after target setting e n).routine) found_seen
+            (after_routed target setting (ClaimsFit setting.sizes (after_access m a) v') begins_fit e (m (word_of a)) going_fit)
 
         -- what is retired was claimed: no reference leads to a slot that wasn't
-        own_fits : Fits (slot_range setting.sizes) (after_access m a) v' (standing_of (after target setting e found).routine)
+        own_fits : Fits setting.sizes (after_access m a) v' (standing_of (after target setting e found).routine)
         own_fits = of (after target setting e found).routine refl claims_fit where
           later : Entry
           later = after target setting e found
@@ -581,18 +625,18 @@ module _ (target : Target) (setting : Setting) (sane : Methods target) (some : S
             got_here (z ∷ zs) zero x y is = refl
             got_here (z ∷ zs) (suc i) x y is = got_here zs i x y is
 
-          below : (retirement : Retirement) (go : AfterRetire) → later.routine ≡ Retires retirement go → retirement.slot < v'
+          below : (retirement : Retirement) (go : AfterRetire) → later.routine ≡ Retires retirement go → retirement.slot < v' (kind_of setting.sizes retirement.slot)
           below retirement go is = ⊎_elim
-              (λ (lt : retirement.slot < v'). lt)
-              (λ (from : v' ≤ retirement.slot).
+              (λ (lt : retirement.slot < v' (kind_of setting.sizes retirement.slot)). lt)
+              (λ (from : v' (kind_of setting.sizes retirement.slot) ≤ retirement.slot).
               let stands : Stands target setting later (Retires retirement go) = subst (Stands target setting later) is later_belongs.stands in
-              let untaken : IsUntaken setting slots' retirement.slot = ((let low = adv.words.least in omega (arith, low, from)), stands.0.1, adv.ahead retirement.slot from) in
+              let untaken : IsUntaken setting slots' retirement.slot = ((let words = adv.words (kind_of setting.sizes retirement.slot) (kind_small setting.sizes retirement.slot some.kinds) in let low = words.least in omega (arith, low, from)), stands.0.1, adv.ahead retirement.slot from) in
               let held = (untouched_then retirement.slot untaken).entries c later got in
               let other : RoutineAvoids retirement.slot (Retires retirement go) = subst (RoutineAvoids retirement.slot) is held.routine in
               absurd (other refl))
-              (cases_lt retirement.slot v')
+              (cases_lt retirement.slot (v' (kind_of setting.sizes retirement.slot)))
 
-          of : (routine : Routine) → later.routine ≡ routine → ClaimsFit (slot_range setting.sizes) (after_access m a) v' routine → Fits (slot_range setting.sizes) (after_access m a) v' (standing_of routine)
+          of : (routine : Routine) → later.routine ≡ routine → ClaimsFit setting.sizes (after_access m a) v' routine → Fits setting.sizes (after_access m a) v' (standing_of routine)
           of (Claims claim) is w = w
           of (Retires retirement go) is w = below retirement go is
           of Idle is w = tt
@@ -608,10 +652,10 @@ module _ (target : Target) (setting : Setting) (sane : Methods target) (some : S
           untouched = untouched_then;
           past = adv.past;
           ahead = adv.ahead;
-          words = subst (λ (w : Word → ℕ). IsOrdered (slot_range setting.sizes) setting.nodes setting.first w v') (sym later_seen) adv.words;
-          fits = λ d f got. subst (λ (w : Word → ℕ). Fits (slot_range setting.sizes) w v' (standing_of f.routine)) (sym later_seen) (⊎_elim
-              (λ (t : (d ≡ c) × (f ≡ after target setting e found)). subst (λ (x : Entry). Fits (slot_range setting.sizes) (after_access m a) v' (standing_of x.routine)) (sym t.1) own_fits)
-              (λ (t : slice_get state.entries d ≡ Some f). fits_later setting.sizes setting.nodes setting.first m (after_access m a) v v' (standing_of f.routine) pool.words adv.moves (pool.fits d f t))
+          words = subst (λ (w : Word → ℕ). AreOrdered setting.sizes (nodes_in setting) setting.first w v') (sym later_seen) adv.words;
+          fits = λ d f got. subst (λ (w : Word → ℕ). Fits setting.sizes w v' (standing_of f.routine)) (sym later_seen) (⊎_elim
+              (λ (t : (d ≡ c) × (f ≡ after target setting e found)). subst (λ (x : Entry). Fits setting.sizes (after_access m a) v' (standing_of x.routine)) (sym t.1) own_fits)
+              (λ (t : slice_get state.entries d ≡ Some f). fits_later setting.sizes (nodes_in setting) setting.first m (after_access m a) v v' some.kinds pool.words adv.moves (standing_of f.routine) (pool.fits d f t))
               (set_got state.entries c d (after target setting e found) f got));
           callers = λ d f got. ⊎_elim
               (λ (t : (d ≡ c) × (f ≡ after target setting e found)). subst (CallerPool setting slots') (sym t.1) (more (after target setting e found) (caller_step target setting slots e found busy mine touches)))
@@ -638,15 +682,15 @@ module _ (target : Target) (setting : Setting) (sane : Methods target) (some : S
         }
 
   -- a call is taken
-  take_pool : (state : CoreState) (c : ℕ) (call : Call) (e : Entry) (slots : List ℕ) (v : ℕ) → slice_get state.entries c ≡ Some e → Pool target setting state slots v
+  take_pool : (state : CoreState) (c : ℕ) (call : Call) (e : Entry) (slots : List ℕ) (v : ℕ → ℕ) → slice_get state.entries c ≡ Some e → Pool target setting state slots v
       → Pool target setting (record state { entries = set state.entries c (taken call e) }) slots v
   take_pool state c call e slots v there pool = record {
-    untouched = λ j u. take_untouched target setting state c call e j (let low = u.0 in omega (arith, low)) there (pool.untouched j u);
+    untouched = λ j u. take_untouched target setting state c call e j (held_some setting j u.0) there (pool.untouched j u);
     past = pool.past;
     ahead = pool.ahead;
     words = pool.words;
     fits = λ d f got. ⊎_elim
-        (λ (t : (d ≡ c) × (f ≡ taken call e)). subst (λ (x : Entry). Fits (slot_range setting.sizes) (seen setting.sizes state.words) v (standing_of x.routine)) (sym t.1) tt)
+        (λ (t : (d ≡ c) × (f ≡ taken call e)). subst (λ (x : Entry). Fits setting.sizes (seen setting.sizes state.words) v (standing_of x.routine)) (sym t.1) tt)
         (λ (t : slice_get state.entries d ≡ Some f). pool.fits d f t)
         (set_got state.entries c d (taken call e) f got);
     callers = λ d f got. ⊎_elim

@@ -19,7 +19,7 @@ use Rattle.core_runs.specs.Advances.{RunsOn, Ends}
 use Rattle.core_runs.proofs.Reaching.{some_is, run_more}
 use Rattle.core_runs.proofs.Keeping.{idle_wants, got_same, got_other}
 use Rattle.core_runs.proofs.Turning.{after_turns}
-use Rattle.core_sound.proofs.StartSound.{idle_at}
+use Rattle.core_runs.proofs.core_sound.StartSound.{idle_at}
 use Rattle.claim_laws.specs.CallSteps.{StepMade, steps_wanted, steps_by, with_steps, event_steps, steps_on, events_steps, call_steps, steps_of_call}
 use Rattle.claim_laws.proofs.Following.{with_last}
 

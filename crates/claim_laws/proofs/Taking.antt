@@ -3,7 +3,7 @@ use Rattle.std.proofs.Common.{◌≡◌, ◌⊎◌, inl, inr, ⊎_elim, ℕ, zer
 use Rattle.std.specs.Prelude.{slice_get}
 use Rattle.norm_lang.specs.declared.text.Text.{Text}
 use Rattle.target_code.specs.declared.target.Target.{Target}
-use Rattle.target_runs.specs.Runnable.{IsRunnable}
+use Rattle.target_laws.specs.target_runs.Runnable.{IsRunnable}
 use Rattle.phase_pools.specs.Accesses.{WordAccess}
 use Rattle.phase_pools.specs.Pools.{Claim, claim_accepts, claim_wants, claim_wants_at}
 use Rattle.caller_parts.specs.declared.call.Reply.{Reply}
@@ -22,15 +22,15 @@ use Rattle.core_runs.specs.Machine.{CoreState, CoreEvent, Steps, Reachable, core
 use Rattle.core_runs.specs.Advances.{RunsOn, Ends}
 use Rattle.core_runs.specs.Histories.{calls_of, running_of}
 use Rattle.core_runs.proofs.Reaching.{run_more}
-use Rattle.caller_laws.specs.Laws.{ForRuns}
-use Rattle.caller_laws.proofs.Methods.{setting_sane}
-use Rattle.caller_laws.proofs.Equations.{wants_claims}
-use Rattle.caller_laws.proofs.Pools.{ClaimOn, claim_keeps}
-use Rattle.caller_laws.proofs.Safety.{wants_safe}
-use Rattle.caller_laws.proofs.Together.{methods}
-use Rattle.core_sound.specs.Sound.{IsSound}
-use Rattle.core_sound.proofs.Machine.{found_told}
-use Rattle.core_sound.proofs.Reached.{states_are_sound}
+use Rattle.core_runs.specs.caller_laws.Laws.{ForRuns}
+use Rattle.core_runs.proofs.caller_laws.Methods.{setting_sane}
+use Rattle.core_runs.proofs.caller_laws.Equations.{wants_claims}
+use Rattle.core_runs.proofs.caller_laws.Pools.{ClaimOn, claim_keeps}
+use Rattle.core_runs.proofs.caller_laws.Safety.{wants_safe}
+use Rattle.core_runs.proofs.caller_laws.Together.{methods}
+use Rattle.core_runs.specs.core_sound.Sound.{IsSound}
+use Rattle.core_runs.proofs.core_sound.Machine.{found_told}
+use Rattle.core_runs.proofs.core_sound.Reached.{states_are_sound}
 use Rattle.claim_laws.specs.CallSteps.{StepMade, call_steps}
 use Rattle.claim_laws.specs.Full.{claims_in}
 use Rattle.claim_laws.specs.Publishing.{news_of_call, HasFewNews, PublishedEnd, new_calls, new_calls_in, FullTakesCalls}
@@ -65,8 +65,8 @@ pub claim_on_step : (target : Target) (text : Text) (setting : Setting) → IsRu
 claim_on_step target text setting runs own fits past state k d a claim step is =
     let stands : StandsAt target setting d (Claims claim) = subst (StandsAt target setting d) is belongs.stands in
     let wanted : a ≡ claim_wants claim = (let same : Some a ≡ Some (claim_wants claim) = sym step.wanted ∙ wants_claims target d claim is in cc) in
-    let told : Accepts target setting (claim_wants_at claim.sweep claim.stage) (found_by setting state a) = subst (λ (x : WordAccess). Accepts target setting x (found_by setting state a)) wanted (found_told target setting state a sound safe) in
-    claim_keeps target setting claim (found_by setting state a) claim.stage refl (setting_sane setting own) (let lt = belongs.number in omega (arith, lt)) stands.1.stands stands.1.sweep told where
+    let told : Accepts target setting (claim_wants_at claim.kind claim.sweep claim.stage) (found_by setting state a) = subst (λ (x : WordAccess). Accepts target setting x (found_by setting state a)) wanted (found_told target setting state a sound safe) in
+    claim_keeps target setting claim (found_by setting state a) claim.stage refl (setting_sane setting own) (let lt = belongs.number in omega (arith, lt)) stands.1.kind stands.1.scheme stands.1.stands stands.1.sweep told where
       sound : IsSound target setting state
       sound = states_are_sound target text setting state runs own fits (record { events = past; runs = step.came })
 
@@ -82,7 +82,7 @@ module _ (target : Target) (text : Text) (setting : Setting) (runs : IsRunnable 
   -- a caller's step
   keeps : StepKeeps target setting (HasRested target) (IsRunning target setting)
   keeps past state k d a steps step own was =
-      by (call_step target setting (methods target text runs) few d found steps belongs belongs_later step.busy (((reached_pool target text setting runs own_setting fits state reached).pool.callers k d step.there).before) again was.stands on)
+      by (call_step target setting (methods target text runs) (setting_sane setting own_setting) few d found steps belongs belongs_later step.busy (((reached_pool target text setting runs own_setting fits state reached).pool.callers k d step.there).before) again was.stands on)
     where
       found : ℕ
       found = found_by setting state a
@@ -212,5 +212,5 @@ full_takes_calls target text setting runs own fits = record {
       let claims = (full_takes target text setting runs own fits).each state c i e replied reached there got full in
       let below = all_below target state.entries c e (λ d f at. caller_within target setting f (call_steps target setting reached.events d) (calls d f at)) there
       (caller_below target setting e (call_steps target setting reached.events c) i replied (calls c e there) got full) in
-      omega (arith, claims, below);
+      (claims.0, claims.1, (let enough = claims.2 in omega (arith, enough, below)));
 }

@@ -7,7 +7,7 @@ use mathlib.Core.Logic.{dite}
 use native.Mathlib.Decide.{ℕ_discrete}
 use Rattle.norm_lang.specs.declared.text.Text.{Text}
 use Rattle.target_code.specs.declared.target.Target.{Target}
-use Rattle.target_runs.specs.Runnable.{IsRunnable}
+use Rattle.target_laws.specs.target_runs.Runnable.{IsRunnable}
 use Rattle.oa_words.specs.Words.{Status, in_row}
 use Rattle.oa_words.specs.Packed.{head_word}
 use Rattle.guard_words.specs.Guards.{has_slot}
@@ -25,13 +25,14 @@ use Rattle.caller_steps.specs.After.{after, taken}
 use Rattle.core_runs.specs.Machine.{CoreState, CoreEvent, Takes, Steps, Reachable, core_event, core_run, core_start, run_on, event_by, found_by, made, stepped}
 use Rattle.core_runs.proofs.Reaching.{some_is, starts, reaches, run_more, induct_reached}
 use Rattle.core_runs.proofs.Keeping.{idle_wants, got_same, got_other, run_count}
-use Rattle.caller_laws.specs.Laws.{ForRuns}
-use Rattle.caller_laws.proofs.Methods.{setting_sane}
-use Rattle.caller_laws.proofs.Together.{methods}
-use Rattle.core_sound.proofs.StartSound.{idle_at}
-use Rattle.core_sound.proofs.Reached.{states_are_sound}
+use Rattle.core_runs.specs.caller_laws.Laws.{ForRuns}
+use Rattle.core_runs.proofs.caller_laws.Methods.{setting_sane}
+use Rattle.core_runs.proofs.caller_laws.Together.{methods}
+use Rattle.core_runs.proofs.core_sound.StartSound.{idle_at}
+use Rattle.core_runs.proofs.core_sound.Reached.{states_are_sound}
 use Rattle.claim_laws.specs.CallSteps.{steps_wanted, steps_by}
-use Rattle.claim_laws.specs.Untouched.{IsUntouched}
+use Rattle.claim_laws.specs.Untouched.{HeldNone, IsUntouched}
+use Rattle.claim_laws.proofs.Touching.{held_some}
 use Rattle.claim_laws.specs.Claimed.{taken_at, taken_in, slots_taken, event_claims, claims_on, events_claims, claimed_by, ClaimsAreCounted, UnclaimedIsUntouched}
 use Rattle.claim_laws.proofs.Onward.{IsBefore}
 use Rattle.claim_laws.proofs.Meeting.{ClaimsOther, TakesOther}
@@ -64,6 +65,7 @@ taken_counts (Claims claim) word n le = of claim.stage where
     by true = one_more_grows n le
     by false = stays_count n le
   of (claims.StoreUsed q t) = stays_count n le
+  of (claims.Withdraw own) = stays_count n le
   of claims.Sweeps = stays_count n le
 taken_counts Idle word n le = stays_count n le
 taken_counts (LoadSeen why) word n le = stays_count n le
@@ -206,6 +208,7 @@ module _ (target : Target) (text : Text) (setting : Setting) (runs : IsRunnable 
       by true none took same = let own : (t == j) ≡ true = grind (arith, nat_tests) in let z : true ≡ false = sym (ap (λ (d : Bool). d || false) own) ∙ none in cc
       by false none took same = let z : false ≡ true = took in cc
     of (claims.StoreUsed q t) none = tt
+    of (claims.Withdraw own) none = tt
     of claims.Sweeps none = tt
   not_claimed j word Idle none = tt
   not_claimed j word (LoadSeen why) none = tt
@@ -216,12 +219,15 @@ module _ (target : Target) (text : Text) (setting : Setting) (runs : IsRunnable 
   not_claimed j word (Clears next) none = tt
   not_claimed j word (Zeroes k field) none = tt
 
-  module _ (j : ℕ) (past : setting.nodes < j) (le : j ≤ setting.sizes.slots) where
+  module _ (j : ℕ) (past : HeldNone setting j) (le : j ≤ setting.sizes.slots) where
+    some : 1 ≤ j
+    some = held_some setting j past
+
     event_untouched : (state mid : CoreState) (event : CoreEvent) → Reachable target setting state → core_event target setting state event ≡ Some mid
         → ((c : ℕ) → has_slot (event_claims target setting c state event) j ≡ false) → IsUntouched target setting state j → IsUntouched target setting mid j
     event_untouched state mid (Takes k call) reached goes none was = of (slice_get state.entries k) refl goes where
       by : (d : Entry) → slice_get state.entries k ≡ Some d → (b : Bool) → (if b then Some (record state { entries = slice_set state.entries k (taken call d) }) else None) ≡ Some mid → IsUntouched target setting mid j
-      by d at true became = subst (λ (s : CoreState). IsUntouched target setting s j) (some_is _ mid became) (take_untouched target setting state k call d j (omega (arith, past)) at was)
+      by d at true became = subst (λ (s : CoreState). IsUntouched target setting s j) (some_is _ mid became) (take_untouched target setting state k call d j some at was)
       by d at false became = absurd (let z : None ≡ Some mid = became in cc)
 
       of : (o : Option Entry) → slice_get state.entries k ≡ o → event_by target setting state (Takes k call) o ≡ Some mid → IsUntouched target setting mid j
@@ -243,7 +249,7 @@ module _ (target : Target) (text : Text) (setting : Setting) (runs : IsRunnable 
           ap (λ (b : Bool). if b then flat_map slots_taken (steps_by target setting state (slice_get state.entries k)) else []) (eq-eqb k k refl) ∙ slots in
           subst (λ (s : CoreState). IsUntouched target setting s j) (some_is _ mid became)
           (untouched_stays target setting (methods target text runs) (setting_sane setting own) fits state k d a (states_are_sound target text setting state runs own fits reached) at idle want j
-          (omega (arith, past)) row was (not_claimed j found d.routine (sym (ap (λ (l : List ℕ). has_slot l j) mine) ∙ none k)))
+          some row was (not_claimed j found d.routine (sym (ap (λ (l : List ℕ). has_slot l j) mine) ∙ none k)))
 
       of : (o : Option Entry) → slice_get state.entries k ≡ o → event_by target setting state (Steps k) o ≡ Some mid → IsUntouched target setting mid j
       of None at became = absurd (let z : None ≡ Some mid = became in cc)

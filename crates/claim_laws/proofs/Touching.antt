@@ -1,6 +1,7 @@
 -- Slots that were never claimed stay ready.
-use Rattle.std.proofs.Common.{◌≡◌, ◌≢◌, ◌⊎◌, inl, inr, ℕ, zero, suc, ◌+◌, ◌*◌, ◌≤◌, ◌<◌, ◌==◌, ◌||◌, Bool, true, false, List, ◌∷◌, Option, Some, None, refl, ap, arith, if◌then◌else◌}
-use Rattle.std.specs.Prelude.{nat_le, slice_get}
+use Rattle.std.proofs.Common.{◌≡◌, ◌≢◌, ◌⊎◌, inl, inr, ⊎_elim, ℕ, zero, suc, ◌+◌, ◌*◌, ◌≤◌, ◌<◌, ◌==◌, ◌||◌, Bool, true, false, List, ◌∷◌, Option, Some, None, refl, ap, arith, if◌then◌else◌}
+use Rattle.std.specs.Prelude.{slice_get}
+use Rattle.std.proofs.lemmas.Bool.{cases_lt}
 use Rattle.std.proofs.lemmas.Bool.Decides.{nat_tests}
 use Rattle.norm_lang.specs.declared.text.Place.{Place}
 use Rattle.norm_lang.specs.declared.text.Place.TheVariants as places
@@ -13,7 +14,7 @@ use Rattle.target_code.specs.declared.target.TargetInstr.{TargetInstr}
 use Rattle.target_code.specs.declared.target.TargetInstr.TheVariants.{Plain, Check, Guard}
 use Rattle.target_code.specs.declared.target.Target.{Target}
 use Rattle.oa_words.specs.declared.packed.Kind.TheVariants as kinds
-use Rattle.oa_words.specs.Words.{Status}
+use Rattle.oa_words.specs.Words.{Status, IsSlot}
 use Rattle.oa_words.specs.Packed.{status_word}
 use Rattle.guard_words.specs.Guards.{has_slot}
 use Rattle.phase_pools.specs.declared.stages.SweepStage.{SweepStage}
@@ -23,7 +24,11 @@ use Rattle.phase_pools.specs.declared.stages.ClaimStage.TheVariants as claims
 use Rattle.phase_pools.specs.declared.stages.RetireStage.{RetireStage}
 use Rattle.phase_pools.specs.declared.stages.RetireStage.TheVariants as retires
 use Rattle.phase_pools.specs.Accesses.{WordAccess, word_of, word_after}
-use Rattle.phase_pools.specs.Pools.{Sweep, sweep_wants_at, claim_wants_at, retire_wants_at}
+use Rattle.oa_words.specs.SlotKinds.{range_of, kind_of, range_at}
+use Rattle.oa_words.specs.Starts.{first_ready}
+use Rattle.phase_pools.specs.declared.stages.Scheme.{Scheme}
+use Rattle.phase_pools.specs.declared.stages.Scheme.TheVariants.{Warned, Announced}
+use Rattle.phase_pools.specs.Pools.{Sweep, warn_wanted, sweep_wants_at, claim_wants_at, retire_wants_at}
 use Rattle.caller_parts.specs.declared.routine.Routine.{Routine}
 use Rattle.caller_parts.specs.declared.routine.Routine.TheVariants.{Idle, LoadSeen, At, InList, Retires, Restarts, Clears, Claims, Zeroes}
 use Rattle.caller_parts.specs.Settings.{Setting}
@@ -31,7 +36,7 @@ use Rattle.caller_steps.specs.Entries.{Entry, instr_in}
 use Rattle.caller_parts.specs.Operands.{list_of, slot_in, word_in}
 use Rattle.caller_steps.specs.Clearing.{restart_next, clear_next}
 use Rattle.caller_steps.specs.Wants.{clear_wanted, exchange_wanted, instr_wanted, list_wanted, object_exchange, place_exchange, plain_wanted, wanted, wants}
-use Rattle.claim_laws.specs.Untouched.{StageAvoids, RoutineAvoids, EntryAvoids}
+use Rattle.claim_laws.specs.Untouched.{nodes_in, HeldNone, StageAvoids, RoutineAvoids, EntryAvoids}
 
 -- ---- a status that stays
 
@@ -102,27 +107,32 @@ module _ (target : Target) (setting : Setting) (j : ℕ) where
   retire_leaves slot retires.ReadPhase other = λ is. refl
   retire_leaves slot (retires.StoreStatus p) other = λ is. absurd (other (same_slot slot j is))
 
+  warn_leaves : (scheme : Scheme) (c s : ℕ) → Leaves (Some (warn_wanted scheme c s))
+  warn_leaves Warned c s is = absurd cc
+  warn_leaves (Announced own) c s is = refl
+
   -- no sweep makes ready what isn't retired
-  sweep_leaves : (bound : ℕ) (stage : SweepStage) → Leaves (Some (sweep_wants_at stage bound))
-  sweep_leaves bound sweeps.ReadPhase is = refl
-  sweep_leaves bound (sweeps.RaisePhase p) is = absurd cc
-  sweep_leaves bound (sweeps.Warn c) is = absurd cc
-  sweep_leaves bound (sweeps.ReadHazard c r) is = refl
-  sweep_leaves bound (sweeps.ReadStatus k) is = refl
-  sweep_leaves bound (sweeps.MakeReady k q) is =
+  sweep_leaves : (scheme : Scheme) (bound : ℕ) (stage : SweepStage) → Leaves (Some (sweep_wants_at scheme stage bound))
+  sweep_leaves scheme bound sweeps.ReadPhase is = refl
+  sweep_leaves scheme bound (sweeps.RaisePhase p) is = absurd cc
+  sweep_leaves scheme bound (sweeps.Warn c) is = warn_leaves scheme c bound is
+  sweep_leaves scheme bound (sweeps.ReadHazard c r) is = refl
+  sweep_leaves scheme bound (sweeps.ReadStatus k) is = refl
+  sweep_leaves scheme bound (sweeps.MakeReady k q) is =
       let other : (ready == status_word q kinds.Retired) ≡ false = (let ne : 4 * setting.first + 0 ≢ 4 * q + 2 = (λ z. omega (arith, z)) in grind (arith, nat_tests)) in
       ap (λ (b : Bool). if b then status_word bound kinds.Ready else ready) other
-  sweep_leaves bound (sweeps.PushHead k) is = refl
-  sweep_leaves bound (sweeps.PushLink k q t) is = absurd cc
-  sweep_leaves bound (sweeps.PushTop k q t) is = absurd cc
+  sweep_leaves scheme bound (sweeps.PushHead kind k) is = refl
+  sweep_leaves scheme bound (sweeps.PushLink k q t) is = absurd cc
+  sweep_leaves scheme bound (sweeps.PushTop kind k q t) is = absurd cc
 
   -- a claim stores in the status of the slot that it has taken
-  claim_leaves : (sweep : Sweep) (stage : ClaimStage) → StageAvoids j stage → Leaves (Some (claim_wants_at sweep stage))
-  claim_leaves sweep claims.ReadHead other is = refl
-  claim_leaves sweep (claims.ReadLink q t) other is = refl
-  claim_leaves sweep (claims.Take q t next) other is = absurd cc
-  claim_leaves sweep (claims.StoreUsed q t) other is = absurd (other (same_slot t j is))
-  claim_leaves sweep claims.Sweeps other is = sweep_leaves sweep.bound sweep.stage is
+  claim_leaves : (k : ℕ) (sweep : Sweep) (stage : ClaimStage) → StageAvoids j stage → Leaves (Some (claim_wants_at k sweep stage))
+  claim_leaves k sweep claims.ReadHead other is = refl
+  claim_leaves k sweep (claims.ReadLink q t) other is = refl
+  claim_leaves k sweep (claims.Take q t next) other is = absurd cc
+  claim_leaves k sweep (claims.StoreUsed q t) other is = absurd (other (same_slot t j is))
+  claim_leaves k sweep (claims.Withdraw own) other is = absurd cc
+  claim_leaves k sweep claims.Sweeps other is = sweep_leaves sweep.scheme sweep.bound sweep.stage is
 
   leaves_step : (e : Entry) (routine : Routine) → RoutineAvoids j routine → Leaves (wanted target e routine)
   leaves_step e Idle a = tt
@@ -132,7 +142,7 @@ module _ (target : Target) (setting : Setting) (j : ℕ) where
   leaves_step e (Retires retirement go) a = retire_leaves retirement.slot retirement.stage a
   leaves_step e Restarts a = clear_leaves e.number (restart_next target e)
   leaves_step e (Clears next) a = clear_leaves e.number (clear_next target next e)
-  leaves_step e (Claims claim) a = claim_leaves claim.sweep claim.stage a.1
+  leaves_step e (Claims claim) a = claim_leaves claim.kind claim.sweep claim.stage a.1
   leaves_step e (Zeroes k field) a = λ is. absurd cc
 
   pub step_leaves_ready : (e : Entry) → EntryAvoids j e → Leaves (wants target e)
@@ -142,20 +152,25 @@ module _ (target : Target) (setting : Setting) (j : ℕ) where
 -- ---- slots that were claimed
 
 module _ (setting : Setting) where
-  -- a slot that holds an initial node, or was claimed
+  -- a slot that held an initial node, or was claimed
   abbrev pub IsTouched : List ℕ → ℕ → Type 0
-  IsTouched taken j = (j ≤ setting.nodes) ⊎ (has_slot taken j ≡ true)
+  IsTouched taken j = (j < first_ready (range_at setting.sizes j) (nodes_in setting (kind_of setting.sizes j))) ⊎ (has_slot taken j ≡ true)
 
   -- neither
   abbrev pub IsUntaken : List ℕ → ℕ → Type 0
-  IsUntaken taken j = (setting.nodes < j) × (j ≤ setting.sizes.slots) × (has_slot taken j ≡ false)
+  IsUntaken taken j = HeldNone setting j × (j ≤ setting.sizes.slots) × (has_slot taken j ≡ false)
+
+  pub held_some : (j : ℕ) → HeldNone setting j → 1 ≤ j
+  held_some j past = omega (arith, past)
 
   pub touched_or : (taken : List ℕ) (j : ℕ) → j ≤ setting.sizes.slots → IsTouched taken j ⊎ IsUntaken taken j
-  touched_or taken j le = of (nat_le j setting.nodes) refl (has_slot taken j) refl where
-    of : (b : Bool) → nat_le j setting.nodes ≡ b → (d : Bool) → has_slot taken j ≡ d → IsTouched taken j ⊎ IsUntaken taken j
-    of true is d has = inl (inl (grind (arith, nat_tests)))
-    of false is true has = inl (inr has)
-    of false is false has = inr (grind (arith, nat_tests), le, has)
+  touched_or taken j le = ⊎_elim (λ (node : j < ready). inl (inl node)) (λ (past : ready ≤ j). of past (has_slot taken j) refl) (cases_lt j ready) where
+    ready : ℕ
+    ready = first_ready (range_at setting.sizes j) (nodes_in setting (kind_of setting.sizes j))
+
+    of : ready ≤ j → (d : Bool) → has_slot taken j ≡ d → IsTouched taken j ⊎ IsUntaken taken j
+    of past true has = inl (inr has)
+    of past false has = inr (past, le, has)
 
   pub touched_more : (taken : List ℕ) (k j : ℕ) → IsTouched taken j → IsTouched (k ∷ taken) j
   touched_more taken k j (inl node) = inl node
@@ -175,5 +190,6 @@ module _ (setting : Setting) where
     no true d is has = let z : true ≡ false = has in cc
     no false d is has = let z : false ≡ true = is in cc
 
-  abbrev pub AllTouched : List ℕ → Type 0
-  AllTouched taken = (i : ℕ) → i ≤ setting.sizes.slots → IsTouched taken i
+  -- all slots of a kind
+  abbrev pub AllTouched : ℕ → List ℕ → Type 0
+  AllTouched k taken = (i : ℕ) → IsSlot (range_of setting.sizes k) i → IsTouched taken i

@@ -33,7 +33,7 @@ pub record FoundLastPhase (setting : Setting) (p : ℕ) (steps : List StepMade) 
 
 -- ---- full
 
--- the step loaded the head in a look of a claim that has made two sweeps, and found no slot on top
+-- the step loaded the head of its kind in a look of a claim that has made two sweeps, and found no slot on top
 pub record FindsNoTop (step : StepMade) : Type 0 where
   pub claim : Claim
   pub claims : step.entry.routine ≡ Claims claim

@@ -1,5 +1,5 @@
 -- The slots that callers claimed in a run.
-use Rattle.std.specs.Prelude.{◌≡◌, ℕ, ◌-◌, ◌^◌, ◌<◌, ◌≤◌, min, false, List, [], ◌∷◌, ◌++◌, length, flat_map, Option, Some, None, ◌==◌, if◌then◌else◌, slice_get}
+use Rattle.std.specs.Prelude.{◌≡◌, ℕ, ◌-◌, ◌^◌, ◌≤◌, min, false, List, [], ◌∷◌, ◌++◌, length, flat_map, Option, Some, None, ◌==◌, if◌then◌else◌, slice_get}
 use Rattle.target_code.specs.declared.target.Target.{Target}
 use Rattle.oa_words.specs.Packed.{head_word}
 use Rattle.guard_words.specs.Guards.{has_slot}
@@ -11,7 +11,7 @@ use Rattle.caller_parts.specs.Settings.{Setting}
 use Rattle.caller_steps.specs.Entries.{Entry}
 use Rattle.core_runs.specs.Machine.{CoreState, CoreEvent, Takes, Steps, core_event, core_run, core_start}
 use Rattle.claim_laws.specs.CallSteps.{StepMade, steps_by}
-use Rattle.claim_laws.specs.Untouched.{IsUntouched}
+use Rattle.claim_laws.specs.Untouched.{HeldNone, IsUntouched}
 
 -- a claim's exchange took the slot on top where it found the head that it expected
 abbrev pub taken_at : ClaimStage → ℕ → List ℕ
@@ -51,7 +51,8 @@ pub record ClaimsAreCounted (target : Target) (setting : Setting) : Type 0 where
   pub each : (events : List CoreEvent) (state : CoreState) (c : ℕ) (e : Entry) → core_run target setting events (core_start target setting) ≡ Some state → slice_get state.entries c ≡ Some e
       → e.counts.claims ≡ min (length (claimed_by target setting events c)) (2 ^ 64 - 1)
 
--- a slot that held no initial node and was never claimed is ready, with the first phase, and only the chain names it
+-- a slot that held no initial node and was never claimed is ready, with the first phase, and only the chain of its
+-- kind names it
 pub record UnclaimedIsUntouched (target : Target) (setting : Setting) : Type 0 where
-  pub each : (events : List CoreEvent) (state : CoreState) (j : ℕ) → core_run target setting events (core_start target setting) ≡ Some state → setting.nodes < j → j ≤ setting.sizes.slots
+  pub each : (events : List CoreEvent) (state : CoreState) (j : ℕ) → core_run target setting events (core_start target setting) ≡ Some state → HeldNone setting j → j ≤ setting.sizes.slots
       → ((c : ℕ) → has_slot (claimed_by target setting events c) j ≡ false) → IsUntouched target setting state j

@@ -4,6 +4,7 @@ use Rattle.std.specs.Prelude.{◌≡◌, ◌≢◌, ℕ, ◌+◌, ◌≤◌, ◌
 use Rattle.target_code.specs.declared.target.TargetOp.{TargetOp}
 use Rattle.target_code.specs.declared.target.Target.{Target}
 use Rattle.target_code.specs.TargetLimits.{target_news_in}
+use Rattle.oa_words.specs.SlotKinds.{slots_of}
 use Rattle.caller_parts.specs.declared.call.Call.{Call}
 use Rattle.caller_parts.specs.declared.call.Reply.TheVariants as replies
 use Rattle.caller_parts.specs.declared.call.Replied.{Replied}
@@ -16,6 +17,7 @@ use Rattle.caller_steps.specs.After.{after}
 use Rattle.core_runs.specs.Machine.{CoreState, CoreEvent, Reachable, core_run, core_start}
 use Rattle.core_runs.specs.Histories.{calls_of}
 use Rattle.claim_laws.specs.CallSteps.{StepMade, steps_of_call}
+use Rattle.claim_laws.specs.Untouched.{nodes_in}
 
 -- how many `new` an operation has: only a generator has any
 abbrev pub news_of : Option TargetOp → ℕ
@@ -49,7 +51,12 @@ abbrev pub new_calls_in : Target → List Entry → ℕ
 new_calls_in target [] = 0
 new_calls_in target (e ∷ entries) = new_calls target (calls_of e) + new_calls_in target entries
 
--- then, where a caller was told that the pool is full, the initial nodes and those calls of all callers are more than the slots
+-- of one kind of the row the initial nodes, and so many others, together are more than the slots
+abbrev pub OverfillAKind : Setting → ℕ → Type 0
+OverfillAKind setting others = (k : ℕ) × (k < length setting.sizes.kinds) × (slots_of setting.sizes k < nodes_in setting k + others)
+
+-- then, where a caller was told that the pool is full, the initial nodes of one kind and those calls of all callers are more than the
+-- slots of this kind
 pub record FullTakesCalls (target : Target) (setting : Setting) : Type 0 where
   pub each : (state : CoreState) (c i : ℕ) (e : Entry) (replied : Replied) → HasFewNews target → PublishedEnd target setting → Reachable target setting state → slice_get state.entries c ≡ Some e
-      → slice_get e.replies i ≡ Some replied → replied.reply ≡ replies.Full → setting.sizes.slots < setting.nodes + new_calls_in target state.entries
+      → slice_get e.replies i ≡ Some replied → replied.reply ≡ replies.Full → OverfillAKind setting (new_calls_in target state.entries)

@@ -1,27 +1,27 @@
 //! Laws over every list of enabled events.
 
 ghost use Rattle.core_runs.specs.Machine.{OfAll};
-ghost use Rattle.caller_laws.specs.Laws.{ForRuns};
+ghost use Rattle.core_runs.specs.caller_laws.Laws.{ForRuns};
 ghost use Rattle.claim_laws.specs.CallSteps.{StepsAreCounted};
 ghost use Rattle.claim_laws.specs.Causes.{RepliesAreCaused};
 ghost use Rattle.claim_laws.specs.Full.{FullTakesClaims};
 ghost use Rattle.claim_laws.specs.Claimed.{ClaimsAreCounted, UnclaimedIsUntouched};
 ghost use Rattle.claim_laws.specs.Publishing.{FullTakesCalls};
 
-/// Of a barred target and a setting that fits it: a reply is `Phases` exactly where a sweep of its call loaded the last phase,
-/// and `Full` exactly where a claim of it made two sweeps and found no slot in its third look.
+/// Of a target that callers may run and a setting that fits it: a reply is `Phases` exactly where a sweep of its call loaded the
+/// last phase, and `Full` exactly where a claim of it made two sweeps and found no slot in its third look.
 pub fn replies_are_caused()
     ensures { ForRuns RepliesAreCaused }
 {}
 
-/// Of the same: where a caller was told that the pool is full, the initial nodes and the claims of all callers together are at
-/// least the slots.
+/// Of the same: where a caller was told that the pool is full, there is a kind whose initial nodes, together with the claims of all
+/// callers, are at least its slots.
 pub fn full_takes_claims()
     ensures { ForRuns FullTakesClaims }
 {}
 
 /// Of the same: each caller has counted the slots that it claimed; and a slot that held no initial node and was never claimed
-/// is ready since the start, and no register, guard, cradle, field, root or routine names it: only the chain does.
+/// is ready since the start, and no register, guard, cradle, field, root or routine names it: only the chain of its kind does.
 pub fn slots_are_claimed()
     ensures counted { ForRuns ClaimsAreCounted }
     ensures untouched { ForRuns UnclaimedIsUntouched }
@@ -33,9 +33,9 @@ pub fn steps_are_counted()
     ensures { OfAll StepsAreCounted }
 {}
 
-/// Of a barred target and a setting that fits it, where no operation has more than one `new` and no call begins again once it
-/// has published its node: where a caller was told that the pool is full, the initial nodes and the calls with a `new` of all
-/// callers are more than the slots.
+/// Of a target that callers may run and a setting that fits it, where no operation has more than one `new` and no call begins
+/// again once it has published its node: where a caller was told that the pool is full, there is a kind whose initial nodes, together with the
+/// calls with a `new` of all callers, are more than its slots.
 pub fn full_takes_calls()
     ensures { ForRuns FullTakesCalls }
 {}

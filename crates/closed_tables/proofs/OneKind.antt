@@ -21,7 +21,9 @@ use Rattle.norm_lang.specs.Flow.{passed}
 use Rattle.norm_lang.specs.Kept.{code_of}
 use Rattle.norm_lang.specs.RegisterUse.{same_register, sets}
 use Rattle.norm_lang.specs.InstructionRules.{field_kind, root_kind, place_kind}
-use Rattle.norm_lang.specs.Kinds.{refers_to, refers, root_refers, none_held, held_in, given_kinds, kinds_after, kinds_along, CommitPath, MayHaveKind, owner_of, is_owner, asks_object, asks_entry, asks, refers_elsewhere, differs_from, are_several, picks_several, HasOtherKind, MixesKinds}
+use Rattle.norm_lang.specs.Kinds.{refers_to, refers, root_refers, none_held, held_in, given_kinds, kinds_after, kinds_along, CommitPath, MayHaveKind, asks_object, asks_entry, asks, refers_elsewhere, differs_from, are_several, picks_several, HasOtherKind, MixesKinds}
+use Rattle.norm_lang.specs.KindFields.{owner_of}
+use Rattle.norm_lang.specs.LineWords.{is_owner}
 use Rattle.closed_tables.specs.Tables.{is_first_field, is_first_root, declare_first, makes_first}
 use Rattle.closed_tables.proofs.Tests.{and_left, and_right}
 
@@ -34,7 +36,7 @@ or_cases false b is = inr is
 
 -- ---- what fields and roots refer to
 
-kind_first : (kind : FieldKind) (t : ℕ) → is_kind kind ≡ true → refers_to kind t ≡ true → t < 1
+kind_first : (kind : FieldKind) (t : ℕ) → is_kind 1 kind ≡ true → refers_to kind t ≡ true → t < 1
 kind_first Number t is refers_there = never refers_there
 kind_first (Reference k) t is refers_there =
     let first : k ≡ 0 = grind (arith, nat_tests) in
@@ -43,13 +45,13 @@ kind_first (Reference k) t is refers_there =
 
 field_first : (fields : List FieldDecl) (f t : ℕ) → list_all is_first_field fields ≡ true → refers (field_kind fields f) t ≡ true → t < 1
 field_first [] f t all is = never is
-field_first (field ∷ fields) zero t all is = kind_first field.kind t (and_right (field.owner == 0) (is_kind field.kind) (and_left (is_first_field field) (list_all is_first_field fields) all)) is
+field_first (field ∷ fields) zero t all is = kind_first field.kind t (and_right (field.owner == 0) (is_kind 1 field.kind) (and_left (is_first_field field) (list_all is_first_field fields) all)) is
 field_first (field ∷ fields) (suc f) t all is = field_first fields f t (and_right (is_first_field field) (list_all is_first_field fields) all) is
 
 owner_first : (fields : List FieldDecl) (f k : ℕ) → list_all is_first_field fields ≡ true → is_owner (owner_of fields f) k ≡ true → k < 1
 owner_first [] f k all is = never is
 owner_first (field ∷ fields) zero k all is =
-    let first : (field.owner == 0) ≡ true = and_left (field.owner == 0) (is_kind field.kind) (and_left (is_first_field field) (list_all is_first_field fields) all) in
+    let first : (field.owner == 0) ≡ true = and_left (field.owner == 0) (is_kind 1 field.kind) (and_left (is_first_field field) (list_all is_first_field fields) all) in
     let zeroth : field.owner ≡ 0 = grind (arith, nat_tests) in
     let same : field.owner ≡ k = grind (arith, nat_tests) in
     omega (arith, zeroth, same)
@@ -83,7 +85,7 @@ all_dropped p (suc n) (root ∷ roots) all = all_dropped p n roots (and_right (p
 
 -- ---- roots of several kinds
 
-same_kinds : (k : ℕ) (kind : FieldKind) → k ≡ 0 → is_kind kind ≡ true → refers_elsewhere k kind ≡ true → ⊥
+same_kinds : (k : ℕ) (kind : FieldKind) → k ≡ 0 → is_kind 1 kind ≡ true → refers_elsewhere k kind ≡ true → ⊥
 same_kinds k Number first is elsewhere = never elsewhere
 same_kinds k (Reference j) first is elsewhere =
     let zeroth : j ≡ 0 = grind (arith, nat_tests) in
@@ -97,7 +99,7 @@ none_elsewhere k (root ∷ roots) first all is = ⊎_elim
     (λ (rest : list_any (λ other. refers_elsewhere k other.kind) roots ≡ true). none_elsewhere k roots first (and_right (is_first_root root) (list_all is_first_root roots) all) rest)
     (or_cases (refers_elsewhere k root.kind) (list_any (λ other. refers_elsewhere k other.kind) roots) is)
 
-no_difference : (kind : FieldKind) (roots : List RootDecl) → is_kind kind ≡ true → list_all is_first_root roots ≡ true → differs_from roots kind ≡ true → ⊥
+no_difference : (kind : FieldKind) (roots : List RootDecl) → is_kind 1 kind ≡ true → list_all is_first_root roots ≡ true → differs_from roots kind ≡ true → ⊥
 no_difference Number roots is all differs = never differs
 no_difference (Reference k) roots is all differs = let first : k ≡ 0 = grind (arith, nat_tests) in none_elsewhere k roots first all differs
 

@@ -120,10 +120,10 @@ keeps_none op t =
 
 -- a field of nodes of the first kind, which refers to no other
 abbrev pub is_first_field : FieldDecl → Bool
-is_first_field field = (field.owner == 0) && is_kind field.kind
+is_first_field field = (field.owner == 0) && is_kind 1 field.kind
 
 abbrev pub is_first_root : RootDecl → Bool
-is_first_root root = is_kind root.kind
+is_first_root root = is_kind 1 root.kind
 
 -- fields and roots are of the first kind
 abbrev pub declare_first : List FieldDecl → List RootDecl → Bool

@@ -3,7 +3,7 @@
 ghost use Rattle.std.specs.Prelude.{◌≡◌, ◌<◌, ◌^◌, ◌∷◌, map, IfSome, Some, None, if◌then◌else◌};
 ghost use Rattle.std.specs.String.{string_bytes};
 ghost use Rattle.oa_words.specs.Within.{is_count};
-ghost use Rattle.command_input.specs.Commands.{command_named, count_in, workload_in, request_of, IsInRange};
+ghost use Rattle.command_input.specs.Commands.{command_named, count_in, workload_in, judge_named, judge_in, request_of, IsInRange};
 
 use documents::MOST_CALLS;
 use oa_text::read_numeral;
@@ -19,8 +19,12 @@ pub enum Command {
     Check,
     /// The document's text is written in its canonical spelling.
     Show,
+    /// The whole document is written in its canonical spelling, which is of the second version.
+    Upgrade,
     /// The document's text is compiled, and the target written in its canonical spelling.
     Compile,
+    /// The document's calls are made as in a replay, and a certificate of that run is written.
+    Certify,
 }
 
 /// What the words ask for.
@@ -28,6 +32,8 @@ pub enum Command {
 pub enum Request {
     /// A command on the document that the source has.
     OfDocument(Command),
+    /// The certificate that the source has is judged.
+    OfCertificate,
     /// Two large runs, for so many calls and callers. No document is read.
     Workload { count: u32, callers: u32 },
 }
@@ -43,6 +49,7 @@ fn command_named(word: &str) -> Option<Command>
         "replay" => Some(Command::Replay),
         "check" => Some(Command::Check),
         "show" => Some(Command::Show),
+        "upgrade" => Some(Command::Upgrade),
         "compile" => Some(Command::Compile),
         _ => None,
     }
@@ -85,6 +92,27 @@ fn workload_in(words: &[String]) -> Option<Request>
     }
 }
 
+/// What is done with certificates, by the word after `judge`.
+fn judge_named(word: &str) -> Option<Request>
+    ensures { result ≡ judge_named word.now }
+{
+    match word {
+        "make" => Some(Request::OfDocument(Command::Certify)),
+        "check" => Some(Request::OfCertificate),
+        _ => None,
+    }
+}
+
+/// What the words after `judge` ask for.
+fn judge_in(words: &[String]) -> Option<Request>
+    ensures { result ≡ judge_in (map string_bytes words.now) }
+{
+    match words {
+        [word] => judge_named(word.as_str()),
+        _ => None,
+    }
+}
+
 /// What the words ask for, if they are in the grammar.
 pub fn request_of(words: &[String]) -> Option<Request>
     ensures request { result ≡ request_of (map string_bytes words.now) }
@@ -96,6 +124,8 @@ pub fn request_of(words: &[String]) -> Option<Request>
         [word, others @ ..] => {
             if word.as_str() == "workload" {
                 workload_in(others)
+            } else if word.as_str() == "judge" {
+                judge_in(others)
             } else {
                 None
             }

@@ -2,7 +2,7 @@
 use Rattle.std.proofs.Common.{◌≡◌, ◌≢◌, ℕ, ◌<◌, ◌^◌, Bool, true, false, List, length, Option, Some, None, refl, sym, ◌∙◌, subst, not, ⊎_elim}
 use Rattle.std.specs.Prelude.{is_some}
 use Rattle.target_code.specs.declared.target.Target.{Target}
-use Rattle.target_runs.specs.Runnable.{IsRunnable}
+use Rattle.target_laws.specs.target_runs.Runnable.{IsRunnable}
 use Rattle.oa_words.specs.Words.{address_of, word_count}
 use Rattle.oa_words.proofs.Places.{within}
 use Rattle.phase_pools.specs.Accesses.{WordAccess, word_of, located, Loads, Stores, Exchanges, Raises}
@@ -14,11 +14,11 @@ use Rattle.caller_parts.specs.Calls.{is_call}
 use Rattle.caller_steps.specs.Wants.{wants}
 use Rattle.caller_steps.specs.After.{after, taken, counted}
 use Rattle.caller_steps.specs.Lawful.{MayBeTold, AsksSafely}
-use Rattle.caller_steps.specs.Asking.{located_option, CanAsk, CanAccept}
+use Rattle.caller_steps.specs.Asking.{located_option, CanAsk, CanAccept, NewsFit}
 use Rattle.caller_parts.specs.Operands.{AreSlots}
-use Rattle.caller_laws.specs.Laws.{EntriesAskSafely}
-use Rattle.caller_laws.proofs.Beginning.{idle_belongs, taken_belongs}
-use Rattle.caller_laws.proofs.Together.{methods, belong, fits_code, safe}
+use Rattle.core_runs.specs.caller_laws.Laws.{EntriesAskSafely}
+use Rattle.core_runs.proofs.caller_laws.Beginning.{idle_belongs, taken_belongs}
+use Rattle.core_runs.proofs.caller_laws.Together.{methods, belong, fits_code, safe}
 use Rattle.core_runs.specs.Advances.{RunsOn, Ends}
 use Rattle.core_runs.proofs.Advancing.{runs_end}
 use Rattle.barrier_check.specs.Paired.{Paired, IsSound}
@@ -27,7 +27,7 @@ use Rattle.core_entries.specs.Callers.{BelongsTo, BelongsToAll, StaysWithAll, Is
 
 -- callers may run it
 pub runnable : (pair : Paired) → IsSound pair → IsRunnable pair.target pair.source
-runnable pair s = record { small = s.small; normal = s.normal; within = s.within; barred = s.barred }
+runnable pair s = record { small = s.small; normal = s.normal; within = s.within; erases = s.barred.erases }
 
 pub new_belongs : (c : ℕ) → BelongsToAll (idle_entry c)
 new_belongs c = record {
@@ -50,6 +50,11 @@ pub told : (pair : Paired) (target : Target) (setting : Setting) (e : Entry) (wo
     → MayBeTold pair.target setting (wants pair.target e) word → CanAccept target setting e word e.routine
 told pair target setting e word same sound own b lawful =
     subst (λ (t : Target). CanAccept t setting e word e.routine) (sym same) ((fits_code pair.target pair.source setting (runnable pair sound) own b.fits).accepts e word b.belongs lawful)
+
+-- each `new` of its code is of a kind of the row
+pub news : (pair : Paired) (target : Target) (setting : Setting) (e : Entry) → target ≡ pair.target → IsSound pair → IsSetting setting → BelongsTo pair setting e → NewsFit target setting.sizes
+news pair target setting e same sound own b =
+    subst (λ (t : Target). NewsFit t setting.sizes) (sym same) (fits_code pair.target pair.source setting (runnable pair sound) own b.fits).news
 
 pub near : (pair : Paired) (setting : Setting) (e : Entry) → IsSound pair → IsSetting setting → BelongsTo pair setting e → e.hand.at < 2 ^ 62
 near pair setting e sound own b = (fits_code pair.target pair.source setting (runnable pair sound) own b.fits).near e b.belongs

@@ -15,7 +15,7 @@ use Rattle.caller_steps.specs.Wants.{wants}
 use Rattle.caller_steps.specs.Asking.{located_option}
 use Rattle.caller_steps.specs.Lawful.{AsksSafely}
 use Rattle.core_runs.specs.Replays.{kind_of_access, kind_by, kind_wanted, stands_at_check}
-use Rattle.caller_laws.proofs.Together.{safe}
+use Rattle.core_runs.proofs.caller_laws.Together.{safe}
 use Rattle.barrier_check.specs.Paired.{Paired, IsSound}
 use Rattle.core_entries.specs.Callers.{BelongsTo}
 use Rattle.core_entries.specs.Kinds.{kind_between, kind_at}
@@ -33,7 +33,7 @@ kind_of_text (Hazard c r) kind = None
 kind_of_text (Status j) kind = None
 kind_of_text (FieldOf j g) kind = Some kind
 kind_of_text (Cell x) kind = Some kind
-kind_of_text Head kind = None
+kind_of_text (Head t) kind = None
 kind_of_text (Link j) kind = None
 
 lt_is : (a b : ℕ) → nat_lt a b ≡ true → a < b
@@ -65,7 +65,7 @@ module _ (n : Sizes) where
   before_fields : (w : Word) (kind : StepKind) → address_of n w < field_base n → kind_between (field_base n) (head_base n) (address_of n w) kind ≡ None
   before_fields w kind lt = kind_below (field_base n) (head_base n) (address_of n w) kind lt
 
-  -- the pool's head and the links after the cells
+  -- the pool's heads and the links after the cells
   after_cells : (w : Word) (kind : StepKind) → field_base n ≤ address_of n w → head_base n ≤ address_of n w → kind_between (field_base n) (head_base n) (address_of n w) kind ≡ None
   after_cells w kind le past = kind_past (field_base n) (head_base n) (address_of n w) kind le past
 
@@ -108,8 +108,8 @@ module _ (n : Sizes) where
   cell_until : (x : ℕ) → x < n.cells → address_of n (Cell x) < head_base n
   cell_until x lt = omega (arith, lt)
 
-  head_on : field_base n ≤ address_of n Head
-  head_on = omega arith
+  head_on : (t : ℕ) → field_base n ≤ address_of n (Head t)
+  head_on t = omega arith
 
   link_on : (j : ℕ) → head_base n ≤ address_of n (Link j)
   link_on j = omega arith
@@ -125,7 +125,7 @@ module _ (n : Sizes) where
   word_kind (Status j) kind row = before_fields (Status j) kind (status_before j (lt_is j (slot_rows n) row))
   word_kind (FieldOf j g) kind row = of_text (FieldOf j g) kind (field_on j g) (field_until j g row)
   word_kind (Cell x) kind row = of_text (Cell x) kind (cell_on x) (cell_until x (lt_is x n.cells row))
-  word_kind Head kind row = after_cells Head kind head_on (omega arith)
+  word_kind (Head t) kind row = after_cells (Head t) kind (head_on t) (omega arith)
   word_kind (Link j) kind row = after_cells (Link j) kind (link_fields j) (link_on j)
 
   loads_kind : (w : Word) → kind_of_text w kinds.Load ≡ kind_of_access (Loads w)
@@ -136,7 +136,7 @@ module _ (n : Sizes) where
   loads_kind (Status j) = refl
   loads_kind (FieldOf j g) = refl
   loads_kind (Cell x) = refl
-  loads_kind Head = refl
+  loads_kind (Head t) = refl
   loads_kind (Link j) = refl
 
   exchanges_kind : (w : Word) (expected x : ℕ) → kind_of_text w kinds.Exchange ≡ kind_of_access (Exchanges w expected x)
@@ -147,7 +147,7 @@ module _ (n : Sizes) where
   exchanges_kind (Status j) expected x = refl
   exchanges_kind (FieldOf j g) expected x = refl
   exchanges_kind (Cell y) expected x = refl
-  exchanges_kind Head expected x = refl
+  exchanges_kind (Head t) expected x = refl
   exchanges_kind (Link j) expected x = refl
 
   kind_is : (a : WordAccess) → in_row n (word_of a) ≡ true → kind_at (field_base n) (head_base n) (located n a) ≡ kind_of_access a

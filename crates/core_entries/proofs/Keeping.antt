@@ -16,7 +16,7 @@ use Rattle.target_code.specs.Erasing.{erased_op}
 use Rattle.target_code.specs.Keeping.{keeps}
 use Rattle.target_code.specs.Barred.{IsBarred}
 use Rattle.target_code.proofs.Keeping.{keeps_is_kept}
-use Rattle.target_runs.proofs.Limited.{parts, between}
+use Rattle.target_laws.proofs.target_runs.Limited.{parts, between}
 use Rattle.target_code.specs.TargetLimits.{is_target_op}
 use Rattle.std.specs.List.{list_all}
 use Rattle.caller_parts.specs.Spared.{kept_by, none_spared}

@@ -1,5 +1,5 @@
 -- One step on a list of words.
-use Rattle.std.proofs.Common.{◌≡◌, ◌≢◌, ℕ, ◌<◌, Bool, true, false, List, length, length-set, Option, Some, None, refl, sym, ◌∙◌, ap, subst, arith}
+use Rattle.std.proofs.Common.{◌≡◌, ◌≢◌, ℕ, ◌<◌, Bool, true, false, List, length, length-set, Option, Some, None, refl, sym, ◌∙◌, ap, subst, [], arith}
 use Rattle.std.specs.Prelude.{slice_index, slice_set}
 use Rattle.oa_words.specs.Words.{address_of}
 use Rattle.oa_words.proofs.Places.{within}
@@ -11,12 +11,14 @@ use Rattle.caller_steps.specs.Wants.{wants}
 use Rattle.caller_steps.specs.After.{after}
 use Rattle.caller_steps.specs.Lawful.{Accepts, MayBeTold, IsSafe, AsksSafely}
 use Rattle.caller_steps.specs.Asking.{located_option}
-use Rattle.caller_laws.specs.Laws.{EntriesAskSafely}
-use Rattle.caller_laws.proofs.Together.{safe}
-use Rattle.caller_laws.proofs.Stored.{after_store}
-use Rattle.core_sound.proofs.Machine.{store_lawful}
+use Rattle.core_runs.specs.caller_laws.Laws.{EntriesAskSafely}
+use Rattle.core_runs.proofs.caller_laws.Together.{safe}
+use Rattle.core_runs.proofs.caller_laws.Stored.{after_store}
+use Rattle.core_runs.proofs.core_sound.Machine.{store_lawful}
 use Rattle.barrier_check.specs.Paired.{Paired, IsSound}
 use Rattle.core_entries.specs.Ports.{at_of, left_by, answer_to}
+use Rattle.core_runs.specs.RunSigns.{wanted_signs}
+use Rattle.core_entries.specs.StepSigns.{is_of_text, all_named, step_signs, signs_told}
 use Rattle.core_entries.specs.Callers.{BelongsTo}
 use Rattle.core_entries.specs.Steps.{WordsSound, StepIs}
 use Rattle.core_entries.proofs.Calling.{runnable, at_located}
@@ -68,6 +70,24 @@ module _ (pair : Paired) (setting : Setting) (e : Entry) (words : List ℕ) (acc
       subst (λ (o : Option WordAccess). MayBeTold pair.target setting o (answer_to access (slice_index words (at_of access)))) (sym it.1)
       (subst (λ (x : Access). Accepts pair.target setting it.0 (answer_to x (slice_index words (at_of x)))) (sym it.2) (told_by it.0 its_safe))
 
+  told_found : (a : WordAccess) → IsSafe pair.target setting a → Accepts pair.target setting a (slice_index words (at_of (located setting.sizes a)))
+  told_found (Loads w) s = lawful.lawful w s.row
+  told_found (Stores w x) s = tt
+  told_found (Exchanges w expected x) s = lawful.lawful w s.row
+  told_found (Raises w x) s = lawful.lawful w s.row
+
+  -- the word that stands there may be told
+  pub step_found : MayBeTold pair.target setting (wants pair.target e) (slice_index words (at_of access))
+  step_found =
+      subst (λ (o : Option WordAccess). MayBeTold pair.target setting o (slice_index words (at_of access))) (sym it.1)
+      (subst (λ (x : Access). Accepts pair.target setting it.0 (slice_index words (at_of x))) (sym it.2) (told_found it.0 its_safe))
+
+  -- and gives the signs of the step
+  pub step_tells : step_signs pair.target setting e (slice_index words (at_of access)) ≡ signs_told pair.target setting words e
+  step_tells =
+      ap (λ (at : ℕ). step_signs pair.target setting e (slice_index words at)) at_is
+      ∙ sym (ap (λ (o : Option WordAccess). all_named (is_of_text pair.target e e.routine) (wanted_signs pair.target setting (record { words = words; entries = [] }) e o)) it.1)
+
   pub step_wants : wants pair.target e ≢ None
   step_wants none = let no : None ≡ Some it.0 = sym none ∙ it.1 in cc
 
@@ -113,3 +133,10 @@ step_is pair setting before words later e' access sound own b lawful pending lef
   left = left ∙ step_left pair setting before.core words access sound own b lawful pending;
   entry = is ∙ ap (λ (c : Entry). record before { core = c }) (step_after pair setting before.core words access sound own b lawful pending);
 }
+
+-- one that wants no access tells nothing
+pub idle_tells : (pair : Paired) (setting : Setting) (e : Entry) (words : List ℕ) → None ≡ located_option setting.sizes (wants pair.target e) → [] ≡ signs_told pair.target setting words e
+idle_tells pair setting e words is = of (wants pair.target e) is where
+  of : (o : Option WordAccess) → None ≡ located_option setting.sizes o → [] ≡ all_named (is_of_text pair.target e e.routine) (wanted_signs pair.target setting (record { words = words; entries = [] }) e o)
+  of None is = refl
+  of (Some a) is = absurd (let no : None ≡ Some (located setting.sizes a) = is in cc)

@@ -5,7 +5,7 @@ use Rattle.schedule_turns.specs.declared.turn.StepKind.TheVariants as kinds
 use Rattle.phase_pools.specs.declared.access.Access.{Access}
 use Rattle.phase_pools.specs.declared.access.Access.TheVariants as codes
 
--- fields and cells stand from one address on, up to that of the pool's head
+-- fields and cells stand from one address on, up to that of the pool's first head
 abbrev pub kind_between : ℕ → ℕ → ℕ → StepKind → Option StepKind
 kind_between first head at kind = if nat_le first at && nat_lt at head then Some kind else None
 

@@ -4,3 +4,5 @@ pub mod Tables
 pub mod Kinds
 pub mod Callers
 pub mod Steps
+pub mod StepSigns
+pub mod StepRuns

@@ -7,7 +7,7 @@ use Rattle.caller_parts.specs.Settings.{Setting}
 use Rattle.caller_steps.specs.Entries.{RoomyEntry}
 use Rattle.caller_steps.specs.Wants.{wants}
 use Rattle.caller_steps.specs.After.{after}
-use Rattle.core_sound.specs.Sound.{AreLawful}
+use Rattle.core_runs.specs.core_sound.Sound.{AreLawful}
 
 -- as many words as the row has, all of them lawful
 pub record WordsSound (target : Target) (setting : Setting) (words : List ℕ) : Type 0 where

@@ -1,25 +1,30 @@
 //! A caller's entry.
 
-ghost use Rattle.std.specs.Prelude.{◌≡◌, ◌≢◌, ◌-◌, ◌<◌, None, IfOk, length, map, true, is_some, not};
-ghost use Rattle.caller_steps.specs.Entries.{idle_entry, is_idle};
+ghost use Rattle.std.specs.Prelude.{◌≡◌, ◌≢◌, ◌-◌, ◌<◌, None, IfOk, IfSome, length, map, option_copied, slice_get, true, is_some, not};
+ghost use Rattle.caller_steps.specs.Entries.{idle_entry, is_idle, code_in, instr_in};
+ghost use Rattle.caller_parts.specs.declared.routine.Routine.TheVariants.{At};
 ghost use Rattle.caller_parts.specs.Pairing.{reply_of};
 ghost use Rattle.caller_parts.specs.Calls.{is_call};
 ghost use Rattle.caller_steps.specs.Asking.{located_option};
 ghost use Rattle.caller_steps.specs.Lawful.{MayBeTold};
 ghost use Rattle.caller_steps.specs.Wants.{wants};
 ghost use Rattle.caller_steps.specs.After.{after, taken};
+ghost use Rattle.caller_steps.specs.Belongs.{is_check_at};
 ghost use Rattle.core_runs.specs.Replays.{is_spent, stands_at_check, kind_wanted};
+ghost use Rattle.core_entries.specs.StepSigns.{step_signs};
 ghost use Rattle.core_entries.specs.Callers.{BelongsTo, BelongsToAll, BelongsToSome, StaysWithAll, IsInRow};
 
 use crate::kinds::{first_field, instr_at, is_check, kind_at, pool_head};
 use crate::loaded::LoadedTarget;
 use crate::prepared::{Prepared, kept};
+use crate::signs::{Signs, signs_after};
 use barrier_check::Barred;
-use caller_steps::{Call, Entry as State, Reply, Routine, Setting};
+use caller_steps::{Call, Entry as State, Program, Reply, Setting, Stand};
 use phase_pools::access::Access;
 use schedule_turns::StepKind;
 use std::alloc::{AllocError, Global};
 use std::marker::Model;
+use target_code::target::TargetInstr;
 
 /// A caller of the core, with room for its replies: the call that it runs, where it stands in its method or in the routine of
 /// its pool, its guards, the slots that it has claimed and hasn't published, its replies, and its counts. What it does is
@@ -71,6 +76,7 @@ impl Entry {
 
     /// Takes a call of the operation `op`, by its number in the target, with its arguments. The entry is idle and has room for
     /// the reply, and the words of `args` past the operation's count are 0.
+    #[inline(never)]
     pub fn begin(&mut self, barred: &Barred, op: u8, args: [u64; 4])
         requires belongs { BelongsToSome barred.now self.old.core }
         requires idle { is_idle self.old.core.routine ≡ true }
@@ -90,7 +96,8 @@ impl Entry {
         ensures idle { is_some result ≡ not (is_idle self.now.core.routine) }
         ensures row { IsInRow setting.now result }
     {
-        self.pending_in(&Prepared::new(barred), setting)
+        let prepared = Prepared::new(barred);
+        self.pending_in(barred, &prepared.program(), setting)
     }
 
     /// `pending` of a loaded target.
@@ -100,18 +107,63 @@ impl Entry {
         ensures idle { is_some result ≡ not (is_idle self.now.core.routine) }
         ensures row { IsInRow setting.now result }
     {
-        self.pending_in(&loaded.prepared(), setting)
+        self.pending_in(loaded.barred(), &loaded.program(), setting)
     }
 
-    /// `pending` for many steps of one target.
-    pub(crate) fn pending_in(&self, prepared: &Prepared, setting: &Setting) -> Option<Access>
-        requires belongs { BelongsTo prepared.now setting.now self.now.core }
-        ensures wanted { result ≡ located_option setting.now.sizes (wants prepared.now.target self.now.core) }
+    /// `pending` for many steps of one target, whose program was made once for them.
+    #[inline(always)]
+    pub(crate) fn pending_in(
+        &self,
+        barred: &Barred,
+        program: &Program,
+        setting: &Setting,
+    ) -> Option<Access>
+        requires program { program.now ≡ barred.now.target }
+        requires belongs { BelongsTo barred.now setting.now self.now.core }
+        ensures wanted { result ≡ located_option setting.now.sizes (wants barred.now.target self.now.core) }
         ensures idle { is_some result ≡ not (is_idle self.now.core.routine) }
         ensures row { IsInRow setting.now result }
     {
         setting.kept();
-        self.state.pending(&prepared.program(), setting)
+        kept(barred);
+        self.state.pending(program, setting)
+    }
+
+    /// The code of the method, if the caller stands at an access of it.
+    #[inline(always)]
+    pub(crate) fn code_at<'a>(&self, program: &Program<'a>) -> Option<&'a [TargetInstr]>
+        ensures { IfSome result (λ code. (self.now.core.routine ≡ At) × (code.now ≡ code_in program.now self.now.core)) }
+    {
+        self.state.code_at(program)
+    }
+
+    /// The instruction at which the entry stands, in the code of its method.
+    #[inline(always)]
+    pub(crate) fn instr_of<'a>(&self, code: &'a [TargetInstr]) -> Option<&'a TargetInstr>
+        ensures { option_copied result ≡ slice_get code.now self.now.core.hand.at }
+    {
+        instr_at(code, self.state.hand.at)
+    }
+
+    /// `pending_in` where the caller stands at an access of its method, whose instruction is given.
+    #[inline(always)]
+    pub(crate) fn pending_at(
+        &self,
+        barred: &Barred,
+        program: &Program,
+        setting: &Setting,
+        instr: Option<&TargetInstr>,
+    ) -> Option<Access>
+        requires program { program.now ≡ barred.now.target }
+        requires belongs { BelongsTo barred.now setting.now self.now.core }
+        requires stands { self.now.core.routine ≡ At }
+        requires instr { option_copied instr ≡ instr_in program.now self.now.core }
+        ensures wanted { result ≡ located_option setting.now.sizes (wants barred.now.target self.now.core) }
+        ensures idle { is_some result ≡ not (is_idle self.now.core.routine) }
+    {
+        setting.kept();
+        kept(barred);
+        self.state.pending_at(program, setting, instr)
     }
 
     /// The entry after its wanted access found a word, which is lawful where that access stood. What a store found is no
@@ -123,7 +175,8 @@ impl Entry {
         ensures after { self.new ≡ record self.old { core = after barred.now.target setting.now self.old.core word } }
         ensures belongs { BelongsTo barred.now setting.now self.new.core }
     {
-        self.accept_in(&Prepared::new(barred), setting, word);
+        let prepared = Prepared::new(barred);
+        self.accept_in(barred, &prepared.program(), setting, word);
     }
 
     /// `accept` of a loaded target.
@@ -134,19 +187,85 @@ impl Entry {
         ensures after { self.new ≡ record self.old { core = after loaded.now.target setting.now self.old.core word } }
         ensures belongs { BelongsTo loaded.now setting.now self.new.core }
     {
-        self.accept_in(&loaded.prepared(), setting, word);
+        self.accept_in(loaded.barred(), &loaded.program(), setting, word);
     }
 
-    /// `accept` for many steps of one target.
-    pub(crate) fn accept_in(&mut self, prepared: &Prepared, setting: &Setting, word: u64)
-        requires belongs { BelongsTo prepared.now setting.now self.old.core }
-        requires wanted { wants prepared.now.target self.old.core ≢ None }
-        requires lawful { MayBeTold prepared.now.target setting.now (wants prepared.now.target self.old.core) word }
-        ensures after { self.new ≡ record self.old { core = after prepared.now.target setting.now self.old.core word } }
-        ensures belongs { BelongsTo prepared.now setting.now self.new.core }
+    /// `accept` for many steps of one target, whose program was made once for them.
+    #[inline(always)]
+    pub(crate) fn accept_in(
+        &mut self,
+        barred: &Barred,
+        program: &Program,
+        setting: &Setting,
+        word: u64,
+    )
+        requires program { program.now ≡ barred.now.target }
+        requires belongs { BelongsTo barred.now setting.now self.old.core }
+        requires wanted { wants barred.now.target self.old.core ≢ None }
+        requires lawful { MayBeTold barred.now.target setting.now (wants barred.now.target self.old.core) word }
+        ensures after { self.new ≡ record self.old { core = after barred.now.target setting.now self.old.core word } }
+        ensures belongs { BelongsTo barred.now setting.now self.new.core }
     {
         setting.kept();
-        self.state.accept(&prepared.program(), setting, word);
+        kept(barred);
+        self.state.accept(program, setting, word);
+    }
+
+    /// `accept_in` where the caller stands at an access of its method, whose code and instruction are given.
+    #[inline(always)]
+    pub(crate) fn accept_at(
+        &mut self,
+        barred: &Barred,
+        program: &Program,
+        setting: &Setting,
+        code: &[TargetInstr],
+        instr: Option<&TargetInstr>,
+        word: u64,
+    )
+        requires program { program.now ≡ barred.now.target }
+        requires belongs { BelongsTo barred.now setting.now self.old.core }
+        requires stands { self.old.core.routine ≡ At }
+        requires code { code.now ≡ code_in program.now self.old.core }
+        requires instr { option_copied instr ≡ instr_in program.now self.old.core }
+        requires wanted { wants barred.now.target self.old.core ≢ None }
+        requires lawful { MayBeTold barred.now.target setting.now (wants barred.now.target self.old.core) word }
+        ensures after { self.new ≡ record self.old { core = after barred.now.target setting.now self.old.core word } }
+        ensures belongs { BelongsTo barred.now setting.now self.new.core }
+    {
+        setting.kept();
+        kept(barred);
+        self.state.accept_at(program, setting, code, instr, word);
+    }
+
+    /// What the step tells the source machine that finds this word, with the conditions of `accept`; a restart is told also where
+    /// the source doesn't enable it.
+    pub fn signs(&self, barred: &Barred, setting: &Setting, word: u64) -> Signs
+        requires belongs { BelongsTo barred.now setting.now self.now.core }
+        requires wanted { wants barred.now.target self.now.core ≢ None }
+        requires lawful { MayBeTold barred.now.target setting.now (wants barred.now.target self.now.core) word }
+        ensures { result ≡ step_signs barred.now.target setting.now self.now.core word }
+    {
+        let prepared = Prepared::new(barred);
+        self.signs_in(barred, &prepared.program(), setting, word)
+    }
+
+    /// `signs` for many steps of one target, whose program was made once for them.
+    pub fn signs_in(
+        &self,
+        barred: &Barred,
+        program: &Program,
+        setting: &Setting,
+        word: u64,
+    ) -> Signs
+        requires program { program.now ≡ barred.now.target }
+        requires belongs { BelongsTo barred.now setting.now self.now.core }
+        requires wanted { wants barred.now.target self.now.core ≢ None }
+        requires lawful { MayBeTold barred.now.target setting.now (wants barred.now.target self.now.core) word }
+        ensures { result ≡ step_signs barred.now.target setting.now self.now.core word }
+    {
+        setting.kept();
+        kept(barred);
+        signs_after(&self.state, program, setting, word)
     }
 
     /// Whether so many steps were made for the call that runs that it takes no more.
@@ -156,17 +275,23 @@ impl Entry {
         !self.is_idle() && fuel <= self.state.running.steps
     }
 
+    /// Whether a check is the instruction at which the method stands.
+    fn has_check(&self, prepared: &Prepared) -> bool
+        ensures { result ≡ is_check_at (instr_in prepared.now.target self.now.core) }
+    {
+        let code = prepared
+            .program()
+            .code(self.state.running.call.op, self.state.hand.wrapup);
+        is_check(instr_at(code, self.state.hand.at))
+    }
+
     /// Whether the entry stands at a check.
     fn stands_at_check(&self, prepared: &Prepared) -> bool
         ensures { result ≡ stands_at_check prepared.now.target self.now.core self.now.core.routine }
     {
-        match self.state.routine {
-            Routine::At => {
-                let code = prepared
-                    .program()
-                    .code(self.state.running.call.op, self.state.hand.wrapup);
-                is_check(instr_at(code, self.state.hand.at))
-            }
+        match self.state.stand {
+            Stand::At => self.has_check(prepared),
+            Stand::Claims => self.state.claim.is_none() && self.has_check(prepared),
             _ => false,
         }
     }
@@ -177,14 +302,22 @@ impl Entry {
         ensures { result ≡ kind_wanted prepared.now.target self.now.core }
     {
         setting.kept();
-        let _ = prepared.program();
+        let program = prepared.program();
         if self.stands_at_check(prepared) {
             return Some(StepKind::Check);
         }
-        match self.pending_in(prepared, setting) {
+        match self.pending_in(prepared.barred(), &program, setting) {
             None => None,
             Some(access) => kind_at(first_field(setting), pool_head(setting), access),
         }
+    }
+
+    /// The kind of the access that the entry makes next, where turns count it, with the conditions of `pending`.
+    pub fn next_kind(&self, barred: &Barred, setting: &Setting) -> Option<StepKind>
+        requires belongs { BelongsTo barred.now setting.now self.now.core }
+        ensures { result ≡ kind_wanted barred.now.target self.now.core }
+    {
+        self.kind_wanted(&Prepared::new(barred), setting)
     }
 
     /// The caller's number, from 0 on.
@@ -192,6 +325,13 @@ impl Entry {
         ensures { result ≡ self.now.core.number }
     {
         self.state.number
+    }
+
+    /// The call that runs, or the last one.
+    pub fn call(&self) -> Call
+        ensures { result ≡ self.now.core.running.call }
+    {
+        self.state.running.call
     }
 
     /// Whether no call runs.

@@ -22,7 +22,7 @@ pub(crate) fn is_check(instr: Option<&TargetInstr>) -> bool
     matches!(instr, Some(TargetInstr::Check))
 }
 
-/// The address of the first field. From there on fields and cells stand, up to the pool's head.
+/// The address of the first field. From there on fields and cells stand, up to the pool's first head.
 pub(crate) fn first_field(setting: &Setting) -> u32
     ensures { result ≡ field_base setting.now.sizes }
 {
@@ -31,11 +31,13 @@ pub(crate) fn first_field(setting: &Setting) -> u32
     shape.field_at(0, 0)
 }
 
-/// The address of the pool's head: the word right after the last cell, so that fields and cells stand below it.
+/// The address of the first head of the pool: the word right after the last cell, so that fields and cells stand below it.
 pub(crate) fn pool_head(setting: &Setting) -> u32
     ensures { result ≡ head_base setting.now.sizes }
 {
-    setting.shape().head_at()
+    let shape = setting.shape();
+    let _kinds = shape.kinds();
+    shape.head_at(0)
 }
 
 fn kind_between(first: u32, head: u32, at: u32, kind: StepKind) -> Option<StepKind>

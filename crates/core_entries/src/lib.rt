@@ -4,8 +4,10 @@
 pub mod entry;
 mod kinds;
 pub mod loaded;
+mod places;
 pub mod port;
 pub mod prepared;
+pub mod signs;
 pub mod step;
 pub mod words;
 
@@ -13,4 +15,5 @@ pub use entry::Entry;
 pub use loaded::LoadedTarget;
 pub use port::Port;
 pub use prepared::Prepared;
+pub use signs::{Sign, Signs};
 pub use words::PlainWords;

@@ -1,30 +1,34 @@
-//! A barred target with what its wrap-ups keep.
+//! A barred target with what its wrap-ups keep, and where its fields stand.
 
 ghost use Rattle.std.specs.Prelude.{◌≡◌, ◌<◌, length, slice_get};
 ghost use Rattle.barrier_check.specs.Paired.{IsSound};
 ghost use Rattle.caller_parts.specs.Spared.{KeptIs};
+ghost use Rattle.caller_parts.specs.FieldTables.{IsFieldTable};
 ghost use Rattle.core_entries.specs.Tables.{keeps_at, row_at, table_of};
 
 use barrier_check::Barred;
+use caller_parts::fields::FieldTable;
 use caller_steps::Program;
 use std::marker::Model;
 
-/// A barred target with the table of what its wrap-ups keep.
+/// A barred target with the tables of what its wrap-ups keep and of its fields.
 #[derive(Drop)]
 pub struct Prepared<'a> {
     barred: &'a Barred,
     rows: [[bool; 8]; 16],
+    fields: FieldTable,
 }
 
 impl<'a> Model for Prepared<'a> {
     ghost use Rattle.caller_parts.specs.Spared.{KeptIs};
+    ghost use Rattle.caller_parts.specs.FieldTables.{IsFieldTable};
     ghost use Rattle.barrier_check.specs.Paired.{Paired};
 
     ghost Value = { Paired };
 
     ghost view = { λ p. p.barred.now };
 
-    ghost invariant = { λ p. KeptIs p.barred.now.target p.rows };
+    ghost invariant = { λ p. KeptIs p.barred.now.target p.rows × IsFieldTable p.barred.now.target.fields p.fields };
 }
 
 fn keeps_register(barred: &Barred, op: u8, register: u8) -> bool
@@ -96,13 +100,18 @@ pub fn kept(barred: &Barred)
 }
 
 impl<'a> Prepared<'a> {
-    /// The table is made here, once for many steps.
+    /// The tables are made here, once for many steps.
     pub fn new(barred: &'a Barred) -> Prepared<'a>
         ensures { result ≡ barred.now }
     {
         kept(barred);
         let rows = table_of(barred);
-        Prepared { barred, rows }
+        let fields = FieldTable::of(barred.target().fields.items());
+        Prepared {
+            barred,
+            rows,
+            fields,
+        }
     }
 
     /// The target with its source.
@@ -112,20 +121,12 @@ impl<'a> Prepared<'a> {
         self.barred
     }
 
-    /// Over a table that was made before.
-    pub(crate) fn over(barred: &'a Barred, rows: [[bool; 8]; 16]) -> Prepared<'a>
-        requires { KeptIs barred.now.target rows }
-        ensures { result ≡ barred.now }
-    {
-        Prepared { barred, rows }
-    }
-
     /// What the steps of entries are told.
     pub fn program(&self) -> Program<'_>
         ensures same { result ≡ self.now.target }
         ensures sound { IsSound self.now }
     {
         kept(self.barred);
-        Program::new(self.barred.target(), self.rows.as_slice())
+        Program::new(self.barred.target(), self.rows.as_slice(), &self.fields)
     }
 }

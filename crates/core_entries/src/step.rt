@@ -1,30 +1,156 @@
 //! One step of one caller on words in a vector.
 
-ghost use Rattle.std.specs.Prelude.{◌≡◌, false};
-ghost use Rattle.caller_steps.specs.Entries.{is_idle};
+ghost use Rattle.std.specs.Prelude.{◌≡◌, false, option_copied, slice_index};
+ghost use Rattle.caller_steps.specs.Entries.{is_idle, code_in, instr_in};
+ghost use Rattle.caller_parts.specs.declared.routine.Routine.TheVariants.{At};
 ghost use Rattle.core_entries.specs.Callers.{BelongsTo};
 ghost use Rattle.core_entries.specs.Steps.{WordsSound, StepIs};
+ghost use Rattle.core_entries.specs.StepSigns.{signs_told};
 
 use crate::entry::Entry;
-use crate::port::Port;
-use crate::prepared::Prepared;
+use crate::port::{Port, at_of};
+use crate::prepared::kept;
+use crate::signs::Signs;
 use crate::words::PlainWords;
-use caller_steps::Setting;
+use barrier_check::Barred;
+use caller_steps::{Program, Setting};
+use target_code::target::TargetInstr;
 
-/// A step of a caller that runs: it makes the access that it wants, and goes on with the word found.
-#[tactic(auto, using(crate::proofs::Stepping::step_within, crate::proofs::Stepping::step_told, crate::proofs::Stepping::step_wants, crate::proofs::Stepping::step_lawful, crate::proofs::Stepping::step_is))]
-pub fn step(entry: &mut Entry, words: &mut PlainWords, prepared: &Prepared, setting: &Setting)
-    requires belongs { BelongsTo prepared.now setting.now entry.old.core }
+/// A step of a caller that runs: it makes the access that it wants, and goes on with the word found. The program of the target was made
+/// once for many steps.
+#[inline(always)]
+pub fn step_on(
+    entry: &mut Entry,
+    words: &mut PlainWords,
+    barred: &Barred,
+    program: &Program,
+    setting: &Setting,
+)
+    requires program { program.now ≡ barred.now.target }
+    requires belongs { BelongsTo barred.now setting.now entry.old.core }
     requires runs { is_idle entry.old.core.routine ≡ false }
-    requires lawful { WordsSound prepared.now.target setting.now words.old }
-    ensures step { StepIs prepared.now.target setting.now words.old words.new entry.old entry.new }
-    ensures belongs { BelongsTo prepared.now setting.now entry.new.core }
-    ensures lawful { WordsSound prepared.now.target setting.now words.new }
+    requires lawful { WordsSound barred.now.target setting.now words.old }
+    ensures step { StepIs barred.now.target setting.now words.old words.new entry.old entry.new }
+    ensures belongs { BelongsTo barred.now setting.now entry.new.core }
+    ensures lawful { WordsSound barred.now.target setting.now words.new }
 {
-    let _ = prepared.program();
+    match entry.code_at(program) {
+        None => step_apart(entry, words, barred, program, setting),
+        Some(code) => step_at(entry, words, barred, program, setting, code),
+    }
+}
+
+/// A step at an access of the method, whose code is given. That of a check is known where it is made.
+#[inline(always)]
+fn step_at(
+    entry: &mut Entry,
+    words: &mut PlainWords,
+    barred: &Barred,
+    program: &Program,
+    setting: &Setting,
+    code: &[TargetInstr],
+)
+    requires program { program.now ≡ barred.now.target }
+    requires belongs { BelongsTo barred.now setting.now entry.old.core }
+    requires stands { entry.old.core.routine ≡ At }
+    requires code { code.now ≡ code_in program.now entry.old.core }
+    requires lawful { WordsSound barred.now.target setting.now words.old }
+    ensures step { StepIs barred.now.target setting.now words.old words.new entry.old entry.new }
+    ensures belongs { BelongsTo barred.now setting.now entry.new.core }
+    ensures lawful { WordsSound barred.now.target setting.now words.new }
+{
+    match entry.instr_of(code) {
+        Some(TargetInstr::Check) => {
+            let check = TargetInstr::Check;
+            step_with(entry, words, barred, program, setting, code, Some(&check));
+        }
+        instr => step_with(entry, words, barred, program, setting, code, instr),
+    }
+}
+
+/// The same, with the instruction.
+#[inline(always)]
+#[tactic(auto, using(crate::proofs::Stepping::step_within, crate::proofs::Stepping::step_told, crate::proofs::Stepping::step_wants, crate::proofs::Stepping::step_lawful, crate::proofs::Stepping::step_is))]
+fn step_with(
+    entry: &mut Entry,
+    words: &mut PlainWords,
+    barred: &Barred,
+    program: &Program,
+    setting: &Setting,
+    code: &[TargetInstr],
+    instr: Option<&TargetInstr>,
+)
+    requires program { program.now ≡ barred.now.target }
+    requires belongs { BelongsTo barred.now setting.now entry.old.core }
+    requires stands { entry.old.core.routine ≡ At }
+    requires code { code.now ≡ code_in program.now entry.old.core }
+    requires instr { option_copied instr ≡ instr_in program.now entry.old.core }
+    requires lawful { WordsSound barred.now.target setting.now words.old }
+    ensures step { StepIs barred.now.target setting.now words.old words.new entry.old entry.new }
+    ensures belongs { BelongsTo barred.now setting.now entry.new.core }
+    ensures lawful { WordsSound barred.now.target setting.now words.new }
+{
     setting.kept();
-    if let Some(access) = entry.pending_in(prepared, setting) {
+    kept(barred);
+    if let Some(access) = entry.pending_at(barred, program, setting, instr) {
         let word = words.access(access);
-        entry.accept_in(prepared, setting, word);
+        entry.accept_at(barred, program, setting, code, instr, word);
+    }
+}
+
+/// A step at any access.
+#[inline(always)]
+#[tactic(auto, using(crate::proofs::Stepping::step_within, crate::proofs::Stepping::step_told, crate::proofs::Stepping::step_wants, crate::proofs::Stepping::step_lawful, crate::proofs::Stepping::step_is))]
+fn step_apart(
+    entry: &mut Entry,
+    words: &mut PlainWords,
+    barred: &Barred,
+    program: &Program,
+    setting: &Setting,
+)
+    requires program { program.now ≡ barred.now.target }
+    requires belongs { BelongsTo barred.now setting.now entry.old.core }
+    requires runs { is_idle entry.old.core.routine ≡ false }
+    requires lawful { WordsSound barred.now.target setting.now words.old }
+    ensures step { StepIs barred.now.target setting.now words.old words.new entry.old entry.new }
+    ensures belongs { BelongsTo barred.now setting.now entry.new.core }
+    ensures lawful { WordsSound barred.now.target setting.now words.new }
+{
+    setting.kept();
+    kept(barred);
+    if let Some(access) = entry.pending_in(barred, program, setting) {
+        let word = words.access(access);
+        entry.accept_in(barred, program, setting, word);
+    }
+}
+
+fn word_at(words: &PlainWords, at: u32) -> u64
+    ensures { result ≡ slice_index words.now at }
+{
+    words.words().get(at as usize).copied().unwrap_or(0)
+}
+
+/// What the next step of a caller tells the source machine, for many steps of one target, whose program was made once for them.
+#[tactic(auto, using(crate::proofs::Stepping::step_found, crate::proofs::Stepping::step_wants, crate::proofs::Stepping::step_tells, crate::proofs::Stepping::idle_tells))]
+pub fn signs_next(
+    entry: &Entry,
+    words: &PlainWords,
+    barred: &Barred,
+    program: &Program,
+    setting: &Setting,
+) -> Signs
+    requires program { program.now ≡ barred.now.target }
+    requires belongs { BelongsTo barred.now setting.now entry.now.core }
+    requires lawful { WordsSound barred.now.target setting.now words.now }
+    ensures { result ≡ signs_told barred.now.target setting.now words.now entry.now.core }
+{
+    setting.kept();
+    kept(barred);
+    match entry.pending_in(barred, program, setting) {
+        None => Signs::of(None, false),
+        Some(access) => {
+            let word = word_at(words, at_of(access));
+            entry.signs_in(barred, program, setting, word)
+        }
     }
 }

@@ -1,19 +1,19 @@
 //! The words of a row, in a vector.
 
-ghost use Rattle.std.specs.Prelude.{◌≡◌, ◌≤◌, ◌++◌, ◌+◌, ◌-◌, IfOk, Some, map, option_copied, replicate, slice_index};
-ghost use Rattle.oa_words.specs.Packed.{status_word};
-ghost use Rattle.oa_words.specs.Starts.{slot_after, start_kind, start_link, start_links, start_rows, start_statuses};
-ghost use Rattle.oa_words.specs.Words.{slot_range, slot_rows};
+ghost use Rattle.std.specs.Prelude.{◌≡◌, ◌≤◌, ◌<◌, ◌++◌, ◌-◌, IfOk, Some, length, map, option_copied, replicate, slice_index};
+ghost use Rattle.oa_words.specs.Starts.{status_at_start, link_at_start, start_head, start_statuses, start_rows, start_heads, start_links};
+ghost use Rattle.oa_words.specs.Words.{slot_rows};
 ghost use Rattle.caller_parts.specs.Settings.{Fits};
-ghost use Rattle.core_runs.specs.Machine.{node_home, value_word, root_word, beginning_of, core_start};
-ghost use Rattle.core_entries.specs.Starts.{caller_words, node_in, node_row, pool_words, slot_words};
+ghost use Rattle.core_runs.specs.Machine.{value_word, root_word, core_start};
+ghost use Rattle.core_entries.specs.Starts.{home_in, bare_start, start_of, node_row, caller_words, pool_words, slot_words};
 
+use crate::places::{first_ready, home_of, is_filled, node_in, slot_after, slot_or_none};
 use crate::port::{Port, answer_to, at_of, left_by};
 use barrier_check::Barred;
 use caller_steps::Setting;
 use norm_lang::list::Listed;
 use norm_lang::text::{NodeDecl, RootDecl, Start};
-use oa_words::packed::{Kind, head_word, ref_word, status_word};
+use oa_words::packed::{Kind, head_word, status_word};
 use phase_pools::access::Access;
 use std::alloc::{AllocError, Global};
 use std::marker::Model;
@@ -42,28 +42,25 @@ fn put_copies(words: &mut Listed<u64>, count: usize, word: u64) -> Result<(), Al
     Ok(())
 }
 
-/// The slot of an initial node: node J stands in slot J.
-fn node_home(node: u32) -> u32
-    ensures { result ≡ node_home node }
-{
-    node
-}
-
 /// A first value as a word.
-fn value_word(start: Start) -> u64
-    ensures { result ≡ value_word node_home start }
+fn value_word(setting: &Setting, start: Start) -> u64
+    ensures { result ≡ value_word (home_in setting.now) start }
 {
     match start {
         Start::Value(v) => v,
-        Start::Node(j) => ref_word(node_home(j), false),
+        Start::Node(j) => 2 * home_of(setting, j),
     }
 }
 
-fn put_starts(words: &mut Listed<u64>, starts: &[Start]) -> Result<(), AllocError>
-    ensures { IfOk result (λ _. words.new ≡ words.old ++ map (value_word node_home) starts.now) }
+fn put_starts(
+    words: &mut Listed<u64>,
+    setting: &Setting,
+    starts: &[Start],
+) -> Result<(), AllocError>
+    ensures { IfOk result (λ _. words.new ≡ words.old ++ map (value_word (home_in setting.now)) starts.now) }
 {
     for start in starts {
-        words.push(value_word(*start))?;
+        words.push(value_word(setting, *start))?;
     }
     Ok(())
 }
@@ -76,83 +73,69 @@ fn fields_left(fields: u32, given: usize) -> usize
 }
 
 /// The fields of the slot of an initial node.
-fn put_node(words: &mut Listed<u64>, node: &NodeDecl, fields: u32) -> Result<(), AllocError>
-    ensures { IfOk result (λ _. words.new ≡ words.old ++ node_row fields (Some node.now)) }
+fn put_node(words: &mut Listed<u64>, setting: &Setting, node: &NodeDecl) -> Result<(), AllocError>
+    ensures { IfOk result (λ _. words.new ≡ words.old ++ node_row setting.now (Some node.now)) }
 {
     let values = node.values.items();
-    let left = fields_left(fields, values.len());
-    put_starts(words, values)?;
+    let left = fields_left(setting.shape().fields(), values.len());
+    put_starts(words, setting, values)?;
     put_copies(words, left, 0)?;
     Ok(())
 }
 
-/// The initial node in a slot, if there is one: node J stands in slot J.
-fn node_in(nodes: &[NodeDecl], slot: u32) -> Option<&NodeDecl>
-    ensures { option_copied result ≡ node_in nodes.now slot }
-{
-    if slot == 0 {
-        None
-    } else {
-        nodes.get(slot as usize - 1)
-    }
-}
-
-/// The fields of a slot.
+/// The fields of a slot with an initial node, or without one.
 fn put_row(
     words: &mut Listed<u64>,
-    target: &Target,
     setting: &Setting,
-    slot: u32,
+    node: Option<&NodeDecl>,
 ) -> Result<(), AllocError>
-    ensures { IfOk result (λ _. words.new ≡ words.old ++ node_row setting.now.sizes.fields (node_in target.now.nodes slot)) }
+    ensures { IfOk result (λ _. words.new ≡ words.old ++ node_row setting.now (option_copied node.entry)) }
 {
-    let fields = setting.shape().fields();
-    match node_in(target.nodes.items(), slot) {
-        None => put_copies(words, fields as usize, 0)?,
-        Some(node) => put_node(words, node, fields)?,
+    let fields = setting.shape().fields() as usize;
+    match node {
+        None => put_copies(words, fields, 0),
+        Some(node) => put_node(words, setting, node),
     }
-    Ok(())
 }
 
 fn put_rows(words: &mut Listed<u64>, target: &Target, setting: &Setting) -> Result<(), AllocError>
-    ensures { IfOk result (λ _. words.new ≡ words.old ++ start_rows setting.now.sizes (beginning_of target.now setting.now) 0 (slot_rows setting.now.sizes)) }
+    ensures { IfOk result (λ _. words.new ≡ words.old ++ start_rows setting.now.sizes (start_of target.now setting.now) 0 (slot_rows setting.now.sizes)) }
 {
     let slots = setting.shape().slots();
     for slot in 0..slots + 1 {
-        put_row(words, target, setting, slot)?;
+        put_row(words, setting, node_in(target, setting, slot))?;
     }
     Ok(())
 }
 
-fn put_roots(words: &mut Listed<u64>, roots: &[RootDecl]) -> Result<(), AllocError>
-    ensures { IfOk result (λ _. words.new ≡ words.old ++ map (root_word node_home) roots.now) }
+fn put_roots(
+    words: &mut Listed<u64>,
+    setting: &Setting,
+    roots: &[RootDecl],
+) -> Result<(), AllocError>
+    ensures { IfOk result (λ _. words.new ≡ words.old ++ map (root_word (home_in setting.now)) roots.now) }
 {
     for root in roots {
-        words.push(value_word(root.start))?;
+        words.push(value_word(setting, root.start))?;
     }
     Ok(())
 }
 
-/// Null and the initial nodes are used, all other slots are ready.
-fn start_kind(setting: &Setting, slot: u32) -> Kind
-    ensures { result ≡ start_kind (slot_range setting.now.sizes) setting.now.nodes slot }
+/// The status of a slot at the start: null and the initial nodes' slots are used, all other slots are ready.
+fn start_status(setting: &Setting, slot: u32) -> u64
+    requires { slot ≤ setting.now.sizes.slots }
+    ensures { result ≡ status_at_start setting.now.sizes (bare_start setting.now) slot }
 {
-    let nodes = setting.nodes();
-    if slot <= nodes {
+    let kind = if is_filled(setting, slot) {
         Kind::Used
     } else {
         Kind::Ready
-    }
-}
-
-fn start_status(setting: &Setting, slot: u32) -> u64
-    ensures { result ≡ status_word setting.now.first (start_kind (slot_range setting.now.sizes) setting.now.nodes slot) }
-{
-    status_word(setting.first_phase(), start_kind(setting, slot))
+    };
+    status_word(setting.first_phase(), kind)
 }
 
 fn put_statuses(words: &mut Listed<u64>, setting: &Setting) -> Result<(), AllocError>
-    ensures { IfOk result (λ _. words.new ≡ words.old ++ start_statuses (slot_range setting.now.sizes) setting.now.first setting.now.nodes 0 (setting.now.sizes.slots + 1)) }
+    ensures { IfOk result (λ _. words.new ≡ words.old ++ start_statuses setting.now.sizes (bare_start setting.now) 0 (slot_rows setting.now.sizes)) }
 {
     let slots = setting.shape().slots();
     for slot in 0..slots + 1 {
@@ -161,22 +144,13 @@ fn put_statuses(words: &mut Listed<u64>, setting: &Setting) -> Result<(), AllocE
     Ok(())
 }
 
-/// The next greater slot, 0 after the last.
-fn slot_after(setting: &Setting, slot: u32) -> u32
-    ensures same { result ≡ slot_after (slot_range setting.now.sizes) slot }
-    ensures within { result ≤ setting.now.sizes.slots }
-    ensures few { result ≤ 4096 }
-{
-    let slots = setting.shape().slots();
-    if slot < slots { slot + 1 } else { 0 }
-}
-
-/// The link of a slot at the start: the slot below it in the chain of ready slots, which is the next greater one, and 0 for the
-/// last. Null and the slots of the initial nodes are in no chain, and have 0 too.
+/// The link of a slot at the start: the slot below it in the chain of its kind's ready slots, which is the next greater one, and 0
+/// for the last. Null and the slots of the initial nodes are in no chain, and have 0 too.
 fn start_link(setting: &Setting, slot: u32) -> u64
-    ensures { result ≡ start_link (slot_range setting.now.sizes) setting.now.nodes slot }
+    requires { slot ≤ setting.now.sizes.slots }
+    ensures { result ≡ link_at_start setting.now.sizes (bare_start setting.now) slot }
 {
-    if slot <= setting.nodes() {
+    if is_filled(setting, slot) {
         0
     } else {
         slot_after(setting, slot) as u64
@@ -184,7 +158,7 @@ fn start_link(setting: &Setting, slot: u32) -> u64
 }
 
 fn put_links(words: &mut Listed<u64>, setting: &Setting) -> Result<(), AllocError>
-    ensures { IfOk result (λ _. words.new ≡ words.old ++ start_links (slot_range setting.now.sizes) setting.now.nodes 0 (setting.now.sizes.slots + 1)) }
+    ensures { IfOk result (λ _. words.new ≡ words.old ++ start_links setting.now.sizes (bare_start setting.now) 0 (slot_rows setting.now.sizes)) }
 {
     let slots = setting.shape().slots();
     for slot in 0..slots + 1 {
@@ -193,12 +167,31 @@ fn put_links(words: &mut Listed<u64>, setting: &Setting) -> Result<(), AllocErro
     Ok(())
 }
 
-/// The pool's head and the links of slots.
+/// The head of a kind at the start, with the kind's least slot without an initial node on top.
+fn start_head(setting: &Setting, kind: u32) -> u64
+    requires { kind < length setting.now.sizes.kinds }
+    ensures { result ≡ start_head setting.now.sizes (bare_start setting.now) kind }
+{
+    let _kinds = setting.shape().kinds();
+    let top = slot_or_none(setting, kind, first_ready(setting, kind));
+    head_word(setting.first_phase(), top)
+}
+
+fn put_heads(words: &mut Listed<u64>, setting: &Setting) -> Result<(), AllocError>
+    ensures { IfOk result (λ _. words.new ≡ words.old ++ start_heads setting.now.sizes (bare_start setting.now) 0 (length setting.now.sizes.kinds)) }
+{
+    let kinds = setting.shape().kinds();
+    for kind in 0..kinds {
+        words.push(start_head(setting, kind))?;
+    }
+    Ok(())
+}
+
+/// The heads of the kinds and the links of slots.
 fn put_pool(words: &mut Listed<u64>, setting: &Setting) -> Result<(), AllocError>
     ensures { IfOk result (λ _. words.new ≡ words.old ++ pool_words setting.now) }
 {
-    let top = slot_after(setting, setting.nodes());
-    words.push(head_word(setting.first_phase(), top))?;
+    put_heads(words, setting)?;
     put_links(words, setting)?;
     Ok(())
 }
@@ -222,13 +215,13 @@ fn put_slots(words: &mut Listed<u64>, target: &Target, setting: &Setting) -> Res
 {
     put_statuses(words, setting)?;
     put_rows(words, target, setting)?;
-    put_roots(words, target.roots.items())?;
+    put_roots(words, setting, target.roots.items())?;
     Ok(())
 }
 
 impl PlainWords {
     /// The words at the start, in the order of their addresses: the phase, places, warnings, hazards, statuses, fields,
-    /// cells, the head and the links. The setting fits the target.
+    /// cells, the heads and the links. The setting fits the target.
     ///
     /// # Errors
     /// Memory ran out.
@@ -237,6 +230,7 @@ impl PlainWords {
         requires { Fits barred.now.target setting.now }
         ensures { IfOk result (λ words. words ≡ (core_start barred.now.target setting.now).words) }
     {
+        setting.kept();
         let mut words = Listed::empty(alloc);
         put_callers(&mut words, setting)?;
         put_slots(&mut words, barred.target(), setting)?;
@@ -262,9 +256,13 @@ impl PlainWords {
 impl Port for PlainWords {
     ghost words = { λ words. words };
 
+    #[tactic(auto, using(crate::proofs::Loading::stays_same))]
     fn access(&mut self, access: Access) -> u64 {
         let at = at_of(access) as usize;
         let found = self.words.items()[at];
+        if let Access::Load { .. } = access {
+            return found;
+        }
         self.words.replace(at, left_by(access, found));
         answer_to(access, found)
     }

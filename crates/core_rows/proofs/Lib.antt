@@ -12,3 +12,5 @@ pub mod Shared
 pub mod Replays
 pub mod Combined
 pub mod Chains
+mod TwoKinds
+pub mod ThreeKinds

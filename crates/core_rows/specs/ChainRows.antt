@@ -14,7 +14,7 @@ use Rattle.target_code.specs.SecondScheme.{second_scheme}
 use Rattle.caller_parts.specs.declared.call.Reply.TheVariants as replies
 use Rattle.caller_parts.specs.Settings.{Setting}
 use Rattle.core_runs.specs.Machine.{CoreEvent}
-use Rattle.core_rows.specs.Short.{r0, r1, r2, number_node, call_of, setting_of}
+use Rattle.core_rows.specs.Short.{r0, r1, r2, number_node, call_of, setting_of, cradles_of}
 use Rattle.core_rows.specs.Stories.{Line, Load, Store, Exchange, silent, story, lines_after, left_after, steps, calls, begins, renews, clears, looks, takes, no_hazards, finds, frees, pushes}
 
 -- `take` puts a new node into a root that is empty
@@ -91,10 +91,10 @@ pub record ReturnedRows : Type 0 where
   pub pushed : lines_after emptied_target emptied_setting top_loaded (steps 0 3) ≡ pushes 2 24577 1 24578
   pub taken : lines_after emptied_target emptied_setting (top_loaded ++ steps 0 3) (steps 1 4) ≡ takes 2 24578 1 24577 13
   -- the exchange finds the head that was loaded. Slot 1 has stood in the chain since, and below it no other
-  pub exchanged : lines_after emptied_target emptied_setting head_back (steps 2 2) ≡ silent (Exchange Head 24577 24576 24577) ∷ silent (Store (Status 1) 13) ∷ []
-  pub left : left_after emptied_target emptied_setting (head_back ++ steps 2 2) 1 ≡ Some (record { replies = []; cradles = 2 ∷ 0 ∷ 0 ∷ 0 ∷ []; restarts = 0; claims = 1 })
+  pub exchanged : lines_after emptied_target emptied_setting head_back (steps 2 2) ≡ silent (Exchange (Head 0) 24577 24576 24577) ∷ silent (Store (Status 1) 13) ∷ []
+  pub left : left_after emptied_target emptied_setting (head_back ++ steps 2 2) 1 ≡ Some (record { replies = []; cradles = cradles_of 2 0 0 0; restarts = 0; claims = 1 })
   pub other_left : left_after emptied_target emptied_setting (head_back ++ steps 2 2) 2
-      ≡ Some (record { replies = replies.Nothing ∷ []; cradles = 1 ∷ 0 ∷ 0 ∷ 0 ∷ []; restarts = 0; claims = 1 })
+      ≡ Some (record { replies = replies.Nothing ∷ []; cradles = cradles_of 1 0 0 0; restarts = 0; claims = 1 })
 
 -- ---- a circle
 
@@ -174,7 +174,7 @@ pub record CircleRows : Type 0 where
   pub second : lines_after circle_target circle_setting (circled ++ steps 0 4) (steps 1 4) ≡ taken_again
   pub third : lines_after circle_target circle_setting (circled ++ (steps 0 4 ++ steps 1 4)) (calls 2 (call_of 1 0) 5) ≡ begins 2 3 (call_of 1 0) ∷ taken_again
   -- one slot, claimed three times
-  pub first_left : left_after circle_target circle_setting all_taken 0 ≡ Some (record { replies = []; cradles = 1 ∷ 0 ∷ 0 ∷ 0 ∷ []; restarts = 0; claims = 1 })
-  pub second_left : left_after circle_target circle_setting all_taken 1 ≡ Some (record { replies = []; cradles = 1 ∷ 0 ∷ 0 ∷ 0 ∷ []; restarts = 0; claims = 1 })
+  pub first_left : left_after circle_target circle_setting all_taken 0 ≡ Some (record { replies = []; cradles = cradles_of 1 0 0 0; restarts = 0; claims = 1 })
+  pub second_left : left_after circle_target circle_setting all_taken 1 ≡ Some (record { replies = []; cradles = cradles_of 1 0 0 0; restarts = 0; claims = 1 })
   pub third_left : left_after circle_target circle_setting all_taken 2
-      ≡ Some (record { replies = replies.Nothing ∷ replies.Nothing ∷ []; cradles = 1 ∷ 0 ∷ 0 ∷ 0 ∷ []; restarts = 0; claims = 1 })
+      ≡ Some (record { replies = replies.Nothing ∷ replies.Nothing ∷ []; cradles = cradles_of 1 0 0 0; restarts = 0; claims = 1 })

@@ -7,7 +7,7 @@ use Rattle.caller_parts.specs.declared.call.Reply.TheVariants as replies
 use Rattle.caller_parts.specs.Settings.{Setting}
 use Rattle.caller_steps.specs.Signs.{Accesses}
 use Rattle.core_runs.specs.Machine.{CoreEvent}
-use Rattle.core_rows.specs.Short.{call_of, setting_of, no_slots}
+use Rattle.core_rows.specs.Short.{call_of, setting_of, no_slots, cradles_of}
 use Rattle.core_rows.specs.SmallTargets.{branches_target, stale_target}
 use Rattle.core_rows.specs.Stories.{Line, Left, Exchange, gives, story, lines_after, left_after, calls, begins, passes, renews, reads, exchanges, guards, clears, draws, looks, takes, retires, raises, warns, no_hazards, finds, frees, pushes}
 
@@ -64,24 +64,24 @@ filled replies cradles claims = Some (record { replies = replies; cradles = crad
 pub record BranchRows : Type 0 where
   pub second : lines_after branches_target (branches_setting 4) [] one_fill ≡ second_branch
   -- the second `new` by instruction order is the first that this caller makes: its slot is in cradle 1
-  pub claimed : left_after branches_target (branches_setting 4) (calls 0 (call_of 0 0) 5) 0 ≡ filled [] (0 ∷ 2 ∷ 0 ∷ 0 ∷ []) 1
+  pub claimed : left_after branches_target (branches_setting 4) (calls 0 (call_of 0 0) 5) 0 ≡ filled [] (cradles_of 0 2 0 0) 1
   -- the exchange before has counted it
   pub counted : left_after branches_target (branches_setting 4) (calls 0 (call_of 0 0) 4) 0 ≡ filled [] no_slots 1
-  pub failed : left_after branches_target (branches_setting 4) one_fill 0 ≡ filled (replies.Number 0 ∷ []) (0 ∷ 2 ∷ 0 ∷ 0 ∷ []) 1
+  pub failed : left_after branches_target (branches_setting 4) one_fill 0 ≡ filled (replies.Number 0 ∷ []) (cradles_of 0 2 0 0) 1
   pub first : lines_after branches_target (branches_setting 4) one_fill (calls 0 (call_of 0 1) 13) ≡ first_branch
   -- the slot is in cradle 0 until the exchange, its eleventh step
-  pub unpublished : left_after branches_target (branches_setting 4) (one_fill ++ calls 0 (call_of 0 1) 10) 0 ≡ filled (replies.Number 0 ∷ []) (3 ∷ 2 ∷ 0 ∷ 0 ∷ []) 2
-  pub published : left_after branches_target (branches_setting 4) (one_fill ++ calls 0 (call_of 0 1) 11) 0 ≡ filled (replies.Number 0 ∷ []) (0 ∷ 2 ∷ 0 ∷ 0 ∷ []) 2
+  pub unpublished : left_after branches_target (branches_setting 4) (one_fill ++ calls 0 (call_of 0 1) 10) 0 ≡ filled (replies.Number 0 ∷ []) (cradles_of 3 2 0 0) 2
+  pub published : left_after branches_target (branches_setting 4) (one_fill ++ calls 0 (call_of 0 1) 11) 0 ≡ filled (replies.Number 0 ∷ []) (cradles_of 0 2 0 0) 2
   pub again : lines_after branches_target (branches_setting 4) two_fills (calls 0 (call_of 0 0) 9) ≡ second_again
   pub four : left_after branches_target (branches_setting 4) four_fills 0
-      ≡ filled (replies.Number 0 ∷ replies.Number 1 ∷ replies.Number 0 ∷ replies.Number 0 ∷ []) (4 ∷ 2 ∷ 0 ∷ 0 ∷ []) 3
+      ≡ filled (replies.Number 0 ∷ replies.Number 1 ∷ replies.Number 0 ∷ replies.Number 0 ∷ []) (cradles_of 4 2 0 0) 3
   -- with two slots the first `new` gets none: three looks, with two sweeps of 13 steps between them. Cradle 1
   -- keeps its slot
   pub full : left_after branches_target (branches_setting 2) (one_fill ++ calls 0 (call_of 0 1) 30) 0
-      ≡ filled (replies.Number 0 ∷ replies.Full ∷ []) (0 ∷ 2 ∷ 0 ∷ 0 ∷ []) 1
+      ≡ filled (replies.Number 0 ∷ replies.Full ∷ []) (cradles_of 0 2 0 0) 1
   -- and where the phases are over, after the look and the load of the phase
   pub over : left_after branches_target last_setting (one_fill ++ calls 0 (call_of 0 1) 3) 0
-      ≡ filled (replies.Number 0 ∷ replies.Phases 1 ∷ []) (0 ∷ 2 ∷ 0 ∷ 0 ∷ []) 1
+      ≡ filled (replies.Number 0 ∷ replies.Phases 1 ∷ []) (cradles_of 0 2 0 0) 1
 
 -- ---- a text that isn't proper
 
@@ -183,10 +183,10 @@ pub record StaleRows : Type 0 where
   pub hold : lines_after stale_target stale_setting renewed_twice (calls 0 (call_of 2 0) 42) ≡ hold_lines
   -- the auxiliary exchange put a reference to the cradle's slot in place, and the cradle isn't emptied
   pub after_hold : left_after stale_target stale_setting held 0
-      ≡ Some (record { replies = stale_replies; cradles = 2 ∷ 0 ∷ 0 ∷ 0 ∷ []; restarts = 2; claims = 3 })
+      ≡ Some (record { replies = stale_replies; cradles = cradles_of 2 0 0 0; restarts = 2; claims = 3 })
   pub hold_again : lines_after stale_target stale_setting held (calls 0 (call_of 2 0) 14) ≡ second_hold
   pub after_second_hold : left_after stale_target stale_setting held_twice 0
-      ≡ Some (record { replies = stale_replies ++ replies.Nothing ∷ []; cradles = 2 ∷ 0 ∷ 0 ∷ 0 ∷ []; restarts = 2; claims = 3 })
+      ≡ Some (record { replies = stale_replies ++ replies.Nothing ∷ []; cradles = cradles_of 2 0 0 0; restarts = 2; claims = 3 })
 
 -- `late` has a guard where it comes to its `new`, which is cleared before the claim
 abbrev pub late_lines : List Line

@@ -17,3 +17,5 @@ pub mod SharedRows
 pub mod ReplayRows
 pub mod CombinedRows
 pub mod ChainRows
+pub mod TwoKindRows
+pub mod ThreeKindRows

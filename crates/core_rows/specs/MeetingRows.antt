@@ -4,7 +4,7 @@ use Rattle.oa_words.specs.Words.{Phase, Warning, Status, FieldOf, Cell, Head}
 use Rattle.caller_parts.specs.declared.call.Reply.TheVariants as replies
 use Rattle.caller_steps.specs.Signs.{Accesses}
 use Rattle.core_runs.specs.Machine.{CoreEvent}
-use Rattle.core_rows.specs.Short.{call_of, no_slots}
+use Rattle.core_rows.specs.Short.{call_of, no_slots, cradles_of}
 use Rattle.core_rows.specs.SmallTargets.{swap_target}
 use Rattle.core_rows.specs.SwapRows.{swap_setting, again_setting, peek_setting, overtaken}
 use Rattle.core_rows.specs.Stories.{Line, Exchange, Raise, gives, silent, story, lines_after, left_after, steps, calls, passes, renews, reads, puts, exchanges, guards, clears, draws, looks, takes, retires, raises, warns, no_hazards, finds, frees, pushes}
@@ -99,7 +99,7 @@ outlooked = calls 0 (call_of 0 7) 5 ++ calls 1 (call_of 0 8) 6
 -- the exchange fails, claims nothing, and the look begins again, with slot 3 on top
 abbrev pub slow_look : List Line
 slow_look = story (
-    (silent (Exchange Head 8194 8195 8195) ∷ [])
+    (silent (Exchange (Head 0) 8194 8195 8195) ∷ [])
     ∷ takes 3 8195 0 8192 5
     ∷ (draws 3 0 ∷ [])
     ∷ [])
@@ -144,7 +144,7 @@ pub record RaceRows : Type 0 where
   pub other_counted : left_after swap_target again_setting outlooked 1
       ≡ Some (record { replies = []; cradles = no_slots; restarts = 0; claims = 1 })
   pub taken : left_after swap_target again_setting (outlooked ++ steps 0 6) 0
-      ≡ Some (record { replies = []; cradles = 3 ∷ 0 ∷ 0 ∷ 0 ∷ []; restarts = 0; claims = 1 })
+      ≡ Some (record { replies = []; cradles = cradles_of 3 0 0 0; restarts = 0; claims = 1 })
   pub late_free : lines_after swap_target swap_setting (outswept 30) (steps 0 5) ≡ slow_free
   pub unpushed : lines_after swap_target swap_setting (outswept 27) (steps 0 2) ≡ not_pushed
   pub forgotten : lines_after swap_target swap_setting unguarded (steps 1 30) ≡ fresh_sweep

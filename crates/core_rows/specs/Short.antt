@@ -63,11 +63,15 @@ field_entry object field expected replacement = record { place = places.Field ob
 abbrev pub call_of : ℕ → ℕ → Call
 call_of op argument = record { op = op; args = argument ∷ 0 ∷ 0 ∷ 0 ∷ [] }
 
--- a setting by its callers, slots, fields, roots, initial nodes and last phase; the first phase is 1
+-- a setting by its callers, slots, fields, roots, initial nodes and last phase; the first phase is 1, and all nodes are of one kind
 abbrev pub setting_of : ℕ → ℕ → ℕ → ℕ → ℕ → ℕ → Setting
 setting_of callers slots fields roots nodes last =
-    record { sizes = record { callers = callers; slots = slots; fields = fields; cells = roots }; first = 1; last = last; nodes = nodes }
+    record { sizes = record { callers = callers; slots = slots; fields = fields; cells = roots; kinds = slots ∷ [] }; first = 1; last = last; nodes = nodes ∷ 0 ∷ 0 ∷ 0 ∷ [] }
+
+-- the cradles of the first kind, four of them; those of other kinds hold no slot
+abbrev pub cradles_of : ℕ → ℕ → ℕ → ℕ → List ℕ
+cradles_of a b c d = a ∷ b ∷ c ∷ d ∷ 0 ∷ 0 ∷ 0 ∷ 0 ∷ 0 ∷ 0 ∷ 0 ∷ 0 ∷ 0 ∷ 0 ∷ 0 ∷ 0 ∷ []
 
 -- no cradle holds a slot
 abbrev pub no_slots : List ℕ
-no_slots = 0 ∷ 0 ∷ 0 ∷ 0 ∷ []
+no_slots = cradles_of 0 0 0 0

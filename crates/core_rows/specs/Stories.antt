@@ -118,11 +118,11 @@ zeroes slot field = silent (Store (FieldOf slot field) 0)
 
 -- a look's load of the head: 8192 times its phase, and the slot on top
 abbrev pub looks : ℕ → Line
-looks head = silent (Load Head head)
+looks head = silent (Load (Head 0) head)
 
 -- a look that takes the slot on top: the head, the slot's link, the exchange that finds what it expects, and the status
 abbrev pub takes : ℕ → ℕ → ℕ → ℕ → ℕ → List Line
-takes slot head link next used = looks head ∷ silent (Load (Link slot) link) ∷ silent (Exchange Head head next head) ∷ silent (Store (Status slot) used) ∷ []
+takes slot head link next used = looks head ∷ silent (Load (Link slot) link) ∷ silent (Exchange (Head 0) head next head) ∷ silent (Store (Status slot) used) ∷ []
 
 -- a retirement in a phase
 abbrev pub retires : ℕ → ℕ → ℕ → List Line
@@ -152,7 +152,7 @@ finds slot word = silent (Load (Status slot) word)
 
 -- its push of a slot onto the one on top: the head, the slot's link, and the exchange that finds what it expects
 abbrev pub pushes : ℕ → ℕ → ℕ → ℕ → List Line
-pushes slot head top next = silent (Load Head head) ∷ silent (Store (Link slot) top) ∷ silent (Exchange Head head next head) ∷ []
+pushes slot head top next = silent (Load (Head 0) head) ∷ silent (Store (Link slot) top) ∷ silent (Exchange (Head 0) head next head) ∷ []
 
 -- a sweep's exchange of a status to ready
 abbrev pub frees : ℕ → ℕ → ℕ → Line

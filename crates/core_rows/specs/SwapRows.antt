@@ -43,7 +43,7 @@ other_lines = story (
     ∷ (warns 0 3 2 ∷ warns 1 3 2 ∷ [])
     ∷ hazards 0 (1 ∷ 0 ∷ 2 ∷ 0 ∷ 0 ∷ 0 ∷ 0 ∷ 0 ∷ [])
     ∷ no_hazards 1
-    ∷ (finds 2 5 ∷ finds 1 6 ∷ gives (Load Head 8192) (GivesUp None ∷ []) ∷ [])
+    ∷ (finds 2 5 ∷ finds 1 6 ∷ gives (Load (Head 0) 8192) (GivesUp None ∷ []) ∷ [])
     ∷ [])
 
 -- the check fails: r2's guard is cleared and r0's stays, and the wrap-up runs once more with the registers of its start, so
@@ -183,7 +183,7 @@ full_lines = story (
     ∷ raises 2 3
     ∷ (warns 0 3 2 ∷ [])
     ∷ no_hazards 0
-    ∷ (finds 1 5 ∷ gives (Load Head 8192) (GivesUp None ∷ []) ∷ [])
+    ∷ (finds 1 5 ∷ gives (Load (Head 0) 8192) (GivesUp None ∷ []) ∷ [])
     ∷ [])
 
 -- with phases 1 and 2 the second sweep can't raise the phase

@@ -16,6 +16,8 @@ ghost use Rattle.core_rows.specs.CradleRows.{BranchRows, StaleRows, LateRows};
 ghost use Rattle.core_rows.specs.ListRows.{ListRows};
 ghost use Rattle.core_rows.specs.PairRows.{PairRows, FifthRows};
 ghost use Rattle.core_rows.specs.SharedRows.{RecycledRows, SparedRows, HelpedRows};
+ghost use Rattle.core_rows.specs.TwoKindRows.{TwoKindStarts, TwoKindCradles, TwoKindSweeps};
+ghost use Rattle.core_rows.specs.ThreeKindRows.{ThreeKindSettings, ThreeKindCradles, ThreeKindWords};
 ghost use Rattle.core_rows.specs.ReplayRows.{ListReplays, SharedReplays, QueueReplays, TurnRows, KindRows};
 
 /// The targets of the rows are compiled code of their texts: with a check after each load, and two of them as `compile` makes them.
@@ -92,4 +94,18 @@ pub fn combined_rows()
 pub fn chain_rows()
     ensures returned { ReturnedRows }
     ensures circle { CircleRows }
+{}
+
+/// Two kinds of nodes: the words at the start, a restart between two `new` of two kinds, and claims of one kind that sweep for the other.
+pub fn two_kind_rows()
+    ensures starts { TwoKindStarts }
+    ensures cradles { TwoKindCradles }
+    ensures sweeps { TwoKindSweeps }
+{}
+
+/// Three kinds of nodes: what a setting is to say of them, which cradle each `new` has, and which words may stand where.
+pub fn three_kind_rows()
+    ensures settings { ThreeKindSettings }
+    ensures cradles { ThreeKindCradles }
+    ensures words { ThreeKindWords }
 {}

@@ -6,3 +6,5 @@ pub mod Seeing
 pub mod Keeping
 pub mod Replaying
 pub mod Worked
+pub mod WorkedKinds
+pub mod core_pools

@@ -29,7 +29,7 @@ use Rattle.caller_parts.specs.declared.routine.AfterRetire.TheVariants as retire
 use Rattle.caller_parts.specs.declared.routine.Routine.{Routine}
 use Rattle.caller_parts.specs.declared.routine.Routine.TheVariants.{Idle, LoadSeen, At, InList, Retires, Restarts, Clears, Claims, Zeroes}
 use Rattle.caller_parts.specs.Settings.{Setting}
-use Rattle.caller_steps.specs.Entries.{Entry, is_idle, code_in, instr_in, new_number, zero_count, cradle_of}
+use Rattle.caller_steps.specs.Entries.{Entry, is_idle, code_in, instr_in, new_kind, new_number, zero_count, cradle_of}
 use Rattle.caller_parts.specs.Operands.{with_word, slot_in, register_number, list_of, succeeds, to_retire, with_new}
 use Rattle.caller_steps.specs.Clearing.{restart_next, clear_next, unguarded}
 use Rattle.caller_steps.specs.Signs.{quiet}
@@ -50,7 +50,7 @@ same e busy = (refl, inl (busy, refl, refl))
 module _ (target : Target) (sizes : Sizes) where
   then_turns : (next : AfterClear) (e : Entry) → Turns e (then_goes target sizes next e)
   then_turns clears.New e = of (cradle_of e (new_number target e)) where
-    of : (j : ℕ) → Turns e (new_on sizes (new_number target e) j e)
+    of : (j : ℕ) → Turns e (new_on sizes (new_kind target e) (new_number target e) j e)
     of zero = (refl, inl (refl, refl, refl))
     of (suc j) = (refl, inl (refl, refl, refl))
   then_turns clears.WrapUp e = (refl, inl (refl, refl, refl))
@@ -202,7 +202,7 @@ module _ (target : Target) (sizes : Sizes) where
   claim_turns claim (Some (ends.PhasesOver p)) e = (refl, inr (replies.Phases p, refl, refl, refl))
 
   zeroed_turns : (k field : ℕ) (e : Entry) → Turns e (zeroed target sizes k field e).entry
-  zeroed_turns k field e = of (nat_lt (field + 1) (zero_count target sizes (instr_in target e))) where
+  zeroed_turns k field e = of (nat_lt (field + 1) (zero_count target (instr_in target e))) where
     of : (b : Bool) → Turns e (if b then quiet (with_routine e (Zeroes k (field + 1))) else node_made target sizes (cradle_of e k) e).entry
     of true = (refl, inl (refl, refl, refl))
     of false = on_turns (with_new (instr_in target e) (cradle_of e k) e.hand.registers) e

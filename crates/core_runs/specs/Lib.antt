@@ -5,3 +5,6 @@ pub mod Advances
 pub mod Histories
 pub mod Scripts
 pub mod Replays
+pub mod core_sound
+pub mod caller_laws
+pub mod core_pools

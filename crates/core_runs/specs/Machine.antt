@@ -1,15 +1,16 @@
 -- The core: the words, the entries, and the events of a run.
-use Rattle.std.specs.Prelude.{◌≡◌, ◌↔◌, ◌⊎◌, ℕ, zero, suc, ◌+◌, Bool, true, false, ◌&&◌, List, [], ◌∷◌, map, Option, Some, None, if◌then◌else◌, slice_get, slice_set, slice_index}
+use Rattle.std.specs.Prelude.{◌≡◌, ◌↔◌, ◌⊎◌, ℕ, zero, suc, ◌+◌, Bool, true, false, ◌&&◌, List, [], ◌∷◌, length, map, Option, Some, None, if◌then◌else◌, slice_get, slice_set, slice_index}
 use Rattle.norm_lang.specs.declared.text.Start.{Start}
 use Rattle.norm_lang.specs.declared.text.Start.TheVariants as starts
 use Rattle.norm_lang.specs.declared.text.NodeDecl.{NodeDecl}
 use Rattle.norm_lang.specs.declared.text.RootDecl.{RootDecl}
 use Rattle.target_code.specs.declared.target.Target.{Target}
-use Rattle.oa_words.specs.Words.{Word, address_of}
+use Rattle.oa_words.specs.Words.{Sizes, Word, address_of}
 use Rattle.oa_words.specs.Packed.{ref_word}
-use Rattle.oa_words.specs.Starts.{Beginning, start_words}
+use Rattle.oa_words.specs.Starts.{Beginning, first_home, start_words}
 use Rattle.phase_pools.specs.Accesses.{WordAccess, word_of, word_after}
 use Rattle.caller_parts.specs.declared.call.Call.{Call}
+use Rattle.caller_parts.specs.KindCounts.{node_counts}
 use Rattle.caller_parts.specs.Settings.{Setting}
 use Rattle.caller_steps.specs.Entries.{Entry, idle_entry, is_idle}
 use Rattle.caller_parts.specs.Calls.{is_call}
@@ -23,9 +24,9 @@ pub record CoreState : Type 0 where
 
 -- ---- the start
 
--- the slot of an initial node: node J stands in slot J
-abbrev pub node_home : ℕ → ℕ
-node_home j = j
+-- the slot of an initial node by its number: those of a kind stand in the kind's first slots
+abbrev pub node_home : Target → Sizes → ℕ → ℕ
+node_home target n j = first_home n (node_counts target) j
 
 -- first values as words, by the slots of the initial nodes
 abbrev pub value_word : (ℕ → ℕ) → Start → ℕ
@@ -38,8 +39,15 @@ node_words home node = map (value_word home) node.values
 abbrev pub root_word : (ℕ → ℕ) → RootDecl → ℕ
 root_word home root = value_word home root.start
 
+-- each caller has been warned of the first phase
 abbrev pub beginning_of : Target → Setting → Beginning
-beginning_of target setting = record { first = setting.first; nodes = map (node_words node_home) target.nodes; cells = map (root_word node_home) target.roots }
+beginning_of target setting = record {
+  first = setting.first;
+  warnings = setting.first;
+  nodes = map (node_words (node_home target setting.sizes)) target.nodes;
+  counts = node_counts target;
+  cells = map (root_word (node_home target setting.sizes)) target.roots;
+}
 
 abbrev pub idle_from : ℕ → ℕ → List Entry
 idle_from c zero = []

@@ -12,7 +12,7 @@ use Rattle.caller_parts.specs.Settings.{Setting}
 use Rattle.caller_steps.specs.Entries.{Entry, idle_entry, empty_hand}
 use Rattle.caller_steps.specs.After.{after}
 use Rattle.core_runs.specs.Machine.{CoreEvent}
-use Rattle.core_rows.specs.Short.{r1, call_of, setting_of, no_slots}
+use Rattle.core_rows.specs.Short.{r1, call_of, setting_of, no_slots, cradles_of}
 use Rattle.core_rows.specs.Stories.{Line, Left, story, lines_after, left_after, steps, calls, begins, passes, renews, exchanges, guards, clears, draws, takes}
 use Rattle.corner_rows.specs.CornerTargets.{four_target}
 
@@ -94,28 +94,28 @@ abbrev pub twice_held : Entry
 twice_held = record (idle_entry 0) {
   running = record { call = call_of 1 0; steps = 8 };
   hand = record empty_hand { at = 6; registers = two_registers; seen = 1; guards = record no_guards { slots = 0 ∷ 2 ∷ 0 ∷ 0 ∷ 0 ∷ 0 ∷ 0 ∷ 0 ∷ [] } };
-  cradles = 2 ∷ 3 ∷ 2 ∷ 0 ∷ [];
+  cradles = cradles_of 2 3 2 0;
   routine = InList 0;
 }
 
 pub record FourRows : Type 0 where
   pub alone : lines_after four_target (four_setting 1 4) [] (calls 0 (call_of 0 0) 40) ≡ four_lines
   -- after each `new` and its check
-  pub one : four_left 7 ≡ holds [] (1 ∷ 0 ∷ 0 ∷ 0 ∷ []) 0 1
-  pub two : four_left 13 ≡ holds [] (1 ∷ 2 ∷ 0 ∷ 0 ∷ []) 0 2
-  pub three : four_left 19 ≡ holds [] (1 ∷ 2 ∷ 3 ∷ 0 ∷ []) 0 3
-  pub all : four_left 25 ≡ holds [] (1 ∷ 2 ∷ 3 ∷ 4 ∷ []) 0 4
+  pub one : four_left 7 ≡ holds [] (cradles_of 1 0 0 0) 0 1
+  pub two : four_left 13 ≡ holds [] (cradles_of 1 2 0 0) 0 2
+  pub three : four_left 19 ≡ holds [] (cradles_of 1 2 3 0) 0 3
+  pub all : four_left 25 ≡ holds [] (cradles_of 1 2 3 4) 0 4
   -- and after each exchange
-  pub one_published : four_left 32 ≡ holds [] (0 ∷ 2 ∷ 3 ∷ 4 ∷ []) 0 4
-  pub two_published : four_left 33 ≡ holds [] (0 ∷ 0 ∷ 3 ∷ 4 ∷ []) 0 4
-  pub three_published : four_left 34 ≡ holds [] (0 ∷ 0 ∷ 0 ∷ 4 ∷ []) 0 4
+  pub one_published : four_left 32 ≡ holds [] (cradles_of 0 2 3 4) 0 4
+  pub two_published : four_left 33 ≡ holds [] (cradles_of 0 0 3 4) 0 4
+  pub three_published : four_left 34 ≡ holds [] (cradles_of 0 0 0 4) 0 4
   pub all_published : four_left 35 ≡ holds [] no_slots 0 4
   pub left : four_left 40 ≡ holds (replies.Number 4 ∷ []) no_slots 0 4
   pub restart : lines_after four_target (four_setting 2 4) four_warned (steps 0 9) ≡ four_again
-  pub restart_left : left_after four_target (four_setting 2 4) (four_warned ++ steps 0 9) 0 ≡ holds [] (1 ∷ 2 ∷ 3 ∷ 4 ∷ []) 1 4
+  pub restart_left : left_after four_target (four_setting 2 4) (four_warned ++ steps 0 9) 0 ≡ holds [] (cradles_of 1 2 3 4) 1 4
   pub part : lines_after four_target (four_setting 2 5) third_full (steps 0 8) ≡ two_of_four
-  pub part_left : left_after four_target (four_setting 2 5) (third_full ++ steps 0 8) 0 ≡ holds (replies.Number 2 ∷ []) (0 ∷ 0 ∷ 3 ∷ 4 ∷ []) 0 4
-  pub slot_number : labelled 1 13 ≡ holds [] (1 ∷ 0 ∷ 0 ∷ 0 ∷ []) 0 1
-  pub reference_number : labelled 2 13 ≡ holds [] (1 ∷ 0 ∷ 0 ∷ 0 ∷ []) 0 1
+  pub part_left : left_after four_target (four_setting 2 5) (third_full ++ steps 0 8) 0 ≡ holds (replies.Number 2 ∷ []) (cradles_of 0 0 3 4) 0 4
+  pub slot_number : labelled 1 13 ≡ holds [] (cradles_of 1 0 0 0) 0 1
+  pub reference_number : labelled 2 13 ≡ holds [] (cradles_of 1 0 0 0) 0 1
   pub label_published : labelled 2 14 ≡ holds [] no_slots 0 1
-  pub both_emptied : (after four_target (four_setting 1 4) twice_held 0).cradles ≡ 0 ∷ 3 ∷ 0 ∷ 0 ∷ []
+  pub both_emptied : (after four_target (four_setting 1 4) twice_held 0).cradles ≡ cradles_of 0 3 0 0

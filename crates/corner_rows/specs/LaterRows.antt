@@ -5,7 +5,7 @@ use Rattle.oa_words.specs.Words.{Phase, Warning, Cell}
 use Rattle.caller_parts.specs.declared.call.Reply.TheVariants as replies
 use Rattle.caller_parts.specs.Settings.{Setting}
 use Rattle.core_runs.specs.Machine.{CoreEvent}
-use Rattle.core_rows.specs.Short.{call_of, setting_of, no_slots}
+use Rattle.core_rows.specs.Short.{call_of, setting_of, no_slots, cradles_of}
 use Rattle.core_rows.specs.Stories.{Line, Exchange, Raise, silent, story, lines_after, left_after, steps, calls, begins, passes, renews, reads, exchanges, guards, clears, looks, takes, retires, raises, warns, no_hazards, finds, frees, pushes}
 use Rattle.corner_rows.specs.CornerTargets.{later_target}
 
@@ -52,4 +52,4 @@ pub record LaterRows : Type 0 where
       ≡ Some (record { replies = replies.Full ∷ replies.Nothing ∷ []; cradles = no_slots; restarts = 0; claims = 0 })
   pub sweeps : lines_after later_target later_setting dropped_late (steps 0 50) ≡ slow_then_fresh
   pub left : left_after later_target later_setting (dropped_late ++ steps 0 50) 0
-      ≡ Some (record { replies = []; cradles = 1 ∷ 0 ∷ 0 ∷ 0 ∷ []; restarts = 0; claims = 1 })
+      ≡ Some (record { replies = []; cradles = cradles_of 1 0 0 0; restarts = 0; claims = 1 })

@@ -9,7 +9,7 @@ use Rattle.corner_rows.specs.CornerTargets.{unlink_target}
 
 -- three callers, two slots, two fields and two roots
 abbrev pub three_callers : Sizes
-three_callers = record { callers = 3; slots = 2; fields = 2; cells = 2 }
+three_callers = record { callers = 3; slots = 2; fields = 2; cells = 2; kinds = 2 ∷ [] }
 
 -- 1 phase, 3 places, 3 warnings, 24 hazards, 3 statuses, 6 fields, 2 roots, the head and 3 links
 pub record AddressRows : Type 0 where
@@ -31,7 +31,7 @@ pub record AddressRows : Type 0 where
   pub last_field : address_of three_callers (FieldOf 2 1) ≡ 39
   pub first_root : address_of three_callers (Cell 0) ≡ 40
   pub last_root : address_of three_callers (Cell 1) ≡ 41
-  pub head : address_of three_callers Head ≡ 42
+  pub head : address_of three_callers (Head 0) ≡ 42
   pub null_link : address_of three_callers (Link 0) ≡ 43
   pub last_link : address_of three_callers (Link 2) ≡ 45
   pub all : word_count three_callers ≡ 46

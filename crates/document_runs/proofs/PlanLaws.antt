@@ -6,7 +6,7 @@ use Rattle.core_runs.specs.Scripts.{SuitScripts}
 use Rattle.core_runs.specs.Replays.{Replaying, Refusal, StepOfNobody, LongReplay}
 use Rattle.core_runs.proofs.Replaying.{replays_reach}
 use Rattle.oa_core.specs.Finals.{Final, core_part, core_of, replay_of, LeadsTo, IsRefused as Refuses, Answers}
-use Rattle.table_rule.specs.Seats.{cores}
+use Rattle.word_runner.specs.table_rule.Seats.{cores}
 use Rattle.oa_core.specs.declared.replaying.ReplayError.{ReplayError}
 use Rattle.oa_core.specs.declared.replaying.ReplayError.TheVariants as errors
 use Rattle.documents.specs.declared.document.Document.{Document}

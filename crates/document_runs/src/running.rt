@@ -5,10 +5,12 @@ ghost use Rattle.documents.specs.DocumentLimits.{IsWithinDocumentLimits};
 ghost use Rattle.oa_core.specs.Finals.{Answers};
 ghost use Rattle.script_plans.specs.Plans.{IsPlanned, IsReady};
 ghost use Rattle.document_runs.specs.Runs.{IsRan, IsReplayed};
+ghost use Rattle.document_runs.specs.Reports.{all_lines};
+ghost use Rattle.document_runs.specs.Blanks.{no_answer};
 ghost use Rattle.document_runs.specs.PlanRuns.{fault_of, plan_replayed, EndsPlan};
 
 use crate::building::{blank_lines, report_at, report_of};
-use crate::report::Report;
+use crate::report::{Report, ReportLine};
 use documents::Document;
 use oa_core::{CoreState, ReplayError, replay};
 use oa_text::Gate;
@@ -50,6 +52,24 @@ fn replay_plan(alloc: Global, plan: &Plan, document: &Document) -> Result<CoreSt
     )
 }
 
+/// The report of a document whose plan is replayed, in lines that were made for it.
+fn replay_lines(
+    alloc: Global,
+    document: &Document,
+    plan: &Plan,
+    lines: Vec<ReportLine>,
+) -> Result<Report, RunFault>
+    requires planned { IsPlanned document.now (Ok plan.now) }
+    requires ready { IsReady plan.now }
+    requires blank { lines.items ≡ all_lines no_answer 0 document.now.scripts }
+    ensures { IsReplayed document.now result }
+{
+    match replay_plan(alloc, plan, document) {
+        Ok(state) => Ok(report_of(document, lines, &state)),
+        Err(error) => Err(fault_of(error)),
+    }
+}
+
 /// The report of a document whose plan is replayed.
 fn replay_report(alloc: Global, document: &Document, plan: &Plan) -> Result<Report, RunFault>
     requires within { IsWithinDocumentLimits document.now }
@@ -57,11 +77,22 @@ fn replay_report(alloc: Global, document: &Document, plan: &Plan) -> Result<Repo
     requires ready { IsReady plan.now }
     ensures { IsReplayed document.now result }
 {
-    let lines = blank_lines(alloc, document.scripts.items())?;
-    match replay_plan(alloc, plan, document) {
-        Ok(state) => Ok(report_of(document, lines, &state)),
-        Err(error) => Err(fault_of(error)),
+    match blank_lines(alloc, document.scripts.items()) {
+        Ok(lines) => replay_lines(alloc, document, plan, lines),
+        Err(_) => Err(RunFault::Memory),
     }
+}
+
+/// Replays a document by its plan, and gives the plan up.
+fn replay_planned(alloc: Global, document: &Document, plan: Plan) -> Result<Report, RunFault>
+    requires within { IsWithinDocumentLimits document.now }
+    requires planned { IsPlanned document.now (Ok plan) }
+    requires ready { IsReady plan }
+    ensures { IsReplayed document.now result }
+{
+    let answered = replay_report(alloc, document, &plan);
+    drop(plan);
+    answered
 }
 
 /// Replays a document: the turns of its schedule in order, and then each caller to its end, in the order of their numbers. The
@@ -78,8 +109,10 @@ pub fn replay_document(alloc: Global, document: &Document) -> Result<Report, Run
     requires { IsWithinDocumentLimits document.now }
     ensures { IsReplayed document.now result }
 {
-    let plan = plan_of(alloc, document)?;
-    replay_report(alloc, document, &plan)
+    match plan_of(alloc, document) {
+        Ok(plan) => replay_planned(alloc, document, plan),
+        Err(fault) => Err(fault),
+    }
 }
 
 /// Runs a plan by its callers on threads.
@@ -102,6 +135,48 @@ fn run_plan<R: Threads + Sync, G: Gate + Sync>(
     run_scripts(rt, alloc, barred, setting, scripts.items(), fuel, gate)
 }
 
+/// Runs a plan, and tells its end in lines that were made for its document.
+fn run_lines<R: Threads + Sync, G: Gate + Sync>(
+    rt: &R,
+    alloc: Global,
+    document: &Document,
+    plan: Plan,
+    lines: Vec<ReportLine>,
+    gate: &G,
+) -> Result<Report, RunFault>
+    requires planned { IsPlanned document.now (Ok plan) }
+    requires ready { IsReady plan }
+    requires blank { lines.items ≡ all_lines no_answer 0 document.now.scripts }
+    ensures { IsRan document.now result }
+{
+    match run_plan(rt, alloc, plan, gate) {
+        Ok(last) => Ok(report_at(document, lines, &last)),
+        Err(_) => Err(RunFault::Memory),
+    }
+}
+
+/// Runs a document by its plan.
+fn run_planned<R: Threads + Sync, G: Gate + Sync>(
+    rt: &R,
+    alloc: Global,
+    document: &Document,
+    plan: Plan,
+    gate: &G,
+) -> Result<Report, RunFault>
+    requires within { IsWithinDocumentLimits document.now }
+    requires planned { IsPlanned document.now (Ok plan) }
+    requires ready { IsReady plan }
+    ensures { IsRan document.now result }
+{
+    match blank_lines(alloc, document.scripts.items()) {
+        Ok(lines) => run_lines(rt, alloc, document, plan, lines, gate),
+        Err(_) => {
+            drop(plan);
+            Err(RunFault::Memory)
+        }
+    }
+}
+
 /// Runs a document: its callers run on threads, as far as threads can be made, and each makes the calls of its script one after
 /// another, each call with at most as many steps as the document says; after a call that has used them up it makes no further
 /// one. Before each call the caller passes the gate with its number and the call's index. The report is that of one state, in
@@ -122,8 +197,8 @@ pub fn run_document<R: Threads + Sync, G: Gate + Sync>(
     requires { IsWithinDocumentLimits document.now }
     ensures { IsRan document.now result }
 {
-    let plan = plan_of(alloc, document)?;
-    let lines = blank_lines(alloc, document.scripts.items())?;
-    let last = run_plan(rt, alloc, plan, gate)?;
-    Ok(report_at(document, lines, &last))
+    match plan_of(alloc, document) {
+        Ok(plan) => run_planned(rt, alloc, document, plan, gate),
+        Err(fault) => Err(fault),
+    }
 }

@@ -1,14 +1,15 @@
 -- Each document that bytes spell is within the limits.
-use Rattle.std.proofs.Common.{◌≡◌, ℕ, ◌+◌, ◌<◌, ◌≤◌, Bool, true, false, ◌&&◌, List, [], ◌∷◌, ◌++◌, length, Option, Some, None, Result, Ok, Err, refl, arith}
+use Rattle.std.proofs.Common.{◌≡◌, ℕ, ◌+◌, ◌<◌, ◌≤◌, Bool, true, false, ◌&&◌, List, [], ◌∷◌, ◌++◌, length, Option, Some, None, Result, Ok, Err, refl, ◌∙◌, arith}
 use Rattle.std.proofs.lemmas.Bool.Decides.{nat_tests}
 use Rattle.std.proofs.lemmas.List.Elements.{All-nil, All-push}
-use Rattle.std.proofs.lemmas.List.{length-append}
+use Rattle.std.proofs.lemmas.List.{length-append, length-set, length-replicate}
 use Rattle.std.specs.Prelude.{nat_lt, nat_le, IfOk, if◌then◌else◌, codes}
 use Rattle.std.specs.Str.{bytes_eq}
 use Rattle.oa_text.specs.Lines.{TextLine, lines_of, numbered}
 use Rattle.norm_lang.specs.Faults.{◌>>=◌, demand, at_line, too_many, form_fault}
 use Rattle.norm_lang.specs.LineWords.{is_name, end_at, number_at, positive_at, is_positive, value_of, up_to}
 use Rattle.norm_lang.specs.Declarations.{is_reserved}
+use Rattle.norm_lang.specs.declared.text.Version.{Version}
 use Rattle.norm_lang.specs.Limits.{IsWithinLimits}
 use Rattle.line_words.specs.Lines.{words_in, first_word}
 use Rattle.line_words.specs.declared.fault.ParseError.{ParseError}
@@ -19,8 +20,8 @@ use Rattle.schedule_turns.specs.declared.turn.Turn.{Turn}
 use Rattle.schedule_turns.specs.declared.turn.Turn.TheVariants as turns
 use Rattle.documents.specs.declared.document.ScriptCall.{ScriptCall}
 use Rattle.documents.specs.declared.document.Document.{Document}
-use Rattle.documents.specs.TailLines.{setting_line, phases_line, script_line, call_line, arguments_at, Phases, Counts, counts_of, counts_at, step_kind_at, upto_line, turn_line}
-use Rattle.documents.specs.DocumentRead.{Stage, may_set_slots, may_set_phases, may_set_fuel, AfterText, AfterSlots, AfterPhases, AfterFuel, InScript, InSchedule, Tail, empty_tail, whole_scripts_in, with_script, with_schedule, whole_scripts, begins, in_settings, in_calls, in_schedule, in_stage, after_words, after_line, after_lines, document_of, document_read}
+use Rattle.documents.specs.TailLines.{slots_line, fuel_line, phases_line, script_line, call_line, arguments_at, Phases, Counts, counts_of, counts_at, step_kind_at, upto_line, turn_line}
+use Rattle.documents.specs.DocumentRead.{Stage, is_after_text, may_set_fuel, AfterText, AfterPhases, AfterFuel, InScript, InSchedule, Tail, default_slots, empty_tail, with_slots, whole_scripts_in, with_script, with_schedule, whole_scripts, begins, in_settings, in_calls, in_schedule, in_stage, after_words, after_line, after_lines, document_of, document_read}
 use Rattle.documents.specs.DocumentLimits.{most_calls, AreShort, count_of, AreTurns, IsWithinDocumentLimits}
 
 abbrev Holds : {A E : Type 0} → (A → Type 0) → Result A E → Type 0
@@ -55,39 +56,36 @@ passed fault false done same = cc
 less : (a b : ℕ) → nat_lt a b ≡ true → a < b
 less a b is = grind (arith, nat_tests)
 
--- what the lines so far say is within the limits
-record IsKept (tail : Tail) : Type 0 where
+-- what the lines so far say is within the limits, and there are slots of so many kinds
+record IsKept (n : ℕ) (tail : Tail) : Type 0 where
+  slots : length tail.slots ≡ n
   scripts : AreShort tail.scripts
   script : length tail.script ≤ 100000
   turns : AreTurns tail.schedule
 
 whole : (stage : Stage) (scripts : List (List ScriptCall)) (script : List ScriptCall) → AreShort scripts → length script ≤ 100000 → AreShort (whole_scripts_in stage scripts script)
 whole AfterText scripts script short last = short
-whole AfterSlots scripts script short last = short
 whole AfterPhases scripts script short last = short
 whole AfterFuel scripts script short last = short
 whole InScript scripts script short last = All-push (λ (script : List ScriptCall). length script ≤ most_calls) scripts script short last
 whole InSchedule scripts script short last = short
 
-scripts_kept : (tail : Tail) → IsKept tail → AreShort (whole_scripts tail)
-scripts_kept tail kept = whole tail.stage tail.scripts tail.script kept.scripts kept.script
+scripts_kept : (n : ℕ) (tail : Tail) → IsKept n tail → AreShort (whole_scripts tail)
+scripts_kept n tail kept = whole tail.stage tail.scripts tail.script kept.scripts kept.script
 
-script_begun : (tail : Tail) → IsKept tail → IsKept (with_script tail)
-script_begun tail kept = record { scripts = scripts_kept tail kept; script = omega arith; turns = kept.turns }
+script_begun : (n : ℕ) (tail : Tail) → IsKept n tail → IsKept n (with_script tail)
+script_begun n tail kept = record { slots = kept.slots; scripts = scripts_kept n tail kept; script = omega arith; turns = kept.turns }
 
-schedule_begun : (tail : Tail) → IsKept tail → IsKept (with_schedule tail)
-schedule_begun tail kept = record { scripts = scripts_kept tail kept; script = omega arith; turns = kept.turns }
+schedule_begun : (n : ℕ) (tail : Tail) → IsKept n tail → IsKept n (with_schedule tail)
+schedule_begun n tail kept = record { slots = kept.slots; scripts = scripts_kept n tail kept; script = omega arith; turns = kept.turns }
 
-begins_kept : (tail : Tail) (word : List ℕ) (rest : List (List ℕ)) → IsKept tail → Finds IsKept (begins tail word rest)
-begins_kept tail word rest kept =
-    either IsKept (bytes_eq word (codes "script")) (after IsKept (script_line (length (whole_scripts tail)) rest) (λ done. Ok (with_script tail)) (λ done is. found IsKept (with_script tail) (script_begun tail kept)))
-    (either IsKept (bytes_eq word (codes "schedule")) (after IsKept (end_at rest) (λ done. Ok (with_schedule tail)) (λ done is. found IsKept (with_schedule tail) (schedule_begun tail kept))) (lost IsKept form_fault))
+begins_kept : (n : ℕ) (tail : Tail) (word : List ℕ) (rest : List (List ℕ)) → IsKept n tail → Finds (IsKept n) (begins tail word rest)
+begins_kept n tail word rest kept =
+    either (IsKept n) (bytes_eq word (codes "script")) (after (IsKept n) (script_line (length (whole_scripts tail)) rest) (λ done. Ok (with_script tail)) (λ done is. found (IsKept n) (with_script tail) (script_begun n tail kept)))
+    (either (IsKept n) (bytes_eq word (codes "schedule")) (after (IsKept n) (end_at rest) (λ done. Ok (with_schedule tail)) (λ done is. found (IsKept n) (with_schedule tail) (schedule_begun n tail kept))) (lost (IsKept n) form_fault))
 
-same_kept : (tail next : Tail) → IsKept tail → next.scripts ≡ tail.scripts → next.script ≡ tail.script → next.schedule ≡ tail.schedule → IsKept next
-same_kept tail next kept scripts script schedule = record { scripts = rw scripts kept.scripts; script = rw script kept.script; turns = rw schedule kept.turns }
-
-abbrev with_slots : Tail → ℕ → Tail
-with_slots tail slots = record tail { stage = AfterSlots; slots = slots }
+same_kept : (n : ℕ) (tail next : Tail) → IsKept n tail → length next.slots ≡ n → next.scripts ≡ tail.scripts → next.script ≡ tail.script → next.schedule ≡ tail.schedule → IsKept n next
+same_kept n tail next kept slots scripts script schedule = record { slots = slots; scripts = rw scripts kept.scripts; script = rw script kept.script; turns = rw schedule kept.turns }
 
 abbrev with_phases : Tail → Phases → Tail
 with_phases tail phases = record tail { stage = AfterPhases; first = phases.first; last = phases.last }
@@ -95,11 +93,11 @@ with_phases tail phases = record tail { stage = AfterPhases; first = phases.firs
 abbrev with_fuel : Tail → ℕ → Tail
 with_fuel tail fuel = record tail { stage = AfterFuel; fuel = fuel }
 
-settings_kept : (tail : Tail) (word : List ℕ) (rest : List (List ℕ)) → IsKept tail → Finds IsKept (in_settings tail word rest)
-settings_kept tail word rest kept =
-    either IsKept (bytes_eq word (codes "slots") && may_set_slots tail.stage) (after IsKept (setting_line rest) (λ slots. Ok (with_slots tail slots)) (λ slots is. found IsKept (with_slots tail slots) (same_kept tail (with_slots tail slots) kept refl refl refl)))
-    (either IsKept (bytes_eq word (codes "phases") && may_set_phases tail.stage) (after IsKept (phases_line rest) (λ phases. Ok (with_phases tail phases)) (λ phases is. found IsKept (with_phases tail phases) (same_kept tail (with_phases tail phases) kept refl refl refl)))
-    (either IsKept (bytes_eq word (codes "fuel") && may_set_fuel tail.stage) (after IsKept (setting_line rest) (λ fuel. Ok (with_fuel tail fuel)) (λ fuel is. found IsKept (with_fuel tail fuel) (same_kept tail (with_fuel tail fuel) kept refl refl refl))) (begins_kept tail word rest kept)))
+settings_kept : (n : ℕ) (tail : Tail) (word : List ℕ) (rest : List (List ℕ)) → IsKept n tail → Finds (IsKept n) (in_settings tail word rest)
+settings_kept n tail word rest kept =
+    either (IsKept n) (bytes_eq word (codes "slots") && is_after_text tail.stage) (after (IsKept n) (slots_line tail.version tail.kinds tail.next_kind rest) (λ slots. Ok (with_slots tail slots)) (λ slots is. found (IsKept n) (with_slots tail slots) (same_kept n tail (with_slots tail slots) kept (length-set tail.slots slots.owner slots.count ∙ kept.slots) refl refl refl)))
+    (either (IsKept n) (bytes_eq word (codes "phases") && is_after_text tail.stage) (after (IsKept n) (phases_line rest) (λ phases. Ok (with_phases tail phases)) (λ phases is. found (IsKept n) (with_phases tail phases) (same_kept n tail (with_phases tail phases) kept kept.slots refl refl refl)))
+    (either (IsKept n) (bytes_eq word (codes "fuel") && may_set_fuel tail.stage) (after (IsKept n) (fuel_line rest) (λ fuel. Ok (with_fuel tail fuel)) (λ fuel is. found (IsKept n) (with_fuel tail fuel) (same_kept n tail (with_fuel tail fuel) kept kept.slots refl refl refl))) (begins_kept n tail word rest kept)))
 
 -- a call stands after less than the most
 abbrev Fits : ℕ → ScriptCall → Type 0
@@ -116,10 +114,11 @@ one_more_call script call lt = omega (arith, lt, length-append script (call ∷ 
 abbrev with_call : Tail → ScriptCall → Tail
 with_call tail call = record tail { script = tail.script ++ call ∷ [] }
 
-calls_kept : (tail : Tail) (line : ℕ) (word : List ℕ) (rest : List (List ℕ)) → IsKept tail → Finds IsKept (in_calls tail line word rest)
-calls_kept tail line word rest kept =
-    either IsKept (is_reserved word) (begins_kept tail word rest kept)
-    (after IsKept (call_line line (length tail.script) word rest) (λ call. Ok (with_call tail call)) (λ call is. found IsKept (with_call tail call) (record {
+calls_kept : (n : ℕ) (tail : Tail) (line : ℕ) (word : List ℕ) (rest : List (List ℕ)) → IsKept n tail → Finds (IsKept n) (in_calls tail line word rest)
+calls_kept n tail line word rest kept =
+    either (IsKept n) (is_reserved word) (begins_kept n tail word rest kept)
+    (after (IsKept n) (call_line line (length tail.script) word rest) (λ call. Ok (with_call tail call)) (λ call is. found (IsKept n) (with_call tail call) (record {
+      slots = kept.slots;
       scripts = kept.scripts;
       script = one_more_call tail.script call (had (Fits (length tail.script)) (call_line line (length tail.script) word rest) call (call_fits line (length tail.script) word rest) is);
       turns = kept.turns;
@@ -177,49 +176,53 @@ turn_positive word rest =
 abbrev with_turn : Tail → Turn → Tail
 with_turn tail turn = record tail { schedule = tail.schedule ++ turn ∷ [] }
 
-schedule_kept : (tail : Tail) (word : List ℕ) (rest : List (List ℕ)) → IsKept tail → Finds IsKept (in_schedule tail word rest)
-schedule_kept tail word rest kept =
-    after IsKept (turn_line word rest) _ (λ turn is. after IsKept (demand too_many (nat_lt (length tail.schedule) 100000)) _ (λ room fits. found IsKept (with_turn tail turn) (record {
+schedule_kept : (n : ℕ) (tail : Tail) (word : List ℕ) (rest : List (List ℕ)) → IsKept n tail → Finds (IsKept n) (in_schedule tail word rest)
+schedule_kept n tail word rest kept =
+    after (IsKept n) (turn_line word rest) _ (λ turn is. after (IsKept n) (demand too_many (nat_lt (length tail.schedule) 100000)) _ (λ room fits. found (IsKept n) (with_turn tail turn) (record {
+      slots = kept.slots;
       scripts = kept.scripts;
       script = kept.script;
       turns = All-push IsTurn tail.schedule turn kept.turns (had IsTurn (turn_line word rest) turn (turn_positive word rest) is);
     })))
 
-stage_kept : (stage : Stage) (tail : Tail) (line : ℕ) (word : List ℕ) (rest : List (List ℕ)) → IsKept tail → Finds IsKept (in_stage stage tail line word rest)
-stage_kept AfterText tail line word rest kept = settings_kept tail word rest kept
-stage_kept AfterSlots tail line word rest kept = settings_kept tail word rest kept
-stage_kept AfterPhases tail line word rest kept = settings_kept tail word rest kept
-stage_kept AfterFuel tail line word rest kept = settings_kept tail word rest kept
-stage_kept InScript tail line word rest kept = calls_kept tail line word rest kept
-stage_kept InSchedule tail line word rest kept = schedule_kept tail word rest kept
+stage_kept : (n : ℕ) (stage : Stage) (tail : Tail) (line : ℕ) (word : List ℕ) (rest : List (List ℕ)) → IsKept n tail → Finds (IsKept n) (in_stage stage tail line word rest)
+stage_kept n AfterText tail line word rest kept = settings_kept n tail word rest kept
+stage_kept n AfterPhases tail line word rest kept = settings_kept n tail word rest kept
+stage_kept n AfterFuel tail line word rest kept = settings_kept n tail word rest kept
+stage_kept n InScript tail line word rest kept = calls_kept n tail line word rest kept
+stage_kept n InSchedule tail line word rest kept = schedule_kept n tail word rest kept
 
-words_kept : (tail : Tail) (line : ℕ) (words : Option (List ℕ × List (List ℕ))) → IsKept tail → Finds IsKept (after_words tail line words)
-words_kept tail line None kept = found IsKept tail kept
-words_kept tail line (Some word) kept = stage_kept tail.stage tail line word.0 word.1 kept
+words_kept : (n : ℕ) (tail : Tail) (line : ℕ) (words : Option (List ℕ × List (List ℕ))) → IsKept n tail → Finds (IsKept n) (after_words tail line words)
+words_kept n tail line None kept = found (IsKept n) tail kept
+words_kept n tail line (Some word) kept = stage_kept n tail.stage tail line word.0 word.1 kept
 
-line_kept : (tail : Tail) (line : TextLine) → IsKept tail → Finds IsKept (after_line tail line)
-line_kept tail line kept = after IsKept (words_in line) _ (λ words is. words_kept tail line.number (first_word words) kept)
+line_kept : (n : ℕ) (tail : Tail) (line : TextLine) → IsKept n tail → Finds (IsKept n) (after_line tail line)
+line_kept n tail line kept = after (IsKept n) (words_in line) _ (λ words is. words_kept n tail line.number (first_word words) kept)
 
-at_kept : (line : ℕ) (read : Result Tail ℕ) → Finds IsKept read → Finds IsKept (at_line line read)
-at_kept line (Ok tail) finds = found IsKept tail finds.holds
-at_kept line (Err fault) finds = lost IsKept _
+at_kept : (n : ℕ) (line : ℕ) (read : Result Tail ℕ) → Finds (IsKept n) read → Finds (IsKept n) (at_line line read)
+at_kept n line (Ok tail) finds = found (IsKept n) tail finds.holds
+at_kept n line (Err fault) finds = lost (IsKept n) _
 
-lines_kept : (tail : Tail) (lines : List TextLine) → IsKept tail → Finds IsKept (after_lines tail lines)
-lines_kept tail [] kept = found IsKept tail kept
-lines_kept tail (line ∷ lines) kept =
-    after IsKept (at_line line.number (after_line tail line)) _ (λ next is. lines_kept next lines (had IsKept _ next (at_kept line.number (after_line tail line) (line_kept tail line kept)) is))
+lines_kept : (n : ℕ) (tail : Tail) (lines : List TextLine) → IsKept n tail → Finds (IsKept n) (after_lines tail lines)
+lines_kept n tail [] kept = found (IsKept n) tail kept
+lines_kept n tail (line ∷ lines) kept =
+    after (IsKept n) (at_line line.number (after_line tail line)) _ (λ next is. lines_kept n next lines (had (IsKept n) _ next (at_kept n line.number (after_line tail line) (line_kept n tail line kept)) is))
 
-empty_kept : IsKept empty_tail
-empty_kept = record { scripts = All-nil (λ (script : List ScriptCall). length script ≤ most_calls); script = omega arith; turns = All-nil IsTurn }
+empty_kept : (version : Version) (kinds : List (List ℕ)) → IsKept (length kinds) (empty_tail version kinds)
+empty_kept version kinds = record { slots = length-replicate (length kinds) default_slots; scripts = All-nil (λ (script : List ScriptCall). length script ≤ most_calls); script = omega arith; turns = All-nil IsTurn }
 
 abbrev IsOther : Document → Type 0
-IsOther document = AreShort document.scripts × AreTurns document.schedule
+IsOther document = AreShort document.scripts × AreTurns document.schedule × (length document.slots ≡ length document.text.kinds)
 
 read_kept : (bytes : List ℕ) → Finds IsOther (document_read bytes)
 read_kept bytes =
-    after IsOther (after_version (codes "oa") (length (lines_of bytes) + 1) (numbered 1 (lines_of bytes))) _ (λ start a. after IsOther (front_read bytes start) _ (λ front b. after IsOther (after_lines empty_tail (from_line front.1 (numbered 1 (lines_of bytes)))) _ (λ tail c.
-    let kept = had IsKept _ tail (lines_kept empty_tail (from_line front.1 (numbered 1 (lines_of bytes))) empty_kept) c in
-    found IsOther (document_of front.0 tail) (scripts_kept tail kept, kept.turns))))
+    after IsOther (after_version (codes "oa") (length (lines_of bytes) + 1) (numbered 1 (lines_of bytes))) _ (λ start a. after IsOther (front_read start.1 bytes start.0) _ (λ front b.
+    let empty = empty_tail start.1 front.0.kinds in
+    let lines = from_line front.1 (numbered 1 (lines_of bytes)) in
+    let n = length front.0.kinds in
+    after IsOther (after_lines empty lines) _ (λ tail c.
+    let kept = had (IsKept n) _ tail (lines_kept n empty lines (empty_kept start.1 front.0.kinds)) c in
+    found IsOther (document_of front.0 tail) (scripts_kept n tail kept, kept.turns, kept.slots))))
 
 -- a document with such a text
 read_is_within : (bytes : List ℕ) (document : Document) → document_read bytes ≡ Ok document → IsWithinLimits document.text → IsWithinDocumentLimits document
@@ -231,3 +234,9 @@ pub answer_is_within : (bytes : List ℕ) (result : Result Document ParseError) 
     → IfOk result (λ document. IsWithinLimits document.text) → IfOk result (λ document. IsWithinDocumentLimits document)
 answer_is_within bytes (Ok document) read text = read_is_within bytes document read text
 answer_is_within bytes (Err error) read text = tt
+
+-- it has slots for each kind
+pub answer_has_slots : (bytes : List ℕ) (result : Result Document ParseError) → Answers (λ document. document) result (document_read bytes)
+    → IfOk result (λ document. length document.slots ≡ length document.text.kinds)
+answer_has_slots bytes (Ok document) read = (had IsOther _ document (read_kept bytes) read).2
+answer_has_slots bytes (Err error) read = tt

@@ -1,19 +1,21 @@
 -- A text is a document with the default settings, no script and no schedule.
-use Rattle.std.specs.Prelude.{◌≡◌, ℕ, ◌+◌, ◌<◌, ◌≤◌, Bool, true, false, List, [], ◌∷◌, length, Some, None, Result, Ok, Err, codes, if◌then◌else◌}
+use Rattle.std.specs.Prelude.{◌≡◌, ℕ, ◌+◌, ◌<◌, ◌≤◌, Bool, true, false, List, [], ◌∷◌, length, Option, Some, None, Result, Ok, Err, codes, if◌then◌else◌}
 use Rattle.std.specs.Str.{bytes_eq}
 use Rattle.std.proofs.Common.{refl, ap, sym, ◌∙◌, ⊎_elim, ◌⊎◌, inl, inr, arith}
 use Rattle.std.proofs.lemmas.Bool.{cases_lt, le-ltb}
 use Rattle.oa_text.specs.Lines.{TextLine, lines_of, numbered}
 use Rattle.oa_text.specs.Tokens.{words_of, line_fault}
 use Rattle.norm_lang.specs.declared.text.Text.{Text}
+use Rattle.norm_lang.specs.declared.text.Version.{Version}
+use Rattle.norm_lang.specs.declared.text.Version.TheVariants.{Second}
 use Rattle.norm_lang.specs.Faults.{LineFault, form_fault, ◌>>=◌, at_line}
 use Rattle.norm_lang.specs.Declarations.{version_line}
 use Rattle.norm_lang.specs.Grammar.{Start, Opening, Draft, draft_at, is_comment, plain, finished, in_start, after_words as words_drafted, after_line as line_drafted, after_lines as lines_drafted}
 use Rattle.line_words.specs.Lines.{first_word}
 use Rattle.norm_parser.specs.FrontRead.{from_line, line_word, ends_text, names_text, after_text, end_at}
-use Rattle.norm_parser.specs.Version.{is_version, version_in, after_version}
+use Rattle.norm_parser.specs.Version.{version_said, line_version, after_version}
 use Rattle.norm_parser.proofs.Fronts.{earlier}
-use Rattle.documents.specs.DocumentRead.{empty_tail, document_of, document_read}
+use Rattle.documents.specs.DocumentRead.{empty_tail, bare_document, document_read}
 use Rattle.documents.specs.DocumentLaws.{TextsAreDocuments}
 use Rattle.documents.proofs.TextLinesOnly.{given, own_lines}
 
@@ -78,51 +80,53 @@ ends_from start n past (line ∷ lines) count = go (ends_from start (n + 1) past
         (cases_lt n start)
 
 -- before the version line a line is skipped, or is the version line
-abbrev Opens : Draft → Result Bool ℕ → Type 0
-Opens next version = ((next ≡ draft_at Start) × (version ≡ Ok false)) ⊎ ((next ≡ draft_at Opening) × (version ≡ Ok true))
+abbrev Opens : Draft → Result (Option Version) ℕ → Type 0
+Opens next said = ((next ≡ draft_at Second Start) × (said ≡ Ok None)) ⊎ ((version : Version) × (next ≡ draft_at version Opening) × (said ≡ Ok (Some version)))
 
-opens_named : (next : Draft) (named : Bool) (version : Result (Unit {0}) ℕ)
-    → (if named then (version >>= λ done. Ok (record (draft_at Start) { section = Opening })) else Err form_fault) ≡ Ok next
-    → (next ≡ draft_at Opening) × ((if named then (version >>= λ one. Ok true) else Err form_fault) ≡ Ok true)
-opens_named next true (Ok done) read = (sym (ap (given next) read), refl)
-opens_named next true (Err fault) read = absurd (let f : ⊥ = cc in f)
-opens_named next false version read = absurd (let f : ⊥ = cc in f)
+opens_named : (next : Draft) (named : Bool) (read : Result Version ℕ)
+    → (if named then (read >>= λ version. Ok (draft_at version Opening)) else Err form_fault) ≡ Ok next
+    → (version : Version) × (next ≡ draft_at version Opening) × ((if named then (read >>= λ version. Ok (Some version)) else Err form_fault) ≡ Ok (Some version))
+opens_named next true (Ok version) same = (version, sym (ap (given next) same), refl)
+opens_named next true (Err fault) same = absurd (let f : ⊥ = cc in f)
+opens_named next false read same = absurd (let f : ⊥ = cc in f)
 
-opens_words : (next : Draft) (word : List ℕ) (rest : List (List ℕ)) (skipped : Bool) → (if skipped then Ok (draft_at Start) else in_start (draft_at Start) word rest) ≡ Ok next
-    → Opens next (is_version (codes "oa") (if skipped then None else Some (word, rest)))
+opens_words : (next : Draft) (word : List ℕ) (rest : List (List ℕ)) (skipped : Bool)
+    → (if skipped then Ok (draft_at Second Start) else in_start (draft_at Second Start) word rest) ≡ Ok next
+    → Opens next (version_said (codes "oa") (if skipped then None else Some (word, rest)))
 opens_words next word rest true read = inl (sym (ap (given next) read), refl)
 opens_words next word rest false read = inr (opens_named next (bytes_eq word (codes "oa")) (version_line rest) read)
 
-opens : (next : Draft) (line : TextLine) → line_drafted (draft_at Start) line ≡ Ok next → Opens next (version_in (codes "oa") line)
+opens : (next : Draft) (line : TextLine) → line_drafted (draft_at Second Start) line ≡ Ok next → Opens next (line_version (codes "oa") line)
 opens next line read = go (plain (line_fault line)) (words_of line.bytes) read
   where
-    go : (r : Result (Unit {0}) ℕ) (words : List (List ℕ)) → (r >>= λ done. words_drafted (draft_at Start) words) ≡ Ok next
-        → Opens next ((r >>= λ done. Ok words) >>= λ found. is_version (codes "oa") (first_word found))
+    go : (r : Result (Unit {0}) ℕ) (words : List (List ℕ)) → (r >>= λ done. words_drafted (draft_at Second Start) words) ≡ Ok next
+        → Opens next ((r >>= λ done. Ok words) >>= λ found. version_said (codes "oa") (first_word found))
     go (Err fault) words read = absurd (let f : ⊥ = cc in f)
     go (Ok done) [] read = inl (sym (ap (given next) read), refl)
     go (Ok done) (word ∷ rest) read = opens_words next word rest (is_comment word) read
 
--- the version line is found, and a text is read from the line after it
+-- the version line is found, and a text of that version is read from the line after it
 record IsFound (n past : ℕ) (lines : List (List ℕ)) (last : Draft) : Type 0 where
   next : ℕ
+  version : Version
   later : n < next
-  found : after_version (codes "oa") past (numbered n lines) ≡ Ok next
-  rest : lines_drafted (draft_at Opening) (from_line next (numbered n lines)) ≡ Ok last
+  found : after_version (codes "oa") past (numbered n lines) ≡ Ok (next, version)
+  rest : lines_drafted (draft_at version Opening) (from_line next (numbered n lines)) ≡ Ok last
 
-finds : (n past : ℕ) (lines : List (List ℕ)) (last : Draft) (text : Text) → lines_drafted (draft_at Start) (numbered n lines) ≡ Ok last → finished last ≡ Ok text
+finds : (n past : ℕ) (lines : List (List ℕ)) (last : Draft) (text : Text) → lines_drafted (draft_at Second Start) (numbered n lines) ≡ Ok last → finished last ≡ Ok text
     → IsFound n past lines last
 finds n past [] last text read ended =
-    let first : last ≡ draft_at Start = sym (ap (given last) read) in
-    let e : finished (draft_at Start) ≡ Ok text = rw first at ended in
+    let first : last ≡ draft_at Second Start = sym (ap (given last) read) in
+    let e : finished (draft_at Second Start) ≡ Ok text = rw first at ended in
     absurd (let f : ⊥ = cc in f)
 finds n past (line ∷ lines) last text read ended =
-    go (line_drafted (draft_at Start) (record { number = n; bytes = line })) refl read (λ read. finds (n + 1) past lines last text read ended)
+    go (line_drafted (draft_at Second Start) (record { number = n; bytes = line })) refl read (λ read. finds (n + 1) past lines last text read ended)
   where
     here : TextLine
     here = record { number = n; bytes = line }
 
-    go : (r : Result Draft ℕ) → line_drafted (draft_at Start) here ≡ r → (at_line n r >>= λ next. lines_drafted next (numbered (n + 1) lines)) ≡ Ok last
-        → (lines_drafted (draft_at Start) (numbered (n + 1) lines) ≡ Ok last → IsFound (n + 1) past lines last)
+    go : (r : Result Draft ℕ) → line_drafted (draft_at Second Start) here ≡ r → (at_line n r >>= λ next. lines_drafted next (numbered (n + 1) lines)) ≡ Ok last
+        → (lines_drafted (draft_at Second Start) (numbered (n + 1) lines) ≡ Ok last → IsFound (n + 1) past lines last)
         → IsFound n past (line ∷ lines) last
     go (Err fault) same read others = absurd (let f : ⊥ = cc in f)
     go (Ok next) same read others =
@@ -131,38 +135,40 @@ finds n past (line ∷ lines) last text read ended =
         let rest = others (rw skipped.0 at read) in
         record {
           next = rest.next;
+          version = rest.version;
           later = omega (arith, rest.later);
           found = rw skipped.1 rest.found;
           rest = rw (earlier rest.next here (numbered (n + 1) lines) (omega (arith, rest.later))) rest.rest;
         })
-        (λ version.
+        (λ said.
         record {
           next = n + 1;
+          version = said.0;
           later = omega arith;
-          found = rw version.1 refl;
-          rest = rw (earlier (n + 1) here (numbered (n + 1) lines) (omega arith), all_later (n + 1) (n + 1) lines (omega arith)) (rw version.0 at read);
+          found = rw said.2 refl;
+          rest = rw (earlier (n + 1) here (numbered (n + 1) lines) (omega arith), all_later (n + 1) (n + 1) lines (omega arith)) (rw said.1 at read);
         })
         (opens next here same)
 
-document_whole : (bytes : List ℕ) (last : Draft) (text : Text) → lines_drafted (draft_at Start) (numbered 1 (lines_of bytes)) ≡ Ok last → finished last ≡ Ok text
-    → document_read bytes ≡ Ok (document_of text empty_tail)
+document_whole : (bytes : List ℕ) (last : Draft) (text : Text) → lines_drafted (draft_at Second Start) (numbered 1 (lines_of bytes)) ≡ Ok last → finished last ≡ Ok text
+    → document_read bytes ≡ Ok (bare_document text)
 document_whole bytes last text read ended =
     let lines = lines_of bytes in
     let past = length lines + 1 in
-    let version : IsFound 1 past lines last = finds 1 past lines last text read ended in
-    let own = own_lines (draft_at Opening) last (from_line version.next (numbered 1 lines)) version.rest in
-    let ends = ends_from version.next 1 past lines (omega arith) in
-    rw (version.found, own.0, ended, ends.1, own.1) refl
+    let start : IsFound 1 past lines last = finds 1 past lines last text read ended in
+    let own = own_lines (empty_tail start.version text.kinds) (draft_at start.version Opening) last (from_line start.next (numbered 1 lines)) start.rest in
+    let ends = ends_from start.next 1 past lines (omega arith) in
+    rw (start.found, own.0, ended, ends.1, own.1) refl
 
 pub texts_are_documents : TextsAreDocuments
-texts_are_documents bytes text read = go (lines_drafted (draft_at Start) (numbered 1 (lines_of bytes))) refl read
+texts_are_documents bytes text read = go (lines_drafted (draft_at Second Start) (numbered 1 (lines_of bytes))) refl read
   where
-    whole : (last : Draft) (r : Result Text ℕ) → finished last ≡ r → lines_drafted (draft_at Start) (numbered 1 (lines_of bytes)) ≡ Ok last
-        → at_line (length (lines_of bytes) + 1) r ≡ Ok text → document_read bytes ≡ Ok (document_of text empty_tail)
+    whole : (last : Draft) (r : Result Text ℕ) → finished last ≡ r → lines_drafted (draft_at Second Start) (numbered 1 (lines_of bytes)) ≡ Ok last
+        → at_line (length (lines_of bytes) + 1) r ≡ Ok text → document_read bytes ≡ Ok (bare_document text)
     whole last (Ok other) ended all read = let e : other ≡ text = ap (given other) read in document_whole bytes last text all (ended ∙ ap Ok e)
     whole last (Err fault) ended all read = absurd (let f : ⊥ = cc in f)
 
-    go : (r : Result Draft LineFault) → lines_drafted (draft_at Start) (numbered 1 (lines_of bytes)) ≡ r
-        → (r >>= λ draft. at_line (length (lines_of bytes) + 1) (finished draft)) ≡ Ok text → document_read bytes ≡ Ok (document_of text empty_tail)
+    go : (r : Result Draft LineFault) → lines_drafted (draft_at Second Start) (numbered 1 (lines_of bytes)) ≡ r
+        → (r >>= λ draft. at_line (length (lines_of bytes) + 1) (finished draft)) ≡ Ok text → document_read bytes ≡ Ok (bare_document text)
     go (Ok last) all read = whole last (finished last) refl all read
     go (Err fault) all read = absurd (let f : ⊥ = cc in f)

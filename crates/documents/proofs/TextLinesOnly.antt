@@ -7,12 +7,14 @@ use Rattle.std.proofs.lemmas.Slice.Eq.{bytes_eq-Decides}
 use Rattle.oa_text.specs.Lines.{TextLine}
 use Rattle.oa_text.specs.Tokens.{words_of, line_fault}
 use Rattle.norm_lang.specs.declared.text.Text.{Text}
+use Rattle.norm_lang.specs.declared.text.Version.{Version}
+use Rattle.norm_lang.specs.declared.text.Version.TheVariants.{First, Second}
 use Rattle.norm_lang.specs.Faults.{form_fault, ◌>>=◌, at_line}
 use Rattle.norm_lang.specs.Declarations.{use_line}
-use Rattle.norm_lang.specs.Grammar.{Section, Start, Opening, Fields, Nodes, Roots, Begun, Generator, WrapUp, Shipped, Draft, in_section, in_place, is_comment, plain, after_words as words_drafted, after_line as line_drafted, after_lines as lines_drafted}
+use Rattle.norm_lang.specs.Grammar.{Section, Start, Opening, Kinds, Fields, Counts, Nodes, Roots, Begun, Generator, WrapUp, Shipped, Draft, first_declared, in_section, in_place, is_comment, plain, after_words as words_drafted, after_line as line_drafted, after_lines as lines_drafted}
 use Rattle.line_words.specs.Lines.{first_word}
 use Rattle.norm_parser.specs.FrontRead.{front_of, line_word, ends_text, names_text, text_lines, after_text}
-use Rattle.documents.specs.DocumentRead.{Tail, empty_tail, after_words, after_line, after_lines}
+use Rattle.documents.specs.DocumentRead.{Tail, after_words, after_line, after_lines}
 
 -- what is read, or this
 abbrev pub given : {A E : Type 0} → A → Result A E → A
@@ -39,11 +41,21 @@ five P slots phases fuel script schedule word ends =
     at : (wanted : List ℕ) → P wanted → bytes_eq word wanted ≡ true → P word
     at wanted holds same = let e : word ≡ wanted = (bytes_eq-Decides word wanted).0 same in rw e holds
 
+-- the first declaration begins with none of these words, in either version
+first_refused : (version : Version) (draft : Draft) (rest : List (List ℕ)) (word : List ℕ) → ends_text word ≡ true
+    → (if bytes_eq word (codes "use") then (use_line rest >>= λ text. Ok (record draft { section = Shipped; text = text })) else first_declared version draft word rest) ≡ form
+first_refused First draft rest =
+    five (λ word. (if bytes_eq word (codes "use") then (use_line rest >>= λ text. Ok (record draft { section = Shipped; text = text })) else first_declared First draft word rest) ≡ form) refl refl refl refl refl
+first_refused Second draft rest =
+    five (λ word. (if bytes_eq word (codes "use") then (use_line rest >>= λ text. Ok (record draft { section = Shipped; text = text })) else first_declared Second draft word rest) ≡ form) refl refl refl refl refl
+
 -- wherever a text's line stands, it begins with none of these words
 refused : (section : Section) (draft : Draft) (rest : List (List ℕ)) (word : List ℕ) → ends_text word ≡ true → in_section section draft word rest ≡ form
 refused Start draft rest = five (λ word. in_section Start draft word rest ≡ form) refl refl refl refl refl
-refused Opening draft rest = five (λ word. in_section Opening draft word rest ≡ form) refl refl refl refl refl
+refused Opening draft rest = first_refused draft.version draft rest
+refused Kinds draft rest = five (λ word. in_section Kinds draft word rest ≡ form) refl refl refl refl refl
 refused Fields draft rest = five (λ word. in_section Fields draft word rest ≡ form) refl refl refl refl refl
+refused Counts draft rest = five (λ word. in_section Counts draft word rest ≡ form) refl refl refl refl refl
 refused Nodes draft rest = five (λ word. in_section Nodes draft word rest ≡ form) refl refl refl refl refl
 refused Roots draft rest = five (λ word. in_section Roots draft word rest ≡ form) refl refl refl refl refl
 refused Begun draft rest = five (λ word. in_section Begun draft word rest ≡ form) refl refl refl refl refl
@@ -84,7 +96,9 @@ used Opening draft next rest left read = go (use_line rest) read
     go (Ok text) read = let e : record draft { section = Shipped; text = text } ≡ next = ap (given next) read in rw (← e) (refl, left)
     go (Err fault) read = absurd (let f : ⊥ = cc in f)
 used Start draft next rest left read = impossible next read
+used Kinds draft next rest left read = impossible next read
 used Fields draft next rest left read = impossible next read
+used Counts draft next rest left read = impossible next read
 used Nodes draft next rest left read = impossible next read
 used Roots draft next rest left read = impossible next read
 used Begun draft next rest left read = impossible next read
@@ -138,21 +152,21 @@ skips_all draft last tail (line ∷ lines) whole read = go (line_drafted draft l
         (behind.0, rw skipped.1 behind.1)
 
 -- the text's own lines are all that say something
-pub own_lines : (draft last : Draft) (lines : List TextLine) → lines_drafted draft lines ≡ Ok last
-    → (lines_drafted draft (text_lines lines) ≡ Ok last) × (after_lines empty_tail (after_text lines) ≡ Ok empty_tail)
-own_lines draft last [] read = (read, refl)
-own_lines draft last (line ∷ lines) read =
-    go (ends_text (line_word line)) (names_text (line_word line)) (line_drafted draft line) refl refl refl read (λ next. own_lines next last lines)
+pub own_lines : (tail : Tail) (draft last : Draft) (lines : List TextLine) → lines_drafted draft lines ≡ Ok last
+    → (lines_drafted draft (text_lines lines) ≡ Ok last) × (after_lines tail (after_text lines) ≡ Ok tail)
+own_lines tail draft last [] read = (read, refl)
+own_lines tail draft last (line ∷ lines) read =
+    go (ends_text (line_word line)) (names_text (line_word line)) (line_drafted draft line) refl refl refl read (λ next. own_lines tail next last lines)
   where
     go : (ended named : Bool) (r : Result Draft ℕ) → ends_text (line_word line) ≡ ended → names_text (line_word line) ≡ named → line_drafted draft line ≡ r
         → (at_line line.number r >>= λ next. lines_drafted next lines) ≡ Ok last
         → ((next : Draft) → lines_drafted next lines ≡ Ok last
-        → (lines_drafted next (text_lines lines) ≡ Ok last) × (after_lines empty_tail (after_text lines) ≡ Ok empty_tail))
+        → (lines_drafted next (text_lines lines) ≡ Ok last) × (after_lines tail (after_text lines) ≡ Ok tail))
         → (lines_drafted draft (if ended then [] else (if named then line ∷ [] else line ∷ text_lines lines)) ≡ Ok last)
-        × (after_lines empty_tail (if ended then line ∷ lines else (if named then lines else after_text lines)) ≡ Ok empty_tail)
+        × (after_lines tail (if ended then line ∷ lines else (if named then lines else after_text lines)) ≡ Ok tail)
     go ended named (Err fault) e n same read others = absurd (let f : ⊥ = cc in f)
     go true named (Ok next) e n same read others = absurd (no_ending draft next line e same)
     go false true (Ok next) e n same read others =
-        let behind = skips_all next last empty_tail lines (named_whole draft next line n same) read in
+        let behind = skips_all next last tail lines (named_whole draft next line n same) read in
         (rw same (ap Ok (sym behind.0)), behind.1)
     go false false (Ok next) e n same read others = let own = others next read in (rw same own.0, own.1)

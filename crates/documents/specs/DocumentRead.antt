@@ -1,9 +1,10 @@
 -- The document that bytes spell: a version line, a text, and after it the settings, each at most once and in this
--- order, the scripts in the order of their numbers, and at most one schedule; or the first fault.
-use Rattle.std.specs.Prelude.{◌≡◌, ℕ, ◌+◌, Bool, true, false, ◌&&◌, List, [], ◌∷◌, ◌++◌, length, Option, Some, None, Result, Ok, Err, codes, nat_lt, if◌then◌else◌}
+-- order, the slots by kind, the scripts in the order of their numbers, and at most one schedule; or the first fault.
+use Rattle.std.specs.Prelude.{◌≡◌, ℕ, ◌+◌, Bool, true, false, ◌&&◌, List, [], ◌∷◌, ◌++◌, length, replicate, slice_set, Option, Some, None, Result, Ok, Err, codes, nat_lt, if◌then◌else◌}
 use Rattle.std.specs.Str.{bytes_eq}
 use Rattle.oa_text.specs.Lines.{TextLine, lines_of, numbered}
 use Rattle.norm_lang.specs.declared.text.Text.{Text}
+use Rattle.norm_lang.specs.declared.text.Version.{Version}
 use Rattle.norm_lang.specs.Faults.{LineFault, form_fault, too_many, ◌>>=◌, demand, at_line}
 use Rattle.norm_lang.specs.LineWords.{end_at}
 use Rattle.norm_lang.specs.Declarations.{is_reserved}
@@ -13,13 +14,12 @@ use Rattle.norm_parser.specs.Version.{after_version}
 use Rattle.schedule_turns.specs.declared.turn.Turn.{Turn}
 use Rattle.documents.specs.declared.document.ScriptCall.{ScriptCall}
 use Rattle.documents.specs.declared.document.Document.{Document}
-use Rattle.documents.specs.TailLines.{setting_line, phases_line, script_line, call_line, turn_line}
+use Rattle.documents.specs.TailLines.{Slots, slots_line, fuel_line, phases_line, script_line, call_line, turn_line}
 
--- where a line after a document's text stands: right after the text, after one of the settings, in a script, or in the
--- schedule
+-- where a line after a document's text stands: after the text and maybe lines that set slots, after one of the other settings, in
+-- a script, or in the schedule
 pub data Stage : Type 0 where
   AfterText : Stage
-  AfterSlots : Stage
   AfterPhases : Stage
   AfterFuel : Stage
   InScript : Stage
@@ -28,7 +28,12 @@ pub data Stage : Type 0 where
 -- what the lines after a text say so far
 pub record Tail : Type 0 where
   pub stage : Stage
-  pub slots : ℕ
+  -- the version of the lines, and the kinds of the text
+  pub version : Version
+  pub kinds : List (List ℕ)
+  -- the first kind whose slots may still be set, and the slots of each kind
+  pub next_kind : ℕ
+  pub slots : List ℕ
   pub first : ℕ
   pub last : ℕ
   pub fuel : ℕ
@@ -39,6 +44,7 @@ pub record Tail : Type 0 where
 
 -- ---- the settings of a document that doesn't set them
 
+-- slots of a kind
 abbrev pub default_slots : ℕ
 default_slots = 64
 
@@ -51,11 +57,14 @@ default_last = 1000000000
 abbrev pub default_fuel : ℕ
 default_fuel = 1000000
 
--- no line after the text has been read: the settings are the defaults
-abbrev pub empty_tail : Tail
-empty_tail = record {
+-- no line after a text with these kinds has been read: the settings are the defaults
+abbrev pub empty_tail : Version → List (List ℕ) → Tail
+empty_tail version kinds = record {
   stage = AfterText;
-  slots = default_slots;
+  version = version;
+  kinds = kinds;
+  next_kind = 0;
+  slots = replicate (length kinds) default_slots;
   first = default_first;
   last = default_last;
   fuel = default_fuel;
@@ -64,21 +73,14 @@ empty_tail = record {
   schedule = [];
 }
 
--- the slots may be set right after the text
-abbrev pub may_set_slots : Stage → Bool
-may_set_slots AfterText = true
-may_set_slots _ = false
+-- slots and phases may be set after the text, before any other setting
+abbrev pub is_after_text : Stage → Bool
+is_after_text AfterText = true
+is_after_text _ = false
 
--- the phases may be set after them
-abbrev pub may_set_phases : Stage → Bool
-may_set_phases AfterText = true
-may_set_phases AfterSlots = true
-may_set_phases _ = false
-
--- the fuel may be set after both
+-- the fuel may be set after them
 abbrev pub may_set_fuel : Stage → Bool
 may_set_fuel AfterText = true
-may_set_fuel AfterSlots = true
 may_set_fuel AfterPhases = true
 may_set_fuel _ = false
 
@@ -106,12 +108,16 @@ begins tail word rest =
     else (if bytes_eq word (codes "schedule") then (end_at rest >>= λ done. Ok (with_schedule tail))
     else Err form_fault)
 
+-- the slots of one more kind
+abbrev pub with_slots : Tail → Slots → Tail
+with_slots tail slots = record tail { next_kind = slots.owner + 1; slots = slice_set tail.slots slots.owner slots.count }
+
 -- a setting that may stand here, or what follows the settings
 abbrev pub in_settings : Tail → List ℕ → List (List ℕ) → Result Tail ℕ
 in_settings tail word rest =
-    if bytes_eq word (codes "slots") && may_set_slots tail.stage then (setting_line rest >>= λ slots. Ok (record tail { stage = AfterSlots; slots = slots }))
-    else (if bytes_eq word (codes "phases") && may_set_phases tail.stage then (phases_line rest >>= λ phases. Ok (record tail { stage = AfterPhases; first = phases.first; last = phases.last }))
-    else (if bytes_eq word (codes "fuel") && may_set_fuel tail.stage then (setting_line rest >>= λ fuel. Ok (record tail { stage = AfterFuel; fuel = fuel }))
+    if bytes_eq word (codes "slots") && is_after_text tail.stage then (slots_line tail.version tail.kinds tail.next_kind rest >>= λ slots. Ok (with_slots tail slots))
+    else (if bytes_eq word (codes "phases") && is_after_text tail.stage then (phases_line rest >>= λ phases. Ok (record tail { stage = AfterPhases; first = phases.first; last = phases.last }))
+    else (if bytes_eq word (codes "fuel") && may_set_fuel tail.stage then (fuel_line rest >>= λ fuel. Ok (record tail { stage = AfterFuel; fuel = fuel }))
     else begins tail word rest))
 
 -- one more call: in a script each line is one that doesn't begin the next script or the schedule
@@ -149,6 +155,18 @@ after_lines tail (line ∷ lines) = do
   next ← at_line line.number (after_line tail line)
   after_lines next lines
 
+-- a text with the default settings, no script and no schedule
+abbrev pub bare_document : Text → Document
+bare_document text = record {
+  text = text;
+  slots = replicate (length text.kinds) default_slots;
+  first = default_first;
+  last = default_last;
+  fuel = default_fuel;
+  scripts = [];
+  schedule = [];
+}
+
 -- a text and what is said after it
 abbrev pub document_of : Text → Tail → Document
 document_of text tail = record {
@@ -165,8 +183,8 @@ document_of text tail = record {
 abbrev pub document_read : List ℕ → Result Document LineFault
 document_read bytes = do
   start ← after_version (codes "oa") (length (lines_of bytes) + 1) (numbered 1 (lines_of bytes))
-  front ← front_read bytes start
-  tail ← after_lines empty_tail (from_line front.1 (numbered 1 (lines_of bytes)))
+  front ← front_read start.1 bytes start.0
+  tail ← after_lines (empty_tail start.1 front.0.kinds) (from_line front.1 (numbered 1 (lines_of bytes)))
   Ok (document_of front.0 tail)
 
 -- bytes are in the grammar of documents, and stand for this one

@@ -1,5 +1,6 @@
 pub mod TailLines
 pub mod DocumentRead
+pub mod TailRead
 pub mod TailShown
 pub mod DocumentLaws
 pub mod DocumentLimits

@@ -1,21 +1,43 @@
 -- The lines of a document after its text, each after its first word: what it says, or its first fault. Each reads its
 -- whole form before it judges a number or a limit.
-use Rattle.std.specs.Prelude.{ℕ, Bool, false, List, [], ◌∷◌, Option, Some, None, Result, Ok, Err, codes, nat_lt, ◌==◌, if◌then◌else◌}
+use Rattle.std.specs.Prelude.{ℕ, Bool, true, false, List, [], ◌∷◌, Option, Some, None, Result, Ok, Err, codes, nat_lt, nat_le, ◌==◌, if◌then◌else◌}
 use Rattle.std.specs.List.{list_all}
 use Rattle.std.specs.Str.{bytes_eq}
 use Rattle.oa_text.specs.Numbers.{is_numeral, number_of, fitting}
-use Rattle.norm_lang.specs.Faults.{form_fault, too_many, ◌>>=◌, demand}
-use Rattle.norm_lang.specs.LineWords.{is_name, word_at, end_at, number_at, positive_at, value_of, up_to}
+use Rattle.norm_lang.specs.declared.text.Version.{Version}
+use Rattle.norm_lang.specs.Faults.{form_fault, unknown_name, too_many, ◌>>=◌, demand, or_fault}
+use Rattle.norm_lang.specs.LineWords.{is_name, word_at, end_at, owner_at, number_at, positive_at, value_of, up_to}
 use Rattle.schedule_turns.specs.declared.turn.StepKind.{StepKind}
-use Rattle.schedule_turns.specs.declared.turn.StepKind.TheVariants as kinds
+use Rattle.schedule_turns.specs.declared.turn.StepKind.TheVariants as steps
 use Rattle.schedule_turns.specs.declared.turn.Turn.{Turn}
 use Rattle.schedule_turns.specs.declared.turn.Turn.TheVariants as turns
 use Rattle.documents.specs.declared.document.ScriptCall.{ScriptCall}
 use Rattle.documents.specs.DocumentLimits.{most_calls}
 
--- `slots S` and `fuel N`: one number
-abbrev pub setting_line : List (List ℕ) → Result ℕ ℕ
-setting_line words = do
+-- a kind is this one or a later one. Where the kind isn't declared that is the line's fault, and not its place
+abbrev pub is_from : ℕ → Option ℕ → Bool
+is_from next None = true
+is_from next (Some owner) = nat_le next owner
+
+-- the slots of a kind
+pub record Slots : Type 0 where
+  pub owner : ℕ
+  pub count : ℕ
+
+-- `slots KIND S`, for this kind or a later one. A line of the first version names no kind
+abbrev pub slots_line : Version → List (List ℕ) → ℕ → List (List ℕ) → Result Slots ℕ
+slots_line version kinds next words = do
+  owner ← owner_at version kinds words
+  count ← number_at owner.1
+  done ← end_at count.1
+  follows ← demand form_fault (is_from next owner.0)
+  value ← value_of count.0
+  known ← or_fault unknown_name owner.0
+  Ok (record { owner = known; count = value })
+
+-- `fuel N`
+abbrev pub fuel_line : List (List ℕ) → Result ℕ ℕ
+fuel_line words = do
   number ← number_at words
   done ← end_at number.1
   value_of number.0
@@ -73,9 +95,9 @@ call_line line calls word rest = do
 -- `load`, `check` or `exchange`
 abbrev pub step_kind_in : List ℕ → Result StepKind ℕ
 step_kind_in word =
-    if bytes_eq word (codes "load") then Ok kinds.Load
-    else (if bytes_eq word (codes "check") then Ok kinds.Check
-    else (if bytes_eq word (codes "exchange") then Ok kinds.Exchange
+    if bytes_eq word (codes "load") then Ok steps.Load
+    else (if bytes_eq word (codes "check") then Ok steps.Check
+    else (if bytes_eq word (codes "exchange") then Ok steps.Exchange
     else Err form_fault))
 
 -- a kind of step, and the words after it

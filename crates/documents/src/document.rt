@@ -10,7 +10,7 @@ pub type Numbers = Listed<u64>;
 /// How many calls a script has at most. A workload's callers make calls of a script, so no more than these either.
 pub const MOST_CALLS: u32 = 100_000;
 
-/// The slots of the row in a document that doesn't set them.
+/// The slots of a kind in a document that doesn't set them.
 pub const DEFAULT_SLOTS: u64 = 64;
 
 /// The first phase in a document that doesn't set the phases.
@@ -40,13 +40,13 @@ pub type Scripts = Listed<Script>;
 /// The turns of a schedule, in order.
 pub type Turns = Listed<Turn>;
 
-/// A document: its text; the slots of the row; the first and the last phase; the steps that an operation may make; the
-/// scripts; and the schedule, which is empty where there is none. Settings that a document leaves out are 64 slots, the
-/// phases from 1 to 1,000,000,000, and 1,000,000 steps.
+/// A document: its text; the slots of each kind; the first and the last phase; the steps that an operation may make; the
+/// scripts; and the schedule, which is empty where there is none. Settings that a document leaves out are 64 slots of a kind,
+/// the phases from 1 to 1,000,000,000, and 1,000,000 steps.
 #[derive(Drop)]
 pub struct Document {
     pub text: Text,
-    pub slots: u64,
+    pub slots: Numbers,
     pub first: u64,
     pub last: u64,
     pub fuel: u64,

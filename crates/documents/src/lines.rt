@@ -1,6 +1,6 @@
 //! What a line after the text of a document is.
 
-ghost use Rattle.std.specs.Prelude.{◌≡◌};
+ghost use Rattle.std.specs.Prelude.{◌≡◌, ◌≤◌, length};
 ghost use Rattle.oa_text.specs.Shown.{line_shown};
 ghost use Rattle.norm_lang.specs.Faults.{at_line};
 ghost use Rattle.line_words.specs.Answered.{Gives, Answers};
@@ -15,7 +15,9 @@ use oa_text::Line;
 use std::alloc::Global;
 
 fn add_line(tail: &mut Tail, alloc: Global, line: Line) -> Result<(), Stop>
-    ensures { Gives (λ _. tail_shown tail.new) result (after_line (tail_shown tail.old) (line_shown line.entry)) }
+    requires few_kinds { length tail.old.text.kinds ≤ 4 }
+    ensures says { Gives (λ _. tail_shown tail.new) result (after_line (tail_shown tail.old) (line_shown line.entry)) }
+    ensures kept { tail.new.text ≡ tail.old.text }
 {
     let mut words = Words::new(line)?;
     match words.first() {
@@ -26,7 +28,9 @@ fn add_line(tail: &mut Tail, alloc: Global, line: Line) -> Result<(), Stop>
 
 /// Adds what a line after the text says. A line that is skipped says nothing, and its bytes are judged.
 pub(crate) fn read_line(tail: &mut Tail, alloc: Global, line: Line) -> Result<(), ParseError>
-    ensures { Answers (λ _. tail_shown tail.new) result (at_line (line_shown line.entry).number (after_line (tail_shown tail.old) (line_shown line.entry))) }
+    requires few_kinds { length tail.old.text.kinds ≤ 4 }
+    ensures says { Answers (λ _. tail_shown tail.new) result (at_line (line_shown line.entry).number (after_line (tail_shown tail.old) (line_shown line.entry))) }
+    ensures kept { tail.new.text ≡ tail.old.text }
 {
     match add_line(tail, alloc, line) {
         Ok(()) => Ok(()),

@@ -1,6 +1,6 @@
 //! What a line after a document's text says, by where it stands.
 
-ghost use Rattle.std.specs.Prelude.{◌≡◌};
+ghost use Rattle.std.specs.Prelude.{◌≡◌, ◌≤◌, length};
 ghost use Rattle.norm_lang.specs.Declarations.{is_reserved};
 ghost use Rattle.line_words.specs.Answered.{Gives};
 ghost use Rattle.documents.specs.DocumentRead.{begins, in_settings, in_calls, in_schedule, in_stage};
@@ -8,7 +8,7 @@ ghost use Rattle.documents.specs.TailShown.{tail_shown};
 
 use crate::calls::{call, script};
 use crate::schedule::turn;
-use crate::settings::{both_phases, setting};
+use crate::settings::{both_phases, fuel, slots_of_kind};
 use crate::tail::{Stage, Tail};
 use line_words::fault::{Fault, Stop};
 use line_words::words::Words;
@@ -18,7 +18,8 @@ const MOST_TURNS: usize = 100_000;
 
 /// The next script, or the schedule.
 fn begins(tail: &mut Tail, alloc: Global, word: &[u8], words: &mut Words) -> Result<(), Stop>
-    ensures { Gives (λ _. tail_shown tail.new) result (begins (tail_shown tail.old) word.now words.old) }
+    ensures says { Gives (λ _. tail_shown tail.new) result (begins (tail_shown tail.old) word.now words.old) }
+    ensures kept { tail.new.text ≡ tail.old.text }
 {
     if word == b"script".as_slice() {
         script(tail.script_count(), words)?;
@@ -35,20 +36,23 @@ fn begins(tail: &mut Tail, alloc: Global, word: &[u8], words: &mut Words) -> Res
 
 /// A setting that may stand here, or what follows the settings.
 fn in_settings(tail: &mut Tail, alloc: Global, word: &[u8], words: &mut Words) -> Result<(), Stop>
-    ensures { Gives (λ _. tail_shown tail.new) result (in_settings (tail_shown tail.old) word.now words.old) }
+    requires few_kinds { length tail.old.text.kinds ≤ 4 }
+    ensures says { Gives (λ _. tail_shown tail.new) result (in_settings (tail_shown tail.old) word.now words.old) }
+    ensures kept { tail.new.text ≡ tail.old.text }
 {
-    if word == b"slots".as_slice() && tail.stage.may_set_slots() {
-        tail.slots = setting(words)?;
-        tail.stage = Stage::Phases;
+    if word == b"slots".as_slice() && tail.stage.is_after_text() {
+        let kinds = tail.text.kinds.items();
+        let slots = slots_of_kind(tail.version, kinds, tail.next_kind, words)?;
+        tail.set_slots(slots);
         Ok(())
-    } else if word == b"phases".as_slice() && tail.stage.may_set_phases() {
+    } else if word == b"phases".as_slice() && tail.stage.is_after_text() {
         let phases = both_phases(words)?;
         tail.first = phases.first;
         tail.last = phases.last;
         tail.stage = Stage::Fuel;
         Ok(())
     } else if word == b"fuel".as_slice() && tail.stage.may_set_fuel() {
-        tail.fuel = setting(words)?;
+        tail.fuel = fuel(words)?;
         tail.stage = Stage::Scripts;
         Ok(())
     } else {
@@ -71,7 +75,8 @@ fn in_calls(
     word: &[u8],
     words: &mut Words,
 ) -> Result<(), Stop>
-    ensures { Gives (λ _. tail_shown tail.new) result (in_calls (tail_shown tail.old) line word.now words.old) }
+    ensures says { Gives (λ _. tail_shown tail.new) result (in_calls (tail_shown tail.old) line word.now words.old) }
+    ensures kept { tail.new.text ≡ tail.old.text }
 {
     if reserved(word) {
         return begins(tail, alloc, word, words);
@@ -83,7 +88,8 @@ fn in_calls(
 
 /// A turn: at most 100,000.
 fn in_schedule(tail: &mut Tail, word: &[u8], words: &mut Words) -> Result<(), Stop>
-    ensures { Gives (λ _. tail_shown tail.new) result (in_schedule (tail_shown tail.old) word.now words.old) }
+    ensures says { Gives (λ _. tail_shown tail.new) result (in_schedule (tail_shown tail.old) word.now words.old) }
+    ensures kept { tail.new.text ≡ tail.old.text }
 {
     let turn = turn(word, words)?;
     if tail.schedule.items().len() >= MOST_TURNS {
@@ -101,7 +107,9 @@ pub(crate) fn in_stage(
     word: &[u8],
     words: &mut Words,
 ) -> Result<(), Stop>
-    ensures { Gives (λ _. tail_shown tail.new) result (in_stage (tail_shown tail.old).stage (tail_shown tail.old) line word.now words.old) }
+    requires few_kinds { length tail.old.text.kinds ≤ 4 }
+    ensures says { Gives (λ _. tail_shown tail.new) result (in_stage (tail_shown tail.old).stage (tail_shown tail.old) line word.now words.old) }
+    ensures kept { tail.new.text ≡ tail.old.text }
 {
     match tail.stage {
         Stage::Calls => in_calls(tail, alloc, line, word, words),

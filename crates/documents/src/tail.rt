@@ -1,24 +1,24 @@
 //! What the lines of a document after its text say so far.
 
-ghost use Rattle.std.specs.Prelude.{◌≡◌, [], length, IfOk};
-ghost use Rattle.documents.specs.DocumentRead.{empty_tail, may_set_slots, may_set_phases, may_set_fuel, whole_scripts, with_script, with_schedule, document_of};
-ghost use Rattle.documents.specs.TailShown.{stage_shown, tail_shown};
+ghost use Rattle.std.specs.Prelude.{◌≡◌, [], length, replicate, IfOk};
+ghost use Rattle.documents.specs.DocumentRead.{default_slots, empty_tail, is_after_text, may_set_fuel, with_slots, whole_scripts, with_script, with_schedule, document_of};
+ghost use Rattle.documents.specs.TailShown.{stage_shown, tail_shown, slots_shown};
 
 use crate::document::{
-    DEFAULT_FIRST, DEFAULT_FUEL, DEFAULT_LAST, DEFAULT_SLOTS, Document, Script, Scripts, Turns,
+    DEFAULT_FIRST, DEFAULT_FUEL, DEFAULT_LAST, DEFAULT_SLOTS, Document, Numbers, Script, Scripts,
+    Turns,
 };
+use crate::settings::Slots;
 use norm_lang::list::Listed;
-use norm_lang::text::Text;
+use norm_lang::text::{Text, Version};
 use std::alloc::{AllocError, Global};
 use std::mem;
 
 /// Where after a document's text the next line stands.
 #[derive(Clone, Copy, PartialEq, Eq)]
 pub(crate) enum Stage {
-    /// Right after the text: each setting may follow.
+    /// After the text, and maybe lines that set slots: each setting may follow.
     Slots,
-    /// After `slots`.
-    Phases,
     /// After `phases`.
     Fuel,
     /// After `fuel`.
@@ -30,33 +30,37 @@ pub(crate) enum Stage {
 }
 
 impl Stage {
-    /// Whether the slots may be set here.
-    pub(crate) fn may_set_slots(self) -> bool
-        ensures { result ≡ may_set_slots (stage_shown self) }
+    /// Whether slots and phases may be set here.
+    pub(crate) fn is_after_text(self) -> bool
+        ensures { result ≡ is_after_text (stage_shown self) }
     {
         matches!(self, Stage::Slots)
-    }
-
-    /// Whether the phases may be set here.
-    pub(crate) fn may_set_phases(self) -> bool
-        ensures { result ≡ may_set_phases (stage_shown self) }
-    {
-        matches!(self, Stage::Slots | Stage::Phases)
     }
 
     /// Whether the fuel may be set here.
     pub(crate) fn may_set_fuel(self) -> bool
         ensures { result ≡ may_set_fuel (stage_shown self) }
     {
-        matches!(self, Stage::Slots | Stage::Phases | Stage::Fuel)
+        matches!(self, Stage::Slots | Stage::Fuel)
     }
 }
 
-/// The settings, the scripts that are whole, the script that lines stand in, and the turns.
+/// The slots of each kind in a document that doesn't set them.
+fn default_slots(alloc: Global, kinds: usize) -> Result<Numbers, AllocError>
+    ensures { IfOk result (λ slots. slots ≡ replicate kinds default_slots) }
+{
+    Ok(Listed::from_vec(vec![in alloc; DEFAULT_SLOTS; kinds]?))
+}
+
+/// The version of the lines and the text before them, the settings, the scripts that are whole, the script that lines stand
+/// in, and the turns. Slots may still be set of the kinds from `next_kind` on.
 #[derive(Drop)]
 pub(crate) struct Tail {
+    pub(crate) version: Version,
+    pub(crate) text: Text,
     pub(crate) stage: Stage,
-    pub(crate) slots: u64,
+    pub(crate) next_kind: usize,
+    pub(crate) slots: Numbers,
     pub(crate) first: u64,
     pub(crate) last: u64,
     pub(crate) fuel: u64,
@@ -67,19 +71,33 @@ pub(crate) struct Tail {
 
 impl Tail {
     /// No line after the text has been read: the settings are the defaults.
-    pub(crate) fn empty(alloc: Global) -> Tail
-        ensures { tail_shown result ≡ empty_tail }
+    pub(crate) fn empty(alloc: Global, version: Version, text: Text) -> Result<Tail, AllocError>
+        ensures says { IfOk result (λ tail. tail_shown tail ≡ empty_tail version text.kinds) }
+        ensures kept { IfOk result (λ tail. tail.text ≡ text) }
     {
-        Tail {
+        let slots = default_slots(alloc, text.kinds.items().len())?;
+        Ok(Tail {
+            version,
+            text,
             stage: Stage::Slots,
-            slots: DEFAULT_SLOTS,
+            next_kind: 0,
+            slots,
             first: DEFAULT_FIRST,
             last: DEFAULT_LAST,
             fuel: DEFAULT_FUEL,
             scripts: Listed::empty(alloc),
             script: Listed::empty(alloc),
             schedule: Listed::empty(alloc),
-        }
+        })
+    }
+
+    /// The slots of a kind are set, and may be set of later kinds.
+    pub(crate) fn set_slots(&mut self, slots: Slots)
+        ensures says { tail_shown self.new ≡ with_slots (tail_shown self.old) (slots_shown slots) }
+        ensures kept { self.new.text ≡ self.old.text }
+    {
+        self.slots.replace(slots.owner as usize, slots.count);
+        self.next_kind = slots.owner as usize + 1;
     }
 
     /// How many scripts there are, with the one that lines stand in.
@@ -96,7 +114,8 @@ impl Tail {
 
     /// The script that lines stood in is whole.
     fn end_script(&mut self, alloc: Global) -> Result<(), AllocError>
-        ensures { IfOk result (λ _. tail_shown self.new ≡ record (tail_shown self.old) { scripts = whole_scripts (tail_shown self.old); script = [] }) }
+        ensures says { IfOk result (λ _. tail_shown self.new ≡ record (tail_shown self.old) { scripts = whole_scripts (tail_shown self.old); script = [] }) }
+        ensures kept { self.new.text ≡ self.old.text }
     {
         let script = mem::replace(&mut self.script, Listed::empty(alloc));
         if self.stage == Stage::Calls {
@@ -107,7 +126,8 @@ impl Tail {
 
     /// The next script begins.
     pub(crate) fn begin_script(&mut self, alloc: Global) -> Result<(), AllocError>
-        ensures { IfOk result (λ _. tail_shown self.new ≡ with_script (tail_shown self.old)) }
+        ensures says { IfOk result (λ _. tail_shown self.new ≡ with_script (tail_shown self.old)) }
+        ensures kept { self.new.text ≡ self.old.text }
     {
         self.end_script(alloc)?;
         self.stage = Stage::Calls;
@@ -116,21 +136,22 @@ impl Tail {
 
     /// The schedule begins.
     pub(crate) fn begin_schedule(&mut self, alloc: Global) -> Result<(), AllocError>
-        ensures { IfOk result (λ _. tail_shown self.new ≡ with_schedule (tail_shown self.old)) }
+        ensures says { IfOk result (λ _. tail_shown self.new ≡ with_schedule (tail_shown self.old)) }
+        ensures kept { self.new.text ≡ self.old.text }
     {
         self.end_script(alloc)?;
         self.stage = Stage::Turns;
         Ok(())
     }
 
-    /// The document of a text and of what is said after it.
-    pub(crate) fn into_document(self, alloc: Global, text: Text) -> Result<Document, AllocError>
-        ensures { IfOk result (λ document. document ≡ document_of text (tail_shown self)) }
+    /// The document of the text and of what is said after it.
+    pub(crate) fn into_document(self, alloc: Global) -> Result<Document, AllocError>
+        ensures { IfOk result (λ document. document ≡ document_of self.text (tail_shown self)) }
     {
         let mut tail = self;
         tail.end_script(alloc)?;
         Ok(Document {
-            text,
+            text: tail.text,
             slots: tail.slots,
             first: tail.first,
             last: tail.last,

@@ -10,13 +10,14 @@ use target_code::target::{Target, TargetInstr};
 use target_reader::read_target;
 
 /// The queue's `enqueue`, with its checks and guards.
-const ENQUEUE: &[u8] = b"oat 1
-field value num
-field next ref
-nodes 1
+const ENQUEUE: &[u8] = b"oat 2
+kind item
+field item value num
+field item next ref item
+nodes item 1
 node 0 null
-root head ref @1
-root tail ref @1
+root head ref item @1
+root tail ref item @1
 op enqueue 1
 gen
 root r0 tail
@@ -30,7 +31,7 @@ grd r1
 chk
 casroot tail r0 r1 0
 jump 0
-new r3
+new r3 item
 chk
 put r3 value n0
 grd r0

@@ -2,6 +2,7 @@
 use Rattle.std.proofs.Common.{◌≡◌, ℕ, ◌∙◌, ◌++◌, List, [], ◌∷◌, refl, ap, subst, Bool, true, false, arith}
 use Rattle.std.specs.List.{AllByRecursion}
 use Rattle.std.specs.Prelude.{slice_index_or}
+use Rattle.phase_pools.specs.declared.stages.Scheme.TheVariants.{Warned}
 use Rattle.phase_pools.specs.declared.stages.ClaimStage.TheVariants as stages
 use Rattle.oa_words.specs.Words.{Phase, Head}
 use Rattle.oa_words.specs.Packed.{head_parts}
@@ -35,7 +36,7 @@ abbrev no_step : StepMade
 no_step = record { entry = idle_entry 0; found = 0 }
 
 abbrev no_claim : Claim
-no_claim = record { stage = stages.ReadHead; sweeps = 0; sweep = sweep_begun }
+no_claim = record { kind = 0; stage = stages.ReadHead; sweeps = 0; sweep = sweep_begun Warned }
 
 abbrev claim_of : Routine → Claim
 claim_of (Claims claim) = claim
@@ -88,17 +89,17 @@ ends_there steps h =
     let is : claim_at h.1 ≡ h.3.claim = ap claim_of h.3.claims in
     ap (λ (step : StepMade). (claim_at step).stage) last ∙ ap (λ (claim : Claim). claim.stage) is ∙ h.3.looks
 
-not_head : Loads Head ≡ Loads Phase → ⊥
-not_head is = cc
+not_head : (k : ℕ) → Loads (Head k) ≡ Loads Phase → ⊥
+not_head k is = cc
 
 -- neither the step at a call's begin nor a look is a sweep's load of the phase
 no_sweep : AllByRecursion (λ (step : StepMade). IsSweepsPhaseLoad step → ⊥) (wanting 1 2)
 unfolding wants after
-no_sweep = ((λ h. let is : _ ≡ Claims h.0 = h.1 in cc), ((λ h. let is : claim_at (at 1 (wanting 1 2)) ≡ h.0 = ap claim_of h.1 in let loads : claim_wants h.0 ≡ Loads Phase = h.2 in not_head (ap claim_wants is ∙ loads)), tt))
+no_sweep = ((λ h. let is : _ ≡ Claims h.0 = h.1 in cc), ((λ h. let is : claim_at (at 1 (wanting 1 2)) ≡ h.0 = ap claim_of h.1 in let loads : claim_wants h.0 ≡ Loads Phase = h.2 in not_head 0 (ap claim_wants is ∙ loads)), tt))
 
 -- the third look of a claim whose second sweep has ended
 abbrev third_look : Claim
-third_look = record { stage = stages.ReadHead; sweeps = 2; sweep = record { stage = sweeps.ReadStatus 1; bound = 3; gathered = [] } }
+third_look = record { kind = 0; stage = stages.ReadHead; sweeps = 2; sweep = record { scheme = Warned; stage = sweeps.ReadStatus 1; bound = 3; low = 3; gathered = [] } }
 
 third_looks : (last_of (wanting 1000 46)).entry.routine ≡ Claims third_look
 unfolding wants after

@@ -1,7 +1,8 @@
 -- States that don't stay in the row: each breaks the conjunct that speaks of it.
-use Rattle.std.proofs.Common.{◌≡◌, ℕ, ◌≤◌, ◌<◌, refl, arith, true, false}
+use Rattle.std.proofs.Common.{◌≡◌, ℕ, ◌≤◌, ◌<◌, inl, inr, refl, arith, true, false}
+use Rattle.oa_words.specs.SlotKinds.{IsNullOrOf}
 use Rattle.caller_steps.specs.Wants.{wants}
-use Rattle.law_rows.specs.RowStates.{PhaseRows, OutOfRow, StrangeEntries}
+use Rattle.law_rows.specs.RowStates.{phases_setting, PhaseRows, OutOfRow, StrangeEntries}
 
 pub phase_rows : PhaseRows
 phase_rows = record {
@@ -12,13 +13,18 @@ phase_rows = record {
   phase_word = λ h. omega arith;
   warning = λ h. omega arith;
   status = omega arith;
-  head = (omega arith, omega arith);
+  head = (omega arith, inr (omega arith, omega arith, refl));
   late_status = λ h. omega arith;
-  late_head = λ h. omega arith;
+  late_head = λ h. let is : 10 ≤ 9 = h.0 in omega arith;
 }
 
 three_is_more : ◌≤◌ 3 2 → ⊥
 three_is_more h = omega arith
+
+-- slot 3 is neither null nor of the kind
+none_of_kind : IsNullOrOf phases_setting.sizes 0 3 → ⊥
+none_of_kind (inl null) = let is : ◌≡◌ {A = ℕ} 3 0 = null in omega arith
+none_of_kind (inr slot) = three_is_more slot.1
 
 pub out_of_row : OutOfRow
 unfolding wants
@@ -26,11 +32,11 @@ out_of_row = record {
   start = refl;
   register = λ h. three_is_more (h.registers 0 3 _ refl);
   started = λ h. three_is_more (h.started 0 3 _ refl);
-  field = λ h. three_is_more (h.fields 1 1 0 refl refl);
-  root = λ h. three_is_more (h.roots 0 0 refl refl);
+  field = λ h. none_of_kind (h.fields 0 1 0 refl refl);
+  root = λ h. none_of_kind (h.roots 0 0 refl refl);
   hazard = λ h. three_is_more (h.hazards 0 7 refl);
-  link = λ h. three_is_more (h.links 2 refl);
-  top = λ h. three_is_more h.top;
+  link = λ h. none_of_kind (h.links 2 refl);
+  top = λ h. none_of_kind (h.top 0 (omega arith));
   longer = λ h. let is : ◌≡◌ {A = ℕ} 26 25 = h.words in omega arith;
   shorter = λ h. let is : ◌≡◌ {A = ℕ} 24 25 = h.words in omega arith;
   wanted = λ h. let is : 41 < 25 = (h.wanted 0 _ _ refl refl).0 in omega arith;
@@ -40,7 +46,7 @@ out_of_row = record {
   late_warning = λ h. let is : 10 ≤ 9 = (h.warnings 0 refl).1 in omega arith;
   no_kind = λ h. h.statuses 2 refl;
   late_status = λ h. let is : 10 ≤ 9 = h.statuses 2 refl in omega arith;
-  early_head = λ h. let is : 6 ≤ 5 = h.stamped in omega arith;
+  early_head = λ h. let is : 6 ≤ 5 = h.stamped 0 (omega arith) in omega arith;
 }
 
 not_so : false ≡ true → ⊥
@@ -54,7 +60,7 @@ strange_entries = record {
   started = λ h. three_is_more (h.hand.started.within 3);
   guard = λ h. three_is_more (h.hand.guards.within 0);
   cradle = λ h. three_is_more (h.cradles.within 3);
-  three_cradles = λ h. let is : ◌≡◌ {A = ℕ} 3 4 = h.cradles.count in omega arith;
+  three_cradles = λ h. let is : ◌≡◌ {A = ℕ} 3 16 = h.cradles.count in omega arith;
   seven_guards = λ h. let is : ◌≡◌ {A = ℕ} 7 8 = h.hand.guards.row.slots in omega arith;
   seen = λ h. let is : 10 ≤ 9 = h.hand.seen in omega arith;
   past_the_end = λ h. let is : 7 < 7 = h.reaches.inside in omega arith;

@@ -6,8 +6,8 @@ use Rattle.std.proofs.lemmas.List.Sorted.{sum_by-IsPermutation}
 use mathlib.Core.Option.{some, none}
 use lib.ListN.{get_elem?}
 use Rattle.caller_steps.specs.Entries.{Entry, RoomyEntry, idle_entry, is_idle}
-use Rattle.table_rule.specs.Seen.{Fixed, SeatView, nobody}
-use Rattle.table_rule.specs.Rule.{IsPlace, IsSeen, held}
+use Rattle.word_runner.specs.table_rule.Seen.{Fixed, SeatView, nobody}
+use Rattle.word_runner.specs.table_rule.Rule.{IsPlace, IsSeen, held}
 use Rattle.law_rows.specs.TableStates.{ShownRows, NotShownRows, NotClosedRows, with_reply, as_made, two_key, table_words, core_with, at_start, with_begun, begun, seat, seat_with, seat_found}
 
 -- ---- states that are shown

@@ -6,6 +6,7 @@ use Rattle.guard_words.specs.Guards.{no_guards}
 use Rattle.phase_pools.specs.declared.stages.SweepStage.TheVariants as sweeps
 use Rattle.phase_pools.specs.declared.stages.ClaimStage.TheVariants as stages
 use Rattle.phase_pools.specs.declared.stages.RetireStage.TheVariants as retiring
+use Rattle.phase_pools.specs.declared.stages.Scheme.TheVariants.{Warned}
 use Rattle.phase_pools.specs.Pools.{sweep_begun}
 use Rattle.caller_parts.specs.declared.routine.AfterRetire.TheVariants as retires
 use Rattle.caller_parts.specs.declared.routine.Routine.{Routine}
@@ -13,7 +14,7 @@ use Rattle.caller_parts.specs.declared.routine.Routine.TheVariants.{Retires, Cla
 use Rattle.caller_steps.specs.declared.entry.Hand.{Hand}
 use Rattle.caller_steps.specs.Entries.{Entry, idle_entry, empty_hand}
 use Rattle.core_runs.specs.Machine.{CoreState, core_start}
-use Rattle.core_rows.specs.Short.{r1}
+use Rattle.core_rows.specs.Short.{r1, cradles_of}
 use Rattle.claim_laws.specs.Untouched.{IsUntouched}
 use Rattle.corner_rows.specs.CornerTargets.{four_target}
 use Rattle.corner_rows.specs.FourRows.{four_setting}
@@ -58,8 +59,8 @@ pub record TouchedRows : Type 0 where
   pub register : Untouched (hand_alone (record empty_hand { registers = fourth })) → ⊥
   pub started : Untouched (hand_alone (record empty_hand { started = fourth })) → ⊥
   pub guard : Untouched (hand_alone (record empty_hand { guards = record no_guards { slots = 0 ∷ 0 ∷ 4 ∷ 0 ∷ 0 ∷ 0 ∷ 0 ∷ 0 ∷ [] } })) → ⊥
-  pub cradle : Untouched (held_by (record (idle_entry 0) { cradles = 0 ∷ 0 ∷ 0 ∷ 4 ∷ [] })) → ⊥
+  pub cradle : Untouched (held_by (record (idle_entry 0) { cradles = cradles_of 0 0 0 4 })) → ⊥
   -- that is retired, that a claim has taken, and that a sweep has gathered
   pub retired : Untouched (routine_alone (Retires (record { slot = 4; stage = retiring.ReadPhase }) retires.Next)) → ⊥
-  pub taken : Untouched (routine_alone (Claims (record { stage = stages.StoreUsed 1 4; sweeps = 0; sweep = sweep_begun }))) → ⊥
-  pub gathered : Untouched (routine_alone (Claims (record { stage = stages.Sweeps; sweeps = 0; sweep = record { stage = sweeps.ReadStatus 4; bound = 2; gathered = 1 ∷ 4 ∷ [] } }))) → ⊥
+  pub taken : Untouched (routine_alone (Claims (record { kind = 0; stage = stages.StoreUsed 1 4; sweeps = 0; sweep = sweep_begun Warned }))) → ⊥
+  pub gathered : Untouched (routine_alone (Claims (record { kind = 0; stage = stages.Sweeps; sweeps = 0; sweep = record { scheme = Warned; stage = sweeps.ReadStatus 4; bound = 2; low = 2; gathered = 1 ∷ 4 ∷ [] } }))) → ⊥

@@ -5,6 +5,7 @@ use Rattle.norm_lang.specs.Registers.{first_registers, with_reference}
 use Rattle.oa_words.specs.Words.{Phase, Warning, Status, Head}
 use Rattle.phase_pools.specs.declared.stages.RetireStage.TheVariants as stages
 use Rattle.guard_words.specs.Guards.{no_guards}
+use Rattle.phase_pools.specs.declared.stages.Scheme.TheVariants.{Warned}
 use Rattle.phase_pools.specs.Pools.{claim_begun}
 use Rattle.caller_parts.specs.declared.routine.AfterRetire.TheVariants as retires
 use Rattle.caller_parts.specs.declared.routine.MethodStart.TheVariants as starts
@@ -16,9 +17,9 @@ use Rattle.caller_steps.specs.declared.entry.Hand.{Hand}
 use Rattle.caller_steps.specs.Belongs.{Belongs}
 use Rattle.caller_steps.specs.Lawful.{LawfulPhase, IsLawful}
 use Rattle.core_runs.specs.Machine.{CoreState, core_start}
-use Rattle.core_rows.specs.Short.{r3, call_of, setting_of}
+use Rattle.core_rows.specs.Short.{r3, call_of, setting_of, cradles_of}
 use Rattle.core_rows.specs.SmallTargets.{pair_target}
-use Rattle.core_sound.specs.Sound.{StaysInRow}
+use Rattle.core_runs.specs.core_sound.Sound.{StaysInRow}
 
 -- one caller, two slots of a number and a reference, one root, and the phases 5 to 9
 abbrev pub phases_setting : Setting
@@ -36,10 +37,10 @@ pub record PhaseRows : Type 0 where
   pub warning : IsLawful pair_target phases_setting (Warning 0) 4 → ⊥
   -- a status and a head may have an earlier phase than the first: 4 times 4, and 1 for used; 8192 times 4, and the slot 2
   pub status : IsLawful pair_target phases_setting (Status 1) 17
-  pub head : IsLawful pair_target phases_setting Head 32770
+  pub head : IsLawful pair_target phases_setting (Head 0) 32770
   -- but none after the last
   pub late_status : IsLawful pair_target phases_setting (Status 1) 41 → ⊥
-  pub late_head : IsLawful pair_target phases_setting Head 81922 → ⊥
+  pub late_head : IsLawful pair_target phases_setting (Head 0) 81922 → ⊥
 
 -- ---- words
 
@@ -128,7 +129,7 @@ pub record StrangeEntries : Type 0 where
   pub register : BelongsThere (idle_with (record seen_first { registers = names_third })) → ⊥
   pub started : BelongsThere (idle_with (record seen_first { started = names_third })) → ⊥
   pub guard : BelongsThere (idle_with (record seen_first { guards = record no_guards { slots = 3 ∷ 0 ∷ 0 ∷ 0 ∷ 0 ∷ 0 ∷ 0 ∷ 0 ∷ [] } })) → ⊥
-  pub cradle : BelongsThere (record (idle_entry 0) { cradles = 0 ∷ 0 ∷ 0 ∷ 3 ∷ [] }) → ⊥
+  pub cradle : BelongsThere (record (idle_entry 0) { cradles = cradles_of 0 0 0 3 }) → ⊥
   -- three cradles, and seven guards
   pub three_cradles : BelongsThere (record (idle_entry 0) { cradles = 0 ∷ 0 ∷ 0 ∷ [] }) → ⊥
   pub seven_guards : BelongsThere (idle_with (record seen_first { guards = record no_guards { slots = 0 ∷ 0 ∷ 0 ∷ 0 ∷ 0 ∷ 0 ∷ 0 ∷ [] } })) → ⊥
@@ -142,6 +143,6 @@ pub record StrangeEntries : Type 0 where
   pub empty_list : BelongsThere (stands_at 6 (InList 0)) → ⊥
   pub no_check : BelongsThere (stands_at 0 Restarts) → ⊥
   pub no_new : BelongsThere (stands_at 0 (Zeroes 0 0)) → ⊥
-  pub no_claim : BelongsThere (stands_at 0 (Claims (claim_begun phases_setting.sizes))) → ⊥
+  pub no_claim : BelongsThere (stands_at 0 (Claims (claim_begun phases_setting.sizes 0 Warned))) → ⊥
   pub no_start : BelongsThere (stands_at 2 (LoadSeen starts.Begin)) → ⊥
   pub no_exchange : BelongsThere (stands_at 0 (Retires (record { slot = 1; stage = stages.ReadPhase }) retires.Next)) → ⊥

@@ -10,9 +10,9 @@ use Rattle.core_rows.specs.SmallTexts.{counter_text}
 use Rattle.core_rows.specs.SmallTargets.{counter_target}
 use Rattle.core_rows.specs.ReplayRows.{add}
 use Rattle.core_rows.specs.Stories.{calls}
-use Rattle.table_rule.specs.Closing.{IsClosed}
-use Rattle.table_rule.specs.Seen.{Fixed, SeatView, newcomer, nobody, no_fixed}
-use Rattle.table_rule.specs.Rule.{Shows}
+use Rattle.word_runner.specs.table_rule.Closing.{IsClosed}
+use Rattle.word_runner.specs.table_rule.Seen.{Fixed, SeatView, newcomer, nobody, no_fixed}
+use Rattle.word_runner.specs.table_rule.Rule.{Shows}
 
 -- two callers of the counter, and one slot
 abbrev pub two_setting : Setting

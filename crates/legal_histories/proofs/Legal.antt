@@ -1,8 +1,7 @@
 -- What callers were told has a legal order, since their deeds explain it.
-use Rattle.std.proofs.Common.{ℕ, ◌≡◌, ◌<◌, ◌≤◌, ◌∙◌, ⊎_elim, List, [], ◌∷◌, map, Option, Some, None, true, false, inl, inr, refl, sym, ap, subst, arith}
-use Rattle.std.specs.Prelude.{slice_get, slice_index}
+use Rattle.std.proofs.Common.{ℕ, ◌≡◌, ◌<◌, ◌≤◌, ◌∙◌, ⊎_elim, List, [], ◌∷◌, map, Option, Some, None, true, false, inl, inr, refl, sym, ap, subst}
+use Rattle.std.specs.Prelude.{slice_get}
 use Rattle.std.proofs.lemmas.Bool.{cases_lt}
-use mathlib.Core.Logic.{◌⊎◌}
 use Rattle.norm_lang.specs.declared.text.Text.{Text}
 use Rattle.norm_lang.specs.Shipped.{set_text, queue_text}
 use Rattle.source_machine.specs.declared.event.SourceEvent.{SourceEvent}
@@ -13,11 +12,11 @@ use Rattle.source_machine.specs.declared.state.SourceMachine.{SourceMachine}
 use Rattle.source_machine.specs.State.{source_start}
 use Rattle.source_machine.specs.Run.{IsSourceRun, source_run, source_replies, caller_replies}
 use Rattle.caller_parts.specs.declared.call.Call.{Call}
-use Rattle.begin_laws.specs.Begins.{begun_in}
+use Rattle.run_laws.specs.begin_laws.Begins.{begun_in}
 use Rattle.source_histories.specs.declared.deed.Deed.{Deed}
 use Rattle.source_histories.specs.Deeds.{deeds_in, of_caller}
 use Rattle.source_histories.specs.Books.{Rules, Started, Ended, Log, no_calls, replied_with, book_of}
-use Rattle.source_histories.specs.Answers.{gives_up, reply_of, IsOf, IsOfEnded, TellNow, Tell, AnswersAs}
+use Rattle.source_histories.specs.Answers.{gives_up, reply_of, IsOf, TellNow, Tell, AnswersAs}
 use Rattle.set_laws.specs.Sets.{set_step, set_rules, SetAnswers}
 use Rattle.queue_laws.specs.Queues.{queue_step, queue_rules, QueueAnswers}
 use Rattle.histories.specs.declared.call.Call as told
@@ -26,7 +25,7 @@ use Rattle.histories.specs.declared.call.Answer.{Answer}
 use Rattle.histories.specs.declared.call.Answer.TheVariants.{Number, Nothing, Spent, NoEffect}
 use Rattle.histories.specs.Histories.{Shared, nothing_shared, calls_of}
 use Rattle.legal_histories.specs.Told.{set_action, queue_action, AnswerTold, IsAsked, AreTold, IsLegalWhereTold, SetRunsAreLegal, QueueRunsAreLegal}
-use Rattle.legal_histories.proofs.Ordering.{AnswerFits, IsQuiet, IsDeedOf, Explain, StepFits, has_order}
+use Rattle.legal_histories.proofs.Ordering.{AnswerFits, IsQuiet, Explain, StepFits, has_order}
 use Rattle.legal_histories.proofs.Stepping.{SameKeys, SameValues, set_fits, queue_fits}
 use Rattle.legal_histories.proofs.Logging.{IsStarted, AreLogged, Known, caller_there, no_caller, all_logged}
 

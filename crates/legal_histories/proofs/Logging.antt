@@ -17,8 +17,8 @@ use Rattle.source_machine.specs.Run.{mover, is_call, is_enabled, is_enabled_by, 
 use Rattle.source_machine.specs.MethodRuns.{put}
 use Rattle.source_machine.proofs.Places.{put_same, put_other}
 use Rattle.caller_parts.specs.declared.call.Call.{Call}
-use Rattle.begin_laws.specs.Begins.{begun_by, begun_in}
-use Rattle.source_histories.specs.Books.{Rules, Started, Ended, Log, no_calls, last_reply, log_ended, logged_by, begins_run, again_now, log_again, logged, Book, book_start, book_turned, book_by, book_step, book_run, book_of}
+use Rattle.run_laws.specs.begin_laws.Begins.{begun_by, begun_in}
+use Rattle.source_histories.specs.Books.{Rules, Started, Ended, Log, no_calls, last_reply, log_ended, logged_by, begins_run, again_now, log_again, logged, Book, book_start, book_by, book_step, book_run, book_of}
 
 -- a call that was begun is the one that is written down
 pub record IsStarted (call : Call) (s : Started) : Type 0 where

@@ -5,14 +5,11 @@ use Rattle.std.specs.List.{filter}
 use Rattle.std.proofs.lemmas.Bool.{cases_eq}
 use Rattle.std.proofs.lemmas.Bool.Decides.{nat_tests}
 use Rattle.source_machine.specs.Proper.{has}
-use Rattle.source_histories.specs.declared.deed.Deed.{Deed}
 use Rattle.set_laws.specs.Sets.{if_right, with_key, without_key, inserted, removed, searched, after_reply, set_step}
 use Rattle.set_laws.proofs.Keys.{has_with, has_without, has_taken}
 use Rattle.queue_laws.specs.Queues.{queue_step, enqueued, dequeued}
-use Rattle.histories.specs.declared.call.Action.{Action}
 use Rattle.histories.specs.declared.call.Action.TheVariants.{Insert, Remove, Contains, Enqueue, Dequeue}
-use Rattle.histories.specs.declared.call.Answer.{Answer}
-use Rattle.histories.specs.declared.call.Answer.TheVariants.{Number, Nothing}
+use Rattle.histories.specs.declared.call.Answer.TheVariants.{Number}
 use Rattle.histories.specs.Histories.{Shared, has_key, number_of, first_value, reply_to, after}
 use Rattle.legal_histories.specs.Told.{set_action, queue_action}
 use Rattle.legal_histories.proofs.Ordering.{StepFits, answer_of}

@@ -7,7 +7,7 @@ use Rattle.source_machine.specs.declared.event.SourceReply.TheVariants as replie
 use Rattle.source_machine.specs.declared.state.SourceMachine.{SourceMachine}
 use Rattle.source_machine.specs.Run.{IsSourceRun, source_replies}
 use Rattle.caller_parts.specs.declared.call.Call.{Call}
-use Rattle.begin_laws.specs.Begins.{begun_in}
+use Rattle.run_laws.specs.begin_laws.Begins.{begun_in}
 use Rattle.histories.specs.declared.call.Call as told
 use Rattle.histories.specs.declared.call.Action.{Action}
 use Rattle.histories.specs.declared.call.Action.TheVariants.{Insert, Remove, Contains, Enqueue, Dequeue}

@@ -1,6 +1,6 @@
 -- The faults of a line by their numbers, and those of a text.
 use Rattle.std.specs.Prelude.{ℕ}
-use Rattle.norm_lang.specs.Faults.{byte_fault, number_fault, line_long, form_fault, unknown_name, repeated, too_many}
+use Rattle.norm_lang.specs.Faults.{byte_fault, number_fault, line_long, form_fault, unknown_name, repeated, too_many, mismatch}
 use Rattle.line_words.specs.declared.fault.Fault.{Fault}
 use Rattle.line_words.specs.declared.fault.Fault.TheVariants as faults
 use Rattle.line_words.specs.declared.fault.Stop.{Stop}
@@ -17,6 +17,7 @@ number_of_fault faults.Form = form_fault
 number_of_fault faults.UnknownName = unknown_name
 number_of_fault faults.Repeated = repeated
 number_of_fault faults.TooMany = too_many
+number_of_fault faults.Mismatch = mismatch
 
 -- where a line's reader stopped, with the line
 abbrev pub stopped_at : ℕ → Stop → ParseError

@@ -18,12 +18,14 @@ pub enum Fault {
     LineLong,
     /// Its words make no line that may stand there.
     Form,
-    /// It names a field, a root or an initial node that isn't declared.
+    /// It names a kind, a field, a root or an initial node that isn't declared.
     UnknownName,
     /// It declares a name that was declared for the same kind of thing.
     Repeated,
     /// It passes a limit.
     TooMany,
+    /// It gives an initial node where one of another kind must stand.
+    Mismatch,
 }
 
 impl Fault {
@@ -39,13 +41,14 @@ impl Fault {
             Fault::UnknownName => 5,
             Fault::Repeated => 6,
             Fault::TooMany => 7,
+            Fault::Mismatch => 8,
         }
     }
 }
 
-/// The first line that has a fault, from 1, and its first fault in the order 3, 1, 4, 2, 5, 6, 7: 1 a byte that may not
+/// The first line that has a fault, from 1, and its first fault in the order 3, 1, 4, 2, 5, 6, 7, 8: 1 a byte that may not
 /// stand, 2 a number above 2^64 - 1, 3 a line of more than 200 bytes, 4 words that make no line that may stand there, 5 a
-/// name that isn't declared, 6 a name that is declared again, 7 a limit passed.
+/// name that isn't declared, 6 a name that is declared again, 7 a limit passed, 8 an initial node of another kind.
 #[derive(Clone, Copy, Debug, PartialEq, Eq)]
 pub struct ParseFault {
     pub line: u32,

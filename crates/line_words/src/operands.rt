@@ -1,18 +1,44 @@
-//! The words after the first that several instruction lines have: registers, fields and roots by their names, the place of a
+//! The words after the first that several lines have: kinds, fields and roots by their names, registers, the place of a
 //! jump, and `retire R`.
 
 ghost use Rattle.std.specs.Prelude.{◌≡◌, ◌≤◌, ◌<◌, length, IfSome};
 ghost use Rattle.std.specs.List.{position};
 ghost use Rattle.std.specs.Str.{bytes_eq};
-ghost use Rattle.norm_lang.specs.LineWords.{up_to};
+ghost use Rattle.norm_lang.specs.Faults.{unknown_name, or_fault};
+ghost use Rattle.norm_lang.specs.LineWords.{kind_named, up_to};
 ghost use Rattle.norm_lang.specs.Instructions.{field_named, root_named, one_register, two_registers, three_registers, retire_at, target_at};
 ghost use Rattle.line_words.specs.Answered.{Reads};
 
 use crate::fault::Fault;
 use crate::words::{Words, up_to, value_of};
-use norm_lang::text::{FieldDecl, Reg, RootDecl};
+use norm_lang::text::{FieldDecl, Name, Reg, RootDecl};
 
 const LAST_TARGET: u64 = 65535;
+
+fn kind_place(kinds: &[Name], name: &[u8]) -> Option<usize>
+    ensures place { result ≡ position (λ kind. bytes_eq kind name.now) kinds.now }
+    ensures within { IfSome result (λ place. place < length kinds.now) }
+{
+    kinds.iter().position(|kind| kind.items() == name)
+}
+
+/// The number of the kind so named, if it is declared.
+pub fn kind_named(kinds: &[Name], name: &[u8]) -> Option<u8>
+    requires { length kinds.now ≤ 4 }
+    ensures { result ≡ kind_named kinds.now name.now }
+{
+    match kind_place(kinds, name) {
+        Some(place) => Some(place as u8),
+        None => None,
+    }
+}
+
+/// The kind that a line means, which must be declared.
+pub fn known(owner: Option<u8>) -> Result<u8, Fault>
+    ensures { Reads (λ k. k) result (or_fault unknown_name owner) }
+{
+    owner.ok_or(Fault::UnknownName)
+}
 
 fn field_place(fields: &[FieldDecl], name: &[u8]) -> Option<usize>
     ensures place { result ≡ position (λ field. bytes_eq field.name name.now) fields.now }
@@ -23,7 +49,7 @@ fn field_place(fields: &[FieldDecl], name: &[u8]) -> Option<usize>
 
 /// The number of the field so named.
 pub fn field_number(fields: &[FieldDecl], name: &[u8]) -> Result<u8, Fault>
-    requires { length fields.now ≤ 4 }
+    requires { length fields.now ≤ 16 }
     ensures { Reads (λ f. f) result (field_named fields.now name.now) }
 {
     match field_place(fields, name) {

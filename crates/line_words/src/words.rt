@@ -1,23 +1,24 @@
 //! The words of a line, taken one by one.
 
-ghost use Rattle.std.specs.Prelude.{◌≡◌, ◌≤◌, [], ◌∷◌, Ok, Err, IfOk, MatchOption, drop};
+ghost use Rattle.std.specs.Prelude.{◌≡◌, ◌-◌, ◌≤◌, ◌<◌, slice_get, length, [], ◌∷◌, Ok, Err, IfOk, MatchOption, drop};
 ghost use Rattle.std.specs.List.{list_all};
 ghost use Rattle.oa_text.specs.Shown.{line_shown};
-ghost use Rattle.norm_lang.specs.LineWords.{is_lower, is_name_byte, is_name, word_at, end_at, keyword_at, name_at, number_at, is_positive, positive_at, value_of, up_to, register_of, register_in, register_at, kind_in, kind_at, node_in, start_in, start_at, is_great, node_of, start_of};
+ghost use Rattle.norm_lang.specs.LineWords.{is_lower, is_name_byte, is_name, word_at, end_at, name_at, number_at, is_positive, positive_at, value_of, up_to, register_of, register_in, register_at, owner_at, holding_at, kind_of_holding, spelled_kind, node_in, start_in, start_at, is_great, node_of, start_of, is_owner, is_match};
 ghost use Rattle.norm_lang.specs.Grammar.{is_comment, fault_number};
 ghost use Rattle.line_words.specs.Answered.{Reads};
 ghost use Rattle.line_words.specs.Faults.{number_of_fault};
-ghost use Rattle.line_words.specs.Shown.{start_shown};
+ghost use Rattle.line_words.specs.Shown.{start_shown, holding_shown};
 ghost use Rattle.line_words.specs.Lines.{words_in, first_word};
 
 use crate::fault::Fault;
 use crate::number::number_in;
-use norm_lang::text::{FieldKind, Reg, Start};
+use crate::operands::{kind_named, known};
+use norm_lang::text::{FieldKind, Name, Reg, Start, Version};
 use oa_text::{Line, TextFault, Tokens, tokens};
 use std::marker::Model;
 
-/// The words of a line that are left. Each method but `new` takes one word, also where it answers an error or `None`;
-/// where no word is left, none is left after it.
+/// The words of a line that are left. Each method but `new`, `owner` and `holding` takes one word, also where it answers an
+/// error or `None`; where no word is left, none is left after it.
 #[derive(Drop)]
 pub struct Words<'a> {
     tokens: Tokens<'a>,
@@ -29,6 +30,13 @@ impl<'a> Model for Words<'a> {
     ghost Value = { List (List ℕ) };
 
     ghost view = { λ s. map (λ token. token.bytes) s.tokens };
+}
+
+/// What a field or a root holds, as it is spelled: numbers, or references to nodes of a kind, `None` where it isn't declared.
+#[derive(Clone, Copy)]
+pub enum Holding {
+    Numbers,
+    Nodes(Option<u8>),
 }
 
 /// A first value as it is spelled: a number, `null`, or `@J`. A number that exceeds 2^64 - 1 is none.
@@ -100,18 +108,6 @@ impl<'a> Words<'a> {
         }
     }
 
-    /// This very word.
-    pub fn keyword(&mut self, wanted: &[u8]) -> Result<(), Fault>
-        ensures says { Reads (λ _. self.new) result (keyword_at wanted.now self.old) }
-        ensures taken { self.new ≡ drop 1 self.old }
-    {
-        if self.word()? == wanted {
-            Ok(())
-        } else {
-            Err(Fault::Form)
-        }
-    }
-
     /// A name.
     pub fn name(&mut self) -> Result<&'a [u8], Fault>
         ensures says { Reads (λ name. (name.now, self.new)) result (name_at self.old) }
@@ -150,12 +146,31 @@ impl<'a> Words<'a> {
         register_in(self.word()?)
     }
 
-    /// `num` or `ref`.
-    pub fn kind(&mut self) -> Result<FieldKind, Fault>
-        ensures says { Reads (λ kind. (kind, self.new)) result (kind_at self.old) }
-        ensures taken { self.new ≡ drop 1 self.old }
+    /// The kind that the line means, `None` where it isn't declared. A line of the first version takes no word for it, and
+    /// means the first kind.
+    pub fn owner(&mut self, version: Version, kinds: &[Name]) -> Result<Option<u8>, Fault>
+        requires { length kinds.now ≤ 4 }
+        ensures { Reads (λ owner. (owner, self.new)) result (owner_at version kinds.now self.old) }
     {
-        kind_in(self.word()?)
+        match version {
+            Version::First => Ok(Some(0)),
+            Version::Second => Ok(kind_named(kinds, self.name()?)),
+        }
+    }
+
+    /// `num`, or `ref` and the kind that the line means.
+    pub fn holding(&mut self, version: Version, kinds: &[Name]) -> Result<Holding, Fault>
+        requires { length kinds.now ≤ 4 }
+        ensures { Reads (λ holding. (holding_shown holding, self.new)) result (holding_at version kinds.now self.old) }
+    {
+        let word = self.word()?;
+        if word == b"num".as_slice() {
+            Ok(Holding::Numbers)
+        } else if word == b"ref".as_slice() {
+            Ok(Holding::Nodes(self.owner(version, kinds)?))
+        } else {
+            Err(Fault::Form)
+        }
     }
 
     /// A first value of a kind as it is spelled.
@@ -239,15 +254,23 @@ fn register_in(word: &[u8]) -> Result<Reg, Fault>
     }
 }
 
-fn kind_in(word: &[u8]) -> Result<FieldKind, Fault>
-    ensures { Reads (λ kind. kind) result (kind_in word.now) }
+/// What is held, if its kind is declared.
+pub fn kind_of_holding(holding: Holding) -> Result<FieldKind, Fault>
+    ensures { Reads (λ kind. kind) result (kind_of_holding (holding_shown holding)) }
 {
-    if word == b"num".as_slice() {
-        Ok(FieldKind::Number)
-    } else if word == b"ref".as_slice() {
-        Ok(FieldKind::Reference(0))
-    } else {
-        Err(Fault::Form)
+    match holding {
+        Holding::Numbers => Ok(FieldKind::Number),
+        Holding::Nodes(owner) => Ok(FieldKind::Reference(known(owner)?)),
+    }
+}
+
+/// What is held as far as the spelling of a first value goes: references of all kinds are alike.
+pub fn spelled_kind(holding: Holding) -> FieldKind
+    ensures { result ≡ spelled_kind (holding_shown holding) }
+{
+    match holding {
+        Holding::Numbers => FieldKind::Number,
+        Holding::Nodes(owner) => FieldKind::Reference(owner.unwrap_or(0)),
     }
 }
 
@@ -329,5 +352,29 @@ pub fn start_of(count: u32, start: StartWord) -> Result<Start, Fault>
         StartWord::Value(n) => Ok(Start::Value(value_of(n)?)),
         StartWord::Null => Ok(Start::Node(0)),
         StartWord::At(j) => node_of(count, j),
+    }
+}
+
+/// Whether the initial node of this number is of this kind, where the initial nodes are of these kinds.
+fn owned(owners: &[u8], node: u32, kind: u8) -> bool
+    requires { 0 < node }
+    ensures { result ≡ is_owner (slice_get owners.now (node - 1)) kind }
+{
+    match owners.get(node as usize - 1) {
+        None => false,
+        Some(owner) => *owner == kind,
+    }
+}
+
+/// Whether a first value fits what its place holds, where the initial nodes are of these kinds.
+pub fn fits(owners: &[u8], kind: FieldKind, start: Start) -> bool
+    ensures { result ≡ is_match owners.now kind start }
+{
+    match kind {
+        FieldKind::Number => true,
+        FieldKind::Reference(k) => match start {
+            Start::Value(_) => true,
+            Start::Node(node) => node == 0 || owned(owners, node, k),
+        },
     }
 }

@@ -2,6 +2,7 @@
 #![tactic(auto)]
 
 pub mod duplicate;
+pub mod fields;
 mod forks;
 mod line;
 pub mod list;
@@ -18,5 +19,5 @@ pub use shipped::{shipped_queue, shipped_set};
 pub use spelling::show;
 pub use text::{
     ByteText, CasEntry, Code, Entries, FieldDecl, FieldKind, Fields, Instr, Kinds, Marks, Name,
-    NodeDecl, Nodes, Op, Ops, Place, Reg, RootDecl, Roots, Start, Starts, Text,
+    NodeDecl, Nodes, Op, Ops, Place, Reg, RootDecl, Roots, Start, Starts, Text, Version,
 };

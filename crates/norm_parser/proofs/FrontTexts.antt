@@ -4,6 +4,8 @@ use Rattle.std.proofs.Common.{refl, ap, sym, arith}
 use Rattle.std.proofs.lemmas.Bool.{le-ltb}
 use Rattle.oa_text.specs.Lines.{TextLine, numbered}
 use Rattle.norm_lang.specs.declared.text.Text.{Text}
+use Rattle.norm_lang.specs.declared.text.Version.{Version}
+use Rattle.norm_lang.specs.declared.text.Version.TheVariants.{Second}
 use Rattle.norm_lang.specs.Faults.{LineFault, at_line, ◌>>=◌}
 use Rattle.norm_lang.specs.Grammar.{Start, Opening, Draft, draft_at, after_line, after_lines, finished, text_in}
 use Rattle.norm_parser.specs.FrontRead.{from_line, line_word, ends_text, names_text, text_lines, after_text, end_at, ended, front_in}
@@ -72,29 +74,29 @@ with_end end draft = Ok (draft, end)
 abbrev front_ended : Draft × LineFault → Result (Text × ℕ) LineFault
 front_ended front = ended (finished front.0) front.1
 
-front_whole : (lines : List TextLine) (past : ℕ) (text : Text) → Below past (after_text lines) → front_in lines past ≡ Ok (text, past)
-    → (after_lines (draft_at Opening) lines >>= λ draft. at_line past (finished draft)) ≡ Ok text
-front_whole lines past text below read = go (after_lines (draft_at Opening) (text_lines lines)) refl read
+front_whole : (version : Version) (lines : List TextLine) (past : ℕ) (text : Text) → Below past (after_text lines) → front_in version lines past ≡ Ok (text, past)
+    → (after_lines (draft_at version Opening) lines >>= λ draft. at_line past (finished draft)) ≡ Ok text
+front_whole version lines past text below read = go (after_lines (draft_at version Opening) (text_lines lines)) refl read
   where
-    go : (r : Result Draft LineFault) → after_lines (draft_at Opening) (text_lines lines) ≡ r
+    go : (r : Result Draft LineFault) → after_lines (draft_at version Opening) (text_lines lines) ≡ r
         → ((r >>= with_end (end_at (after_text lines) past)) >>= front_ended) ≡ answer text past
-        → (after_lines (draft_at Opening) lines >>= λ draft. at_line past (finished draft)) ≡ Ok text
+        → (after_lines (draft_at version Opening) lines >>= λ draft. at_line past (finished draft)) ≡ Ok text
     go (Err fault) so_far read = absurd (let f : ⊥ = cc in f)
     go (Ok draft) so_far read =
         let ends = ends_past (finished draft) (after_text lines) past text below read in
-        let all : after_lines (draft_at Opening) lines ≡ Ok draft = rw (whole lines ends.1) at so_far in
+        let all : after_lines (draft_at version Opening) lines ≡ Ok draft = rw (whole lines ends.1) at so_far in
         rw (all, ends.0) refl
 
 -- the version line, and then the others
-version_then : (version : List ℕ) (rest : List (List ℕ)) (text : Text)
-    → after_line (draft_at Start) (record { number = 1; bytes = version }) ≡ Ok (draft_at Opening)
-    → front_in (from_line 2 (numbered 1 (version ∷ rest))) (length (version ∷ rest) + 1) ≡ Ok (text, length (version ∷ rest) + 1)
-    → text_in (version ∷ rest) ≡ Ok text
-version_then version rest text first read =
-    let past = length (version ∷ rest) + 1 in
+version_then : (first : List ℕ) (rest : List (List ℕ)) (version : Version) (text : Text)
+    → after_line (draft_at Second Start) (record { number = 1; bytes = first }) ≡ Ok (draft_at version Opening)
+    → front_in version (from_line 2 (numbered 1 (first ∷ rest))) (length (first ∷ rest) + 1) ≡ Ok (text, length (first ∷ rest) + 1)
+    → text_in (first ∷ rest) ≡ Ok text
+version_then first rest version text said read =
+    let past = length (first ∷ rest) + 1 in
     let below : Below past (after_text (numbered 2 rest)) = after_below 2 past rest (omega arith) in
-    let front : front_in (numbered 2 rest) past ≡ Ok (text, past) = rw (all_later 2 2 rest (omega arith)) at read in
-    rw first (front_whole (numbered 2 rest) past text below front)
+    let front : front_in version (numbered 2 rest) past ≡ Ok (text, past) = rw (all_later 2 2 rest (omega arith)) at read in
+    rw said (front_whole version (numbered 2 rest) past text below front)
 
 pub fronts_are_texts : FrontsAreTexts
-fronts_are_texts bytes version rest text lines first read = rw lines (version_then version rest text first (rw lines at read))
+fronts_are_texts bytes first rest version text lines said read = rw lines (version_then first rest version text said (rw lines at read))

@@ -1,10 +1,12 @@
 -- The lines of a text within a document, line by line.
 use Rattle.std.specs.Prelude.{◌≡◌, ℕ, Bool, true, false, ◌||◌, List, [], ◌∷◌, Result, Ok, Err, if◌then◌else◌}
-use Rattle.std.proofs.Common.{◌<◌, ◌≤◌, refl, sym}
+use Rattle.std.proofs.Common.{◌<◌, ◌≤◌, refl, sym, ap}
 use Rattle.std.proofs.lemmas.Bool.{lt-ltb, le-ltb}
 use Rattle.oa_text.specs.Lines.{TextLine}
 use Rattle.norm_lang.specs.Faults.{LineFault, at_line, ◌>>=◌}
-use Rattle.norm_lang.specs.Grammar.{Opening, Fields, Draft, draft_at, after_line, after_lines}
+use Rattle.norm_lang.specs.declared.text.Version.{Version}
+use Rattle.norm_lang.specs.declared.text.Version.TheVariants.{Second}
+use Rattle.norm_lang.specs.Grammar.{Opening, Draft, draft_at, after_line, after_lines}
 use Rattle.norm_parser.specs.FrontRead.{from_line, line_word, ends_text, names_text, text_lines, after_text, end_before, end_at, head_lines, after_head, ends_head, before_op, front_end, head_end}
 
 -- what the lines from here on declare up to the end of a text, where the line before these named a shipped one or not
@@ -50,8 +52,9 @@ front_is draft (line ∷ lines) past = go (ends_text (line_word line)) (names_te
 abbrev pub head_from : Draft → List TextLine → ℕ → Result (Draft × LineFault) LineFault
 head_from draft [] past = Err (end_at [] past)
 head_from draft (line ∷ lines) past =
-    if ends_head (line_word line) then Ok (draft, end_before line)
-    else (at_line line.number (after_line draft line) >>= λ next. head_from next lines past)
+    if names_text (line_word line) then Err (end_before line)
+    else (if ends_head (line_word line) then Ok (draft, end_before line)
+    else (at_line line.number (after_line draft line) >>= λ next. head_from next lines past))
 
 abbrev head_ends : Draft → List TextLine → ℕ → Result (Draft × LineFault) LineFault
 head_ends draft lines past = after_lines draft (head_lines lines) >>= λ next. before_op next (after_head lines) past
@@ -61,15 +64,21 @@ head_then : (read : Result Draft LineFault) (lines : List TextLine) (past : ℕ)
 head_then (Ok next) lines past rest = rest next
 head_then (Err fault) lines past rest = refl
 
+-- where declarations end, with the first line after them naming a shipped text or not
+abbrev stopped : Bool → Draft → TextLine → Result (Draft × LineFault) LineFault
+stopped named draft line = if named then Err (end_before line) else with_end (end_before line) draft
+
 pub head_is : (draft : Draft) (lines : List TextLine) (past : ℕ) → head_from draft lines past ≡ head_ends draft lines past
 head_is draft [] past = refl
-head_is draft (line ∷ lines) past = go (ends_head (line_word line)) (λ next. head_is next lines past)
+head_is draft (line ∷ lines) past = go (ends_head (line_word line)) (names_text (line_word line)) refl (λ next. head_is next lines past)
   where
-    go : (ended : Bool) → ((next : Draft) → head_from next lines past ≡ head_ends next lines past)
-        → (if ended then with_end (end_before line) draft else (at_line line.number (after_line draft line) >>= λ next. head_from next lines past))
-        ≡ (after_lines draft (if ended then [] else line ∷ head_lines lines) >>= λ next. before_op next (if ended then line ∷ lines else after_head lines) past)
-    go true rest = refl
-    go false rest = head_then (at_line line.number (after_line draft line)) lines past rest
+    go : (ended named : Bool) → names_text (line_word line) ≡ named → ((next : Draft) → head_from next lines past ≡ head_ends next lines past)
+        → (if named then Err (end_before line) else (if ended then with_end (end_before line) draft else (at_line line.number (after_line draft line) >>= λ next. head_from next lines past)))
+        ≡ (after_lines draft (if ended || named then [] else line ∷ head_lines lines) >>= λ next. before_op next (if ended || named then line ∷ lines else after_head lines) past)
+    go true true is rest = sym (ap (λ b. stopped b draft line) is)
+    go true false is rest = sym (ap (λ b. stopped b draft line) is)
+    go false true is rest = sym (ap (λ b. stopped b draft line) is)
+    go false false is rest = head_then (at_line line.number (after_line draft line)) lines past rest
 
 -- a line before the first is passed
 pub earlier : (start : ℕ) (line : TextLine) (lines : List TextLine) → line.number < start → from_line start (line ∷ lines) ≡ from_line start lines
@@ -78,9 +87,9 @@ earlier start line lines lt = rw (lt-ltb line.number start lt) refl
 pub later : (start : ℕ) (line : TextLine) (lines : List TextLine) → start ≤ line.number → from_line start (line ∷ lines) ≡ line ∷ from_line start lines
 later start line lines ge = rw (le-ltb line.number start ge) refl
 
-pub front_starts : (draft : Draft) (start past : ℕ) (lines all : List TextLine) → draft ≡ draft_at Opening → lines ≡ all
-    → front_from draft false (from_line start lines) past ≡ front_end (from_line start all) past
-front_starts draft start past lines all first same = rw (first, same) (front_is (draft_at Opening) (from_line start all) past)
+pub front_starts : (draft : Draft) (version : Version) (start past : ℕ) (lines all : List TextLine) → draft ≡ draft_at version Opening → lines ≡ all
+    → front_from draft false (from_line start lines) past ≡ front_end version (from_line start all) past
+front_starts draft version start past lines all first same = rw (first, same) (front_is (draft_at version Opening) (from_line start all) past)
 
 pub front_passes : (draft : Draft) (named : Bool) (start past number : ℕ) (line : TextLine) (lines rest : List TextLine) (whole : Result (Draft × LineFault) LineFault)
     → lines ≡ line ∷ rest → number ≡ line.number → number < start
@@ -118,9 +127,9 @@ front_stops draft named start past number line lines rest word fault whole cut s
     let on_here : named || ends_text (line_word line) ≡ false = rw (← is) (sym on) in
     sym (rw (cut, later start line rest late, on_here, read) at so_far)
 
-pub head_starts : (draft : Draft) (start past : ℕ) (lines all : List TextLine) → draft ≡ draft_at Fields → lines ≡ all
+pub head_starts : (draft : Draft) (start past : ℕ) (lines all : List TextLine) → draft ≡ draft_at Second Opening → lines ≡ all
     → head_from draft (from_line start lines) past ≡ head_end (from_line start all) past
-head_starts draft start past lines all first same = rw (first, same) (head_is (draft_at Fields) (from_line start all) past)
+head_starts draft start past lines all first same = rw (first, same) (head_is (draft_at Second Opening) (from_line start all) past)
 
 pub head_passes : (draft : Draft) (start past number : ℕ) (line : TextLine) (lines rest : List TextLine) (whole : Result (Draft × LineFault) LineFault)
     → lines ≡ line ∷ rest → number ≡ line.number → number < start
@@ -129,10 +138,39 @@ head_passes draft start past number line lines rest whole cut same lt so_far =
     rw (cut, earlier start line rest (rw (← same) lt)) at so_far
 
 pub head_goes_on : (draft next : Draft) (start past number : ℕ) (line : TextLine) (lines rest : List TextLine) (word : List ℕ) (whole : Result (Draft × LineFault) LineFault)
-    → lines ≡ line ∷ rest → number ≡ line.number → start ≤ number → word ≡ line_word line → false ≡ ends_head word
+    → lines ≡ line ∷ rest → number ≡ line.number → start ≤ number → word ≡ line_word line → false ≡ names_text word → false ≡ ends_head word
     → at_line line.number (after_line draft line) ≡ Ok next
     → head_from draft (from_line start lines) past ≡ whole → head_from next (from_line start rest) past ≡ whole
-head_goes_on draft next start past number line lines rest word whole cut same ge is on read so_far =
+head_goes_on draft next start past number line lines rest word whole cut same ge is other on read so_far =
     let late : start ≤ line.number = rw (← same) ge in
+    let other_here : names_text (line_word line) ≡ false = rw (← is) (sym other) in
     let on_here : ends_head (line_word line) ≡ false = rw (← is) (sym on) in
-    rw (cut, later start line rest late, on_here, read) at so_far
+    rw (cut, later start line rest late, other_here, on_here, read) at so_far
+
+-- a line that names a shipped text is faulty
+pub head_misplaced : (draft : Draft) (start past number : ℕ) (line : TextLine) (lines rest : List TextLine) (word : List ℕ) (end : LineFault) (whole : Result (Draft × LineFault) LineFault)
+    → lines ≡ line ∷ rest → number ≡ line.number → start ≤ number → word ≡ line_word line → true ≡ names_text word → end ≡ end_before line
+    → head_from draft (from_line start lines) past ≡ whole → whole ≡ Err end
+head_misplaced draft start past number line lines rest word end whole cut same ge is names ends so_far =
+    let late : start ≤ line.number = rw (← same) ge in
+    let names_here : names_text (line_word line) ≡ true = rw (← is) (sym names) in
+    rw ends (sym (rw (cut, later start line rest late, names_here) at so_far))
+
+pub head_stops : (draft : Draft) (start past number : ℕ) (line : TextLine) (lines rest : List TextLine) (word : List ℕ) (end : LineFault) (whole : Result (Draft × LineFault) LineFault)
+    → lines ≡ line ∷ rest → number ≡ line.number → start ≤ number → word ≡ line_word line → false ≡ names_text word → true ≡ ends_head word → end ≡ end_before line
+    → head_from draft (from_line start lines) past ≡ whole → whole ≡ Ok (draft, end)
+head_stops draft start past number line lines rest word end whole cut same ge is other stop ends so_far =
+    let late : start ≤ line.number = rw (← same) ge in
+    let other_here : names_text (line_word line) ≡ false = rw (← is) (sym other) in
+    let stop_here : ends_head (line_word line) ≡ true = rw (← is) (sym stop) in
+    rw ends (sym (rw (cut, later start line rest late, other_here, stop_here) at so_far))
+
+pub head_faulty : (draft : Draft) (start past number : ℕ) (line : TextLine) (lines rest : List TextLine) (word : List ℕ) (fault : LineFault) (whole : Result (Draft × LineFault) LineFault)
+    → lines ≡ line ∷ rest → number ≡ line.number → start ≤ number → word ≡ line_word line → false ≡ names_text word → false ≡ ends_head word
+    → at_line line.number (after_line draft line) ≡ Err fault
+    → head_from draft (from_line start lines) past ≡ whole → whole ≡ Err fault
+head_faulty draft start past number line lines rest word fault whole cut same ge is other on read so_far =
+    let late : start ≤ line.number = rw (← same) ge in
+    let other_here : names_text (line_word line) ≡ false = rw (← is) (sym other) in
+    let on_here : ends_head (line_word line) ≡ false = rw (← is) (sym on) in
+    sym (rw (cut, later start line rest late, other_here, on_here, read) at so_far)

@@ -8,3 +8,4 @@ mod FrontTexts
 mod WorkedFronts
 mod LineReads
 mod News
+mod Counts

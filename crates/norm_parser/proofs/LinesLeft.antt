@@ -1,11 +1,11 @@
 -- Lines taken one by one: those that are left keep their numbers.
-use Rattle.std.proofs.Common.{◌≡◌, ℕ, suc, ◌+◌, ◌-◌, ◌<◌, ◌≤◌, List, [], ◌∷◌, ◌++◌, map, Result, Ok, Err, refl, sym, ap, ◌∙◌, append_assoc, arith}
+use Rattle.std.proofs.Common.{◌≡◌, ℕ, suc, ◌+◌, ◌-◌, ◌<◌, ◌≤◌, List, [], ◌∷◌, ◌++◌, map, None, Result, Ok, Err, refl, sym, ap, ◌∙◌, append_assoc, arith}
 use Rattle.oa_text.specs.Lines.{TextLine, numbered}
 use Rattle.norm_lang.specs.declared.text.FieldDecl.{FieldDecl}
 use Rattle.norm_lang.specs.declared.text.RootDecl.{RootDecl}
 use Rattle.norm_lang.specs.declared.text.CasEntry.{CasEntry}
 use Rattle.norm_lang.specs.Faults.{LineFault, ◌>>=◌}
-use Rattle.norm_parser.specs.Instruction.{AreFrom, AreLeftOf, next_entry, entries_from}
+use Rattle.norm_parser.specs.Instruction.{AreFrom, AreLeftOf, entry_of, next_entry, entries_from}
 
 -- the first of the lines, or this one
 abbrev first_or : TextLine → List TextLine → TextLine
@@ -46,6 +46,13 @@ left_more whole lines left a b = record { front = a.front ++ b.front; same = app
 
 pub left_next : (whole lines left : List TextLine) (line : TextLine) → AreLeftOf whole lines → lines ≡ line ∷ left → AreLeftOf whole left
 left_next whole lines left line a is = left_more whole lines left a record { front = line ∷ []; same = sym is }
+
+-- a line that is skipped is passed over
+pub entry_passed : (fields : List FieldDecl) (roots : List RootDecl) (past : ℕ) (line : TextLine) (left lines : List TextLine)
+    (whole : Result (CasEntry × List TextLine) LineFault) → lines ≡ line ∷ left → entry_of fields roots line ≡ Ok None
+    → next_entry fields roots past lines ≡ whole → next_entry fields roots past left ≡ whole
+entry_passed fields roots past line left lines whole is skipped so_far =
+    sym (ap (next_entry fields roots past) is ∙ rw skipped refl) ∙ so_far
 
 entries_turn : (fields : List FieldDecl) (roots : List RootDecl) (past n i : ℕ) (entries : List CasEntry) (lines : List TextLine) → i < n
     → entries_from fields roots past (n - i) entries lines ≡ (next_entry fields roots past lines >>= λ entry. entries_from fields roots past (n - (i + 1)) (entries ++ entry.0 ∷ []) entry.1)

@@ -1,5 +1,5 @@
 -- What holds of a draft while a text is read.
-use Rattle.std.specs.Prelude.{◌≡◌, ℕ, ◌+◌, ◌≤◌, List, [], ◌∷◌, length, true, Result, Ok, Err, IfOk, nat_lt}
+use Rattle.std.specs.Prelude.{◌≡◌, ℕ, ◌+◌, ◌≤◌, List, [], ◌∷◌, length, Bool, true, false, Result, Ok, Err, IfOk, nat_lt, if◌then◌else◌}
 use Rattle.std.proofs.Common.{refl, ap, arith}
 use Rattle.std.proofs.lemmas.Result.{IfOk-at_ok}
 use Rattle.oa_text.specs.Lines.{TextLine, numbered}
@@ -7,18 +7,27 @@ use Rattle.norm_lang.specs.declared.text.FieldDecl.{FieldDecl}
 use Rattle.norm_lang.specs.declared.text.RootDecl.{RootDecl}
 use Rattle.norm_lang.specs.Faults.{LineFault, form_fault, at_line, ◌>>=◌}
 use Rattle.norm_lang.specs.declared.text.Text.{Text}
-use Rattle.norm_lang.specs.Grammar.{Section, Draft, Start, Opening, Fields, Nodes, Roots, Begun, Generator, WrapUp, Shipped, draft_at, after_line, after_lines, finished}
+use Rattle.norm_lang.specs.declared.text.Version.{Version}
+use Rattle.norm_lang.specs.declared.text.Version.TheVariants.{Second}
+use Rattle.norm_lang.specs.Grammar.{Section, Draft, Start, Opening, Kinds, Fields, Counts, Nodes, Roots, Begun, Generator, WrapUp, Shipped, draft_at, after_line, after_lines, finished}
 use Rattle.norm_lang.specs.Limits.{IsWithinLimits, is_within_limits}
-use Rattle.text_laws.proofs.DraftLimits.{Kept, Keeps, roots_within, nothing_declared, may_have_fields, line_kept, lines_kept, finished_is, few_declared}
-use Rattle.norm_parser.specs.FrontRead.{text_lines, after_text, end_at, front_end, head_lines, after_head, before_op, head_end, whole_in, whole_head, IsHeadWithinLimits}
+use Rattle.text_laws.proofs.DraftLimits.{Kept, Keeps, roots_within, nothing_declared, line_kept, lines_kept, finished_is}
+use Rattle.text_laws.proofs.FewDeclared.{few_declared, few_promised}
+use Rattle.norm_parser.specs.FrontRead.{line_word, names_text, text_lines, after_text, end_before, end_at, front_end, head_lines, after_head, before_op, head_end, whole_in, whole_head, IsHeadWithinLimits}
 use Rattle.norm_parser.specs.declared.head.Head.{Head}
 use Rattle.text_laws.proofs.Readings.{demanded}
 
-pub few_fields : (draft : Draft) (fields : List FieldDecl) → Kept draft → fields ≡ draft.text.fields → length fields ≤ 4
-few_fields draft fields kept same = rw same (few_declared draft kept).0
+pub few_kinds : (draft : Draft) (kinds : List (List ℕ)) → Kept draft → kinds ≡ draft.text.kinds → length kinds ≤ 4
+few_kinds draft kinds kept same = rw same (few_declared draft kept).kinds
+
+pub few_fields : (draft : Draft) (fields : List FieldDecl) → Kept draft → fields ≡ draft.text.fields → length fields ≤ 16
+few_fields draft fields kept same = rw same (few_declared draft kept).fields
 
 pub few_roots : (draft : Draft) (roots : List RootDecl) → Kept draft → roots ≡ draft.text.roots → length roots ≤ 256
-few_roots draft roots kept same = rw same (few_declared draft kept).1
+few_roots draft roots kept same = rw same (few_declared draft kept).roots
+
+pub few_owners : (draft : Draft) (owners : List ℕ) → Kept draft → owners ≡ draft.owners → length owners ≤ 256
+few_owners draft owners kept same = rw same (few_promised draft kept).owners_few
 
 -- a line keeps what holds
 pub kept_on : (draft next : Draft) (line : TextLine) → Kept draft → at_line line.number (after_line draft line) ≡ Ok next → Kept next
@@ -33,14 +42,11 @@ pub lines_first : (draft first : Draft) (lines : List TextLine) → draft ≡ fi
 lines_first draft first lines same = rw same refl
 
 -- before the first line nothing is declared
-pub kept_first : (draft : Draft) → draft ≡ draft_at Start → Kept draft
-kept_first draft first = rw first nothing_declared
+pub kept_first : (draft : Draft) → draft ≡ draft_at Second Start → Kept draft
+kept_first draft first = rw first (nothing_declared Second)
 
-pub kept_opening : (draft : Draft) → draft ≡ draft_at Opening → Kept draft
-kept_opening draft first = rw first nothing_declared
-
-pub kept_fields : (draft : Draft) → draft ≡ draft_at Fields → Kept draft
-kept_fields draft first = rw first (may_have_fields (draft_at Start).text nothing_declared)
+pub kept_opening : (draft : Draft) (version : Version) → draft ≡ draft_at version Opening → Kept draft
+kept_opening draft version first = rw first (nothing_declared version)
 
 -- the draft of what is read
 abbrev draft_of : Draft → Result (Draft × LineFault) LineFault → Draft
@@ -58,18 +64,18 @@ finished_within draft text kept end = IfOk-at_ok (λ text. is_within_limits text
 lines_within : (first draft : Draft) (lines : List TextLine) → Kept first → after_lines first lines ≡ Ok draft → Kept draft
 lines_within first draft lines kept read = IfOk-at_ok Kept read (lines_kept first lines kept)
 
-pub text_is_within : (lines : List TextLine) (draft : Draft) (text : Text) → after_lines (draft_at Start) lines ≡ Ok draft → finished draft ≡ Ok text → IsWithinLimits text
-text_is_within lines draft text read end = finished_within draft text (lines_within (draft_at Start) draft lines nothing_declared read) end
+pub text_is_within : (lines : List TextLine) (draft : Draft) (text : Text) → after_lines (draft_at Second Start) lines ≡ Ok draft → finished draft ≡ Ok text → IsWithinLimits text
+text_is_within lines draft text read end = finished_within draft text (lines_within (draft_at Second Start) draft lines (nothing_declared Second) read) end
 
-pub front_is_within : (lines : List TextLine) (past : ℕ) (draft : Draft) (end : LineFault) (text : Text) → front_end lines past ≡ Ok (draft, end) → finished draft ≡ Ok text
-    → IsWithinLimits text
-front_is_within lines past draft end text read ended = go (after_lines (draft_at Opening) (text_lines lines)) refl read
+pub front_is_within : (version : Version) (lines : List TextLine) (past : ℕ) (draft : Draft) (end : LineFault) (text : Text) → front_end version lines past ≡ Ok (draft, end)
+    → finished draft ≡ Ok text → IsWithinLimits text
+front_is_within version lines past draft end text read ended = go (after_lines (draft_at version Opening) (text_lines lines)) refl read
   where
-    go : (r : Result Draft LineFault) → after_lines (draft_at Opening) (text_lines lines) ≡ r
+    go : (r : Result Draft LineFault) → after_lines (draft_at version Opening) (text_lines lines) ≡ r
         → (r >>= with_end (end_at (after_text lines) past)) ≡ with_end end draft → IsWithinLimits text
     go (Ok next) same read =
         let e : next ≡ draft = ap (draft_of next) read in
-        finished_within draft text (rw e at (lines_within (draft_at Opening) next (text_lines lines) nothing_declared same)) ended
+        finished_within draft text (rw e at (lines_within (draft_at version Opening) next (text_lines lines) (nothing_declared version) same)) ended
     go (Err fault) same read = absurd (let f : ⊥ = cc in f)
 
 pub length_numbered : (n : ℕ) (lines : List (List ℕ)) → length (numbered n lines) ≡ length lines
@@ -84,7 +90,9 @@ past_first lines all same = let k = length_numbered 1 lines in rw same (omega (a
 whole_within : (section : Section) (draft : Draft) → Keeps section draft → IfOk (whole_in section draft) IsHeadWithinLimits
 whole_within Start draft h = tt
 whole_within Opening draft h = tt
+whole_within Kinds draft h = tt
 whole_within Fields draft h = tt
+whole_within Counts draft h = tt
 whole_within Nodes draft h = tt
 whole_within Roots draft h = demanded form_fault (nat_lt 0 (length draft.text.roots)) _ _ λ some. roots_within draft h some
 whole_within Begun draft h = tt
@@ -94,16 +102,17 @@ whole_within Shipped draft h = tt
 
 pub head_is_within : (lines : List TextLine) (past : ℕ) (draft : Draft) (end : LineFault) (head : Head) → head_end lines past ≡ Ok (draft, end) → whole_head draft ≡ Ok head
     → IsHeadWithinLimits head
-head_is_within lines past draft end head read ended = go (after_lines (draft_at Fields) (head_lines lines)) refl (after_head lines) read
+head_is_within lines past draft end head read ended = go (after_lines (draft_at Second Opening) (head_lines lines)) refl (after_head lines) read
   where
-    first : Kept (draft_at Fields)
-    first = kept_fields (draft_at Fields) refl
+    ends : (next : Draft) (named : Bool) (line : TextLine) → (if named then Err (end_before line) else with_end (end_before line) next) ≡ with_end end draft → next ≡ draft
+    ends next true line read = absurd (let f : ⊥ = cc in f)
+    ends next false line read = ap (draft_of next) read
 
-    go : (r : Result Draft LineFault) → after_lines (draft_at Fields) (head_lines lines) ≡ r → (behind : List TextLine)
+    go : (r : Result Draft LineFault) → after_lines (draft_at Second Opening) (head_lines lines) ≡ r → (behind : List TextLine)
         → (r >>= λ next. before_op next behind past) ≡ with_end end draft → IsHeadWithinLimits head
     go (Ok next) same [] read = absurd (let f : ⊥ = cc in f)
     go (Ok next) same (line ∷ behind) read =
-        let e : next ≡ draft = ap (draft_of next) read in
-        let kept : Kept draft = rw e at (lines_within (draft_at Fields) next (head_lines lines) first same) in
+        let e : next ≡ draft = ends next (names_text (line_word line)) line read in
+        let kept : Kept draft = rw e at (lines_within (draft_at Second Opening) next (head_lines lines) (nothing_declared Second) same) in
         IfOk-at_ok IsHeadWithinLimits ended (whole_within draft.section draft kept)
     go (Err fault) same behind read = absurd (let f : ⊥ = cc in f)

@@ -1,5 +1,5 @@
 -- What contracts see of a reader's draft.
-use Rattle.norm_lang.specs.Grammar.{Section, Start, Opening, Fields, Nodes, Roots, Begun, Generator, WrapUp, Shipped, Draft}
+use Rattle.norm_lang.specs.Grammar.{Section, Start, Opening, Kinds, Fields, Counts, Nodes, Roots, Begun, Generator, WrapUp, Shipped, Draft}
 use Rattle.norm_parser.specs.declared.draft.Section.{Section as ReadSection}
 use Rattle.norm_parser.specs.declared.draft.Section.TheVariants as read
 use Rattle.norm_parser.specs.declared.draft.Draft.{Draft as ReadDraft}
@@ -8,7 +8,9 @@ use Rattle.norm_parser.specs.declared.draft.Draft.{Draft as ReadDraft}
 abbrev pub section_shown : ReadSection → Section
 section_shown read.Start = Start
 section_shown read.Opening = Opening
+section_shown read.Kinds = Kinds
 section_shown read.Fields = Fields
+section_shown read.Counts = Counts
 section_shown read.Nodes = Nodes
 section_shown read.Roots = Roots
 section_shown read.Begun = Begun
@@ -20,7 +22,9 @@ section_shown read.Shipped = Shipped
 abbrev pub draft_shown : ReadDraft → Draft
 draft_shown draft = record {
   section = section_shown draft.section;
-  nodes = draft.nodes;
+  version = draft.version;
+  counted = draft.counted;
+  owners = draft.owners;
   text = draft.text;
   op = draft.op;
   left = draft.left;

@@ -1,16 +1,19 @@
 -- The text that begins at a line of a document, and the declarations before a target's operations.
 --
 -- Both begin after a version line, which isn't theirs: a text of its own, a document and a target each have such a line,
--- they don't have the same one, and whoever reads them has read it before it reads on from the line after it.
+-- they don't have the same one, and whoever reads them has read it before it reads on from the line after it. A text is read
+-- in the version that the line says. A target is of the second.
 use Rattle.std.specs.Prelude.{ℕ, ◌+◌, Bool, ◌||◌, ◌&&◌, List, [], ◌∷◌, length, Option, Some, None, Result, Ok, Err, codes, nat_lt, if◌then◌else◌, IsTrue}
 use Rattle.std.specs.Str.{bytes_eq}
 use Rattle.oa_text.specs.declared.fault.TextFault.{TextFault}
 use Rattle.oa_text.specs.Lines.{TextLine, lines_of, numbered}
 use Rattle.oa_text.specs.Tokens.{words_of, line_fault}
 use Rattle.norm_lang.specs.declared.text.Text.{Text}
+use Rattle.norm_lang.specs.declared.text.Version.{Version}
+use Rattle.norm_lang.specs.declared.text.Version.TheVariants.{Second}
 use Rattle.norm_lang.specs.Faults.{LineFault, form_fault, ◌>>=◌, demand}
-use Rattle.norm_lang.specs.Grammar.{Section, Opening, Fields, Roots, Draft, draft_at, fault_number, after_lines, finished}
-use Rattle.norm_lang.specs.Limits.{are_kinds, are_fields, are_nodes, are_roots}
+use Rattle.norm_lang.specs.Grammar.{Section, Opening, Roots, Draft, draft_at, fault_number, after_lines, finished}
+use Rattle.norm_lang.specs.Limits.{are_kinds, are_fields, owners_of, are_nodes, are_roots}
 use Rattle.norm_parser.specs.declared.head.Head.{Head}
 
 -- the lines from this number on
@@ -60,15 +63,15 @@ after_text (line ∷ lines) =
     else (if names_text (line_word line) then lines
     else after_text lines)
 
--- the lines before the first operation
+-- the lines of declarations: up to the first operation, or to a line that names a shipped text
 abbrev pub head_lines : List TextLine → List TextLine
 head_lines [] = []
-head_lines (line ∷ lines) = if ends_head (line_word line) then [] else line ∷ head_lines lines
+head_lines (line ∷ lines) = if ends_head (line_word line) || names_text (line_word line) then [] else line ∷ head_lines lines
 
--- the lines from the first operation on
+-- the lines after them
 abbrev pub after_head : List TextLine → List TextLine
 after_head [] = []
-after_head (line ∷ lines) = if ends_head (line_word line) then line ∷ lines else after_head lines
+after_head (line ∷ lines) = if ends_head (line_word line) || names_text (line_word line) then line ∷ lines else after_head lines
 
 -- the number of a line's fault where another line must stand in its place: what is wrong with its bytes comes first
 abbrev pub misplaced : Option TextFault → ℕ
@@ -90,21 +93,21 @@ ended (Ok x) end = Ok (x, end.line)
 ended (Err fault) end = Err end
 
 -- what the lines of a text declare, and where they end, where `past` is one more than the last line's number
-abbrev pub front_end : List TextLine → ℕ → Result (Draft × LineFault) LineFault
-front_end lines past = do
-  draft ← after_lines (draft_at Opening) (text_lines lines)
+abbrev pub front_end : Version → List TextLine → ℕ → Result (Draft × LineFault) LineFault
+front_end version lines past = do
+  draft ← after_lines (draft_at version Opening) (text_lines lines)
   Ok (draft, end_at (after_text lines) past)
 
 -- the text that lines begin with, and the number of the line after it
-abbrev pub front_in : List TextLine → ℕ → Result (Text × ℕ) LineFault
-front_in lines past = do
-  front ← front_end lines past
+abbrev pub front_in : Version → List TextLine → ℕ → Result (Text × ℕ) LineFault
+front_in version lines past = do
+  front ← front_end version lines past
   ended (finished front.0) front.1
 
--- the text that begins at a line, and the number of the line after it; otherwise the first fault of the text's lines,
--- or else the fault where they end
-abbrev pub front_read : List ℕ → ℕ → Result (Text × ℕ) LineFault
-front_read bytes start = front_in (from_line start (numbered 1 (lines_of bytes))) (length (lines_of bytes) + 1)
+-- the text of a version that begins at a line, and the number of the line after it; otherwise the first fault of the text's
+-- lines, or else the fault where they end
+abbrev pub front_read : Version → List ℕ → ℕ → Result (Text × ℕ) LineFault
+front_read version bytes start = front_in version (from_line start (numbered 1 (lines_of bytes))) (length (lines_of bytes) + 1)
 
 -- what a text declares, if it may end with that
 abbrev pub head_of : Text → Bool → Result Head ℕ
@@ -123,15 +126,15 @@ whole_in _ draft = Err form_fault
 abbrev pub whole_head : Draft → Result Head ℕ
 whole_head draft = whole_in draft.section draft
 
--- declarations end before an operation alone, and not with the input
+-- declarations end before an operation alone: not with the input, and no line may name a shipped text
 abbrev pub before_op : Draft → List TextLine → ℕ → Result (Draft × LineFault) LineFault
 before_op draft [] past = Err (end_at [] past)
-before_op draft (line ∷ lines) past = Ok (draft, end_before line)
+before_op draft (line ∷ lines) past = if names_text (line_word line) then Err (end_before line) else Ok (draft, end_before line)
 
--- what the lines of declarations declare, and where they end. Here no line names a shipped text
+-- what the lines of declarations declare, and where they end
 abbrev pub head_end : List TextLine → ℕ → Result (Draft × LineFault) LineFault
 head_end lines past = do
-  draft ← after_lines (draft_at Fields) (head_lines lines)
+  draft ← after_lines (draft_at Second Opening) (head_lines lines)
   before_op draft (after_head lines) past
 
 -- the declarations that lines begin with, and the number of the first operation's line
@@ -148,4 +151,4 @@ head_read bytes start = head_in (from_line start (numbered 1 (lines_of bytes))) 
 -- declarations are those of a text within the limits
 abbrev pub IsHeadWithinLimits : Head → Type 0
 IsHeadWithinLimits head =
-    IsTrue (are_kinds head.kinds && (are_fields head.fields && (are_nodes head.fields head.nodes && are_roots (length head.nodes) head.roots)))
+    IsTrue (are_kinds head.kinds && (are_fields (length head.kinds) head.fields && (are_nodes (length head.kinds) head.fields head.nodes && are_roots (length head.kinds) (owners_of head.nodes) head.roots)))

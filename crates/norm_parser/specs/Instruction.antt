@@ -1,5 +1,5 @@
--- One instruction: its own line, and for a commit its entry lines among the lines after it. Lines that are skipped are
--- passed over, and their bytes are judged.
+-- One instruction in the second version: its own line, and for a commit its entry lines among the lines after it. Lines that
+-- are skipped are passed over, and their bytes are judged.
 use Rattle.std.specs.Prelude.{◌≡◌, ℕ, zero, suc, ◌+◌, ◌≤◌, Bool, true, List, [], ◌∷◌, ◌++◌, length, map, Option, Some, None, Result, Ok, Err}
 use Rattle.oa_text.specs.Lines.{TextLine, numbered}
 use Rattle.norm_lang.specs.declared.text.FieldDecl.{FieldDecl}
@@ -7,6 +7,7 @@ use Rattle.norm_lang.specs.declared.text.RootDecl.{RootDecl}
 use Rattle.norm_lang.specs.declared.text.CasEntry.{CasEntry}
 use Rattle.norm_lang.specs.declared.text.Instr.{Instr}
 use Rattle.norm_lang.specs.declared.text.Instr.TheVariants as instr
+use Rattle.norm_lang.specs.declared.text.Version.TheVariants.{Second}
 use Rattle.norm_lang.specs.Faults.{LineFault, form_fault, ◌>>=◌, at_line}
 use Rattle.norm_lang.specs.LineWords.{word_at}
 use Rattle.norm_lang.specs.Grammar.{is_comment}
@@ -41,12 +42,13 @@ abbrev pub AreAfter : ℕ → ParseError → List TextLine → Type 0
 AreAfter past errors.Memory left = Unit {0}
 AreAfter past (errors.Fault fault) left = AreFrom (fault.line + 1) left × (past ≤ fault.line + 1 + length left)
 
+-- what the words of an instruction's own line say, or their first fault
+abbrev pub step_in : List (List ℕ) → List FieldDecl → List RootDecl → List (List ℕ) → Result Step ℕ
+step_in kinds fields roots words = word_at words >>= λ word. step_line Second kinds fields roots word.0 word.1
+
 -- what an instruction's own line says, or its first fault
-abbrev pub step_of : List FieldDecl → List RootDecl → TextLine → Result Step ℕ
-step_of fields roots line = do
-  words ← words_in line
-  word ← word_at words
-  step_line fields roots word.0 word.1
+abbrev pub step_of : List (List ℕ) → List FieldDecl → List RootDecl → TextLine → Result Step ℕ
+step_of kinds fields roots line = words_in line >>= λ words. step_in kinds fields roots words
 
 -- the entry that a line's words say: none where the line is skipped
 abbrev pub entry_in : List FieldDecl → List RootDecl → Option (List ℕ × List (List ℕ)) → Result (Option CasEntry) ℕ
@@ -86,7 +88,7 @@ completed fields roots past (Commits count) lines = do
 
 -- the instruction that begins with a line, and those of the lines after it that it doesn't take: or the first line that
 -- has a fault, with its first fault
-abbrev pub instr_read : List FieldDecl → List RootDecl → TextLine → List TextLine → Result (Instr × List TextLine) LineFault
-instr_read fields roots line lines = do
-  step ← at_line line.number (step_of fields roots line)
+abbrev pub instr_read : List (List ℕ) → List FieldDecl → List RootDecl → TextLine → List TextLine → Result (Instr × List TextLine) LineFault
+instr_read kinds fields roots line lines = do
+  step ← at_line line.number (step_of kinds fields roots line)
   completed fields roots (line.number + 1 + length lines) step lines

@@ -1,14 +1,16 @@
 //! What the lines of a text have declared so far.
 
-ghost use Rattle.std.specs.Prelude.{◌≡◌, ◌≤◌, length, [], ◌∷◌, ◌++◌, Ok, IfOk};
+ghost use Rattle.std.specs.Prelude.{◌≡◌, ◌≤◌, ◌<◌, length, replicate, [], ◌∷◌, ◌++◌, Ok, IfOk};
 ghost use Rattle.norm_lang.specs.LineWords.{item_kind};
-ghost use Rattle.norm_lang.specs.Grammar.{no_op, draft_at, news_in, news_of, code_so_far, with_instr, with_field, with_nodes, with_node, with_root, with_op, with_whole_op, with_entries, finished, among_nodes};
+ghost use Rattle.norm_lang.specs.Grammar.{no_op, first_kinds, draft_at, news_in, news_of, code_so_far, with_instr, with_kind, with_field, with_count, with_node, with_root, with_op, with_whole_op, with_entries, finished, among_counts, among_nodes};
 ghost use Rattle.line_words.specs.Answered.{Gives};
 ghost use Rattle.norm_parser.specs.DraftShown.{section_shown, draft_shown};
 
 use line_words::fault::{Fault, Stop};
 use norm_lang::list::Listed;
-use norm_lang::text::{CasEntry, Entries, FieldDecl, Instr, Kinds, NodeDecl, Op, RootDecl, Text};
+use norm_lang::text::{
+    CasEntry, Entries, FieldDecl, Instr, Kinds, Name, NodeDecl, Op, RootDecl, Text, Version,
+};
 use norm_lang::uses::is_new;
 use std::alloc::{AllocError, Global};
 use std::mem;
@@ -20,8 +22,12 @@ pub enum Section {
     Start,
     /// Right after the version line.
     Opening,
+    /// Among the kinds.
+    Kinds,
     /// Among the fields.
     Fields,
+    /// Among the counts of nodes.
+    Counts,
     /// Among the nodes.
     Nodes,
     /// Among the roots.
@@ -37,11 +43,14 @@ pub enum Section {
 }
 
 /// The declarations and the operations that are whole, the operation whose lines stand here, and the entries of a commit
-/// of which `left` lines must follow. `nodes` is the count of initial nodes that its line states.
+/// of which `left` lines must follow. `counted` kinds have a line that states their count of initial nodes, and `owners` has
+/// the kind of each node so stated.
 #[derive(Drop)]
 pub struct Draft {
     pub section: Section,
-    pub nodes: u32,
+    pub version: Version,
+    pub counted: u8,
+    pub owners: Listed<u8>,
     pub text: Text,
     pub op: Op,
     pub left: u8,
@@ -60,12 +69,53 @@ fn no_operation(alloc: Global) -> Op
     }
 }
 
-/// The one kind of nodes, which no line names.
+/// A text with these kinds, and nothing else.
+fn text_of_kinds(alloc: Global, kinds: Kinds) -> Text
+    ensures { result ≡ record { kinds = kinds; fields = []; roots = []; nodes = []; ops = [] } }
+{
+    Text {
+        kinds,
+        fields: Listed::empty(alloc),
+        roots: Listed::empty(alloc),
+        nodes: Listed::empty(alloc),
+        ops: Listed::empty(alloc),
+    }
+}
+
+/// The text of a draft. It stands alone, since what else a draft holds is dropped here.
+pub(crate) fn text_of(draft: Draft) -> Text
+    ensures { result ≡ (draft_shown draft).text }
+{
+    draft.text
+}
+
+/// The one kind of nodes that no line names.
 fn item_kinds(alloc: Global) -> Result<Kinds, AllocError>
     ensures { IfOk result (λ kinds. kinds ≡ item_kind ∷ []) }
 {
     let item = Listed::from_slice(alloc, b"item")?;
     Ok(Listed::from_vec(vec![in alloc; item]?))
+}
+
+/// The kinds before the first line that declares one.
+fn first_kinds(alloc: Global, version: Version) -> Result<Kinds, AllocError>
+    ensures { IfOk result (λ kinds. kinds ≡ first_kinds version) }
+{
+    match version {
+        Version::First => item_kinds(alloc),
+        Version::Second => Ok(Listed::empty(alloc)),
+    }
+}
+
+/// Adds so many nodes of a kind.
+#[tactic(auto, using(crate::proofs::Counts::owners_more, crate::proofs::Counts::owners_done))]
+fn add_owners(owners: &mut Listed<u8>, kind: u8, count: u32) -> Result<(), AllocError>
+    ensures { IfOk result (λ _. owners.new ≡ owners.old ++ replicate count kind) }
+{
+    for _ in 0..count {
+        owners.push(kind)?;
+    }
+    Ok(())
 }
 
 /// How many `new` a method has.
@@ -84,24 +134,35 @@ fn news_in(code: &[Instr]) -> usize
 }
 
 impl Draft {
-    /// Nothing is declared, and the next line stands there.
-    pub fn at(alloc: Global, section: Section) -> Result<Draft, AllocError>
-        ensures { IfOk result (λ draft. draft_shown draft ≡ draft_at (section_shown section)) }
+    /// The text declares this, and the next line stands there.
+    fn of_text(alloc: Global, version: Version, section: Section, text: Text) -> Draft
+        ensures { draft_shown result ≡ record (draft_at version (section_shown section)) { text = text } }
     {
-        Ok(Draft {
+        Draft {
             section,
-            nodes: 0,
-            text: Text {
-                kinds: item_kinds(alloc)?,
-                fields: Listed::empty(alloc),
-                roots: Listed::empty(alloc),
-                nodes: Listed::empty(alloc),
-                ops: Listed::empty(alloc),
-            },
+            version,
+            counted: 0,
+            owners: Listed::empty(alloc),
+            text,
             op: no_operation(alloc),
             left: 0,
             entries: Listed::empty(alloc),
-        })
+        }
+    }
+
+    /// Nothing is declared, and the next line stands there.
+    pub fn at(alloc: Global, version: Version, section: Section) -> Result<Draft, AllocError>
+        ensures { IfOk result (λ draft. draft_shown draft ≡ draft_at version (section_shown section)) }
+    {
+        let kinds = first_kinds(alloc, version)?;
+        Ok(Draft::of_text(alloc, version, section, text_of_kinds(alloc, kinds)))
+    }
+
+    pub fn add_kind(&mut self, name: Name) -> Result<(), AllocError>
+        ensures { IfOk result (λ _. draft_shown self.new ≡ with_kind (draft_shown self.old) name) }
+    {
+        self.section = Section::Kinds;
+        self.text.kinds.push(name)
     }
 
     pub fn add_field(&mut self, field: FieldDecl) -> Result<(), AllocError>
@@ -115,18 +176,33 @@ impl Draft {
     fn go_among_nodes(&mut self)
         ensures { draft_shown self.new ≡ among_nodes (draft_shown self.old) }
     {
-        self.section = if self.text.nodes.items().len() < self.nodes as usize {
+        self.section = if self.text.nodes.items().len() < self.owners.items().len() {
             Section::Nodes
         } else {
             Section::Roots
         };
     }
 
-    pub fn begin_nodes(&mut self, count: u32)
-        ensures { draft_shown self.new ≡ with_nodes (draft_shown self.old) count }
+    /// The next line is a count of nodes, until each kind has one.
+    fn go_among_counts(&mut self)
+        ensures { draft_shown self.new ≡ among_counts (draft_shown self.old) }
     {
-        self.nodes = count;
-        self.go_among_nodes();
+        if (self.counted as usize) < self.text.kinds.items().len() {
+            self.section = Section::Counts;
+        } else {
+            self.go_among_nodes();
+        }
+    }
+
+    /// Adds the count of nodes of the next kind.
+    pub fn add_count(&mut self, count: u32) -> Result<(), AllocError>
+        requires { self.old.counted < 4 }
+        ensures { IfOk result (λ _. draft_shown self.new ≡ with_count (draft_shown self.old) count) }
+    {
+        add_owners(&mut self.owners, self.counted, count)?;
+        self.counted += 1;
+        self.go_among_counts();
+        Ok(())
     }
 
     pub fn add_node(&mut self, node: NodeDecl) -> Result<(), AllocError>
@@ -238,7 +314,9 @@ impl Draft {
         ensures { Gives (λ text. text) result (finished (draft_shown self)) }
     {
         let mut draft = self;
-        draft.end(alloc)?;
-        Ok(draft.text)
+        match draft.end(alloc) {
+            Ok(()) => Ok(text_of(draft)),
+            Err(stop) => Err(stop),
+        }
     }
 }

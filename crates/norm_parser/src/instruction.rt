@@ -5,39 +5,76 @@ ghost use Rattle.oa_text.specs.Shown.{line_shown};
 ghost use Rattle.oa_text.specs.Tokens.{words_of};
 ghost use Rattle.norm_lang.specs.Limits.{are_different};
 ghost use Rattle.line_words.specs.Answered.{Reads, Answers};
+ghost use Rattle.line_words.specs.Lines.{first_word};
 ghost use Rattle.text_lines.specs.Steps.{step_shown};
-ghost use Rattle.norm_parser.specs.Instruction.{are_skipped, AreFrom, AreLeftOf, AreLeftAt, AreAfter, step_of, entry_of, next_entry, entries_from, instr_read};
+ghost use Rattle.norm_parser.specs.Instruction.{are_skipped, AreFrom, AreLeftOf, AreLeftAt, AreAfter, step_in, step_of, entry_in, entry_of, next_entry, entries_from, completed, instr_read};
 
 use line_words::fault::{Fault, ParseError, Stop};
 use line_words::words::Words;
 use norm_lang::list::Listed;
-use norm_lang::text::{CasEntry, Entries, FieldDecl, Fields, Instr, RootDecl, Roots};
+use norm_lang::text::{
+    CasEntry, Entries, FieldDecl, Fields, Instr, Kinds, Name, RootDecl, Roots, Version,
+};
 use oa_text::{Line, Lines};
 use std::alloc::Global;
 use text_lines::{Step, read_entry, read_step};
 
-/// What an instruction's own line says.
-fn step_of(fields: &[FieldDecl], roots: &[RootDecl], line: Line) -> Result<Step, Fault>
-    requires few_fields { length fields.now ≤ 4 }
+/// What the words of an instruction's own line say.
+fn step_in(
+    kinds: &[Name],
+    fields: &[FieldDecl],
+    roots: &[RootDecl],
+    words: &mut Words,
+) -> Result<Step, Fault>
+    requires few_kinds { length kinds.now ≤ 4 }
+    requires few_fields { length fields.now ≤ 16 }
     requires few_roots { length roots.now ≤ 256 }
-    ensures { Reads step_shown result (step_of fields.now roots.now (line_shown line.entry)) }
+    ensures { Reads step_shown result (step_in kinds.now fields.now roots.now words.old) }
+{
+    let word = words.word()?;
+    read_step(Version::Second, kinds, fields, roots, word, words)
+}
+
+/// What an instruction's own line says.
+fn step_of(
+    kinds: &[Name],
+    fields: &[FieldDecl],
+    roots: &[RootDecl],
+    line: Line,
+) -> Result<Step, Fault>
+    requires few_kinds { length kinds.now ≤ 4 }
+    requires few_fields { length fields.now ≤ 16 }
+    requires few_roots { length roots.now ≤ 256 }
+    ensures { Reads step_shown result (step_of kinds.now fields.now roots.now (line_shown line.entry)) }
 {
     let mut words = Words::new(line)?;
-    let word = words.word()?;
-    read_step(fields, roots, word, &mut words)
+    step_in(kinds, fields, roots, &mut words)
+}
+
+/// The entry that a line's words say: `None` where it is skipped.
+fn entry_in(
+    fields: &[FieldDecl],
+    roots: &[RootDecl],
+    words: &mut Words,
+) -> Result<Option<CasEntry>, Fault>
+    requires few_fields { length fields.now ≤ 16 }
+    requires few_roots { length roots.now ≤ 256 }
+    ensures { Reads (λ entry. entry) result (entry_in fields.now roots.now (first_word words.old)) }
+{
+    match words.first() {
+        None => Ok(None),
+        Some(word) => Ok(Some(read_entry(fields, roots, word, words)?)),
+    }
 }
 
 /// The entry that a line says: `None` where it is skipped.
 fn entry_of(fields: &[FieldDecl], roots: &[RootDecl], line: Line) -> Result<Option<CasEntry>, Fault>
-    requires few_fields { length fields.now ≤ 4 }
+    requires few_fields { length fields.now ≤ 16 }
     requires few_roots { length roots.now ≤ 256 }
     ensures { Reads (λ entry. entry) result (entry_of fields.now roots.now (line_shown line.entry)) }
 {
     let mut words = Words::new(line)?;
-    match words.first() {
-        None => Ok(None),
-        Some(word) => Ok(Some(read_entry(fields, roots, word, &mut words)?)),
-    }
+    entry_in(fields, roots, &mut words)
 }
 
 /// The next entry among the lines that are left, which are numbered from `next` on.
@@ -48,7 +85,7 @@ fn next_entry(
     next: &mut u32,
     rest: &mut Lines,
 ) -> Result<CasEntry, ParseError>
-    requires few_fields { length fields.now ≤ 4 }
+    requires few_fields { length fields.now ≤ 16 }
     requires few_roots { length roots.now ≤ 256 }
     requires ordered { AreFrom next.old rest.old }
     requires room { next.old + length rest.old < 2 ^ 32 }
@@ -69,8 +106,32 @@ fn next_entry(
     Err(Stop::Fault(Fault::Form).at(*next))
 }
 
-/// The entries of a commit.
+/// Adds the entries of a commit to none.
 #[tactic(auto, using(crate::proofs::LinesLeft::entries_more, crate::proofs::LinesLeft::entries_stopped, crate::proofs::LinesLeft::entries_done, crate::proofs::LinesLeft::left_all, crate::proofs::LinesLeft::left_more, crate::proofs::LinesAfter::after_entry))]
+fn add_entries(
+    entries: &mut Entries,
+    fields: &[FieldDecl],
+    roots: &[RootDecl],
+    count: u8,
+    next: &mut u32,
+    rest: &mut Lines,
+) -> Result<(), ParseError>
+    requires few_fields { length fields.now ≤ 16 }
+    requires few_roots { length roots.now ≤ 256 }
+    requires ordered { AreFrom next.old rest.old }
+    requires room { next.old + length rest.old < 2 ^ 32 }
+    ensures entries { Answers (λ _. (entries.new, rest.new)) result (entries_from fields.now roots.now (next.old + length rest.old) count entries.old rest.old) }
+    ensures fault { IfErr result (λ error. AreAfter (next.old + length rest.old) error rest.new) }
+    ensures left { AreLeftOf rest.old rest.new }
+{
+    for _ in 0..count {
+        let entry = next_entry(fields, roots, next, rest)?;
+        entries.push(entry)?;
+    }
+    Ok(())
+}
+
+/// The entries of a commit.
 fn entries(
     alloc: Global,
     fields: &[FieldDecl],
@@ -79,7 +140,7 @@ fn entries(
     next: &mut u32,
     rest: &mut Lines,
 ) -> Result<Entries, ParseError>
-    requires few_fields { length fields.now ≤ 4 }
+    requires few_fields { length fields.now ≤ 16 }
     requires few_roots { length roots.now ≤ 256 }
     requires ordered { AreFrom next.old rest.old }
     requires room { next.old + length rest.old < 2 ^ 32 }
@@ -88,17 +149,46 @@ fn entries(
     ensures left { AreLeftOf rest.old rest.new }
 {
     let mut entries = Listed::empty(alloc);
-    for _ in 0..count {
-        entries.push(next_entry(fields, roots, next, rest)?)?;
+    match add_entries(&mut entries, fields, roots, count, next, rest) {
+        Ok(()) => Ok(entries),
+        Err(stop) => Err(stop),
     }
-    Ok(entries)
 }
 
-/// The instruction that begins with the line `first`. For a commit its entry lines are taken from `rest`, which holds the
-/// lines after `first`, up to the end of the input.
+/// The instruction of a step. For a commit its entry lines are taken from `rest`, whose first line would have the number
+/// `next`.
+#[tactic(auto, using(crate::proofs::LinesLeft::left_all, crate::proofs::LinesAfter::left_at))]
+fn completed(
+    alloc: Global,
+    fields: &[FieldDecl],
+    roots: &[RootDecl],
+    step: Step,
+    next: u32,
+    rest: &mut Lines,
+) -> Result<Instr, ParseError>
+    requires few_fields { length fields.now ≤ 16 }
+    requires few_roots { length roots.now ≤ 256 }
+    requires ordered { AreFrom next rest.old }
+    requires room { next + length rest.old < 2 ^ 32 }
+    ensures instr { Answers (λ i. (i, rest.new)) result (completed fields.now roots.now (next + length rest.old) (step_shown step) rest.old) }
+    ensures fault { IfErr result (λ error. AreLeftAt error rest.old rest.new) }
+    ensures left { AreLeftOf rest.old rest.new }
+{
+    let mut next = next;
+    match step {
+        Step::Whole(instr) => Ok(instr),
+        Step::Commits(count) => match entries(alloc, fields, roots, count, &mut next, rest) {
+            Ok(entries) => Ok(Instr::Commit(entries)),
+            Err(error) => Err(error),
+        },
+    }
+}
+
+/// The instruction that begins with the line `first`, in the second version. For a commit its entry lines are taken from
+/// `rest`, which holds the lines after `first`, up to the end of the input.
 ///
-/// `first` isn't skipped, the input has fewer than 2^32 - 1 lines, there are at most 4 fields and 256 roots, and no two of
-/// a kind have one name.
+/// `first` isn't skipped, the input has fewer than 2^32 - 1 lines, there are at most 4 kinds, 16 fields and 256 roots, and no
+/// two fields and no two roots have one name.
 ///
 /// # Errors
 ///
@@ -113,30 +203,25 @@ pub fn parse_instr<'a>(
     rest: &mut Lines<'a>,
     fields: &Fields,
     roots: &Roots,
+    kinds: &Kinds,
 ) -> Result<Instr, ParseError>
     requires stands { are_skipped (words_of (line_shown first).bytes) ≡ false }
     requires behind { AreFrom ((line_shown first).number + 1) rest.old }
     requires room { (line_shown first).number + 1 + length rest.old < 2 ^ 32 }
-    requires few_fields { length fields.now ≤ 4 }
+    requires few_kinds { length kinds.now ≤ 4 }
+    requires few_fields { length fields.now ≤ 16 }
     requires few_roots { length roots.now ≤ 256 }
     requires fields_differ { IsTrue (are_different (map (λ field. field.name) fields.now)) }
     requires roots_differ { IsTrue (are_different (map (λ root. root.name) roots.now)) }
-    ensures instr { Answers (λ i. (i, rest.new)) result (instr_read fields.now roots.now (line_shown first.entry) rest.old) }
+    ensures instr { Answers (λ i. (i, rest.new)) result (instr_read kinds.now fields.now roots.now (line_shown first.entry) rest.old) }
     ensures fault { IfErr result (λ error. AreLeftAt error rest.old rest.new) }
     ensures left { AreLeftOf rest.old rest.new }
 {
     let fields = fields.items();
     let roots = roots.items();
     let number = first.number();
-    match step_of(fields, roots, first) {
+    match step_of(kinds.items(), fields, roots, first) {
         Err(fault) => Err(Stop::Fault(fault).at(number)),
-        Ok(Step::Whole(instr)) => Ok(instr),
-        Ok(Step::Commits(count)) => {
-            let mut next = number + 1;
-            match entries(alloc, fields, roots, count, &mut next, rest) {
-                Ok(entries) => Ok(Instr::Commit(entries)),
-                Err(error) => Err(error),
-            }
-        }
+        Ok(step) => completed(alloc, fields, roots, step, number + 1, rest),
     }
 }

@@ -15,4 +15,4 @@ pub use head::Head;
 pub use instruction::parse_instr;
 pub use line_words::fault::{ParseError, ParseFault};
 pub use reader::{parse, parse_front, parse_head};
-pub use version::after_version;
+pub use version::{after_second_version, after_version, numbered_version};

@@ -1,9 +1,6 @@
 -- That all is answered which nothing refuses.
-use Rattle.std.proofs.Common.{◌≡◌, ℕ, ◌+◌, ◌<◌, Bool, true, false, List, [], ◌++◌, length, Option, Some, None, Result, Ok, Err, inl, inr, ⊎_elim, refl, sym, ap, subst, ◌∙◌, arith}
+use Rattle.std.proofs.Common.{◌≡◌, ℕ, ◌<◌, ◌⊎◌, Bool, true, false, List, [], ◌++◌, length, Option, Some, None, Result, Ok, Err, inl, inr, ⊎_elim, refl, sym, ap, subst, ◌∙◌, arith}
 use Rattle.std.proofs.lemmas.Bool.{false≢true}
-use Rattle.std.proofs.lemmas.List.{length-append, append-nil}
-use Rattle.std.specs.Option.{unwrap_or}
-use Rattle.std.specs.Io.KnownBytes.{Consumes, IsAtEnd}
 use Rattle.std.specs.Prelude.{IsTrue, if◌then◌else◌}
 use Rattle.oa_text.specs.Causes.{Rose}
 use Rattle.norm_lang.specs.declared.text.Text.{Text}
@@ -23,36 +20,20 @@ use Rattle.command_input.specs.declared.command.Command.{Command}
 use Rattle.command_input.specs.declared.command.Command.TheVariants as commands
 use Rattle.command_input.specs.declared.command.Request.{Request}
 use Rattle.command_input.specs.declared.command.Request.TheVariants as requests
-use Rattle.verdicts.specs.declared.verdict.Verdict.{Verdict}
-use Rattle.verdicts.specs.declared.verdict.Verdict.TheVariants as verdicts
-use Rattle.oa_cli.specs.Complete.{IsAccepted, HasAccepted, CanBeAnswered, IsAnsweredStatus, IsComplete}
-use Rattle.oa_cli.specs.Verdicts.{LIMIT, ReadsAll, takes_rules, IsShapeRefused, IsOfBytes, IsOfSource, IsOfWorkload, IsOfRequest}
-use Rattle.verdicts.specs.Telling.{IsSaid, text_for, status_for}
+use Rattle.oa_cli.specs.declared.verdicts.verdict.Verdict.{Verdict}
+use Rattle.oa_cli.specs.declared.verdicts.verdict.Verdict.TheVariants as verdicts
+use Rattle.certificates.specs.declared.certificate.Certificate.{Certificate}
+use Rattle.certificates.specs.CertificateRead.{certificate_read, IsCertificate}
+use Rattle.run_judge.specs.Judged.{verdict_of}
+use Rattle.script_plans.specs.Plans.{IsRunnable}
+use Rattle.oa_cli.specs.Complete.{IsAccepted, HasAccepted, HasCertificate, CanBeAnswered, IsAnsweredStatus, status_found, IsAnswer, IsComplete}
+use Rattle.oa_cli.specs.Judged.{LIMIT, CERTIFICATE_LIMIT, takes_rules, IsShapeRefused, IsOfBytes, IsOfCertificate, IsOfCertificateRead, IsOfCertificateBytes, IsOfSource, IsOfWorkload, IsOfRequest}
+use Rattle.oa_cli.proofs.Sources.{told}
+use Rattle.oa_cli.specs.verdicts.Telling.{IsSaid, text_for, status_for}
 
 done_or_partial : (short : Bool) → IsAnsweredStatus (if short then statuses.Partial else statuses.Done)
 done_or_partial true = inr (inl refl)
 done_or_partial false = inl refl
-
--- ---- what was read is what there was
-
-longer : (p x q : List ℕ) → p ≡ x ++ q → length p < LIMIT → length x ≡ LIMIT → ⊥
-longer p x q is short long =
-    let sum : length p ≡ length x + length q = ap length is ∙ length-append x q in
-    omega (arith, sum, short, long)
-
-pub not_long : (bytes read : List ℕ) (old new : Option (List ℕ)) → old ≡ Some bytes → length bytes < LIMIT → Consumes old new read → length read ≡ LIMIT → ⊥
-not_long bytes read (Some p) (Some q) told short consumes long =
-    let same : p ≡ bytes = ap (λ (o : Option (List ℕ)). unwrap_or o []) told in
-    longer p read q consumes (subst (λ (l : List ℕ). length l < LIMIT) (sym same) short) long
-not_long bytes read (Some p) None told short consumes long = absurd consumes
-not_long bytes read None new told short consumes long = cc
-
-pub all_read : (bytes read : List ℕ) (old new : Option (List ℕ)) → old ≡ Some bytes → Consumes old new read → IsAtEnd new → read ≡ bytes
-all_read bytes read (Some p) (Some q) told consumes end =
-    let same : p ≡ bytes = ap (λ (o : Option (List ℕ)). unwrap_or o []) told in
-    sym (append-nil read) ∙ ap (λ l. read ++ l) (sym end) ∙ sym consumes ∙ same
-all_read bytes read (Some p) None told consumes end = absurd consumes
-all_read bytes read None new told consumes end = cc
 
 -- ---- an accepted document isn't refused
 
@@ -75,9 +56,11 @@ not_refused text refusal normal refused = normal (breach_of refusal) refused.fir
 pub accepted_is_normal : (command : Command) (document : Document) → IsTrue (takes_rules command) → IsAccepted command document → IsNormal document.text
 accepted_is_normal commands.Run document takes accepted = accepted.normal
 accepted_is_normal commands.Replay document takes accepted = accepted.0.normal
+accepted_is_normal commands.Certify document takes accepted = accepted.0.normal
 accepted_is_normal commands.Check document takes accepted = accepted
 accepted_is_normal commands.Compile document takes accepted = accepted
 accepted_is_normal commands.Show document takes accepted = absurd (false≢true takes)
+accepted_is_normal commands.Upgrade document takes accepted = absurd (false≢true takes)
 
 none_is_some : (fault : ShapeFault) → None ≡ Some fault → ⊥
 none_is_some fault same = cc
@@ -85,9 +68,11 @@ none_is_some fault same = cc
 pub has_shape : (command : Command) (document : Document) (number at : ℕ) → IsAccepted command document → IsShapeRefused command document (faults.Shape number at) → ⊥
 has_shape commands.Run document number at accepted refused = none_is_some (record { number = number; at = at }) (sym accepted.shape ∙ refused.1)
 has_shape commands.Replay document number at accepted refused = none_is_some (record { number = number; at = at }) (sym accepted.1 ∙ refused.1)
+has_shape commands.Certify document number at accepted refused = none_is_some (record { number = number; at = at }) (sym accepted.1 ∙ refused.1)
 has_shape commands.Check document number at accepted refused = absurd refused
 has_shape commands.Compile document number at accepted refused = absurd refused
 has_shape commands.Show document number at accepted refused = absurd refused
+has_shape commands.Upgrade document number at accepted refused = absurd refused
 
 -- ---- the verdict on an accepted document
 
@@ -98,6 +83,7 @@ bytes_answered command bytes document (verdicts.Worked report) is accepted judge
 bytes_answered command bytes document verdicts.Accepted is accepted judged = inl refl
 bytes_answered command bytes document (verdicts.Shown spelling) is accepted judged = inl refl
 bytes_answered command bytes document (verdicts.Compiled spelling) is accepted judged = inl refl
+bytes_answered command bytes document (verdicts.Certified spelling partial) is accepted judged = done_or_partial partial
 bytes_answered command bytes document verdicts.Usage is accepted judged = absurd judged.2
 bytes_answered command bytes document verdicts.ReadFault is accepted judged = absurd judged.2
 bytes_answered command bytes document verdicts.LongInput is accepted judged = absurd judged.2
@@ -109,27 +95,15 @@ bytes_answered command bytes document (verdicts.Refused text refusal) is accepte
 bytes_answered command bytes document (verdicts.BadShape number at) is accepted (other, also, refused) =
     absurd (has_shape command document number at accepted (subst (λ (d : Document). IsShapeRefused command d (faults.Shape number at)) (one_document bytes document other is also) refused))
 bytes_answered command bytes document verdicts.Memory is accepted judged = inr (inr refl)
-
-input_answered : (command : Command) (old new : Option (List ℕ)) (read : List ℕ) (verdict : Verdict) → HasAccepted command old → ReadsAll old new read
-    → IsOfBytes command read verdict → IsAnsweredStatus (status_for verdict)
-input_answered command old new read verdict has all judged =
-    let same : read ≡ has.bytes = all_read has.bytes read old new has.told all.read all.done in
-    bytes_answered command has.bytes has.document verdict has.spelled has.accepted (subst (λ (l : List ℕ). IsOfBytes command l verdict) same judged)
+bytes_answered command bytes document (verdicts.Rejected number at) is accepted judged = absurd judged.2
 
 source_answered : (command : Command) (old new : Option (List ℕ)) (before now : ℕ) (verdict : Verdict) → HasAccepted command old → ¬ Rose before now
-    → IsOfSource command old new before now verdict → IsAnsweredStatus (status_for verdict)
-source_answered command old new before now (verdicts.Answered report) has kept (same, bytes, all, judged) = input_answered command old new bytes (verdicts.Answered report) has all judged
-source_answered command old new before now (verdicts.Worked report) has kept (same, bytes, all, judged) = input_answered command old new bytes (verdicts.Worked report) has all judged
-source_answered command old new before now verdicts.Accepted has kept judged = inl refl
-source_answered command old new before now (verdicts.Shown spelling) has kept judged = inl refl
-source_answered command old new before now (verdicts.Compiled spelling) has kept judged = inl refl
-source_answered command old new before now verdicts.Usage has kept (same, bytes, all, judged) = input_answered command old new bytes verdicts.Usage has all judged
-source_answered command old new before now verdicts.ReadFault has kept judged = absurd (kept judged.0)
-source_answered command old new before now verdicts.LongInput has kept (same, bytes, consumes, long) = absurd (not_long has.bytes bytes old new has.told has.short consumes long)
-source_answered command old new before now (verdicts.BadDocument fault) has kept (same, bytes, all, judged) = input_answered command old new bytes (verdicts.BadDocument fault) has all judged
-source_answered command old new before now (verdicts.Refused text refusal) has kept (same, bytes, all, judged) = input_answered command old new bytes (verdicts.Refused text refusal) has all judged
-source_answered command old new before now (verdicts.BadShape number at) has kept (same, bytes, all, judged) = input_answered command old new bytes (verdicts.BadShape number at) has all judged
-source_answered command old new before now verdicts.Memory has kept judged = inr (inr refl)
+    → IsOfSource LIMIT (IsOfBytes command) old new before now verdict → IsAnsweredStatus (status_for verdict)
+source_answered command old new before now verdict has kept judged =
+    ⊎_elim
+    (λ memory. inr (inr memory))
+    (λ says. bytes_answered command has.bytes has.document verdict has.spelled has.accepted says)
+    (told LIMIT (IsOfBytes command) old new before now has.bytes verdict has.told has.short kept judged)
 
 workload_answered : (count callers : ℕ) (verdict : Verdict) → IsOfWorkload count callers verdict → IsAnsweredStatus (status_for verdict)
 workload_answered count callers (verdicts.Worked report) judged = done_or_partial (is_short report)
@@ -144,11 +118,81 @@ workload_answered count callers verdicts.LongInput judged = absurd judged
 workload_answered count callers (verdicts.BadDocument fault) judged = absurd judged
 workload_answered count callers (verdicts.Refused text refusal) judged = absurd judged
 workload_answered count callers (verdicts.BadShape number at) judged = absurd judged
+workload_answered count callers (verdicts.Certified spelling partial) judged = absurd judged
+workload_answered count callers (verdicts.Rejected number at) judged = absurd judged
 
-request_answered : (request : Option Request) (old new : Option (List ℕ)) (before now : ℕ) (verdict : Verdict) → CanBeAnswered request old → ¬ Rose before now
-    → IsOfRequest request old new before now verdict → IsAnsweredStatus (status_for verdict)
-request_answered None old new before now verdict can kept judged = absurd can
+-- ---- the verdict on a certificate of a document that can be run
+
+abbrev IsFoundStatus : Certificate → Status → Type 0
+IsFoundStatus certificate status = (status ≡ status_found (verdict_of certificate)) ⊎ (status ≡ statuses.Memory)
+
+not_certified : (bytes : List ℕ) (certificate : Certificate) (fault : LineFault) → certificate_read bytes ≡ Ok certificate → certificate_read bytes ≡ Err fault → ⊥
+not_certified bytes certificate fault is not = clash (sym is ∙ not)
+  where
+    clash : Ok certificate ≡ Err fault → ⊥
+    clash same = cc
+
+abbrev certificate_in : Certificate → Result Certificate LineFault → Certificate
+certificate_in certificate (Ok other) = other
+certificate_in certificate (Err fault) = certificate
+
+one_certificate : (bytes : List ℕ) (certificate other : Certificate) → certificate_read bytes ≡ Ok certificate → certificate_read bytes ≡ Ok other → other ≡ certificate
+one_certificate bytes certificate other is also = ap (certificate_in certificate) (sym also ∙ is)
+
+certificate_found : (certificate : Certificate) (verdict : Verdict) → IsRunnable certificate.document → IsOfCertificate certificate verdict → IsFoundStatus certificate (status_for verdict)
+certificate_found certificate (verdicts.Answered report) runnable judged = absurd judged
+certificate_found certificate (verdicts.Worked report) runnable judged = absurd judged
+certificate_found certificate verdicts.Accepted runnable judged = inl (ap status_found judged.found.1)
+certificate_found certificate (verdicts.Shown spelling) runnable judged = absurd judged
+certificate_found certificate (verdicts.Compiled spelling) runnable judged = absurd judged
+certificate_found certificate (verdicts.Certified spelling partial) runnable judged = absurd judged
+certificate_found certificate verdicts.Usage runnable judged = absurd judged
+certificate_found certificate verdicts.ReadFault runnable judged = absurd judged
+certificate_found certificate verdicts.LongInput runnable judged = absurd judged
+certificate_found certificate (verdicts.BadDocument fault) runnable judged = absurd judged
+certificate_found certificate (verdicts.Refused text refusal) runnable judged = absurd (not_refused text refusal (subst IsNormal (sym judged.0) runnable.normal) judged.1)
+certificate_found certificate (verdicts.BadShape number at) runnable judged = absurd (none_is_some (record { number = number; at = at }) (sym runnable.shape ∙ judged.1))
+certificate_found certificate verdicts.Memory runnable judged = inr refl
+certificate_found certificate (verdicts.Rejected number at) runnable judged = inl (ap status_found judged.found.1)
+
+-- the certificate that was judged is the one that the bytes spell
+read_found : (bytes : List ℕ) (certificate : Certificate) (verdict : Verdict) → IsCertificate bytes certificate → IsRunnable certificate.document
+    → IsOfCertificateRead bytes verdict → IsFoundStatus certificate (status_for verdict)
+read_found bytes certificate verdict is runnable (other, also, found) =
+    certificate_found certificate verdict runnable (subst (λ (c : Certificate). IsOfCertificate c verdict) (one_certificate bytes certificate other is also) found)
+
+bytes_found : (bytes : List ℕ) (certificate : Certificate) (verdict : Verdict) → IsCertificate bytes certificate → IsRunnable certificate.document
+    → IsOfCertificateBytes bytes verdict → IsFoundStatus certificate (status_for verdict)
+bytes_found bytes certificate (verdicts.Answered report) is runnable judged = read_found bytes certificate (verdicts.Answered report) is runnable judged
+bytes_found bytes certificate (verdicts.Worked report) is runnable judged = read_found bytes certificate (verdicts.Worked report) is runnable judged
+bytes_found bytes certificate verdicts.Accepted is runnable judged = read_found bytes certificate verdicts.Accepted is runnable judged
+bytes_found bytes certificate (verdicts.Shown spelling) is runnable judged = read_found bytes certificate (verdicts.Shown spelling) is runnable judged
+bytes_found bytes certificate (verdicts.Compiled spelling) is runnable judged = read_found bytes certificate (verdicts.Compiled spelling) is runnable judged
+bytes_found bytes certificate (verdicts.Certified spelling partial) is runnable judged = read_found bytes certificate (verdicts.Certified spelling partial) is runnable judged
+bytes_found bytes certificate verdicts.Usage is runnable judged = read_found bytes certificate verdicts.Usage is runnable judged
+bytes_found bytes certificate verdicts.ReadFault is runnable judged = read_found bytes certificate verdicts.ReadFault is runnable judged
+bytes_found bytes certificate verdicts.LongInput is runnable judged = read_found bytes certificate verdicts.LongInput is runnable judged
+bytes_found bytes certificate (verdicts.BadDocument fault) is runnable judged = absurd (not_certified bytes certificate _ is judged)
+bytes_found bytes certificate (verdicts.Refused text refusal) is runnable judged = read_found bytes certificate (verdicts.Refused text refusal) is runnable judged
+bytes_found bytes certificate (verdicts.BadShape number at) is runnable judged = read_found bytes certificate (verdicts.BadShape number at) is runnable judged
+bytes_found bytes certificate verdicts.Memory is runnable judged = inr refl
+bytes_found bytes certificate (verdicts.Rejected number at) is runnable judged = read_found bytes certificate (verdicts.Rejected number at) is runnable judged
+
+certificate_answered : (old new : Option (List ℕ)) (before now : ℕ) (verdict : Verdict) → (has : HasCertificate old) → ¬ Rose before now
+    → IsOfSource CERTIFICATE_LIMIT IsOfCertificateBytes old new before now verdict → IsFoundStatus has.certificate (status_for verdict)
+certificate_answered old new before now verdict has kept judged =
+    ⊎_elim
+    (λ memory. inr memory)
+    (λ says. bytes_found has.bytes has.certificate verdict has.spelled has.runnable says)
+    (told CERTIFICATE_LIMIT IsOfCertificateBytes old new before now has.bytes verdict has.told has.short kept judged)
+
+-- ---- the whole
+
+request_answered : (request : Option Request) (old new : Option (List ℕ)) (before now : ℕ) (verdict : Verdict) → (can : CanBeAnswered request old) → ¬ Rose before now
+    → IsOfRequest request old new before now verdict → IsAnswer request old can (status_for verdict)
+request_answered None old new before now verdict can kept judged = tt
 request_answered (Some (requests.OfDocument command)) old new before now verdict can kept judged = source_answered command old new before now verdict can kept judged
+request_answered (Some requests.OfCertificate) old new before now verdict can kept judged = certificate_answered old new before now verdict can kept judged
 request_answered (Some (requests.Workload count callers)) old new before now verdict can kept judged = workload_answered count callers verdict judged.0
 
 pub complete : (request : Option Request) (old new : Option (List ℕ)) (before now : ℕ) (verdict : Verdict) (held holds : Option (List ℕ)) (earlier later : ℕ) (result : Status)
@@ -156,6 +200,6 @@ pub complete : (request : Option Request) (old new : Option (List ℕ)) (before 
     → IsComplete request old before now earlier later result
 complete request old new before now verdict held holds earlier later result judged said can read_kept write_kept =
     ⊎_elim
-    (λ done. subst IsAnsweredStatus (sym done.0) (request_answered request old new before now verdict can read_kept judged))
+    (λ done. subst (IsAnswer request old can) (sym done.0) (request_answered request old new before now verdict can read_kept judged))
     (λ stopped. absurd (write_kept stopped.1))
     said

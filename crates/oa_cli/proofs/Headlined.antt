@@ -11,21 +11,22 @@ use Rattle.script_plans.specs.declared.fault.RunFault.TheVariants as faults
 use Rattle.document_runs.specs.declared.report.Report.{Report}
 use Rattle.document_runs.specs.Texts.{report_text, is_partial}
 use Rattle.core_runs.specs.Machine.{CoreState, CoreEvent}
-use Rattle.report_laws.specs.Lines.{TellsOf}
-use Rattle.report_laws.specs.Sources.{HasSourceRun}
+use Rattle.script_driver.specs.report_laws.Lines.{TellsOf}
+use Rattle.script_driver.specs.report_laws.Sources.{HasSourceRun}
 use Rattle.statuses.specs.declared.status.Status.{Status}
 use Rattle.statuses.specs.declared.status.Status.TheVariants as statuses
 use Rattle.command_input.specs.declared.command.Command.{Command}
 use Rattle.command_input.specs.declared.command.Command.TheVariants as commands
 use Rattle.command_input.specs.declared.command.Request.{Request}
 use Rattle.command_input.specs.declared.command.Request.TheVariants as requests
-use Rattle.verdicts.specs.declared.verdict.Verdict.{Verdict}
-use Rattle.verdicts.specs.declared.verdict.Verdict.TheVariants as verdicts
-use Rattle.verdicts.specs.Telling.{IsSaid, text_for, status_for}
+use Rattle.oa_cli.specs.declared.verdicts.verdict.Verdict.{Verdict}
+use Rattle.oa_cli.specs.declared.verdicts.verdict.Verdict.TheVariants as verdicts
+use Rattle.oa_cli.specs.verdicts.Telling.{IsSaid, text_for, status_for}
 use Rattle.oa_cli.specs.Complete.{HasAccepted, IsAccepted}
-use Rattle.oa_cli.specs.Verdicts.{ReadsAll, IsAnswered, IsShapeRefused, IsOfBytes, IsOfSource, IsOfRequest}
+use Rattle.oa_cli.specs.Judged.{LIMIT, IsAnswered, IsShapeRefused, IsShown, IsOfBytes, IsOfSource, IsOfRequest}
 use Rattle.oa_cli.specs.Headline.{MakesCalls, Premises, IsTakenForProper, Promise, IsPrinted, Headline}
-use Rattle.oa_cli.proofs.Completing.{not_long, all_read, not_faulty, one_document, not_refused, accepted_is_normal, has_shape}
+use Rattle.oa_cli.proofs.Completing.{not_faulty, one_document, not_refused, accepted_is_normal, has_shape}
+use Rattle.oa_cli.proofs.Sources.{told}
 
 -- ---- the verdict is a report's
 
@@ -38,14 +39,25 @@ pub record IsReport (command : Command) (document : Document) (verdict : Verdict
 other_command : {A : Type 0} (command other : Command) → MakesCalls command → command ≡ other → (MakesCalls other → ⊥) → A
 other_command command other makes same none = absurd (none (subst MakesCalls same makes))
 
+-- a command that makes calls writes out no document
+writes_none : {A : Type 0} (command : Command) (document : Document) (spelling : List ℕ) → MakesCalls command → IsShown command document spelling → A
+writes_none commands.Run document spelling makes shown = absurd shown
+writes_none commands.Replay document spelling makes shown = absurd shown
+writes_none commands.Check document spelling makes shown = absurd makes
+writes_none commands.Compile document spelling makes shown = absurd makes
+writes_none commands.Show document spelling makes shown = absurd makes
+writes_none commands.Upgrade document spelling makes shown = absurd makes
+writes_none commands.Certify document spelling makes shown = absurd makes
+
 bytes_told : (command : Command) (bytes : List ℕ) (document : Document) (verdict : Verdict) → MakesCalls command → IsDocument bytes document → IsAccepted command document
     → status_for verdict ≢ statuses.Memory → IsOfBytes command bytes verdict → IsReport command document verdict
 bytes_told command bytes document (verdicts.Answered report) makes is accepted memory (other, also, answered) =
     record { report = report; same = refl; answered = subst (λ (d : Document). IsAnswered command d report) (one_document bytes document other is also) answered }
 bytes_told command bytes document (verdicts.Worked report) makes is accepted memory judged = absurd judged.2
 bytes_told command bytes document verdicts.Accepted makes is accepted memory (other, also, found) = other_command command commands.Check makes found.0 (λ none. none)
-bytes_told command bytes document (verdicts.Shown spelling) makes is accepted memory (other, also, found) = other_command command commands.Show makes found.0 (λ none. none)
+bytes_told command bytes document (verdicts.Shown spelling) makes is accepted memory (other, also, found) = writes_none command other spelling makes found
 bytes_told command bytes document (verdicts.Compiled spelling) makes is accepted memory (other, also, found) = other_command command commands.Compile makes found.0 (λ none. none)
+bytes_told command bytes document (verdicts.Certified spelling partial) makes is accepted memory (other, also, found) = other_command command commands.Certify makes found.0 (λ none. none)
 bytes_told command bytes document verdicts.Usage makes is accepted memory judged = absurd judged.2
 bytes_told command bytes document verdicts.ReadFault makes is accepted memory judged = absurd judged.2
 bytes_told command bytes document verdicts.LongInput makes is accepted memory judged = absurd judged.2
@@ -57,27 +69,15 @@ bytes_told command bytes document (verdicts.Refused text refusal) makes is accep
 bytes_told command bytes document (verdicts.BadShape number at) makes is accepted memory (other, also, refused) =
     absurd (has_shape command document number at accepted (subst (λ (d : Document). IsShapeRefused command d (faults.Shape number at)) (one_document bytes document other is also) refused))
 bytes_told command bytes document verdicts.Memory makes is accepted memory judged = absurd (memory refl)
-
-input_told : (command : Command) (old new : Option (List ℕ)) (read : List ℕ) (verdict : Verdict) → MakesCalls command → (has : HasAccepted command old) → status_for verdict ≢ statuses.Memory → ReadsAll old new read
-    → IsOfBytes command read verdict → IsReport command has.document verdict
-input_told command old new read verdict makes has memory all judged =
-    let same : read ≡ has.bytes = all_read has.bytes read old new has.told all.read all.done in
-    bytes_told command has.bytes has.document verdict makes has.spelled has.accepted memory (subst (λ (l : List ℕ). IsOfBytes command l verdict) same judged)
+bytes_told command bytes document (verdicts.Rejected number at) makes is accepted memory judged = absurd judged.2
 
 source_told : (command : Command) (old new : Option (List ℕ)) (before now : ℕ) (verdict : Verdict) → MakesCalls command → (has : HasAccepted command old) → ¬ Rose before now → status_for verdict ≢ statuses.Memory
-    → IsOfSource command old new before now verdict → IsReport command has.document verdict
-source_told command old new before now (verdicts.Answered report) makes has kept memory (same, bytes, all, judged) = input_told command old new bytes (verdicts.Answered report) makes has memory all judged
-source_told command old new before now (verdicts.Worked report) makes has kept memory (same, bytes, all, judged) = input_told command old new bytes (verdicts.Worked report) makes has memory all judged
-source_told command old new before now verdicts.Accepted makes has kept memory (same, bytes, all, judged) = input_told command old new bytes verdicts.Accepted makes has memory all judged
-source_told command old new before now (verdicts.Shown spelling) makes has kept memory (same, bytes, all, judged) = input_told command old new bytes (verdicts.Shown spelling) makes has memory all judged
-source_told command old new before now (verdicts.Compiled spelling) makes has kept memory (same, bytes, all, judged) = input_told command old new bytes (verdicts.Compiled spelling) makes has memory all judged
-source_told command old new before now verdicts.Usage makes has kept memory (same, bytes, all, judged) = input_told command old new bytes verdicts.Usage makes has memory all judged
-source_told command old new before now verdicts.ReadFault makes has kept memory judged = absurd (kept judged.0)
-source_told command old new before now verdicts.LongInput makes has kept memory (same, bytes, consumes, long) = absurd (not_long has.bytes bytes old new has.told has.short consumes long)
-source_told command old new before now (verdicts.BadDocument fault) makes has kept memory (same, bytes, all, judged) = input_told command old new bytes (verdicts.BadDocument fault) makes has memory all judged
-source_told command old new before now (verdicts.Refused text refusal) makes has kept memory (same, bytes, all, judged) = input_told command old new bytes (verdicts.Refused text refusal) makes has memory all judged
-source_told command old new before now (verdicts.BadShape number at) makes has kept memory (same, bytes, all, judged) = input_told command old new bytes (verdicts.BadShape number at) makes has memory all judged
-source_told command old new before now verdicts.Memory makes has kept memory judged = absurd (memory refl)
+    → IsOfSource LIMIT (IsOfBytes command) old new before now verdict → IsReport command has.document verdict
+source_told command old new before now verdict makes has kept memory judged =
+    ⊎_elim
+    (λ none. absurd (memory none))
+    (λ says. bytes_told command has.bytes has.document verdict makes has.spelled has.accepted memory says)
+    (told LIMIT (IsOfBytes command) old new before now has.bytes verdict has.told has.short kept judged)
 
 -- ---- the promise
 
@@ -109,6 +109,8 @@ promised commands.Replay document report is = record {
 promised commands.Check document report is = absurd is
 promised commands.Compile document report is = absurd is
 promised commands.Show document report is = absurd is
+promised commands.Upgrade document report is = absurd is
+promised commands.Certify document report is = absurd is
 
 -- ---- the whole
 
@@ -125,7 +127,7 @@ abbrev IsDoneOrPartial : Status → Type 0
 IsDoneOrPartial status = (status ≡ statuses.Done) ⊎ (status ≡ statuses.Partial)
 
 done : (command : Command) (old new held holds : Option (List ℕ)) (before now earlier later : ℕ) (verdict : Verdict) (status : Status) (given : Premises command old held before now earlier later status)
-    → IsOfSource command old new before now verdict → status ≡ status_for verdict → Appends held holds (text_for verdict) → IsPrinted command given.bytes_told.document given.written holds status
+    → IsOfSource LIMIT (IsOfBytes command) old new before now verdict → status ≡ status_for verdict → Appends held holds (text_for verdict) → IsPrinted command given.bytes_told.document given.written holds status
 done command old new held holds before now earlier later verdict status given judged same added =
     let it = source_told command old new before now verdict given.calls given.bytes_told given.reads (λ memory. given.memory (same ∙ memory)) judged in
     record {
@@ -138,6 +140,7 @@ done command old new held holds before now earlier later verdict status given ju
 pub headline : (request : Option Request) (old new held holds : Option (List ℕ)) (before now earlier later : ℕ) (verdict : Verdict) (status : Status) → IsOfRequest request old new before now verdict
     → IsSaid held holds earlier later (text_for verdict) (status_for verdict) status → Headline request old held holds before now earlier later status
 headline None old new held holds before now earlier later verdict status judged said = tt
+headline (Some requests.OfCertificate) old new held holds before now earlier later verdict status judged said = tt
 headline (Some (requests.Workload count callers)) old new held holds before now earlier later verdict status judged said = tt
 headline (Some (requests.OfDocument command)) old new held holds before now earlier later verdict status judged said = λ given.
     ⊎_elim (λ whole. done command old new held holds before now earlier later verdict status given judged whole.0 whole.2) (λ stopped. absurd (given.writes stopped.1)) said

@@ -6,7 +6,9 @@ use Rattle.script_plans.specs.declared.fault.RunFault.TheVariants as faults
 use Rattle.script_plans.specs.Plans.{IsFaultOf}
 use Rattle.document_runs.specs.Runs.{IsReplayFaultOf}
 use Rattle.command_input.specs.declared.command.Command.TheVariants as commands
-use Rattle.oa_cli.specs.Verdicts.{IsFound, fault_verdict}
+use Rattle.certificates.specs.declared.certificate.Certificate.{Certificate}
+use Rattle.run_judge.specs.Made.{IsMakingFaultOf}
+use Rattle.oa_cli.specs.Judged.{IsFound, IsFoundOfCertificate, fault_verdict}
 
 pub run_refused : (document : Document) (fault : RunFault) → IsFaultOf document fault → IsFound commands.Run document (fault_verdict fault)
 run_refused document faults.Memory is = tt
@@ -17,3 +19,13 @@ pub replay_refused : (document : Document) (fault : RunFault) → IsReplayFaultO
 replay_refused document faults.Memory is = tt
 replay_refused document (faults.Refused refusal) is = (refl, is)
 replay_refused document (faults.Shape number at) is = is
+
+pub certify_refused : (document : Document) (fault : RunFault) → IsMakingFaultOf document fault → IsFound commands.Certify document (fault_verdict fault)
+certify_refused document faults.Memory is = tt
+certify_refused document (faults.Refused refusal) is = (refl, is)
+certify_refused document (faults.Shape number at) is = is
+
+pub certificate_refused : (certificate : Certificate) (fault : RunFault) → IsFaultOf certificate.document fault → IsFoundOfCertificate certificate (fault_verdict fault)
+certificate_refused certificate faults.Memory is = tt
+certificate_refused certificate (faults.Refused refusal) is = is
+certificate_refused certificate (faults.Shape number at) is = is

@@ -3,17 +3,16 @@ use Rattle.std.proofs.Common.{◌≡◌, ℕ, ◌<◌, ◌≤◌, true, false, L
 use Rattle.std.proofs.lemmas.List.{take_all}
 use Rattle.std.specs.Io.KnownBytes.{Appends, Keeps}
 use Rattle.oa_text.specs.Causes.{one_more}
-use Rattle.verdicts.specs.Endings.{is_write_fault, IsFinished}
+use Rattle.oa_cli.specs.verdicts.Endings.{is_write_fault, IsFinished}
 use Rattle.command_input.specs.Commands.{request_of}
-use Rattle.oa_cli.specs.Verdicts.{IsOfSource, IsOfRequest, IsJudged, FaultsAreTold}
-use Rattle.verdicts.specs.Telling.{IsSaid, text_for, status_for}
-use Rattle.command_input.specs.declared.command.Command.{Command}
+use Rattle.oa_cli.specs.Judged.{LIMIT, CERTIFICATE_LIMIT, IsOfBytes, IsOfCertificateBytes, IsOfSource, IsOfRequest, IsJudged, FaultsAreTold}
+use Rattle.oa_cli.specs.verdicts.Telling.{IsSaid, text_for, status_for}
 use Rattle.command_input.specs.declared.command.Request.{Request}
 use Rattle.command_input.specs.declared.command.Request.TheVariants as requests
 use Rattle.statuses.specs.declared.status.Status.{Status}
 use Rattle.statuses.specs.declared.status.Status.TheVariants as statuses
-use Rattle.verdicts.specs.declared.verdict.Verdict.{Verdict}
-use Rattle.verdicts.specs.declared.verdict.Verdict.TheVariants as verdicts
+use Rattle.oa_cli.specs.declared.verdicts.verdict.Verdict.{Verdict}
+use Rattle.oa_cli.specs.declared.verdicts.verdict.Verdict.TheVariants as verdicts
 
 appends_kept : (old mid new : Option (List ℕ)) (text : List ℕ) → Appends old mid text → Keeps mid new → Appends old new text
 appends_kept None mid new text added keeps = tt
@@ -48,25 +47,28 @@ none_rose : (before now : ℕ) → now ≡ before → before < now → ⊥
 none_rose before now same rose = omega arith
 
 -- a verdict other than that of a fault of reading leaves the source's count
-source_told : (command : Command) (old new : Option (List ℕ)) (before now : ℕ) (verdict : Verdict)
-    → IsOfSource command old new before now verdict → before < now → status_for verdict ≡ statuses.ReadFault
-source_told command old new before now (verdicts.Answered report) judged rose = absurd (none_rose before now judged.0 rose)
-source_told command old new before now (verdicts.Worked report) judged rose = absurd (none_rose before now judged.0 rose)
-source_told command old new before now verdicts.Accepted judged rose = absurd (none_rose before now judged.0 rose)
-source_told command old new before now (verdicts.Shown spelling) judged rose = absurd (none_rose before now judged.0 rose)
-source_told command old new before now (verdicts.Compiled spelling) judged rose = absurd (none_rose before now judged.0 rose)
-source_told command old new before now verdicts.Usage judged rose = absurd (none_rose before now judged.0 rose)
-source_told command old new before now verdicts.ReadFault judged rose = refl
-source_told command old new before now verdicts.LongInput judged rose = absurd (none_rose before now judged.0 rose)
-source_told command old new before now (verdicts.BadDocument fault) judged rose = absurd (none_rose before now judged.0 rose)
-source_told command old new before now (verdicts.Refused text refusal) judged rose = absurd (none_rose before now judged.0 rose)
-source_told command old new before now (verdicts.BadShape number at) judged rose = absurd (none_rose before now judged.0 rose)
-source_told command old new before now verdicts.Memory judged rose = absurd (none_rose before now judged rose)
+source_told : (limit : ℕ) (Says : List ℕ → Verdict → Type 0) (old new : Option (List ℕ)) (before now : ℕ) (verdict : Verdict)
+    → IsOfSource limit Says old new before now verdict → before < now → status_for verdict ≡ statuses.ReadFault
+source_told limit Says old new before now (verdicts.Answered report) judged rose = absurd (none_rose before now judged.0 rose)
+source_told limit Says old new before now (verdicts.Worked report) judged rose = absurd (none_rose before now judged.0 rose)
+source_told limit Says old new before now verdicts.Accepted judged rose = absurd (none_rose before now judged.0 rose)
+source_told limit Says old new before now (verdicts.Shown spelling) judged rose = absurd (none_rose before now judged.0 rose)
+source_told limit Says old new before now (verdicts.Compiled spelling) judged rose = absurd (none_rose before now judged.0 rose)
+source_told limit Says old new before now (verdicts.Certified spelling partial) judged rose = absurd (none_rose before now judged.0 rose)
+source_told limit Says old new before now verdicts.Usage judged rose = absurd (none_rose before now judged.0 rose)
+source_told limit Says old new before now verdicts.ReadFault judged rose = refl
+source_told limit Says old new before now verdicts.LongInput judged rose = absurd (none_rose before now judged.0 rose)
+source_told limit Says old new before now (verdicts.BadDocument fault) judged rose = absurd (none_rose before now judged.0 rose)
+source_told limit Says old new before now (verdicts.Refused text refusal) judged rose = absurd (none_rose before now judged.0 rose)
+source_told limit Says old new before now (verdicts.BadShape number at) judged rose = absurd (none_rose before now judged.0 rose)
+source_told limit Says old new before now verdicts.Memory judged rose = absurd (none_rose before now judged rose)
+source_told limit Says old new before now (verdicts.Rejected number at) judged rose = absurd (none_rose before now judged.0 rose)
 
 read_told : (request : Option Request) (old new : Option (List ℕ)) (before now : ℕ) (verdict : Verdict)
     → IsOfRequest request old new before now verdict → before < now → status_for verdict ≡ statuses.ReadFault
 read_told None old new before now verdict judged rose = absurd (none_rose before now judged.1.faults rose)
-read_told (Some (requests.OfDocument command)) old new before now verdict judged rose = source_told command old new before now verdict judged rose
+read_told (Some (requests.OfDocument command)) old new before now verdict judged rose = source_told LIMIT (IsOfBytes command) old new before now verdict judged rose
+read_told (Some requests.OfCertificate) old new before now verdict judged rose = source_told CERTIFICATE_LIMIT IsOfCertificateBytes old new before now verdict judged rose
 read_told (Some (requests.Workload count callers)) old new before now verdict judged rose = absurd (none_rose before now judged.1.faults rose)
 
 -- each fault is told

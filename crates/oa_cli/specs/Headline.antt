@@ -7,7 +7,7 @@
 --
 -- It is the clause `headline` of `oa_main`. The clause `judged` implies it, by this chain of definitions:
 --
---     oa_cli/specs/Verdicts        IsJudged, IsOfRequest, IsOfSource, IsOfInput, IsOfBytes, IsOfRead, IsOfDocument, IsAnswered
+--     oa_cli/specs/Judged        IsJudged, IsOfRequest, IsOfSource, IsOfInput, IsOfBytes, IsOfRead, IsOfDocument, IsAnswered
 --     report_laws/specs/Runs       IsRunReport, IsReplayReport
 --     report_laws/specs/Lines      TellsOf, IsTrueLine
 --     report_laws/specs/Sources    HasSourceRun, IsSourceLine
@@ -35,9 +35,9 @@ use Rattle.document_runs.specs.declared.report.Report.{Report}
 use Rattle.document_runs.specs.Reports.{report_of}
 use Rattle.document_runs.specs.Runs.{IsCompleteRunOf, replay_given}
 use Rattle.document_runs.specs.Texts.{report_text}
-use Rattle.report_laws.specs.Legal.{HasLegalHistory}
-use Rattle.report_laws.specs.Lines.{IsTrueLine}
-use Rattle.report_laws.specs.Sources.{HasSourceRun, IsNamed}
+use Rattle.script_driver.specs.report_laws.Legal.{HasLegalHistory}
+use Rattle.script_driver.specs.report_laws.Lines.{IsTrueLine}
+use Rattle.script_driver.specs.report_laws.Sources.{HasSourceRun, IsNamed}
 use Rattle.statuses.specs.declared.status.Status.{Status}
 use Rattle.statuses.specs.declared.status.Status.TheVariants as statuses
 use Rattle.command_input.specs.declared.command.Command.{Command}
@@ -48,13 +48,15 @@ use Rattle.oa_cli.specs.Complete.{HasAccepted}
 
 -- ---- the premises
 
--- the command makes a document's calls
+-- the command makes a document's calls, and prints their answers
 abbrev pub MakesCalls : Command → Type 0
 MakesCalls commands.Run = Unit {0}
 MakesCalls commands.Replay = Unit {0}
 MakesCalls commands.Check = ⊥
 MakesCalls commands.Compile = ⊥
 MakesCalls commands.Show = ⊥
+MakesCalls commands.Upgrade = ⊥
+MakesCalls commands.Certify = ⊥
 
 -- `bytes_told`: the source tells its bytes, which are a document that the command accepts. `text_told`: the sink tells what was written to
 -- it before the call. `memory`: memory suffices. `reads`, `writes`: no fault is counted in the call. The counts are exact, by what the
@@ -109,6 +111,7 @@ pub record IsPrinted (command : Command) (document : Document) (written : List �
 
 abbrev pub Headline : Option Request → Option (List ℕ) → Option (List ℕ) → Option (List ℕ) → ℕ → ℕ → ℕ → ℕ → Status → Type 0
 Headline None left held holds read_before read_now write_before write_now status = Unit {0}
+Headline (Some requests.OfCertificate) left held holds read_before read_now write_before write_now status = Unit {0}
 Headline (Some (requests.Workload count callers)) left held holds read_before read_now write_before write_now status = Unit {0}
 Headline (Some (requests.OfDocument command)) left held holds read_before read_now write_before write_now status =
     (given : Premises command left held read_before read_now write_before write_now status) → IsPrinted command given.bytes_told.document given.written holds status

@@ -1,3 +1,4 @@
-pub mod Verdicts
+pub mod Judged
 pub mod Complete
 pub mod Headline
+pub mod verdicts

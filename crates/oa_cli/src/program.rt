@@ -2,14 +2,15 @@
 
 ghost use Rattle.std.specs.Prelude.{map};
 ghost use Rattle.std.specs.String.{string_bytes};
-ghost use Rattle.verdicts.specs.declared.verdict.Verdict.{Verdict};
-ghost use Rattle.oa_cli.specs.Verdicts.{IsJudged, FaultsAreTold};
-ghost use Rattle.verdicts.specs.Telling.{IsSaid, text_for, status_for};
+ghost use Rattle.oa_cli.specs.declared.verdicts.verdict.Verdict.{Verdict};
+ghost use Rattle.oa_cli.specs.Judged.{IsJudged, FaultsAreTold};
+ghost use Rattle.oa_cli.specs.verdicts.Telling.{IsSaid, text_for, status_for};
 ghost use Rattle.command_input.specs.Commands.{request_of};
 ghost use Rattle.oa_cli.specs.Complete.{IsComplete};
 ghost use Rattle.oa_cli.specs.Headline.{Headline};
 
 use crate::top::oa_main;
+use crate::verdicts::{Verdict, conclude, finish, say};
 use oa_text::{Gate, OpenGate, Source, StdSink, StdSource};
 use statuses::Status;
 use std::alloc::Global;
@@ -17,7 +18,6 @@ use std::io::{BufWriter, ErrorKind, Write};
 use std::rt::Env;
 use std::thread::Threads;
 use std::{env, io};
-use verdicts::{Verdict, conclude, finish, say};
 
 /// The words after the program's name, or `None` where memory runs out. Where they aren't text there are no words.
 fn command_words<R: Env + AllocGlobal>(rt: &R) -> Option<Vec<String>> {

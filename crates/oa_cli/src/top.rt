@@ -6,16 +6,18 @@ ghost use Rattle.target_code.specs.TargetSpelling.{target_spelling};
 ghost use Rattle.target_code.specs.Barred.{IsBarred};
 ghost use Rattle.target_code.specs.SecondScheme.{second_scheme};
 ghost use Rattle.documents.specs.DocumentLimits.{IsWithinDocumentLimits};
-ghost use Rattle.verdicts.specs.declared.verdict.Verdict.{Verdict};
+ghost use Rattle.oa_cli.specs.declared.verdicts.verdict.Verdict.{Verdict};
 ghost use Rattle.command_input.specs.Commands.{request_of};
 ghost use Rattle.oa_cli.specs.Complete.{IsComplete};
 ghost use Rattle.oa_cli.specs.Headline.{Headline};
-ghost use Rattle.oa_cli.specs.Verdicts.{IsOfDocument, IsFound, IsOfBytes, IsOfSource, IsOfWorkload, IsJudged, FaultsAreTold, fault_verdict};
-ghost use Rattle.verdicts.specs.Telling.{IsSaid, text_for, status_for};
+ghost use Rattle.oa_cli.specs.Judged.{IsOfDocument, IsFound, IsOfBytes, IsOfSource, IsOfWorkload, IsJudged, FaultsAreTold, fault_verdict};
+ghost use Rattle.oa_cli.specs.verdicts.Telling.{IsSaid, text_for, status_for};
 
+use crate::certifying::{certify_verdict, judge_certificate};
+use crate::reading::read_source;
 use crate::rules::judge_text;
+use crate::verdicts::{Verdict, say};
 use barrier_compiler::compile;
-use command_input::input::{InputError, read_input};
 use command_input::{Command, Request, request_of};
 use documents::{Document, read_document};
 use line_words::fault::ParseError;
@@ -23,13 +25,12 @@ use norm_check::{CheckError, Normal, Refusal};
 use norm_lang::show;
 use norm_lang::text::ByteText;
 use oa_text::{Gate, Sink, Source};
-use script_driver::{replay_document, run_document, run_workload};
+use script_driver::{replay_document, run_document, run_workload, show_document};
 use script_plans::RunFault;
 use statuses::Status;
 use std::alloc::{AllocError, Global};
 use std::thread::Threads;
 use target_code::show_target;
-use verdicts::{Verdict, say};
 
 /// One more byte than a document may have.
 const LIMIT: usize = 1_048_577;
@@ -46,9 +47,19 @@ fn judge_document<R: Threads + Sync, G: Gate + Sync>(
     ensures { IsOfDocument command document result }
 {
     match find_verdict(rt, alloc, command, &document, gate) {
-        Ok(verdict) => verdict,
-        Err(refusal) => Verdict::Refused(document.text, refusal),
+        Ok(verdict) => {
+            drop(document);
+            verdict
+        }
+        Err(refusal) => refused(document, refusal),
     }
+}
+
+/// The verdict on a document whose text breaks a rule.
+pub(crate) fn refused(document: Document, refusal: Refusal) -> Verdict
+    ensures { result ≡ Verdict.Refused document.text refusal }
+{
+    Verdict::Refused(document.text, refusal)
 }
 
 /// The verdict of a command on a document, or the first rule that its text breaks.
@@ -67,7 +78,9 @@ fn find_verdict<R: Threads + Sync, G: Gate + Sync>(
         Command::Replay => replay_verdict(alloc, document),
         Command::Check => check_verdict(alloc, document),
         Command::Show => Ok(show_verdict(alloc, document)),
+        Command::Upgrade => Ok(upgrade_verdict(alloc, document)),
         Command::Compile => compile_verdict(alloc, document),
+        Command::Certify => certify_verdict(alloc, document),
     }
 }
 
@@ -77,6 +90,16 @@ fn show_verdict(alloc: Global, document: &Document) -> Verdict
     ensures { IsOfDocument Command.Show document.now result }
 {
     match show(alloc, &document.text) {
+        Ok(spelling) => Verdict::Shown(spelling),
+        Err(_) => Verdict::Memory,
+    }
+}
+
+/// Writes out a whole document.
+fn upgrade_verdict(alloc: Global, document: &Document) -> Verdict
+    ensures { IsOfDocument Command.Upgrade document.now result }
+{
+    match show_document(alloc, document) {
         Ok(spelling) => Verdict::Shown(spelling),
         Err(_) => Verdict::Memory,
     }
@@ -119,7 +142,7 @@ fn compiled(alloc: Global, normal: &Normal) -> Result<ByteText, AllocError>
 }
 
 /// Why a document can't be run.
-fn fault_verdict(fault: RunFault) -> Result<Verdict, Refusal>
+pub(crate) fn fault_verdict(fault: RunFault) -> Result<Verdict, Refusal>
     ensures { result ≡ fault_verdict fault }
 {
     match fault {
@@ -182,17 +205,11 @@ fn judge_source<R: Threads + Sync, S: Source, G: Gate + Sync>(
     input: &mut S,
     gate: &G,
 ) -> Verdict
-    ensures { IsOfSource command (S.left input.old) (S.left input.new) (S.faults input.old) (S.faults input.new) result }
+    ensures { IsOfSource LIMIT (IsOfBytes command) (S.left input.old) (S.left input.new) (S.faults input.old) (S.faults input.new) result }
 {
-    match read_input(alloc, input, LIMIT) {
-        Err(InputError::Memory) => Verdict::Memory,
-        Err(InputError::Fault) => Verdict::ReadFault,
-        Ok(bytes) => {
-            if bytes.len() == LIMIT {
-                return Verdict::LongInput;
-            }
-            judge_bytes(rt, alloc, command, &bytes, gate)
-        }
+    match read_source(alloc, input, LIMIT) {
+        Ok(bytes) => judge_bytes(rt, alloc, command, bytes.items(), gate),
+        Err(verdict) => verdict,
     }
 }
 
@@ -227,18 +244,21 @@ fn judge<R: Threads + Sync, S: Source, G: Gate + Sync>(
     match request_of(words) {
         None => Verdict::Usage,
         Some(Request::OfDocument(command)) => judge_source(rt, alloc, command, input, gate),
+        Some(Request::OfCertificate) => judge_certificate(alloc, input),
         Some(Request::Workload { count, callers }) => {
             workload_verdict(rt, alloc, count, callers, gate)
         }
     }
 }
 
-/// Does all that the program does: reads the words and the source, and writes the answers to the document's calls, or
-/// that its text is accepted, or its text, or what that compiles to, or what the answers of a workload add up to, or why there are
-/// none. The first clause has three parts: what was read and judged, what was said, and the status. The second says that each fault
-/// is told. The third says that all is answered which nothing refuses, where memory suffices; by the first the whole text was written
-/// then, and each call has a reply at `Done`. The fourth says what `run` and `replay` promise, with all the premises: see `Headline`. The gate is handed to the callers of `run` and of a workload; it changes nothing but how
-/// their steps interleave.
+/// Does all that the program does: reads the words and the source, and writes the answers to the document's calls, or that its
+/// text is accepted, or its text, or the whole document, or what the text compiles to, or a certificate of its replay, or what is
+/// found of a certificate, or what the answers of a workload add up to, or why there are none. The first clause has three parts:
+/// what was read and judged, what was said, and the status. The second says that each fault is told. The third says that all is
+/// answered which nothing refuses, where memory suffices; by the first the whole text was written then, and each call has a reply
+/// at `Done`; of a certificate what is found of it is told. The fourth says what `run` and `replay` promise, with all the
+/// premises: see `Headline`. The gate is handed to the callers of `run` and of a workload; it changes nothing but how their steps
+/// interleave.
 pub fn oa_main<R: Threads + Sync, S: Source, K: Sink, G: Gate + Sync>(
     rt: &R,
     alloc: Global,

@@ -1,27 +1,27 @@
 -- The end of a replay is that of a complete run of its scripts; and what holds in every state of a run.
 use Rattle.std.proofs.Common.{◌≡◌, ◌≤◌, ℕ, List, length, refl, sym, ap, ◌∙◌, subst}
-use Rattle.std.specs.Prelude.{Result, Ok, Err, All}
+use Rattle.std.specs.Prelude.{Result, Ok, Err, IfOk, All}
 use Rattle.schedule_turns.specs.declared.turn.Turn.{Turn}
 use Rattle.caller_parts.specs.declared.call.Call.{Call}
 use Rattle.caller_parts.specs.Calls.{AreCalls}
 use Rattle.caller_parts.specs.Settings.{Setting, Fits, IsSetting}
 use Rattle.core_runs.specs.Machine.{CoreState, Reachable}
 use Rattle.core_runs.specs.Scripts.{IsCompleteRun, SuitScripts}
-use Rattle.core_runs.specs.Replays.{Replaying, Refusal, replay_start, replayed}
+use Rattle.core_runs.specs.Replays.{Replaying, Refusal, StepOfNobody, LongReplay, replayed}
 use Rattle.core_runs.proofs.Replaying.{replays_reach}
-use Rattle.core_sound.proofs.Reached.{states_are_sound, states_stay}
+use Rattle.core_runs.proofs.core_sound.Reached.{states_are_sound, states_stay}
 use Rattle.barrier_check.specs.Paired.{Paired, IsSound}
 use Rattle.run_laws.proofs.Following.{follows}
 use Rattle.oa_core.specs.States.{RunsInRow}
-use Rattle.oa_core.specs.Finals.{Final, core_of, replay_limit, replay_of, EndsRun}
-use Rattle.oa_core.specs.Shown.{Terms, Progress, replay_by, shown, bare, bared, replayed_from}
+use Rattle.oa_core.specs.declared.progress.Stop.{Stop}
+use Rattle.oa_core.specs.declared.progress.Stop.TheVariants as stops
+use Rattle.oa_core.specs.Finals.{Final, core_of, replay_limit, replay_of, LeadsTo, Answers, EndsRun, HasRooms}
+use Rattle.oa_core.specs.declared.replaying.ReplayError.{ReplayError}
+use Rattle.oa_core.specs.Shown.{Terms, Progress, replay_by, shown, bare, bared, told, refusal_of, error_of, final_of, answer_of}
 use Rattle.oa_core.proofs.Bare.{made_to, refused}
 use Rattle.core_entries.proofs.Calling.{runnable}
 
-abbrev final_of : Progress → ℕ → Final
-final_of now fuel = record { words = now.words; entries = now.entries; fuel = fuel }
-
-pub complete_end : (pair : Paired) (setting : Setting) (scripts : List (List Call)) (fuel : ℕ) (schedule : List Turn) (r : Replaying) (final : Final) → IsSound pair → IsSetting setting → Fits pair.target setting
+complete_end : (pair : Paired) (setting : Setting) (scripts : List (List Call)) (fuel : ℕ) (schedule : List Turn) (r : Replaying) (final : Final) → IsSound pair → IsSetting setting → Fits pair.target setting
     → 1 ≤ fuel → replayed (replay_of pair.target setting scripts fuel) schedule ≡ Ok r → IsCompleteRun pair.target setting scripts fuel r.events r.state → core_of final ≡ r.state
     → EndsRun pair.target pair.source setting scripts fuel schedule final
 complete_end pair setting scripts fuel schedule r final sound own fits some given complete same = record {
@@ -39,26 +39,51 @@ complete_end pair setting scripts fuel schedule r final sound own fits some give
   reached : Reachable pair.target setting (core_of final)
   reached = record { events = r.events; runs = ended.run.runs }
 
+ends_by : (pair : Paired) (setting : Setting) (scripts : List (List Call)) (fuel : ℕ) (schedule : List Turn) (final : Final) → IsSound pair → IsSetting setting → Fits pair.target setting
+    → SuitScripts pair.target setting scripts → 1 ≤ fuel → (given : Result Replaying Refusal) → replayed (replay_of pair.target setting scripts fuel) schedule ≡ given → LeadsTo final fuel given
+    → EndsRun pair.target pair.source setting scripts fuel schedule final
+ends_by pair setting scripts fuel schedule final sound own fits suit some (Err refusal) is leads = absurd leads
+ends_by pair setting scripts fuel schedule final sound own fits suit some (Ok r) is leads =
+    complete_end pair setting scripts fuel schedule r final sound own fits some is ((replays_reach (replay_of pair.target setting scripts fuel)).each schedule r suit some is).0 leads.0
+
+-- what is answered ends a run
+pub ends_run : (pair : Paired) (setting : Setting) (scripts : List (List Call)) (fuel : ℕ) (schedule : List Turn) (o : Result Final ReplayError) → IsSound pair → IsSetting setting → Fits pair.target setting
+    → length scripts ≡ setting.sizes.callers → All (AreCalls pair.target) scripts → 1 ≤ fuel → Answers o fuel (replayed (replay_of pair.target setting scripts fuel) schedule)
+    → IfOk o (λ s. EndsRun pair.target pair.source setting scripts fuel schedule s)
+ends_run pair setting scripts fuel schedule (Err error) sound own fits count calls some given = tt
+ends_run pair setting scripts fuel schedule (Ok final) sound own fits count calls some given =
+    ends_by pair setting scripts fuel schedule final sound own fits (record { count = count; calls = calls }) some (replayed (replay_of pair.target setting scripts fuel) schedule) refl given
+
+-- ---- what is answered
+
 same_end : (now : Progress) (r : Replaying) → made_to (shown now) ≡ made_to (bare r) → shown now ≡ bare r
 same_end now r is = cc
 
-ends_by : (t : Terms) (schedule : List Turn) (now : Progress) → IsSound t.pair → IsSetting t.setting → Fits t.pair.target t.setting → SuitScripts t.pair.target t.setting t.scripts → 1 ≤ t.fuel → t.limit ≡ replay_limit
-    → (o : Result Replaying Refusal) → replayed (replay_by t) schedule ≡ o → made_to (shown now) ≡ bared o → EndsRun t.pair.target t.pair.source t.setting t.scripts t.fuel schedule (final_of now t.fuel)
-ends_by t schedule now sound own fits suit some limit (Err refusal) is made = absurd (let no : made_to (shown now) ≡ refused refusal = made in cc)
-ends_by t schedule now sound own fits suit some limit (Ok r) is made =
-    complete_end t.pair t.setting t.scripts t.fuel schedule r (final_of now t.fuel) sound own fits some
-    (ap (λ (most : ℕ). replayed (record { target = t.pair.target; setting = t.setting; scripts = t.scripts; fuel = t.fuel; limit = most }) schedule) (sym limit) ∙ is)
-    ((replays_reach (replay_by t)).each schedule r suit some is).0 (ap (λ (x : Replaying). x.state) (same_end now r made))
+leads_there : (now : Progress) (fuel : ℕ) (given : Result Replaying Refusal) → made_to (shown now) ≡ bared given → LeadsTo (final_of now fuel) fuel given
+leads_there now fuel (Ok r) is = (ap (λ (x : Replaying). x.state) (same_end now r is), refl)
+leads_there now fuel (Err refusal) is = absurd (let no : made_to (shown now) ≡ refused refusal = is in cc)
 
-pub ends_run : (t : Terms) (pair : Paired) (schedule : List Turn) (start inside now : Progress) → t.pair ≡ pair → IsSound pair → IsSetting t.setting → Fits pair.target t.setting
-    → length t.scripts ≡ t.setting.sizes.callers → All (AreCalls pair.target) t.scripts → 1 ≤ t.fuel → t.limit ≡ replay_limit → shown start ≡ replay_start (replay_by t) → inside ≡ now
-    → made_to (shown now) ≡ bared (replayed_from (replay_by t) schedule (shown start)) → EndsRun pair.target pair.source t.setting t.scripts t.fuel schedule (final_of inside t.fuel)
-ends_run t pair schedule start inside now same sound own fits count calls some limit starts seen made =
-    subst (λ (p : Paired). EndsRun p.target p.source t.setting t.scripts t.fuel schedule (final_of inside t.fuel)) same
-    (subst (λ (n : Progress). EndsRun t.pair.target t.pair.source t.setting t.scripts t.fuel schedule (final_of n t.fuel)) (sym seen)
-    (ends_by t schedule now (subst IsSound (sym same) sound) own (subst (λ (p : Paired). Fits p.target t.setting) (sym same) fits)
-    (record { count = count; calls = subst (λ (p : Paired). All (AreCalls p.target) t.scripts) (sym same) calls }) some limit (replayed (replay_by t) schedule) refl
-    (made ∙ ap (λ (r : Replaying). bared (replayed_from (replay_by t) schedule r)) starts)))
+refused_there : (stop : Stop) (fuel : ℕ) (given : Result Replaying Refusal) → refused (refusal_of stop) ≡ bared given → Answers (Err (error_of stop)) fuel given
+refused_there (stops.StepOfNobody steps) fuel (Ok r) is = absurd (let no : refused (StepOfNobody steps) ≡ made_to (bare r) = is in cc)
+refused_there (stops.StepOfNobody steps) fuel (Err refusal) is = let same : refused (StepOfNobody steps) ≡ refused refusal = is in cc
+refused_there (stops.LongReplay steps) fuel (Ok r) is = absurd (let no : refused (LongReplay steps) ≡ made_to (bare r) = is in cc)
+refused_there (stops.LongReplay steps) fuel (Err refusal) is = let same : refused (LongReplay steps) ≡ refused refusal = is in cc
+
+-- what was made is what is answered
+pub answers_so : (made : Result (Unit {0}) Stop) (now : Progress) (fuel : ℕ) (given : Result Replaying Refusal) → told made now ≡ bared given → Answers (answer_of made now fuel) fuel given
+answers_so (Ok done) now fuel given is = leads_there now fuel given is
+answers_so (Err stop) now fuel given is = refused_there stop fuel given is
+
+pub rooms_so : (made : Result (Unit {0}) Stop) (now : Progress) (fuel : ℕ) (scripts : List (List Call)) → HasRooms scripts now.entries → IfOk (answer_of made now fuel) (λ s. HasRooms scripts s.entries)
+rooms_so (Ok done) now fuel scripts rooms = rooms
+rooms_so (Err stop) now fuel scripts rooms = tt
+
+-- by the limit of every replay, of the pair that the terms tell
+pub answers_by : (t : Terms) (pair : Paired) (schedule : List Turn) (o : Result Final ReplayError) → t.pair ≡ pair → t.limit ≡ replay_limit → Answers o t.fuel (replayed (replay_by t) schedule)
+    → Answers o t.fuel (replayed (replay_of pair.target t.setting t.scripts t.fuel) schedule)
+answers_by t pair schedule o same limit given =
+    subst (λ (most : ℕ). Answers o t.fuel (replayed (record { target = pair.target; setting = t.setting; scripts = t.scripts; fuel = t.fuel; limit = most }) schedule)) limit
+    (subst (λ (p : Paired). Answers o t.fuel (replayed (record { target = p.target; setting = t.setting; scripts = t.scripts; fuel = t.fuel; limit = t.limit }) schedule)) same given)
 
 -- ---- every state
 

@@ -11,8 +11,8 @@ use Rattle.caller_parts.specs.Calls.{is_call, AreCalls}
 use Rattle.core_runs.specs.Machine.{core_start, idle_from, Reachable}
 use Rattle.core_runs.specs.Scripts.{script_of}
 use Rattle.core_runs.specs.Replays.{replay_start}
-use Rattle.core_sound.specs.Sound.{IsSound as IsSoundState, AreLawful}
-use Rattle.core_sound.proofs.Reached.{states_are_sound}
+use Rattle.core_runs.specs.core_sound.Sound.{IsSound as IsSoundState, AreLawful}
+use Rattle.core_runs.proofs.core_sound.Reached.{states_are_sound}
 use Rattle.barrier_check.specs.Paired.{IsSound}
 use Rattle.oa_core.specs.Finals.{core_part}
 use Rattle.oa_core.specs.Shown.{Terms, Progress, replay_by, shown, fresh_entries, SuitsReplay, IsUnderWay}

@@ -10,7 +10,7 @@ use Rattle.caller_steps.specs.Entries.{Entry, RoomyEntry}
 use Rattle.core_runs.specs.Machine.{CoreState}
 use Rattle.core_runs.specs.Scripts.{script_of, IsCompleteRun}
 use Rattle.core_runs.specs.Replays.{Replay, Replaying, Refusal, StepOfNobody, LongReplay, is_spent, replayed}
-use Rattle.core_sound.specs.Sound.{IsSound, StaysInRow}
+use Rattle.core_runs.specs.core_sound.Sound.{IsSound, StaysInRow}
 use Rattle.run_laws.specs.Source.{FollowsSource}
 use Rattle.oa_core.specs.declared.replaying.ReplayError.{ReplayError}
 use Rattle.oa_core.specs.declared.replaying.ReplayError.TheVariants as errors

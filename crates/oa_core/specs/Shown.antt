@@ -19,7 +19,7 @@ use Rattle.core_entries.specs.Callers.{BelongsTo}
 use Rattle.core_entries.specs.Steps.{WordsSound, StepIs}
 use Rattle.oa_core.specs.declared.replaying.ReplayError.{ReplayError}
 use Rattle.oa_core.specs.declared.replaying.ReplayError.TheVariants as errors
-use Rattle.oa_core.specs.Finals.{core_part, HasRooms, IsShort}
+use Rattle.oa_core.specs.Finals.{Final, core_part, HasRooms, IsShort}
 
 -- what is replayed
 pub record Terms : Type 0 where
@@ -120,10 +120,14 @@ pub record IsUnderWay (t : Terms) (now : Progress) : Type 0 where
 
 -- ---- the start and the whole
 
--- an idle entry for each script, from a number on, with room for its replies
+-- an idle entry with room for a script's replies
+abbrev pub fresh_entry : ℕ → List Call → RoomyEntry
+fresh_entry c script = record { core = idle_entry c; room = length script }
+
+-- an idle entry for each script, from a number on
 abbrev pub fresh_entries : ℕ → List (List Call) → List RoomyEntry
 fresh_entries c [] = []
-fresh_entries c (script ∷ scripts) = record { core = idle_entry c; room = length script } ∷ fresh_entries (c + 1) scripts
+fresh_entries c (script ∷ scripts) = fresh_entry c script ∷ fresh_entries (c + 1) scripts
 
 -- what the start needs
 pub record SuitsReplay (t : Terms) : Type 0 where
@@ -139,3 +143,12 @@ replayed_from p turns r = go_further (turns_made p turns r) (callers_ended p 0 p
 abbrev pub error_of : Stop → ReplayError
 error_of (stops.StepOfNobody steps) = errors.StepOfNobody steps
 error_of (stops.LongReplay steps) = errors.LongReplay steps
+
+-- the state in which a replay has ended
+abbrev pub final_of : Progress → ℕ → Final
+final_of now fuel = record { words = now.words; entries = now.entries; fuel = fuel }
+
+-- what is answered by how it has ended
+abbrev pub answer_of : Result (Unit {0}) Stop → Progress → ℕ → Result Final ReplayError
+answer_of (Ok done) now fuel = Ok (final_of now fuel)
+answer_of (Err stop) now fuel = Err (error_of stop)

@@ -2,7 +2,7 @@
 use Rattle.target_code.specs.declared.target.Target.{Target}
 use Rattle.caller_parts.specs.Settings.{Setting}
 use Rattle.core_runs.specs.Machine.{CoreState, Reachable}
-use Rattle.core_sound.specs.Sound.{IsSound, StaysInRow}
+use Rattle.core_runs.specs.core_sound.Sound.{IsSound, StaysInRow}
 
 -- wherever a list of enabled events leads: each caller's entry belongs, each word is lawful, and nothing leads out of the row
 pub record RunsInRow (target : Target) (setting : Setting) : Type 0 where

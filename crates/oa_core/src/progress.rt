@@ -9,8 +9,8 @@ ghost use Rattle.core_entries.specs.Steps.{WordsSound, StepIs};
 ghost use Rattle.oa_core.specs.Shown.{replay_by, shown, bared, told, next_of, next_in, events_of, begun, CanMove, CanMoveAt, MovesAt, AllBelongTo, IsUnderWay};
 
 use crate::replaying::CallList;
-use caller_steps::{Call, Setting};
-use core_entries::step::step;
+use caller_steps::{Call, Program, Setting};
+use core_entries::step::step_on;
 use core_entries::{Entry, PlainWords, Prepared};
 use std::marker::Model;
 
@@ -32,10 +32,12 @@ pub(crate) enum Stop {
     LongReplay { steps: u64 },
 }
 
-/// What is replayed: `fuel` steps at most for each call, and `limit` steps at most in all.
+/// What is replayed: `fuel` steps at most for each call, and `limit` steps at most in all. The program of the target is made once
+/// for all steps.
 #[derive(Drop)]
 pub(crate) struct Terms<'a> {
-    pub(crate) prepared: Prepared<'a>,
+    pub(crate) prepared: &'a Prepared<'a>,
+    pub(crate) program: Program<'a>,
     pub(crate) setting: &'a Setting,
     pub(crate) scripts: &'a [CallList],
     pub(crate) fuel: u64,
@@ -43,11 +45,14 @@ pub(crate) struct Terms<'a> {
 }
 
 impl<'a> Model for Terms<'a> {
+    ghost use Rattle.std.specs.Prelude.{◌≡◌};
     ghost use Rattle.oa_core.specs.Shown.{Terms as Told};
 
     ghost Value = { Told };
 
-    ghost view = { λ t. record { pair = t.prepared; setting = t.setting.now; scripts = t.scripts.now; fuel = t.fuel; limit = t.limit } };
+    ghost view = { λ t. record { pair = t.prepared.now; setting = t.setting.now; scripts = t.scripts.now; fuel = t.fuel; limit = t.limit } };
+
+    ghost invariant = { λ t. t.program ≡ t.prepared.now.target };
 }
 
 /// How far a replay has come: the words, the entries, and how many steps were made.
@@ -93,12 +98,13 @@ fn next_call(entry: &Entry, script: &[Call]) -> Option<Move>
     call_at(script, entry.replies().len()).map(Move::Takes)
 }
 
-/// What a caller with this script does next; nothing where it has no step to take.
-fn next_of(fuel: u64, script: &[Call], entry: &Entry) -> Option<Move>
-    ensures { result ≡ next_of fuel script.now entry.now.core }
+/// What a caller does next, by its script; nothing where it has no step to take.
+#[inline(always)]
+fn next_of(fuel: u64, scripts: &[CallList], caller: u32, entry: &Entry) -> Option<Move>
+    ensures { result ≡ next_of fuel (script_of scripts.now caller) entry.now.core }
 {
     if entry.is_idle() {
-        return next_call(entry, script);
+        return next_call(entry, script_at(scripts, caller as usize));
     }
     if entry.is_spent(fuel) {
         return None;
@@ -108,16 +114,30 @@ fn next_of(fuel: u64, script: &[Call], entry: &Entry) -> Option<Move>
 
 impl<'a> Terms<'a> {
     /// What a caller does next; nothing where it has no step to take, or doesn't exist.
+    #[inline(always)]
     pub(crate) fn next_of(&self, now: &Progress, caller: u32) -> Option<Move>
         ensures { result ≡ next_in self.now caller now.now }
     {
         match now.entries.get(caller as usize) {
             None => None,
-            Some(entry) => next_of(self.fuel, script_at(self.scripts, caller as usize), entry),
+            Some(entry) => next_of(self.fuel, self.scripts, caller, entry),
+        }
+    }
+
+    /// The entry takes its call, if it takes one.
+    fn begin_entry(&self, entry: &mut Entry, next: Move)
+        requires belongs { BelongsTo self.now.pair self.now.setting entry.old.core }
+        requires can { CanMove self.now.pair.target next entry.old }
+        ensures begun { entry.new ≡ begun next entry.old }
+        ensures belongs { BelongsTo self.now.pair self.now.setting entry.new.core }
+    {
+        if let Move::Takes(call) = next {
+            entry.begin(self.prepared.barred(), call.op, call.args);
         }
     }
 
     /// Makes a step of an entry, after it took its call.
+    #[inline(always)]
     fn move_entry(&self, entry: &mut Entry, words: &mut PlainWords, next: Move)
         requires belongs { BelongsTo self.now.pair self.now.setting entry.old.core }
         requires can { CanMove self.now.pair.target next entry.old }
@@ -126,13 +146,18 @@ impl<'a> Terms<'a> {
         ensures belongs { BelongsTo self.now.pair self.now.setting entry.new.core }
         ensures lawful { WordsSound self.now.pair.target self.now.setting words.new }
     {
-        if let Move::Takes(call) = next {
-            entry.begin(self.prepared.barred(), call.op, call.args);
-        }
-        step(entry, words, &self.prepared, self.setting);
+        self.begin_entry(entry, next);
+        step_on(
+            entry,
+            words,
+            self.prepared.barred(),
+            &self.program,
+            self.setting,
+        );
     }
 
     /// Makes a step of a caller, in its place among the entries.
+    #[inline(always)]
     fn move_caller(&self, entries: &mut Vec<Entry>, words: &mut PlainWords, caller: u32, next: Move)
         requires belong { AllBelongTo self.now.pair self.now.setting entries.old.items }
         requires can { CanMoveAt self.now.pair.target next (slice_get entries.old.items caller) }
@@ -148,6 +173,7 @@ impl<'a> Terms<'a> {
     }
 
     /// Makes a step of a caller, and doesn't count it.
+    #[inline(always)]
     fn move_in(&self, now: &mut Progress, caller: u32, next: Move)
         requires under_way { IsUnderWay self.now now.old }
         requires next { next_in self.now caller now.old ≡ Some next }
@@ -159,6 +185,7 @@ impl<'a> Terms<'a> {
     }
 
     /// Makes a step of a caller, and counts it.
+    #[inline(always)]
     fn move_on(&self, now: &mut Progress, caller: u32, next: Move)
         requires under_way { IsUnderWay self.now now.old }
         requires next { next_in self.now caller now.old ≡ Some next }
@@ -183,6 +210,7 @@ impl<'a> Terms<'a> {
     ///
     /// # Errors
     /// The limit is reached.
+    #[inline(always)]
     pub(crate) fn make_step(&self, now: &mut Progress, caller: u32, next: Move) -> Result<(), Stop>
         requires under_way { IsUnderWay self.now now.old }
         requires next { next_in self.now caller now.old ≡ Some next }
@@ -202,6 +230,7 @@ impl<'a> Terms<'a> {
     ///
     /// # Errors
     /// The caller has no step to take, or the limit is reached.
+    #[inline(never)]
     pub(crate) fn step_of(&self, now: &mut Progress, caller: u32) -> Result<(), Stop>
         requires under_way { IsUnderWay self.now now.old }
         ensures made { told result now.new ≡ bared (one_step (replay_by self.now) caller (shown now.old)) }

@@ -1,11 +1,11 @@
 //! Replay: the run of scripts that the turns of a schedule give.
 
-ghost use Rattle.std.specs.Prelude.{◌≡◌, ◌≤◌, IfOk, All, length};
+ghost use Rattle.std.specs.Prelude.{◌≡◌, ◌≤◌, ◌<◌, ◌++◌, ◌∷◌, [], IfOk, OnOk, All, length};
 ghost use Rattle.caller_parts.specs.Calls.{AreCalls};
 ghost use Rattle.caller_parts.specs.Settings.{Fits};
 ghost use Rattle.core_runs.specs.Replays.{replay_start, replayed};
 ghost use Rattle.oa_core.specs.Finals.{IsShort, phase_of, is_spent_in, replay_limit, replay_of, Answers, HasRooms, EndsRun};
-ghost use Rattle.oa_core.specs.Shown.{replay_by, shown, bared, told, fresh_entries, replayed_from, error_of, SuitsReplay, IsUnderWay};
+ghost use Rattle.oa_core.specs.Shown.{replay_by, shown, bared, told, fresh_entry, fresh_entries, replayed_from, error_of, final_of, answer_of, SuitsReplay, IsUnderWay};
 ghost use Rattle.oa_core.specs.States.{RunsInRow};
 
 use crate::progress::{Progress, Stop, Terms};
@@ -80,6 +80,40 @@ impl CoreState {
     }
 }
 
+/// An idle entry with room for a script's replies.
+fn add_entry(
+    alloc: Global,
+    entries: &mut Vec<Entry>,
+    number: u32,
+    script: &CallList,
+) -> Result<(), AllocError>
+    requires number { number < 8 }
+    requires short { IsShort script.now }
+    ensures { OnOk result (entries.new.items ≡ entries.old.items ++ fresh_entry number script.now ∷ []) }
+{
+    let entry = Entry::new(alloc, number, script.items().len() as u32)?;
+    entries.push(entry)?;
+    Ok(())
+}
+
+/// An idle entry for each script, after those that stand there.
+fn add_entries(
+    alloc: Global,
+    entries: &mut Vec<Entry>,
+    scripts: &[CallList],
+) -> Result<(), AllocError>
+    requires count { length scripts.now ≤ 8 }
+    requires few { All IsShort scripts.now }
+    ensures { OnOk result (entries.new.items ≡ entries.old.items ++ fresh_entries 0 scripts.now) }
+{
+    let mut number = 0;
+    for script in scripts {
+        add_entry(alloc, entries, number, script)?;
+        number += 1;
+    }
+    Ok(())
+}
+
 /// An idle entry for each script, with room for its replies.
 fn put_entries(alloc: Global, scripts: &[CallList]) -> Result<Vec<Entry>, AllocError>
     requires count { length scripts.now ≤ 8 }
@@ -87,13 +121,10 @@ fn put_entries(alloc: Global, scripts: &[CallList]) -> Result<Vec<Entry>, AllocE
     ensures { IfOk result (λ entries. entries.items ≡ fresh_entries 0 scripts.now) }
 {
     let mut entries = Vec::new(alloc);
-    let mut number = 0;
-    for script in scripts {
-        let entry = Entry::new(alloc, number, script.items().len() as u32)?;
-        entries.push(entry)?;
-        number += 1;
+    match add_entries(alloc, &mut entries, scripts) {
+        Err(error) => Err(error),
+        Ok(()) => Ok(entries),
     }
-    Ok(entries)
 }
 
 /// The start of a replay.
@@ -140,6 +171,77 @@ fn replay_limit() -> u64
     20_000_000
 }
 
+/// The state in which a replay has ended.
+fn state_of(now: Progress, fuel: u64) -> CoreState
+    ensures { result ≡ final_of now fuel }
+{
+    CoreState {
+        words: now.words,
+        entries: now.entries,
+        fuel,
+    }
+}
+
+/// What is answered by how a replay has ended.
+fn answer_of(made: Result<(), Stop>, now: Progress, fuel: u64) -> Result<CoreState, ReplayError>
+    ensures { result ≡ answer_of made now fuel }
+{
+    match made {
+        Err(stop) => Err(error_of(stop)),
+        Ok(()) => Ok(state_of(now, fuel)),
+    }
+}
+
+/// From a state on.
+fn replay_from(terms: &Terms, now: Progress, schedule: &[Turn]) -> Result<CoreState, ReplayError>
+    requires under_way { IsUnderWay terms.now now }
+    ensures replayed { Answers result terms.now.fuel (replayed_from (replay_by terms.now) schedule.now (shown now)) }
+    ensures rooms { IfOk result (λ s. HasRooms terms.now.scripts s.entries) }
+{
+    let mut later = now;
+    let made = run(terms, &mut later, schedule);
+    answer_of(made, later, terms.fuel)
+}
+
+/// From the start on.
+fn replay_by(alloc: Global, terms: &Terms, schedule: &[Turn]) -> Result<CoreState, ReplayError>
+    requires suits { SuitsReplay terms.now }
+    ensures replayed { Answers result terms.now.fuel (replayed (replay_by terms.now) schedule.now) }
+    ensures rooms { IfOk result (λ s. HasRooms terms.now.scripts s.entries) }
+{
+    match start(alloc, terms) {
+        Err(_) => Err(ReplayError::Memory),
+        Ok(now) => replay_from(terms, now, schedule),
+    }
+}
+
+/// Replays scripts on a prepared target, whose program is made here once for all steps.
+fn replay_prepared<'a>(
+    alloc: Global,
+    prepared: &'a Prepared<'a>,
+    setting: &'a Setting,
+    scripts: &'a [CallList],
+    fuel: u64,
+    schedule: &[Turn],
+) -> Result<CoreState, ReplayError>
+    requires fits { Fits prepared.now.target setting.now }
+    requires count { length scripts.now ≡ setting.now.sizes.callers }
+    requires calls { All (AreCalls prepared.now.target) scripts.now }
+    requires few { All IsShort scripts.now }
+    ensures replayed { Answers result fuel (replayed (replay_of prepared.now.target setting.now scripts.now fuel) schedule.now) }
+    ensures rooms { IfOk result (λ s. HasRooms scripts.now s.entries) }
+{
+    let terms = Terms {
+        prepared,
+        program: prepared.program(),
+        setting,
+        scripts,
+        fuel,
+        limit: replay_limit(),
+    };
+    replay_by(alloc, &terms, schedule)
+}
+
 /// Replays scripts, one for each caller: the turns of a schedule in order, and then each caller to its end, in the order of
 /// their numbers. A caller has a step to take where its operation runs or its script has a further call, and no operation
 /// of it was spent. An operation is spent where `fuel` steps were made for it and it hasn't ended.
@@ -172,23 +274,6 @@ pub fn replay(
 {
     kept(barred);
     setting.kept();
-    let terms = Terms {
-        prepared: Prepared::new(barred),
-        setting,
-        scripts,
-        fuel,
-        limit: replay_limit(),
-    };
-    let mut now = match start(alloc, &terms) {
-        Err(_) => return Err(ReplayError::Memory),
-        Ok(now) => now,
-    };
-    match run(&terms, &mut now, schedule) {
-        Err(stop) => Err(error_of(stop)),
-        Ok(()) => Ok(CoreState {
-            words: now.words,
-            entries: now.entries,
-            fuel,
-        }),
-    }
+    let prepared = Prepared::new(barred);
+    replay_prepared(alloc, &prepared, setting, scripts, fuel, schedule)
 }

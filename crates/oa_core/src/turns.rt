@@ -37,7 +37,7 @@ impl<'a> Terms<'a> {
     {
         match entry_at(&now.entries, caller) {
             None => false,
-            Some(entry) => is_of_kind(kind, entry.kind_wanted(&self.prepared, self.setting)),
+            Some(entry) => is_of_kind(kind, entry.kind_wanted(self.prepared, self.setting)),
         }
     }
 
@@ -137,6 +137,7 @@ impl<'a> Terms<'a> {
     }
 
     /// All the steps that a caller has.
+    #[inline(never)]
     fn end_caller(&self, now: &mut Progress, caller: u32) -> Result<(), Stop>
         requires under_way { IsUnderWay self.now now.old }
         ensures made { told result now.new ≡ bared (caller_ended (replay_by self.now) caller (most_steps (replay_by self.now) (shown now.old)) (shown now.old)) }

@@ -8,7 +8,7 @@ use Rattle.target_code.specs.Barred.{IsBarred}
 use Rattle.target_code.specs.TargetLimits.{IsTargetWithinLimits}
 use Rattle.barrier_check.specs.Paired.{Paired, IsSound}
 use Rattle.caller_parts.specs.Settings.{Setting, Fits, IsSetting}
-use Rattle.target_runs.specs.Runnable.{IsRunnable}
+use Rattle.target_laws.specs.target_runs.Runnable.{IsRunnable}
 use Rattle.oa_simulation.specs.Relation.{QuietIsKept, RunsAreSimulated}
 use Rattle.oa_simulation.proofs.QuietSteps.{keeps_quiet}
 use Rattle.oa_simulation.proofs.Refining.{simulates}
@@ -24,10 +24,10 @@ is_sound pair target source one other small normal within barred = record {
 
 -- callers may run it
 runnable : (pair : Paired) → IsSound pair → IsRunnable pair.target pair.source
-runnable pair s = record { small = s.small; normal = s.normal; within = s.within; barred = s.barred }
+runnable pair s = record { small = s.small; normal = s.normal; within = s.within; erases = s.barred.erases }
 
 pub quiet_steps_keep : (pair : Paired) (setting : Setting) → IsSound pair → IsSetting setting → Fits pair.target setting → QuietIsKept pair.target pair.source setting
-quiet_steps_keep pair setting sound own fits = keeps_quiet pair.target pair.source setting (runnable pair sound) own fits
+quiet_steps_keep pair setting sound own fits = keeps_quiet pair.target pair.source setting (runnable pair sound) sound.barred own fits
 
 pub refines : (pair : Paired) (setting : Setting) → IsSound pair → IsSetting setting → Fits pair.target setting → RunsAreSimulated pair.target pair.source setting
-refines pair setting sound own fits = simulates pair.target pair.source setting (runnable pair sound) own fits
+refines pair setting sound own fits = simulates pair.target pair.source setting (runnable pair sound) sound.barred own fits

@@ -6,13 +6,14 @@ use Rattle.oa_words.specs.Words.{Word, Hazard, address_of, in_row}
 use Rattle.oa_words.specs.Starts.{Suits}
 use Rattle.guard_words.specs.Guards.{guard_at, no_guards}
 use Rattle.source_machine.specs.State.{idle_caller}
+use Rattle.caller_parts.specs.Operands.{cradle_count}
 use Rattle.caller_parts.specs.Settings.{Setting}
 use Rattle.caller_steps.specs.Entries.{idle_entry}
 use Rattle.core_runs.specs.Machine.{beginning_of, core_start}
 use Rattle.core_runs.specs.Views.{StartIsSeen, view}
-use Rattle.sim_relation.specs.Views.{Plan, Caller}
-use Rattle.sim_relation.specs.Callers.{CallerHolds}
-use Rattle.sim_relation.specs.WasSet.{none_set}
+use Rattle.oa_simulation.specs.sim_relation.Views.{Plan, Caller}
+use Rattle.oa_simulation.specs.sim_relation.Callers.{CallerHolds}
+use Rattle.oa_simulation.specs.sim_relation.WasSet.{none_set}
 use Rattle.oa_simulation.proofs.Starting.{first_shared}
 
 no_guard : (r : ℕ) → guard_at no_guards r ≡ 0
@@ -26,12 +27,10 @@ no_guard (suc (suc (suc (suc (suc (suc zero)))))) = refl
 no_guard (suc (suc (suc (suc (suc (suc (suc zero))))))) = refl
 no_guard (suc (suc (suc (suc (suc (suc (suc (suc r)))))))) = refl
 
-no_cradle : (k : ℕ) → slice_index (replicate 4 0) k ≡ 0
-no_cradle zero = refl
-no_cradle (suc zero) = refl
-no_cradle (suc (suc zero)) = refl
-no_cradle (suc (suc (suc zero))) = refl
-no_cradle (suc (suc (suc (suc k)))) = refl
+no_cradle : (n k : ℕ) → slice_index (replicate n 0) k ≡ 0
+no_cradle zero k = refl
+no_cradle (suc n) zero = refl
+no_cradle (suc n) (suc k) = no_cradle n k
 
 abbrev pub first_caller : ℕ → Caller
 first_caller d = record {
@@ -52,7 +51,7 @@ told_first t memory d hazards = record {
     hazard = λ r. hazards r ∙ sym (no_guard r);
     protects = λ r. refl;
     known = λ n got. absurd (let z : false ≡ true = got in cc);
-    cradle = λ k some. absurd (some (no_cradle k));
+    cradle = λ k some. absurd (some (no_cradle cradle_count k));
   };
   spot = (no_guard, λ r valid. refl, refl);
 }

@@ -4,11 +4,11 @@ use Rattle.norm_lang.specs.declared.text.Text.{Text}
 use Rattle.source_machine.proofs.Places.{put_same, put_other}
 use Rattle.caller_steps.specs.Signs.{Sign, Begins, Accesses, Draws, Renews, GivesUp}
 use Rattle.core_runs.specs.RunSigns.{Signed, signed}
-use Rattle.sim_relation.specs.Points.{unused_after}
+use Rattle.oa_simulation.specs.sim_relation.Points.{unused_after}
 use Rattle.oa_simulation.specs.Shadow.{Shadow, home_after, shadow_step, shadow_run}
 use Rattle.oa_simulation.specs.Relation.{HomeIs}
-use Rattle.sim_relation.specs.Points.{DrawsHome}
-use Rattle.sim_steps.proofs.Drawing.{DrawsNone}
+use Rattle.oa_simulation.specs.sim_relation.Points.{DrawsHome}
+use Rattle.oa_simulation.proofs.sim_steps.Drawing.{DrawsNone}
 
 step_home : (sign : Sign) (u n : ℕ) (home : ℕ → ℕ) → n < u → home_after sign u home n ≡ home n
 step_home (Begins call) u n home lt = refl

@@ -1,8 +1,9 @@
 -- From the step lemma to every run of the core.
-use Rattle.std.proofs.Common.{if◌then◌else◌, ℕ, ◌≡◌, ◌≢◌, ◌≤◌, ◌<◌, ◌∙◌, ◌++◌, Bool, true, false, List, [], ◌∷◌, Option, Some, None, ⊎_elim, sym, ap, subst, refl, arith}
+use Rattle.std.proofs.Common.{ℕ, ◌≡◌, ◌≢◌, ◌≤◌, ◌<◌, ◌∙◌, ◌++◌, Bool, true, false, List, [], ◌∷◌, Option, Some, None, ⊎_elim, sym, ap, subst, refl, arith}
 use Rattle.std.specs.Prelude.{slice_get, unwrap_or}
 use Rattle.target_code.specs.declared.target.Target.{Target}
 use Rattle.oa_words.specs.Words.{Word, in_row}
+use Rattle.oa_words.specs.Within.{AreKinds}
 use Rattle.oa_words.specs.Starts.{Suits}
 use Rattle.phase_pools.specs.Accesses.{WordAccess, word_of}
 use Rattle.source_machine.specs.MethodRuns.{put}
@@ -12,6 +13,7 @@ use Rattle.caller_parts.specs.declared.call.Call.{Call}
 use Rattle.caller_parts.specs.declared.routine.Routine.{Routine}
 use Rattle.caller_parts.specs.declared.routine.Routine.TheVariants.{Idle, LoadSeen, At, InList, Retires, Restarts, Clears, Claims, Zeroes}
 use Rattle.caller_parts.specs.Settings.{Setting}
+use Rattle.caller_steps.specs.Asking.{NewsFit}
 use Rattle.caller_steps.specs.Entries.{Entry, idle_entry, is_idle}
 use Rattle.caller_steps.specs.Wants.{wants}
 use Rattle.caller_steps.specs.After.{after, signs, taken, counted}
@@ -19,33 +21,34 @@ use Rattle.caller_steps.specs.After.{moved as after_moves}
 use Rattle.caller_steps.specs.Belongs.{Belongs}
 use Rattle.core_runs.specs.Machine.{CoreState, CoreEvent, Takes, Steps, core_event, core_run, run_on, beginning_of}
 use Rattle.caller_parts.specs.Calls.{is_call}
-use Rattle.core_sound.specs.Sound.{IsSound}
+use Rattle.core_runs.specs.core_sound.Sound.{IsSound}
 use Rattle.core_runs.specs.Advances.{RunsOn, Ends, EndsOrRuns}
 use Rattle.core_runs.proofs.Turning.{after_turns}
 use Rattle.core_runs.specs.Views.{CoreView, view, Moves}
 use Rattle.core_runs.specs.Views.{EventsAreSeen, IsShaped}
 use Rattle.core_runs.specs.RunSigns.{Signed, signed, run_signs, event_signs, signs_on}
 use Rattle.core_runs.proofs.Keeping.{idle_wants}
-use Rattle.oa_words.specs.Words.{in_row, address_of}
-use Rattle.local_laws.proofs.Inside.{there_is}
-use Rattle.std.specs.Prelude.{slice_index}
-use Rattle.sim_relation.specs.Views.{Plan, IsPlan, Shared, Caller}
-use Rattle.sim_relation.specs.Callers.{CallerHolds, HoldsAt}
-use Rattle.sim_relation.specs.Naming.{present_at}
-use Rattle.sim_relation.specs.Steps.{KeptWith, Stepped, NamesAfter, TakeKept, TakesReady, StepsKeep, after_access}
-use Rattle.sim_relation.specs.WasSet.{set_after_access}
-use Rattle.sim_relation.specs.Worlds.{World}
+use Rattle.oa_words.specs.Words.{in_row}
+use Rattle.target_laws.proofs.local_laws.Inside.{there_is}
+use Rattle.oa_simulation.specs.sim_relation.Views.{Plan, Shared, Caller}
+use Rattle.oa_simulation.specs.sim_relation.Callers.{CallerHolds, HoldsAt}
+use Rattle.oa_simulation.specs.sim_relation.Naming.{present_at}
+use Rattle.oa_simulation.specs.sim_relation.Steps.{KeptWith, Stepped, NamesAfter, TakeKept, TakesReady, StepsKeep, after_access}
+use Rattle.oa_simulation.specs.sim_relation.WasSet.{set_after_access}
+use Rattle.oa_simulation.specs.sim_relation.Worlds.{World}
 use Rattle.caller_steps.specs.Signs.{Moved}
 use Rattle.oa_simulation.specs.Shadow.{Shadow, shadow_run}
-use Rattle.sim_relation.specs.Points.{point, DrawsHome}
+use Rattle.oa_simulation.specs.sim_relation.Points.{point, DrawsHome}
 use Rattle.oa_simulation.specs.Beside.{Placed, Beside}
 use Rattle.oa_simulation.specs.Present.{present_after, present_on, present_run}
-use Rattle.sim_steps.proofs.Worlds.{holds_on}
+use Rattle.oa_simulation.proofs.sim_steps.Worlds.{holds_on}
 use Rattle.oa_simulation.proofs.Lifting.{Lifted, lift, stays_proper}
 use Rattle.oa_simulation.specs.Relation.{HomeIs}
-use Rattle.core_pools.specs.Pooled.{Pooled}
+use Rattle.core_runs.specs.core_pools.Pooled.{Pooled}
 use Rattle.oa_simulation.proofs.Pools.{pool_goes, takes_ready}
 use Rattle.oa_simulation.proofs.Homes.{home_before, run_append, draws_home}
+use Rattle.norm_lang.specs.NormalForm.{IsNormal}
+use Rattle.norm_lang.specs.Limits.{IsWithinLimits}
 
 idle_is : (r : Routine) → is_idle r ≡ true → r ≡ Idle
 idle_is Idle is = refl
@@ -84,7 +87,7 @@ busy : (target : Target) (e : Entry) (a : WordAccess) (b : Bool) → is_idle e.r
 busy target e a true is want = absurd (idle_wants target e a is want)
 busy target e a false is want = is
 
-belongs_seen : (target : Target) (setting : Setting) (state : CoreState) (c : ℕ) → IsSound target setting state → c < setting.sizes.callers → Belongs target setting ((view setting state).who c)
+pub belongs_seen : (target : Target) (setting : Setting) (state : CoreState) (c : ℕ) → IsSound target setting state → c < setting.sizes.callers → Belongs target setting ((view setting state).who c)
 belongs_seen target setting state c s lt = of (slice_get state.entries c) refl where
   of : (o : Option Entry) → slice_get state.entries c ≡ o → Belongs target setting (unwrap_or o (idle_entry c))
   of None is = absurd (let callers = s.callers in let there = there_is state.entries c (omega (arith, lt, callers)) in let z : None ≡ Some there.0 = sym is ∙ there.1 in cc)
@@ -116,7 +119,7 @@ pub record Went (t : Plan) (state behind : CoreState) (z z' : Shadow) (c : ℕ) 
   pub access : WordAccess
   pub at : wants t.target ((view t.setting state).who c) ≡ Some access
   pub there : in_row t.setting.sizes (word_of access) ≡ true
-  pub stepped : Stepped t c b.w.shared (b.w.who c) (NamesAfter t b.w.shared c (b.w.who c) (b.w.who c).entry.routine) (set_after_access t.target t.setting.sizes (b.w.who c).entry (b.w.who c).entry.routine (b.w.shared.memory (word_of access)) (b.w.who c).was_set) (after_access b.w.shared.memory access) (after_moves t.target t.setting (b.w.who c).entry (b.w.shared.memory (word_of access))) (present_at t.target t.setting.sizes b.w.shared.memory b.w.shared.unused (b.w.who c).entry (b.w.who c).entry.routine b.w.shared.present)
+  pub stepped : Stepped t c b.w.shared (b.w.who c) (NamesAfter t b.w.shared c (b.w.who c) (b.w.who c).entry.routine) (set_after_access t.target (b.w.who c).entry (b.w.who c).entry.routine (b.w.shared.memory (word_of access)) (b.w.who c).was_set) (after_access b.w.shared.memory access) (after_moves t.target t.setting (b.w.who c).entry (b.w.shared.memory (word_of access))) (present_at t.target b.w.shared.memory b.w.shared.unused (b.w.who c).entry (b.w.who c).entry.routine b.w.shared.present)
   pub world : beside.w ≡ record { shared = stepped.kept.s'; who = put b.w.who c stepped.kept.x' }
   pub present : beside.w.shared.present ≡ present_after t.target t.setting (view t.setting state) (Steps c) z.unused b.w.shared.present
 
@@ -164,7 +167,7 @@ pub record PooledBeside (t : Plan) (state : CoreState) (z : Shadow) (present : �
   pub named : NamedBeside t state z present
   pub pooled : Pooled t.target t.setting state
 
-module _ (t : Plan) (plan : IsPlan t) (test : Entry → Bool) (keeps : StepsKeep t test) (proper : IsProper t.text) (events_seen : EventsAreSeen t.target t.setting) where
+module _ (t : Plan) (normal : IsNormal t.text) (within : IsWithinLimits t.text) (null_home : t.home 0 ≡ 0) (test : Entry → Bool) (keeps : StepsKeep t test) (proper : IsProper t.text) (events_seen : EventsAreSeen t.target t.setting) where
   abbrev seen : CoreState → CoreView
   seen state = view t.setting state
 
@@ -217,10 +220,6 @@ module _ (t : Plan) (plan : IsPlan t) (test : Entry → Bool) (keeps : StepsKeep
   take_beside : (state behind : CoreState) (z : Shadow) (c : ℕ) (call : Call) (b : Beside t state z) → Moves t.target t.setting (seen state) (Takes c call) (seen behind) → NamedBeside t behind z b.w.shared.present
   take_beside state behind z c call b m = let took = take_went state behind z c call b m in (took.beside, ap (λ (w : World). w.shared.present) took.world)
 
-  -- a word that the row hasn't is seen as 0
-  past_row : (state : CoreState) (w : Word) → in_row t.setting.sizes w ≡ false → (seen state).memory w ≡ 0
-  past_row state w out = ap (λ (b : Bool). if b then slice_index state.words (address_of t.setting.sizes w) else 0) out
-
   pub step_went : (state behind : CoreState) (z : Shadow) (c : ℕ) → test ((seen state).who c) ≡ true → IsSound t.target t.setting state → IsShaped t.target t.setting state → (b : Beside t state z) → TakesReady (seen state).memory ((seen state).who c).routine → Moves t.target t.setting (seen state) (Steps c) (seen behind)
       → HomeIs t.home (shadow_run t.text (event_signs t.target t.setting state (Steps c)) z) → Went t state behind z (shadow_run t.text (event_signs t.target t.setting state (Steps c)) z) c b
   step_went state behind z c passes sound shaped b ready m homes =
@@ -242,14 +241,14 @@ module _ (t : Plan) (plan : IsPlan t) (test : Entry → Bool) (keeps : StepsKeep
       subst (λ (u : ℕ). DrawsHome t.home made.signs u) b.unused
       (draws_home t.text t.home c made.signs z (subst (λ (k : List Signed). HomeIs t.home (shadow_run t.text k z)) (sym same) homes)) in
       let run : is_idle ((seen state).who c).routine ≡ false = busy t.target ((seen state).who c) a (is_idle ((seen state).who c).routine) refl want in
-      let stepped : Stepped t c s x (NamesAfter t s c x x.entry.routine) (set_after_access t.target t.setting.sizes x.entry x.entry.routine (s.memory (word_of a)) x.was_set) (after_access s.memory a) made (present_at t.target t.setting.sizes s.memory s.unused x.entry x.entry.routine s.present) =
+      let stepped : Stepped t c s x (NamesAfter t s c x x.entry.routine) (set_after_access t.target x.entry x.entry.routine (s.memory (word_of a)) x.was_set) (after_access s.memory a) made (present_at t.target s.memory s.unused x.entry x.entry.routine s.present) =
       keeps.step c s x a (ap test e ∙ passes) lt b.holds.shared_holds (b.holds.caller_holds c lt)
       (subst (λ (e : Entry). TakesReady s.memory e.routine) (sym e) (subst (λ (k : Word → ℕ). TakesReady k ((seen state).who c).routine) (sym b.memory) ready))
       (subst (λ (e : Entry). Belongs t.target t.setting e) (sym e) (belongs_seen t.target t.setting state c sound lt))
       (ap (λ (e : Entry). is_call t.target e.running.call) e ∙ b.called c lt run)
-      (stays_proper t.text n c z b.v (point s x) proper b.sourced placed)
-      (ap (wants t.target) e ∙ want) m.3 (λ w out. ap (λ (k : Word → ℕ). k w) b.memory ∙ past_row state w out) draws in
-      let k : KeptWith t c s x stepped.row (set_after_access t.target t.setting.sizes x.entry x.entry.routine (s.memory (word_of a)) x.was_set) (after_access s.memory a) made (present_at t.target t.setting.sizes s.memory s.unused x.entry x.entry.routine s.present) = stepped.kept in
+      (stays_proper t.text n c z b.v (point s x) normal within proper b.sourced placed)
+      (ap (wants t.target) e ∙ want) m.3 draws in
+      let k : KeptWith t c s x stepped.row (set_after_access t.target x.entry x.entry.routine (s.memory (word_of a)) x.was_set) (after_access s.memory a) made (present_at t.target s.memory s.unused x.entry x.entry.routine s.present) = stepped.kept in
       let l : Lifted t.text n c b.v (point k.s' k.x') (shadow_run t.text (event_signs t.target t.setting state (Steps c)) z) =
       subst (λ (i : List Signed). Lifted t.text n c b.v (point k.s' k.x') (shadow_run t.text i z)) same
       (lift t.text n c made.signs (point s x) (point k.s' k.x') k.plays z b.v b.sourced placed) in
@@ -260,13 +259,13 @@ module _ (t : Plan) (plan : IsPlan t) (test : Entry → Bool) (keeps : StepsKeep
         there = m.3;
         stepped = stepped;
         world = refl;
-        present = k.present ∙ (ap (λ (memory : Word → ℕ). present_at t.target t.setting.sizes memory s.unused x.entry x.entry.routine s.present) b.memory
-            ∙ (ap (λ (drawn : ℕ). present_at t.target t.setting.sizes (seen state).memory drawn x.entry x.entry.routine s.present) (sym b.unused)
-            ∙ ap (λ (e : Entry). present_at t.target t.setting.sizes (seen state).memory z.unused e e.routine s.present) e));
+        present = k.present ∙ (ap (λ (memory : Word → ℕ). present_at t.target memory s.unused x.entry x.entry.routine s.present) b.memory
+            ∙ (ap (λ (drawn : ℕ). present_at t.target (seen state).memory drawn x.entry x.entry.routine s.present) (sym b.unused)
+            ∙ ap (λ (e : Entry). present_at t.target (seen state).memory z.unused e e.routine s.present) e));
         beside = record {
           w = record { shared = k.s'; who = put b.w.who c k.x' };
           v = l.v';
-          holds = holds_on t b.w c stepped.row (set_after_access t.target t.setting.sizes x.entry x.entry.routine (s.memory (word_of a)) x.was_set) (after_access s.memory a) made (present_at t.target t.setting.sizes s.memory s.unused x.entry x.entry.routine s.present) plan.null b.holds k;
+          holds = holds_on t b.w c stepped.row (set_after_access t.target x.entry x.entry.routine (s.memory (word_of a)) x.was_set) (after_access s.memory a) made (present_at t.target s.memory s.unused x.entry x.entry.routine s.present) null_home b.holds k;
           memory = k.memory ∙ (ap (λ (i : Word → ℕ). after_access i a) b.memory ∙ sym m.4);
           entry = entry_put b.w (seen state) c k.x' next b.entry
               (k.entry ∙ (ap (λ (i : Moved). i.entry) same_move ∙ sym (after_is t.target t.setting ((seen state).who c) ((seen state).memory (word_of a)))))
@@ -294,16 +293,16 @@ module _ (t : Plan) (plan : IsPlan t) (test : Entry → Bool) (keeps : StepsKeep
   event_beside all (Steps c) state behind z sound shaped b ready m homes = step_beside state behind z c (all ((seen state).who c)) sound shaped b (ready c) m homes
 
   -- the induction, over what stays sound
-  pub run_beside : t.setting.sizes.slots ≤ 4096 → Suits t.setting.sizes (beginning_of t.target t.setting) → ((e : Entry) → test e ≡ true) → ((state : CoreState) → IsSound t.target t.setting state → IsShaped t.target t.setting state)
+  pub run_beside : AreKinds t.setting.sizes → t.setting.sizes.slots ≤ 4096 → NewsFit t.target t.setting.sizes → Suits t.setting.sizes (beginning_of t.target t.setting) → ((e : Entry) → test e ≡ true) → ((state : CoreState) → IsSound t.target t.setting state → IsShaped t.target t.setting state)
       → ((state behind : CoreState) (event : CoreEvent) → IsSound t.target t.setting state → core_event t.target t.setting state event ≡ Some behind → IsSound t.target t.setting behind)
       → (events : List CoreEvent) (state behind : CoreState) (z : Shadow) (present : ℕ → ℕ) → IsSound t.target t.setting state → PooledBeside t state z present → core_run t.target t.setting events state ≡ Some behind
       → HomeIs t.home (shadow_run t.text (run_signs t.target t.setting events state) z)
       → PooledBeside t behind (shadow_run t.text (run_signs t.target t.setting events state) z) (present_run t.target t.text t.setting events state z present)
-  run_beside few suits all shaped stays events state behind z present sound b is homes = along_run t (ℕ → ℕ) (present_run t.target t.text t.setting)
+  run_beside are few news suits all shaped stays events state behind z present sound b is homes = along_run t (ℕ → ℕ) (present_run t.target t.text t.setting)
       (λ event state z present. present_after t.target t.setting (view t.setting state) event z.unused present) (PooledBeside t) (λ state z present. refl)
       (present_more t)
       shaped stays events_seen
       (λ event state behind z present sound shaped b m homes.
-      let one = event_beside all event state behind z sound shaped b.named.0 (λ c. takes_ready t.target t.setting state c few suits b.pooled) m homes in
-      record { named = (one.0, one.1 ∙ ap (present_after t.target t.setting (view t.setting state) event z.unused) b.named.1); pooled = pool_goes t state behind _ event few suits shaped m b.pooled one.0 })
+      let one = event_beside all event state behind z sound shaped b.named.0 (λ c. takes_ready t.target t.setting state c are few suits b.pooled) m homes in
+      record { named = (one.0, one.1 ∙ ap (present_after t.target t.setting (view t.setting state) event z.unused) b.named.1); pooled = pool_goes t state behind _ event are few news suits shaped m b.pooled one.0 })
       events state behind z present sound b is homes

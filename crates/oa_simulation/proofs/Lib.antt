@@ -1,3 +1,4 @@
+pub mod FirstSlots
 pub mod Starting
 pub mod FirstWords
 pub mod FirstCallers
@@ -10,3 +11,6 @@ pub mod Barring
 pub mod Testing
 pub mod FactsHold
 pub mod Pools
+mod Worked
+pub mod sim_relation
+pub mod sim_steps

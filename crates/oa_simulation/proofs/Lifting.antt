@@ -2,6 +2,10 @@
 use Rattle.std.proofs.Common.{ℕ, ◌≡◌, ◌∙◌, true, false, List, Some, sym, ap, subst, refl}
 use Rattle.std.specs.Prelude.{slice_get}
 use Rattle.norm_lang.specs.declared.text.Text.{Text}
+use Rattle.norm_lang.specs.Limits.{IsWithinLimits}
+use Rattle.norm_lang.specs.NormalForm.{IsNormal}
+use Rattle.run_ahead.specs.TypedCallers.{IsTypedCaller}
+use Rattle.run_ahead.proofs.TypedRuns.{callers_are_typed}
 use Rattle.source_machine.specs.declared.event.SourceEvent.{SourceEvent}
 use Rattle.source_machine.specs.declared.event.SourceEvent.TheVariants.{Restart}
 use Rattle.source_machine.specs.declared.state.Memory.{Memory}
@@ -13,10 +17,10 @@ use Rattle.source_machine.specs.Proper.{runs_method, IsProper, IsProperState}
 use Rattle.source_machine.proofs.Along.{source_run_more, watched_more, watched_machine}
 use Rattle.caller_steps.specs.Signs.{Sign, Begins, Accesses, Draws, Renews, GivesUp}
 use Rattle.core_runs.specs.RunSigns.{signed}
-use Rattle.sim_relation.specs.Points.{event_of}
+use Rattle.oa_simulation.specs.sim_relation.Points.{event_of}
 use Rattle.oa_simulation.specs.Shadow.{Shadow, is_told, shadow_step, shadow_run}
-use Rattle.sim_relation.specs.Points.{Point, Plays, done, makes, leaves_out, is_open, played, IsProperPoint, StaysProper}
-use Rattle.sim_steps.proofs.Turning.{Others, enabled_is, stepped}
+use Rattle.oa_simulation.specs.sim_relation.Points.{Point, Plays, done, makes, leaves_out, is_open, played, IsProperPoint, StaysProper}
+use Rattle.oa_simulation.proofs.sim_steps.Turning.{Others, enabled_is, stepped}
 use Rattle.oa_simulation.specs.Beside.{Sourced, Placed}
 
 mover_is : (c u : ℕ) (sign : Sign) → mover (event_of c u sign) ≡ c
@@ -98,21 +102,25 @@ lift text callers c signs p q (leaves_out rest k l shut plays) z v s at =
     subst (λ (y : Shadow). Lifted text callers c v l (shadow_run text (signed c rest) y)) (sym (left_out text c z e)) (lift text callers c rest k l plays z v s at)
 
 -- a proper text makes each point proper
-proper_at : (v : Watched) (z : Shadow) (c : ℕ) (x : SourceCaller) → IsProperState v.machine v.runs → slice_get v.machine.callers c ≡ Some x → IsProperPoint (point_at v z c x)
-proper_at v z c x s at = record {
+proper_at : (text : Text) (v : Watched) (z : Shadow) (c : ℕ) (x : SourceCaller) → IsProperState v.machine v.runs → IsTypedCaller text v.machine.memory.nodes x → slice_get v.machine.callers c ≡ Some x → IsProperPoint text (point_at v z c x)
+proper_at text v z c x s kinds at = record {
   once = s.once;
   roots = s.roots;
   got = λ runs name other got reaches. s.got c name other (ap runs_method at ∙ runs) got reaches;
+  kinds = kinds;
 }
 
-proper_point : (text : Text) (callers c : ℕ) (z : Shadow) (v : Watched) (p : Point) → IsProper text → Sourced text callers z v → Placed v z c p → IsProperPoint p
-proper_point text callers c z v p proper s at =
-    subst IsProperPoint (point_is v z c p at)
-    (proper_at v z c p.caller (subst (λ (u : Watched). IsProperState u.machine u.runs) (sym s.watched)
+proper_point : (text : Text) (callers c : ℕ) (z : Shadow) (v : Watched) (p : Point) → IsNormal text → IsWithinLimits text → IsProper text → Sourced text callers z v → Placed v z c p → IsProperPoint text p
+proper_point text callers c z v p normal within proper s at =
+    let machine = machine_is text callers z v s in
+    subst (IsProperPoint text) (point_is v z c p at)
+    (proper_at text v z c p.caller (subst (λ (u : Watched). IsProperState u.machine u.runs) (sym s.watched)
     (subst (λ (m : SourceMachine). IsProperState m (watched_run text z.events (watched_start text callers)).runs) (sym (watched_machine text callers z.events z.machine s.run))
-    (proper callers z.events z.machine s.run))) at.caller)
+    (proper callers z.events z.machine s.run)))
+    (subst (λ (m : SourceMachine). IsTypedCaller text m.memory.nodes p.caller) (sym machine)
+    (callers_are_typed text normal within callers z.events z.machine s.run c p.caller (ap (λ (m : SourceMachine). slice_get m.callers c) (sym machine) ∙ at.caller))) at.caller)
 
-pub stays_proper : (text : Text) (callers c : ℕ) (z : Shadow) (v : Watched) (p : Point) → IsProper text → Sourced text callers z v → Placed v z c p → StaysProper text c p
-stays_proper text callers c z v p proper s at signs q plays =
+pub stays_proper : (text : Text) (callers c : ℕ) (z : Shadow) (v : Watched) (p : Point) → IsNormal text → IsWithinLimits text → IsProper text → Sourced text callers z v → Placed v z c p → StaysProper text c p
+stays_proper text callers c z v p normal within proper s at signs q plays =
     let l = lift text callers c signs p q plays z v s at in
-    proper_point text callers c (shadow_run text (signed c signs) z) l.v' q proper l.sourced l.placed
+    proper_point text callers c (shadow_run text (signed c signs) z) l.v' q normal within proper l.sourced l.placed

@@ -3,6 +3,7 @@ use Rattle.std.proofs.Common.{ℕ, ◌≡◌, ◌≤◌, ◌<◌, ◌∙◌, sym
 use Rattle.target_code.specs.declared.target.Target.{Target}
 use Rattle.oa_words.specs.declared.packed.Kind.TheVariants as kinds
 use Rattle.oa_words.specs.Words.{Word, Status}
+use Rattle.oa_words.specs.Within.{AreKinds}
 use Rattle.oa_words.specs.Starts.{Suits}
 use Rattle.phase_pools.specs.declared.stages.ClaimStage.{ClaimStage}
 use Rattle.phase_pools.specs.declared.stages.ClaimStage.TheVariants as claims
@@ -13,17 +14,18 @@ use Rattle.caller_parts.specs.declared.routine.AfterRetire.{AfterRetire}
 use Rattle.caller_parts.specs.declared.routine.Routine.{Routine}
 use Rattle.caller_parts.specs.declared.routine.Routine.TheVariants.{Idle, LoadSeen, At, InList, Retires, Restarts, Clears, Claims, Zeroes}
 use Rattle.caller_parts.specs.Settings.{Setting}
+use Rattle.caller_steps.specs.Asking.{NewsFit}
 use Rattle.caller_steps.specs.Entries.{Entry}
 use Rattle.core_runs.specs.Machine.{CoreState, CoreEvent, beginning_of}
 use Rattle.core_runs.specs.Views.{IsShaped, Moves, view}
-use Rattle.core_sound.specs.Standing.{standing_of}
-use Rattle.core_pools.specs.Pooled.{Pooled, RetiresUsed, standings}
-use Rattle.core_pools.proofs.Pooling.{leads_tell, event_pooled}
-use Rattle.sim_relation.specs.Views.{Plan, Retiring}
-use Rattle.sim_relation.specs.Shared.{IsOf}
-use Rattle.sim_relation.specs.Callers.{HoldsAt, IsRetiring}
-use Rattle.sim_relation.specs.Steps.{TakenIsReady, TakesReady}
-use Rattle.sim_relation.proofs.Names.{slot_by}
+use Rattle.core_runs.specs.core_sound.Standing.{standing_of}
+use Rattle.core_runs.specs.core_pools.Pooled.{Pooled, RetiresUsed, standings}
+use Rattle.core_runs.proofs.core_pools.Pooling.{leads_tell, event_pooled}
+use Rattle.oa_simulation.specs.sim_relation.Views.{Plan, Retiring}
+use Rattle.oa_simulation.specs.sim_relation.Shared.{IsOf}
+use Rattle.oa_simulation.specs.sim_relation.Callers.{HoldsAt, IsRetiring}
+use Rattle.oa_simulation.specs.sim_relation.Steps.{TakenIsReady, TakesReady}
+use Rattle.oa_simulation.proofs.sim_relation.Names.{slot_by}
 use Rattle.oa_simulation.specs.Shadow.{Shadow}
 use Rattle.oa_simulation.specs.Beside.{Beside}
 
@@ -58,18 +60,19 @@ module _ (t : Plan) (state : CoreState) (z : Shadow) (b : Beside t state z) wher
   }
 
 -- each event goes on to a state of the pool
-pub pool_goes : (t : Plan) (state behind : CoreState) (z' : Shadow) (event : CoreEvent) → t.setting.sizes.slots ≤ 4096 → Suits t.setting.sizes (beginning_of t.target t.setting) → IsShaped t.target t.setting state
+pub pool_goes : (t : Plan) (state behind : CoreState) (z' : Shadow) (event : CoreEvent) → AreKinds t.setting.sizes → t.setting.sizes.slots ≤ 4096 → NewsFit t.target t.setting.sizes → Suits t.setting.sizes (beginning_of t.target t.setting) → IsShaped t.target t.setting state
     → Moves t.target t.setting (view t.setting state) event (view t.setting behind) → Pooled t.target t.setting state → Beside t behind z' → Pooled t.target t.setting behind
-pool_goes t state behind z' event few suits shaped m pooled b = event_pooled t.target t.setting few suits state behind event shaped m pooled (retires_used t behind z' b)
+pool_goes t state behind z' event are few news suits shaped m pooled b = event_pooled t.target t.setting are few suits news state behind event shaped m pooled (retires_used t behind z' b)
 
 -- what a claim has taken is ready until the claim stores that it is used
-pub takes_ready : (target : Target) (setting : Setting) (state : CoreState) (c : ℕ) → setting.sizes.slots ≤ 4096 → Suits setting.sizes (beginning_of target setting) → Pooled target setting state → TakesReady (view setting state).memory ((view setting state).who c).routine
-takes_ready target setting state c few suits pooled = of ((view setting state).who c).routine refl where
+pub takes_ready : (target : Target) (setting : Setting) (state : CoreState) (c : ℕ) → AreKinds setting.sizes → setting.sizes.slots ≤ 4096 → Suits setting.sizes (beginning_of target setting) → Pooled target setting state → TakesReady (view setting state).memory ((view setting state).who c).routine
+takes_ready target setting state c are few suits pooled = of ((view setting state).who c).routine refl where
   in_claim : (claim : Claim) → standings (view setting state).who c ≡ pool.Claims claim → (stage : ClaimStage) → claim.stage ≡ stage → TakenIsReady (view setting state).memory stage
   in_claim claim at claims.ReadHead is = tt
   in_claim claim at (claims.ReadLink q j) is = tt
   in_claim claim at (claims.Take q j next) is = tt
-  in_claim claim at (claims.StoreUsed q j) is = ((leads_tell target setting few suits _ pooled.1).taken c claim q j at is).1
+  in_claim claim at (claims.StoreUsed q j) is = ((leads_tell target setting are few suits _ pooled.1).taken c claim q j at is).2
+  in_claim claim at (claims.Withdraw own) is = tt
   in_claim claim at claims.Sweeps is = tt
 
   of : (routine : Routine) → ((view setting state).who c).routine ≡ routine → TakesReady (view setting state).memory routine

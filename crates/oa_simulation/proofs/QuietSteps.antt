@@ -1,8 +1,8 @@
 -- The start is in the relation, each quiet step keeps it, method runs begin unwarned, and no sweep frees what a validated guard names.
 use Rattle.std.proofs.Common.{ℕ, ◌≡◌, ◌∙◌, List, Some, sym, ap, subst, refl}
-use Rattle.std.specs.Prelude.{nat_le}
 use Rattle.norm_lang.specs.declared.text.Text.{Text}
 use Rattle.target_code.specs.declared.target.Target.{Target}
+use Rattle.target_code.specs.Barred.{IsBarred}
 use Rattle.oa_words.specs.declared.packed.Kind.TheVariants as kinds
 use Rattle.oa_words.specs.Words.{Word, Warning, Hazard, Status}
 use Rattle.oa_words.specs.Packed.{status_word}
@@ -24,18 +24,18 @@ use Rattle.core_runs.specs.RunSigns.{Signed, signed, event_signs}
 use Rattle.core_runs.specs.Views.{CoreView, view, Moves}
 use Rattle.core_runs.proofs.Seeing.{events_are_seen}
 use Rattle.core_runs.proofs.Starting.{start_is_seen}
-use Rattle.core_sound.proofs.Reached.{states_are_sound, states_are_shaped, start_suits}
-use Rattle.target_runs.specs.Runnable.{IsRunnable}
-use Rattle.target_runs.proofs.SaneTargets.{runnable_is_sane}
-use Rattle.sim_relation.specs.Views.{Plan, IsPlan, Shared}
-use Rattle.sim_relation.specs.Callers.{CallerHolds, HoldsAt, SweepAt, ClaimAt}
-use Rattle.sim_relation.specs.Steps.{after_access}
-use Rattle.sim_relation.proofs.Words.{store_idle}
-use Rattle.sim_steps.proofs.Pools.Slots.{Freed, unguarded}
-use Rattle.sim_steps.specs.Quiet.{is_quiet}
-use Rattle.sim_steps.proofs.Drawing.{quiet_draws_none}
-use Rattle.sim_steps.proofs.Dispatching.{quiet_steps}
-use Rattle.sim_steps.proofs.Seen.{after_seen, renewing_loads}
+use Rattle.core_runs.proofs.core_sound.Reached.{states_are_sound, states_are_shaped, start_suits}
+use Rattle.target_laws.specs.target_runs.Runnable.{IsRunnable}
+use Rattle.target_laws.proofs.target_runs.SaneTargets.{runnable_is_sane}
+use Rattle.oa_simulation.specs.sim_relation.Views.{Plan, IsPlan, Shared}
+use Rattle.oa_simulation.specs.sim_relation.Callers.{CallerHolds, HoldsAt, SweepAt, ClaimAt}
+use Rattle.oa_simulation.specs.sim_relation.Steps.{after_access}
+use Rattle.oa_simulation.proofs.sim_relation.Words.{store_idle}
+use Rattle.oa_simulation.proofs.sim_steps.Pools.Slots.{Freed, unguarded}
+use Rattle.oa_simulation.specs.sim_steps.Quiet.{is_quiet}
+use Rattle.oa_simulation.proofs.sim_steps.Drawing.{quiet_draws_none}
+use Rattle.oa_simulation.proofs.sim_steps.Dispatching.{quiet_steps}
+use Rattle.oa_simulation.proofs.sim_steps.Seen.{after_seen, renewing_loads}
 use Rattle.oa_simulation.specs.Shadow.{shadow_run}
 use Rattle.oa_simulation.specs.FirstNames.{first_home}
 use Rattle.oa_simulation.specs.Beside.{Beside}
@@ -43,17 +43,18 @@ use Rattle.oa_simulation.specs.Relation.{HomeIs, StartIsRelated, QuietStepsKeep,
 use Rattle.oa_simulation.proofs.Homes.{undrawn}
 use Rattle.oa_simulation.proofs.Induction.{step_beside, signs_are}
 use Rattle.oa_simulation.proofs.FirstWords.{first_words}
-use Rattle.oa_simulation.proofs.Refining.{start_beside, either, stands}
+use Rattle.oa_simulation.proofs.FirstSlots.{first_null}
+use Rattle.oa_simulation.proofs.Refining.{start_beside, stands}
 use Rattle.oa_simulation.proofs.Pools.{takes_ready}
-use Rattle.caller_laws.proofs.Methods.{setting_sane}
+use Rattle.core_runs.proofs.caller_laws.Methods.{setting_sane}
 
 -- slots of the names make a plan
 abbrev pub planned : Target → Text → Setting → (ℕ → ℕ) → Plan
 planned target text setting home = record { target = target; text = text; setting = setting; home = home }
 
-pub is_plan : (target : Target) (text : Text) (setting : Setting) (home : ℕ → ℕ) → IsRunnable target text → IsSetting setting → Fits target setting → home 0 ≡ 0 → IsPlan (planned target text setting home)
-is_plan target text setting home runs own fits null = record {
-  compiled = record { normal = runs.normal; within = runs.small; barred = runs.barred };
+pub is_plan : (target : Target) (text : Text) (setting : Setting) (home : ℕ → ℕ) → IsRunnable target text → IsBarred target text → IsSetting setting → Fits target setting → home 0 ≡ 0 → IsPlan (planned target text setting home)
+is_plan target text setting home runs barred own fits null = record {
+  compiled = record { normal = runs.normal; within = runs.small; barred = barred };
   sane = runnable_is_sane target text runs;
   some = own;
   fits = fits;
@@ -63,19 +64,19 @@ is_plan target text setting home runs own fits null = record {
 
 pub start_related : (target : Target) (text : Text) (setting : Setting) → IsRunnable target text → IsSetting setting → Fits target setting → StartIsRelated target text setting
 start_related target text setting runs own fits =
-    let home : ℕ → ℕ = first_home setting.nodes in
-    let null : home 0 ≡ 0 = either (nat_le 0 setting.nodes) in
+    let home : ℕ → ℕ = first_home setting in
+    let null : home 0 ≡ 0 = first_null setting in
     let t : Plan = planned target text setting home in
     record {
       home = home;
       null = null;
       homes = λ n lt. refl;
-      beside = (start_beside t (is_plan target text setting home runs own fits null) own (start_is_seen target setting) (start_suits target text setting runs own fits).suits
+      beside = (start_beside t own (start_is_seen target setting) (start_suits target text setting runs own fits).suits
           (first_words t runs own fits (λ n lt. refl))).0;
     }
 
-pub quiet_kept : (target : Target) (text : Text) (setting : Setting) → IsRunnable target text → IsSetting setting → Fits target setting → IsProper text → QuietStepsKeep target text setting
-quiet_kept target text setting runs own fits proper state later z c reached related quiet is =
+pub quiet_kept : (target : Target) (text : Text) (setting : Setting) → IsRunnable target text → IsBarred target text → IsSetting setting → Fits target setting → IsProper text → QuietStepsKeep target text setting
+quiet_kept target text setting runs barred own fits proper state later z c reached related quiet is =
     let home : ℕ → ℕ = related.home in
     let t : Plan = planned target text setting home in
     let sound = states_are_sound target text setting state runs own fits reached in
@@ -92,9 +93,9 @@ quiet_kept target text setting runs own fits proper state later z c reached rela
       home = home;
       null = related.null;
       homes = homes;
-      beside = (step_beside t (is_plan target text setting home runs own fits related.null) (is_quiet target setting) (quiet_steps t (is_plan target text setting home runs own fits related.null)) proper seen
+      beside = (step_beside t runs.normal runs.small related.null (is_quiet target setting) (quiet_steps t (is_plan target text setting home runs barred own fits related.null)) proper seen
           state later z c quiet sound shaped related.beside
-          (takes_ready target setting state c (setting_sane setting own).few (start_suits target text setting runs own fits).suits (stands target text setting reached.events state runs own fits proper reached.runs).pooled) m homes).0;
+          (takes_ready target setting state c (setting_sane setting own).kinds (setting_sane setting own).few (start_suits target text setting runs own fits).suits (stands target text setting reached.events state runs barred own fits proper reached.runs).pooled) m homes).0;
     }
 
 pub runs_begin_unwarned : (target : Target) (text : Text) (setting : Setting) → IsRunnable target text → IsSetting setting → Fits target setting → RunsBeginUnwarned target text setting
@@ -129,10 +130,10 @@ sweeps_spare target text setting state z related c j below frees d r some named 
     unguarded t s frees.claim.sweep.bound j frees.phase frees.claim.sweep.gathered b.holds.shared_holds freed d r some
     (sym (b.holds.shared_holds.guard d r some).word ∙ (ap (λ (k : Word → ℕ). k (Hazard d r)) b.memory ∙ named))
 
-pub keeps_quiet : (target : Target) (text : Text) (setting : Setting) → IsRunnable target text → IsSetting setting → Fits target setting → QuietIsKept target text setting
-keeps_quiet target text setting runs own fits proper = record {
+pub keeps_quiet : (target : Target) (text : Text) (setting : Setting) → IsRunnable target text → IsBarred target text → IsSetting setting → Fits target setting → QuietIsKept target text setting
+keeps_quiet target text setting runs barred own fits proper = record {
   start = start_related target text setting runs own fits;
-  steps = quiet_kept target text setting runs own fits proper;
+  steps = quiet_kept target text setting runs barred own fits proper;
   guards = sweeps_spare target text setting;
   unwarned = runs_begin_unwarned target text setting runs own fits;
 }

@@ -1,9 +1,9 @@
 -- Every run of the core is simulated by a run of the source.
-use Rattle.std.proofs.Common.{ℕ, zero, suc, ◌≡◌, ◌==◌, ◌<◌, ◌∙◌, ◌&&◌, not, Bool, true, false, List, Option, sym, ap, subst, refl, arith, if◌then◌else◌}
-use Rattle.std.proofs.lemmas.Bool.Decides.{nat_tests}
-use Rattle.std.specs.Prelude.{nat_le, slice_get, unwrap_or}
+use Rattle.std.proofs.Common.{ℕ, ◌≡◌, ◌<◌, ◌∙◌, Bool, true, false, List, Option, sym, ap, subst, refl, arith}
+use Rattle.std.specs.Prelude.{slice_get, unwrap_or}
 use Rattle.norm_lang.specs.declared.text.Text.{Text}
 use Rattle.target_code.specs.declared.target.Target.{Target}
+use Rattle.target_code.specs.Barred.{IsBarred}
 use Rattle.oa_words.specs.Words.{Word, Hazard, Status}
 use Rattle.source_machine.specs.declared.state.SourceCaller.{SourceCaller}
 use Rattle.source_machine.specs.Run.{caller_replies}
@@ -11,54 +11,46 @@ use Rattle.source_machine.specs.MethodRuns.{watched_start}
 use Rattle.caller_parts.specs.Settings.{Setting, IsSetting, Fits}
 use Rattle.caller_steps.specs.Entries.{Entry, idle_entry, is_idle}
 use Rattle.core_runs.specs.Machine.{CoreState, CoreEvent, core_start}
-use Rattle.core_sound.specs.Sound.{IsSound}
+use Rattle.core_runs.specs.core_sound.Sound.{IsSound}
 use Rattle.core_runs.specs.Views.{view}
-use Rattle.core_sound.proofs.Machine.{event_sound}
-use Rattle.core_sound.proofs.StartSound.{start_sound}
-use Rattle.core_sound.proofs.Reached.{states_are_sound, sound_is_shaped, start_suits}
+use Rattle.core_runs.proofs.core_sound.Machine.{event_sound}
+use Rattle.core_runs.proofs.core_sound.StartSound.{start_sound}
+use Rattle.core_runs.proofs.core_sound.Reached.{states_are_sound, sound_is_shaped, start_suits}
 use Rattle.core_runs.specs.Views.{StartIsSeen}
 use Rattle.core_runs.proofs.Seeing.{events_are_seen}
 use Rattle.core_runs.proofs.Starting.{start_is_seen}
-use Rattle.core_pools.specs.Pooled.{Pooled}
-use Rattle.core_pools.proofs.Pooling.{start_pooled}
-use Rattle.caller_laws.proofs.Together.{methods}
-use Rattle.target_runs.proofs.SaneTargets.{runnable_is_sane}
+use Rattle.core_runs.specs.core_pools.Pooled.{Pooled}
+use Rattle.core_runs.proofs.core_pools.Pooling.{start_pooled}
+use Rattle.core_runs.proofs.caller_laws.Together.{methods}
+use Rattle.target_laws.proofs.target_runs.SaneTargets.{runnable_is_sane}
 use Rattle.oa_words.specs.Starts.{Suits}
 use Rattle.core_runs.specs.Machine.{beginning_of}
-use Rattle.caller_laws.proofs.Methods.{setting_sane}
-use Rattle.sim_relation.specs.Views.{Plan, IsPlan}
-use Rattle.sim_relation.specs.Callers.{replies_of}
+use Rattle.core_runs.proofs.caller_laws.Methods.{setting_sane, news_fit}
+use Rattle.oa_simulation.specs.sim_relation.Views.{Plan, IsPlan}
+use Rattle.oa_simulation.specs.sim_relation.Callers.{replies_of}
 use Rattle.core_runs.specs.RunSigns.{run_signs}
 use Rattle.oa_simulation.specs.Shadow.{Shadow, shadow, shadow_start, home_of}
 use Rattle.oa_simulation.specs.Beside.{Beside}
 use Rattle.oa_simulation.specs.Statements.{AgreesWith, Agrees, ForProper, Refines}
-use Rattle.sim_steps.proofs.Worlds.{no_guarded_ready}
+use Rattle.oa_simulation.proofs.sim_steps.Worlds.{no_guarded_ready}
 use Rattle.oa_simulation.proofs.Starting.{IsFirst, first_shared, fine_first}
-use Rattle.target_runs.specs.Runnable.{IsRunnable}
-use Rattle.sim_steps.proofs.Dispatching.{steps_keep}
+use Rattle.target_laws.specs.target_runs.Runnable.{IsRunnable}
+use Rattle.oa_simulation.proofs.sim_steps.Dispatching.{steps_keep}
 use Rattle.oa_simulation.specs.Relation.{HomeIs, RunsAreSimulated}
+use Rattle.oa_simulation.proofs.FirstSlots.{first_null}
 use Rattle.oa_simulation.proofs.FirstWords.{first_words}
 use Rattle.oa_simulation.proofs.Testing.{exchanges_agree}
 use Rattle.oa_simulation.proofs.Homes.{home_stays}
 use Rattle.oa_simulation.proofs.Induction.{NamedBeside, run_beside}
 use Rattle.oa_simulation.specs.Present.{first_present, present_in}
-use Rattle.sim_steps.proofs.Agreeing.{HasAbout, idle_agrees, running_agrees}
+use Rattle.oa_simulation.proofs.sim_steps.Agreeing.{HasAbout, idle_agrees, running_agrees}
 use Rattle.oa_simulation.proofs.FirstCallers.{all_idle, first_caller, no_hazard, told_first}
 use Rattle.oa_simulation.proofs.Lifting.{machine_is, stays_proper}
 use Rattle.oa_simulation.proofs.FactsHold.{facts_hold}
-use Rattle.sim_relation.specs.Points.{point}
-use Rattle.sim_relation.specs.WasSet.{none_set}
+use Rattle.oa_simulation.specs.sim_relation.Points.{point}
+use Rattle.oa_simulation.specs.sim_relation.WasSet.{none_set}
 use Rattle.std.proofs.lemmas.Option.{slice_get_within}
 use Rattle.source_machine.specs.declared.event.SourceReply.{SourceReply}
-
-pub either : (b : Bool) → ◌≡◌ {A = ℕ} (if b then 0 else 0) 0
-either true = refl
-either false = refl
-
--- the relation's first names are the run's
-first_names : (nodes j : ℕ) → (if not (j == 0) && nat_le j nodes then j else 0) ≡ first_present nodes j
-first_names nodes zero = sym (either (nat_le 0 nodes))
-first_names nodes (suc j) = let some : (suc j == 0) ≡ false = grind (arith, nat_tests) in rw some refl
 
 -- an idle caller's replies, and a running one's
 agrees_with : (b : Bool) (own : List SourceReply) (caller : SourceCaller) → (b ≡ true → caller.replies ≡ own) → HasAbout own caller → AgreesWith b own caller.replies
@@ -66,14 +58,14 @@ agrees_with true own caller idle runs = idle refl
 agrees_with false own caller idle runs = runs
 
 -- the start beside its shadow
-pub start_beside : (t : Plan) → IsPlan t → IsSetting t.setting → StartIsSeen t.target t.setting → Suits t.setting.sizes (beginning_of t.target t.setting) → IsFirst t (view t.setting (core_start t.target t.setting)).memory
-    → NamedBeside t (core_start t.target t.setting) (shadow_start t.text t.setting) (first_present t.setting.nodes)
-start_beside t plan own start suits first = (
+pub start_beside : (t : Plan) → IsSetting t.setting → StartIsSeen t.target t.setting → Suits t.setting.sizes (beginning_of t.target t.setting) → IsFirst t (view t.setting (core_start t.target t.setting)).memory
+    → NamedBeside t (core_start t.target t.setting) (shadow_start t.text t.setting) (first_present t.setting)
+start_beside t own start suits first = (
   record {
     w = record { shared = first_shared t (view t.setting (core_start t.target t.setting)).memory; who = first_caller };
     v = watched_start t.text t.setting.sizes.callers;
     holds = record {
-      shared_holds = fine_first t (view t.setting (core_start t.target t.setting)).memory plan first;
+      shared_holds = fine_first t (view t.setting (core_start t.target t.setting)).memory first;
       caller_holds = λ d lt. told_first t (view t.setting (core_start t.target t.setting)).memory d (no_hazard t.target t.setting start suits d);
     };
     memory = refl;
@@ -86,14 +78,14 @@ start_beside t plan own start suits first = (
     called = λ d lt busy. absurd (let e : is_idle ((view t.setting (core_start t.target t.setting)).who d).routine ≡ true = ap (λ (e : Entry). is_idle e.routine) (start.who d) in
         let z : true ≡ false = sym e ∙ busy in cc);
   },
-  λ i j. first_names t.setting.nodes j i,
+  refl,
 )
 
 -- no run has set a register there
-pub start_sets_none : (t : Plan) (plan : IsPlan t) (own : IsSetting t.setting) (start : StartIsSeen t.target t.setting) (suits : Suits t.setting.sizes (beginning_of t.target t.setting)) (first : IsFirst t (view t.setting (core_start t.target t.setting)).memory)
-    → (d : ℕ) → ((start_beside t plan own start suits first).0.w.who d).was_set ≡ none_set
+pub start_sets_none : (t : Plan) (own : IsSetting t.setting) (start : StartIsSeen t.target t.setting) (suits : Suits t.setting.sizes (beginning_of t.target t.setting)) (first : IsFirst t (view t.setting (core_start t.target t.setting)).memory)
+    → (d : ℕ) → ((start_beside t own start suits first).0.w.who d).was_set ≡ none_set
 unfolding start_beside
-start_sets_none t plan own start suits first d = refl
+start_sets_none t own start suits first d = refl
 
 state_agrees : (t : Plan) (state : CoreState) (z : Shadow) → IsSound t.target t.setting state → Beside t state z → Agrees state z.machine
 state_agrees t state z s b c e at =
@@ -120,33 +112,33 @@ pub record Stood (target : Target) (text : Text) (setting : Setting) (events : L
 
 -- what holds of every core run
 pub stands : ForProper Stood
-stands target text setting events state runs own fits proper is =
+stands target text setting events state runs barred own fits proper is =
     let t : Plan = record { target = target; text = text; setting = setting; home = home_of target text setting events } in
     let z0 : Shadow = shadow_start text setting in
     let signs = run_signs target setting events (core_start target setting) in
     let homes : HomeIs t.home z0 = λ n lt. home_stays text signs z0 n lt in
     let suits = (start_suits target text setting runs own fits).suits in
     let plan : IsPlan t = record {
-      compiled = record { normal = runs.normal; within = runs.small; barred = runs.barred };
+      compiled = record { normal = runs.normal; within = runs.small; barred = barred };
       sane = runnable_is_sane target text runs;
       some = own;
       fits = fits;
       callers = own.sizes.0;
-      null = homes 0 (omega arith) ∙ either (nat_le 0 setting.nodes);
+      null = homes 0 (omega arith) ∙ first_null setting;
     } in
-    let first = start_beside t plan own (start_is_seen target setting) suits (first_words t runs own fits homes) in
+    let first = start_beside t own (start_is_seen target setting) suits (first_words t runs own fits homes) in
     let sound0 = start_sound target setting (methods target text runs) runs.within own fits in
     let sound = states_are_sound target text setting state runs own fits (record { events = events; runs = is }) in
-    let b = run_beside t plan (λ e. true) (steps_keep t plan) proper (events_are_seen target setting) (setting_sane setting own).few suits (λ e. refl)
+    let b = run_beside t runs.normal runs.small plan.null (λ e. true) (steps_keep t plan) proper (events_are_seen target setting) (setting_sane setting own).kinds (setting_sane setting own).few (news_fit target setting (methods target text runs) (setting_sane setting own) fits) suits (λ e. refl)
     (λ s sound. sound_is_shaped target setting s (methods target text runs) (setting_sane setting own) fits sound)
     (λ s next event sound at. event_sound target setting s next event (methods target text runs) (setting_sane setting own) fits sound at)
-    events (core_start target setting) state z0 (first_present setting.nodes) sound0 (record { named = first; pooled = start_pooled target setting (setting_sane setting own).few suits }) is (λ n lt. refl) in
+    events (core_start target setting) state z0 (first_present setting) sound0 (record { named = first; pooled = start_pooled target setting (setting_sane setting own).kinds (setting_sane setting own).few suits }) is (λ n lt. refl) in
     record { plan = plan; sound = sound; pooled = b.pooled; beside = b.named.0; present = b.named.1 }
 
-pub simulates : (target : Target) (text : Text) (setting : Setting) → IsRunnable target text → IsSetting setting → Fits target setting → RunsAreSimulated target text setting
-simulates target text setting runs own fits proper events state is =
+pub simulates : (target : Target) (text : Text) (setting : Setting) → IsRunnable target text → IsBarred target text → IsSetting setting → Fits target setting → RunsAreSimulated target text setting
+simulates target text setting runs barred own fits proper events state is =
     let t : Plan = plan_of target text setting events in
-    let k = stands target text setting events state runs own fits proper is in
+    let k = stands target text setting events state runs barred own fits proper is in
     let shaped = sound_is_shaped target setting state (methods target text runs) (setting_sane setting own) fits k.sound in
     record {
       refined = record {
@@ -156,10 +148,10 @@ simulates target text setting runs own fits proper events state is =
       };
       related = record { home = t.home; null = k.plan.null; homes = λ n lt. refl; beside = k.beside };
       guarded = λ c r q some ready. no_guarded_ready t k.beside.w.shared k.beside.holds.shared_holds c r q some (ap (λ (m : Word → ℕ). m (Status (m (Hazard c r)))) k.beside.memory ∙ ready);
-      facts = facts_hold t k.beside.w k.plan k.beside.holds (λ c lt.
-          stays_proper text setting.sizes.callers c (shadow target text setting events) k.beside.v (point k.beside.w.shared (k.beside.w.who c)) proper k.beside.sourced
+      facts = facts_hold t k.beside.w k.plan.null k.beside.holds (λ c lt.
+          stays_proper text setting.sizes.callers c (shadow target text setting events) k.beside.v (point k.beside.w.shared (k.beside.w.who c)) runs.normal runs.small proper k.beside.sourced
           (record { caller = k.beside.caller c lt; memory = k.beside.source; run = k.beside.run c lt; unused = k.beside.unused }));
     }
 
 pub refines : Refines
-refines target text setting events state runs own fits proper is = (simulates target text setting runs own fits proper events state is).refined
+refines target text setting events state runs barred own fits proper is = (simulates target text setting runs barred own fits proper events state is).refined

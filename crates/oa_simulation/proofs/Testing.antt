@@ -30,21 +30,24 @@ use Rattle.caller_steps.specs.Entries.{Entry, idle_entry, instr_in}
 use Rattle.caller_parts.specs.Operands.{list_of, succeeds}
 use Rattle.caller_steps.specs.Belongs.{cas_of}
 use Rattle.caller_steps.specs.Wants.{wants, wanted, exchange_wanted, list_wanted, instr_wanted}
-use Rattle.caller_laws.proofs.Safety.{list_there}
+use Rattle.core_runs.proofs.caller_laws.Safety.{list_there}
 use Rattle.core_runs.specs.Machine.{CoreState, found_by}
 use Rattle.core_runs.specs.Views.{IsShaped}
 use Rattle.target_laws.specs.Methods.{code_in}
 use Rattle.run_ahead.specs.Standing.{Call, stands_at, stands_in_list, running_at, caller_of}
 use Rattle.run_ahead.proofs.Plain.{at_place, kind_right}
 use Rattle.run_ahead.proofs.Quiet.{stands_there}
-use Rattle.sim_relation.specs.Views.{Plan, IsPlan, Shared, Caller}
-use Rattle.sim_relation.specs.Shared.{SharedHolds}
-use Rattle.sim_relation.specs.Callers.{CallerHolds, HoldsAt, Calm, Trail, Running as CallerRuns, InExecutor, spared, spot_of}
-use Rattle.sim_relation.specs.Points.{IsProperPoint, point, done}
-use Rattle.sim_relation.proofs.Codes.{instr_is}
-use Rattle.sim_steps.proofs.Pools.Core.{wants_is}
-use Rattle.sim_steps.proofs.Exchanges.Exchanging.{Offers, tests_agree}
-use Rattle.sim_steps.proofs.Exchanges.Offering.{offers, operand_is_own, own_in_generator, none_passes}
+use Rattle.run_ahead.specs.Ahead.{erasing}
+use Rattle.oa_simulation.specs.sim_relation.Views.{Plan, IsPlan, Shared, Caller}
+use Rattle.oa_simulation.specs.sim_relation.Shared.{SharedHolds}
+use Rattle.oa_simulation.specs.sim_relation.Callers.{CallerHolds, HoldsAt, Trail, Running as CallerRuns, InExecutor, spot_of}
+use Rattle.oa_simulation.specs.sim_relation.Points.{IsProperPoint, point, done}
+use Rattle.oa_simulation.proofs.sim_relation.Codes.{instr_is}
+use Rattle.oa_simulation.proofs.sim_steps.Pools.Core.{wants_is}
+use Rattle.oa_simulation.proofs.sim_steps.Accesses.Stepping.{run_asked}
+use Rattle.oa_simulation.proofs.sim_steps.Accesses.Entries.{list_asked}
+use Rattle.oa_simulation.proofs.sim_steps.Exchanges.Exchanging.{Offers, tests_agree}
+use Rattle.oa_simulation.proofs.sim_steps.Exchanges.Offering.{offers, operand_is_own, own_in_generator, none_passes}
 use Rattle.oa_simulation.specs.Shadow.{Shadow}
 use Rattle.oa_simulation.specs.Beside.{Beside, Placed}
 use Rattle.oa_simulation.specs.Statements.{ExchangesAgree, core_exchange, exchange_of, stand_exchange, exchange_makes, performed_makes, caller_makes, source_makes}
@@ -91,7 +94,7 @@ cas_there (Some (Plain _)) entry is = absurd (let z : None ≡ Some entry = is i
 
 -- ---- one caller
 
-module _ (t : Plan) (s : Shared) (c : ℕ) (x : Caller) (plan : IsPlan t) (f : SharedHolds t s) (told : CallerHolds t s c x) (proper : IsProperPoint (point s x)) where
+module _ (t : Plan) (s : Shared) (c : ℕ) (x : Caller) (plan : IsPlan t) (f : SharedHolds t s) (told : CallerHolds t s c x) (proper : IsProperPoint t.text (point s x)) where
   abbrev TestsAgree : CasEntry → WordAccess → Type 0
   TestsAgree entry a = succeeds entry x.entry.hand.registers (s.memory (word_of a)) ≡ caller_makes t.text s.source (Some x.source)
 
@@ -101,7 +104,7 @@ module _ (t : Plan) (s : Shared) (c : ℕ) (x : Caller) (plan : IsPlan t) (f : S
       let run : CallerRuns t s c x (spot_of x.entry.hand) = subst (λ (r : Routine). HoldsAt t s c x r) at told.spot in
       let m : Trail t = run.0 in
       let here : slice_get (code_in run.0.walk.method) x.entry.hand.at ≡ Some (Plain (instr.Cas entry l)) = sym (instr_is t s c x (spot_of x.entry.hand) run.0 run.1) ∙ is in
-      let offered : Offers t s c (spared t run.0.walk) x.entry.hand.registers run.0.mirror entry = offers t s c x run.0 (instr.Cas entry l) 0 entry (record {
+      let offered : Offers t s c x.entry.hand.registers run.0.mirror entry = offers t s c x run.0 (instr.Cas entry l) 0 entry (record {
         plan = plan;
         shared_holds = f;
         base = told.base;
@@ -109,17 +112,18 @@ module _ (t : Plan) (s : Shared) (c : ℕ) (x : Caller) (plan : IsPlan t) (f : S
         guards = run.4;
         here = here;
         one = refl;
-        right = kind_right run.0.walk.method plan.compiled x.entry.hand.at (instr.Cas entry l) here;
-        own = λ r operand. operand_is_own t run.0 x.entry.hand.at entry l r plan run.1.ahead.path_is here operand;
+        right = kind_right run.0.walk.method (erasing plan.compiled) x.entry.hand.at (instr.Cas entry l) here;
+        own = λ r operand. operand_is_own t run.0 x.entry.hand.at entry l r (erasing plan.compiled) run.1.ahead.path_is here operand;
         proper = proper;
+        asked = run_asked t c s x (instr.Cas entry l) (erasing plan.compiled) run proper here refl;
       }) in
-      let there = stands_there run.0.walk.method t.home (Calm s c x) run.0.path (spot_of x.entry.hand) run.0.mirror run.0.there (instr.Cas entry l) plan.compiled here refl run.1.ahead in
+      let there = stands_there run.0.walk.method x.entry.hand.at run.0.mirror run.0.there (instr.Cas entry l) (erasing plan.compiled) here refl run.1.ahead.settles in
       let op = ap (slice_get t.text.ops) run.1.number ∙ run.0.walk.method.in_text in
-      tests_agree t s c (spared t run.0.walk) x.entry.hand.registers run.0.mirror entry plan.null f offered
+      tests_agree t s c x.entry.hand.registers run.0.mirror entry plan.null f offered
       ∙ sym (ap (λ (caller : SourceCaller). caller_makes t.text s.source (Some caller))
       (run.2.stands ∙ ap (λ (spot : Spot). stands_at run.0.walk.method.op run.0.walk.method.wrapup run.0.walk.started x.entry.hand.accessed run.0.walk.call spot) (sym there))
       ∙ cas_makes t.text run.0.walk.method.op run.0.walk.method.wrapup run.0.walk.started x.entry.hand.accessed run.0.walk.call run.0.mirror (source_place (code_in run.0.walk.method) x.entry.hand.at)
-      (source_place (code_in run.0.walk.method) l) entry s.source op (at_place run.0.walk.method plan.compiled x.entry.hand.at (Plain (instr.Cas entry l)) here).0)
+      (source_place (code_in run.0.walk.method) l) entry s.source op (at_place run.0.walk.method (erasing plan.compiled) x.entry.hand.at (Plain (instr.Cas entry l)) here).0)
 
   -- an exchange of the list
   entry_agrees : (k : ℕ) (entry : CasEntry) → x.entry.routine ≡ InCoreList k → slice_get (list_of (instr_in t.target x.entry)) k ≡ Some entry → TestsAgree entry (exchange_wanted t.target.fields entry x.entry.hand.registers)
@@ -128,7 +132,7 @@ module _ (t : Plan) (s : Shared) (c : ℕ) (x : Caller) (plan : IsPlan t) (f : S
       let commit = list_there (instr_in t.target x.entry) k (slice_get_within (list_of (instr_in t.target x.entry)) k entry one) in
       let here : slice_get (code_in run.0.walk.method) x.entry.hand.at ≡ Some (Plain (instr.Commit commit.0)) = sym (instr_is t s c x (spot_of x.entry.hand) run.0 run.1) ∙ commit.1 in
       let listed : slice_get commit.0 k ≡ Some entry = sym (ap (λ (o : Option TargetInstr). slice_get (list_of o) k) commit.1) ∙ one in
-      let offered : Offers t s c (spared t run.0.walk) x.entry.hand.registers run.0.mirror entry = offers t s c x run.0 (instr.Commit commit.0) k entry (record {
+      let offered : Offers t s c x.entry.hand.registers run.0.mirror entry = offers t s c x run.0 (instr.Commit commit.0) k entry (record {
         plan = plan;
         shared_holds = f;
         base = told.base;
@@ -136,12 +140,13 @@ module _ (t : Plan) (s : Shared) (c : ℕ) (x : Caller) (plan : IsPlan t) (f : S
         guards = run.2;
         here = here;
         one = listed;
-        right = none_passes (has_wrong_operand t.text.fields t.text.roots) commit.0 k entry (kind_right run.0.walk.method plan.compiled x.entry.hand.at (instr.Commit commit.0) here) listed;
+        right = none_passes (has_wrong_operand t.text.fields t.text.roots) commit.0 k entry (kind_right run.0.walk.method (erasing plan.compiled) x.entry.hand.at (instr.Commit commit.0) here) listed;
         own = λ r operand. own_in_generator t run.0 r run.3;
         proper = proper;
+        asked = list_asked t s c x run.0 k entry plan.compiled.normal run.1 run.4 proper one;
       }) in
       let op = ap (slice_get t.text.ops) run.1.number ∙ run.0.walk.method.in_text in
-      tests_agree t s c (spared t run.0.walk) x.entry.hand.registers run.0.mirror entry plan.null f offered
+      tests_agree t s c x.entry.hand.registers run.0.mirror entry plan.null f offered
       ∙ sym (ap (λ (caller : SourceCaller). caller_makes t.text s.source (Some caller)) run.4
       ∙ list_makes t.text run.0.walk.method.op (source_place (code_in run.0.walk.method) x.entry.hand.at) (list_of (instr_in t.target x.entry)) k run.0.mirror run.0.walk.call entry s.source op one)
 
@@ -180,7 +185,7 @@ exchanges_agree t state z plan proper shaped b c e entry a at is want =
     let found : s.memory (word_of a) ≡ found_by t.setting state a =
     ap (λ (k : Word → ℕ). k (word_of a)) b.memory ∙ ap (λ (b : Bool). if b then slice_index state.words (address_of t.setting.sizes (word_of a)) else 0) row in
     let placed : Placed b.v z c (point s x) = record { caller = b.caller c lt; memory = b.source; run = b.run c lt; unused = b.unused } in
-    let here : IsProperPoint (point s x) = stays_proper t.text t.setting.sizes.callers c z b.v (point s x) proper b.sourced placed [] (point s x) (done (point s x)) in
+    let here : IsProperPoint t.text (point s x) = stays_proper t.text t.setting.sizes.callers c z b.v (point s x) plan.compiled.normal plan.compiled.within proper b.sourced placed [] (point s x) (done (point s x)) in
     let mine : succeeds entry x.entry.hand.registers (s.memory (word_of a)) ≡ caller_makes t.text s.source (Some x.source) =
     caller_agrees t s c x plan b.holds.shared_holds (b.holds.caller_holds c lt) here entry a (ap (λ (i : Entry). core_exchange t.target i i.routine) own ∙ is) (ap (wants t.target) own ∙ want) in
     sym (ap (λ (word : ℕ). succeeds entry x.entry.hand.registers word) found ∙ ap (λ (i : Entry). succeeds entry i.hand.registers (found_by t.setting state a)) own)

@@ -7,10 +7,10 @@ use Rattle.caller_steps.specs.Entries.{is_idle}
 use Rattle.core_runs.specs.Machine.{CoreState}
 use Rattle.caller_parts.specs.Calls.{is_call}
 use Rattle.core_runs.specs.Views.{view}
-use Rattle.sim_relation.specs.Views.{Plan}
-use Rattle.sim_relation.specs.Worlds.{World, Holds}
+use Rattle.oa_simulation.specs.sim_relation.Views.{Plan}
+use Rattle.oa_simulation.specs.sim_relation.Worlds.{World, Holds}
 use Rattle.oa_simulation.specs.Shadow.{Shadow}
-use Rattle.sim_relation.specs.Points.{Point}
+use Rattle.oa_simulation.specs.sim_relation.Points.{Point}
 
 -- the shadow's events are a source run to its machine; the method runs beside it
 pub record Sourced (text : Text) (callers : ℕ) (z : Shadow) (v : Watched) : Type 0 where

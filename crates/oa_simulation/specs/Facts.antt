@@ -11,9 +11,10 @@ use Rattle.caller_parts.specs.declared.routine.Routine.TheVariants.{At, Claims}
 use Rattle.target_laws.specs.Trusted.{trust_along}
 use Rattle.run_ahead.specs.Agreeing.{Agree}
 use Rattle.run_ahead.specs.Ahead.{AsTrusted}
-use Rattle.sim_relation.specs.Views.{Plan, Shared, Resident, Apart, link}
-use Rattle.sim_relation.specs.Callers.{Calm, Trail, SweepAt, spared}
-use Rattle.sim_relation.specs.Worlds.{World}
+use Rattle.run_ahead.specs.TypedCallers.{IsTypedCaller}
+use Rattle.oa_simulation.specs.sim_relation.Views.{Plan, Shared, Resident, Apart, link}
+use Rattle.oa_simulation.specs.sim_relation.Callers.{Calm, Trail, SweepAt, spared}
+use Rattle.oa_simulation.specs.sim_relation.Worlds.{World}
 
 -- the mover's step gives no tag below the phase word before it. A tag comes after the exchange that unlinks its name, and the phase
 -- word doesn't fall, so that a tag is at least the phase at that exchange, and once the phase is s no name gets a tag below s
@@ -43,3 +44,5 @@ pub record Facts (t : Plan) (w : World) : Type 0 where
   -- registers hold the source's values, as far as they are trusted on the way that the caller came
   pub trusted_registers_hold_the_values_of_the_source : (c : ℕ) → c < t.setting.sizes.callers → (w.who c).entry.routine ≡ At
       → (m : Trail t) × ((r : Reg) → AsTrusted (Calm w.shared c (w.who c)) (trust_along m.walk.method m.path r) (Agree t.home (w.who c).entry.hand.registers m.mirror r))
+  -- and each of the source's names null or a node of a kind that it may have where its caller stands
+  pub registers_of_the_source_have_kinds_that_they_may_have : (c : ℕ) → c < t.setting.sizes.callers → IsTypedCaller t.text w.shared.source.nodes (w.who c).source

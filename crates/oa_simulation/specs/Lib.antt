@@ -6,3 +6,5 @@ pub mod Statements
 pub mod Beside
 pub mod Relation
 pub mod Facts
+pub mod sim_relation
+pub mod sim_steps

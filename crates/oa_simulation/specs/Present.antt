@@ -2,24 +2,30 @@
 --
 -- A slot's name comes at the last store of 0 of a `new`, and initial nodes have theirs from the start. It goes at the exchange that
 -- makes the slot ready, and at the first store of 0 of a `new` from a cradle.
-use Rattle.std.specs.Prelude.{ℕ, ◌≡◌, List, [], ◌∷◌, Option, Some, None, nat_le, if◌then◌else◌}
+use Rattle.std.specs.Prelude.{ℕ, zero, suc, ◌+◌, ◌-◌, ◌≡◌, List, [], ◌∷◌, Option, Some, None, nat_lt, slice_index, if◌then◌else◌}
 use Rattle.norm_lang.specs.declared.text.Text.{Text}
 use Rattle.target_code.specs.declared.target.Target.{Target}
+use Rattle.oa_words.specs.SlotKinds.{sum_before, first_of, kind_of}
 use Rattle.caller_parts.specs.Settings.{Setting}
 use Rattle.core_runs.specs.Machine.{CoreState, CoreEvent, Takes, Steps, core_event, core_start}
 use Rattle.core_runs.specs.RunSigns.{event_signs}
 use Rattle.core_runs.specs.Views.{CoreView, view}
-use Rattle.sim_relation.specs.Naming.{present_at}
+use Rattle.oa_simulation.specs.sim_relation.Naming.{present_at}
 use Rattle.oa_simulation.specs.Shadow.{Shadow, shadow_run, shadow_start, home_of}
 
--- at the start initial node J, whose name is J, stands in slot J
-abbrev pub first_present : ℕ → ℕ → ℕ
-first_present nodes j = if nat_le j nodes then j else 0
+-- the number of the initial node at a place among those of its kind, counted from 1; 0 where there is none
+abbrev pub node_number : Setting → ℕ → ℕ → ℕ
+node_number setting t place = if nat_lt place (slice_index setting.nodes t) then suc (sum_before setting.nodes t + place) else 0
+
+-- at the start: the initial nodes of a kind stand in its first slots, and initial node J has the name J
+abbrev pub first_present : Setting → ℕ → ℕ
+first_present setting zero = 0
+first_present setting (suc j) = node_number setting (kind_of setting.sizes (suc j)) (suc j - first_of setting.sizes (kind_of setting.sizes (suc j)))
 
 -- after an event, where `drawn` is the least name above all used ones; taking a call changes no slot
 abbrev pub present_after : Target → Setting → CoreView → CoreEvent → ℕ → (ℕ → ℕ) → ℕ → ℕ
 present_after target setting seen (Takes c call) drawn present = present
-present_after target setting seen (Steps c) drawn present = present_at target setting.sizes seen.memory drawn (seen.who c) (seen.who c).routine present
+present_after target setting seen (Steps c) drawn present = present_at target seen.memory drawn (seen.who c) (seen.who c).routine present
 
 abbrev pub present_on : Option CoreState → (CoreState → ℕ → ℕ) → (ℕ → ℕ) → ℕ → ℕ
 present_on None next present = present
@@ -34,7 +40,7 @@ present_run target text setting (event ∷ events) state z present =
 
 -- the slots' names after a run from the start
 abbrev pub present_in : Target → Text → Setting → List CoreEvent → ℕ → ℕ
-present_in target text setting events = present_run target text setting events (core_start target setting) (shadow_start text setting) (first_present setting.nodes)
+present_in target text setting events = present_run target text setting events (core_start target setting) (shadow_start text setting) (first_present setting)
 
 -- a name is resident while its slot has it; null is, since slot 0 has no name
 abbrev pub IsResident : Target → Text → Setting → List CoreEvent → ℕ → Type 0

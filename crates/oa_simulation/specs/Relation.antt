@@ -14,8 +14,8 @@ use Rattle.caller_parts.specs.Settings.{Setting}
 use Rattle.core_runs.specs.Machine.{CoreState, CoreEvent, Steps, Reachable, core_start, core_event, core_run}
 use Rattle.core_runs.specs.RunSigns.{event_signs}
 use Rattle.core_runs.specs.Views.{view}
-use Rattle.sim_steps.specs.Quiet.{is_quiet}
-use Rattle.sim_steps.specs.Renewing.{renews}
+use Rattle.oa_simulation.specs.sim_steps.Quiet.{is_quiet}
+use Rattle.oa_simulation.specs.sim_steps.Renewing.{renews}
 use Rattle.oa_simulation.specs.Shadow.{Shadow, shadow, shadow_run, shadow_start}
 use Rattle.oa_simulation.specs.Beside.{Beside}
 use Rattle.oa_simulation.specs.Statements.{Refined}

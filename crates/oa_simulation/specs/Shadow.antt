@@ -10,11 +10,12 @@ use Rattle.source_machine.specs.declared.state.SourceMachine.{SourceMachine}
 use Rattle.source_machine.specs.State.{source_start}
 use Rattle.source_machine.specs.Run.{is_enabled, source_step}
 use Rattle.source_machine.specs.MethodRuns.{put}
+use Rattle.oa_words.specs.SlotKinds.{together}
 use Rattle.caller_parts.specs.Settings.{Setting}
 use Rattle.caller_steps.specs.Signs.{Sign, Draws, Renews}
 use Rattle.core_runs.specs.Machine.{CoreEvent, core_start}
 use Rattle.core_runs.specs.RunSigns.{Signed, run_signs}
-use Rattle.sim_relation.specs.Points.{event_of, unused_after}
+use Rattle.oa_simulation.specs.sim_relation.Points.{event_of, unused_after}
 use Rattle.oa_simulation.specs.FirstNames.{first_home}
 
 -- the source's machine, the least name above all used ones, the names' slots, and the source's events so far
@@ -61,8 +62,8 @@ shadow_run text (x ∷ xs) z = shadow_run text xs (shadow_step text z x)
 abbrev pub shadow_start : Text → Setting → Shadow
 shadow_start text setting = record {
   machine = source_start text setting.sizes.callers;
-  unused = setting.nodes + 1;
-  home = first_home setting.nodes;
+  unused = together setting.nodes + 1;
+  home = first_home setting;
   events = [];
 }
 

@@ -7,6 +7,7 @@ use Rattle.norm_lang.specs.declared.text.Op.{Op}
 use Rattle.norm_lang.specs.declared.text.Text.{Text}
 use Rattle.norm_lang.specs.declared.text.FieldDecl.{FieldDecl}
 use Rattle.target_code.specs.declared.target.Target.{Target}
+use Rattle.target_code.specs.Barred.{IsBarred}
 use Rattle.phase_pools.specs.Accesses.{WordAccess}
 use Rattle.source_machine.specs.declared.event.SourceReply.{SourceReply}
 use Rattle.source_machine.specs.declared.state.Memory.{Memory}
@@ -26,8 +27,8 @@ use Rattle.caller_steps.specs.Wants.{wants}
 use Rattle.caller_parts.specs.Operands.{list_of, succeeds}
 use Rattle.caller_steps.specs.Belongs.{cas_of}
 use Rattle.core_runs.specs.Machine.{CoreState, CoreEvent, core_run, core_start, found_by}
-use Rattle.target_runs.specs.Runnable.{IsRunnable}
-use Rattle.sim_relation.specs.Callers.{replies_of}
+use Rattle.target_laws.specs.target_runs.Runnable.{IsRunnable}
+use Rattle.oa_simulation.specs.sim_relation.Callers.{replies_of}
 use Rattle.oa_simulation.specs.Shadow.{shadow, image}
 
 -- a caller's replies against the source's: those of the entry, and where a call runs maybe one more
@@ -83,7 +84,7 @@ pub record Refined (target : Target) (text : Text) (setting : Setting) (events :
 
 -- of every core run of a barred target of a proper text, with a setting that fits it
 abbrev pub ForProper : (Target → Text → Setting → List CoreEvent → CoreState → Type 0) → Type 0
-ForProper Holds = (target : Target) (text : Text) (setting : Setting) (events : List CoreEvent) (state : CoreState) → IsRunnable target text → IsSetting setting → Fits target setting → IsProper text
+ForProper Holds = (target : Target) (text : Text) (setting : Setting) (events : List CoreEvent) (state : CoreState) → IsRunnable target text → IsBarred target text → IsSetting setting → Fits target setting → IsProper text
     → core_run target setting events (core_start target setting) ≡ Some state → Holds target text setting events state
 
 abbrev pub Refines : Type 0

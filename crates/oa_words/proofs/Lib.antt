@@ -1,4 +1,7 @@
 pub mod Products
+pub mod Counts
+pub mod KindRanges
+pub mod Homes
 pub mod Places
 pub mod Parts
 pub mod Pieces

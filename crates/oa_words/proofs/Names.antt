@@ -13,7 +13,7 @@ word_by (suc (suc (suc zero))) a b = Hazard a b
 word_by (suc (suc (suc (suc zero)))) a b = Status a
 word_by (suc (suc (suc (suc (suc zero))))) a b = FieldOf a b
 word_by (suc (suc (suc (suc (suc (suc zero)))))) a b = Cell a
-word_by (suc (suc (suc (suc (suc (suc (suc zero))))))) a b = Head
+word_by (suc (suc (suc (suc (suc (suc (suc zero))))))) a b = Head a
 word_by (suc (suc (suc (suc (suc (suc (suc (suc k)))))))) a b = Link a
 
 by_codes : (w : Word) → word_by (kind_code w) (first_code w) (second_code w) ≡ w
@@ -25,7 +25,7 @@ by_codes (Hazard c r) = refl
 by_codes (Status j) = refl
 by_codes (FieldOf j g) = refl
 by_codes (Cell x) = refl
-by_codes Head = refl
+by_codes (Head t) = refl
 by_codes (Link j) = refl
 
 equal : (a b : ℕ) → (a == b) ≡ true → a ≡ b

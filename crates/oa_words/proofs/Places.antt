@@ -1,6 +1,6 @@
 -- Words of the row stand apart.
 use Rattle.std.proofs.Common.{ℕ, suc, ◌≡◌, ◌+◌, ◌*◌, ◌≤◌, ◌<◌, ◌&&◌, true, arith, refl, ap}
-use Rattle.std.specs.Prelude.{nat_lt}
+use Rattle.std.specs.Prelude.{nat_lt, length}
 use Rattle.std.proofs.lemmas.Bool.Decides.{nat_tests}
 use Rattle.std.proofs.lemmas.Nat.{same_from_place}
 use Rattle.std.proofs.Math.Nat.{mul-le-mul_right}
@@ -31,7 +31,7 @@ within n (Hazard c r) row = let b = lt_two c n.callers r 8 row in omega (arith, 
 within n (Status j) row = let b = lt_of j (slot_rows n) row in omega (arith, b)
 within n (FieldOf j g) row = let b = lt_two j (slot_rows n) g n.fields row in let p = place_below j (slot_rows n) g n.fields b.0 b.1 in omega (arith, p)
 within n (Cell x) row = let b = lt_of x n.cells row in omega (arith, b)
-within n Head row = omega arith
+within n (Head t) row = let b = lt_of t (length n.kinds) row in omega (arith, b)
 within n (Link j) row = let b = lt_of j (slot_rows n) row in omega (arith, b)
 
 -- different words of the row have different addresses
@@ -43,7 +43,7 @@ apart n Phase (Hazard c' r') rv rw e = let b = lt_two c' n.callers r' 8 rw in ab
 apart n Phase (Status j') rv rw e = let b = lt_of j' (slot_rows n) rw in absurd (omega (arith, e, b))
 apart n Phase (FieldOf j' g') rv rw e = let b = lt_two j' (slot_rows n) g' n.fields rw in let pb = place_below j' (slot_rows n) g' n.fields b.0 b.1 in absurd (omega (arith, e, pb))
 apart n Phase (Cell x') rv rw e = let b = lt_of x' n.cells rw in absurd (omega (arith, e, b))
-apart n Phase Head rv rw e = absurd (omega (arith, e))
+apart n Phase (Head t') rv rw e = let b = lt_of t' (length n.kinds) rw in absurd (omega (arith, e, b))
 apart n Phase (Link j') rv rw e = let b = lt_of j' (slot_rows n) rw in absurd (omega (arith, e, b))
 apart n (Place c) Phase rv rw e = let a = lt_of c n.callers rv in absurd (omega (arith, e, a))
 apart n (Place c) (Place c') rv rw e = ap Place (omega (arith, e))
@@ -52,7 +52,7 @@ apart n (Place c) (Hazard c' r') rv rw e = let a = lt_of c n.callers rv in let b
 apart n (Place c) (Status j') rv rw e = let a = lt_of c n.callers rv in let b = lt_of j' (slot_rows n) rw in absurd (omega (arith, e, a, b))
 apart n (Place c) (FieldOf j' g') rv rw e = let a = lt_of c n.callers rv in let b = lt_two j' (slot_rows n) g' n.fields rw in let pb = place_below j' (slot_rows n) g' n.fields b.0 b.1 in absurd (omega (arith, e, a, pb))
 apart n (Place c) (Cell x') rv rw e = let a = lt_of c n.callers rv in let b = lt_of x' n.cells rw in absurd (omega (arith, e, a, b))
-apart n (Place c) Head rv rw e = let a = lt_of c n.callers rv in absurd (omega (arith, e, a))
+apart n (Place c) (Head t') rv rw e = let a = lt_of c n.callers rv in let b = lt_of t' (length n.kinds) rw in absurd (omega (arith, e, b, a))
 apart n (Place c) (Link j') rv rw e = let a = lt_of c n.callers rv in let b = lt_of j' (slot_rows n) rw in absurd (omega (arith, e, a, b))
 apart n (Warning c) Phase rv rw e = let a = lt_of c n.callers rv in absurd (omega (arith, e, a))
 apart n (Warning c) (Place c') rv rw e = let a = lt_of c n.callers rv in let b = lt_of c' n.callers rw in absurd (omega (arith, e, a, b))
@@ -61,7 +61,7 @@ apart n (Warning c) (Hazard c' r') rv rw e = let a = lt_of c n.callers rv in let
 apart n (Warning c) (Status j') rv rw e = let a = lt_of c n.callers rv in let b = lt_of j' (slot_rows n) rw in absurd (omega (arith, e, a, b))
 apart n (Warning c) (FieldOf j' g') rv rw e = let a = lt_of c n.callers rv in let b = lt_two j' (slot_rows n) g' n.fields rw in let pb = place_below j' (slot_rows n) g' n.fields b.0 b.1 in absurd (omega (arith, e, a, pb))
 apart n (Warning c) (Cell x') rv rw e = let a = lt_of c n.callers rv in let b = lt_of x' n.cells rw in absurd (omega (arith, e, a, b))
-apart n (Warning c) Head rv rw e = let a = lt_of c n.callers rv in absurd (omega (arith, e, a))
+apart n (Warning c) (Head t') rv rw e = let a = lt_of c n.callers rv in let b = lt_of t' (length n.kinds) rw in absurd (omega (arith, e, b, a))
 apart n (Warning c) (Link j') rv rw e = let a = lt_of c n.callers rv in let b = lt_of j' (slot_rows n) rw in absurd (omega (arith, e, a, b))
 apart n (Hazard c r) Phase rv rw e = let a = lt_two c n.callers r 8 rv in absurd (omega (arith, e, a.0, a.1))
 apart n (Hazard c r) (Place c') rv rw e = let a = lt_two c n.callers r 8 rv in let b = lt_of c' n.callers rw in absurd (omega (arith, e, a.0, a.1, b))
@@ -70,7 +70,7 @@ apart n (Hazard c r) (Hazard c' r') rv rw e = let a = lt_two c n.callers r 8 rv 
 apart n (Hazard c r) (Status j') rv rw e = let a = lt_two c n.callers r 8 rv in let b = lt_of j' (slot_rows n) rw in absurd (omega (arith, e, a.0, a.1, b))
 apart n (Hazard c r) (FieldOf j' g') rv rw e = let a = lt_two c n.callers r 8 rv in let b = lt_two j' (slot_rows n) g' n.fields rw in let pb = place_below j' (slot_rows n) g' n.fields b.0 b.1 in absurd (omega (arith, e, a.0, a.1, pb))
 apart n (Hazard c r) (Cell x') rv rw e = let a = lt_two c n.callers r 8 rv in let b = lt_of x' n.cells rw in absurd (omega (arith, e, a.0, a.1, b))
-apart n (Hazard c r) Head rv rw e = let a = lt_two c n.callers r 8 rv in absurd (omega (arith, e, a.0, a.1))
+apart n (Hazard c r) (Head t') rv rw e = let a = lt_two c n.callers r 8 rv in let b = lt_of t' (length n.kinds) rw in absurd (omega (arith, e, b, a.0, a.1))
 apart n (Hazard c r) (Link j') rv rw e = let a = lt_two c n.callers r 8 rv in let b = lt_of j' (slot_rows n) rw in absurd (omega (arith, e, a.0, a.1, b))
 apart n (Status j) Phase rv rw e = let a = lt_of j (slot_rows n) rv in absurd (omega (arith, e, a))
 apart n (Status j) (Place c') rv rw e = let a = lt_of j (slot_rows n) rv in let b = lt_of c' n.callers rw in absurd (omega (arith, e, a, b))
@@ -79,7 +79,7 @@ apart n (Status j) (Hazard c' r') rv rw e = let a = lt_of j (slot_rows n) rv in 
 apart n (Status j) (Status j') rv rw e = ap Status (omega (arith, e))
 apart n (Status j) (FieldOf j' g') rv rw e = let a = lt_of j (slot_rows n) rv in let b = lt_two j' (slot_rows n) g' n.fields rw in let pb = place_below j' (slot_rows n) g' n.fields b.0 b.1 in absurd (omega (arith, e, a, pb))
 apart n (Status j) (Cell x') rv rw e = let a = lt_of j (slot_rows n) rv in let b = lt_of x' n.cells rw in absurd (omega (arith, e, a, b))
-apart n (Status j) Head rv rw e = let a = lt_of j (slot_rows n) rv in absurd (omega (arith, e, a))
+apart n (Status j) (Head t') rv rw e = let a = lt_of j (slot_rows n) rv in let b = lt_of t' (length n.kinds) rw in absurd (omega (arith, e, b, a))
 apart n (Status j) (Link j') rv rw e = let a = lt_of j (slot_rows n) rv in let b = lt_of j' (slot_rows n) rw in absurd (omega (arith, e, a, b))
 apart n (FieldOf j g) Phase rv rw e = let a = lt_two j (slot_rows n) g n.fields rv in let pa = place_below j (slot_rows n) g n.fields a.0 a.1 in absurd (omega (arith, e, pa))
 apart n (FieldOf j g) (Place c') rv rw e = let a = lt_two j (slot_rows n) g n.fields rv in let pa = place_below j (slot_rows n) g n.fields a.0 a.1 in let b = lt_of c' n.callers rw in absurd (omega (arith, e, pa, b))
@@ -88,7 +88,7 @@ apart n (FieldOf j g) (Hazard c' r') rv rw e = let a = lt_two j (slot_rows n) g 
 apart n (FieldOf j g) (Status j') rv rw e = let a = lt_two j (slot_rows n) g n.fields rv in let pa = place_below j (slot_rows n) g n.fields a.0 a.1 in let b = lt_of j' (slot_rows n) rw in absurd (omega (arith, e, pa, b))
 apart n (FieldOf j g) (FieldOf j' g') rv rw e = let a = lt_two j (slot_rows n) g n.fields rv in let pa = place_below j (slot_rows n) g n.fields a.0 a.1 in let b = lt_two j' (slot_rows n) g' n.fields rw in let pb = place_below j' (slot_rows n) g' n.fields b.0 b.1 in let places : j * n.fields + g ≡ j' * n.fields + g' = omega (arith, e) in let u = same_from_place j g j' g' n.fields a.1 b.1 places in two FieldOf j j' g g' u.0 u.1
 apart n (FieldOf j g) (Cell x') rv rw e = let a = lt_two j (slot_rows n) g n.fields rv in let pa = place_below j (slot_rows n) g n.fields a.0 a.1 in let b = lt_of x' n.cells rw in absurd (omega (arith, e, pa, b))
-apart n (FieldOf j g) Head rv rw e = let a = lt_two j (slot_rows n) g n.fields rv in let pa = place_below j (slot_rows n) g n.fields a.0 a.1 in absurd (omega (arith, e, pa))
+apart n (FieldOf j g) (Head t') rv rw e = let a = lt_two j (slot_rows n) g n.fields rv in let pa = place_below j (slot_rows n) g n.fields a.0 a.1 in let b = lt_of t' (length n.kinds) rw in absurd (omega (arith, e, b, pa))
 apart n (FieldOf j g) (Link j') rv rw e = let a = lt_two j (slot_rows n) g n.fields rv in let pa = place_below j (slot_rows n) g n.fields a.0 a.1 in let b = lt_of j' (slot_rows n) rw in absurd (omega (arith, e, pa, b))
 apart n (Cell x) Phase rv rw e = let a = lt_of x n.cells rv in absurd (omega (arith, e, a))
 apart n (Cell x) (Place c') rv rw e = let a = lt_of x n.cells rv in let b = lt_of c' n.callers rw in absurd (omega (arith, e, a, b))
@@ -97,17 +97,17 @@ apart n (Cell x) (Hazard c' r') rv rw e = let a = lt_of x n.cells rv in let b = 
 apart n (Cell x) (Status j') rv rw e = let a = lt_of x n.cells rv in let b = lt_of j' (slot_rows n) rw in absurd (omega (arith, e, a, b))
 apart n (Cell x) (FieldOf j' g') rv rw e = let a = lt_of x n.cells rv in let b = lt_two j' (slot_rows n) g' n.fields rw in let pb = place_below j' (slot_rows n) g' n.fields b.0 b.1 in absurd (omega (arith, e, a, pb))
 apart n (Cell x) (Cell x') rv rw e = ap Cell (omega (arith, e))
-apart n (Cell x) Head rv rw e = let a = lt_of x n.cells rv in absurd (omega (arith, e, a))
+apart n (Cell x) (Head t') rv rw e = let a = lt_of x n.cells rv in let b = lt_of t' (length n.kinds) rw in absurd (omega (arith, e, b, a))
 apart n (Cell x) (Link j') rv rw e = let a = lt_of x n.cells rv in let b = lt_of j' (slot_rows n) rw in absurd (omega (arith, e, a, b))
-apart n Head Phase rv rw e = absurd (omega (arith, e))
-apart n Head (Place c') rv rw e = let b = lt_of c' n.callers rw in absurd (omega (arith, e, b))
-apart n Head (Warning c') rv rw e = let b = lt_of c' n.callers rw in absurd (omega (arith, e, b))
-apart n Head (Hazard c' r') rv rw e = let b = lt_two c' n.callers r' 8 rw in absurd (omega (arith, e, b.0, b.1))
-apart n Head (Status j') rv rw e = let b = lt_of j' (slot_rows n) rw in absurd (omega (arith, e, b))
-apart n Head (FieldOf j' g') rv rw e = let b = lt_two j' (slot_rows n) g' n.fields rw in let pb = place_below j' (slot_rows n) g' n.fields b.0 b.1 in absurd (omega (arith, e, pb))
-apart n Head (Cell x') rv rw e = let b = lt_of x' n.cells rw in absurd (omega (arith, e, b))
-apart n Head Head rv rw e = refl
-apart n Head (Link j') rv rw e = let b = lt_of j' (slot_rows n) rw in absurd (omega (arith, e, b))
+apart n (Head t) Phase rv rw e = let a = lt_of t (length n.kinds) rv in absurd (omega (arith, e, a))
+apart n (Head t) (Place c') rv rw e = let b = lt_of c' n.callers rw in let a = lt_of t (length n.kinds) rv in absurd (omega (arith, e, a, b))
+apart n (Head t) (Warning c') rv rw e = let b = lt_of c' n.callers rw in let a = lt_of t (length n.kinds) rv in absurd (omega (arith, e, a, b))
+apart n (Head t) (Hazard c' r') rv rw e = let b = lt_two c' n.callers r' 8 rw in let a = lt_of t (length n.kinds) rv in absurd (omega (arith, e, a, b.0, b.1))
+apart n (Head t) (Status j') rv rw e = let b = lt_of j' (slot_rows n) rw in let a = lt_of t (length n.kinds) rv in absurd (omega (arith, e, a, b))
+apart n (Head t) (FieldOf j' g') rv rw e = let b = lt_two j' (slot_rows n) g' n.fields rw in let pb = place_below j' (slot_rows n) g' n.fields b.0 b.1 in let a = lt_of t (length n.kinds) rv in absurd (omega (arith, e, a, pb))
+apart n (Head t) (Cell x') rv rw e = let b = lt_of x' n.cells rw in let a = lt_of t (length n.kinds) rv in absurd (omega (arith, e, a, b))
+apart n (Head t) (Head t') rv rw e = ap Head (omega (arith, e))
+apart n (Head t) (Link j') rv rw e = let b = lt_of j' (slot_rows n) rw in let a = lt_of t (length n.kinds) rv in absurd (omega (arith, e, a, b))
 apart n (Link j) Phase rv rw e = let a = lt_of j (slot_rows n) rv in absurd (omega (arith, e, a))
 apart n (Link j) (Place c') rv rw e = let a = lt_of j (slot_rows n) rv in let b = lt_of c' n.callers rw in absurd (omega (arith, e, a, b))
 apart n (Link j) (Warning c') rv rw e = let a = lt_of j (slot_rows n) rv in let b = lt_of c' n.callers rw in absurd (omega (arith, e, a, b))
@@ -115,7 +115,7 @@ apart n (Link j) (Hazard c' r') rv rw e = let a = lt_of j (slot_rows n) rv in le
 apart n (Link j) (Status j') rv rw e = let a = lt_of j (slot_rows n) rv in let b = lt_of j' (slot_rows n) rw in absurd (omega (arith, e, a, b))
 apart n (Link j) (FieldOf j' g') rv rw e = let a = lt_of j (slot_rows n) rv in let b = lt_two j' (slot_rows n) g' n.fields rw in let pb = place_below j' (slot_rows n) g' n.fields b.0 b.1 in absurd (omega (arith, e, a, pb))
 apart n (Link j) (Cell x') rv rw e = let a = lt_of j (slot_rows n) rv in let b = lt_of x' n.cells rw in absurd (omega (arith, e, a, b))
-apart n (Link j) Head rv rw e = let a = lt_of j (slot_rows n) rv in absurd (omega (arith, e, a))
+apart n (Link j) (Head t') rv rw e = let a = lt_of j (slot_rows n) rv in let b = lt_of t' (length n.kinds) rw in absurd (omega (arith, e, b, a))
 apart n (Link j) (Link j') rv rw e = ap Link (omega (arith, e))
 
 pub stand_apart : (n : Sizes) → WordsStandApart n

@@ -1,9 +1,10 @@
 -- What holds of all words.
-use Rattle.std.specs.Prelude.{◌≡◌, ◌↔◌, ℕ, ◌<◌, ◌%◌, Bool, true, Some, None, length, slice_index}
+use Rattle.std.specs.Prelude.{◌≡◌, ◌↔◌, ℕ, suc, ◌+◌, ◌≤◌, ◌<◌, ◌%◌, Bool, true, Some, None, length, slice_index, slice_get}
 use Rattle.oa_words.specs.declared.packed.Kind.{Kind}
-use Rattle.oa_words.specs.Words.{Word, Sizes, address_of, in_row, word_count}
+use Rattle.oa_words.specs.Words.{Word, Sizes, IsSlot, address_of, in_row, word_count}
+use Rattle.oa_words.specs.SlotKinds.{together, kind_in, slots_of, range_of, kind_of}
 use Rattle.oa_words.specs.Packed.{ref_word, slot_part, is_marked, StatusParts, status_word, status_parts, head_word, head_parts}
-use Rattle.oa_words.specs.Starts.{Beginning, start_word, start_words}
+use Rattle.oa_words.specs.Starts.{Beginning, start_node, first_home, start_word, start_words}
 
 -- each word of the row stands below the count of words, and different words stand at different addresses
 pub record WordsStandApart (n : Sizes) : Type 0 where
@@ -35,3 +36,18 @@ pub record HeadsSplit : Type 0 where
 pub record StartsAsNamed (n : Sizes) (start : Beginning) : Type 0 where
   pub words : (w : Word) → in_row n w ≡ true → slice_index (start_words n start) (address_of n w) ≡ start_word n start w
   pub count : length (start_words n start) ≡ word_count n
+
+-- each slot is in the range of its kind and in no other, and the range of a kind has as many slots as the kind
+pub record KindsHaveRanges (n : Sizes) : Type 0 where
+  pub known : (j : ℕ) → kind_of n j < length n.kinds
+  pub stands : (j : ℕ) → 1 ≤ j → j ≤ n.slots → IsSlot (range_of n (kind_of n j)) j
+  pub within : (t j : ℕ) → t < length n.kinds → IsSlot (range_of n t) j → (1 ≤ j) × (j ≤ n.slots) × (kind_of n j ≡ t)
+  pub counted : (t : ℕ) → (range_of n t).last + 1 ≡ (range_of n t).first + slots_of n t
+
+-- each initial node of a kind stands in a slot of the kind, and no two stand in one
+pub record NodesHaveHomes (n : Sizes) (start : Beginning) : Type 0 where
+  pub stands : (j : ℕ) → j < together start.counts → kind_in start.counts (suc j) < length n.kinds → start_node n start (first_home n start.counts (suc j)) ≡ slice_get start.nodes j
+  pub kind : (j : ℕ) → j < together start.counts → kind_in start.counts (suc j) < length n.kinds → kind_of n (first_home n start.counts (suc j)) ≡ kind_in start.counts (suc j)
+  pub within : (j : ℕ) → j < together start.counts → kind_in start.counts (suc j) < length n.kinds → (1 ≤ first_home n start.counts (suc j)) × (first_home n start.counts (suc j) ≤ n.slots)
+  pub apart : (i j : ℕ) → i < together start.counts → j < together start.counts → kind_in start.counts (suc i) < length n.kinds → kind_in start.counts (suc j) < length n.kinds
+      → first_home n start.counts (suc i) ≡ first_home n start.counts (suc j) → i ≡ j

@@ -1,4 +1,5 @@
 pub mod Words
+pub mod SlotKinds
 pub mod Within
 pub mod Packed
 pub mod Starts

@@ -11,7 +11,7 @@ kind_code (Hazard c r) = 3
 kind_code (Status j) = 4
 kind_code (FieldOf j g) = 5
 kind_code (Cell x) = 6
-kind_code Head = 7
+kind_code (Head t) = 7
 kind_code (Link j) = 8
 
 abbrev pub first_code : Word → ℕ
@@ -22,7 +22,7 @@ first_code (Hazard c r) = c
 first_code (Status j) = j
 first_code (FieldOf j g) = j
 first_code (Cell x) = x
-first_code Head = 0
+first_code (Head t) = t
 first_code (Link j) = j
 
 abbrev pub second_code : Word → ℕ
@@ -33,7 +33,7 @@ second_code (Hazard c r) = r
 second_code (Status j) = 0
 second_code (FieldOf j g) = g
 second_code (Cell x) = 0
-second_code Head = 0
+second_code (Head t) = 0
 second_code (Link j) = 0
 
 abbrev pub same_word : Word → Word → Bool

@@ -1,7 +1,7 @@
 -- The words that all callers share, by name, and the address of each.
-use Rattle.std.specs.Prelude.{ℕ, ◌+◌, ◌*◌, ◌≤◌, Bool, true, ◌&&◌, nat_lt}
+use Rattle.std.specs.Prelude.{ℕ, ◌+◌, ◌*◌, ◌≤◌, Bool, true, ◌&&◌, nat_lt, List, length}
 
--- callers, registers, fields and cells are counted from 0; slot 0 is null
+-- callers, registers, fields, cells and kinds of nodes are counted from 0; slot 0 is null
 pub data Word : Type 0 where
   Phase : Word
   Place : (c : ℕ) → Word
@@ -10,15 +10,17 @@ pub data Word : Type 0 where
   Status : (j : ℕ) → Word
   FieldOf : (j g : ℕ) → Word
   Cell : (x : ℕ) → Word
-  Head : Word
+  Head : (t : ℕ) → Word
   Link : (j : ℕ) → Word
 
--- how many callers, slots other than 0, fields of a slot, and cells there are
+-- how many callers, slots other than 0, fields of a slot, and cells there are, and how many slots each kind of nodes has, which
+-- together are all of them. A slot has as many fields as the kind with the most
 pub record Sizes : Type 0 where
   pub callers : ℕ
   pub slots : ℕ
   pub fields : ℕ
   pub cells : ℕ
+  pub kinds : List ℕ
 
 -- slots from one number to another, both among them
 pub record SlotRange : Type 0 where
@@ -50,7 +52,7 @@ abbrev pub head_base : Sizes → ℕ
 head_base n = cell_base n + n.cells
 
 abbrev pub link_base : Sizes → ℕ
-link_base n = head_base n + 1
+link_base n = head_base n + length n.kinds
 
 abbrev pub address_of : Sizes → Word → ℕ
 address_of n Phase = 0
@@ -60,7 +62,7 @@ address_of n (Hazard c r) = 1 + 2 * n.callers + 8 * c + r
 address_of n (Status j) = status_base n + j
 address_of n (FieldOf j g) = field_base n + j * n.fields + g
 address_of n (Cell x) = cell_base n + x
-address_of n Head = head_base n
+address_of n (Head t) = head_base n + t
 address_of n (Link j) = link_base n + j
 
 abbrev pub word_count : Sizes → ℕ
@@ -75,5 +77,5 @@ in_row n (Hazard c r) = nat_lt c n.callers && nat_lt r 8
 in_row n (Status j) = nat_lt j (slot_rows n)
 in_row n (FieldOf j g) = nat_lt j (slot_rows n) && nat_lt g n.fields
 in_row n (Cell x) = nat_lt x n.cells
-in_row n Head = true
+in_row n (Head t) = nat_lt t (length n.kinds)
 in_row n (Link j) = nat_lt j (slot_rows n)

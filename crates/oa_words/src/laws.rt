@@ -1,6 +1,6 @@
 //! What holds of all words, for the crates above.
 
-ghost use Rattle.oa_words.specs.Laws.{WordsStandApart, ReferencesSplit, StatusesSplit, HeadsSplit, StartsAsNamed};
+ghost use Rattle.oa_words.specs.Laws.{WordsStandApart, ReferencesSplit, StatusesSplit, HeadsSplit, StartsAsNamed, KindsHaveRanges, NodesHaveHomes};
 ghost use Rattle.oa_words.specs.Starts.{Beginning, Suits};
 
 use crate::shape::Shape;
@@ -38,4 +38,20 @@ pub fn starts_as_named(shape: &Shape)
     ensures { StartsAsNamed shape.now start }
 {
     let _ = shape;
+}
+
+/// Each slot is in the range of its kind, and in no other.
+pub fn kinds_have_ranges(shape: &Shape)
+    ensures { KindsHaveRanges shape.now }
+{
+    shape.kept();
+}
+
+/// Each initial node stands in a slot of its kind.
+pub fn nodes_have_homes(shape: &Shape)
+    ghost start: { Beginning }
+    requires { Suits shape.now start }
+    ensures { NodesHaveHomes shape.now start }
+{
+    shape.kept();
 }

@@ -1,30 +1,35 @@
 //! The shape of the row of words, and the address of each word.
 
-ghost use Rattle.std.specs.Prelude.{◌≡◌, ◌≤◌, ◌<◌, Some, None, if◌then◌else◌};
+ghost use Rattle.std.specs.Prelude.{◌≡◌, ◌≤◌, ◌<◌, Some, None, IfSome, OnSome, true, ◌&&◌, nat_le, if◌then◌else◌, length, take};
+ghost use Rattle.std.specs.List.{list_all};
 ghost use Rattle.oa_words.specs.Words.{Phase, Place, Warning, Hazard, Status, FieldOf, Cell, Head, Link, address_of, word_count};
-ghost use Rattle.oa_words.specs.Within.{sizes_or_fault, is_count};
+ghost use Rattle.oa_words.specs.SlotKinds.{together, kind_in, slots_of, kind_of};
+ghost use Rattle.oa_words.specs.Within.{sizes_or_fault, sizes_of_kinds, sizes_of_one, is_count, AreSizes};
 
 use std::marker::Model;
 
-/// How many callers, slots other than 0, fields of a slot, and cells there are: 1 to 8 callers, 1 to 4096 slots, 1 to 4
-/// fields, and 1 to 256 cells.
+/// How many callers, slots other than 0, fields of a slot, and cells there are, and how many of the slots each kind of nodes has: 1
+/// to 8 callers, 1 to 4096 slots, 1 to 4 fields, 1 to 256 cells, and 1 to 4 kinds with at least one slot each.
 #[derive(Drop)]
 pub struct Shape {
     callers: u32,
     slots: u32,
     fields: u32,
     cells: u32,
+    kinds: u32,
+    counts: [u64; 4],
 }
 
 impl Model for Shape {
+    ghost use Rattle.std.specs.Prelude.{take, ◌≤◌};
     ghost use Rattle.oa_words.specs.Words.{Sizes};
     ghost use Rattle.oa_words.specs.Within.{AreSizes};
 
     ghost Value = { Sizes };
 
-    ghost view = { λ s. record { callers = s.callers; slots = s.slots; fields = s.fields; cells = s.cells } };
+    ghost view = { λ s. record { callers = s.callers; slots = s.slots; fields = s.fields; cells = s.cells; kinds = take s.kinds s.counts } };
 
-    ghost invariant = { λ s. AreSizes (record { callers = s.callers; slots = s.slots; fields = s.fields; cells = s.cells }) };
+    ghost invariant = { λ s. AreSizes (record { callers = s.callers; slots = s.slots; fields = s.fields; cells = s.cells; kinds = take s.kinds s.counts }) × (s.kinds ≤ 4) };
 }
 
 /// Which number is outside its range.
@@ -32,7 +37,9 @@ impl Model for Shape {
 pub enum ShapeFault {
     /// The callers aren't 1 to 8.
     Callers,
-    /// The slots aren't 1 to 4096.
+    /// The kinds aren't 1 to 4.
+    Kinds,
+    /// The slots of a kind, or all slots together, aren't 1 to 4096.
     Slots,
     /// The fields aren't 1 to 4.
     Fields,
@@ -42,7 +49,8 @@ pub enum ShapeFault {
 
 /// The number where it is a count from 1 to the most that there may be.
 fn counted(most: u32, number: u64) -> Option<u32>
-    ensures { result ≡ (if is_count most number then Some number else None) }
+    ensures same { result ≡ (if is_count most number then Some number else None) }
+    ensures count { IfSome result (λ count. (count ≡ number) × (1 ≤ count) × (count ≤ most)) }
 {
     if 1 <= number && number <= most as u64 {
         return Some(number as u32);
@@ -50,15 +58,84 @@ fn counted(most: u32, number: u64) -> Option<u32>
     None
 }
 
+/// Whether each kind has from 1 to 4096 slots.
+fn are_counts(counts: &[u64]) -> bool
+    ensures { result ≡ list_all (is_count 4096) counts.now }
+{
+    counts.iter().all(|count| 1 <= *count && *count <= 4096)
+}
+
+/// The sum of the numbers.
+fn sum(counts: &[u64]) -> u64
+    requires { together counts.now ≤ 16384 }
+    ensures { result ≡ together counts.now }
+{
+    let mut sum = 0;
+    for count in counts {
+        sum += *count;
+    }
+    sum
+}
+
+/// The kind of the one at a place, counted from 1, where so many things of each kind stand in a row.
+#[tactic(auto, using(crate::proofs::Counts::ends_at_last, crate::proofs::Counts::ends_within))]
+fn kind_in(counts: &[u64], place: u64) -> u32
+    requires { length counts.now ≤ 4 }
+    ensures { result ≡ kind_in counts.now place }
+{
+    let mut kind = 0;
+    let mut left = place;
+    while kind + 1 < counts.len() && counts[kind] < left {
+        left -= counts[kind];
+        kind += 1;
+    }
+    kind as u32
+}
+
+/// How many slots there are together, where each kind has from 1 to 4096 and so have all.
+#[tactic(auto, using(crate::proofs::Counts::four_together))]
+fn slots_together(counts: &[u64]) -> Option<u32>
+    requires { length counts.now ≤ 4 }
+    ensures same { result ≡ (if list_all (is_count 4096) counts.now && nat_le (together counts.now) 4096 then Some (together counts.now) else None) }
+    ensures whole { IfSome result (λ slots. (together counts.now ≡ slots) × (slots ≤ 4096)) }
+    ensures each { OnSome result (list_all (is_count 4096) counts.now ≡ true) }
+{
+    if !are_counts(counts) {
+        return None;
+    }
+    let slots = sum(counts);
+    if slots > 4096 {
+        return None;
+    }
+    Some(slots as u32)
+}
+
 impl Shape {
-    /// The shape with these counts, or the first of them, in the order of the arguments, that is outside its range.
+    /// The shape of one kind with these counts, or the first of them, in the order of the arguments, that is outside its range.
     pub fn new(callers: u64, slots: u64, fields: u64, cells: u64) -> Result<Shape, ShapeFault>
-        ensures { result ≡ sizes_or_fault (record { callers = callers; slots = slots; fields = fields; cells = cells }) }
+        ensures { result ≡ sizes_or_fault 1 (sizes_of_one callers slots fields cells) }
+    {
+        Shape::of_kinds(callers, [slots, 0, 0, 0], 1, fields, cells)
+    }
+
+    /// The shape with so many kinds, of which each has as many slots as stand at its place, or the first number that is outside its
+    /// range: callers, kinds, slots, fields and cells are judged in this order. What stands past the kinds isn't looked at.
+    pub fn of_kinds(
+        callers: u64,
+        slots: [u64; 4],
+        kinds: u64,
+        fields: u64,
+        cells: u64,
+    ) -> Result<Shape, ShapeFault>
+        ensures { result ≡ sizes_or_fault kinds (sizes_of_kinds callers (take kinds slots) fields cells) }
     {
         let Some(callers) = counted(8, callers) else {
             return Err(ShapeFault::Callers);
         };
-        let Some(slots) = counted(4096, slots) else {
+        let Some(kinds) = counted(4, kinds) else {
+            return Err(ShapeFault::Kinds);
+        };
+        let Some(slots_of_all) = slots_together(&slots[..kinds as usize]) else {
             return Err(ShapeFault::Slots);
         };
         let Some(fields) = counted(4, fields) else {
@@ -69,10 +146,19 @@ impl Shape {
         };
         Ok(Shape {
             callers,
-            slots,
+            slots: slots_of_all,
             fields,
             cells,
+            kinds,
+            counts: slots,
         })
+    }
+
+    /// What every shape keeps: a law for those who hold one.
+    pub fn kept(&self)
+        ensures { AreSizes self.now }
+    {
+        let _kinds = self.kinds;
     }
 
     /// How many callers there are.
@@ -109,6 +195,37 @@ impl Shape {
         ensures few { result ≤ 256 }
     {
         self.cells
+    }
+
+    /// How many kinds of nodes there are.
+    pub fn kinds(&self) -> u32
+        ensures same { result ≡ length self.now.kinds }
+        ensures some { 1 ≤ result }
+        ensures few { result ≤ 4 }
+    {
+        self.kinds
+    }
+
+    /// How many slots a kind has.
+    #[tactic(auto, using(crate::proofs::Counts::count_within))]
+    pub fn slots_of(&self, kind: u32) -> u32
+        requires { kind < length self.now.kinds }
+        ensures same { result ≡ slots_of self.now kind }
+        ensures some { 1 ≤ result }
+        ensures few { result ≤ self.now.slots }
+    {
+        let _kinds = self.kinds;
+        self.counts[kind as usize] as u32
+    }
+
+    /// The kind of a slot, from 1 to the count of slots: the kinds' slots follow each other, in the kinds' order.
+    pub fn kind_of(&self, slot: u32) -> u32
+        requires some { 1 ≤ slot }
+        requires few { slot ≤ self.now.slots }
+        ensures same { result ≡ kind_of self.now slot }
+        ensures small { result < length self.now.kinds }
+    {
+        kind_in(&self.counts[..self.kinds as usize], slot as u64)
     }
 
     /// The address of the phase.
@@ -172,22 +289,25 @@ impl Shape {
         1 + 10 * self.callers + (self.slots + 1) + (self.slots + 1) * self.fields + cell
     }
 
-    /// The address of the pool's head, which names the ready slot on top of the chain.
+    /// The address of a kind's head, which names the ready slot on top of the chain of that kind's slots.
     #[tactic(auto, using(crate::proofs::Products::product))]
-    pub fn head_at(&self) -> u32
-        ensures { result ≡ address_of self.now Head }
+    pub fn head_at(&self, kind: u32) -> u32
+        requires { kind < length self.now.kinds }
+        ensures { result ≡ address_of self.now (Head kind) }
     {
-        1 + 10 * self.callers + (self.slots + 1) + (self.slots + 1) * self.fields + self.cells
+        let (rows, _kinds) = (self.slots + 1, self.kinds());
+        let heads = 1 + 10 * self.callers + rows + rows * self.fields + self.cells;
+        heads + kind
     }
 
-    /// The address of a slot's link, which names the slot below it in the chain of ready slots.
+    /// The address of a slot's link, which names the slot below it in the chain of its kind's ready slots.
     #[tactic(auto, using(crate::proofs::Products::product))]
     pub fn link_at(&self, slot: u32) -> u32
         requires { slot ≤ self.now.slots }
         ensures { result ≡ address_of self.now (Link slot) }
     {
-        let rows = self.slots + 1;
-        1 + 10 * self.callers + rows + rows * self.fields + self.cells + 1 + slot
+        let (rows, kinds) = (self.slots + 1, self.kinds());
+        1 + 10 * self.callers + rows + rows * self.fields + self.cells + kinds + slot
     }
 
     /// How many words there are.
@@ -195,7 +315,7 @@ impl Shape {
     pub fn word_count(&self) -> u32
         ensures { result ≡ word_count self.now }
     {
-        let rows = self.slots + 1;
-        1 + 10 * self.callers + rows + rows * self.fields + self.cells + 1 + rows
+        let (rows, kinds) = (self.slots + 1, self.kinds());
+        1 + 10 * self.callers + rows + rows * self.fields + self.cells + kinds + rows
     }
 }

@@ -12,8 +12,8 @@ use Rattle.claim_laws.specs.CallSteps.{StepMade}
 use Rattle.claim_laws.specs.Causes.{IsCaused, FoundNeither}
 use Rattle.claim_laws.proofs.Lasts.{never_nil}
 use Rattle.claim_laws.proofs.Causing.{Unfinished, GoesOn, GetsReply, step_caused}
-use Rattle.table_rule.specs.Seen.{Fixed}
-use Rattle.table_rule.specs.Plays.{next, Steps}
+use Rattle.word_runner.specs.table_rule.Seen.{Fixed}
+use Rattle.word_runner.specs.table_rule.Plays.{next, Steps}
 use Rattle.word_runner.specs.declared.caller.Outcome.{Outcome}
 use Rattle.word_runner.specs.declared.caller.Outcome.TheVariants as outcomes
 use Rattle.word_runner.specs.Shown.{Operated}

@@ -6,8 +6,8 @@ use Rattle.caller_steps.specs.Entries.{Entry}
 use Rattle.caller_steps.specs.After.{taken}
 use Rattle.claim_laws.specs.CallSteps.{StepMade}
 use Rattle.claim_laws.specs.Causes.{FoundLastPhase, EndsInFailedLook}
-use Rattle.table_rule.specs.Seen.{Fixed}
-use Rattle.table_rule.specs.Plays.{next, Steps}
+use Rattle.word_runner.specs.table_rule.Seen.{Fixed}
+use Rattle.word_runner.specs.table_rule.Plays.{next, Steps}
 use Rattle.word_runner.specs.declared.caller.Outcome.{Outcome}
 use Rattle.word_runner.specs.declared.caller.Outcome.TheVariants as outcomes
 use Rattle.word_runner.specs.Shown.{Operated}

@@ -1,6 +1,6 @@
 //! Laws over every call of `operate` and `resume`.
 
-ghost use Rattle.table_rule.specs.Seen.{Fixed};
+ghost use Rattle.word_runner.specs.table_rule.Seen.{Fixed};
 ghost use Rattle.outcome_laws.specs.Outcomes.{OutcomesAreCaused};
 
 /// Of each arena: `operate` and `resume` answer `PhasesOver` exactly where a sweep loaded the last phase by a step of that very

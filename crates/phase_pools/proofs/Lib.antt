@@ -1,2 +1,5 @@
+pub mod Lowering
+pub mod Keeping
+pub mod Ending
 pub mod Runs
 pub mod Worked

@@ -1,16 +1,19 @@
 -- The pool of slots: claiming, with looks and sweeps, and retiring. Each routine is a state, the one access that it wants
--- there, and what the word found makes of it. The ready slots form a chain: the head word names the one on top, each slot's
--- link the one below it, and 0 stands below the lowest. The head is stamped with a phase.
-use Rattle.std.specs.Prelude.{ℕ, ◌+◌, ◌-◌, max, Bool, false, ◌&&◌, not, List, [], Option, Some, None, nat_lt, ◌==◌, if◌then◌else◌}
+-- there, and what the word found makes of it. The ready slots of a kind form a chain: the kind's head word names the one on top,
+-- each slot's link the one below it, and 0 stands below the lowest. A head is stamped with a phase.
+use Rattle.std.specs.Prelude.{ℕ, zero, suc, ◌+◌, ◌-◌, max, min, Bool, false, ◌&&◌, not, List, [], Option, Some, None, nat_lt, ◌==◌, if◌then◌else◌}
 use Rattle.oa_words.specs.declared.packed.Kind.{Kind}
 use Rattle.oa_words.specs.declared.packed.Kind.TheVariants as kinds
 use Rattle.oa_words.specs.Words.{Phase, Warning, Hazard, Status, Head, Link, Sizes, slot_range}
+use Rattle.oa_words.specs.SlotKinds.{kind_of}
 use Rattle.oa_words.specs.Packed.{StatusParts, status_word, status_parts, HeadParts, head_word, head_parts}
 use Rattle.guard_words.specs.Guards.{with_slot, has_slot}
 use Rattle.phase_pools.specs.declared.access.ClaimEnd.{ClaimEnd}
 use Rattle.phase_pools.specs.declared.access.ClaimEnd.TheVariants as ends
 use Rattle.phase_pools.specs.declared.access.SweepEnd.{SweepEnd}
 use Rattle.phase_pools.specs.declared.access.SweepEnd.TheVariants as swept
+use Rattle.phase_pools.specs.declared.stages.Scheme.{Scheme}
+use Rattle.phase_pools.specs.declared.stages.Scheme.TheVariants.{Warned, Announced}
 use Rattle.phase_pools.specs.declared.stages.SweepStage.{SweepStage}
 use Rattle.phase_pools.specs.declared.stages.SweepStage.TheVariants as sweeps
 use Rattle.phase_pools.specs.declared.stages.ClaimStage.{ClaimStage}
@@ -25,29 +28,37 @@ has_lower n j = nat_lt (slot_range n).first j
 
 -- ---- sweeps
 
--- a sweep: where it stands, the phase that it announces (0 before it has one), and the slots gathered. It may make ready
--- what was retired before that phase
+-- a sweep: its scheme, where it stands, the phase to which it raises (0 before it has one), the phase before which it recycles, which
+-- is never greater, and the slots gathered
 pub record Sweep : Type 0 where
+  pub scheme : Scheme
   pub stage : SweepStage
   pub bound : ℕ
+  pub low : ℕ
   pub gathered : List ℕ
 
-abbrev pub sweep_begun : Sweep
-sweep_begun = record { stage = sweeps.ReadPhase; bound = 0; gathered = [] }
+abbrev pub sweep_begun : Scheme → Sweep
+sweep_begun scheme = record { scheme = scheme; stage = sweeps.ReadPhase; bound = 0; low = 0; gathered = [] }
 
-abbrev pub sweep_wants_at : SweepStage → ℕ → WordAccess
-sweep_wants_at sweeps.ReadPhase s = Loads Phase
-sweep_wants_at (sweeps.RaisePhase p) s = Exchanges Phase p (p + 1)
-sweep_wants_at (sweeps.Warn c) s = Raises (Warning c) s
-sweep_wants_at (sweeps.ReadHazard c r) s = Loads (Hazard c r)
-sweep_wants_at (sweeps.ReadStatus j) s = Loads (Status j)
-sweep_wants_at (sweeps.MakeReady j q) s = Exchanges (Status j) (status_word q kinds.Retired) (status_word s kinds.Ready)
-sweep_wants_at (sweeps.PushHead j) s = Loads Head
-sweep_wants_at (sweeps.PushLink j q t) s = Stores (Link j) t
-sweep_wants_at (sweeps.PushTop j q t) s = Exchanges Head (head_word q t) (head_word (max q s) j)
+-- a caller's warning is raised, or the phase that it has announced there is loaded
+abbrev pub warn_wanted : Scheme → ℕ → ℕ → WordAccess
+warn_wanted Warned c s = Raises (Warning c) s
+warn_wanted (Announced own) c s = Loads (Warning c)
+
+-- a push goes to the head of its slot's kind
+abbrev pub sweep_wants_at : Scheme → SweepStage → ℕ → WordAccess
+sweep_wants_at scheme sweeps.ReadPhase s = Loads Phase
+sweep_wants_at scheme (sweeps.RaisePhase p) s = Exchanges Phase p (p + 1)
+sweep_wants_at scheme (sweeps.Warn c) s = warn_wanted scheme c s
+sweep_wants_at scheme (sweeps.ReadHazard c r) s = Loads (Hazard c r)
+sweep_wants_at scheme (sweeps.ReadStatus j) s = Loads (Status j)
+sweep_wants_at scheme (sweeps.MakeReady j q) s = Exchanges (Status j) (status_word q kinds.Retired) (status_word s kinds.Ready)
+sweep_wants_at scheme (sweeps.PushHead k j) s = Loads (Head k)
+sweep_wants_at scheme (sweeps.PushLink j q t) s = Stores (Link j) t
+sweep_wants_at scheme (sweeps.PushTop k j q t) s = Exchanges (Head k) (head_word q t) (head_word (max q s) j)
 
 abbrev pub sweep_wants : Sweep → WordAccess
-sweep_wants sweep = sweep_wants_at sweep.stage sweep.bound
+sweep_wants sweep = sweep_wants_at sweep.scheme sweep.stage sweep.bound
 
 -- a sweep that goes on, and one that has ended; the state of one that has ended doesn't matter
 pub record SweepTurn : Type 0 where
@@ -68,12 +79,27 @@ sweep_on n sweep j = if has_lower n j then sweep_goes sweep (sweeps.ReadStatus (
 abbrev pub phase_read : ℕ → Sweep → ℕ → SweepTurn
 phase_read last sweep p = if p == last then sweep_ends sweep (swept.PhasesOver p) else sweep_goes sweep (sweeps.RaisePhase p)
 
--- the stage after a warning: only when every caller is warned is a hazard read
-abbrev pub warn_next : Sizes → ℕ → SweepStage
-warn_next n c = if nat_lt (c + 1) n.callers then sweeps.Warn (c + 1) else sweeps.ReadHazard 0 0
+-- what follows the last warning: the hazards; where callers announce there are none, and the statuses follow, from the greatest
+-- slot down
+abbrev pub warned_all : Sizes → Scheme → SweepStage
+warned_all n Warned = sweeps.ReadHazard 0 0
+warned_all n (Announced own) = sweeps.ReadStatus (slot_range n).last
 
-abbrev pub warned : Sizes → Sweep → ℕ → SweepTurn
-warned n sweep c = sweep_goes sweep (warn_next n c)
+-- the stage after a warning: only when every caller is warned is a hazard read
+abbrev pub warn_next : Sizes → Scheme → ℕ → SweepStage
+warn_next n scheme c = if nat_lt (c + 1) n.callers then sweeps.Warn (c + 1) else warned_all n scheme
+
+-- a caller that has announced nothing holds nothing back
+abbrev pub lower : ℕ → ℕ → ℕ
+lower low zero = low
+lower low (suc p) = min low (suc p)
+
+abbrev pub low_after : Scheme → ℕ → ℕ → ℕ
+low_after Warned low word = low
+low_after (Announced own) low word = lower low word
+
+abbrev pub warned : Sizes → Sweep → ℕ → ℕ → SweepTurn
+warned n sweep c word = sweep_goes (record sweep { low = low_after sweep.scheme sweep.low word }) (warn_next n sweep.scheme c)
 
 -- the stage after a hazard word: registers go first, and the slots are gone through from the greatest down
 abbrev pub hazard_next : Sizes → ℕ → ℕ → SweepStage
@@ -84,42 +110,42 @@ hazard_next n c r =
 abbrev pub hazard_read : Sizes → Sweep → ℕ → ℕ → ℕ → SweepTurn
 hazard_read n sweep c r word = sweep_goes (record sweep { gathered = with_slot sweep.gathered word }) (hazard_next n c r)
 
--- a slot is made ready where it was retired before the sweep's s and no guard that was gathered names it
+-- a slot is made ready where it was retired before the sweep's low and no guard that was gathered names it
 abbrev pub freeing : Sizes → Sweep → ℕ → ℕ → Kind → SweepTurn
 freeing n sweep j q kinds.Ready = sweep_on n sweep j
 freeing n sweep j q kinds.Used = sweep_on n sweep j
 freeing n sweep j q kinds.Retired =
-    if nat_lt q sweep.bound && not (has_slot sweep.gathered j) then sweep_goes sweep (sweeps.MakeReady j q) else sweep_on n sweep j
+    if nat_lt q sweep.low && not (has_slot sweep.gathered j) then sweep_goes sweep (sweeps.MakeReady j q) else sweep_on n sweep j
 
 abbrev pub status_read : Sizes → Sweep → ℕ → Option StatusParts → SweepTurn
 status_read n sweep j None = sweep_on n sweep j
 status_read n sweep j (Some parts) = freeing n sweep j parts.phase parts.kind
 
--- the sweep that made the slot ready pushes it, and no other
+-- the sweep that made the slot ready, and no other, pushes it onto the chain of the slot's kind
 abbrev pub made_ready : Sizes → Sweep → ℕ → ℕ → ℕ → SweepTurn
-made_ready n sweep j q word = if word == status_word q kinds.Retired then sweep_goes sweep (sweeps.PushHead j) else sweep_on n sweep j
+made_ready n sweep j q word = if word == status_word q kinds.Retired then sweep_goes sweep (sweeps.PushHead (kind_of n j) j) else sweep_on n sweep j
 
 abbrev pub push_read : Sweep → ℕ → HeadParts → SweepTurn
 push_read sweep j head = sweep_goes sweep (sweeps.PushLink j head.phase head.top)
 
 -- the exchange succeeds exactly where it found what was expected; else the push begins again, with the head loaded once more
 abbrev pub pushed : Sizes → Sweep → ℕ → ℕ → ℕ → ℕ → SweepTurn
-pushed n sweep j q t word = if word == head_word q t then sweep_on n sweep j else sweep_goes sweep (sweeps.PushHead j)
+pushed n sweep j q t word = if word == head_word q t then sweep_on n sweep j else sweep_goes sweep (sweeps.PushHead (kind_of n j) j)
 
 -- whether the exchange of the phase succeeds or not, the phase that was loaded is over
 abbrev pub phase_raised : Sweep → ℕ → SweepTurn
-phase_raised sweep p = sweep_goes (record sweep { bound = p + 1 }) (sweeps.Warn 0)
+phase_raised sweep p = sweep_goes (record sweep { bound = p + 1; low = p + 1 }) (sweeps.Warn 0)
 
 abbrev pub sweep_accepts_at : Sizes → ℕ → Sweep → ℕ → SweepStage → SweepTurn
 sweep_accepts_at n last sweep word sweeps.ReadPhase = phase_read last sweep word
 sweep_accepts_at n last sweep word (sweeps.RaisePhase p) = phase_raised sweep p
-sweep_accepts_at n last sweep word (sweeps.Warn c) = warned n sweep c
+sweep_accepts_at n last sweep word (sweeps.Warn c) = warned n sweep c word
 sweep_accepts_at n last sweep word (sweeps.ReadHazard c r) = hazard_read n sweep c r word
 sweep_accepts_at n last sweep word (sweeps.ReadStatus j) = status_read n sweep j (status_parts word)
 sweep_accepts_at n last sweep word (sweeps.MakeReady j q) = made_ready n sweep j q word
-sweep_accepts_at n last sweep word (sweeps.PushHead j) = push_read sweep j (head_parts word)
-sweep_accepts_at n last sweep word (sweeps.PushLink j q t) = sweep_goes sweep (sweeps.PushTop j q t)
-sweep_accepts_at n last sweep word (sweeps.PushTop j q t) = pushed n sweep j q t word
+sweep_accepts_at n last sweep word (sweeps.PushHead k j) = push_read sweep j (head_parts word)
+sweep_accepts_at n last sweep word (sweeps.PushLink j q t) = sweep_goes sweep (sweeps.PushTop (kind_of n j) j q t)
+sweep_accepts_at n last sweep word (sweeps.PushTop k j q t) = pushed n sweep j q t word
 
 -- the sweep after its wanted access found a word
 abbrev pub sweep_accepts : Sizes → ℕ → Sweep → ℕ → SweepTurn
@@ -127,24 +153,28 @@ sweep_accepts n last sweep word = sweep_accepts_at n last sweep word sweep.stage
 
 -- ---- claims: look, sweep, look, sweep, look
 
--- a claim: where it stands, how many of its sweeps have ended, and the sweep under way, or the last one
+-- a claim: the kind of which it takes a slot, where it stands, how many of its sweeps have ended, and the sweep under way, or the
+-- last one, which has the claim's scheme
 pub record Claim : Type 0 where
+  pub kind : ℕ
   pub stage : ClaimStage
   pub sweeps : ℕ
   pub sweep : Sweep
 
-abbrev pub claim_begun : Sizes → Claim
-claim_begun n = record { stage = claims.ReadHead; sweeps = 0; sweep = sweep_begun }
+abbrev pub claim_begun : Sizes → ℕ → Scheme → Claim
+claim_begun n kind scheme = record { kind = kind; stage = claims.ReadHead; sweeps = 0; sweep = sweep_begun scheme }
 
-abbrev pub claim_wants_at : Sweep → ClaimStage → WordAccess
-claim_wants_at sweep claims.ReadHead = Loads Head
-claim_wants_at sweep (claims.ReadLink q t) = Loads (Link t)
-claim_wants_at sweep (claims.Take q t next) = Exchanges Head (head_word q t) (head_word q next)
-claim_wants_at sweep (claims.StoreUsed q t) = Stores (Status t) (status_word q kinds.Used)
-claim_wants_at sweep claims.Sweeps = sweep_wants sweep
+-- looks go to the head of the claim's kind
+abbrev pub claim_wants_at : ℕ → Sweep → ClaimStage → WordAccess
+claim_wants_at kind sweep claims.ReadHead = Loads (Head kind)
+claim_wants_at kind sweep (claims.ReadLink q t) = Loads (Link t)
+claim_wants_at kind sweep (claims.Take q t next) = Exchanges (Head kind) (head_word q t) (head_word q next)
+claim_wants_at kind sweep (claims.StoreUsed q t) = Stores (Status t) (status_word q kinds.Used)
+claim_wants_at kind sweep (claims.Withdraw own) = Stores (Warning own) 0
+claim_wants_at kind sweep claims.Sweeps = sweep_wants sweep
 
 abbrev pub claim_wants : Claim → WordAccess
-claim_wants claim = claim_wants_at claim.sweep claim.stage
+claim_wants claim = claim_wants_at claim.kind claim.sweep claim.stage
 
 pub record ClaimTurn : Type 0 where
   pub claim : Claim
@@ -156,11 +186,18 @@ claim_goes claim stage = record { claim = record claim { stage = stage }; ended 
 abbrev pub claim_ends : Claim → ClaimEnd → ClaimTurn
 claim_ends claim end = record { claim = claim; ended = Some end }
 
+abbrev pub sweep_started : Claim → ClaimTurn
+sweep_started claim = claim_goes (record claim { sweep = sweep_begun claim.sweep.scheme }) claims.Sweeps
+
+-- a caller that announces withdraws its own announcement before the first of its sweeps
+abbrev pub sweep_follows : Scheme → ℕ → Claim → ClaimTurn
+sweep_follows Warned made claim = sweep_started claim
+sweep_follows (Announced own) zero claim = claim_goes claim (claims.Withdraw own)
+sweep_follows (Announced own) (suc made) claim = sweep_started claim
+
 -- a look that claimed nothing: after the second sweep it was the last
 abbrev pub look_ended : Claim → ClaimTurn
-look_ended claim =
-    if claim.sweeps == 2 then claim_ends claim ends.Full
-    else record { claim = record claim { stage = claims.Sweeps; sweep = sweep_begun }; ended = None }
+look_ended claim = if claim.sweeps == 2 then claim_ends claim ends.Full else sweep_follows claim.sweep.scheme claim.sweeps claim
 
 -- where no slot is on top there is none to claim
 abbrev pub look_begun : Claim → HeadParts → ClaimTurn
@@ -172,6 +209,7 @@ takes_at claims.ReadHead word = false
 takes_at (claims.ReadLink q t) word = false
 takes_at (claims.Take q t next) word = word == head_word q t
 takes_at (claims.StoreUsed q t) word = false
+takes_at (claims.Withdraw own) word = false
 takes_at claims.Sweeps word = false
 
 -- whether the claim takes a slot where its wanted access found a word: a claim is counted then, although it ends only with
@@ -186,7 +224,7 @@ look_took claim q t word = if word == head_word q t then claim_goes claim (claim
 -- after a sweep comes a look; a sweep that finds the last phase ends the claim
 abbrev pub sweep_ended : Claim → Sweep → Option SweepEnd → ClaimTurn
 sweep_ended claim sweep None = record { claim = record claim { sweep = sweep }; ended = None }
-sweep_ended claim sweep (Some swept.Swept) = record { claim = record { stage = claims.ReadHead; sweeps = claim.sweeps + 1; sweep = sweep }; ended = None }
+sweep_ended claim sweep (Some swept.Swept) = record { claim = record claim { stage = claims.ReadHead; sweeps = claim.sweeps + 1; sweep = sweep }; ended = None }
 sweep_ended claim sweep (Some (swept.PhasesOver p)) = claim_ends (record claim { sweep = sweep }) (ends.PhasesOver p)
 
 abbrev pub claim_sweeps : Claim → SweepTurn → ClaimTurn
@@ -197,7 +235,16 @@ claim_accepts_at n last claim word claims.ReadHead = look_begun claim (head_part
 claim_accepts_at n last claim word (claims.ReadLink q t) = claim_goes claim (claims.Take q t word)
 claim_accepts_at n last claim word (claims.Take q t next) = look_took claim q t word
 claim_accepts_at n last claim word (claims.StoreUsed q t) = claim_ends claim (ends.Claimed t)
+claim_accepts_at n last claim word (claims.Withdraw own) = sweep_started claim
 claim_accepts_at n last claim word claims.Sweeps = claim_sweeps claim (sweep_accepts n last claim.sweep word)
+
+-- whether a sweep loads the phase and finds the last one
+abbrev pub finds_last : ℕ → SweepStage → ℕ → Bool
+finds_last last sweeps.ReadPhase word = word == last
+finds_last last _ word = false
+
+abbrev pub phases_end : Bool → ℕ → Option ClaimEnd
+phases_end over p = if over then Some (ends.PhasesOver p) else None
 
 -- the claim after its wanted access found a word
 abbrev pub claim_accepts : Sizes → ℕ → Claim → ℕ → ClaimTurn

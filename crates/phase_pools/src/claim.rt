@@ -1,21 +1,22 @@
-//! A claim: takes the ready slot on top of the chain, and sweeps where there is none.
+//! A claim: takes the ready slot on top of its kind's chain, and sweeps where there is none.
 
-ghost use Rattle.std.specs.Prelude.{◌≡◌, ◌≤◌, ◌<◌, ◌^◌, None};
+ghost use Rattle.std.specs.Prelude.{◌≡◌, ◌≤◌, ◌<◌, ◌^◌, length, None};
 ghost use Rattle.oa_words.specs.Packed.{head_parts, head_word};
 ghost use Rattle.oa_words.specs.Words.{Head};
 ghost use Rattle.phase_pools.specs.Accesses.{located, Exchanges, RaisesToPhase};
-ghost use Rattle.phase_pools.specs.Pools.{claim_begun, claim_wants, claim_takes, claim_accepts, look_begun, look_ended, look_took, sweep_ended};
-ghost use Rattle.phase_pools.specs.Ranges.{ClaimInRange, ClaimTold, IsHead};
+ghost use Rattle.phase_pools.specs.Pools.{claim_begun, claim_wants, claim_takes, claim_accepts, look_begun, look_ended, look_took, sweep_started, sweep_follows, sweep_ended, finds_last, phases_end};
+ghost use Rattle.phase_pools.specs.Ranges.{ClaimInRange, ClaimTold, HasOwn, IsHead};
+ghost use Rattle.phase_pools.specs.declared.stages.Scheme.TheVariants.{Warned, Announced};
 
 use crate::access::{Access, ClaimEnd, SweepEnd};
-use crate::stages::ClaimStage;
+use crate::stages::{ClaimStage, Scheme};
 use crate::sweep::SweepState;
 use oa_words::packed::{Kind, head_parts, head_word, status_word};
 use oa_words::shape::Shape;
 use std::marker::Model;
 
-/// A claim: where it stands, how many of its sweeps have ended, and its sweep. It takes the slot on top of the chain of
-/// ready slots, and where there is none it sweeps and looks again, twice at most.
+/// A claim: the kind of which it takes a slot, where it stands, how many of its sweeps have ended, and its sweep. It takes the slot on
+/// top of the chain of that kind's ready slots, and where there is none it sweeps and looks again, twice at most.
 ///
 /// The chain is a stack as Treiber's (1986): a slot is taken by an exchange of the head, so two callers never claim the same
 /// one. The head bears a phase beside the top, so a slot that was taken and pushed again meanwhile isn't taken for one that
@@ -23,6 +24,7 @@ use std::marker::Model;
 /// Cohen and Petrank (SPAA 2015).
 #[derive(Drop)]
 pub struct ClaimState {
+    kind: u32,
     stage: ClaimStage,
     sweeps: u8,
     sweep: SweepState,
@@ -34,44 +36,68 @@ impl Model for ClaimState {
 
     ghost Value = { Claim };
 
-    ghost view = { λ c. record { stage = c.stage; sweeps = c.sweeps; sweep = c.sweep } };
+    ghost view = { λ c. record { kind = c.kind; stage = c.stage; sweeps = c.sweeps; sweep = c.sweep } };
 
     ghost invariant = { λ c. SweepsFew c.stage c.sweeps × TakesFitting c.stage };
 }
 
 impl ClaimState {
-    /// A claim before the first access of its first look.
-    pub fn begin(shape: &Shape) -> ClaimState
-        ensures same { result ≡ claim_begun shape.now }
+    /// A claim of a slot of a kind, before the first access of its first look. Its sweeps warn the callers. The kind is one of the
+    /// shape's.
+    pub fn begin(shape: &Shape, kind: u32) -> ClaimState
+        requires { kind < length shape.now.kinds }
+        ensures same { result ≡ claim_begun shape.now kind Warned }
         ensures within { ClaimInRange shape.now result.sweep result.stage }
     {
         let _ = shape;
         ClaimState {
+            kind,
             stage: ClaimStage::ReadHead,
             sweeps: 0,
             sweep: SweepState::begin(),
         }
     }
 
-    /// The one access that the claim wants; a warning is raised to a phase, from 1 to 2^50. The caller, register and slots at
-    /// which it stands are the shape's, and the last phase is at most 2^50.
+    /// The same for a caller that announces phases, whose number is its own: it withdraws its announcement before it sweeps.
+    pub fn begin_announced(shape: &Shape, kind: u32, own: u32) -> ClaimState
+        requires kind { kind < length shape.now.kinds }
+        requires own { own < shape.now.callers }
+        ensures same { result ≡ claim_begun shape.now kind (Announced own) }
+        ensures within { ClaimInRange shape.now result.sweep result.stage }
+    {
+        let _ = shape;
+        ClaimState {
+            kind,
+            stage: ClaimStage::ReadHead,
+            sweeps: 0,
+            sweep: SweepState::begin_by(Scheme::Announced(own)),
+        }
+    }
+
+    /// The one access that the claim wants; a warning is raised to a phase, from 1 to 2^50. The claim's kind and the caller, register
+    /// and slots at which it stands are the shape's, and the last phase is at most 2^50.
     pub fn pending(&self, shape: &Shape, last_phase: u64) -> Access
         requires last { last_phase ≤ 2 ^ 50 }
+        requires kind { self.now.kind < length shape.now.kinds }
         requires range { ClaimInRange shape.now self.now.sweep self.now.stage }
         ensures same { result ≡ located shape.now (claim_wants self.now) }
         ensures raises { RaisesToPhase result }
     {
         match self.stage {
             ClaimStage::ReadHead => Access::Load {
-                at: shape.head_at(),
+                at: shape.head_at(self.kind),
             },
             ClaimStage::ReadLink(_, top) => Access::Load {
                 at: shape.link_at(top),
             },
-            ClaimStage::Take(q, top, next) => take(shape, q, top, next),
+            ClaimStage::Take(q, top, next) => take(shape, self.kind, q, top, next),
             ClaimStage::StoreUsed(q, top) => Access::Store {
                 at: shape.status_at(top),
                 word: status_word(q, Kind::Used),
+            },
+            ClaimStage::Withdraw(own) => Access::Store {
+                at: shape.warning_at(own),
+                word: 0,
             },
             ClaimStage::Sweeps => self.sweep.pending(shape),
         }
@@ -88,15 +114,57 @@ impl ClaimState {
             ClaimStage::ReadHead
             | ClaimStage::ReadLink(..)
             | ClaimStage::StoreUsed(..)
+            | ClaimStage::Withdraw(_)
             | ClaimStage::Sweeps => false,
         }
     }
 
-    /// Takes the word that this access found, and says how the claim ended; none exactly where it goes on. The caller,
-    /// register and slots at which it stands are the shape's, phases are at most the last one, which is at most 2^50, a
-    /// hazard, a link and the head's top are 0 or a slot, and a status has a kind. It stays within the shape.
+    /// How the claim ends where its access found this word; none exactly where it goes on.
+    #[tactic(auto, using(crate::proofs::Ending::sweep_end))]
+    pub fn end(&self, shape: &Shape, last_phase: u64, word: u64) -> Option<ClaimEnd>
+        ensures { result ≡ (claim_accepts shape.now last_phase self.now word).ended }
+    {
+        let _ = shape;
+        match self.stage {
+            ClaimStage::ReadHead => self.look_end(word),
+            ClaimStage::StoreUsed(_, top) => Some(ClaimEnd::Claimed(top)),
+            ClaimStage::Sweeps => self.sweep_end(last_phase, word),
+            ClaimStage::ReadLink(..) | ClaimStage::Take(..) | ClaimStage::Withdraw(_) => None,
+        }
+    }
+
+    /// How it ends where the head was loaded.
+    #[tactic(auto, using(crate::proofs::Ending::look_end))]
+    fn look_end(&self, word: u64) -> Option<ClaimEnd>
+        ensures { result ≡ (look_begun self.now (head_parts word)).ended }
+    {
+        let (_, top) = head_parts(word);
+        if top == 0 && self.sweeps == 2 {
+            Some(ClaimEnd::Full)
+        } else {
+            None
+        }
+    }
+
+    /// How it ends where its sweep's access was made.
+    fn sweep_end(&self, last_phase: u64, word: u64) -> Option<ClaimEnd>
+        ensures { result ≡ phases_end (finds_last last_phase self.now.sweep.stage word) word }
+    {
+        if self.sweep.finds_last(last_phase, word) {
+            Some(ClaimEnd::PhasesOver(word))
+        } else {
+            None
+        }
+    }
+
+    /// Takes the word that this access found, and says how the claim ended; none exactly where it goes on. The claim's kind, the
+    /// number of its caller if that announces, and the caller, register and slots at which it stands are the shape's. Phases are at
+    /// most the last one, which is at most 2^50; a hazard, a link and the head's top are 0 or a slot; and a status has a kind. It
+    /// stays within the shape.
     pub fn accept(&mut self, shape: &Shape, last_phase: u64, word: u64) -> Option<ClaimEnd>
         requires last { last_phase ≤ 2 ^ 50 }
+        requires kind { self.old.kind < length shape.now.kinds }
+        requires own { HasOwn shape.now self.old.sweep.scheme }
         requires range { ClaimInRange shape.now self.old.sweep self.old.stage }
         requires told { ClaimTold shape.now last_phase self.old.sweep self.old.stage word }
         ensures same { claim_accepts shape.now last_phase self.old word ≡ record { claim = self.new; ended = result } }
@@ -114,6 +182,10 @@ impl ClaimState {
                 None
             }
             ClaimStage::StoreUsed(_, top) => Some(ClaimEnd::Claimed(top)),
+            ClaimStage::Withdraw(_) => {
+                self.begin_sweep(shape);
+                None
+            }
             ClaimStage::Sweeps => {
                 let end = self.sweep.accept(shape, last_phase, word);
                 self.swept(shape, end)
@@ -144,6 +216,7 @@ impl ClaimState {
         requires few { self.old.sweeps ≤ 2 }
         requires range { ClaimInRange shape.now self.old.sweep self.old.stage }
         requires last { last_phase ≤ 2 ^ 50 }
+        requires own { HasOwn shape.now self.old.sweep.scheme }
         requires word { IsHead shape.now last_phase word }
         ensures same { look_begun self.old (head_parts word) ≡ record { claim = self.new; ended = result } }
         ensures stays { ClaimInRange shape.now self.new.sweep self.new.stage }
@@ -176,6 +249,7 @@ impl ClaimState {
     /// A look found no slot: a sweep follows, and after two sweeps the claim ends.
     fn look_ended(&mut self, shape: &Shape) -> Option<ClaimEnd>
         requires few { self.old.sweeps ≤ 2 }
+        requires own { HasOwn shape.now self.old.sweep.scheme }
         requires range { ClaimInRange shape.now self.old.sweep self.old.stage }
         ensures same { look_ended self.old ≡ record { claim = self.new; ended = result } }
         ensures stays { ClaimInRange shape.now self.new.sweep self.new.stage }
@@ -183,23 +257,49 @@ impl ClaimState {
         if self.sweeps == 2 {
             return Some(ClaimEnd::Full);
         }
-        self.stage = ClaimStage::Sweeps;
-        self.sweep = SweepState::begin();
+        self.sweep_follows(shape);
         None
+    }
+
+    /// A sweep follows: where the caller announces, it withdraws its announcement before the first.
+    fn sweep_follows(&mut self, shape: &Shape)
+        requires few { self.old.sweeps < 2 }
+        requires own { HasOwn shape.now self.old.sweep.scheme }
+        ensures same { sweep_follows self.old.sweep.scheme self.old.sweeps self.old ≡ record { claim = self.new; ended = None } }
+        ensures stays { ClaimInRange shape.now self.new.sweep self.new.stage }
+    {
+        match self.sweep.scheme() {
+            Scheme::Announced(own) if self.sweeps == 0 => {
+                self.stage = ClaimStage::Withdraw(own);
+            }
+            _ => self.begin_sweep(shape),
+        }
+    }
+
+    /// A sweep begins, with nothing gathered.
+    fn begin_sweep(&mut self, shape: &Shape)
+        requires few { self.old.sweeps < 2 }
+        ensures same { sweep_started self.old ≡ record { claim = self.new; ended = None } }
+        ensures stays { ClaimInRange shape.now self.new.sweep self.new.stage }
+    {
+        let _ = shape;
+        self.stage = ClaimStage::Sweeps;
+        self.sweep = SweepState::begin_by(self.sweep.scheme());
     }
 }
 
 /// The exchange that takes the top slot from the chain, and leaves on top what its link named.
-fn take(shape: &Shape, q: u64, top: u32, next: u32) -> Access
+fn take(shape: &Shape, kind: u32, q: u64, top: u32, next: u32) -> Access
+    requires kind { kind < length shape.now.kinds }
     requires phase { q ≤ 2 ^ 50 }
     requires top { top ≤ shape.now.slots }
     requires next { next ≤ shape.now.slots }
-    ensures same { result ≡ located shape.now (Exchanges Head (head_word q top) (head_word q next)) }
+    ensures same { result ≡ located shape.now (Exchanges (Head kind) (head_word q top) (head_word q next)) }
     ensures raises { RaisesToPhase result }
 {
     let _slots = shape.slots();
     Access::CompareExchange {
-        at: shape.head_at(),
+        at: shape.head_at(kind),
         expected: head_word(q, top),
         replacement: head_word(q, next),
     }

@@ -17,6 +17,7 @@ pub(crate) fn first_slot(shape: &Shape) -> u32
 /// The greatest of them, from which a sweep goes down.
 pub(crate) fn last_slot(shape: &Shape) -> u32
     ensures last { result ≡ (slot_range shape.now).last }
+    ensures some { 1 ≤ result }
     ensures few { result ≤ 4096 }
 {
     shape.slots()

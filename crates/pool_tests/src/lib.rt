@@ -4,6 +4,8 @@
 #[cfg(test)]
 mod guard_tests;
 #[cfg(test)]
+mod kind_tests;
+#[cfg(test)]
 mod routine_tests;
 #[cfg(test)]
 mod rows;

@@ -13,7 +13,7 @@ use phase_pools::sweep::SweepState;
 fn top_slot_is_claimed(rt: HostRuntime) {
     let shape = small(&rt);
     let mut words = row(1, 0, [4, 4, 4], [8193, 2, 0, 0]);
-    let mut claim = ClaimState::begin(&shape);
+    let mut claim = ClaimState::begin(&shape, 0);
     let loads = [load(24), load(26)];
     assert!(rt; claims_on(&rt, &shape, 5, &mut claim, &mut words, &loads).is_none());
     assert!(rt; !claim.takes(&shape, 8194));

@@ -161,11 +161,11 @@ fn sixty_four_hazards_are_gathered(rt: HostRuntime) {
 fn claims_go_down_the_chain(rt: HostRuntime) {
     let shape = small(&rt);
     let mut words = row(1, 0, [5, 4, 4], [8194, 0, 3, 0]);
-    let mut late = ClaimState::begin(&shape);
+    let mut late = ClaimState::begin(&shape, 0);
     let until_exchange = [load(24), load(27)];
     assert!(rt; claims_on(&rt, &shape, 5, &mut late, &mut words, &until_exchange).is_none());
     let whole = [load(24), load(27), exchange(24, 8194, 8195), store(13, 5)];
-    assert!(rt; claims(&rt, &shape, 5, &mut words, &whole) == Some(ClaimEnd::Claimed(2)));
+    assert!(rt; claims(&rt, &shape, 5, 0, &mut words, &whole) == Some(ClaimEnd::Claimed(2)));
     assert!(rt; words == row(1, 0, [5, 5, 4], [8195, 0, 3, 0]));
     let from_exchange = [
         exchange(24, 8194, 8195),
@@ -219,7 +219,7 @@ fn claim_of_a_full_list(rt: HostRuntime) {
         load(12),
         load(24),
     ];
-    assert!(rt; claims(&rt, &shape, 1000, &mut words, &expected) == Some(ClaimEnd::Full));
+    assert!(rt; claims(&rt, &shape, 1000, 0, &mut words, &expected) == Some(ClaimEnd::Full));
     assert!(rt; words == row(3, 0, [5, 5, 5], [8192, 0, 0, 0]));
 }
 
@@ -229,7 +229,7 @@ fn claim_when_phases_are_over(rt: HostRuntime) {
     let shape = small(&rt);
     let mut words = row(2, 0, [5, 10, 10], [8192, 0, 0, 0]);
     let expected = [load(24), load(0)];
-    assert!(rt; claims(&rt, &shape, 2, &mut words, &expected) == Some(ClaimEnd::PhasesOver(2)));
+    assert!(rt; claims(&rt, &shape, 2, 0, &mut words, &expected) == Some(ClaimEnd::PhasesOver(2)));
     assert!(rt; words == row(2, 0, [5, 10, 10], [8192, 0, 0, 0]));
 }
 
@@ -267,6 +267,6 @@ fn claim_of_a_recycled_slot(rt: HostRuntime) {
         exchange(24, 16386, 16387),
         store(13, 9),
     ];
-    assert!(rt; claims(&rt, &shape, 2, &mut words, &expected) == Some(ClaimEnd::Claimed(2)));
+    assert!(rt; claims(&rt, &shape, 2, 0, &mut words, &expected) == Some(ClaimEnd::Claimed(2)));
     assert!(rt; words == row(2, 0, [5, 9, 8], [16387, 0, 3, 0]));
 }

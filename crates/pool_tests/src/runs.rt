@@ -1,8 +1,8 @@
 //! Routines that run alone on the words of a row, against the accesses that they have to make.
 
-ghost use Rattle.std.specs.Prelude.{◌≡◌, ◌≤◌, ◌^◌, IsTrue};
-ghost use Rattle.phase_pools.specs.Ranges.{SweepInRange, ClaimInRange, IsStatus, IsHead};
-ghost use Rattle.pool_tests.specs.Told.{address_in, IsTold};
+ghost use Rattle.std.specs.Prelude.{◌≡◌, ◌≤◌, ◌<◌, ◌^◌, length, IsTrue};
+ghost use Rattle.phase_pools.specs.Ranges.{SweepInRange, IsStatus, IsHead};
+ghost use Rattle.pool_tests.specs.Told.{address_in, IsTold, StandsInRow};
 
 use oa_words::packed::{head_parts, status_parts};
 use oa_words::shape::Shape;
@@ -64,7 +64,7 @@ fn is_told(shape: &Shape, last_phase: u64, at: u32, word: u64) -> bool
     ensures { IsTrue result → IsTold shape.now last_phase at word }
 {
     let callers = shape.callers();
-    let slots = shape.slots();
+    let (slots, _kinds) = (shape.slots(), shape.kinds());
     if at <= 2 * callers {
         return word <= last_phase;
     }
@@ -74,7 +74,7 @@ fn is_told(shape: &Shape, last_phase: u64, at: u32, word: u64) -> bool
     if at <= 10 * callers + (slots + 1) {
         return is_status(last_phase, word);
     }
-    if at == shape.head_at() {
+    if shape.head_at(0) <= at && at < shape.link_at(0) {
         return is_head(shape, last_phase, word);
     }
     word <= slots as u64
@@ -131,8 +131,8 @@ fn claim_step(
     expected: Access,
 ) -> Option<ClaimEnd>
     requires last { last_phase ≤ 2 ^ 50 }
-    requires range { ClaimInRange shape.now claim.old.sweep claim.old.stage }
-    ensures { ClaimInRange shape.now claim.new.sweep claim.new.stage }
+    requires stands { StandsInRow shape.now claim.old }
+    ensures { StandsInRow shape.now claim.new }
 {
     let access = claim.pending(shape, last_phase);
     assert!(rt; access == expected);
@@ -186,8 +186,8 @@ pub(crate) fn claims_on(
     expected: &[Access],
 ) -> Option<ClaimEnd>
     requires last { last_phase ≤ 2 ^ 50 }
-    requires range { ClaimInRange shape.now claim.old.sweep claim.old.stage }
-    ensures { ClaimInRange shape.now claim.new.sweep claim.new.stage }
+    requires stands { StandsInRow shape.now claim.old }
+    ensures { StandsInRow shape.now claim.new }
 {
     let mut end = None;
     for access in expected {
@@ -197,16 +197,18 @@ pub(crate) fn claims_on(
     end
 }
 
-/// A whole claim makes the expected accesses, and ends with the last of them.
+/// A whole claim of a kind makes the expected accesses, and ends with the last of them.
 pub(crate) fn claims(
     rt: &impl Abort,
     shape: &Shape,
     last_phase: u64,
+    kind: u32,
     words: &mut [u64],
     expected: &[Access],
 ) -> Option<ClaimEnd>
-    requires { last_phase ≤ 2 ^ 50 }
+    requires last { last_phase ≤ 2 ^ 50 }
+    requires kind { kind < length shape.now.kinds }
 {
-    let mut claim = ClaimState::begin(shape);
+    let mut claim = ClaimState::begin(shape, kind);
     claims_on(rt, shape, last_phase, &mut claim, words, expected)
 }

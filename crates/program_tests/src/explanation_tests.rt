@@ -17,12 +17,12 @@ fn statuses_are_explained(rt: HostRuntime) {
     expect_sentence(
         &rt,
         Status::ReadFault,
-        b"oa: standard input could not be read to its end, so no document was judged. Check the file or the pipe, and try again.\n",
+        b"oa: standard input could not be read to its end, so nothing was judged. Check the file or the pipe, and try again.\n",
     );
     expect_sentence(
         &rt,
         Status::BadDocument { line: 4, fault: 5 },
-        b"oa: line 4 is at fault: it names a field, a root or an initial node that is not declared. See 'Faults' in docs/language.md.\n",
+        b"oa: line 4 is at fault: it names a kind, a field, a root, an initial node or an operation that is not declared. See 'Faults' in docs/language.md.\n",
     );
     let refusal = Refusal {
         rule: 4,
@@ -34,6 +34,24 @@ fn statuses_are_explained(rt: HostRuntime) {
         &rt,
         Status::Refused { refusal },
         b"oa: rule N4 is broken at instruction 12 of the generator of operation 0 (both counted from 0): a put writes into a fresh node. See 'N4' in docs/language.md for how to mend it.\n",
+    );
+}
+
+#[test]
+fn kinds_are_explained(rt: HostRuntime) {
+    expect_sentence(
+        &rt,
+        Status::BadDocument { line: 10, fault: 8 },
+        b"oa: line 10 is at fault: it names an initial node of another kind than its place refers to. See 'Faults' in docs/language.md.\n",
+    );
+}
+
+#[test]
+fn rejections_are_explained(rt: HostRuntime) {
+    expect_sentence(
+        &rt,
+        Status::Rejected { number: 3, at: 1 },
+        b"oa: the certificate is rejected: the replies of caller 1 do not agree with its events: each call that it began has the reply that the events give it, in order, and only that of the last may be left out. Compare its reply lines with its events. See 'Certificates' in docs/language.md.\n",
     );
 }
 
@@ -51,7 +69,12 @@ fn faults_of_shape_are_explained(rt: HostRuntime) {
     expect_sentence(
         &rt,
         Status::BadShape { number: 2, at: 0 },
-        b"oa: the document cannot be run: its slots are not 1 to 4096. See 'What can be run' in docs/language.md.\n",
+        b"oa: the document cannot be run: the slots of each kind of its nodes, and of all kinds together, are not 1 to 4096. See 'What can be run' in docs/language.md.\n",
+    );
+    expect_sentence(
+        &rt,
+        Status::BadShape { number: 5, at: 1 },
+        b"oa: the document cannot be run: it has more initial nodes of a kind than slots for them. See 'What can be run' in docs/language.md.\n",
     );
     expect_sentence(
         &rt,

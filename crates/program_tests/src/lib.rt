@@ -5,6 +5,8 @@
 #[cfg(test)]
 mod asked;
 #[cfg(test)]
+mod certificate_tests;
+#[cfg(test)]
 mod ending_tests;
 #[cfg(test)]
 mod explanation_tests;

@@ -2,6 +2,7 @@
 
 ghost use Rattle.std.specs.Prelude.{◌+◌, ◌<◌, ◌≤◌, ◌^◌, length};
 ghost use Rattle.oa_text.specs.Lines.{lines_of};
+ghost use Rattle.norm_parser.specs.Version.{IsVersionNumber};
 
 use crate::contents::contents;
 use crate::flaws::flaws_answer;
@@ -29,12 +30,9 @@ pub(crate) fn refused(alloc: Global, error: ParseError) -> Result<String, AllocE
 }
 
 /// The line after what was read, or the fault.
-fn ended<T>(alloc: Global, read: Result<(T, u32), ParseError>) -> Result<String, AllocError>
-where
-    T: Drop,
-{
-    match read {
-        Ok((_, next)) => format!(in alloc; "next {next}"),
+fn ended(alloc: Global, end: Result<u32, ParseError>) -> Result<String, AllocError> {
+    match end {
+        Ok(next) => format!(in alloc; "next {next}"),
         Err(error) => refused(alloc, error),
     }
 }
@@ -47,17 +45,40 @@ pub(crate) fn told(answer: Result<String, AllocError>) -> Result<String, RowErro
     }
 }
 
+/// The line after a text's declarations and their start, or the fault.
+fn head_end(alloc: Global, bytes: &[u8], first: u32) -> Result<u32, ParseError>
+    requires few { length (lines_of bytes.now) + 1 < 2 ^ 32 }
+    requires counted { 1 ≤ first }
+{
+    match parse_head(alloc, bytes, first) {
+        Ok((_, next)) => Ok(next),
+        Err(error) => Err(error),
+    }
+}
+
+/// The line after a text, or the fault.
+fn text_end(alloc: Global, bytes: &[u8], first: u32, version: u8) -> Result<u32, ParseError>
+    requires few { length (lines_of bytes.now) + 1 < 2 ^ 32 }
+    requires counted { 1 ≤ first }
+    requires version { IsVersionNumber version }
+{
+    match parse_front(alloc, bytes, first, version) {
+        Ok((_, next)) => Ok(next),
+        Err(error) => Err(error),
+    }
+}
+
 /// What the reader of the text or of the declarations that begin at a line answers.
 fn part_answer(alloc: Global, row: &Row<'_>, bytes: &[u8]) -> Result<String, RowError>
     requires { length (lines_of bytes.now) + 1 < 2 ^ 32 }
 {
-    if row.first < 1 {
+    if row.first < 1 || row.version < 1 || row.version > 2 {
         return Err(RowError::Wrong);
     }
     if matches!(row.reader, Reader::Head) {
-        told(ended(alloc, parse_head(alloc, bytes, row.first)))
+        told(ended(alloc, head_end(alloc, bytes, row.first)))
     } else {
-        told(ended(alloc, parse_front(alloc, bytes, row.first)))
+        told(ended(alloc, text_end(alloc, bytes, row.first, row.version)))
     }
 }
 

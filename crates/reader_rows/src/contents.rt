@@ -34,13 +34,13 @@ fn add_call(out: &mut String, call: &ScriptCall) -> Result<(), AllocError> {
     for b in call.name.items() {
         out.push(*b as char)?;
     }
-    add_arguments(out, call.args.items())
+    add_numbers(out, call.args.items())
 }
 
-/// Adds the arguments of a call.
-fn add_arguments(out: &mut String, arguments: &[u64]) -> Result<(), AllocError> {
-    for argument in arguments {
-        write!(out, " {argument}")?;
+/// Adds numbers, each after a space.
+fn add_numbers(out: &mut String, numbers: &[u64]) -> Result<(), AllocError> {
+    for number in numbers {
+        write!(out, " {number}")?;
     }
     Ok(())
 }
@@ -71,16 +71,17 @@ fn add_turns(out: &mut String, turns: &[Turn]) -> Result<(), AllocError> {
     Ok(())
 }
 
-/// Adds the settings.
+/// Adds the settings, and of the slots those of each kind.
 fn add_settings(out: &mut String, document: &Document) -> Result<(), AllocError> {
+    out.push_str("slots")?;
+    add_numbers(out, document.slots.items())?;
     let Document {
-        slots,
         first,
         last,
         fuel,
         ..
     } = document;
-    write!(out, "slots {slots} phases {first} {last} fuel {fuel}")
+    write!(out, " phases {first} {last} fuel {fuel}")
 }
 
 fn add_document(out: &mut String, document: &Document) -> Result<(), AllocError> {

@@ -1,4 +1,4 @@
-//! One instruction on the shipped queue: the fields `value` and `next`, and the roots `head` and `tail`.
+//! One instruction on the shipped queue: the kind `item`, the fields `value` and `next`, and the roots `head` and `tail`.
 
 ghost use Rattle.std.specs.Prelude.{◌≡◌, ◌<◌, ◌+◌, ◌^◌, false, length, IsTrue, OnOk};
 ghost use Rattle.oa_text.specs.Lines.{lines_of};
@@ -37,7 +37,7 @@ fn all_lines(bytes: &[u8]) -> Lines<'_>
     lines(bytes)
 }
 
-/// Whether a line begins an instruction on a text's fields and roots.
+/// Whether a line begins an instruction on a text's kinds, fields and roots.
 fn judged<'a>(
     alloc: Global,
     text: &Text,
@@ -50,7 +50,7 @@ fn judged<'a>(
     requires room { (line_shown first).number + 1 + length rest.old < 2 ^ 32 }
     ensures left { OnOk result (AreLeftOf rest.old rest.new) }
 {
-    match parse_instr(alloc, first, rest, &text.fields, &text.roots) {
+    match parse_instr(alloc, first, rest, &text.fields, &text.roots, &text.kinds) {
         Ok(_) => String::from_str(alloc, "ok"),
         Err(error) => refused(alloc, error),
     }
@@ -64,7 +64,7 @@ fn with_left(mut answer: String, left: usize) -> Result<String, AllocError> {
     Ok(answer)
 }
 
-/// Whether a line begins an instruction on a text's fields and roots, and how many lines are left after it.
+/// Whether a line begins an instruction on a text's kinds, fields and roots, and how many lines are left after it.
 fn line_answer<'a>(
     alloc: Global,
     text: &Text,

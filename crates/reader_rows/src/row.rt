@@ -28,7 +28,7 @@ pub(crate) enum Reader {
     Text,
     /// The canonical spelling of the text that the lines are.
     TextShown,
-    /// Where the text ends that begins at a line.
+    /// Where the text of a version ends that begins at a line.
     Front,
     /// Where the declarations end that begin at a line.
     Head,
@@ -56,6 +56,8 @@ pub(crate) struct Row<'a> {
     pub(crate) reader: Reader,
     /// The line that is read first, from 1, or the place of the instruction that is judged, from 0.
     pub(crate) first: u32,
+    /// The version of the lines of a text that begins at a line.
+    pub(crate) version: u8,
     /// Whether the instruction is one of the wrap-up.
     pub(crate) wrapup: bool,
     pub(crate) spelling: &'a str,
@@ -109,11 +111,30 @@ fn numbered<'a>(reader: Reader, wrapup: bool, rest: &'a str) -> Option<Row<'a>> 
         Ok(first) => Some(Row {
             reader,
             first,
+            version: 1,
             wrapup,
             spelling,
         }),
         Err(_) => None,
     }
+}
+
+/// The version that a word names.
+fn version_named(word: &str) -> Option<u8> {
+    match word {
+        "1" => Some(1),
+        "2" => Some(2),
+        _ => None,
+    }
+}
+
+/// The row whose number and version stand before its spelling.
+fn versioned<'a>(reader: Reader, rest: &'a str) -> Option<Row<'a>> {
+    let mut row = numbered(reader, false, rest)?;
+    let (version, spelling) = cut(row.spelling);
+    row.version = version_named(version)?;
+    row.spelling = spelling;
+    Some(row)
 }
 
 /// The row whose method stands before its number.
@@ -128,11 +149,13 @@ fn in_method<'a>(reader: Reader, rest: &'a str) -> Option<Row<'a>> {
 /// The row of a reader, of what stands after its name.
 fn row_of<'a>(reader: Reader, rest: &'a str) -> Option<Row<'a>> {
     match reader {
-        Reader::Front | Reader::Head => numbered(reader, false, rest),
+        Reader::Front => versioned(reader, rest),
+        Reader::Head => numbered(reader, false, rest),
         Reader::Judged(_) => in_method(reader, rest),
         _ => Some(Row {
             reader,
             first: 1,
+            version: 1,
             wrapup: false,
             spelling: rest,
         }),

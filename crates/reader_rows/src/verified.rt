@@ -5,7 +5,7 @@ ghost use Rattle.oa_text.specs.Lines.{lines_of};
 ghost use Rattle.norm_lang.specs.Limits.{IsWithinLimits};
 
 use crate::answer::{refused, told};
-use barrier_check::{Flaw, FlawKind, VerifyError, verify};
+use barrier_check::{Barred, Flaw, FlawKind, VerifyError, verify};
 use norm_check::{Normal, check};
 use norm_lang::text::Text;
 use norm_parser::parse;
@@ -32,10 +32,7 @@ fn flaw_shown(alloc: Global, flaw: Flaw) -> Result<String, AllocError> {
 }
 
 /// `barred`, or the first flaw.
-fn verdict<T>(alloc: Global, verified: Result<T, VerifyError>) -> Result<String, AllocError>
-where
-    T: Drop,
-{
+fn verdict(alloc: Global, verified: Result<Barred, VerifyError>) -> Result<String, AllocError> {
     match verified {
         Ok(_) => String::from_str(alloc, "barred"),
         Err(VerifyError::Flawed(flaw)) => flaw_shown(alloc, flaw),

@@ -14,7 +14,7 @@ use Rattle.norm_lang.specs.Grammar.{is_new}
 use Rattle.norm_lang.specs.Local.{Spot}
 use Rattle.norm_lang.specs.Registers.{number_in, reference_in, with_number, with_reference}
 use Rattle.norm_lang.specs.RegisterUse.{destination}
-use Rattle.local_laws.specs.Settling.{is_access}
+use Rattle.target_laws.specs.local_laws.Settling.{is_access}
 use Rattle.source_machine.specs.declared.event.SourceEvent.TheVariants as events
 use Rattle.source_machine.specs.Memory.{with_value, loaded, exchange, auxiliary, access_by}
 use Rattle.source_machine.specs.MethodRuns.{name_in, name_got}
@@ -30,7 +30,7 @@ use Rattle.target_laws.specs.Methods.{code_in}
 use Rattle.target_laws.specs.Trusted.{Trust, Trusted, Unchecked, trust_in_set}
 use Rattle.run_ahead.specs.AccessLaws.{AccessFollows, LoadsAreFollowed, NewNodesAreFollowed, PutsAreFollowed, ExchangesAreFollowed}
 use Rattle.run_ahead.specs.Agreeing.{StandsFor, HaveSameSize, Changes}
-use Rattle.run_ahead.specs.Ahead.{AsTrusted, IsCompiled}
+use Rattle.run_ahead.specs.Ahead.{AsTrusted, IsErased}
 use Rattle.run_ahead.specs.Following.{Walk, Follows}
 use Rattle.run_ahead.specs.Standing.{loads_into, IsValueFor, ValuesAgree}
 use Rattle.run_ahead.proofs.Accessing.{Makes, access_follows}
@@ -38,6 +38,7 @@ use Rattle.run_ahead.proofs.Changing.{nothing_changes, number_changes, put_same,
 use Rattle.run_ahead.proofs.Plain.{at_place, kind_right}
 use Rattle.run_ahead.proofs.Quiet.{goes_next}
 use Rattle.run_ahead.proofs.Telling.{told_map}
+use Rattle.run_ahead.proofs.Asked.{accesses_find_kinds}
 use Rattle.run_ahead.proofs.TypedLoads.{load_finds}
 
 -- ---- loads
@@ -86,23 +87,24 @@ load_changes text home calm i d here mirror v v' null loads sized kind kind' agr
     (value_changes home calm Unchecked here mirror d v v' null sized kind kind' agrees))
 
 pub loads_are_followed : (calm : Type 0) → LoadsAreFollowed calm
-loads_are_followed calm target text compiled home null walk path core mirror accessed caller f i d is loads c memory found typed kind agrees =
+loads_are_followed calm target text erased home null walk path core mirror accessed caller f i d is loads c memory found typed caller_typed kind agrees =
     let l = is_load text i d loads in
     let place = source_place (code_in walk.method) in
     let v = loaded text i mirror memory in
+    let asked = accesses_find_kinds calm target text erased home walk path core mirror accessed caller f memory.nodes caller_typed i is l.access in
     let next : Spot = record { at = core.at + 1; registers = with_value core.registers d found } in
     let makes : Makes walk.method home calm path core next mirror (with_value mirror d v) memory i 0 (name_in v) = record {
       here = is;
       access = l.access;
       named = subst (λ b. IsTrue (is_name b 0 memory.nodes)) (sym l.old) refl;
       goes = l.next core.at;
-      changes = load_changes text home calm i d core.registers mirror found v null loads f.ahead.sized kind (load_finds walk.method compiled core.at i d mirror memory is loads typed) agrees;
+      changes = load_changes text home calm i d core.registers mirror found v null loads f.ahead.sized kind (load_finds walk.method erased core.at i d mirror memory is loads typed asked) agrees;
       known = λ trusted. absurd (let never : Unchecked ≡ Trusted = sym l.trust ∙ trusted in cc);
       gets = l.gets place 0 mirror memory;
-      leads = l.spot place 0 (place core.at) mirror memory ∙ ap (λ (k : ℕ). record { at = k; registers = with_value mirror d v }) (sym (at_place walk.method compiled core.at (Plain i) is).1);
+      leads = l.spot place 0 (place core.at) mirror memory ∙ ap (λ (k : ℕ). record { at = k; registers = with_value mirror d v }) (sym (at_place walk.method erased core.at (Plain i) is).1);
     } in
     subst (λ after. AccessFollows walk home calm path core.at next mirror (with_value mirror d v) i (name_in v) (events.Access c 0) memory after caller) (l.memory place 0 (place core.at) mirror memory)
-    (access_follows walk home calm path core next mirror (with_value mirror d v) accessed caller c memory i 0 (name_in v) compiled makes f)
+    (access_follows walk home calm path core next mirror (with_value mirror d v) accessed caller c memory i 0 (name_in v) erased makes f)
 
 -- ---- a new node
 
@@ -114,11 +116,11 @@ new_changes home calm d name here mirror null sized =
     (λ r same now. put_stands home here mirror d (record { node = home name; marked = false }) (record { node = name; marked = false }) sized null (refl, refl) r same)
 
 new_follows : {target : Target} {text : Text} (walk : Walk target text) (home : ℕ → ℕ) (calm : Type 0) (path : List ℕ) (core : Spot) (mirror : Registers) (accessed : Bool) (caller : SourceCaller) (d kind c name : ℕ) (memory : Memory)
-    → IsCompiled target text → home 0 ≡ 0 → Follows walk home calm path core mirror accessed caller → slice_get (code_in walk.method) core.at ≡ Some (Plain (instr.New (Ref d) kind)) → IsTrue (is_name true name memory.nodes)
+    → IsErased target text → home 0 ≡ 0 → Follows walk home calm path core mirror accessed caller → slice_get (code_in walk.method) core.at ≡ Some (Plain (instr.New (Ref d) kind)) → IsTrue (is_name true name memory.nodes)
     → AccessFollows walk home calm path core.at (record { at = core.at + 1; registers = with_reference core.registers (Ref d) (record { node = home name; marked = false }) })
     mirror (with_reference mirror (Ref d) (record { node = name; marked = false })) (instr.New (Ref d) kind) name (events.Access c name) memory (access_by text name (instr.New (Ref d) kind) 0 mirror memory).memory caller
-new_follows walk home calm path core mirror accessed caller d kind c name memory compiled null f is named =
-    access_follows walk home calm path core _ mirror _ accessed caller c memory (instr.New (Ref d) kind) name name compiled (record {
+new_follows walk home calm path core mirror accessed caller d kind c name memory erased null f is named =
+    access_follows walk home calm path core _ mirror _ accessed caller c memory (instr.New (Ref d) kind) name name erased (record {
       here = is;
       access = refl;
       named = named;
@@ -126,19 +128,19 @@ new_follows walk home calm path core mirror accessed caller d kind c name memory
       changes = new_changes home calm d name core.registers mirror null f.ahead.sized;
       known = λ trusted. absurd (let never : Unchecked ≡ Trusted = trusted in cc);
       gets = refl;
-      leads = ap (λ (k : ℕ). record { at = k; registers = with_reference mirror (Ref d) (record { node = name; marked = false }) }) (sym (at_place walk.method compiled core.at (Plain (instr.New (Ref d) kind)) is).1);
+      leads = ap (λ (k : ℕ). record { at = k; registers = with_reference mirror (Ref d) (record { node = name; marked = false }) }) (sym (at_place walk.method erased core.at (Plain (instr.New (Ref d) kind)) is).1);
     }) f
 
 pub new_nodes_are_followed : (calm : Type 0) → NewNodesAreFollowed calm
-new_nodes_are_followed calm target text compiled home null walk path core mirror accessed caller f (Ref d) kind is c name memory named = new_follows walk home calm path core mirror accessed caller d kind c name memory compiled null f is named
-new_nodes_are_followed calm target text compiled home null walk path core mirror accessed caller f (Num d) kind is c name memory named =
-    absurd (let never : true ≡ false = kind_right walk.method compiled core.at (instr.New (Num d) kind) is in cc)
+new_nodes_are_followed calm target text erased home null walk path core mirror accessed caller f (Ref d) kind is c name memory named = new_follows walk home calm path core mirror accessed caller d kind c name memory erased null f is named
+new_nodes_are_followed calm target text erased home null walk path core mirror accessed caller f (Num d) kind is c name memory named =
+    absurd (let never : true ≡ false = kind_right walk.method erased core.at (instr.New (Num d) kind) is in cc)
 
 -- ---- a put, and an auxiliary exchange
 
 pub puts_are_followed : (calm : Type 0) → PutsAreFollowed calm
-puts_are_followed calm target text compiled home walk path core mirror accessed caller f a b field is c memory =
-    access_follows walk home calm path core _ mirror mirror accessed caller c memory (instr.Put a field b) 0 0 compiled (record {
+puts_are_followed calm target text erased home walk path core mirror accessed caller f a b field is c memory =
+    access_follows walk home calm path core _ mirror mirror accessed caller c memory (instr.Put a field b) 0 0 erased (record {
       here = is;
       access = refl;
       named = refl;
@@ -146,14 +148,14 @@ puts_are_followed calm target text compiled home walk path core mirror accessed 
       changes = nothing_changes home (AsTrusted calm Trusted) core.registers mirror f.ahead.sized;
       known = λ trusted. inl refl;
       gets = refl;
-      leads = ap (λ (k : ℕ). record { at = k; registers = mirror }) (sym (at_place walk.method compiled core.at (Plain (instr.Put a field b)) is).1);
+      leads = ap (λ (k : ℕ). record { at = k; registers = mirror }) (sym (at_place walk.method erased core.at (Plain (instr.Put a field b)) is).1);
     }) f
 
 pub exchanges_are_followed : (calm : Type 0) → ExchangesAreFollowed calm
-exchanges_are_followed calm target text compiled home walk path core mirror accessed caller f entry l is c memory succeeds same =
+exchanges_are_followed calm target text erased home walk path core mirror accessed caller f entry l is c memory succeeds same =
     let next : Spot = record { at = if succeeds then core.at + 1 else l; registers = core.registers } in
     subst (λ after. AccessFollows walk home calm path core.at next mirror mirror (instr.Cas entry l) 0 (events.Access c 0) memory after caller) (stays (exchange text.fields entry mirror memory))
-    (access_follows walk home calm path core next mirror mirror accessed caller c memory (instr.Cas entry l) 0 0 compiled (record {
+    (access_follows walk home calm path core next mirror mirror accessed caller c memory (instr.Cas entry l) 0 0 erased (record {
       here = is;
       access = refl;
       named = refl;
@@ -161,7 +163,7 @@ exchanges_are_followed calm target text compiled home walk path core mirror acce
       changes = nothing_changes home (AsTrusted calm Trusted) core.registers mirror f.ahead.sized;
       known = λ trusted. inl refl;
       gets = refl;
-      leads = leads (exchange text.fields entry mirror memory) succeeds same (at_place walk.method compiled core.at (Plain (instr.Cas entry l)) is).1;
+      leads = leads (exchange text.fields entry mirror memory) succeeds same (at_place walk.method erased core.at (Plain (instr.Cas entry l)) is).1;
     }) f)
   where
     goes : (b : Bool) → IsTrue (((core.at + 1) == (if b then core.at + 1 else l)) || ((l == (if b then core.at + 1 else l)) || false))

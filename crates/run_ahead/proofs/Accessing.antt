@@ -9,11 +9,11 @@ use Rattle.norm_lang.specs.Flow.{goes_to}
 use Rattle.norm_lang.specs.Grammar.{is_new}
 use Rattle.norm_lang.specs.Local.{Spot, local_step}
 use Rattle.norm_lang.specs.RegisterUse.{destination}
-use Rattle.local_laws.specs.Settling.{is_access}
-use Rattle.local_laws.proofs.Settled.{local_code_settles}
+use Rattle.target_laws.specs.local_laws.Settling.{is_access}
+use Rattle.target_laws.proofs.local_laws.Settled.{local_code_settles}
 use Rattle.source_machine.specs.declared.event.SourceEvent.TheVariants as events
 use Rattle.source_machine.specs.Memory.{Reached, access_by, access_at}
-use Rattle.source_machine.specs.MethodRuns.{with_name, run_with, name_got, run_after}
+use Rattle.source_machine.specs.MethodRuns.{MethodRun, with_name, run_with, name_got, run_after}
 use Rattle.source_machine.specs.Run.{is_new_at, is_name, is_enabled_for}
 use Rattle.source_machine.specs.declared.state.Memory.{Memory}
 use Rattle.source_machine.specs.declared.state.SourceCaller.{SourceCaller}
@@ -26,14 +26,14 @@ use Rattle.target_laws.specs.Trusted.{Trusted, trust_in_set, trust_along}
 use Rattle.target_laws.proofs.Redirected.{is_new_redirected}
 use Rattle.run_ahead.specs.AccessLaws.{AccessFollows}
 use Rattle.run_ahead.specs.Agreeing.{Changes}
-use Rattle.run_ahead.specs.Ahead.{AsTrusted, IsHeld, IsCompiled, Ahead}
-use Rattle.run_ahead.specs.Following.{Walk, Follows}
-use Rattle.run_ahead.specs.Standing.{stands_at, run_from}
+use Rattle.run_ahead.specs.Ahead.{AsTrusted, IsHeld, IsErased, Ahead}
+use Rattle.run_ahead.specs.Following.{Walk, Follows, StandsAhead}
+use Rattle.run_ahead.specs.Standing.{Call, stands_at, run_from}
 use Rattle.run_ahead.proofs.Enabled.{access_is_enabled}
 use Rattle.run_ahead.proofs.Getting.{given_got, more_got, plain_got}
 use Rattle.run_ahead.proofs.GuardRows.{plain_guards}
 use Rattle.run_ahead.proofs.Plain.{at_place, plain_keeps}
-use Rattle.run_ahead.proofs.Quiet.{stands_there}
+use Rattle.run_ahead.proofs.Quiet.{source_ahead, stands_there}
 use Rattle.run_ahead.proofs.Standing.{access_at_is, accesses, accessed_same}
 use Rattle.run_ahead.proofs.Watched.{access_watched}
 
@@ -70,6 +70,43 @@ not_local place _ at registers access = absurd (let no : false ≡ true = access
 abbrev pub mirrored_access : {target : Target} {text : Text} → Method target text → ℕ → Instr → ℕ → Registers → Memory → Reached
 mirrored_access {text = text} method name i at mirror memory = access_by text name (redirected (source_place (code_in method)) i) (source_place (code_in method) at) mirror memory
 
+-- the source's caller is at the access. It makes it, and its local code runs on from where that leads
+pub record AccessTurns {target : Target} {text : Text} (method : Method target text) (started : Registers) (accessed : Bool) (call : Call) (at : ℕ) (mirror : Registers) (before : Memory) (i : Instr) (c name : ℕ) (caller : SourceCaller) : Type 0 where
+  pub here : caller ≡ stands_at method.op method.wrapup started accessed call (record { at = source_place (code_in method) at; registers = mirror })
+  pub access : IsTrue (is_access_at (slice_get (source_in method) (source_place (code_in method) at)))
+  pub enabled : is_enabled_for text (events.Access c name) (Some caller) before ≡ true
+  pub memory : (caller_turn text (events.Access c name) before caller).memory ≡ (mirrored_access method name i at mirror before).memory
+  pub stands : (caller_turn text (events.Access c name) before caller).caller
+      ≡ stands_at method.op method.wrapup started true call (run_from method.op method.wrapup (mirrored_access method name i at mirror before).spot)
+  pub run : (was : MethodRun) → run_after text (events.Access c name) before caller was ≡ run_with (name_got text name (Some (redirected (source_place (code_in method)) i)) mirror before) was
+
+pub access_turns : {target : Target} {text : Text} (method : Method target text) (started : Registers) (accessed : Bool) (call : Call) (at : ℕ) (mirror : Registers) (there : Spot) (before : Memory) (i : Instr) (c name : ℕ) (caller : SourceCaller)
+    → IsErased target text → StandsAhead method started accessed call at mirror there caller → slice_get (code_in method) at ≡ Some (Plain i) → IsTrue (is_access i) → IsTrue (is_name (is_new i) name before.nodes)
+    → AccessTurns method started accessed call at mirror before i c name caller
+access_turns {text = text} method started accessed call at mirror there before i c name caller erased ahead is makes names =
+    let place = source_place (code_in method) in
+    let here = at_place method erased at (Plain i) is in
+    let spot : Spot = record { at = place at; registers = mirror } in
+    let comes : spot ≡ there = stands_there method at mirror there i erased is (not_local place i (place at) mirror makes) ahead.settles in
+    let op : slice_get text.ops call.number ≡ Some method.op = ap (slice_get text.ops) ahead.number ∙ method.in_text in
+    let access : IsTrue (is_access_at (slice_get (source_in method) (place at))) = subst (λ o. IsTrue (is_access_at o)) (sym here.0) (still_access place i ∙ makes) in
+    let named : IsTrue (is_name (is_new_at (slice_get (source_in method) (place at))) name before.nodes) =
+    subst (λ o. IsTrue (is_name (is_new_at o) name before.nodes)) (sym here.0) (subst (λ b. IsTrue (is_name b name before.nodes)) (sym (still_new place i)) names) in
+    let stands : caller ≡ stands_at method.op method.wrapup started accessed call spot = ahead.stands ∙ ap (λ (s : Spot). stands_at method.op method.wrapup started accessed call s) (sym comes) in
+    let turn = ap (λ z. caller_turn text (events.Access c name) before z) stands ∙ accesses text c name method.op method.wrapup started accessed call spot before op access in
+    let reached : access_at text name (slice_get (source_in method) (place at)) (place at) mirror before ≡ mirrored_access method name i at mirror before =
+    ap (λ o. access_at text name o (place at) mirror before) here.0 in
+    record {
+      here = stands;
+      access = access;
+      enabled = ap (λ z. is_enabled_for text (events.Access c name) (Some z) before) stands ∙ access_is_enabled text c name method.op method.wrapup started accessed call spot before op access named;
+      memory = ap (λ (t : Turn). t.memory) turn ∙ ap (λ z. z.memory) reached;
+      stands = ap (λ (t : Turn). t.caller) turn ∙ ap (λ z. stands_at method.op method.wrapup started true call (run_from method.op method.wrapup z.spot)) reached;
+      run = λ was. ap (λ z. run_after text (events.Access c name) before z was) stands
+          ∙ (access_watched text c name method.op method.wrapup started accessed call spot before was op access
+          ∙ ap (λ o. run_with (name_got text name o mirror before) was) here.0);
+    }
+
 -- an access that the core makes at a place: where it leads on both sides, and the one register that it changes, if any
 pub record Makes {target : Target} {text : Text} (method : Method target text) (home : ℕ → ℕ) (calm : Type 0) (path : List ℕ) (core next : Spot) (mirror mirror' : Registers) (memory : Memory) (i : Instr) (name given : ℕ) : Type 0 where
   pub here : slice_get (code_in method) core.at ≡ Some (Plain i)
@@ -81,50 +118,34 @@ pub record Makes {target : Target} {text : Text} (method : Method target text) (
   pub gets : name_got text name (Some (redirected (source_place (code_in method)) i)) mirror memory ≡ given
   pub leads : (mirrored_access method name i core.at mirror memory).spot ≡ record { at = source_place (code_in method) next.at; registers = mirror' }
 
--- the source is at the access too, and ahead again once it was made
+-- the source is ahead again once the access was made
 pub access_keeps : {target : Target} {text : Text} (method : Method target text) (home : ℕ → ℕ) (calm : Type 0) (path : List ℕ) (core next : Spot) (mirror mirror' : Registers) (there : Spot) (memory : Memory) (i : Instr) (name given : ℕ)
-    → IsCompiled target text → Makes method home calm path core next mirror mirror' memory i name given → Ahead method home calm path core mirror there
-    → (record { at = source_place (code_in method) core.at; registers = mirror } ≡ there)
-    × Ahead method home calm (core.at ∷ path) next mirror' (run_from method.op method.wrapup (record { at = source_place (code_in method) next.at; registers = mirror' }))
-access_keeps {text = text} method home calm path core next mirror mirror' there memory i name given compiled makes a = (
-  stands_there method home calm path core mirror there i compiled makes.here (not_local (source_place (code_in method)) i (source_place (code_in method) core.at) mirror makes.access) a,
-  plain_keeps method home calm path core next mirror mirror' there _ i given compiled makes.here makes.goes makes.changes makes.known
-      (local_code_settles text method.number method.op method.wrapup compiled.normal method.in_text (record { at = source_place (code_in method) next.at; registers = mirror' })) a,
-)
+    → IsErased target text → Makes method home calm path core next mirror mirror' memory i name given → Ahead method home calm path core mirror there
+    → Ahead method home calm (core.at ∷ path) next mirror' (run_from method.op method.wrapup (record { at = source_place (code_in method) next.at; registers = mirror' }))
+access_keeps {text = text} method home calm path core next mirror mirror' there memory i name given erased makes a =
+    plain_keeps method home calm path core next mirror mirror' there _ i given erased makes.here makes.goes makes.changes makes.known
+    (local_code_settles text method.number method.op method.wrapup erased.normal method.in_text (record { at = source_place (code_in method) next.at; registers = mirror' })) a
 
 pub access_follows : {target : Target} {text : Text} (walk : Walk target text) (home : ℕ → ℕ) (calm : Type 0) (path : List ℕ) (core next : Spot) (mirror mirror' : Registers) (accessed : Bool) (caller : SourceCaller)
-    (c : ℕ) (memory : Memory) (i : Instr) (name given : ℕ) → IsCompiled target text → Makes walk.method home calm path core next mirror mirror' memory i name given
+    (c : ℕ) (memory : Memory) (i : Instr) (name given : ℕ) → IsErased target text → Makes walk.method home calm path core next mirror mirror' memory i name given
     → Follows walk home calm path core mirror accessed caller
     → AccessFollows walk home calm path core.at next mirror mirror' i given (events.Access c name) memory (mirrored_access walk.method name i core.at mirror memory).memory caller
-access_follows {text = text} walk home calm path core next mirror mirror' accessed caller c memory i name given compiled makes f =
+access_follows walk home calm path core next mirror mirror' accessed caller c memory i name given erased makes f =
     let method = walk.method in
-    let place = source_place (code_in method) in
-    let kept = access_keeps method home calm path core next mirror mirror' f.there memory i name given compiled makes f.ahead in
-    let here = at_place method compiled core.at (Plain i) makes.here in
-    let spot : Spot = record { at = place core.at; registers = mirror } in
-    let op : slice_get text.ops walk.call.number ≡ Some method.op = ap (slice_get text.ops) f.begun.number ∙ method.in_text in
-    let access : IsTrue (is_access_at (slice_get (source_in method) (place core.at))) = subst (λ o. IsTrue (is_access_at o)) (sym here.0) (still_access place i ∙ makes.access) in
-    let named : IsTrue (is_name (is_new_at (slice_get (source_in method) (place core.at))) name memory.nodes) =
-    subst (λ o. IsTrue (is_name (is_new_at o) name memory.nodes)) (sym here.0) (subst (λ b. IsTrue (is_name b name memory.nodes)) (sym (still_new place i)) makes.named) in
-    let stands : caller ≡ stands_at method.op method.wrapup walk.started accessed walk.call spot = f.stands ∙ ap (λ (s : Spot). stands_at method.op method.wrapup walk.started accessed walk.call s) (sym kept.0) in
-    let turn = ap (λ z. caller_turn text (events.Access c name) memory z) stands ∙ accesses text c name method.op method.wrapup walk.started accessed walk.call spot memory op access in
-    let reached : access_at text name (slice_get (source_in method) (place core.at)) (place core.at) mirror memory ≡ mirrored_access method name i core.at mirror memory =
-    ap (λ o. access_at text name o (place core.at) mirror memory) here.0 in
+    let turn = access_turns method walk.started accessed walk.call core.at mirror f.there memory i c name caller erased (source_ahead f) makes.here makes.access makes.named in
     record {
-      enabled = ap (λ z. is_enabled_for text (events.Access c name) (Some z) memory) stands ∙ access_is_enabled text c name method.op method.wrapup walk.started accessed walk.call spot memory op access named;
-      memory = ap (λ (t : Turn). t.memory) turn ∙ ap (λ z. z.memory) reached;
+      enabled = turn.enabled;
+      memory = turn.memory;
       follows = record {
-        there = run_from method.op method.wrapup (record { at = place next.at; registers = mirror' });
+        there = run_from method.op method.wrapup (record { at = source_place (code_in method) next.at; registers = mirror' });
         begun = f.begun;
-        ahead = kept.1;
-        stands = ap (λ (t : Turn). t.caller) turn
-            ∙ (ap (λ (s : Spot). stands_at method.op method.wrapup walk.started true walk.call (run_from method.op method.wrapup s)) (ap (λ z. z.spot) reached ∙ makes.leads)
+        ahead = access_keeps method home calm path core next mirror mirror' f.there memory i name given erased makes f.ahead;
+        stands = turn.stands
+            ∙ (ap (λ (s : Spot). stands_at method.op method.wrapup walk.started true walk.call (run_from method.op method.wrapup s)) makes.leads
             ∙ accessed_same method.op method.wrapup walk.started walk.call _);
         unmoved = λ wrapup still. absurd (let never : true ≡ false = sym wrapup ∙ still in cc);
       };
-      run = λ was. ap (λ z. run_after text (events.Access c name) memory z was) stands
-          ∙ (access_watched text c name method.op method.wrapup walk.started accessed walk.call spot memory was op access
-          ∙ (ap (λ o. run_with (name_got text name o mirror memory) was) here.0 ∙ ap (λ (n : ℕ). run_with n was) makes.gets));
+      run = λ was. turn.run was ∙ ap (λ (n : ℕ). run_with n was) makes.gets;
       got = λ names was. plain_got method home (AsTrusted calm (trust_in_set i)) path core.at i given core.registers mirror next.registers mirror' walk.started names (with_name given names) makes.here makes.changes
           (λ r set. given_got given names) (more_got given names) was;
       guards = λ row stand. plain_guards method home (AsTrusted calm (trust_in_set i)) path core.at i given core.registers mirror next.registers mirror' row makes.here makes.changes stand;

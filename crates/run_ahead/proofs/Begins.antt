@@ -6,6 +6,7 @@ use Rattle.norm_lang.specs.declared.text.Instr.TheVariants as instr
 use Rattle.norm_lang.specs.declared.text.Text.{Text}
 use Rattle.norm_lang.specs.declared.registers.Registers.{Registers}
 use Rattle.norm_lang.specs.Local.{Spot}
+use Rattle.norm_lang.specs.NormalForm.{IsNormal}
 use Rattle.norm_lang.specs.Registers.{first_registers, with_count}
 use Rattle.source_machine.specs.declared.state.SourceCaller.{SourceCaller}
 use Rattle.source_machine.specs.Step.{begun}
@@ -20,32 +21,32 @@ use Rattle.run_ahead.proofs.Starting.{start_keeps, generator_start, wrapup_start
 use Rattle.run_ahead.proofs.Watched.{begin_run}
 
 -- a method stands at its start
-pub start_follows : {target : Target} {text : Text} (walk : Walk target text) (home : ℕ → ℕ) (calm : Type 0) (caller : SourceCaller) → IsCompiled target text → HasBegun walk home
+pub start_follows : {target : Target} {text : Text} (walk : Walk target text) (home : ℕ → ℕ) (calm : Type 0) (caller : SourceCaller) → IsNormal text → HasBegun walk home
     → caller ≡ begins_at walk.method.op walk.method.wrapup walk.started walk.call → Follows walk home calm [] (first_spot walk.first) walk.started false caller
-start_follows walk home calm caller compiled begun stands =
-    record { there = _; begun = begun; ahead = start_keeps walk.method home calm walk.first walk.started compiled begun.start; stands = stands; unmoved = λ wrapup still. refl }
+start_follows walk home calm caller normal begun stands =
+    record { there = _; begun = begun; ahead = start_keeps walk.method home calm walk.first walk.started normal begun.start; stands = stands; unmoved = λ wrapup still. refl }
 
 -- ---- the generator
 
 generator_begun : {target : Target} {text : Text} (method : Method target text) (call : Call) (home : ℕ → ℕ) → home 0 ≡ 0 → call.number ≡ method.number → HasBegun (generator_walk method call) home
 generator_begun method call home null number = record { number = number; start = generator_start method home call.args null; generator = λ generator. (refl, refl) }
 
-pub generator_follows : {target : Target} {text : Text} (method : Method target text) (call : Call) (home : ℕ → ℕ) (calm : Type 0) → IsCompiled target text → home 0 ≡ 0 → call.number ≡ method.number
+pub generator_follows : {target : Target} {text : Text} (method : Method target text) (call : Call) (home : ℕ → ℕ) (calm : Type 0) → IsNormal text → home 0 ≡ 0 → call.number ≡ method.number
     → Follows (generator_walk method call) home calm [] (first_spot (first_registers call.args)) (first_registers call.args) false (begins_at method.op false (first_registers call.args) call)
-generator_follows method call home calm compiled null number = start_follows (generator_walk method call) home calm _ compiled (generator_begun method call home null number) refl
+generator_follows method call home calm normal null number = start_follows (generator_walk method call) home calm _ normal (generator_begun method call home null number) refl
 
 pub begins_are_followed : (calm : Type 0) → BeginsAreFollowed calm
-begins_are_followed calm target text compiled home null method call number right c memory = (
+begins_are_followed calm target text normal home null method call number right c memory = (
   record {
     enabled = right;
     turns = ap (λ o. record { memory = memory; caller = begun o call.number call.args (caller_of call) }) (ap (slice_get text.ops) number ∙ method.in_text);
     run = λ was. begin_run text c call.number call.args memory (caller_of call) was;
   },
-  generator_follows method call home calm compiled null number,
+  generator_follows method call home calm normal null number,
 )
 
 pub again_is_followed : (calm : Type 0) → AgainIsFollowed calm
-again_is_followed calm target text compiled home null method call number registers = generator_follows method call home calm compiled null number
+again_is_followed calm target text normal home null method call number registers = generator_follows method call home calm normal null number
 
 -- ---- the wrap-up
 
@@ -54,7 +55,7 @@ pub wrapup_follows : {target : Target} {text : Text} (method : Method target tex
     → IsCompiled target text → call.number ≡ method.number → slice_get (code_in (generator_of method)) core.at ≡ Some (Plain (instr.Commit entries)) → Ahead (generator_of method) home calm path core mirror there
     → Follows (wrapup_walk method call (with_count core.registers made) (with_count mirror made)) home calm' [] (first_spot (with_count core.registers made)) (with_count mirror made) false (wrap_up_after method.op made mirror call)
 wrapup_follows method call home calm calm' path core mirror there entries made compiled number is a =
-    start_follows (wrapup_walk method call (with_count core.registers made) (with_count mirror made)) home calm' _ compiled
+    start_follows (wrapup_walk method call (with_count core.registers made) (with_count mirror made)) home calm' _ compiled.normal
     (record { number = number; start = wrapup_start method home calm path core mirror there entries made compiled is a; generator = λ generator. absurd (let never : true ≡ false = generator in cc) }) refl
 
 pub wrap_ups_begin : (calm calm' : Type 0) → WrapUpsBegin calm calm'

@@ -30,7 +30,7 @@ use Rattle.target_laws.proofs.InText.{paths_are_in_text, set_in_source}
 use Rattle.target_laws.proofs.KeptRules.{kept_are_left}
 use Rattle.target_laws.proofs.Redirected.{reads_redirected}
 use Rattle.run_ahead.specs.Agreeing.{node_in, Changes}
-use Rattle.run_ahead.specs.Ahead.{IsCompiled}
+use Rattle.run_ahead.specs.Ahead.{IsErased}
 use Rattle.run_ahead.specs.Known.{IsGot, is_set_in, AreGot}
 use Rattle.run_ahead.proofs.Plain.{at_place, kind_right}
 
@@ -92,28 +92,28 @@ copies fields roots (instr.IfMarked b l) at registers next d a kind step set rea
 copies fields roots _ at registers next d a kind step set read = absurd (let no : None ≡ Some next = step in cc)
 
 -- what is read at a place of the target and wasn't set on the path is so in the text
-read_unset : {target : Target} {text : Text} (method : Method target text) → IsCompiled target text → (path : List ℕ) (at : ℕ) (i : Instr) (r : Reg) → TargetPath (code_in method) path at
+read_unset : {target : Target} {text : Text} (method : Method target text) → IsErased target text → (path : List ℕ) (at : ℕ) (i : Instr) (r : Reg) → TargetPath (code_in method) path at
     → slice_get (code_in method) at ≡ Some (Plain i) → IsTrue (reads r i) → is_set_along (code_in method) path r false ≡ false
     → (place : ℕ) × IsTrue (reads_at r (slice_get (source_in method) place)) × ComesUnset (source_in method) r place
-read_unset {target = target} {text = text} method compiled path at i r leads is read unset =
+read_unset {target = target} {text = text} method erased path at i r leads is read unset =
     let place = source_place (code_in method) in
-    let here : IsTrue (reads_at r (slice_get (source_in method) (place at))) = subst (λ o. IsTrue (reads_at r o)) (sym (at_place method compiled at (Plain i) is).0) (reads_redirected r place i ∙ read) in
-    (place at, here, (source_path (code_in method) path, paths_are_in_text target text compiled.normal compiled.barred.erases method path at leads, set_in_source compiled.barred.erases method path r false ∙ unset))
+    let here : IsTrue (reads_at r (slice_get (source_in method) (place at))) = subst (λ o. IsTrue (reads_at r o)) (sym (at_place method erased at (Plain i) is).0) (reads_redirected r place i ∙ read) in
+    (place at, here, (source_path (code_in method) path, paths_are_in_text target text erased.normal erased.erases method path at leads, set_in_source erased.erases method path r false ∙ unset))
 
-carried_where_read : {target : Target} {text : Text} (method : Method target text) → IsCompiled target text → (path : List ℕ) (at : ℕ) (i : Instr) (r : Reg) → method.wrapup ≡ true → TargetPath (code_in method) path at
+pub carried_where_read : {target : Target} {text : Text} (method : Method target text) → IsErased target text → (path : List ℕ) (at : ℕ) (i : Instr) (r : Reg) → method.wrapup ≡ true → TargetPath (code_in method) path at
     → slice_get (code_in method) at ≡ Some (Plain i) → IsTrue (reads r i) → is_set_along (code_in method) path r false ≡ false → IsCarried method.op r
-carried_where_read method compiled path at i r wrapup leads is read unset =
-    subst (λ b. (place : ℕ) × IsTrue (reads_at r (slice_get (code_of method.op b) place)) × ComesUnset (code_of method.op b) r place) wrapup (read_unset method compiled path at i r leads is read unset)
+carried_where_read method erased path at i r wrapup leads is read unset =
+    subst (λ b. (place : ℕ) × IsTrue (reads_at r (slice_get (code_of method.op b) place)) × ComesUnset (code_of method.op b) r place) wrapup (read_unset method erased path at i r leads is read unset)
 
 -- a register that is copied holds null or a name that the run got: a wrap-up copies no kept register
-copied_got : {target : Target} {text : Text} (method : Method target text) → IsCompiled target text → (path : List ℕ) (at : ℕ) (i : Instr) (started mirror : Registers) (got : List ℕ) (r : ℕ) → TargetPath (code_in method) path at
+copied_got : {target : Target} {text : Text} (method : Method target text) → IsErased target text → (path : List ℕ) (at : ℕ) (i : Instr) (started mirror : Registers) (got : List ℕ) (r : ℕ) → TargetPath (code_in method) path at
     → slice_get (code_in method) at ≡ Some (Plain i) → IsTrue (reads (Ref r) i) → IsTrue (follows (Ref r) i) → (method.wrapup ≡ false → (r : ℕ) → node_in started r ≡ 0) → AreGot method path started mirror got → IsGot got (node_in mirror r)
-copied_got {target = target} {text = text} method compiled path at i started mirror got r leads is read followed null a = by_set (is_set_in method path r) refl
+copied_got {target = target} {text = text} method erased path at i started mirror got r leads is read followed null a = by_set (is_set_in method path r) refl
   where
     by_method : (b : Bool) → method.wrapup ≡ b → is_set_in method path r ≡ false → IsGot got (node_in mirror r)
     by_method false generator unset = inl (a.unset r unset ∙ null generator r)
     by_method true wrapup unset =
-        let left = kept_are_left target text compiled.normal compiled.barred.erases method at i (Ref r) wrapup is (refl, carried_where_read method compiled path at i (Ref r) wrapup leads is read unset) in
+        let left = kept_are_left target text erased.normal erased.erases method at i (Ref r) wrapup is (refl, carried_where_read method erased path at i (Ref r) wrapup leads is read unset) in
         absurd (let never : true ≡ false = sym followed ∙ left.1 in cc)
 
     by_set : (b : Bool) → is_set_in method path r ≡ b → IsGot got (node_in mirror r)
@@ -121,17 +121,17 @@ copied_got {target = target} {text = text} method compiled path at i started mir
     by_set false was = by_method method.wrapup refl was
 
 -- so it gets no name
-pub local_got : {target : Target} {text : Text} (method : Method target text) → IsCompiled target text → (home : ℕ → ℕ) (Set : Type 0 → Type 0) (path : List ℕ) (at : ℕ) (i : Instr) (given : ℕ) (here mirror here' mirror' started : Registers) (got : List ℕ) (next : Spot)
+pub local_got : {target : Target} {text : Text} (method : Method target text) → IsErased target text → (home : ℕ → ℕ) (Set : Type 0 → Type 0) (path : List ℕ) (at : ℕ) (i : Instr) (given : ℕ) (here mirror here' mirror' started : Registers) (got : List ℕ) (next : Spot)
     → TargetPath (code_in method) path at → slice_get (code_in method) at ≡ Some (Plain i) → local_step i at here ≡ Some next → Changes home Set (destination i) given here mirror here' mirror'
     → (given ≡ 0) ⊎ ((r : ℕ) × IsTrue (reads (Ref r) i) × (node_in mirror r ≡ given)) → (method.wrapup ≡ false → (r : ℕ) → node_in started r ≡ 0)
     → AreGot method path started mirror got → AreGot method (at ∷ path) started mirror' got
-local_got {text = text} method compiled home Set path at i given here mirror here' mirror' started got next leads is step changes known null a =
+local_got {text = text} method erased home Set path at i given here mirror here' mirror' started got next leads is step changes known null a =
     plain_got method home Set path at i given here mirror here' mirror' started got got is changes given_is (λ n was. was) a
   where
     given_is : (r : ℕ) → IsTrue (sets (Ref r) i) → IsGot got given
     given_is r set = elim known [
       | inl zero_is ↦ inl zero_is
-      | inr read ↦ subst (IsGot got) read.2 (copied_got method compiled path at i started mirror got read.0 leads is read.1 (copies text.fields text.roots i at here next r read.0 (kind_right method compiled at i is) step set read.1) null a)
+      | inr read ↦ subst (IsGot got) read.2 (copied_got method erased path at i started mirror got read.0 leads is read.1 (copies text.fields text.roots i at here next r read.0 (kind_right method erased at i is) step set read.1) null a)
     ]
 
 -- ---- what sets nothing

@@ -12,10 +12,13 @@ pub mod GuardRows
 pub mod Getting
 pub mod LocalRuns
 pub mod Accessing
+pub mod Bare
 pub mod TypedMemory
+pub mod TypedCallers
 pub mod TypedStart
 pub mod TypedLoads
 pub mod TypedRuns
+pub mod Asked
 pub mod Accesses
 pub mod Tests
 pub mod Begins
@@ -24,3 +27,5 @@ pub mod Ends
 pub mod Restarting
 pub mod Names
 mod Worked
+mod TypedRows
+mod FollowedRows

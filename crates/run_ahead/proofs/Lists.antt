@@ -1,11 +1,12 @@
 -- The commit, and the exchanges of its list.
-use Rattle.std.proofs.Common.{◌≡◌, ℕ, ◌+◌, false, List, length, Some, None, refl, sym, ap, ◌∙◌}
+use Rattle.std.proofs.Common.{◌≡◌, ℕ, ◌+◌, Bool, false, List, length, Some, None, refl, sym, ap, ◌∙◌}
 use Rattle.std.specs.Prelude.{slice_get, nat_lt, if◌then◌else◌}
 use Rattle.norm_lang.specs.declared.text.CasEntry.{CasEntry}
 use Rattle.norm_lang.specs.declared.text.Instr.TheVariants as instr
 use Rattle.norm_lang.specs.declared.text.Op.{Op}
 use Rattle.norm_lang.specs.declared.text.Text.{Text}
 use Rattle.norm_lang.specs.declared.registers.Registers.{Registers}
+use Rattle.norm_lang.specs.Kept.{code_of}
 use Rattle.norm_lang.specs.Local.{Spot}
 use Rattle.norm_lang.specs.Registers.{first_registers}
 use Rattle.source_machine.specs.declared.event.SourceEvent.TheVariants as events
@@ -13,27 +14,40 @@ use Rattle.source_machine.specs.Memory.{exchange}
 use Rattle.source_machine.specs.MethodRuns.{run_begun}
 use Rattle.source_machine.specs.declared.state.Stand.TheVariants.{InList}
 use Rattle.source_machine.specs.declared.state.Memory.{Memory}
+use Rattle.source_machine.specs.declared.state.SourceCaller.{SourceCaller}
 use Rattle.source_machine.specs.Step.{goes_on, generator_stand, list_turn, entry_turn, Turn, turn_of, caller_turn}
 use Rattle.target_code.specs.declared.target.TargetInstr.TheVariants.{Plain}
 use Rattle.target_code.specs.Erasing.{source_place}
-use Rattle.target_laws.specs.Methods.{code_in, generator_of}
+use Rattle.target_code.specs.declared.target.Target.{Target}
+use Rattle.target_laws.specs.Methods.{Method, code_in, generator_of}
+use Rattle.run_ahead.specs.Ahead.{IsErased}
+use Rattle.run_ahead.specs.Following.{StandsAhead}
 use Rattle.run_ahead.specs.MethodLaws.{Turns, CommitsAreFollowed, ListsAreMade}
 use Rattle.run_ahead.specs.Standing.{Call, caller_of, stands_at, running_at, stands_in_list, wrap_up_after}
 use Rattle.run_ahead.proofs.Enabled.{list_is_enabled}
 use Rattle.run_ahead.proofs.Plain.{at_place}
-use Rattle.run_ahead.proofs.Quiet.{stands_there}
+use Rattle.run_ahead.proofs.Quiet.{source_ahead, stands_there}
 use Rattle.run_ahead.proofs.Standing.{performs, wrap_up_begins}
 use Rattle.run_ahead.proofs.Watched.{list_watched}
 
 -- ---- the commit
 
+-- at a commit the source's caller stands before the list's first exchange
+pub commit_stands : {target : Target} {text : Text} (method : Method target text) (started : Registers) (accessed : Bool) (call : Call) (at : ℕ) (mirror : Registers) (there : Spot) (caller : SourceCaller) (entries : List CasEntry)
+    → IsErased target text → StandsAhead method started accessed call at mirror there caller → method.wrapup ≡ false → slice_get (code_in method) at ≡ Some (Plain (instr.Commit entries))
+    → caller ≡ stands_in_list (source_place (code_in method) at) entries 0 mirror call
+commit_stands method started accessed call at mirror there caller entries erased ahead generator is =
+    let place = source_place (code_in method) in
+    let here = at_place method erased at (Plain (instr.Commit entries)) is in
+    let comes = stands_there method at mirror there (instr.Commit entries) erased is refl ahead.settles in
+    let in_generator : slice_get method.op.generator (place at) ≡ Some (instr.Commit entries) = sym (ap (λ b. slice_get (code_of method.op b) (place at)) generator) ∙ here.0 in
+    ahead.stands ∙ (ap (λ b. stands_at method.op b started accessed call there) generator
+    ∙ (ap (λ (s : Spot). stands_at method.op false started accessed call s) (sym comes)
+    ∙ ap (λ o. goes_on (running_at call mirror (generator_stand o (place at))) (caller_of call)) in_generator))
+
 pub commits_are_followed : (calm : Type 0) → CommitsAreFollowed calm
-commits_are_followed calm target text compiled home method call path core mirror accessed caller f entries is =
-    let place = source_place (code_in (generator_of method)) in
-    let here = at_place (generator_of method) compiled core.at (Plain (instr.Commit entries)) is in
-    let there = stands_there (generator_of method) home calm path core mirror f.there (instr.Commit entries) compiled is refl f.ahead in
-    f.stands ∙ (ap (λ (s : Spot). stands_at method.op false (first_registers call.args) accessed call s) (sym there)
-    ∙ ap (λ o. goes_on (running_at call mirror (generator_stand o (place core.at))) (caller_of call)) here.0)
+commits_are_followed calm target text erased home method call path core mirror accessed caller f entries is =
+    commit_stands (generator_of method) (first_registers call.args) accessed call core.at mirror f.there caller entries erased (source_ahead f) refl is
 
 -- ---- the list
 

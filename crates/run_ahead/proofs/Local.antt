@@ -8,16 +8,16 @@ use Rattle.norm_lang.specs.declared.text.Text.{Text}
 use Rattle.norm_lang.specs.declared.registers.Registers.{Registers}
 use Rattle.norm_lang.specs.Local.{Spot, local_step, local_at}
 use Rattle.norm_lang.specs.RegisterUse.{destination}
-use Rattle.local_laws.specs.Settling.{next_spot}
-use Rattle.local_laws.proofs.Bounded.{settles_next}
-use Rattle.local_laws.proofs.Settled.{step_goes}
+use Rattle.target_laws.specs.local_laws.Settling.{next_spot}
+use Rattle.target_laws.proofs.local_laws.Bounded.{settles_next}
+use Rattle.target_laws.proofs.local_laws.Settled.{step_goes}
 use Rattle.target_code.specs.declared.target.TargetInstr.TheVariants.{Plain}
 use Rattle.target_code.specs.declared.target.Target.{Target}
 use Rattle.target_code.specs.Erasing.{source_place}
 use Rattle.target_laws.specs.Methods.{Method, code_in, source_in}
 use Rattle.target_laws.specs.Trusted.{Trusted, trust_in_set, trust_along}
 use Rattle.run_ahead.specs.Agreeing.{Mirrors, node_in, Changes}
-use Rattle.run_ahead.specs.Ahead.{AsTrusted, IsHeld, IsCompiled, Ahead}
+use Rattle.run_ahead.specs.Ahead.{AsTrusted, IsHeld, IsCompiled, erasing, Ahead}
 use Rattle.run_ahead.proofs.Mirroring.{mirrored}
 use Rattle.run_ahead.proofs.Plain.{at_place, kind_right, trusted_at, agrees_at, plain_keeps}
 
@@ -34,7 +34,7 @@ pub local_mirrors : {target : Target} {text : Text} (method : Method target text
     → IsCompiled target text → home 0 ≡ 0 → slice_get (code_in method) core.at ≡ Some (Plain i) → local_step i core.at core.registers ≡ Some next
     → Ahead method home calm path core mirror there → Mirrors home (source_place (code_in method)) i core.at core.registers mirror next
 local_mirrors {text = text} method home calm path core next mirror there i compiled null is step a =
-    mirrored home (source_place (code_in method)) text.fields text.roots i core.at core.registers mirror next null (at_place method compiled core.at (Plain i) is).1 a.sized (kind_right method compiled core.at i is)
+    mirrored home (source_place (code_in method)) text.fields text.roots i core.at core.registers mirror next null (at_place method (erasing compiled) core.at (Plain i) is).1 a.sized (kind_right method (erasing compiled) core.at i is)
     (λ r read. agrees_at method home calm path core mirror there i r compiled is read a)
     (λ x y one other. a.apart (node_in mirror x) (node_in mirror y)
     (inr (x, trusted_at method compiled path core.at i (Ref x) a.path_is is one, refl)) (inr (y, trusted_at method compiled path core.at i (Ref y) a.path_is is other, refl))) step
@@ -60,10 +60,10 @@ pub mirrored_keeps : {target : Target} {text : Text} (method : Method target tex
     → (made : Mirrors home (source_place (code_in method)) i core.at core.registers mirror next) → Ahead method home calm (core.at ∷ path) next made.mirror' there
 mirrored_keeps method home calm path core next mirror there i compiled is step a made =
     let place = source_place (code_in method) in
-    let here = at_place method compiled core.at (Plain i) is in
+    let here = at_place method (erasing compiled) core.at (Plain i) is in
     let runs : next_spot (source_in method) (record { at = place core.at; registers = mirror }) ≡ Some (record { at = place next.at; registers = made.mirror' }) =
     subst (λ o. local_at o (place core.at) mirror ≡ Some (record { at = place next.at; registers = made.mirror' })) (sym here.0) made.steps in
-    plain_keeps method home calm path core next mirror made.mirror' there there i made.given compiled is (step_goes i core.at core.registers next step).0
+    plain_keeps method home calm path core next mirror made.mirror' there there i made.given (erasing compiled) is (step_goes i core.at core.registers next step).0
     (local_changes calm i core.at core.registers mirror next step made)
     (λ _. local_held method home calm path core next mirror there i compiled is a made)
     (settles_next (next_spot (source_in method)) (record { at = place core.at; registers = mirror }) (record { at = place next.at; registers = made.mirror' }) there runs a.settles) a

@@ -16,7 +16,7 @@ use Rattle.target_laws.specs.Methods.{code_in}
 use Rattle.target_laws.proofs.InText.{paths_lead_inside}
 use Rattle.target_laws.proofs.TargetSettled.{target_code_settles, target_settles_inside}
 use Rattle.run_ahead.specs.Agreeing.{node_in}
-use Rattle.run_ahead.specs.Ahead.{IsCompiled, Ahead}
+use Rattle.run_ahead.specs.Ahead.{IsCompiled, erasing, Ahead}
 use Rattle.run_ahead.specs.Following.{Walk, HasBegun, Follows}
 use Rattle.run_ahead.specs.Guards.{no_guards, GuardsStand}
 use Rattle.run_ahead.specs.Standing.{stands_at}
@@ -64,7 +64,7 @@ plain_follows walk home calm path core next mirror accessed caller i compiled nu
     record {
       mirror' = made.mirror';
       follows = same_stand walk home calm calm path (core.at ∷ path) core next mirror made.mirror' accessed caller f kept;
-      got = λ names was. local_got walk.method compiled home (λ A. A) path core.at i made.given core.registers mirror next.registers made.mirror' walk.started names next f.ahead.path_is is step made.changes made.known
+      got = λ names was. local_got walk.method (erasing compiled) home (λ A. A) path core.at i made.given core.registers mirror next.registers made.mirror' walk.started names next f.ahead.path_is is step made.changes made.known
           (walk_is_blank walk home f.begun) was;
       guards = λ row stands. subst (λ b. GuardsStand walk.method (core.at ∷ path) made.mirror' (if b then no_guards else row)) (no_new i core.at core.registers next step)
           (plain_guards walk.method home (λ A. A) path core.at i made.given core.registers mirror next.registers made.mirror' row is made.changes stands);
@@ -119,8 +119,8 @@ local_runs_are_followed calm target text compiled home null walk path core mirro
 -- ---- checks, guards and warnings
 
 pub passed_checks_confirm : (calm : Type 0) → PassedChecksConfirm calm
-passed_checks_confirm calm target text compiled home walk path core mirror accessed caller f is now apart = record {
-  follows = same_stand walk home calm calm path (core.at ∷ path) core _ mirror mirror accessed caller f (check_keeps walk.method home calm path core mirror f.there compiled is now apart f.ahead);
+passed_checks_confirm calm target text erased home walk path core mirror accessed caller f is now apart = record {
+  follows = same_stand walk home calm calm path (core.at ∷ path) core _ mirror mirror accessed caller f (check_keeps walk.method home calm path core mirror f.there erased is now apart f.ahead);
   agree = λ r hopes. told_hoped calm _ _ now hopes (f.ahead.agree r);
   trusted = λ r hopes. check_trusts walk.method path core.at r is hopes;
   got = λ names was. check_got walk.method path core.at walk.started mirror names is was;
@@ -128,8 +128,8 @@ passed_checks_confirm calm target text compiled home walk path core mirror acces
 }
 
 pub guards_publish : (calm : Type 0) → GuardsPublish calm
-guards_publish calm target text compiled home walk path core mirror accessed caller f guarded is = record {
-  follows = same_stand walk home calm calm path (core.at ∷ path) core _ mirror mirror accessed caller f (guard_keeps walk.method home calm path core mirror f.there guarded compiled is f.ahead);
+guards_publish calm target text erased home walk path core mirror accessed caller f guarded is = record {
+  follows = same_stand walk home calm calm path (core.at ∷ path) core _ mirror mirror accessed caller f (guard_keeps walk.method home calm path core mirror f.there guarded erased is f.ahead);
   got = λ names was. guard_got walk.method path core.at guarded walk.started mirror names is was;
   guards = λ row stands. guard_guards walk.method path core.at guarded mirror row is stands;
 }

@@ -24,7 +24,7 @@ use Rattle.target_laws.proofs.TextRules.{keeps_at}
 use Rattle.target_laws.proofs.Trusts.{trust_is_known}
 use Rattle.target_laws.proofs.Used.{kept_are_not_guarded}
 use Rattle.run_ahead.specs.Agreeing.{node_in}
-use Rattle.run_ahead.specs.Ahead.{IsCompiled}
+use Rattle.run_ahead.specs.Ahead.{IsErased, erasing}
 use Rattle.run_ahead.specs.Guards.{no_guards}
 use Rattle.run_ahead.specs.Known.{IsGot, is_set_in, IsNameKept}
 use Rattle.run_ahead.specs.NameLaws.{StartsGetNothing, HopedAreKnown, KeptGuardsStay}
@@ -60,9 +60,9 @@ hoped_are_known target text method path started mirror got null a n (inr hopes) 
 
 -- ---- a wrap-up's kept guards
 
-no_new : {target : Target} {text : Text} (method : Method target text) → IsCompiled target text → IsTrue method.wrapup → (at : ℕ) (i : Instr) → slice_get (code_in method) at ≡ Some (Plain i) → is_new i ≡ false
-no_new method compiled wrapup at (instr.New d kind) is = absurd (keeps_at compiled.normal compiled.barred.erases method N3 at (instr.New d kind) is (inl wrapup))
-no_new method compiled wrapup at _ is = refl
+no_new : {target : Target} {text : Text} (method : Method target text) → IsErased target text → IsTrue method.wrapup → (at : ℕ) (i : Instr) → slice_get (code_in method) at ≡ Some (Plain i) → is_new i ≡ false
+no_new method erased wrapup at (instr.New d kind) is = absurd (keeps_at erased.normal erased.erases method N3 at (instr.New d kind) is (inl wrapup))
+no_new method erased wrapup at _ is = refl
 
 valid_still : (name : ℕ) (valid : Bool) → (valid ≡ true) ⊎ (name ≡ 0) → (not (name == 0) ≡ true) ⊎ (name ≡ 0)
 valid_still zero valid was = inr refl
@@ -70,7 +70,7 @@ valid_still (suc n) valid was = let isnt : (suc n == 0) ≡ false = grind (arith
 
 pub kept_guards_stay : KeptGuardsStay
 kept_guards_stay target text compiled method wrapup r kept at (Plain i) registers row is valid =
-    let old : is_new i ≡ false = no_new method compiled wrapup at i is in
+    let old : is_new i ≡ false = no_new method (erasing compiled) wrapup at i is in
     subst (λ b. ((if b then no_guards else row).name r ≡ row.name r) × (((if b then no_guards else row).valid r ≡ true) ⊎ (row.name r ≡ 0))) (sym old) (refl, valid)
 kept_guards_stay target text compiled method wrapup r kept at Check registers row is valid = (refl, valid_still (row.name r) (row.valid r) valid)
 kept_guards_stay target text compiled method wrapup r kept at (Guard (Num k)) registers row is valid = (refl, valid)

@@ -10,7 +10,7 @@ use Rattle.norm_lang.specs.Flow.{passed, goes_to}
 use Rattle.norm_lang.specs.InstructionRules.{has_wrong_kind}
 use Rattle.norm_lang.specs.Local.{Spot}
 use Rattle.norm_lang.specs.RegisterUse.{destination, sets, reads}
-use Rattle.local_laws.specs.Settling.{Settles}
+use Rattle.target_laws.specs.local_laws.Settling.{Settles}
 use Rattle.target_code.specs.declared.target.TargetInstr.{TargetInstr}
 use Rattle.target_code.specs.declared.target.TargetInstr.TheVariants.{Plain}
 use Rattle.target_code.specs.declared.target.Target.{Target}
@@ -24,24 +24,24 @@ use Rattle.target_laws.proofs.Forms.{instructions_are_in_form}
 use Rattle.target_laws.proofs.InText.{targets_stay_inside}
 use Rattle.target_laws.proofs.Trusts.{trusted_where_read}
 use Rattle.run_ahead.specs.Agreeing.{Agree, Changes}
-use Rattle.run_ahead.specs.Ahead.{AsTrusted, IsHeld, IsCompiled, Ahead}
+use Rattle.run_ahead.specs.Ahead.{AsTrusted, IsHeld, IsErased, IsCompiled, Ahead}
 use Rattle.run_ahead.proofs.Telling.{told_map, told_trusted}
 
 -- ---- a place of a method
 
 -- a path goes on where the instruction leads
-pub path_on : {target : Target} {text : Text} (method : Method target text) → IsCompiled target text → (path : List ℕ) (at to : ℕ) → TargetPath (code_in method) path at
+pub path_on : {target : Target} {text : Text} (method : Method target text) → IsErased target text → (path : List ℕ) (at to : ℕ) → TargetPath (code_in method) path at
     → IsTrue (target_goes_from (slice_get (code_in method) at) at to) → TargetPath (code_in method) (at ∷ path) to
-path_on {target = target} {text = text} method compiled path at to leads goes =
-    ((goes, targets_stay_inside target text compiled.within compiled.normal compiled.barred.erases method path at to leads goes), leads)
+path_on {target = target} {text = text} method erased path at to leads goes =
+    ((goes, targets_stay_inside target text erased.within erased.normal erased.erases method path at to leads goes), leads)
 
 -- what stands at a place of the target, in the source
-pub at_place : {target : Target} {text : Text} (method : Method target text) → IsCompiled target text → (at : ℕ) (t : TargetInstr) → slice_get (code_in method) at ≡ Some t → ErasesAt (code_in method) (source_in method) at (Some t)
-at_place method compiled at t is = erased_here compiled.barred.erases method at t is
+pub at_place : {target : Target} {text : Text} (method : Method target text) → IsErased target text → (at : ℕ) (t : TargetInstr) → slice_get (code_in method) at ≡ Some t → ErasesAt (code_in method) (source_in method) at (Some t)
+at_place method erased at t is = erased_here erased.erases method at t is
 
 -- its registers are of the right kinds
-pub kind_right : {target : Target} {text : Text} (method : Method target text) → IsCompiled target text → (at : ℕ) (i : Instr) → slice_get (code_in method) at ≡ Some (Plain i) → has_wrong_kind text.fields text.roots i ≡ false
-kind_right {target = target} {text = text} method compiled at i is = (instructions_are_in_form target text compiled.normal compiled.barred.erases method at i is).kinds
+pub kind_right : {target : Target} {text : Text} (method : Method target text) → IsErased target text → (at : ℕ) (i : Instr) → slice_get (code_in method) at ≡ Some (Plain i) → has_wrong_kind text.fields text.roots i ≡ false
+kind_right {target = target} {text = text} method erased at i is = (instructions_are_in_form target text erased.normal erased.erases method at i is).kinds
 
 -- what it reads can be trusted
 pub trusted_at : {target : Target} {text : Text} (method : Method target text) → IsCompiled target text → (path : List ℕ) (at : ℕ) (i : Instr) (r : Reg) → TargetPath (code_in method) path at
@@ -84,13 +84,13 @@ held_after home calm i given here mirror here' mirror' trust changes known n (in
 -- ---- the relation
 
 pub plain_keeps : {target : Target} {text : Text} (method : Method target text) (home : ℕ → ℕ) (calm : Type 0) (path : List ℕ) (core next : Spot) (mirror mirror' : Registers) (there there' : Spot)
-    (i : Instr) (given : ℕ) → IsCompiled target text → slice_get (code_in method) core.at ≡ Some (Plain i) → IsTrue (goes_to i core.at next.at)
+    (i : Instr) (given : ℕ) → IsErased target text → slice_get (code_in method) core.at ≡ Some (Plain i) → IsTrue (goes_to i core.at next.at)
     → Changes home (AsTrusted calm (trust_in_set i)) (destination i) given core.registers mirror next.registers mirror'
     → (trust_in_set i ≡ Trusted → IsHeld (trust_along method path) mirror given)
     → Settles (source_in method) (record { at = source_place (code_in method) next.at; registers = mirror' }) there'
     → Ahead method home calm path core mirror there → Ahead method home calm (core.at ∷ path) next mirror' there'
-plain_keeps method home calm path core next mirror mirror' there there' i given compiled is goes changes known settles a = record {
-  path_is = path_on method compiled path core.at next.at a.path_is (subst (λ o. IsTrue (target_goes_from o core.at next.at)) (sym is) goes);
+plain_keeps method home calm path core next mirror mirror' there there' i given erased is goes changes known settles a = record {
+  path_is = path_on method erased path core.at next.at a.path_is (subst (λ o. IsTrue (target_goes_from o core.at next.at)) (sym is) goes);
   sized = changes.sized;
   agree = λ r. subst (λ o. AsTrusted calm (passed (trust_after r) o (trust_along method path r)) (Agree home next.registers mirror' r)) (sym is)
       (told_after home calm i given core.registers mirror next.registers mirror' r (trust_along method path r) changes (a.agree r));

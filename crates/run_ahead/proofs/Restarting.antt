@@ -10,8 +10,8 @@ use Rattle.norm_lang.specs.declared.registers.Registers.{Registers}
 use Rattle.norm_lang.specs.Kept.{code_of}
 use Rattle.norm_lang.specs.Local.{Spot}
 use Rattle.norm_lang.specs.Registers.{first_registers}
-use Rattle.local_laws.specs.Settling.{is_access, is_end, may_stop}
-use Rattle.local_laws.proofs.Inside.{settles_inside}
+use Rattle.target_laws.specs.local_laws.Settling.{is_access, is_end, may_stop}
+use Rattle.target_laws.proofs.local_laws.Inside.{settles_inside}
 use Rattle.source_machine.specs.declared.event.SourceEvent.TheVariants as events
 use Rattle.source_machine.specs.MethodRuns.{run_begun}
 use Rattle.source_machine.specs.Run.{is_end_at, is_enabled_for}
@@ -22,7 +22,7 @@ use Rattle.target_code.specs.declared.target.Target.{Target}
 use Rattle.target_code.specs.Erasing.{source_place}
 use Rattle.target_laws.specs.Methods.{Method, code_in}
 use Rattle.target_laws.proofs.InText.{paths_lead_inside}
-use Rattle.run_ahead.specs.Ahead.{IsCompiled, Ahead}
+use Rattle.run_ahead.specs.Ahead.{IsErased, Ahead}
 use Rattle.run_ahead.specs.MethodLaws.{RestartsAreFollowed}
 use Rattle.run_ahead.specs.Standing.{Call, running_of, caller_of, stands_at, first_spot, run_from, begins_at, running_at, turn_if_enabled}
 use Rattle.run_ahead.proofs.Begins.{start_follows}
@@ -87,23 +87,23 @@ restart_at true text c op started accessed call there memory is begun stops unmo
     by (Some i) some = elim (or_cases (is_access i) (is_end i) some) [ inl access ↦ inl (sym (access_at_is i) ∙ access) | inr ends ↦ inr (sym (end_at_is i) ∙ ends) ]
 
 -- where the source's local code has come to
-stops_inside : {target : Target} {text : Text} (method : Method target text) (home : ℕ → ℕ) (calm : Type 0) (path : List ℕ) (core : Spot) (mirror : Registers) (there : Spot) → IsCompiled target text
+stops_inside : {target : Target} {text : Text} (method : Method target text) (home : ℕ → ℕ) (calm : Type 0) (path : List ℕ) (core : Spot) (mirror : Registers) (there : Spot) → IsErased target text
     → Ahead method home calm path core mirror there → IsSomeAnd (slice_get (code_of method.op method.wrapup) there.at) (λ i. IsTrue (may_stop method.wrapup i))
-stops_inside {target = target} {text = text} method home calm path core mirror there compiled a =
-    settles_inside text method.number method.op method.wrapup compiled.normal method.in_text (record { at = source_place (code_in method) core.at; registers = mirror }) there
-    (paths_lead_inside target text compiled.within compiled.normal compiled.barred.erases method path core.at a.path_is).0 a.settles
+stops_inside {target = target} {text = text} method home calm path core mirror there erased a =
+    settles_inside text method.number method.op method.wrapup erased.normal method.in_text (record { at = source_place (code_in method) core.at; registers = mirror }) there
+    (paths_lead_inside target text erased.within erased.normal erased.erases method path core.at a.path_is).0 a.settles
 
 pub restarts_are_followed : (calm calm' : Type 0) → RestartsAreFollowed calm calm'
-restarts_are_followed calm calm' target text compiled home walk path core mirror accessed caller f c memory =
+restarts_are_followed calm calm' target text erased home walk path core mirror accessed caller f c memory =
     let method = walk.method in
     let op : slice_get text.ops walk.call.number ≡ Some method.op = ap (slice_get text.ops) f.begun.number ∙ method.in_text in
     let turned : turn_if_enabled text (events.Restart c) memory caller ≡ record { memory = memory; caller = begins_at method.op method.wrapup walk.started walk.call } =
     ap (λ z. turn_if_enabled text (events.Restart c) memory z) f.stands
     ∙ restart_at method.wrapup text c method.op walk.started accessed walk.call f.there memory op (λ generator. (f.begun.generator generator).1)
-    (stops_inside method home calm path core mirror f.there compiled f.ahead) f.unmoved in
+    (stops_inside method home calm path core mirror f.there erased f.ahead) f.unmoved in
     record {
       memory = ap (λ (t : Turn). t.memory) turned;
-      follows = start_follows walk home calm' _ compiled f.begun (ap (λ (t : Turn). t.caller) turned);
+      follows = start_follows walk home calm' _ erased.normal f.begun (ap (λ (t : Turn). t.caller) turned);
       run = λ enabled was. restart_run text c memory caller was
           ∙ ap (λ (t : Turn). run_begun t.memory) (sym (taken (is_enabled_for text (events.Restart c) (Some caller) memory) (caller_turn text (events.Restart c) memory caller) _ enabled) ∙ turned);
     }

@@ -9,7 +9,7 @@ use Rattle.norm_lang.specs.declared.registers.Registers.{Registers}
 use Rattle.norm_lang.specs.Kept.{code_of}
 use Rattle.norm_lang.specs.Local.{Spot}
 use Rattle.norm_lang.specs.Registers.{first_registers}
-use Rattle.local_laws.specs.Settling.{is_access, is_end}
+use Rattle.target_laws.specs.local_laws.Settling.{is_access, is_end}
 use Rattle.source_machine.specs.declared.event.SourceEvent.TheVariants as events
 use Rattle.source_machine.specs.declared.event.SourceReply.{SourceReply}
 use Rattle.source_machine.specs.Memory.{access_at}

@@ -9,9 +9,10 @@ use Rattle.norm_lang.specs.declared.text.Instr.TheVariants as instr
 use Rattle.norm_lang.specs.declared.text.Text.{Text}
 use Rattle.norm_lang.specs.declared.registers.Registers.{Registers}
 use Rattle.norm_lang.specs.Local.{Spot}
+use Rattle.norm_lang.specs.NormalForm.{IsNormal}
 use Rattle.norm_lang.specs.Registers.{no_reference, first_registers, with_count, reference_in}
 use Rattle.norm_lang.specs.RegisterUse.{same_register}
-use Rattle.local_laws.proofs.Settled.{local_code_settles}
+use Rattle.target_laws.proofs.local_laws.Settled.{local_code_settles}
 use Rattle.target_code.specs.declared.target.TargetInstr.TheVariants.{Plain}
 use Rattle.target_code.specs.declared.target.Target.{Target}
 use Rattle.target_laws.specs.Methods.{Method, code_in, generator_of, wrapup_of}
@@ -29,14 +30,14 @@ told_at_start : (calm : Type 0) (carried : Bool) (A : Type 0) → (IsTrue carrie
 told_at_start calm true A known = known refl
 told_at_start calm false A known = tt
 
-pub start_keeps : {target : Target} {text : Text} (method : Method target text) (home : ℕ → ℕ) (calm : Type 0) (first started : Registers) → IsCompiled target text → IsStart method home first started
+pub start_keeps : {target : Target} {text : Text} (method : Method target text) (home : ℕ → ℕ) (calm : Type 0) (first started : Registers) → IsNormal text → IsStart method home first started
     → Ahead method home calm [] (first_spot first) started (run_from method.op method.wrapup (first_spot started))
-start_keeps {text = text} method home calm first started compiled starts = record {
+start_keeps {text = text} method home calm first started normal starts = record {
   path_is = refl;
   sized = starts.sized;
   apart = starts.apart;
   agree = λ r. told_at_start calm (carried_in method r) (Agree home first started r) (starts.agree r);
-  settles = local_code_settles text method.number method.op method.wrapup compiled.normal method.in_text (first_spot started);
+  settles = local_code_settles text method.number method.op method.wrapup normal method.in_text (first_spot started);
 }
 
 -- ---- a generator

@@ -1,28 +1,27 @@
--- Along every source run memory stays typed, and each caller in its executor stands at a commit of its generator.
+-- Along every source run memory stays typed, and so do the registers of each caller where it stands.
 use Rattle.std.proofs.Common.{◌≡◌, ℕ, zero, suc, ◌+◌, Bool, true, false, List, [], ◌∷◌, length, Option, Some, None, refl, sym, ap, subst, ◌∙◌}
-use Rattle.std.specs.Prelude.{slice_get, nat_lt, option_map, if◌then◌else◌}
+use Rattle.std.specs.Prelude.{slice_get, nat_lt, option_map, if◌then◌else◌, IsTrue}
 use Rattle.std.specs.List.{list_any}
-use Rattle.std.proofs.lemmas.Bool.{or_parts}
+use Rattle.std.proofs.lemmas.Bool.{or_parts, and_parts}
 use Rattle.std.proofs.lemmas.Option.{same_Some}
 use Rattle.norm_lang.specs.declared.text.CasEntry.{CasEntry}
 use Rattle.norm_lang.specs.declared.text.Instr.{Instr}
 use Rattle.norm_lang.specs.declared.text.Instr.TheVariants as instr
 use Rattle.norm_lang.specs.declared.text.Op.{Op}
 use Rattle.norm_lang.specs.declared.text.Text.{Text}
-use Rattle.norm_lang.specs.declared.text.FieldDecl.{FieldDecl}
 use Rattle.norm_lang.specs.declared.registers.Registers.{Registers}
-use Rattle.norm_lang.specs.Registers.{first_registers}
-use Rattle.norm_lang.specs.InstructionRules.{has_wrong_kind, has_wrong_operand}
-use Rattle.norm_lang.specs.Kept.{code_of}
-use Rattle.norm_lang.specs.NormalForm.{N1, IsNormal}
-use Rattle.local_laws.proofs.Inside.{refuted}
-use Rattle.local_laws.proofs.Settled.{keeps_rule}
+use Rattle.norm_lang.specs.Registers.{first_registers, with_count}
+use Rattle.norm_lang.specs.InstructionRules.{has_wrong_operand}
+use Rattle.norm_lang.specs.Limits.{IsWithinLimits}
+use Rattle.norm_lang.specs.Local.{Spot, local_run}
+use Rattle.norm_lang.specs.NormalForm.{IsNormal}
 use Rattle.source_machine.specs.declared.event.SourceEvent.{SourceEvent}
 use Rattle.source_machine.specs.declared.event.SourceEvent.TheVariants.{Begin, Access, Restart, GiveUp}
 use Rattle.source_machine.specs.Frames.{Holds, Kept}
-use Rattle.source_machine.specs.Memory.{exchange, Reached, auxiliary, access_by, access_at}
-use Rattle.source_machine.specs.MethodRuns.{MethodRun, watched_start}
-use Rattle.source_machine.specs.Run.{mover, is_enabled_by}
+use Rattle.source_machine.specs.Memory.{exchange, access_at, Reached}
+use Rattle.source_machine.specs.MethodRuns.{MethodRun, Watched, watched_start}
+use Rattle.source_machine.specs.Run.{mover, is_pending, is_new_pending, is_name, is_new_at, is_enabled_running, is_enabled_by, IsSourceRun}
+use Rattle.source_machine.specs.declared.state.NamedNode.{NamedNode}
 use Rattle.source_machine.specs.declared.state.Stand.{Stand}
 use Rattle.source_machine.specs.declared.state.Stand.TheVariants.{InGenerator, InList, InWrapUp}
 use Rattle.source_machine.specs.declared.state.Running.{Running}
@@ -30,124 +29,33 @@ use Rattle.source_machine.specs.declared.state.SourceCaller.{SourceCaller}
 use Rattle.source_machine.specs.declared.state.SourceMachine.{SourceMachine}
 use Rattle.source_machine.specs.declared.state.Memory.{Memory}
 use Rattle.source_machine.specs.State.{first_memory}
-use Rattle.source_machine.specs.Step.{generator_stand, is_access_at, goes_on, wrap_up_end, wrap_up_stop, wrap_up_begun, generator_begun, list_next, list_turn, entry_turn, wrap_up_turn, access_turn, restarted, begun, Performed, performed_by, performed, running_turn, turn_of, caller_turn}
+use Rattle.source_machine.specs.Step.{generator_stand, generator_from, is_access_at, goes_on, wrap_up_end, wrap_up_stop, wrap_up_from, wrap_up_begun, generator_begun, list_next, list_turn, entry_turn, generator_turn, wrap_up_turn, access_turn, restarted, begun, Turn, Performed, performed_by, performed, running_turn, turn_of, caller_turn}
 use Rattle.source_machine.proofs.Along.{along_run}
 use Rattle.source_machine.proofs.Frames.{every_step, starts}
-use Rattle.run_ahead.specs.NameLaws.{MemoryIsTyped}
-use Rattle.run_ahead.specs.Typed.{IsTyped}
-use Rattle.run_ahead.proofs.TypedMemory.{exchange_typed, put_typed, new_typed}
+use Rattle.run_ahead.specs.NameLaws.{MemoryIsTyped, CallersAreTyped}
+use Rattle.run_ahead.specs.Typed.{IsTyped, KindsStay}
+use Rattle.run_ahead.specs.TypedCallers.{StandsTyped, IsTypedStand, IsTypedRunning, IsTypedCaller}
+use Rattle.run_ahead.proofs.Bare.{kind_at}
+use Rattle.run_ahead.proofs.TypedMemory.{exchange_typed, exchange_kinds_stay}
+use Rattle.run_ahead.proofs.TypedCallers.{Comes, stands_stay, list_asked, local_stands, access_at_comes, generator_starts, wrap_up_starts}
 use Rattle.run_ahead.proofs.TypedStart.{first_typed}
 
--- ---- where an operation stands
+-- ---- names that come change nothing
 
--- in the executor it stands at a commit with these exchanges
-abbrev IsAtCommit : Op → Stand → Type 0
-IsAtCommit op (InGenerator at) = Unit {0}
-IsAtCommit op (InList at entries made) = slice_get op.generator at ≡ Some (instr.Commit entries)
-IsAtCommit op (InWrapUp at started accessed) = Unit {0}
+pub stand_stays : (text : Text) (op : Op) (nodes nodes' : List NamedNode) (registers : Registers) (stand : Stand) → KindsStay nodes nodes' → IsTypedStand text op nodes registers stand → IsTypedStand text op nodes' registers stand
+stand_stays text op nodes nodes' registers (InGenerator at) stay stands = stands_stay text op false at nodes nodes' registers stay stands
+stand_stays text op nodes nodes' registers (InList at entries made) stay stands = (stands.0, stands_stay text op false at nodes nodes' registers stay stands.1)
+stand_stays text op nodes nodes' registers (InWrapUp at started accessed) stay stands =
+    (stands_stay text op true 0 nodes nodes' started stay stands.0, stands_stay text op true at nodes nodes' registers stay stands.1)
 
--- a caller that runs an operation with this number
-abbrev RunsOp : Op → ℕ → Option Running → Type 0
-RunsOp op number None = Unit {0}
-RunsOp op number (Some running) = (running.op ≡ number) × IsAtCommit op running.stand
+running_stays : (text : Text) (nodes nodes' : List NamedNode) (running : Option Running) → KindsStay nodes nodes' → IsTypedRunning text nodes running → IsTypedRunning text nodes' running
+running_stays text nodes nodes' None stay runs = tt
+running_stays text nodes nodes' (Some running) stay runs = λ op is. stand_stays text op nodes nodes' running.registers running.stand stay (runs op is)
 
--- and one that runs any of the text
-abbrev RunsAny : Text → Option Running → Type 0
-RunsAny text None = Unit {0}
-RunsAny text (Some running) = (op : Op) → slice_get text.ops running.op ≡ Some op → IsAtCommit op running.stand
+pub typed_caller_stays : (text : Text) (nodes nodes' : List NamedNode) (caller : SourceCaller) → KindsStay nodes nodes' → IsTypedCaller text nodes caller → IsTypedCaller text nodes' caller
+typed_caller_stays text nodes nodes' caller stay runs = running_stays text nodes nodes' caller.running stay runs
 
-runs_any : (text : Text) (op : Op) (number : ℕ) (running : Option Running) → slice_get text.ops number ≡ Some op → RunsOp op number running → RunsAny text running
-runs_any text op number None is runs = tt
-runs_any text op number (Some running) is runs = λ other found. subst (λ o. IsAtCommit o running.stand) (same_Some op other (sym is ∙ (sym (ap (slice_get text.ops) runs.0) ∙ found))) runs.1
-
--- ---- each step leaves it so
-
-generator_runs : (op : Op) (i : Option Instr) (at : ℕ) → slice_get op.generator at ≡ i → IsAtCommit op (generator_stand i at)
-generator_runs op None at is = tt
-generator_runs op (Some (instr.Commit entries)) at is = is
-generator_runs op (Some _) at is = tt
-
-begun_runs : (op : Op) (number : ℕ) (running : Running) → running.op ≡ number → RunsOp op number (Some (generator_begun op running))
-begun_runs op number running is = (is, generator_runs op _ _ refl)
-
-end_runs : (op : Op) (number : ℕ) (i : Option Instr) (running : Running) (caller : SourceCaller) → running.op ≡ number → IsAtCommit op running.stand → RunsOp op number (wrap_up_end op i running caller).running
-end_runs op number None running caller is stands = (is, stands)
-end_runs op number (Some (instr.Return a)) running caller is stands = tt
-end_runs op number (Some instr.ReturnNone) running caller is stands = tt
-end_runs op number (Some instr.Again) running caller is stands = begun_runs op number running is
-end_runs op number (Some _) running caller is stands = (is, stands)
-
-wrap_up_runs : (op : Op) (number : ℕ) (accessed : Bool) (i : Option Instr) (running : Running) (caller : SourceCaller) → running.op ≡ number → IsAtCommit op running.stand → RunsOp op number (wrap_up_stop accessed op i running caller).running
-wrap_up_runs op number true i running caller is stands = (is, stands)
-wrap_up_runs op number false i running caller is stands = end_runs op number i running caller is stands
-
-next_runs : (op : Op) (number at : ℕ) (entries : List CasEntry) (made : ℕ) (running : Running) (caller : SourceCaller) → running.op ≡ number → slice_get op.generator at ≡ Some (instr.Commit entries)
-    → RunsOp op number (list_next op at entries made running caller).running
-next_runs op number at entries made running caller is commits = by (nat_lt made (length entries))
-  where
-    by : (b : Bool) → RunsOp op number (if b then goes_on (record running { stand = InList at entries made }) caller else wrap_up_begun op made running caller).running
-    by true = (is, commits)
-    by false = wrap_up_runs op number false _ _ caller is tt
-
-list_runs : (op : Op) (number at : ℕ) (entries : List CasEntry) (made : ℕ) (o : Option Memory) (running : Running) (memory : Memory) (caller : SourceCaller) → running.op ≡ number → slice_get op.generator at ≡ Some (instr.Commit entries)
-    → RunsOp op number (list_turn op at entries made o running memory caller).caller.running
-list_runs op number at entries made None running memory caller is commits = wrap_up_runs op number false _ _ caller is tt
-list_runs op number at entries made (Some after) running memory caller is commits = next_runs op number at entries (made + 1) running caller is commits
-
-entry_runs : (fields : List FieldDecl) (op : Op) (number at : ℕ) (entries : List CasEntry) (made : ℕ) (o : Option CasEntry) (running : Running) (memory : Memory) (caller : SourceCaller) → running.op ≡ number → slice_get op.generator at ≡ Some (instr.Commit entries)
-    → RunsOp op number (entry_turn fields op at entries made o running memory caller).caller.running
-entry_runs fields op number at entries made None running memory caller is commits = wrap_up_runs op number false _ _ caller is tt
-entry_runs fields op number at entries made (Some entry) running memory caller is commits = list_runs op number at entries made (exchange fields entry running.registers memory) running memory caller is commits
-
-wrapped_runs : (op : Op) (number : ℕ) (b : Bool) (started : Registers) (i : Option Instr) (reached : Reached) (running : Running) (memory : Memory) (caller : SourceCaller) → running.op ≡ number → IsAtCommit op running.stand
-    → RunsOp op number (wrap_up_turn b op started i reached running memory caller).caller.running
-wrapped_runs op number true started i reached running memory caller is stands = (is, tt)
-wrapped_runs op number false started i reached running memory caller is stands = end_runs op number i running caller is stands
-
-access_runs : (text : Text) (name : ℕ) (op : Op) (number : ℕ) (stand : Stand) (running : Running) (memory : Memory) (caller : SourceCaller) → running.op ≡ number → running.stand ≡ stand → IsAtCommit op stand
-    → RunsOp op number (access_turn text name op stand running memory caller).caller.running
-access_runs text name op number (InGenerator at) running memory caller is same stands = (is, generator_runs op _ _ refl)
-access_runs text name op number (InList at entries made) running memory caller is same stands = entry_runs text.fields op number at entries made (slice_get entries made) running memory caller is stands
-access_runs text name op number (InWrapUp at started accessed) running memory caller is same stands =
-    wrapped_runs op number (is_access_at (slice_get op.wrapup at)) started (slice_get op.wrapup at) _ running memory caller is (subst (IsAtCommit op) (sym same) tt)
-
-restarted_runs : (op : Op) (number : ℕ) (stand : Stand) (running : Running) (caller : SourceCaller) → running.op ≡ number → RunsOp op number (restarted op stand running caller).running
-restarted_runs op number (InGenerator at) running caller is = begun_runs op number running is
-restarted_runs op number (InList at entries made) running caller is = begun_runs op number running is
-restarted_runs op number (InWrapUp at started accessed) running caller is = wrap_up_runs op number false _ _ caller is tt
-
-running_runs : (text : Text) (event : SourceEvent) (here : Performed) (memory : Memory) (caller : SourceCaller) → slice_get text.ops here.running.op ≡ Some here.op → caller.running ≡ Some here.running → RunsAny text (Some here.running)
-    → RunsAny text (running_turn text event here memory caller).caller.running
-running_runs text (Begin c number args) here memory caller is runs stands = subst (RunsAny text) (sym runs) stands
-running_runs text (Access c name) here memory caller is runs stands =
-    runs_any text here.op here.running.op _ is (access_runs text name here.op here.running.op here.running.stand here.running memory caller refl refl (stands here.op is))
-running_runs text (Restart c) here memory caller is runs stands = runs_any text here.op here.running.op _ is (restarted_runs here.op here.running.op here.running.stand here.running caller refl)
-running_runs text (GiveUp c phase) here memory caller is runs stands = tt
-
--- ---- and memory typed
-
--- the rule on kinds, at an instruction of the text
-kind_at : (text : Text) → IsNormal text → (number : ℕ) (op : Op) (wrapup : Bool) (at : ℕ) (i : Instr) → slice_get text.ops number ≡ Some op → slice_get (code_of op wrapup) at ≡ Some i → has_wrong_kind text.fields text.roots i ≡ false
-kind_at text normal number op wrapup at i is there = refuted _ (keeps_rule text N1 number op wrapup at i normal is there)
-
-exchanged_typed : (text : Text) (entry : CasEntry) (registers : Registers) (memory : Memory) (at l : ℕ) (o : Option Memory) → exchange text.fields entry registers memory ≡ o → has_wrong_operand text.fields text.roots entry ≡ false → IsTyped text memory
-    → IsTyped text (auxiliary o memory at l registers).memory
-exchanged_typed text entry registers memory at l None is right typed = typed
-exchanged_typed text entry registers memory at l (Some after) is right typed = exchange_typed text entry registers memory after right is typed
-
-access_by_typed : (text : Text) (name : ℕ) (i : Instr) (at : ℕ) (registers : Registers) (memory : Memory) → has_wrong_kind text.fields text.roots i ≡ false → IsTyped text memory → IsTyped text (access_by text name i at registers memory).memory
-access_by_typed text name (instr.New d kind) at registers memory right typed = new_typed text name at d kind registers memory typed
-access_by_typed text name (instr.Put a f b) at registers memory right typed = put_typed text name at a b f registers memory right typed
-access_by_typed text name (instr.Cas entry l) at registers memory right typed = exchanged_typed text entry registers memory at l (exchange text.fields entry registers memory) refl right typed
-access_by_typed text name _ at registers memory right typed = typed
-
-access_at_typed : (text : Text) → IsNormal text → (name number : ℕ) (op : Op) (wrapup : Bool) (at : ℕ) (registers : Registers) (memory : Memory) → slice_get text.ops number ≡ Some op → IsTyped text memory
-    → IsTyped text (access_at text name (slice_get (code_of op wrapup) at) at registers memory).memory
-access_at_typed text normal name number op wrapup at registers memory is typed = by (slice_get (code_of op wrapup) at) refl
-  where
-    by : (o : Option Instr) → slice_get (code_of op wrapup) at ≡ o → IsTyped text (access_at text name o at registers memory).memory
-    by None there = typed
-    by (Some i) there = access_by_typed text name i at registers memory (kind_at text normal number op wrapup at i is there) typed
+-- ---- lists
 
 -- an item of a list of which none passes
 none_passes : {X : Type 0} (test : X → Bool) (xs : List X) (k : ℕ) (x : X) → list_any test xs ≡ false → slice_get xs k ≡ Some x → test x ≡ false
@@ -155,67 +63,185 @@ none_passes test [] k x none is = absurd (let never : None ≡ Some x = is in cc
 none_passes test (y ∷ xs) zero x none is = ap test (sym (same_Some y x is)) ∙ (or_parts (test y) (list_any test xs) none).0
 none_passes test (y ∷ xs) (suc k) x none is = none_passes test xs k x (or_parts (test y) (list_any test xs) none).1 is
 
-entry_typed : (text : Text) (op : Op) (at : ℕ) (entries : List CasEntry) (made : ℕ) (o : Option CasEntry) (running : Running) (memory : Memory) (caller : SourceCaller) → slice_get entries made ≡ o
-    → has_wrong_kind text.fields text.roots (instr.Commit entries) ≡ false → IsTyped text memory → IsTyped text (entry_turn text.fields op at entries made o running memory caller).memory
-entry_typed text op at entries made None running memory caller there right typed = typed
-entry_typed text op at entries made (Some entry) running memory caller there right typed = by (exchange text.fields entry running.registers memory) refl
-  where
-    by : (o : Option Memory) → exchange text.fields entry running.registers memory ≡ o → IsTyped text (list_turn op at entries made o running memory caller).memory
-    by None is = typed
-    by (Some after) is = exchange_typed text entry running.registers memory after (none_passes (has_wrong_operand text.fields text.roots) entries made entry right there) is typed
+-- ---- an operation of the text
 
-wrapped_typed : (text : Text) (b : Bool) (op : Op) (started : Registers) (i : Option Instr) (reached : Reached) (running : Running) (memory : Memory) (caller : SourceCaller) → IsTyped text memory → IsTyped text reached.memory
-    → IsTyped text (wrap_up_turn b op started i reached running memory caller).memory
-wrapped_typed text true op started i reached running memory caller typed after = after
-wrapped_typed text false op started i reached running memory caller typed after = typed
+-- a caller that runs an operation with this number
+abbrev RunsOp : Text → Op → ℕ → List NamedNode → Option Running → Type 0
+RunsOp text op number nodes None = Unit {0}
+RunsOp text op number nodes (Some running) = (running.op ≡ number) × IsTypedStand text op nodes running.registers running.stand
 
-access_typed : (text : Text) → IsNormal text → (name number : ℕ) (op : Op) (stand : Stand) (running : Running) (memory : Memory) (caller : SourceCaller) → slice_get text.ops number ≡ Some op → IsAtCommit op stand → IsTyped text memory
-    → IsTyped text (access_turn text name op stand running memory caller).memory
-access_typed text normal name number op (InGenerator at) running memory caller is stands typed = access_at_typed text normal name number op false at running.registers memory is typed
-access_typed text normal name number op (InList at entries made) running memory caller is stands typed =
-    entry_typed text op at entries made (slice_get entries made) running memory caller refl (kind_at text normal number op false at (instr.Commit entries) is stands) typed
-access_typed text normal name number op (InWrapUp at started accessed) running memory caller is stands typed =
-    wrapped_typed text (is_access_at (slice_get op.wrapup at)) op started (slice_get op.wrapup at) _ running memory caller typed (access_at_typed text normal name number op true at running.registers memory is typed)
+runs_any : (text : Text) (op : Op) (number : ℕ) (nodes : List NamedNode) (running : Option Running) → slice_get text.ops number ≡ Some op → RunsOp text op number nodes running → IsTypedRunning text nodes running
+runs_any text op number nodes None is runs = tt
+runs_any text op number nodes (Some running) is runs =
+    λ other found. subst (λ (o : Op). IsTypedStand text o nodes running.registers running.stand) (same_Some op other (sym is ∙ (sym (ap (slice_get text.ops) runs.0) ∙ found))) runs.1
 
-running_typed : (text : Text) → IsNormal text → (event : SourceEvent) (here : Performed) (memory : Memory) (caller : SourceCaller) → slice_get text.ops here.running.op ≡ Some here.op → RunsAny text (Some here.running) → IsTyped text memory
-    → IsTyped text (running_turn text event here memory caller).memory
-running_typed text normal (Begin c number args) here memory caller is stands typed = typed
-running_typed text normal (Access c name) here memory caller is stands typed = access_typed text normal name here.running.op here.op here.running.stand here.running memory caller is (stands here.op is) typed
-running_typed text normal (Restart c) here memory caller is stands typed = typed
-running_typed text normal (GiveUp c phase) here memory caller is stands typed = typed
+-- memory and registers stay typed over a turn
+record Turned (text : Text) (op : Op) (number : ℕ) (nodes : List NamedNode) (turn : Turn) : Type 0 where
+  pub typed : IsTyped text turn.memory
+  pub stay : KindsStay nodes turn.memory.nodes
+  pub runs : RunsOp text op number turn.memory.nodes turn.caller.running
+
+module _ (text : Text) (normal : IsNormal text) (within : IsWithinLimits text) (number : ℕ) (op : Op) (is : slice_get text.ops number ≡ Some op) where
+  -- ---- the generator
+
+  generator_runs : (nodes : List NamedNode) (registers : Registers) (i : Option Instr) (at : ℕ) → slice_get op.generator at ≡ i → StandsTyped text op false at nodes registers → IsTypedStand text op nodes registers (generator_stand i at)
+  generator_runs nodes registers None at there stands = stands
+  generator_runs nodes registers (Some (instr.Commit entries)) at there stands = (there, stands)
+  generator_runs nodes registers (Some _) at there stands = stands
+
+  generator_from_runs : (nodes : List NamedNode) (spot : Spot) (running : Running) → running.op ≡ number → StandsTyped text op false spot.at nodes spot.registers → RunsOp text op number nodes (Some (generator_from op spot running))
+  generator_from_runs nodes spot running same stands =
+      let next = local_run op.generator (length op.generator) spot in
+      (same, generator_runs nodes next.registers (slice_get op.generator next.at) next.at refl (local_stands text normal within number op is false spot nodes stands))
+
+  begun_runs : (nodes : List NamedNode) (running : Running) → running.op ≡ number → RunsOp text op number nodes (Some (generator_begun op running))
+  begun_runs nodes running same = generator_from_runs nodes (record { at = 0; registers = first_registers running.args }) running same (generator_starts text op nodes running.args)
+
+  -- ---- the wrap-up
+
+  end_runs : (nodes : List NamedNode) (i : Option Instr) (running : Running) (caller : SourceCaller) → running.op ≡ number → IsTypedStand text op nodes running.registers running.stand → RunsOp text op number nodes (wrap_up_end op i running caller).running
+  end_runs nodes None running caller same stands = (same, stands)
+  end_runs nodes (Some (instr.Return a)) running caller same stands = tt
+  end_runs nodes (Some instr.ReturnNone) running caller same stands = tt
+  end_runs nodes (Some instr.Again) running caller same stands = begun_runs nodes running same
+  end_runs nodes (Some _) running caller same stands = (same, stands)
+
+  stop_runs : (nodes : List NamedNode) (accessed : Bool) (i : Option Instr) (running : Running) (caller : SourceCaller) → running.op ≡ number → IsTypedStand text op nodes running.registers running.stand
+      → RunsOp text op number nodes (wrap_up_stop accessed op i running caller).running
+  stop_runs nodes true i running caller same stands = (same, stands)
+  stop_runs nodes false i running caller same stands = end_runs nodes i running caller same stands
+
+  wrap_up_runs : (nodes : List NamedNode) (started : Registers) (accessed : Bool) (spot : Spot) (running : Running) (caller : SourceCaller) → running.op ≡ number → StandsTyped text op true 0 nodes started
+      → StandsTyped text op true spot.at nodes spot.registers → RunsOp text op number nodes (wrap_up_from op started accessed spot running caller).running
+  wrap_up_runs nodes started accessed spot running caller same first stands =
+      let next = local_run op.wrapup (length op.wrapup) spot in
+      stop_runs nodes accessed (slice_get op.wrapup next.at) (record running { registers = next.registers; stand = InWrapUp next.at started accessed }) caller same
+      (first, local_stands text normal within number op is true spot nodes stands)
+
+  wrap_up_begun_runs : (nodes : List NamedNode) (at : ℕ) (entries : List CasEntry) (made : ℕ) (running : Running) (caller : SourceCaller) → running.op ≡ number → slice_get op.generator at ≡ Some (instr.Commit entries)
+      → StandsTyped text op false at nodes running.registers → RunsOp text op number nodes (wrap_up_begun op made running caller).running
+  wrap_up_begun_runs nodes at entries made running caller same commits stands =
+      let first = wrap_up_starts text op at entries nodes running.registers made commits stands in
+      wrap_up_runs nodes (with_count running.registers made) false (record { at = 0; registers = with_count running.registers made }) running caller same first first
+
+  -- ---- the list
+
+  next_runs : (nodes : List NamedNode) (at : ℕ) (entries : List CasEntry) (made : ℕ) (running : Running) (caller : SourceCaller) → running.op ≡ number → slice_get op.generator at ≡ Some (instr.Commit entries)
+      → StandsTyped text op false at nodes running.registers → RunsOp text op number nodes (list_next op at entries made running caller).running
+  next_runs nodes at entries made running caller same commits stands = by (nat_lt made (length entries))
+    where
+      by : (b : Bool) → RunsOp text op number nodes (if b then goes_on (record running { stand = InList at entries made }) caller else wrap_up_begun op made running caller).running
+      by true = (same, (commits, stands))
+      by false = wrap_up_begun_runs nodes at entries made running caller same commits stands
+
+  list_turned : (at : ℕ) (entries : List CasEntry) (made : ℕ) (entry : CasEntry) (o : Option Memory) (running : Running) (memory : Memory) (caller : SourceCaller) → exchange text.fields entry running.registers memory ≡ o
+      → slice_get entries made ≡ Some entry → running.op ≡ number → slice_get op.generator at ≡ Some (instr.Commit entries) → IsTyped text memory → StandsTyped text op false at memory.nodes running.registers
+      → Turned text op number memory.nodes (list_turn op at entries made o running memory caller)
+  list_turned at entries made entry None running memory caller makes there same commits typed stands =
+      record { typed = typed; stay = λ n k e. e; runs = wrap_up_begun_runs memory.nodes at entries made running caller same commits stands }
+  list_turned at entries made entry (Some after) running memory caller makes there same commits typed stands =
+      let right = none_passes (has_wrong_operand text.fields text.roots) entries made entry (kind_at text normal number op false at (instr.Commit entries) is commits) there in
+      let stay = exchange_kinds_stay text.fields entry running.registers memory after makes in
+      record {
+        typed = exchange_typed text entry running.registers memory after right (list_asked text normal number op is memory.nodes at entries running.registers commits stands made entry there) makes typed;
+        stay = stay;
+        runs = next_runs after.nodes at entries (made + 1) running caller same commits (stands_stay text op false at memory.nodes after.nodes running.registers stay stands);
+      }
+
+  entry_turned : (at : ℕ) (entries : List CasEntry) (made : ℕ) (o : Option CasEntry) (running : Running) (memory : Memory) (caller : SourceCaller) → slice_get entries made ≡ o → running.op ≡ number
+      → slice_get op.generator at ≡ Some (instr.Commit entries) → IsTyped text memory → StandsTyped text op false at memory.nodes running.registers → Turned text op number memory.nodes (entry_turn text.fields op at entries made o running memory caller)
+  entry_turned at entries made None running memory caller there same commits typed stands =
+      record { typed = typed; stay = λ n k e. e; runs = wrap_up_begun_runs memory.nodes at entries made running caller same commits stands }
+  entry_turned at entries made (Some entry) running memory caller there same commits typed stands =
+      list_turned at entries made entry (exchange text.fields entry running.registers memory) running memory caller refl there same commits typed stands
+
+  -- ---- events
+
+  generator_turned : (at name : ℕ) (running : Running) (memory : Memory) (caller : SourceCaller) → running.op ≡ number → IsTrue (is_name (is_new_at (slice_get op.generator at)) name memory.nodes) → IsTyped text memory
+      → StandsTyped text op false at memory.nodes running.registers → Turned text op number memory.nodes (generator_turn op (access_at text name (slice_get op.generator at) at running.registers memory) running caller)
+  generator_turned at name running memory caller same named typed stands =
+      let comes = access_at_comes text normal within number op is false name at running.registers memory named typed stands in
+      let reached = access_at text name (slice_get op.generator at) at running.registers memory in
+      record { typed = comes.typed; stay = comes.stay; runs = generator_from_runs reached.memory.nodes reached.spot running same comes.stands }
+
+  wrap_up_turned : (b : Bool) (started : Registers) (i : Option Instr) (reached : Reached) (running : Running) (memory : Memory) (caller : SourceCaller) → running.op ≡ number → IsTyped text memory
+      → IsTypedStand text op memory.nodes running.registers running.stand → StandsTyped text op true 0 memory.nodes started → Comes text op true memory.nodes reached
+      → Turned text op number memory.nodes (wrap_up_turn b op started i reached running memory caller)
+  wrap_up_turned true started i reached running memory caller same typed stands first comes = record {
+    typed = comes.typed;
+    stay = comes.stay;
+    runs = wrap_up_runs reached.memory.nodes started true reached.spot running caller same (stands_stay text op true 0 memory.nodes reached.memory.nodes started comes.stay first) comes.stands;
+  }
+  wrap_up_turned false started i reached running memory caller same typed stands first comes = record { typed = typed; stay = λ n k e. e; runs = end_runs memory.nodes i running caller same stands }
+
+  access_turned : (name : ℕ) (stand : Stand) (running : Running) (memory : Memory) (caller : SourceCaller) → running.op ≡ number → running.stand ≡ stand → IsTrue (is_name (is_new_pending op stand) name memory.nodes) → IsTyped text memory
+      → IsTypedStand text op memory.nodes running.registers stand → Turned text op number memory.nodes (access_turn text name op stand running memory caller)
+  access_turned name (InGenerator at) running memory caller same at_stand named typed stands = generator_turned at name running memory caller same named typed stands
+  access_turned name (InList at entries made) running memory caller same at_stand named typed stands =
+      entry_turned at entries made (slice_get entries made) running memory caller refl same stands.0 typed stands.1
+  access_turned name (InWrapUp at started accessed) running memory caller same at_stand named typed stands =
+      wrap_up_turned (is_access_at (slice_get op.wrapup at)) started (slice_get op.wrapup at) _ running memory caller same typed
+      (subst (λ (s : Stand). IsTypedStand text op memory.nodes running.registers s) (sym at_stand) stands) stands.0
+      (access_at_comes text normal within number op is true name at running.registers memory named typed stands.1)
+
+  restarted_runs : (nodes : List NamedNode) (stand : Stand) (running : Running) (caller : SourceCaller) → running.op ≡ number → IsTypedStand text op nodes running.registers stand → RunsOp text op number nodes (restarted op stand running caller).running
+  restarted_runs nodes (InGenerator at) running caller same stands = begun_runs nodes running same
+  restarted_runs nodes (InList at entries made) running caller same stands = begun_runs nodes running same
+  restarted_runs nodes (InWrapUp at started accessed) running caller same stands = wrap_up_runs nodes started false (record { at = 0; registers = started }) running caller same stands.0 stands.0
 
 -- ---- an event
 
-record Turned (text : Text) (memory : Memory) (caller : SourceCaller) : Type 0 where
-  pub typed : IsTyped text memory
-  pub runs : RunsAny text caller.running
+-- memory stays typed over an event of a caller, and so do its registers
+record After (text : Text) (nodes : List NamedNode) (turn : Turn) : Type 0 where
+  pub typed : IsTyped text turn.memory
+  pub stay : KindsStay nodes turn.memory.nodes
+  pub runs : IsTypedRunning text turn.memory.nodes turn.caller.running
 
-begun_is : (text : Text) (number : ℕ) (args : List ℕ) (caller : SourceCaller) → RunsAny text caller.running → RunsAny text (begun (slice_get text.ops number) number args caller).running
-begun_is text number args caller runs = by (slice_get text.ops number) refl
+of_turned : (text : Text) (op : Op) (number : ℕ) (nodes : List NamedNode) (turn : Turn) → slice_get text.ops number ≡ Some op → Turned text op number nodes turn → After text nodes turn
+of_turned text op number nodes turn is turned = record { typed = turned.typed; stay = turned.stay; runs = runs_any text op number turn.memory.nodes turn.caller.running is turned.runs }
+
+running_after : (text : Text) → IsNormal text → IsWithinLimits text → (event : SourceEvent) (here : Performed) (memory : Memory) (caller : SourceCaller) → slice_get text.ops here.running.op ≡ Some here.op → caller.running ≡ Some here.running
+    → is_enabled_running event here memory ≡ true → IsTyped text memory → IsTypedRunning text memory.nodes (Some here.running) → After text memory.nodes (running_turn text event here memory caller)
+running_after text normal within (Begin c number args) here memory caller is runs enabled typed stands = absurd (let never : false ≡ true = enabled in cc)
+running_after text normal within (Access c name) here memory caller is runs enabled typed stands =
+    let named = (and_parts (is_pending here.op here.running.stand) (is_name (is_new_pending here.op here.running.stand) name memory.nodes) enabled).1 in
+    of_turned text here.op here.running.op memory.nodes (access_turn text name here.op here.running.stand here.running memory caller) is
+    (access_turned text normal within here.running.op here.op is name here.running.stand here.running memory caller refl refl named typed (stands here.op is))
+running_after text normal within (Restart c) here memory caller is runs enabled typed stands = record {
+  typed = typed;
+  stay = λ n k e. e;
+  runs = runs_any text here.op here.running.op memory.nodes (restarted here.op here.running.stand here.running caller).running is
+      (restarted_runs text normal within here.running.op here.op is memory.nodes here.running.stand here.running caller refl (stands here.op is));
+}
+running_after text normal within (GiveUp c phase) here memory caller is runs enabled typed stands = record { typed = typed; stay = λ n k e. e; runs = tt }
+
+begun_after : (text : Text) → IsNormal text → IsWithinLimits text → (number : ℕ) (args : List ℕ) (memory : Memory) (caller : SourceCaller) → IsTypedCaller text memory.nodes caller
+    → IsTypedRunning text memory.nodes (begun (slice_get text.ops number) number args caller).running
+begun_after text normal within number args memory caller runs = by (slice_get text.ops number) refl
   where
-    by : (o : Option Op) → slice_get text.ops number ≡ o → RunsAny text (begun o number args caller).running
+    by : (o : Option Op) → slice_get text.ops number ≡ o → IsTypedRunning text memory.nodes (begun o number args caller).running
     by None is = runs
     by (Some op) is =
         let running : Running = record { op = number; args = args; registers = first_registers args; stand = InGenerator 0 } in
-        runs_any text op number (Some (generator_begun op running)) is (begun_runs op number running refl)
+        runs_any text op number memory.nodes (Some (generator_begun op running)) is (begun_runs text normal within number op is memory.nodes running refl)
 
-of_turn : (text : Text) → IsNormal text → (event : SourceEvent) (here : Option Performed) (memory : Memory) (caller : SourceCaller)
-    → ((p : Performed) → here ≡ Some p → (slice_get text.ops p.running.op ≡ Some p.op) × (caller.running ≡ Some p.running)) → RunsAny text caller.running → IsTyped text memory
-    → Turned text (turn_of text event here memory caller).memory (turn_of text event here memory caller).caller
-of_turn text normal (Begin c number args) None memory caller is runs typed = record { typed = typed; runs = begun_is text number args caller runs }
-of_turn text normal (Begin c number args) (Some p) memory caller is runs typed = record { typed = typed; runs = begun_is text number args caller runs }
-of_turn text normal (Access c name) None memory caller is runs typed = record { typed = typed; runs = runs }
-of_turn text normal (Restart c) None memory caller is runs typed = record { typed = typed; runs = runs }
-of_turn text normal (GiveUp c phase) None memory caller is runs typed = record { typed = typed; runs = runs }
-of_turn text normal (Access c name) (Some p) memory caller is runs typed =
-    let here = is p refl in let stands = subst (RunsAny text) here.1 runs in
-    record { typed = running_typed text normal (Access c name) p memory caller here.0 stands typed; runs = running_runs text (Access c name) p memory caller here.0 here.1 stands }
-of_turn text normal (Restart c) (Some p) memory caller is runs typed =
-    let here = is p refl in let stands = subst (RunsAny text) here.1 runs in
-    record { typed = running_typed text normal (Restart c) p memory caller here.0 stands typed; runs = running_runs text (Restart c) p memory caller here.0 here.1 stands }
-of_turn text normal (GiveUp c phase) (Some p) memory caller is runs typed =
-    let here = is p refl in let stands = subst (RunsAny text) here.1 runs in
-    record { typed = running_typed text normal (GiveUp c phase) p memory caller here.0 stands typed; runs = running_runs text (GiveUp c phase) p memory caller here.0 here.1 stands }
+event_after : (text : Text) → IsNormal text → IsWithinLimits text → (event : SourceEvent) (here : Option Performed) (memory : Memory) (caller : SourceCaller)
+    → ((p : Performed) → here ≡ Some p → (slice_get text.ops p.running.op ≡ Some p.op) × (caller.running ≡ Some p.running)) → is_enabled_by text event here memory caller ≡ true
+    → IsTyped text memory → IsTypedCaller text memory.nodes caller → After text memory.nodes (turn_of text event here memory caller)
+event_after text normal within (Begin c number args) None memory caller is enabled typed runs = record { typed = typed; stay = λ n k e. e; runs = begun_after text normal within number args memory caller runs }
+event_after text normal within (Begin c number args) (Some p) memory caller is enabled typed runs = record { typed = typed; stay = λ n k e. e; runs = begun_after text normal within number args memory caller runs }
+event_after text normal within (Access c name) None memory caller is enabled typed runs = record { typed = typed; stay = λ n k e. e; runs = runs }
+event_after text normal within (Restart c) None memory caller is enabled typed runs = record { typed = typed; stay = λ n k e. e; runs = runs }
+event_after text normal within (GiveUp c phase) None memory caller is enabled typed runs = record { typed = typed; stay = λ n k e. e; runs = runs }
+event_after text normal within (Access c name) (Some p) memory caller is enabled typed runs =
+    let here = is p refl in
+    running_after text normal within (Access c name) p memory caller here.0 here.1 enabled typed (subst (IsTypedRunning text memory.nodes) here.1 runs)
+event_after text normal within (Restart c) (Some p) memory caller is enabled typed runs =
+    let here = is p refl in
+    running_after text normal within (Restart c) p memory caller here.0 here.1 enabled typed (subst (IsTypedRunning text memory.nodes) here.1 runs)
+event_after text normal within (GiveUp c phase) (Some p) memory caller is enabled typed runs =
+    let here = is p refl in
+    running_after text normal within (GiveUp c phase) p memory caller here.0 here.1 enabled typed (subst (IsTypedRunning text memory.nodes) here.1 runs)
 
 -- the operation that a caller performs is the text's
 performed_is : (text : Text) (running : Option Running) (p : Performed) → performed_by text running ≡ Some p → (slice_get text.ops p.running.op ≡ Some p.op) × (running ≡ Some p.running)
@@ -231,22 +257,35 @@ performed_is text (Some running) p is = by (slice_get text.ops running.op) refl 
 -- ---- along a run
 
 abbrev Stays : ℕ → Memory → Memory → Type 0
-Stays c memory memory' = Unit {0}
+Stays c memory memory' = KindsStay memory.nodes memory'.nodes
 
 abbrev StandsRight : Text → Memory → ℕ → MethodRun → SourceCaller → Type 0
-StandsRight text memory c run caller = RunsAny text caller.running
+StandsRight text memory c run caller = IsTypedCaller text memory.nodes caller
 
-event_keeps : (text : Text) → IsNormal text → (event : SourceEvent) (memory : Memory) (run : MethodRun) (caller : SourceCaller) → IsTyped text memory → StandsRight text memory (mover event) run caller
+abbrev AllTyped : Text → Watched → Type 0
+AllTyped text w = Holds Memory (λ m. m) (IsTyped text) (StandsRight text) w
+
+event_keeps : (text : Text) → IsNormal text → IsWithinLimits text → (event : SourceEvent) (memory : Memory) (run : MethodRun) (caller : SourceCaller) → IsTyped text memory → StandsRight text memory (mover event) run caller
     → is_enabled_by text event (performed text caller) memory caller ≡ true → Kept text Memory (λ m. m) (IsTyped text) (StandsRight text) Stays event (mover event) memory run caller
-event_keeps text normal event memory run caller typed runs enabled =
-    let turned = of_turn text normal event (performed text caller) memory caller (performed_is text caller.running) runs typed in
-    record { s' = (caller_turn text event memory caller).memory; memory = refl; fine = turned.typed; goes = tt; stands = turned.runs }
+event_keeps text normal within event memory run caller typed runs enabled =
+    let after = event_after text normal within event (performed text caller) memory caller (performed_is text caller.running) enabled typed runs in
+    record { s' = (caller_turn text event memory caller).memory; memory = refl; fine = after.typed; goes = after.stay; stands = after.runs }
+
+-- what a run leads to
+run_typed : (text : Text) → IsNormal text → IsWithinLimits text → (callers : ℕ) (events : List SourceEvent) (state : SourceMachine) → IsSourceRun text callers events state
+    → IsTyped text state.memory × ((c : ℕ) (caller : SourceCaller) → slice_get state.callers c ≡ Some caller → IsTypedCaller text state.memory.nodes caller)
+run_typed text normal within callers events state run =
+    let first : AllTyped text (watched_start text callers) = starts text Memory (λ m. m) (IsTyped text) (StandsRight text) (first_memory text) refl (first_typed text within) (λ c. tt) callers in
+    let kept = along_run text (AllTyped text)
+    (every_step text Memory (λ m. m) (IsTyped text) (StandsRight text) Stays (λ c d s s' r caller goes fine other stands. typed_caller_stays text s.nodes s'.nodes caller goes stands) (event_keeps text normal within))
+    events (watched_start text callers) state run.runs first in
+    subst (λ (machine : SourceMachine). IsTyped text machine.memory × ((c : ℕ) (caller : SourceCaller) → slice_get machine.callers c ≡ Some caller → IsTypedCaller text machine.memory.nodes caller)) kept.1 (
+      subst (IsTyped text) (sym kept.0.memory) kept.0.fine,
+      λ c caller there. subst (λ (memory : Memory). IsTypedCaller text memory.nodes caller) (sym kept.0.memory) (kept.0.callers c caller there),
+    )
 
 pub memory_is_typed : MemoryIsTyped
-memory_is_typed text normal within callers events state run =
-    let first : Holds Memory (λ m. m) (IsTyped text) (StandsRight text) (watched_start text callers) =
-    starts text Memory (λ m. m) (IsTyped text) (StandsRight text) (first_memory text) refl (first_typed text within) (λ c. tt) callers in
-    let kept = along_run text (Holds Memory (λ m. m) (IsTyped text) (StandsRight text))
-    (every_step text Memory (λ m. m) (IsTyped text) (StandsRight text) Stays (λ c d s s' r caller goes fine other stands. stands) (event_keeps text normal))
-    events (watched_start text callers) state run.runs first in
-    subst (λ (machine : SourceMachine). IsTyped text machine.memory) kept.1 (subst (IsTyped text) (sym kept.0.memory) kept.0.fine)
+memory_is_typed text normal within callers events state run = (run_typed text normal within callers events state run).0
+
+pub callers_are_typed : CallersAreTyped
+callers_are_typed text normal within callers events state run = (run_typed text normal within callers events state run).1

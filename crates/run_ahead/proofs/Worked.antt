@@ -51,7 +51,7 @@ abbrev swap : CasEntry
 swap = record { place = places.Field (Ref 0) 0; expected = Ref 1; replacement = Ref 1; retire = None }
 
 abbrev linked : Memory
-linked = record { nodes = record { name = 3; values = Node (record { node = 5; marked = false }) ∷ [] } ∷ []; roots = []; retired = [] }
+linked = record { nodes = record { name = 3; kind = 0; values = Node (record { node = 5; marked = false }) ∷ [] } ∷ []; roots = []; retired = [] }
 
 -- its operands agree, and both sides would find name 5: but the core takes its object for null
 object_agrees : Agree lost (two 0 5) (two 3 5) (Ref 0)

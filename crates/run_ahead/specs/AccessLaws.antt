@@ -28,12 +28,13 @@ use Rattle.target_code.specs.declared.target.TargetInstr.TheVariants.{Plain}
 use Rattle.target_laws.specs.Methods.{code_in}
 use Rattle.target_laws.specs.Uses.{entries_of}
 use Rattle.run_ahead.specs.Agreeing.{Agree, AreApart, node_in}
-use Rattle.run_ahead.specs.Ahead.{IsCompiled}
+use Rattle.run_ahead.specs.Ahead.{IsErased, IsCompiled}
 use Rattle.run_ahead.specs.Following.{Walk, Follows}
 use Rattle.run_ahead.specs.Guards.{GuardRow, guards_after, IsUnderGuard, GuardsStand}
 use Rattle.run_ahead.specs.Known.{AreGot}
 use Rattle.run_ahead.specs.Standing.{loads_into, IsValueFor, ValuesAgree}
 use Rattle.run_ahead.specs.Typed.{IsTyped}
+use Rattle.run_ahead.specs.TypedCallers.{IsTypedCaller}
 
 -- the core made an access and came to a spot. The source makes it too, by an event that is enabled: that leaves memory as told,
 -- its method run has got the name that is given, if any, and its caller follows the core again
@@ -50,17 +51,17 @@ pub record AccessFollows {target : Target} {text : Text} (walk : Walk target tex
 -- the one that the source finds
 abbrev pub LoadsAreFollowed : Type 0 → Type 0
 LoadsAreFollowed calm =
-    (target : Target) (text : Text) → IsCompiled target text → (home : ℕ → ℕ) → home 0 ≡ 0
+    (target : Target) (text : Text) → IsErased target text → (home : ℕ → ℕ) → home 0 ≡ 0
     → (walk : Walk target text) (path : List ℕ) (core : Spot) (mirror : Registers) (accessed : Bool) (caller : SourceCaller) → Follows walk home calm path core mirror accessed caller
     → (i : Instr) (d : Reg) → slice_get (code_in walk.method) core.at ≡ Some (Plain i) → loads_into i ≡ Some d
-    → (c : ℕ) (memory : Memory) (found : Value) → IsTyped text memory → IsValueFor d found → (calm → ValuesAgree home found (loaded text i mirror memory))
+    → (c : ℕ) (memory : Memory) (found : Value) → IsTyped text memory → IsTypedCaller text memory.nodes caller → IsValueFor d found → (calm → ValuesAgree home found (loaded text i mirror memory))
     → AccessFollows walk home calm path core.at (record { at = core.at + 1; registers = with_value core.registers d found }) mirror (with_value mirror d (loaded text i mirror memory))
     i (name_in (loaded text i mirror memory)) (events.Access c 0) memory memory caller
 
 -- a `new` of a name that isn't in use: the core's register gets the name's home
 abbrev pub NewNodesAreFollowed : Type 0 → Type 0
 NewNodesAreFollowed calm =
-    (target : Target) (text : Text) → IsCompiled target text → (home : ℕ → ℕ) → home 0 ≡ 0
+    (target : Target) (text : Text) → IsErased target text → (home : ℕ → ℕ) → home 0 ≡ 0
     → (walk : Walk target text) (path : List ℕ) (core : Spot) (mirror : Registers) (accessed : Bool) (caller : SourceCaller) → Follows walk home calm path core mirror accessed caller
     → (d : Reg) (kind : ℕ) → slice_get (code_in walk.method) core.at ≡ Some (Plain (instr.New d kind)) → (c name : ℕ) (memory : Memory) → IsTrue (is_name true name memory.nodes)
     → AccessFollows walk home calm path core.at (record { at = core.at + 1; registers = with_reference core.registers d (record { node = home name; marked = false }) })
@@ -69,7 +70,7 @@ NewNodesAreFollowed calm =
 -- a put
 abbrev pub PutsAreFollowed : Type 0 → Type 0
 PutsAreFollowed calm =
-    (target : Target) (text : Text) → IsCompiled target text → (home : ℕ → ℕ)
+    (target : Target) (text : Text) → IsErased target text → (home : ℕ → ℕ)
     → (walk : Walk target text) (path : List ℕ) (core : Spot) (mirror : Registers) (accessed : Bool) (caller : SourceCaller) → Follows walk home calm path core mirror accessed caller
     → (a b : Reg) (f : ℕ) → slice_get (code_in walk.method) core.at ≡ Some (Plain (instr.Put a f b)) → (c : ℕ) (memory : Memory)
     → AccessFollows walk home calm path core.at (record { at = core.at + 1; registers = core.registers }) mirror mirror
@@ -78,7 +79,7 @@ PutsAreFollowed calm =
 -- an auxiliary exchange, that succeeds on both sides or on neither
 abbrev pub ExchangesAreFollowed : Type 0 → Type 0
 ExchangesAreFollowed calm =
-    (target : Target) (text : Text) → IsCompiled target text → (home : ℕ → ℕ)
+    (target : Target) (text : Text) → IsErased target text → (home : ℕ → ℕ)
     → (walk : Walk target text) (path : List ℕ) (core : Spot) (mirror : Registers) (accessed : Bool) (caller : SourceCaller) → Follows walk home calm path core mirror accessed caller
     → (entry : CasEntry) (l : ℕ) → slice_get (code_in walk.method) core.at ≡ Some (Plain (instr.Cas entry l))
     → (c : ℕ) (memory : Memory) (succeeds : Bool) → succeeds ≡ is_some (exchange text.fields entry mirror memory)

@@ -7,20 +7,30 @@ use Rattle.norm_lang.specs.declared.registers.Registers.{Registers}
 use Rattle.norm_lang.specs.Limits.{IsWithinLimits}
 use Rattle.norm_lang.specs.Local.{Spot}
 use Rattle.norm_lang.specs.NormalForm.{IsNormal}
-use Rattle.local_laws.specs.Settling.{Settles}
+use Rattle.target_laws.specs.local_laws.Settling.{Settles}
 use Rattle.target_code.specs.declared.target.Target.{Target}
 use Rattle.target_code.specs.Barred.{IsBarred}
-use Rattle.target_code.specs.Erasing.{source_place}
+use Rattle.target_code.specs.Erasing.{source_place, ErasesTo}
 use Rattle.target_code.specs.Paths.{TargetPath}
 use Rattle.target_laws.specs.Methods.{Method, code_in, source_in}
 use Rattle.target_laws.specs.Trusted.{Trust, Trusted, Unchecked, Spoilt, trust_at_start, carried_in, trust_along}
 use Rattle.run_ahead.specs.Agreeing.{Agree, HaveSameSize, AreApart, node_in}
 
--- a text in normal form (Timnat and Petrank, PPoPP 2014), within the limits, and a target that is barred for it
+-- a text in normal form (Timnat and Petrank, PPoPP 2014), within the limits, and a target that erases to it
+pub record IsErased (target : Target) (text : Text) : Type 0 where
+  pub normal : IsNormal text
+  pub within : IsWithinLimits text
+  pub erases : ErasesTo target text
+
+-- and one that is barred for it
 pub record IsCompiled (target : Target) (text : Text) : Type 0 where
   pub normal : IsNormal text
   pub within : IsWithinLimits text
   pub barred : IsBarred target text
+
+-- a barred target erases to its text
+abbrev pub erasing : {target : Target} {text : Text} → IsCompiled target text → IsErased target text
+erasing compiled = record { normal = compiled.normal; within = compiled.within; erases = compiled.barred.erases }
 
 -- what holds of a register, as far as it can be trusted. `calm` says that the caller wasn't warned: until a check has passed,
 -- what was loaded is right on that condition alone (Cohen and Petrank, SPAA 2015)

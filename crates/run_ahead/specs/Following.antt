@@ -4,9 +4,11 @@ use Rattle.norm_lang.specs.declared.text.Text.{Text}
 use Rattle.norm_lang.specs.declared.registers.Registers.{Registers}
 use Rattle.norm_lang.specs.Local.{Spot}
 use Rattle.norm_lang.specs.Registers.{first_registers}
+use Rattle.target_laws.specs.local_laws.Settling.{Settles}
 use Rattle.source_machine.specs.declared.state.SourceCaller.{SourceCaller}
 use Rattle.target_code.specs.declared.target.Target.{Target}
-use Rattle.target_laws.specs.Methods.{Method, generator_of, wrapup_of}
+use Rattle.target_code.specs.Erasing.{source_place}
+use Rattle.target_laws.specs.Methods.{Method, code_in, source_in, generator_of, wrapup_of}
 use Rattle.run_ahead.specs.Ahead.{IsStart, Ahead}
 use Rattle.run_ahead.specs.Standing.{Call, stands_at, first_spot, run_from}
 
@@ -41,3 +43,10 @@ pub record Follows {target : Target} {text : Text} (walk : Walk target text) (ho
   pub ahead : Ahead walk.method home calm path core mirror there
   pub stands : caller ≡ stands_at walk.method.op walk.method.wrapup walk.started accessed walk.call there
   pub unmoved : walk.method.wrapup ≡ true → accessed ≡ false → there ≡ run_from walk.method.op walk.method.wrapup (first_spot walk.started)
+
+-- what this says of the source alone: its local code has come from the core's place to where its caller stands. Nothing is asked of
+-- the core's registers, nor of what can be trusted of them
+pub record StandsAhead {target : Target} {text : Text} (method : Method target text) (started : Registers) (accessed : Bool) (call : Call) (at : ℕ) (mirror : Registers) (there : Spot) (caller : SourceCaller) : Type 0 where
+  pub number : call.number ≡ method.number
+  pub settles : Settles (source_in method) (record { at = source_place (code_in method) at; registers = mirror }) there
+  pub stands : caller ≡ stands_at method.op method.wrapup started accessed call there

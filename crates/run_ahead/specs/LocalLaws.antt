@@ -12,7 +12,7 @@ use Rattle.target_laws.specs.LocalCode.{target_may_stop}
 use Rattle.target_laws.specs.Methods.{code_in}
 use Rattle.target_laws.specs.Trusted.{Trusted, Spoilt, trust_along}
 use Rattle.run_ahead.specs.Agreeing.{Agree, AreApart}
-use Rattle.run_ahead.specs.Ahead.{IsHoped, IsCompiled}
+use Rattle.run_ahead.specs.Ahead.{IsHoped, IsErased, IsCompiled}
 use Rattle.run_ahead.specs.Following.{Walk, Follows}
 use Rattle.run_ahead.specs.Guards.{GuardRow, validated, published, GuardsStand}
 use Rattle.run_ahead.specs.Known.{AreGot}
@@ -50,7 +50,7 @@ pub record Confirms {target : Target} {text : Text} (walk : Walk target text) (h
 -- different homes
 abbrev pub PassedChecksConfirm : Type 0 → Type 0
 PassedChecksConfirm calm =
-    (target : Target) (text : Text) → IsCompiled target text → (home : ℕ → ℕ)
+    (target : Target) (text : Text) → IsErased target text → (home : ℕ → ℕ)
     → (walk : Walk target text) (path : List ℕ) (core : Spot) (mirror : Registers) (accessed : Bool) (caller : SourceCaller) → Follows walk home calm path core mirror accessed caller
     → slice_get (code_in walk.method) core.at ≡ Some Check → calm → AreApart home (IsHoped (trust_along walk.method path) mirror)
     → Confirms walk home calm path core mirror accessed caller
@@ -64,7 +64,7 @@ pub record Publishes {target : Target} {text : Text} (walk : Walk target text) (
 -- each guard does
 abbrev pub GuardsPublish : Type 0 → Type 0
 GuardsPublish calm =
-    (target : Target) (text : Text) → IsCompiled target text → (home : ℕ → ℕ)
+    (target : Target) (text : Text) → IsErased target text → (home : ℕ → ℕ)
     → (walk : Walk target text) (path : List ℕ) (core : Spot) (mirror : Registers) (accessed : Bool) (caller : SourceCaller) → Follows walk home calm path core mirror accessed caller
     → (guarded : Reg) → slice_get (code_in walk.method) core.at ≡ Some (Guard guarded) → Publishes walk home calm path core mirror accessed caller guarded
 

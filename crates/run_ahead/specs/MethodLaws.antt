@@ -9,8 +9,9 @@ use Rattle.norm_lang.specs.declared.text.Op.{Op}
 use Rattle.norm_lang.specs.declared.text.Text.{Text}
 use Rattle.norm_lang.specs.declared.registers.Registers.{Registers}
 use Rattle.norm_lang.specs.Local.{Spot}
+use Rattle.norm_lang.specs.NormalForm.{IsNormal}
 use Rattle.norm_lang.specs.Registers.{first_registers, number_in, with_count}
-use Rattle.local_laws.specs.Settling.{is_end}
+use Rattle.target_laws.specs.local_laws.Settling.{is_end}
 use Rattle.source_machine.specs.declared.event.SourceEvent.{SourceEvent}
 use Rattle.source_machine.specs.declared.event.SourceEvent.TheVariants as events
 use Rattle.source_machine.specs.declared.event.SourceReply.TheVariants as replies
@@ -24,7 +25,7 @@ use Rattle.target_code.specs.declared.target.Target.{Target}
 use Rattle.target_code.specs.declared.target.TargetInstr.TheVariants.{Plain}
 use Rattle.target_code.specs.Erasing.{source_place}
 use Rattle.target_laws.specs.Methods.{Method, code_in, generator_of, wrapup_of}
-use Rattle.run_ahead.specs.Ahead.{IsCompiled}
+use Rattle.run_ahead.specs.Ahead.{IsErased, IsCompiled}
 use Rattle.run_ahead.specs.Following.{Walk, generator_walk, wrapup_walk, Follows}
 use Rattle.run_ahead.specs.Standing.{Call, caller_of, first_spot, begins_at, stands_in_list, wrap_up_after, turn_if_enabled}
 
@@ -39,7 +40,7 @@ pub record Turns (text : Text) (event : SourceEvent) (memory : Memory) (caller :
 -- an idle caller begins a call of an operation: the source's caller follows the core's, which begins with the same arguments
 abbrev pub BeginsAreFollowed : Type 0 → Type 0
 BeginsAreFollowed calm =
-    (target : Target) (text : Text) → IsCompiled target text → (home : ℕ → ℕ) → home 0 ≡ 0 → (method : Method target text) (call : Call) → call.number ≡ method.number
+    (target : Target) (text : Text) → IsNormal text → (home : ℕ → ℕ) → home 0 ≡ 0 → (method : Method target text) (call : Call) → call.number ≡ method.number
     → is_call text call.number call.args ≡ true → (c : ℕ) (memory : Memory)
     → Turns text (events.Begin c call.number call.args) memory (caller_of call) (record { memory = memory; caller = begins_at method.op false (first_registers call.args) call })
     × Follows (generator_walk method call) home calm [] (first_spot (first_registers call.args)) (first_registers call.args) false (begins_at method.op false (first_registers call.args) call)
@@ -47,7 +48,7 @@ BeginsAreFollowed calm =
 -- at a commit of the generator the source's caller stands before the list's first exchange, with the mirror's registers
 abbrev pub CommitsAreFollowed : Type 0 → Type 0
 CommitsAreFollowed calm =
-    (target : Target) (text : Text) → IsCompiled target text → (home : ℕ → ℕ) (method : Method target text) (call : Call)
+    (target : Target) (text : Text) → IsErased target text → (home : ℕ → ℕ) (method : Method target text) (call : Call)
     → (path : List ℕ) (core : Spot) (mirror : Registers) (accessed : Bool) (caller : SourceCaller) → Follows (generator_walk method call) home calm path core mirror accessed caller
     → (entries : List CasEntry) → slice_get (code_in (generator_of method)) core.at ≡ Some (Plain (instr.Commit entries))
     → caller ≡ stands_in_list (source_place (code_in (generator_of method)) core.at) entries 0 mirror call
@@ -105,7 +106,7 @@ EndsAreFollowed calm =
 -- after `again` the source's caller follows the core's from the generator's start
 abbrev pub AgainIsFollowed : Type 0 → Type 0
 AgainIsFollowed calm =
-    (target : Target) (text : Text) → IsCompiled target text → (home : ℕ → ℕ) → home 0 ≡ 0 → (method : Method target text) (call : Call) → call.number ≡ method.number
+    (target : Target) (text : Text) → IsNormal text → (home : ℕ → ℕ) → home 0 ≡ 0 → (method : Method target text) (call : Call) → call.number ≡ method.number
     → (registers : Registers) → Follows (generator_walk method call) home calm [] (first_spot (first_registers call.args)) (first_registers call.args) false (ended_at method.op instr.Again registers call)
 
 -- ---- a method begins again
@@ -119,7 +120,7 @@ pub record RestartFollows {target : Target} {text : Text} (walk : Walk target te
 
 abbrev pub RestartsAreFollowed : Type 0 → Type 0 → Type 0
 RestartsAreFollowed calm calm' =
-    (target : Target) (text : Text) → IsCompiled target text → (home : ℕ → ℕ)
+    (target : Target) (text : Text) → IsErased target text → (home : ℕ → ℕ)
     → (walk : Walk target text) (path : List ℕ) (core : Spot) (mirror : Registers) (accessed : Bool) (caller : SourceCaller) → Follows walk home calm path core mirror accessed caller
     → (c : ℕ) (memory : Memory) → RestartFollows walk home calm' (events.Restart c) memory caller
 
@@ -128,7 +129,7 @@ RestartsAreFollowed calm calm' =
 -- at a `new` the source's caller may give up, with the reply that it gives
 abbrev pub GivingUpIsFollowed : Type 0 → Type 0
 GivingUpIsFollowed calm =
-    (target : Target) (text : Text) → IsCompiled target text → (home : ℕ → ℕ)
+    (target : Target) (text : Text) → IsErased target text → (home : ℕ → ℕ)
     → (walk : Walk target text) (path : List ℕ) (core : Spot) (mirror : Registers) (accessed : Bool) (caller : SourceCaller) → Follows walk home calm path core mirror accessed caller
     → (d : Reg) (kind : ℕ) → slice_get (code_in walk.method) core.at ≡ Some (Plain (instr.New d kind)) → (c : ℕ) (phase : Option ℕ) (memory : Memory)
     → Turns text (events.GiveUp c phase) memory caller (record { memory = memory; caller = replied (give_up_reply phase) (caller_of walk.call) })

@@ -8,7 +8,7 @@
 ghost use Rattle.run_ahead.specs.LocalLaws.{LocalRunsAreFollowed, PassedChecksConfirm, GuardsPublish, WarnedAreFollowed};
 ghost use Rattle.run_ahead.specs.AccessLaws.{LoadsAreFollowed, NewNodesAreFollowed, PutsAreFollowed, ExchangesAreFollowed, TestsAgree, OperandsAgree};
 ghost use Rattle.run_ahead.specs.MethodLaws.{BeginsAreFollowed, CommitsAreFollowed, ListsAreMade, WrapUpsBegin, EndsAreFollowed, AgainIsFollowed, RestartsAreFollowed, GivingUpIsFollowed};
-ghost use Rattle.run_ahead.specs.NameLaws.{MemoryIsTyped, StartsGetNothing, HopedAreKnown, KeptGuardsStay};
+ghost use Rattle.run_ahead.specs.NameLaws.{MemoryIsTyped, CallersAreTyped, AccessesFindKinds, ListsFindKinds, StartsGetNothing, HopedAreKnown, KeptGuardsStay};
 
 /// The core's local code, as far as it runs, is followed: the source stands where it stood, and the core comes to a check, a
 /// guard, or an instruction at which the text's local code may stop.
@@ -112,9 +112,18 @@ pub fn giving_up_is_followed<Calm>()
     ensures { GivingUpIsFollowed Calm }
 {}
 
-/// Along every source run of a text in normal form, roots and fields hold values of their kinds.
+/// Along every source run of a text in normal form roots and fields hold values of their kinds, and registers name nodes of kinds
+/// that they may have where their callers stand.
 pub fn memory_is_typed()
-    ensures { MemoryIsTyped }
+    ensures memory { MemoryIsTyped }
+    ensures callers { CallersAreTyped }
+{}
+
+/// Then each register that an access asks to be of a kind names null or a node of that kind, and so does each that an exchange of
+/// the executor's list asks.
+pub fn accesses_find_kinds<Calm>()
+    ensures accesses { AccessesFindKinds Calm }
+    ensures lists { ListsFindKinds }
 {}
 
 /// A passed check speaks of null, of names that the method run has got, and of those that a wrap-up keeps; a run begins with

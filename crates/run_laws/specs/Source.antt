@@ -8,10 +8,10 @@ use Rattle.caller_parts.specs.Settings.{Setting}
 use Rattle.core_runs.specs.Machine.{CoreState, CoreEvent}
 use Rattle.core_runs.specs.Scripts.{IsCompleteRun}
 use Rattle.oa_simulation.specs.Statements.{Refined}
-use Rattle.begin_laws.specs.Begins.{BeginsOfScripts}
-use Rattle.guarded_claims.specs.Guarded.{Spared}
-use Rattle.stale_laws.specs.Stale.{StaleLoadsAreWarned}
-use Rattle.lone_claims.specs.Lone.{LoneClaim}
+use Rattle.run_laws.specs.begin_laws.Begins.{BeginsOfScripts}
+use Rattle.run_laws.specs.guarded_claims.Guarded.{Spared}
+use Rattle.run_laws.specs.stale_laws.Stale.{StaleLoadsAreWarned}
+use Rattle.run_laws.specs.lone_claims.Lone.{LoneClaim}
 use Rattle.run_laws.specs.Each.{AtEachState}
 
 -- the events that a run of scripts gives to the source, in order, are one run of its text by all callers at once, on memory that is
@@ -19,7 +19,7 @@ use Rattle.run_laws.specs.Each.{AtEachState}
 -- or in neither (`refined`), and so it is in each state on the way (`refined_so_far`); its begins are the calls of the scripts, in order.
 -- In each state on the way no slot is ready that a validated guard names, so that none such is given out; a load from a slot that was
 -- given out again is followed by failed checks alone until its method begins again; and with one caller a claim ends with Full exactly
--- where every slot held a name that isn't retired
+-- where every slot of its kind held a name that isn't retired
 pub record FollowsSource (target : Target) (text : Text) (setting : Setting) (scripts : List (List Call)) (events : List CoreEvent) (state : CoreState) : Type 0 where
   pub refined : Refined target text setting events state
   pub refined_so_far : AtEachState target setting events (Refined target text setting)

@@ -4,6 +4,7 @@ use Rattle.std.proofs.Math.Seq.{append_snoc}
 use Rattle.std.specs.Prelude.{true, false, is_some, unwrap_or}
 use Rattle.target_code.specs.declared.target.Target.{Target}
 use Rattle.oa_words.specs.Words.{Word, Head, Link}
+use Rattle.phase_pools.specs.declared.stages.Scheme.TheVariants.{Warned}
 use Rattle.phase_pools.specs.declared.stages.SweepStage.TheVariants as sweeps
 use Rattle.phase_pools.specs.declared.stages.ClaimStage.TheVariants as claims
 use Rattle.phase_pools.specs.Accesses.{Loads}
@@ -28,15 +29,15 @@ steps_same c d is = cc
 
 -- the steps of another caller leave the last load
 others_step : (target : Target) (setting : Setting) (c d n : ℕ) (past before : List CoreEvent) (state later : CoreState) → d ≢ c → core_run target setting past (core_start target setting) ≡ Some state → core_run target setting (steps d n) state ≡ Some later
-    → IsLast target setting past c before → IsLast target setting (past ++ steps d n) c before
-others_step target setting c d zero past before state later ne came goes l = subst (λ (events : List CoreEvent). IsLast target setting events c before) (sym (append-nil past)) l
+    → IsLast target setting past c 0 before → IsLast target setting (past ++ steps d n) c 0 before
+others_step target setting c d zero past before state later ne came goes l = subst (λ (events : List CoreEvent). IsLast target setting events c 0 before) (sym (append-nil past)) l
 others_step target setting c d (suc n) past before state later ne came goes l =
     of (λ next at rest. others_step target setting c d n (past ++ Steps d ∷ []) before next later ne (run_more target setting past (Steps d) (core_start target setting) state next came at) rest
-    (still_last target setting past state (Steps d) c before came (λ same. absurd (ne (steps_same d c same))) l)) (core_event target setting state (Steps d)) refl goes where
-      of : ((next : CoreState) → core_event target setting state (Steps d) ≡ Some next → core_run target setting (steps d n) next ≡ Some later → IsLast target setting ((past ++ Steps d ∷ []) ++ steps d n) c before)
-          → (o : Option CoreState) → core_event target setting state (Steps d) ≡ o → run_on o (core_run target setting (steps d n)) ≡ Some later → IsLast target setting (past ++ steps d (suc n)) c before
+    (still_last target setting past state (Steps d) c 0 before came (λ same. absurd (ne (steps_same d c same))) l)) (core_event target setting state (Steps d)) refl goes where
+      of : ((next : CoreState) → core_event target setting state (Steps d) ≡ Some next → core_run target setting (steps d n) next ≡ Some later → IsLast target setting ((past ++ Steps d ∷ []) ++ steps d n) c 0 before)
+          → (o : Option CoreState) → core_event target setting state (Steps d) ≡ o → run_on o (core_run target setting (steps d n)) ≡ Some later → IsLast target setting (past ++ steps d (suc n)) c 0 before
       of further None at rest = absurd (let z : None ≡ Some later = rest in cc)
-      of further (Some next) at rest = subst (λ (events : List CoreEvent). IsLast target setting events c before) (append_snoc past (Steps d) (steps d n)) (further next at rest)
+      of further (Some next) at rest = subst (λ (events : List CoreEvent). IsLast target setting events c 0 before) (append_snoc past (Steps d) (steps d n)) (further next at rest)
 
 -- a run that comes to a state comes to the one that is seen after it
 ran : (o : Option CoreState) (other : CoreState) → is_some o ≡ true → o ≡ Some (unwrap_or o other)
@@ -53,7 +54,7 @@ goes_on : (slots : ℕ) (past more : List CoreEvent) → runs_to slots past → 
 goes_on slots past more came all = sym (run_both list_target (shared_setting slots) past more (core_start list_target (shared_setting slots)) (state_after slots past) came) ∙ all
 
 -- a load of a link is none of the head
-no_head : (j : ℕ) → Some (Loads (Link j)) ≡ Some (Loads Head) → ⊥
+no_head : (j : ℕ) → Some (Loads (Link j)) ≡ Some (Loads (Head 0)) → ⊥
 no_head j is = cc
 
 two_is_none : ◌≡◌ {A = ℕ} 2 0 → ⊥
@@ -66,15 +67,15 @@ none_is_one : ◌≡◌ {A = ℕ} 0 1 → ⊥
 none_is_one e = cc
 
 -- where none is on top, none stands
-none_stands : (memory : Word → ℕ) (j : ℕ) → top memory ≡ 0 → ¬ InChain memory j
-none_stands memory j none k = of k.chain k.linked k.once where
-  of : (chain : List ℕ) → IsChain (links memory) (top memory) chain → times j chain ≡ 1 → ⊥
+none_stands : (memory : Word → ℕ) (k j : ℕ) → top memory k ≡ 0 → ¬ InChain memory k j
+none_stands memory k j none there = of there.chain there.linked there.once where
+  of : (chain : List ℕ) → IsChain (links memory) (top memory k) chain → times j chain ≡ 1 → ⊥
   of [] linked once = none_is_one once
   of (i ∷ below) linked once = linked.1 (sym linked.0 ∙ none)
 
-five_last : IsLast list_target (shared_setting 2) (five 7) 0 (five 5)
+five_last : IsLast list_target (shared_setting 2) (five 7) 0 0 (five 5)
 unfolding wants after signs
-five_last = still_last list_target (shared_setting 2) (five 6) (state_after 2 (five 6)) (Steps 0) 0 (five 5) (comes 2 (five 6) refl) (λ same load. no_head 2 load) (now_last list_target (shared_setting 2) (five 5) 0)
+five_last = still_last list_target (shared_setting 2) (five 6) (state_after 2 (five 6)) (Steps 0) 0 0 (five 5) (comes 2 (five 6) refl) (λ same load. no_head 2 load) (now_last list_target (shared_setting 2) (five 5) 0 0)
 
 pub taken_and_pushed : TakenAndPushed
 unfolding wants after signs
@@ -98,11 +99,11 @@ taken_and_pushed = record {
   };
   there = refl;
   next = (steps 0 14 ++ (calls 1 (call_of 2 5) 5 ++ (calls 0 (call_of 1 5) 21 ++ calls 0 (call_of 0 6) 30)), refl);
-  takes = record { claim = record { stage = claims.Take 1 2 0; sweeps = 0; sweep = sweep_begun }; next = 0; at = refl; stage = refl; found = refl };
+  takes = record { claim = record { kind = 0; stage = claims.Take 1 2 0; sweeps = 0; sweep = sweep_begun Warned }; next = 0; at = refl; of_kind = refl; stage = refl; found = refl };
   taken = refl;
-  gone = none_stands (memory_after 2 (five 8)) 2 refl;
+  gone = none_stands (memory_after 2 (five 8)) 0 2 refl;
   puts = record {
-    claim = record { stage = claims.Sweeps; sweeps = 0; sweep = record { stage = sweeps.PushTop 2 1 0; bound = 2; gathered = [] } };
+    claim = record { kind = 0; stage = claims.Sweeps; sweeps = 0; sweep = record { scheme = Warned; stage = sweeps.PushTop 0 2 1 0; bound = 2; low = 2; gathered = [] } };
     phase = 1;
     at = refl;
     in_sweep = refl;
@@ -135,10 +136,10 @@ no_load : wants list_target ((view (shared_setting 3) (state_after 3 (looking 6)
 unfolding wants after signs
 no_load = refl
 
-looked_last : IsLast list_target (shared_setting 3) looked 1 (looking 5)
-looked_last = still_last list_target (shared_setting 3) (looking 6) (state_after 3 (looking 6)) (Steps 1) 1 (looking 5) came_six (λ same load. no_head 3 (sym no_load ∙ load)) (now_last list_target (shared_setting 3) (looking 5) 1)
+looked_last : IsLast list_target (shared_setting 3) looked 1 0 (looking 5)
+looked_last = still_last list_target (shared_setting 3) (looking 6) (state_after 3 (looking 6)) (Steps 1) 1 0 (looking 5) came_six (λ same load. no_head 3 (sym no_load ∙ load)) (now_last list_target (shared_setting 3) (looking 5) 1 0)
 
-again_last : IsLast list_target (shared_setting 3) (meanwhile 9) 1 (looking 5)
+again_last : IsLast list_target (shared_setting 3) (meanwhile 9) 1 0 (looking 5)
 again_last = others_step list_target (shared_setting 3) 1 0 9 looked (looking 5) (state_after 3 looked) (state_after 3 (meanwhile 9)) (λ e. cc) came_looked (goes_on 3 looked (steps 0 9) came_looked came_nine) looked_last
 
 pub head_again : HeadAgain

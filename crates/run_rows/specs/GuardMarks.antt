@@ -16,7 +16,7 @@ use Rattle.core_rows.specs.Short.{call_of, n0, n1, r0, r1, number_node, setting_
 use Rattle.core_rows.specs.ShippedTargets.{list_target}
 use Rattle.core_rows.specs.SharedRows.{shared_setting, five_in, marking, spared}
 use Rattle.core_rows.specs.Stories.{steps, calls}
-use Rattle.guarded_claims.specs.Marks.{Mark, Marks, Absent, Published, Validated, run_marks, no_marks}
+use Rattle.run_laws.specs.guarded_claims.Marks.{Mark, Marks, Absent, Published, Validated, run_marks, no_marks}
 
 -- of a register of caller 1 after a run
 abbrev pub mark_after : List CoreEvent → ℕ → Mark

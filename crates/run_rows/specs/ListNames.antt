@@ -14,8 +14,8 @@ use Rattle.core_rows.specs.ShippedTargets.{list_target}
 use Rattle.core_rows.specs.SharedRows.{shared_setting, five_in, searching, five_out, recycled}
 use Rattle.core_rows.specs.Stories.{calls, steps}
 use Rattle.oa_simulation.specs.Present.{present_in, IsResident}
-use Rattle.stale_laws.specs.Stale.{register_name, IsStaleLoad, begins_none}
-use Rattle.lone_claims.specs.Lone.{HoldsName}
+use Rattle.run_laws.specs.stale_laws.Stale.{register_name, IsStaleLoad, begins_none}
+use Rattle.run_laws.specs.lone_claims.Lone.{HoldsName}
 
 -- the name of a slot after a run
 abbrev pub name_after : List CoreEvent → ℕ → ℕ

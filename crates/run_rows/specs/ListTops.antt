@@ -33,23 +33,23 @@ six n = five_out ++ calls 0 (call_of 0 6) n
 
 pub record TakenAndPushed : Type 0 where
   -- the claim's exchange finds the head that it has loaded, phase 1 over slot 2
-  pub exchange : wants list_target ((view (shared_setting 2) (state_after 2 (five 7))).who 0) ≡ Some (Exchanges Head 8194 8192)
-  pub load : LastLoad list_target (shared_setting 2) (five 7) 0 8194
-  pub found : memory_after 2 (five 7) Head ≡ 8194
+  pub exchange : wants list_target ((view (shared_setting 2) (state_after 2 (five 7))).who 0) ≡ Some (Exchanges (Head 0) 8194 8192)
+  pub load : LastLoad list_target (shared_setting 2) (five 7) 0 0 8194
+  pub found : memory_after 2 (five 7) (Head 0) ≡ 8194
   pub top : (head_parts 8194).top ≡ 2
-  pub stands : InChain (memory_after 2 (five 7)) 2
+  pub stands : InChain (memory_after 2 (five 7)) 0 2
   -- and takes slot 2
   pub moment : Moment list_target (shared_setting 2) (six 30)
   pub there : moment.before ≡ five 7
   pub next : StepsNext list_target (shared_setting 2) (six 30) moment 0
-  pub takes : TakesTop (shared_setting 2) moment.state 0 1 2
-  pub taken : memory_after 2 (five 8) Head ≡ 8192
-  pub gone : ¬ InChain (memory_after 2 (five 8)) 2
+  pub takes : TakesTop (shared_setting 2) moment.state 0 0 1 2
+  pub taken : memory_after 2 (five 8) (Head 0) ≡ 8192
+  pub gone : ¬ InChain (memory_after 2 (five 8)) 0 2
   -- its push finds the head as the take left it, and stamps it with phase 2
-  pub puts : PutsOnTop (shared_setting 2) (state_after 2 (six 30)) 0 2 0
-  pub before : stamp (memory_after 2 (six 30)) ≡ 1
-  pub after : stamp (memory_after 2 (six 31)) ≡ 2
-  pub back : InChain (memory_after 2 (six 31)) 2
+  pub puts : PutsOnTop (shared_setting 2) (state_after 2 (six 30)) 0 0 2 0
+  pub before : stamp (memory_after 2 (six 30)) 0 ≡ 1
+  pub after : stamp (memory_after 2 (six 31)) 0 ≡ 2
+  pub back : InChain (memory_after 2 (six 31)) 0 2
 
 -- ---- three slots: caller 0 has put in and taken out a node twice, so that slots 2 and 3 are retired and the chain is empty. In its third
 -- `insert 7` a sweep has pushed slot 3
@@ -69,15 +69,15 @@ abbrev pub meanwhile : ℕ → List CoreEvent
 meanwhile n = looked ++ steps 0 n
 
 pub record HeadAgain : Type 0 where
-  pub load : LastLoad list_target (shared_setting 3) (meanwhile 9) 1 16387
-  pub exchange : wants list_target ((view (shared_setting 3) (state_after 3 (meanwhile 9))).who 1) ≡ Some (Exchanges Head 16387 16384)
+  pub load : LastLoad list_target (shared_setting 3) (meanwhile 9) 1 0 16387
+  pub exchange : wants list_target ((view (shared_setting 3) (state_after 3 (meanwhile 9))).who 1) ≡ Some (Exchanges (Head 0) 16387 16384)
   -- the head isn't as it was loaded between, and is again
-  pub loaded : memory_after 3 looked Head ≡ 16387
-  pub between : memory_after 3 (meanwhile 5) Head ≡ 16386
-  pub again : memory_after 3 (meanwhile 9) Head ≡ 16387
+  pub loaded : memory_after 3 looked (Head 0) ≡ 16387
+  pub between : memory_after 3 (meanwhile 5) (Head 0) ≡ 16386
+  pub again : memory_after 3 (meanwhile 9) (Head 0) ≡ 16387
   -- all the while slot 3 stands in the chain
   pub moment : Moment list_target (shared_setting 3) (meanwhile 9)
   pub there : moment.before ≡ meanwhile 5
   pub since : NotAfter list_target (shared_setting 3) (meanwhile 9) load.at moment
-  pub stands : InChain (memory_after 3 (meanwhile 5)) 3
+  pub stands : InChain (memory_after 3 (meanwhile 5)) 0 3
   pub link : memory_after 3 (meanwhile 5) (Link 3) ≡ 0

@@ -5,7 +5,7 @@ use Rattle.documents.specs.DocumentLimits.{IsWithinDocumentLimits}
 use Rattle.script_plans.specs.declared.fault.RunFault.{RunFault}
 use Rattle.document_runs.specs.declared.report.Report.{Report}
 use Rattle.document_runs.specs.Runs.{IsRan, IsReplayed}
-use Rattle.report_laws.specs.Lines.{ReportsAreTrue}
+use Rattle.script_driver.specs.report_laws.Lines.{ReportsAreTrue}
 use Rattle.script_driver.specs.Answers.{IsRunAnswer, IsReplayAnswer}
 
 pub run_told : (document : Document) (result : Result Report RunFault) → ReportsAreTrue → IsWithinDocumentLimits document → IsRan document result → IsRunAnswer document result

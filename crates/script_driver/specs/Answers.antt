@@ -5,7 +5,7 @@ use Rattle.script_plans.specs.declared.fault.RunFault.{RunFault}
 use Rattle.script_plans.specs.Plans.{IsFaultOf}
 use Rattle.document_runs.specs.declared.report.Report.{Report}
 use Rattle.document_runs.specs.Runs.{IsReplayFaultOf}
-use Rattle.report_laws.specs.Runs.{IsRunReport, IsReplayReport}
+use Rattle.script_driver.specs.report_laws.Runs.{IsRunReport, IsReplayReport}
 
 -- a report tells of a complete run of the document, which can be run; a fault is one of the document's
 abbrev pub IsRunAnswer : Document → Result Report RunFault → Type 0

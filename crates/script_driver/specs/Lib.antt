@@ -4,3 +4,4 @@ pub mod Rounds
 pub mod Laws
 pub mod WorkloadRuns
 pub mod WorkloadTexts
+pub mod report_laws

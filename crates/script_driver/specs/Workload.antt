@@ -5,7 +5,7 @@ use Rattle.std.specs.List.{range_with_len}
 use Rattle.norm_lang.specs.Shipped.{set_text}
 use Rattle.documents.specs.declared.document.ScriptCall.{ScriptCall}
 use Rattle.documents.specs.declared.document.Document.{Document}
-use Rattle.documents.specs.DocumentRead.{empty_tail, document_of}
+use Rattle.documents.specs.DocumentRead.{bare_document}
 
 -- ---- keys
 
@@ -84,7 +84,7 @@ second_part_slots = 16
 
 -- scripts on the set, over so many slots; phases and fuel are those of a document that doesn't set them, and there is no schedule
 abbrev pub set_document : ℕ → List (List ScriptCall) → Document
-set_document slots scripts = record (document_of (set_text buckets) empty_tail) { slots = slots; scripts = scripts }
+set_document slots scripts = record (bare_document (set_text buckets)) { slots = slots ∷ []; scripts = scripts }
 
 -- part 1: so many callers, each with the first 2,000 of its calls at most
 abbrev pub first_part : ℕ → ℕ → Document

@@ -1,6 +1,6 @@
 -- What the reports of a workload tell of.
 use Rattle.std.specs.Prelude.{◌≡◌, ℕ}
-use Rattle.report_laws.specs.Runs.{IsRunReport}
+use Rattle.script_driver.specs.report_laws.Runs.{IsRunReport}
 use Rattle.script_driver.specs.Workload.{workload_document}
 use Rattle.script_driver.specs.declared.workload.WorkloadReport.{WorkloadReport}
 

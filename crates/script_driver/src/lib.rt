@@ -4,6 +4,7 @@
 
 pub mod laws;
 mod parts;
+pub mod report_laws;
 mod rounds;
 mod running;
 mod tallies;
@@ -12,6 +13,7 @@ mod workload;
 pub use document_runs::{
     Answer, Report, ReportLine, ReportLines, count_short, is_partial, show_report,
 };
+pub use document_spelling::show_document;
 pub use documents::{Document, Numbers, Script, ScriptCall, Scripts, Turns, read_document};
 pub use parts::workload_document;
 pub use running::{replay_document, run_document};

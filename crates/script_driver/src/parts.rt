@@ -84,7 +84,7 @@ fn set_document(alloc: Global, slots: u64, scripts: Scripts) -> Result<Document,
 {
     Ok(Document {
         text: set_text(alloc, BUCKETS)?,
-        slots,
+        slots: Listed::from_slice(alloc, &[slots])?,
         first: DEFAULT_FIRST,
         last: DEFAULT_LAST,
         fuel: DEFAULT_FUEL,

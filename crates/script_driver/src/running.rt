@@ -3,10 +3,10 @@
 ghost use Rattle.documents.specs.DocumentLimits.{IsWithinDocumentLimits};
 ghost use Rattle.script_driver.specs.Answers.{IsRunAnswer, IsReplayAnswer};
 
+use crate::report_laws::reports_are_true;
 use document_runs::Report;
 use documents::Document;
 use oa_text::Gate;
-use report_laws::laws::reports_are_true;
 use script_plans::RunFault;
 use std::alloc::Global;
 use std::thread::Threads;

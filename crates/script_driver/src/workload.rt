@@ -3,7 +3,7 @@
 ghost use Rattle.std.specs.Prelude.{◌≤◌, IfOk};
 ghost use Rattle.documents.specs.DocumentLimits.{IsWithinDocumentLimits};
 ghost use Rattle.script_plans.specs.Plans.{IsRunnable};
-ghost use Rattle.report_laws.specs.Runs.{IsRunReport};
+ghost use Rattle.script_driver.specs.report_laws.Runs.{IsRunReport};
 ghost use Rattle.script_driver.specs.Workload.{workload_document};
 ghost use Rattle.script_driver.specs.WorkloadRuns.{IsWorkloadReport};
 

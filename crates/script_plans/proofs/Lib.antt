@@ -1,7 +1,8 @@
 mod Naming
 mod Firsts
+pub mod Counting
 mod Settings
 mod Limits
 mod Accepted
-mod Ready
+pub mod Ready
 mod Planned

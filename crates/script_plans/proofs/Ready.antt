@@ -1,11 +1,11 @@
 -- What a plan keeps.
-use Rattle.std.proofs.Common.{◌≡◌, ℕ, ◌≤◌, ◌<◌, ◌^◌, Bool, true, false, ◌&&◌, List, [], ◌∷◌, map, length, drop, get_or, Option, Some, None, refl, arith}
+use Rattle.std.proofs.Common.{◌≡◌, ℕ, zero, suc, ◌≤◌, ◌<◌, ◌^◌, Bool, true, false, ◌&&◌, List, [], ◌∷◌, map, length, drop, get_or, Option, Some, None, refl, arith}
 use Rattle.std.proofs.lemmas.Bool.{eqb-true, lt-ltb, and_from}
 use Rattle.std.proofs.lemmas.Bool.Decides.{nat_tests}
 use Rattle.std.proofs.lemmas.List.{drop_all, length-map}
 use Rattle.std.proofs.lemmas.List.Elements.{All-nil, All-cons, All-head, All-tail, All-map, All-get_or, All-from_get_or}
 use Rattle.std.proofs.lemmas.Option.{slice_get-map}
-use Rattle.std.specs.Prelude.{not, nat_le, nat_lt, ◌==◌, if◌then◌else◌, slice_get}
+use Rattle.std.specs.Prelude.{not, nat_le, nat_lt, ◌==◌, if◌then◌else◌, slice_get, slice_index, take}
 use Rattle.std.specs.List.{All, list_all}
 use Rattle.std.specs.Option.{option_or, option_map}
 use Rattle.norm_lang.specs.declared.text.Op.{Op}
@@ -19,8 +19,9 @@ use Rattle.documents.specs.declared.document.ScriptCall.{ScriptCall}
 use Rattle.documents.specs.declared.document.Document.{Document}
 use Rattle.documents.specs.DocumentLimits.{AreShort, IsWithinDocumentLimits}
 use Rattle.script_plans.specs.declared.fault.ShapeFault.{ShapeFault}
-use Rattle.script_plans.specs.Shapes.{first_of, most_fuel, sizes_of, sizes_fault, fault_unless, op_number, call_fault_at, args_fault, call_fault, script_fault, scripts_fault, setting_fault}
-use Rattle.script_plans.specs.Plans.{padded, call_of, calls_of, TakeWords, AllTakeWords, plan_for, IsRunnable, IsReady}
+use Rattle.script_plans.specs.Shapes.{first_of, most_fuel, padded, kind_slots, kind_nodes, sizes_of, sizes_fault, nodes_fault, rest_fault, fault_unless, op_number, call_fault_at, args_fault, call_fault, script_fault, scripts_fault, setting_fault}
+use Rattle.script_plans.specs.Plans.{call_of, calls_of, TakeWords, AllTakeWords, plan_for, IsRunnable, IsReady}
+use Rattle.script_plans.proofs.Limits.{few_kinds}
 
 both : (one other : Option ShapeFault) → option_or one other ≡ None → (one ≡ None) × (other ≡ None)
 both None other none = (refl, none)
@@ -97,10 +98,10 @@ short_are ops scripts short =
 fuelled : (document : Document) → setting_fault document ≡ None → 1 ≤ document.fuel
 fuelled document none =
     let last : fault_unless 7 (is_count most_fuel document.fuel) ≡ None =
-    fourth (sizes_fault (sizes_of document)) (fault_unless 5 (not (nat_lt document.slots (length document.text.nodes)))) (fault_unless 6 (are_phases document.first document.last)) (fault_unless 7 (is_count most_fuel document.fuel)) none in
+    fourth (sizes_fault (length document.text.kinds) (sizes_of document)) (nodes_fault (kind_slots document) (kind_nodes document.text.nodes)) (fault_unless 6 (are_phases document.first document.last)) (fault_unless 7 (is_count most_fuel document.fuel)) none in
     first (nat_le 1 document.fuel) (nat_le document.fuel most_fuel) refl (passed 7 (is_count most_fuel document.fuel) last)
   where
-    fourth : (a b c d : Option ShapeFault) → first_of (a ∷ b ∷ c ∷ d ∷ []) ≡ None → d ≡ None
+    fourth : (a b c d : Option ShapeFault) → first_of (a ∷ b ∷ first_of (c ∷ d ∷ []) ∷ []) ≡ None → d ≡ None
     fourth None None None None none = refl
     fourth None None None (Some fault) none = cc
     fourth None None (Some fault) d none = cc
@@ -111,12 +112,25 @@ fuelled document none =
     first true b le is = grind (arith, nat_tests)
     first false b le is = cc
 
+-- four numbers are enough for the kinds
+four_are_enough : (kinds a b c d : ℕ) → kinds ≤ 4 → length (take kinds (a ∷ b ∷ c ∷ d ∷ [])) ≡ kinds
+four_are_enough zero a b c d few = refl
+four_are_enough (suc zero) a b c d few = refl
+four_are_enough (suc (suc zero)) a b c d few = refl
+four_are_enough (suc (suc (suc zero))) a b c d few = refl
+four_are_enough (suc (suc (suc (suc zero)))) a b c d few = refl
+four_are_enough (suc (suc (suc (suc (suc kinds))))) a b c d few = absurd (omega (arith, few))
+
+pub all_kinds : (document : Document) → length document.text.kinds ≤ 4 → length (kind_slots document) ≡ length document.text.kinds
+all_kinds document few =
+    four_are_enough (length document.text.kinds) (slice_index document.slots 0) (slice_index document.slots 1) (slice_index document.slots 2) (slice_index document.slots 3) few
+
 pub plan_is_ready : (document : Document) → IsWithinDocumentLimits document → IsRunnable document → AllTakeWords (calls_of document) → IsReady (plan_for document)
 plan_is_ready document within runs words =
     let parts = both (setting_fault document) (first_of (scripts_fault document.text.ops document.scripts ∷ [])) runs.shape in
     let calls = both (scripts_fault document.text.ops document.scripts) None parts.1 in
     record {
-      fits = record { fields = refl; cells = refl; nodes = refl };
+      fits = record { kinds = all_kinds document (few_kinds document.text within.text); fields = refl; cells = refl; nodes = refl };
       count = length-map document.scripts (map (call_of document.text.ops));
       calls = scripts_are document.text.ops document.scripts words calls.0;
       short = short_are document.text.ops document.scripts within.scripts;

@@ -1,17 +1,19 @@
 -- Settings and their faults, against what the makers of a shape and of a setting answer.
-use Rattle.std.proofs.Common.{◌≡◌, Bool, true, false, not, [], ◌∷◌, length, Option, Some, None, Result, Ok, Err, refl, ap, ◌∙◌}
-use Rattle.std.specs.Prelude.{nat_lt, if◌then◌else◌}
+use Rattle.std.proofs.Common.{◌≡◌, ℕ, Bool, true, false, ◌&&◌, List, [], ◌∷◌, length, take, Option, Some, None, Result, Ok, Err, refl, sym, ap, ◌∙◌, subst}
+use Rattle.std.specs.Prelude.{nat_le, if◌then◌else◌}
+use Rattle.std.specs.Option.{option_or}
 use Rattle.oa_words.specs.declared.shape.ShapeFault.{ShapeFault as SizesFault}
 use Rattle.oa_words.specs.declared.shape.ShapeFault.TheVariants as sizes
 use Rattle.oa_words.specs.Words.{Sizes}
-use Rattle.oa_words.specs.Within.{is_count, sizes_or_fault}
+use Rattle.oa_words.specs.Within.{is_count, are_slots, sizes_of_kinds, sizes_or_fault}
 use Rattle.caller_parts.specs.declared.setting.SettingFault.{SettingFault}
 use Rattle.caller_parts.specs.declared.setting.SettingFault.TheVariants as settings
-use Rattle.caller_parts.specs.Settings.{Setting, are_phases, setting_or_fault}
+use Rattle.caller_parts.specs.Settings.{Setting, are_phases, have_slots, setting_or_fault}
 use Rattle.documents.specs.declared.document.Document.{Document}
 use Rattle.script_plans.specs.declared.fault.ShapeFault.{ShapeFault}
-use Rattle.script_plans.specs.Shapes.{first_of, most_fuel, whole_fault, fault_unless, sizes_of, setting_of, sizes_fault, setting_fault}
-use Rattle.script_plans.specs.Told.{sizes_number, setting_number, or_fault}
+use Rattle.script_plans.specs.Shapes.{first_of, most_fuel, whole_fault, fault_unless, padded, kind_slots, kind_nodes, sizes_of, setting_with, setting_of, sizes_fault, nodes_fault, rest_fault, setting_fault}
+use Rattle.script_plans.specs.Told.{sizes_number, or_fault}
+use Rattle.script_plans.proofs.Counting.{are_roomy}
 
 -- ---- the shape of the row
 
@@ -19,87 +21,107 @@ abbrev told : Result Sizes SizesFault → Result Sizes ShapeFault
 told (Ok n) = Ok n
 told (Err fault) = Err (whole_fault (sizes_number fault))
 
-judged : (n : Sizes) (a b c d : Bool)
-    → told (if a then (if b then (if c then (if d then Ok n else Err sizes.Cells) else Err sizes.Fields) else Err sizes.Slots) else Err sizes.Callers)
-    ≡ or_fault (first_of (fault_unless 1 a ∷ fault_unless 2 b ∷ fault_unless 3 c ∷ fault_unless 4 d ∷ [])) n
-judged n false b c d = refl
-judged n true false c d = refl
-judged n true true false d = refl
-judged n true true true false = refl
-judged n true true true true = refl
+judged : (n : Sizes) (a b c d e : Bool)
+    → told (if a then (if b then (if c then (if d then (if e then Ok n else Err sizes.Cells) else Err sizes.Fields) else Err sizes.Slots) else Err sizes.Kinds) else Err sizes.Callers)
+    ≡ or_fault (first_of (fault_unless 1 a ∷ fault_unless 2 (b && c) ∷ fault_unless 3 d ∷ fault_unless 4 e ∷ [])) n
+judged n false b c d e = refl
+judged n true false c d e = refl
+judged n true true false d e = refl
+judged n true true true false e = refl
+judged n true true true true false = refl
+judged n true true true true true = refl
 
-shape_told : (n : Sizes) → told (sizes_or_fault n) ≡ or_fault (sizes_fault n) n
-shape_told n = judged n (is_count 8 n.callers) (is_count 4096 n.slots) (is_count 4 n.fields) (is_count 256 n.cells)
+shape_told : (kinds : ℕ) (n : Sizes) → told (sizes_or_fault kinds n) ≡ or_fault (sizes_fault kinds n) n
+shape_told kinds n = judged n (is_count 8 n.callers) (is_count 4 kinds) (are_slots n) (is_count 4 n.fields) (is_count 256 n.cells)
 
-pub shape_fine : (n shape : Sizes) → Ok shape ≡ sizes_or_fault n → Ok shape ≡ or_fault (sizes_fault n) n
-shape_fine n shape is = ap told is ∙ shape_told n
+pub shape_fine : (kinds : ℕ) (n shape : Sizes) → Ok shape ≡ sizes_or_fault kinds n → Ok shape ≡ or_fault (sizes_fault kinds n) n
+shape_fine kinds n shape is = ap told is ∙ shape_told kinds n
 
-pub shape_refused : (n : Sizes) (fault : SizesFault) → Err fault ≡ sizes_or_fault n → Err (whole_fault (sizes_number fault)) ≡ or_fault (sizes_fault n) n
-shape_refused n fault is = ap told is ∙ shape_told n
+pub shape_refused : (kinds : ℕ) (n : Sizes) (fault : SizesFault) → Err fault ≡ sizes_or_fault kinds n → Err (whole_fault (sizes_number fault)) ≡ or_fault (sizes_fault kinds n) n
+shape_refused kinds n fault is = ap told is ∙ shape_told kinds n
 
--- ---- the setting
-
-abbrev told_setting : Result Setting SettingFault → Result Setting ShapeFault
-told_setting (Ok n) = Ok n
-told_setting (Err fault) = Err (whole_fault (setting_number fault))
-
-abbrev faults : Option ShapeFault → Bool → Bool → Bool → Option ShapeFault
-faults shape more phases fuel = first_of (shape ∷ fault_unless 5 (not more) ∷ fault_unless 6 phases ∷ fault_unless 7 fuel ∷ [])
+-- ---- the rest of a setting, where each kind has slots for its initial nodes
 
 abbrev tried : Setting → Bool → Bool → Result Setting SettingFault
-tried setting more phases = if more then Err settings.Nodes else (if phases then Ok setting else Err settings.Phases)
+tried setting roomy phases = if roomy then (if phases then Ok setting else Err settings.Phases) else Err settings.Nodes
+
+abbrev rest : Bool → Bool → Option ShapeFault
+rest phases fuel = first_of (fault_unless 6 phases ∷ fault_unless 7 fuel ∷ [])
+
+fine : (setting made : Setting) (phases : Bool) → Ok made ≡ tried setting true phases → Ok made ≡ or_fault (rest phases true) setting
+fine setting made true is = let same : made ≡ setting = cc in ap (λ (s : Setting). Ok s) same
+fine setting made false is = cc
+
+unfuelled : (setting made : Setting) (phases : Bool) → Ok made ≡ tried setting true phases → Err (whole_fault 7) ≡ or_fault (rest phases false) setting
+unfuelled setting made true is = refl
+unfuelled setting made false is = cc
+
+refused : (setting : Setting) (fault : SettingFault) (phases fuel : Bool) → Err fault ≡ tried setting true phases → Err (whole_fault 6) ≡ or_fault (rest phases fuel) setting
+refused setting fault true fuel is = cc
+refused setting fault false fuel is = refl
+
+module _ (document : Document) (shape : Sizes) (nodes : List ℕ) (roomy : have_slots shape nodes (length shape.kinds) ≡ true) where
+  abbrev asked : Setting
+  asked = setting_with document shape nodes
+
+  judged_so : setting_or_fault asked ≡ tried asked true (are_phases document.first document.last)
+  judged_so = ap (λ (b : Bool). tried asked b (are_phases document.first document.last)) roomy
+
+  pub over_fine : (setting : Setting) → Ok setting ≡ setting_or_fault asked → true ≡ is_count most_fuel document.fuel → Ok setting ≡ or_fault (rest_fault document) asked
+  over_fine setting is fuel = rw (← fuel) (fine asked setting (are_phases document.first document.last) (is ∙ judged_so))
+
+  pub over_unfuelled : (setting : Setting) → Ok setting ≡ setting_or_fault asked → false ≡ is_count most_fuel document.fuel → Err (whole_fault 7) ≡ or_fault (rest_fault document) asked
+  over_unfuelled setting is fuel = rw (← fuel) (unfuelled asked setting (are_phases document.first document.last) (is ∙ judged_so))
+
+  pub over_refused : (fault : SettingFault) → Err fault ≡ setting_or_fault asked → Err (whole_fault 6) ≡ or_fault (rest_fault document) asked
+  over_refused fault is = refused asked fault (are_phases document.first document.last) (is_count most_fuel document.fuel) (is ∙ judged_so)
+
+-- ---- the setting
 
 -- a shape that was made is the one asked for
 same_shape : (fault : Option ShapeFault) (n shape : Sizes) → Ok shape ≡ or_fault fault n → (shape ≡ n) × (fault ≡ None)
 same_shape None n shape is = (cc, refl)
 same_shape (Some fault) n shape is = cc
 
-fine : (setting made : Setting) (more phases : Bool) → Ok made ≡ tried setting more phases → Ok made ≡ or_fault (faults None more phases true) setting
-fine setting made true phases is = cc
-fine setting made false true is = let same : made ≡ setting = cc in ap (λ (s : Setting). Ok s) same
-fine setting made false false is = cc
+module _ (document : Document) where
+  abbrev by_sizes : Option ShapeFault
+  by_sizes = sizes_fault (length document.text.kinds) (sizes_of document)
 
-unfuelled : (setting made : Setting) (more phases : Bool) → Ok made ≡ tried setting more phases → Err (whole_fault 7) ≡ or_fault (faults None more phases false) setting
-unfuelled setting made true phases is = cc
-unfuelled setting made false true is = refl
-unfuelled setting made false false is = cc
+  abbrev by_nodes : Option ShapeFault
+  by_nodes = nodes_fault (kind_slots document) (kind_nodes document.text.nodes)
 
-refused : (setting : Setting) (fault : SettingFault) (more phases fuel : Bool) → Err fault ≡ tried setting more phases → Err (whole_fault (setting_number fault)) ≡ or_fault (faults None more phases fuel) setting
-refused setting fault true phases fuel is = ap told_setting is
-refused setting fault false true fuel is = cc
-refused setting fault false false fuel is = ap told_setting is
+  -- each kind of a shape that was made has slots for its nodes
+  pub setting_roomy : (shape : Sizes) → Ok shape ≡ or_fault by_sizes (sizes_of document) → None ≡ by_nodes
+      → have_slots shape (kind_nodes document.text.nodes) (length shape.kinds) ≡ true
+  setting_roomy shape made none =
+      subst (λ (n : Sizes). have_slots n (kind_nodes document.text.nodes) (length n.kinds) ≡ true) (sym (same_shape by_sizes (sizes_of document) shape made).0)
+      (are_roomy (sizes_of document) (kind_nodes document.text.nodes) (sym none))
 
-abbrev asked : Document → Sizes → Setting
-asked document shape = record { sizes = shape; first = document.first; last = document.last; nodes = length document.text.nodes }
+  pub setting_fine : (shape : Sizes) (result : Result Setting ShapeFault) → Ok shape ≡ or_fault by_sizes (sizes_of document) → None ≡ by_nodes
+      → result ≡ or_fault (rest_fault document) (setting_with document shape (kind_nodes document.text.nodes)) → result ≡ or_fault (setting_fault document) (setting_of document)
+  setting_fine shape result made none is =
+      let same = same_shape by_sizes (sizes_of document) shape made in
+      is ∙ ap (λ (n : Sizes). or_fault (rest_fault document) (setting_with document n (kind_nodes document.text.nodes))) same.0
+      ∙ ap (λ (o : Option ShapeFault). or_fault o (setting_of document)) (whole by_sizes by_nodes (rest_fault document) same.1 (sym none))
+    where
+      whole : (one two three : Option ShapeFault) → one ≡ None → two ≡ None → three ≡ first_of (one ∷ two ∷ three ∷ [])
+      whole None None None never none = refl
+      whole None None (Some fault) never none = refl
+      whole None (Some fault) three never none = cc
+      whole (Some fault) two three never none = cc
 
-abbrev more_nodes : Document → Bool
-more_nodes document = nat_lt document.slots (length document.text.nodes)
+  pub setting_crowded : (shape : Sizes) (fault : ShapeFault) → Ok shape ≡ or_fault by_sizes (sizes_of document) → Some fault ≡ by_nodes
+      → Err fault ≡ or_fault (setting_fault document) (setting_of document)
+  setting_crowded shape fault made some = go by_sizes by_nodes (same_shape by_sizes (sizes_of document) shape made).1 some
+    where
+      go : (one two : Option ShapeFault) → one ≡ None → Some fault ≡ two → Err fault ≡ or_fault (first_of (one ∷ two ∷ rest_fault document ∷ [])) (setting_of document)
+      go None None never some = cc
+      go None (Some other) never some = let same : fault ≡ other = cc in ap (λ (f : ShapeFault). Err f) same
+      go (Some other) two never some = cc
 
-pub setting_fine : (document : Document) (shape : Sizes) (setting : Setting) → Ok shape ≡ or_fault (sizes_fault (sizes_of document)) (sizes_of document)
-    → Ok setting ≡ setting_or_fault (asked document shape) → true ≡ is_count most_fuel document.fuel → Ok setting ≡ or_fault (setting_fault document) (setting_of document)
-setting_fine document shape setting made is fuel =
-    let same = same_shape (sizes_fault (sizes_of document)) (sizes_of document) shape made in
-    let here : Ok setting ≡ setting_or_fault (setting_of document) = is ∙ ap (λ (n : Sizes). setting_or_fault (asked document n)) same.0 in
-    rw (same.1, ← fuel) (fine (setting_of document) setting (more_nodes document) (are_phases document.first document.last) here)
-
-pub setting_unfuelled : (document : Document) (shape : Sizes) (setting : Setting) → Ok shape ≡ or_fault (sizes_fault (sizes_of document)) (sizes_of document)
-    → Ok setting ≡ setting_or_fault (asked document shape) → false ≡ is_count most_fuel document.fuel → Err (whole_fault 7) ≡ or_fault (setting_fault document) (setting_of document)
-setting_unfuelled document shape setting made is fuel =
-    let same = same_shape (sizes_fault (sizes_of document)) (sizes_of document) shape made in
-    let here : Ok setting ≡ setting_or_fault (setting_of document) = is ∙ ap (λ (n : Sizes). setting_or_fault (asked document n)) same.0 in
-    rw (same.1, ← fuel) (unfuelled (setting_of document) setting (more_nodes document) (are_phases document.first document.last) here)
-
-pub setting_refused : (document : Document) (shape : Sizes) (fault : SettingFault) → Ok shape ≡ or_fault (sizes_fault (sizes_of document)) (sizes_of document)
-    → Err fault ≡ setting_or_fault (asked document shape) → Err (whole_fault (setting_number fault)) ≡ or_fault (setting_fault document) (setting_of document)
-setting_refused document shape fault made is =
-    let same = same_shape (sizes_fault (sizes_of document)) (sizes_of document) shape made in
-    let here : Err fault ≡ setting_or_fault (setting_of document) = is ∙ ap (λ (n : Sizes). setting_or_fault (asked document n)) same.0 in
-    rw same.1 (refused (setting_of document) fault (more_nodes document) (are_phases document.first document.last) (is_count most_fuel document.fuel) here)
-
-pub setting_shapeless : (document : Document) (fault : ShapeFault) → Err fault ≡ or_fault (sizes_fault (sizes_of document)) (sizes_of document) → Err fault ≡ or_fault (setting_fault document) (setting_of document)
-setting_shapeless document fault is = go (sizes_fault (sizes_of document)) is
-  where
-    go : (shape : Option ShapeFault) → Err fault ≡ or_fault shape (sizes_of document)
-        → Err fault ≡ or_fault (faults shape (more_nodes document) (are_phases document.first document.last) (is_count most_fuel document.fuel)) (setting_of document)
-    go None is = cc
-    go (Some other) is = let same : fault ≡ other = cc in ap (λ (f : ShapeFault). Err f) same
+  pub setting_shapeless : (fault : ShapeFault) → Err fault ≡ or_fault by_sizes (sizes_of document) → Err fault ≡ or_fault (setting_fault document) (setting_of document)
+  setting_shapeless fault is = go by_sizes is
+    where
+      go : (one : Option ShapeFault) → Err fault ≡ or_fault one (sizes_of document) → Err fault ≡ or_fault (first_of (one ∷ by_nodes ∷ rest_fault document ∷ [])) (setting_of document)
+      go None is = cc
+      go (Some other) is = let same : fault ≡ other = cc in ap (λ (f : ShapeFault). Err f) same

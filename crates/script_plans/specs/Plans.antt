@@ -1,5 +1,5 @@
 -- The plan of a document: what its callers run.
-use Rattle.std.specs.Prelude.{◌≡◌, ℕ, ◌≤◌, true, List, [], ◌∷◌, map, length, slice_index, Some, None, Result, Ok, Err, All}
+use Rattle.std.specs.Prelude.{◌≡◌, ℕ, ◌≤◌, true, List, map, length, Some, None, Result, Ok, Err, All}
 use Rattle.norm_lang.specs.declared.text.Op.{Op}
 use Rattle.norm_lang.specs.NormalForm.{IsNormal}
 use Rattle.norm_check.specs.Refusals.{IsRefused}
@@ -14,15 +14,11 @@ use Rattle.documents.specs.DocumentLimits.{AreShort}
 use Rattle.script_plans.specs.declared.fault.RunFault.{RunFault}
 use Rattle.script_plans.specs.declared.fault.RunFault.TheVariants as faults
 use Rattle.script_plans.specs.declared.plan.Plan.{Plan}
-use Rattle.script_plans.specs.Shapes.{op_number, setting_of, shape_fault}
+use Rattle.script_plans.specs.Shapes.{padded, op_number, setting_of, shape_fault}
 
 -- the code that its callers run: its text, compiled by combined checks
 abbrev pub target_of : Document → Target
 target_of document = second_scheme document.text
-
--- four words: the arguments, and 0 past them
-abbrev pub padded : List ℕ → List ℕ
-padded args = slice_index args 0 ∷ slice_index args 1 ∷ slice_index args 2 ∷ slice_index args 3 ∷ []
 
 -- what a call line calls
 abbrev pub call_of : List Op → ScriptCall → Call

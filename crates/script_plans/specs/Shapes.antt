@@ -1,12 +1,14 @@
 -- The shape of a document: its settings are in their ranges, and each call line calls an operation of the text with as many
 -- arguments as it has.
-use Rattle.std.specs.Prelude.{ℕ, Bool, true, false, List, [], ◌∷◌, map, length, Option, Some, None, not, nat_lt, ◌==◌, if◌then◌else◌, slice_get}
+use Rattle.std.specs.Prelude.{ℕ, zero, suc, Bool, true, false, ◌&&◌, List, [], ◌∷◌, map, length, take, Option, Some, None, option_map, nat_le, ◌==◌, if◌then◌else◌, slice_get, slice_index}
 use Rattle.std.specs.List.{position}
 use Rattle.std.specs.Option.{option_or, unwrap_or}
 use Rattle.std.specs.Str.{bytes_eq}
 use Rattle.norm_lang.specs.declared.text.Op.{Op}
+use Rattle.norm_lang.specs.declared.text.NodeDecl.{NodeDecl}
 use Rattle.oa_words.specs.Words.{Sizes}
-use Rattle.oa_words.specs.Within.{is_count}
+use Rattle.oa_words.specs.Within.{is_count, are_slots, sizes_of_kinds}
+use Rattle.caller_parts.specs.KindCounts.{greatest_of, node_count}
 use Rattle.caller_parts.specs.Settings.{Setting, are_phases}
 use Rattle.documents.specs.declared.document.ScriptCall.{ScriptCall}
 use Rattle.documents.specs.declared.document.Document.{Document}
@@ -22,8 +24,8 @@ first_of (fault ∷ faults) = option_or fault (first_of faults)
 abbrev pub most_callers : ℕ
 most_callers = 8
 
-abbrev pub most_slots : ℕ
-most_slots = 4096
+abbrev pub most_kinds : ℕ
+most_kinds = 4
 
 abbrev pub most_fields : ℕ
 most_fields = 4
@@ -34,7 +36,7 @@ most_cells = 256
 abbrev pub most_fuel : ℕ
 most_fuel = 1000000000
 
--- a fault of the document as a whole has the place 0
+-- a fault of the document as a whole has the place 0, but for that of a kind
 abbrev pub whole_fault : ℕ → ShapeFault
 whole_fault number = record { number = number; at = 0 }
 
@@ -43,29 +45,57 @@ abbrev pub fault_unless : ℕ → Bool → Option ShapeFault
 fault_unless number true = None
 fault_unless number false = Some (whole_fault number)
 
--- a caller for each script, the document's slots and phases, and the text's fields, roots and initial nodes
+-- four numbers: the first of these, and 0 past them
+abbrev pub padded : List ℕ → List ℕ
+padded numbers = slice_index numbers 0 ∷ slice_index numbers 1 ∷ slice_index numbers 2 ∷ slice_index numbers 3 ∷ []
+
+-- how many slots each kind of the text has
+abbrev pub kind_slots : Document → List ℕ
+kind_slots document = take (length document.text.kinds) (padded document.slots)
+
+-- a caller for each script, the slots of each kind, as many fields as the kind with the most has, and the text's roots
 abbrev pub sizes_of : Document → Sizes
-sizes_of document = record { callers = length document.scripts; slots = document.slots; fields = length document.text.fields; cells = length document.text.roots }
+sizes_of document = sizes_of_kinds (length document.scripts) (kind_slots document) (greatest_of document.text.fields (length document.text.kinds)) (length document.text.roots)
+
+-- how many initial nodes each of four kinds has
+abbrev pub kind_nodes : List NodeDecl → List ℕ
+kind_nodes nodes = node_count nodes 0 ∷ node_count nodes 1 ∷ node_count nodes 2 ∷ node_count nodes 3 ∷ []
+
+abbrev pub setting_with : Document → Sizes → List ℕ → Setting
+setting_with document sizes nodes = record { sizes = sizes; first = document.first; last = document.last; nodes = nodes }
 
 abbrev pub setting_of : Document → Setting
-setting_of document = record { sizes = sizes_of document; first = document.first; last = document.last; nodes = length document.text.nodes }
+setting_of document = setting_with document (sizes_of document) (kind_nodes document.text.nodes)
 
--- 1 the scripts, 2 the slots, 3 the fields, 4 the roots. A text within the limits has neither 3 nor 4
-abbrev pub sizes_fault : Sizes → Option ShapeFault
-sizes_fault sizes = first_of (
+-- 1 the scripts, 2 the slots of a kind or of all kinds, 3 the fields, 4 the roots. A text within the limits has neither 3 nor 4, and
+-- never too many kinds
+abbrev pub sizes_fault : ℕ → Sizes → Option ShapeFault
+sizes_fault kinds sizes = first_of (
     fault_unless 1 (is_count most_callers sizes.callers)
-    ∷ fault_unless 2 (is_count most_slots sizes.slots)
+    ∷ fault_unless 2 (is_count most_kinds kinds && are_slots sizes)
     ∷ fault_unless 3 (is_count most_fields sizes.fields)
     ∷ fault_unless 4 (is_count most_cells sizes.cells)
     ∷ [])
 
--- then 5 the initial nodes, of which there are no more than slots, 6 the phases, 7 the fuel
+-- the first of so many kinds that has more initial nodes than slots, counted from 0
+abbrev pub first_crowded : List ℕ → List ℕ → ℕ → Option ℕ
+first_crowded slots nodes zero = None
+first_crowded slots nodes (suc t) = option_or (first_crowded slots nodes t) (if nat_le (slice_index nodes t) (slice_index slots t) then None else Some t)
+
+-- its place is that kind
+abbrev pub nodes_fault : List ℕ → List ℕ → Option ShapeFault
+nodes_fault slots nodes = option_map (λ kind. record { number = 5; at = kind }) (first_crowded slots nodes (length slots))
+
+-- 6 the phases, 7 the fuel
+abbrev pub rest_fault : Document → Option ShapeFault
+rest_fault document = first_of (fault_unless 6 (are_phases document.first document.last) ∷ fault_unless 7 (is_count most_fuel document.fuel) ∷ [])
+
+-- what is wrong with the settings: their sizes, 5 the initial nodes, of which no kind has more than slots, and the rest
 abbrev pub setting_fault : Document → Option ShapeFault
 setting_fault document = first_of (
-    sizes_fault (sizes_of document)
-    ∷ fault_unless 5 (not (nat_lt document.slots (length document.text.nodes)))
-    ∷ fault_unless 6 (are_phases document.first document.last)
-    ∷ fault_unless 7 (is_count most_fuel document.fuel)
+    sizes_fault (length document.text.kinds) (sizes_of document)
+    ∷ nodes_fault (kind_slots document) (kind_nodes document.text.nodes)
+    ∷ rest_fault document
     ∷ [])
 
 -- ---- calls

@@ -4,8 +4,6 @@ use Rattle.norm_check.specs.declared.refusal.CheckError.{CheckError}
 use Rattle.norm_check.specs.declared.refusal.CheckError.TheVariants as checks
 use Rattle.oa_words.specs.declared.shape.ShapeFault.{ShapeFault as SizesFault}
 use Rattle.oa_words.specs.declared.shape.ShapeFault.TheVariants as sizes
-use Rattle.caller_parts.specs.declared.setting.SettingFault.{SettingFault}
-use Rattle.caller_parts.specs.declared.setting.SettingFault.TheVariants as settings
 use Rattle.script_plans.specs.declared.fault.ShapeFault.{ShapeFault}
 use Rattle.script_plans.specs.declared.fault.RunFault.{RunFault}
 use Rattle.script_plans.specs.declared.fault.RunFault.TheVariants as faults
@@ -17,16 +15,13 @@ abbrev pub refusal_told : CheckError → RunFault
 refusal_told checks.Memory = faults.Memory
 refusal_told (checks.Refused refusal) = faults.Refused refusal
 
--- the numbers of what is wrong with the sizes of a row, and with the rest of a setting
+-- the numbers of what is wrong with the sizes of a row. A document never has too many kinds
 abbrev pub sizes_number : SizesFault → ℕ
 sizes_number sizes.Callers = 1
+sizes_number sizes.Kinds = 2
 sizes_number sizes.Slots = 2
 sizes_number sizes.Fields = 3
 sizes_number sizes.Cells = 4
-
-abbrev pub setting_number : SettingFault → ℕ
-setting_number settings.Nodes = 5
-setting_number settings.Phases = 6
 
 -- this, unless there is a fault
 abbrev pub or_fault : {A : Type 0} → Option ShapeFault → A → Result A ShapeFault

@@ -2,32 +2,34 @@
 
 ghost use Rattle.std.specs.Prelude.{◌≡◌, ◌<◌, length, map, slice_index, true, IfOk};
 ghost use Rattle.caller_parts.specs.Calls.{are_words};
-ghost use Rattle.script_plans.specs.Plans.{padded, call_of, calls_of, TakeWords, AllTakeWords};
+ghost use Rattle.script_plans.specs.Shapes.{padded};
+ghost use Rattle.script_plans.specs.Plans.{call_of, calls_of, TakeWords, AllTakeWords};
 
 use crate::plan::{CallList, CallLists};
 use crate::shape::op_number;
-use caller_steps::Call;
+use caller_parts::Call;
 use documents::{Document, ScriptCall};
 use norm_lang::list::Listed;
 use norm_lang::text::Op;
 use std::alloc::{AllocError, Global};
 
-/// The argument with this number, or 0 past the last.
-fn argument(args: &[u64], number: usize) -> u64
-    ensures { result ≡ slice_index args.now number }
+/// The number at a place, or 0 past the last.
+fn number_at(numbers: &[u64], place: usize) -> u64
+    ensures { result ≡ slice_index numbers.now place }
 {
-    args.get(number).copied().unwrap_or(0)
+    numbers.get(place).copied().unwrap_or(0)
 }
 
-fn padded(args: &[u64]) -> [u64; 4]
-    ensures same { result ≡ padded args.now }
+/// Four numbers: the first of these, and 0 past them.
+pub(crate) fn padded(numbers: &[u64]) -> [u64; 4]
+    ensures same { result ≡ padded numbers.now }
     ensures words { are_words result ≡ true }
 {
     [
-        argument(args, 0),
-        argument(args, 1),
-        argument(args, 2),
-        argument(args, 3),
+        number_at(numbers, 0),
+        number_at(numbers, 1),
+        number_at(numbers, 2),
+        number_at(numbers, 3),
     ]
 }
 

@@ -9,10 +9,11 @@ use std::alloc::AllocError;
 
 /// What is wrong with the shape of a document: its number, and where.
 ///
-/// 1 the scripts aren't 1 to 8; 2 the slots aren't 1 to 4096; 3 and 4 are of the text's fields and roots, whose grammar has
-/// no such fault; 5 there are more initial nodes than slots; 6 the phases F and L aren't `1 <= F <= L <= 2^50`; 7 the fuel isn't 1 to
+/// 1 the scripts aren't 1 to 8; 2 the slots of a kind, or of all kinds together, aren't 1 to 4096; 3 and 4 are of the text's fields and
+/// roots, whose grammar has no such fault; 5 a kind has more initial nodes than slots; 6 the phases F and L aren't `1 <= F <= L <= 2^50`; 7 the fuel isn't 1 to
 /// 1,000,000,000; 8 a call line names no operation of the text; 9 a call line has another count of arguments than its
-/// operation. The place of 8 and 9 is the line, and that of the others 0.
+/// operation. The place of 5 is the first such kind, counted from 0, that of 8 and 9 the line, and that of the
+/// others 0.
 #[derive(Clone, Copy, Debug, PartialEq, Eq)]
 pub struct ShapeFault {
     pub number: u8,

@@ -1,6 +1,6 @@
 //! The plan of a document.
 
-ghost use Rattle.std.specs.Prelude.{◌≡◌, ◌<◌, ◌^◌, length, IfOk, IfErr};
+ghost use Rattle.std.specs.Prelude.{◌≡◌, ◌≤◌, ◌<◌, ◌^◌, length, IfOk, IfErr};
 ghost use Rattle.norm_lang.specs.NormalForm.{IsNormal};
 ghost use Rattle.target_code.specs.SecondScheme.{second_scheme};
 ghost use Rattle.documents.specs.DocumentLimits.{IsWithinDocumentLimits};
@@ -16,7 +16,7 @@ use crate::shape::scripts_fault;
 use barrier_check::laws::flawed_is_not_barred;
 use barrier_check::{Barred, VerifyError, verify};
 use barrier_compiler::compile;
-use caller_steps::{Call, Setting};
+use caller_parts::{Call, Setting};
 use documents::Document;
 use norm_check::{Normal, check};
 use norm_lang::list::Listed;
@@ -56,7 +56,8 @@ fn barred_of(alloc: Global, normal: &Normal) -> Result<Barred, RunFault>
 
 /// The setting of a document, or what is wrong with its shape.
 fn shaped(document: &Document) -> Result<Setting, ShapeFault>
-    requires few { length document.now.text.nodes < 2 ^ 32 }
+    requires kinds { length document.now.text.kinds ≤ 4 }
+    requires nodes { length document.now.text.nodes < 2 ^ 32 }
     ensures { result ≡ or_fault (shape_fault document.now) (setting_of document.now) }
 {
     let setting = setting_of(document)?;
@@ -67,7 +68,7 @@ fn shaped(document: &Document) -> Result<Setting, ShapeFault>
 }
 
 /// The plan of a document whose text is in normal form.
-#[tactic(auto, using(crate::proofs::Limits::few_nodes, crate::proofs::Limits::few_ops))]
+#[tactic(auto, using(crate::proofs::Limits::few_kinds, crate::proofs::Limits::few_nodes, crate::proofs::Limits::few_ops))]
 fn plan_of_normal(alloc: Global, document: &Document, normal: &Normal) -> Result<Plan, RunFault>
     requires within { IsWithinDocumentLimits document.now }
     requires text { normal.now ≡ document.now.text }

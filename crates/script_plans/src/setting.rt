@@ -1,13 +1,18 @@
 //! The setting of a document.
 
-ghost use Rattle.std.specs.Prelude.{◌≡◌, ◌<◌, ◌^◌, length, option_copied};
+ghost use Rattle.std.specs.Prelude.{◌≡◌, ◌≤◌, ◌<◌, ◌^◌, length, true};
 ghost use Rattle.oa_words.specs.Within.{is_count};
-ghost use Rattle.script_plans.specs.Shapes.{most_fuel, whole_fault, sizes_of, sizes_fault, setting_of, setting_fault};
-ghost use Rattle.script_plans.specs.Told.{sizes_number, setting_number, or_fault};
+ghost use Rattle.caller_parts.specs.KindCounts.{greatest_of, node_count};
+ghost use Rattle.caller_parts.specs.Settings.{have_slots};
+ghost use Rattle.script_plans.specs.Shapes.{most_fuel, whole_fault, kind_nodes, sizes_of, sizes_fault, first_crowded, nodes_fault, setting_with, setting_of, rest_fault, setting_fault};
+ghost use Rattle.script_plans.specs.Told.{sizes_number, or_fault};
 
+use crate::calls::padded;
 use crate::fault::ShapeFault;
-use caller_steps::{Setting, SettingFault};
+use caller_parts::Setting;
 use documents::Document;
+use norm_lang::fields::count_of;
+use norm_lang::text::{FieldDecl, NodeDecl};
 use oa_words::shape::{Shape, ShapeFault as SizesFault};
 
 const MOST_FUEL: u64 = 1_000_000_000;
@@ -24,33 +29,89 @@ fn sizes_number(fault: SizesFault) -> u8
 {
     match fault {
         SizesFault::Callers => 1,
+        SizesFault::Kinds => 2,
         SizesFault::Slots => 2,
         SizesFault::Fields => 3,
         SizesFault::Cells => 4,
     }
 }
 
-fn setting_number(fault: SettingFault) -> u8
-    ensures { result ≡ setting_number fault }
+/// How many fields the kind with the most has, of so many kinds.
+#[tactic(auto, using(crate::proofs::Counting::greatest_more))]
+fn greatest_of(fields: &[FieldDecl], kinds: u8) -> usize
+    ensures { result ≡ greatest_of fields.now kinds }
 {
-    match fault {
-        SettingFault::Nodes => 5,
-        SettingFault::Phases => 6,
+    let mut greatest = 0;
+    for kind in 0..kinds {
+        greatest = greatest.max(count_of(fields, kind));
     }
+    greatest
+}
+
+/// How many initial nodes a kind has.
+fn node_count(nodes: &[NodeDecl], kind: u8) -> u32
+    requires { length nodes.now < 2 ^ 32 }
+    ensures { result ≡ node_count nodes.now kind }
+{
+    nodes.iter().filter(|node| node.owner == kind).count() as u32
+}
+
+/// How many initial nodes each of four kinds has.
+fn kind_nodes(nodes: &[NodeDecl]) -> [u32; 4]
+    requires { length nodes.now < 2 ^ 32 }
+    ensures { result ≡ kind_nodes nodes.now }
+{
+    [
+        node_count(nodes, 0),
+        node_count(nodes, 1),
+        node_count(nodes, 2),
+        node_count(nodes, 3),
+    ]
 }
 
 /// The shape of the row, or what is wrong with its sizes.
 #[tactic(auto, using(crate::proofs::Settings::shape_fine, crate::proofs::Settings::shape_refused))]
 fn shape_of(document: &Document) -> Result<Shape, ShapeFault>
-    ensures { result ≡ or_fault (sizes_fault (sizes_of document.now)) (sizes_of document.now) }
+    requires { length document.now.text.kinds ≤ 4 }
+    ensures { result ≡ or_fault (sizes_fault (length document.now.text.kinds) (sizes_of document.now)) (sizes_of document.now) }
 {
     let text = &document.text;
     let callers = document.scripts.items().len() as u64;
-    let fields = text.fields.items().len() as u64;
+    let slots = padded(document.slots.items());
+    let kinds = text.kinds.items().len() as u8;
+    let fields = greatest_of(text.fields.items(), kinds) as u64;
     let cells = text.roots.items().len() as u64;
-    match Shape::new(callers, document.slots, fields, cells) {
+    match Shape::of_kinds(callers, slots, kinds as u64, fields, cells) {
         Ok(shape) => Ok(shape),
         Err(fault) => Err(whole_fault(sizes_number(fault))),
+    }
+}
+
+/// The first kind that has more initial nodes than slots.
+#[tactic(auto, using(crate::proofs::Counting::crowded_more, crate::proofs::Counting::crowded_found))]
+fn first_crowded(slots: &[u64], nodes: &[u32]) -> Option<usize>
+    requires { length slots.now ≤ length nodes.now }
+    ensures { result ≡ first_crowded slots.now nodes.now (length slots.now) }
+{
+    for kind in 0..slots.len() {
+        if nodes[kind] as u64 > slots[kind] {
+            return Some(kind);
+        }
+    }
+    None
+}
+
+/// The fault of the first kind that has more initial nodes than slots.
+fn nodes_fault(slots: &[u64], nodes: &[u32]) -> Option<ShapeFault>
+    requires { length slots.now ≤ length nodes.now }
+    ensures { result ≡ nodes_fault slots.now nodes.now }
+{
+    match first_crowded(slots, nodes) {
+        None => None,
+        Some(kind) => Some(ShapeFault {
+            number: 5,
+            at: kind as u64,
+        }),
     }
 }
 
@@ -60,14 +121,12 @@ fn fuel_fits(fuel: u64) -> bool
     1 <= fuel && fuel <= MOST_FUEL
 }
 
-/// The setting of a document, or the first of its settings that is out of its range.
-#[tactic(auto, using(crate::proofs::Settings::setting_fine, crate::proofs::Settings::setting_unfuelled, crate::proofs::Settings::setting_refused, crate::proofs::Settings::setting_shapeless))]
-pub(crate) fn setting_of(document: &Document) -> Result<Setting, ShapeFault>
-    requires few { length document.now.text.nodes < 2 ^ 32 }
-    ensures { result ≡ or_fault (setting_fault document.now) (setting_of document.now) }
+/// The setting of a document over a row in which each kind has slots for its initial nodes, or what is wrong with the rest of it.
+#[tactic(auto, using(crate::proofs::Settings::over_fine, crate::proofs::Settings::over_unfuelled, crate::proofs::Settings::over_refused))]
+fn setting_over(document: &Document, shape: Shape, nodes: [u32; 4]) -> Result<Setting, ShapeFault>
+    requires { have_slots shape nodes (length shape.kinds) ≡ true }
+    ensures { result ≡ or_fault (rest_fault document.now) (setting_with document.now shape nodes) }
 {
-    let shape = shape_of(document)?;
-    let nodes = document.text.nodes.items().len() as u32;
     match Setting::new(shape, document.first, document.last, nodes) {
         Ok(setting) => {
             if fuel_fits(document.fuel) {
@@ -76,6 +135,22 @@ pub(crate) fn setting_of(document: &Document) -> Result<Setting, ShapeFault>
                 Err(whole_fault(7))
             }
         }
-        Err(fault) => Err(whole_fault(setting_number(fault))),
+        Err(_) => Err(whole_fault(6)),
+    }
+}
+
+/// The setting of a document, or the first of its settings that is out of its range.
+#[tactic(auto, using(crate::proofs::Settings::setting_roomy, crate::proofs::Settings::setting_fine, crate::proofs::Settings::setting_crowded, crate::proofs::Settings::setting_shapeless))]
+pub(crate) fn setting_of(document: &Document) -> Result<Setting, ShapeFault>
+    requires kinds { length document.now.text.kinds ≤ 4 }
+    requires nodes { length document.now.text.nodes < 2 ^ 32 }
+    ensures { result ≡ or_fault (setting_fault document.now) (setting_of document.now) }
+{
+    let shape = shape_of(document)?;
+    let slots = padded(document.slots.items());
+    let nodes = kind_nodes(document.text.nodes.items());
+    match nodes_fault(&slots[..document.text.kinds.items().len()], &nodes) {
+        None => setting_over(document, shape, nodes),
+        Some(fault) => Err(fault),
     }
 }

@@ -8,7 +8,7 @@ use native.Mathlib.Decide.{ℕ_discrete}
 use Rattle.norm_lang.specs.declared.text.Text.{Text}
 use Rattle.norm_lang.specs.declared.registers.Registers.{Registers}
 use Rattle.target_code.specs.declared.target.Target.{Target}
-use Rattle.target_runs.specs.Runnable.{IsRunnable}
+use Rattle.target_laws.specs.target_runs.Runnable.{IsRunnable}
 use Rattle.phase_pools.specs.declared.access.ClaimEnd.{ClaimEnd}
 use Rattle.phase_pools.specs.declared.access.ClaimEnd.TheVariants as ends
 use Rattle.phase_pools.specs.Pools.{Claim, ClaimTurn, claim_accepts, claim_takes}
@@ -23,9 +23,9 @@ use Rattle.caller_steps.specs.Signs.{Moved}
 use Rattle.caller_steps.specs.After.{after, claim_counted, counted, claim_on}
 use Rattle.caller_steps.specs.Belongs.{Belongs}
 use Rattle.core_runs.specs.Machine.{found_by}
-use Rattle.caller_laws.proofs.Equations.{after_is, moved_claims}
-use Rattle.caller_laws.proofs.Pools.{ClaimOn}
-use Rattle.core_sound.proofs.Reached.{states_are_sound}
+use Rattle.core_runs.proofs.caller_laws.Equations.{after_is, moved_claims}
+use Rattle.core_runs.proofs.caller_laws.Pools.{ClaimOn}
+use Rattle.core_runs.proofs.core_sound.Reached.{states_are_sound}
 use Rattle.claim_laws.specs.CallSteps.{StepMade}
 use Rattle.claim_laws.specs.Publishing.{Publishes, PublishedEnd}
 use Rattle.claim_laws.proofs.Lasts.{never_nil, last_or_before}

@@ -5,6 +5,7 @@ use Rattle.norm_lang.specs.Shipped.{set_text, queue_text}
 use Rattle.target_code.specs.declared.target.TargetOp.{TargetOp}
 use Rattle.target_code.specs.declared.target.Target.{Target}
 use Rattle.target_code.specs.SecondScheme.{second_scheme}
+use Rattle.oa_words.specs.SlotKinds.{together}
 use Rattle.caller_parts.specs.declared.call.Reply.TheVariants as replies
 use Rattle.caller_parts.specs.declared.call.Replied.{Replied}
 use Rattle.caller_parts.specs.declared.call.Running.{Running}
@@ -32,7 +33,7 @@ calls_named_in target name (e ∷ entries) = calls_named target name (calls_of e
 -- pool is full
 pub record IsNeverFull (name : List ℕ) (target : Target) (setting : Setting) : Type 0 where
   pub each : (state : CoreState) (c i : ℕ) (e : Entry) (replied : Replied) → Reachable target setting state
-      → setting.nodes + calls_named_in target name state.entries ≤ setting.sizes.slots → slice_get state.entries c ≡ Some e → slice_get e.replies i ≡ Some replied
+      → together setting.nodes + calls_named_in target name state.entries ≤ setting.sizes.slots → slice_get state.entries c ≡ Some e → slice_get e.replies i ≡ Some replied
       → replied.reply ≢ replies.Full
 
 -- a set of 1 to 64 buckets, where each `insert` has a slot

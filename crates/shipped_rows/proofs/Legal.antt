@@ -15,7 +15,7 @@ use Rattle.histories.specs.declared.call.Answer as told
 use Rattle.histories.specs.declared.call.Answer.TheVariants.{Number, Nothing, Spent, NoEffect}
 use Rattle.histories.specs.Histories.{Shared, nothing_shared, reply_to, after, Leaves, calls_of, IsOrderOf, IsLegal, HasLegalOrder}
 use Rattle.histories.proofs.Beginnings.{same_caller, none_is_no}
-use Rattle.report_laws.specs.Legal.{AsksFor, answer_shown, Shows, AreShown, HasLegalHistory}
+use Rattle.script_driver.specs.report_laws.Legal.{AsksFor, answer_shown, Shows, AreShown, HasLegalHistory}
 use Rattle.shipped_rows.specs.LegalRows.{key_line, number, dequeue_line, of_lines, put_and_found, shared_by_two, put_and_taken, LegalRows}
 
 abbrev call : ℕ → Action → told.Answer → Call

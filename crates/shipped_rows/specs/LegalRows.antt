@@ -5,7 +5,7 @@ use Rattle.document_runs.specs.declared.report.Answer.{Answer}
 use Rattle.document_runs.specs.declared.report.Answer.TheVariants as answers
 use Rattle.document_runs.specs.declared.report.ReportLine.{ReportLine}
 use Rattle.document_runs.specs.declared.report.Report.{Report}
-use Rattle.report_laws.specs.Legal.{HasLegalHistory}
+use Rattle.script_driver.specs.report_laws.Legal.{HasLegalHistory}
 
 abbrev pub key_line : ℕ → ℕ → List ℕ → ℕ → Answer → ReportLine
 key_line caller index name key answer = record { caller = caller; index = index; name = name; args = key ∷ []; answer = answer }

@@ -5,7 +5,7 @@ use Rattle.norm_lang.specs.Shipped.{set_text}
 use Rattle.documents.specs.declared.document.ScriptCall.{ScriptCall}
 use Rattle.documents.specs.declared.document.Document.{Document}
 use Rattle.script_driver.specs.Workload.{workload_document}
-use Rattle.script_plans.specs.Plans.{padded}
+use Rattle.script_plans.specs.Shapes.{padded}
 
 abbrev pub insert_of : ℕ → ScriptCall
 insert_of key = record { line = 0; name = codes "insert"; args = key ∷ [] }
@@ -20,7 +20,7 @@ remove_of key = record { line = 0; name = codes "remove"; args = key ∷ [] }
 abbrev pub first_document : Document
 first_document = record {
   text = set_text 8;
-  slots = 4096;
+  slots = 4096 ∷ [];
   first = 1;
   last = 1000000000;
   fuel = 1000000;
@@ -35,7 +35,7 @@ first_document = record {
 abbrev pub second_document : Document
 second_document = record {
   text = set_text 8;
-  slots = 16;
+  slots = 16 ∷ [];
   first = 1;
   last = 1000000000;
   fuel = 1000000;

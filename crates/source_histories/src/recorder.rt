@@ -1,6 +1,7 @@
 //! What is written down along a run.
 
 ghost use Rattle.std.specs.Prelude.{◌≡◌, ◌<◌, ◌≤◌, ◌∷◌, [], ◌++◌, None, length, slice_get, slice_set, slice_index_or, replicate, OnOk, IfOk};
+ghost use Rattle.source_machine.specs.State.{source_start};
 ghost use Rattle.source_machine.specs.Run.{mover};
 ghost use Rattle.source_machine.specs.Calls.{IsOfSourceRun};
 ghost use Rattle.source_histories.specs.Deeds.{deeds_in};
@@ -125,6 +126,62 @@ fn follow<R: Reader>(
     Ok(())
 }
 
+/// The deeds of the calls of a run, in the order of their moments, with what is written down from its start on.
+fn record_from<R: Reader>(
+    alloc: Global,
+    reader: &R,
+    normal: &Normal,
+    callers: u32,
+    events: &[SourceEvent],
+    state: &mut SourceState,
+    slots: &mut Listed<Option<Deed>>,
+    notes: &mut Listed<Notes>,
+) -> Result<Listed<Deed>, RunError>
+    requires some { 1 ≤ callers }
+    requires few { callers ≤ 8 }
+    requires start { state.old ≡ source_start normal.now callers }
+    requires run { IsOfSourceRun normal.now state.old }
+    requires many { length state.old.callers ≡ callers }
+    requires empty { slots.old ≡ [] }
+    requires blank { notes.old ≡ replicate callers no_notes }
+    ensures { Records normal.now (R.rules reader.now) callers events.now result }
+{
+    for (at, event) in events.iter().enumerate() {
+        match follow(
+            alloc, reader, normal, callers, state, slots, notes, at as u64, event,
+        ) {
+            Ok(()) => {}
+            Err(StepError::Memory) => return Err(RunError::Memory),
+            Err(StepError::NotEnabled) => return Err(RunError::NotEnabled { at: at as u64 }),
+        }
+    }
+    let deeds = deeds_of(alloc, slots.items())?;
+    Ok(deeds)
+}
+
+/// The same from the start alone, when nothing is written down yet.
+fn record_at<R: Reader>(
+    alloc: Global,
+    reader: &R,
+    normal: &Normal,
+    callers: u32,
+    events: &[SourceEvent],
+    state: &mut SourceState,
+) -> Result<Listed<Deed>, RunError>
+    requires some { 1 ≤ callers }
+    requires few { callers ≤ 8 }
+    requires start { state.old ≡ source_start normal.now callers }
+    requires run { IsOfSourceRun normal.now state.old }
+    requires many { length state.old.callers ≡ callers }
+    ensures { Records normal.now (R.rules reader.now) callers events.now result }
+{
+    let mut notes = first_notes(alloc, callers)?;
+    let mut slots = Listed::empty(alloc);
+    record_from(
+        alloc, reader, normal, callers, events, state, &mut slots, &mut notes,
+    )
+}
+
 /// The deeds of the calls of a run, in the order of their moments.
 ///
 /// # Errors
@@ -141,17 +198,5 @@ pub fn record<R: Reader>(
     ensures { Records normal.now (R.rules reader.now) callers events.now result }
 {
     let mut state = SourceState::start(alloc, normal, callers)?;
-    let mut slots = Listed::empty(alloc);
-    let mut notes = first_notes(alloc, callers)?;
-    for (at, event) in events.iter().enumerate() {
-        match follow(
-            alloc, reader, normal, callers, &mut state, &mut slots, &mut notes, at as u64, event,
-        ) {
-            Ok(()) => {}
-            Err(StepError::Memory) => return Err(RunError::Memory),
-            Err(StepError::NotEnabled) => return Err(RunError::NotEnabled { at: at as u64 }),
-        }
-    }
-    let deeds = deeds_of(alloc, slots.items())?;
-    Ok(deeds)
+    record_at(alloc, reader, normal, callers, events, &mut state)
 }

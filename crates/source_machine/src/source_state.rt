@@ -11,6 +11,7 @@ use crate::memory::first_memory;
 use crate::state::SourceMachine;
 use crate::steps::step_machine;
 use norm_check::Normal;
+use norm_lang::text::Text;
 use std::alloc::{AllocError, Global};
 use std::marker::Model;
 
@@ -29,12 +30,21 @@ impl Model for SourceState {
     ghost view = { λ s. s.machine };
 }
 
+/// The machine at the start of a text, with so many idle callers.
+fn first_machine(alloc: Global, text: &Text, callers: u32) -> Result<SourceMachine, AllocError>
+    ensures { IfOk result (λ machine. machine ≡ source_start text.now callers) }
+{
+    Ok(SourceMachine {
+        memory: first_memory(alloc, text)?,
+        callers: Callers::idle(alloc, callers)?,
+    })
+}
+
 impl SourceState {
     /// The start of a text: its initial nodes and roots, and so many idle callers, 1 to 8.
     ///
     /// # Errors
     /// Where memory runs out.
-    #[tactic(auto, using(crate::proofs::Calling::starts, crate::proofs::Calling::start_callers))]
     pub fn start(alloc: Global, normal: &Normal, callers: u32) -> Result<SourceState, AllocError>
         requires some { 1 ≤ callers }
         requires few { callers ≤ 8 }
@@ -42,11 +52,7 @@ impl SourceState {
         ensures runs { IfOk result (λ s. IsOfSourceRun normal.now s) }
         ensures callers { IfOk result (λ s. length s.callers ≡ callers) }
     {
-        let text = normal.text();
-        let machine = SourceMachine {
-            memory: first_memory(alloc, text)?,
-            callers: Callers::idle(alloc, callers)?,
-        };
+        let machine = first_machine(alloc, normal.text(), callers)?;
         Ok(SourceState { machine })
     }
 }

@@ -1,7 +1,7 @@
 -- The numbers of the statuses.
 use Rattle.std.specs.Prelude.{ℕ}
 use Rattle.statuses.specs.declared.status.Status.{Status}
-use Rattle.statuses.specs.declared.status.Status.TheVariants.{Done, Partial, Usage, ReadFault, LongInput, BadDocument, Refused, BadShape, WriteFault, Memory}
+use Rattle.statuses.specs.declared.status.Status.TheVariants.{Done, Partial, Usage, ReadFault, LongInput, BadDocument, Refused, BadShape, WriteFault, Memory, Rejected}
 
 -- the number of a status
 abbrev pub number_of : Status → ℕ
@@ -15,3 +15,4 @@ number_of (Refused refusal) = 6
 number_of (BadShape number at) = 7
 number_of WriteFault = 8
 number_of Memory = 9
+number_of (Rejected number at) = 11

@@ -4,7 +4,7 @@ ghost use Rattle.std.specs.Prelude.{◌≡◌};
 ghost use Rattle.oa_text.specs.Causes.{HasCause};
 ghost use Rattle.oa_text.specs.Written.{Writes};
 ghost use Rattle.oa_text.specs.Pieces.{piece_bytes};
-ghost use Rattle.statuses.specs.Explanations.{fault_words, rule_words, shape_words, method_words, fault_sentence, refusal_sentence, place_before, place_number, place_after, shape_sentence, explanation};
+ghost use Rattle.statuses.specs.Explanations.{fault_words, rule_words, shape_words, method_words, fault_sentence, refusal_sentence, place_before, place_number, place_after, shape_sentence, rejected_part, rejection_words, rejection_sentence, explanation};
 
 use crate::status::Status;
 use norm_check::Refusal;
@@ -14,13 +14,13 @@ const SHORT: &[u8] =
     b"oa: at least one call has no answer: full (two sweeps freed no slot for its new node), phases (the last phase is over), spent (it used up its fuel, the steps that one call may make) or unreached (an earlier call of its caller was spent). More slots, phases or fuel may answer it: see 'The answers' in docs/language.md.\n";
 
 const USAGE: &[u8] =
-    b"oa: usage: oa COMMAND < DOCUMENT, or oa workload N C\n  run       make the document's calls on threads, and print their answers\n  replay    make them step by step, in the order of the document's schedule\n  check     say whether its text is in normal form\n  show      print its text in the canonical spelling\n  compile   print its text with checks and guards\n  workload  make N calls on a hash set (1 to 100000), after up to 2000 by each of C callers (1 to 8)\nSee docs/language.md for documents.\n";
+    b"oa: usage: oa COMMAND < DOCUMENT, oa judge check < CERTIFICATE, or oa workload N C\n  run          make the document's calls on threads, and print their answers\n  replay       make them step by step, in the order of the document's schedule\n  check        say whether its text is in normal form\n  show         print its text in the canonical spelling\n  upgrade      print the whole document in the canonical spelling\n  compile      print its text with checks and guards\n  judge make   replay the calls, and print a certificate of that run\n  judge check  say whether a certificate tells of a run of its document, with its replies\n  workload     make N calls on a hash set (1 to 100000), after up to 2000 by each of C callers (1 to 8)\nSee docs/language.md for documents.\n";
 
 const READ_FAULT: &[u8] =
-    b"oa: standard input could not be read to its end, so no document was judged. Check the file or the pipe, and try again.\n";
+    b"oa: standard input could not be read to its end, so nothing was judged. Check the file or the pipe, and try again.\n";
 
 const LONG_INPUT: &[u8] =
-    b"oa: the input is longer than 1048576 bytes, the most that a document may have. Make two documents of it.\n";
+    b"oa: the input is longer than 1048576 bytes, the most that a document may have, or than 268435456, the most that a certificate may have. Make two documents of it, or a certificate of fewer calls.\n";
 
 const WRITE_FAULT: &[u8] =
     b"oa: standard output could not be written to its end, so what stands there may be cut short. Check the disk or the pipe, and try again.\n";
@@ -42,11 +42,13 @@ fn fault_words(fault: u8) -> &'static [u8]
     } else if fault == 4 {
         b"its words make no line that may stand there, or a further line must follow"
     } else if fault == 5 {
-        b"it names a field, a root or an initial node that is not declared"
+        b"it names a kind, a field, a root, an initial node or an operation that is not declared"
     } else if fault == 6 {
         b"it declares a name that is declared already"
     } else if fault == 7 {
         b"it passes a limit, such as how many lines of its kind there may be"
+    } else if fault == 8 {
+        b"it names an initial node of another kind than its place refers to"
     } else {
         b"it is not as the language has it"
     }
@@ -100,13 +102,13 @@ fn shape_words(number: u8) -> &'static [u8]
     if number == 1 {
         b"it needs 1 to 8 scripts"
     } else if number == 2 {
-        b"its slots are not 1 to 4096"
+        b"the slots of each kind of its nodes, and of all kinds together, are not 1 to 4096"
     } else if number == 3 {
         b"its nodes do not have 1 to 4 fields"
     } else if number == 4 {
         b"it does not have 1 to 256 roots"
     } else if number == 5 {
-        b"it has more initial nodes than slots"
+        b"it has more initial nodes of a kind than slots for them"
     } else if number == 6 {
         b"its phases are not 1 to 1125899906842624, with the first no later than the last"
     } else if number == 7 {
@@ -229,6 +231,50 @@ fn explain_shape<K: Sink>(errors: &mut K, number: u8, at: u64) -> Result<(), Fai
     )
 }
 
+/// What of a certificate is wrong, by the number of what is found.
+#[tactic(auto, unfolding(crate::specs::Explanations::rejected_part))]
+fn rejected_part(number: u8) -> &'static [u8]
+    ensures { result.now ≡ rejected_part number }
+{
+    if number == 3 {
+        b"the replies of caller "
+    } else {
+        b"event "
+    }
+}
+
+/// What is wrong with it, and what to look at.
+#[tactic(auto, unfolding(crate::specs::Explanations::rejection_words))]
+fn rejection_words(number: u8) -> &'static [u8]
+    ensures { result.now ≡ rejection_words number }
+{
+    if number == 1 {
+        b" (counted from 0) is not enabled: after the events before it no run of the text makes that step. Compare it with the earlier events of its caller"
+    } else if number == 2 {
+        b" (counted from 0) begins another call than the next one of its caller's script. Compare its operation and its numbers with that script"
+    } else if number == 3 {
+        b" do not agree with its events: each call that it began has the reply that the events give it, in order, and only that of the last may be left out. Compare its reply lines with its events"
+    } else {
+        b" is not as the language has it"
+    }
+}
+
+fn explain_rejection<K: Sink>(errors: &mut K, number: u8, at: u64) -> Result<(), Failed>
+    ensures bytes { Writes (K.written errors.old) (K.written errors.new) (rejection_sentence number at) result }
+    ensures cause { HasCause (K.faults errors.old) (K.faults errors.new) result }
+{
+    write_pieces(
+        errors,
+        &[
+            Piece::Bytes(b"oa: the certificate is rejected: "),
+            Piece::Bytes(rejected_part(number)),
+            Piece::Number(at),
+            Piece::Bytes(rejection_words(number)),
+            Piece::Bytes(b". See 'Certificates' in docs/language.md.\n"),
+        ],
+    )
+}
+
 /// Writes the sentence on a status: what it means, and where to read on. Where all went well there is none. At `Failed`
 /// a prefix of it was written.
 pub fn explain<K: Sink>(errors: &mut K, status: Status) -> Result<(), Failed>
@@ -246,5 +292,6 @@ pub fn explain<K: Sink>(errors: &mut K, status: Status) -> Result<(), Failed>
         Status::BadShape { number, at } => explain_shape(errors, number, at),
         Status::WriteFault => write_all(errors, WRITE_FAULT),
         Status::Memory => write_all(errors, MEMORY),
+        Status::Rejected { number, at } => explain_rejection(errors, number, at),
     }
 }

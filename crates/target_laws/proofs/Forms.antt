@@ -7,7 +7,7 @@ use Rattle.norm_lang.specs.declared.text.Instr.{Instr}
 use Rattle.norm_lang.specs.declared.text.Instr.TheVariants as instr
 use Rattle.norm_lang.specs.InstructionRules.{has_wrong_kind, computes_on_reference, has_wrong_retire, has_wrong_range}
 use Rattle.norm_lang.specs.NormalForm.{N1, N2, N12, N13}
-use Rattle.local_laws.proofs.Inside.{own_end}
+use Rattle.target_laws.proofs.local_laws.Inside.{own_end}
 use Rattle.target_code.specs.declared.target.TargetInstr.TheVariants.{Plain}
 use Rattle.target_code.specs.Erasing.{source_place, redirected}
 use Rattle.target_laws.specs.Methods.{code_in, source_in}

@@ -6,7 +6,7 @@ use Rattle.norm_lang.specs.declared.text.Instr.TheVariants as instr
 use Rattle.norm_lang.specs.declared.text.Text.{Text}
 use Rattle.norm_lang.specs.Flow.{IsSuccessor}
 use Rattle.norm_lang.specs.NormalForm.{N3, N4, N5, N6}
-use Rattle.local_laws.proofs.Among.{IsAmong, among_contained, leads_round}
+use Rattle.target_laws.proofs.local_laws.Among.{IsAmong, among_contained, leads_round}
 use Rattle.target_code.specs.declared.target.TargetInstr.{TargetInstr}
 use Rattle.target_code.specs.declared.target.TargetInstr.TheVariants.{Plain, Check, Guard}
 use Rattle.target_code.specs.declared.target.Target.{Target}

@@ -7,8 +7,8 @@ use Rattle.norm_lang.specs.Freshness.{fresh_after}
 use Rattle.norm_lang.specs.Limits.{IsWithinLimits}
 use Rattle.norm_lang.specs.NormalForm.{IsNormal}
 use Rattle.norm_lang.specs.RegisterUse.{set_after}
-use Rattle.local_laws.specs.Settling.{StaysInside}
-use Rattle.local_laws.proofs.Inside.{stays_inside}
+use Rattle.target_laws.specs.local_laws.Settling.{StaysInside}
+use Rattle.target_laws.proofs.local_laws.Inside.{stays_inside}
 use Rattle.target_code.specs.declared.target.Target.{Target}
 use Rattle.target_code.specs.Erasing.{source_place, ErasesTo}
 use Rattle.target_laws.specs.Methods.{Method, code_in, source_in}

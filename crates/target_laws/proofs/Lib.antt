@@ -1,4 +1,5 @@
 pub mod Filled
+pub mod OneKind
 pub mod Redirected
 pub mod ErasedPlaces
 pub mod SourcePaths

@@ -9,7 +9,7 @@ use Rattle.norm_lang.specs.declared.text.Instr.TheVariants as instr
 use Rattle.norm_lang.specs.Flow.{Leads, passed, state_along, goes_to, goes_from, IsSuccessor, IsCycle}
 use Rattle.norm_lang.specs.Freshness.{fresh_after}
 use Rattle.norm_lang.specs.RegisterUse.{set_after}
-use Rattle.local_laws.specs.Settling.{StaysInside}
+use Rattle.target_laws.specs.local_laws.Settling.{StaysInside}
 use Rattle.target_code.specs.declared.target.TargetInstr.{TargetInstr}
 use Rattle.target_code.specs.declared.target.TargetInstr.TheVariants.{Plain, Check, Guard}
 use Rattle.target_code.specs.Paths.{target_goes_from, IsTargetSuccessor}

@@ -10,10 +10,10 @@ use Rattle.norm_lang.specs.Local.{Spot, go_on}
 use Rattle.norm_lang.specs.Flow.{Leads, goes_to, goes_from}
 use Rattle.norm_lang.specs.NormalForm.{IsNormal}
 use Rattle.norm_lang.specs.PathRules.{looks, looks_at}
-use Rattle.local_laws.specs.Settling.{run_by, HasNoBlindCycle, StaysInside, rests, goes_on}
-use Rattle.local_laws.proofs.Bounded.{StepsAcyclic, settles_by, settles_once, settled}
-use Rattle.local_laws.proofs.Inside.{there_is, stops_there, own_end}
-use Rattle.local_laws.proofs.Settled.{step_goes, no_blind_cycle, GoesBlindly, blind_way}
+use Rattle.target_laws.specs.local_laws.Settling.{run_by, HasNoBlindCycle, StaysInside, rests, goes_on}
+use Rattle.target_laws.proofs.local_laws.Bounded.{StepsAcyclic, settles_by, settles_once, settled}
+use Rattle.target_laws.proofs.local_laws.Inside.{there_is, stops_there, own_end}
+use Rattle.target_laws.proofs.local_laws.Settled.{step_goes, no_blind_cycle, GoesBlindly, blind_way}
 use Rattle.target_code.specs.declared.target.TargetInstr.{TargetInstr}
 use Rattle.target_code.specs.declared.target.TargetInstr.TheVariants.{Plain, Check, Guard}
 use Rattle.target_code.specs.declared.target.Target.{Target}

@@ -6,7 +6,7 @@ use Rattle.norm_lang.specs.declared.text.Instr.{Instr}
 use Rattle.norm_lang.specs.declared.text.Text.{Text}
 use Rattle.norm_lang.specs.Freshness.{MayBeFresh}
 use Rattle.norm_lang.specs.NormalForm.{Rule, BreaksRule, IsNormal}
-use Rattle.local_laws.proofs.Settled.{keeps_rule}
+use Rattle.target_laws.proofs.local_laws.Settled.{keeps_rule}
 use Rattle.target_code.specs.declared.target.TargetInstr.TheVariants.{Plain}
 use Rattle.target_code.specs.declared.target.Target.{Target}
 use Rattle.target_code.specs.Paths.{TargetPath}

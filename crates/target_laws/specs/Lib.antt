@@ -4,3 +4,5 @@ pub mod LocalCode
 pub mod Uses
 pub mod Trusted
 pub mod Rules
+pub mod local_laws
+pub mod target_runs

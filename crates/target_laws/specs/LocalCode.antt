@@ -3,7 +3,7 @@ use Rattle.std.specs.Prelude.{ℕ, ◌≡◌, ◌<◌, Bool, true, List, ◌++�
 use Rattle.norm_lang.specs.declared.text.Text.{Text}
 use Rattle.norm_lang.specs.Local.{Spot}
 use Rattle.norm_lang.specs.NormalForm.{IsNormal}
-use Rattle.local_laws.specs.Settling.{SettlesBy, may_stop}
+use Rattle.target_laws.specs.local_laws.Settling.{SettlesBy, may_stop}
 use Rattle.target_code.specs.declared.target.TargetInstr.{TargetInstr}
 use Rattle.target_code.specs.declared.target.TargetInstr.TheVariants.{Plain, Check, Guard}
 use Rattle.target_code.specs.declared.target.Target.{Target}

@@ -2,7 +2,9 @@
 #![tactic(auto)]
 
 pub mod local_code;
+pub mod local_laws;
 pub mod places;
 pub mod rules;
+pub mod target_runs;
 pub mod trusted;
 pub mod uses;

@@ -4,7 +4,7 @@ pub mod Ordered
 mod Commits
 mod Plains
 mod Reading
-mod Targets
+pub mod Targets
 pub mod OpsLimits
 pub mod CodeSpelled
 pub mod OpsSpelled

@@ -8,6 +8,7 @@ use Rattle.norm_lang.specs.declared.text.RootDecl.{RootDecl}
 use Rattle.norm_lang.specs.declared.text.CasEntry.{CasEntry}
 use Rattle.norm_lang.specs.declared.text.Instr.{Instr}
 use Rattle.norm_lang.specs.declared.text.Instr.TheVariants as instr
+use Rattle.norm_lang.specs.declared.text.Version.TheVariants.{Second}
 use Rattle.norm_lang.specs.Faults.{LineFault, too_many, ◌>>=◌, demand, at_line}
 use Rattle.norm_lang.specs.LineWords.{word_at}
 use Rattle.norm_lang.specs.Instructions.{Step, Whole, Commits, step_line}
@@ -38,98 +39,98 @@ abbrev adds : OpsDraft → Result (Option OpsDraft) ℕ
 adds draft = Ok (Some draft)
 
 -- a line says nothing of its own: its words are read as a step
-own_of_word : (fields : List FieldDecl) (roots : List RootDecl) (draft : OpsDraft) (word : List ℕ) (rest : List (List ℕ)) (own : Result (Option OpsDraft) ℕ) → own ≡ nothing
-    → (own >>= or_plain fields roots draft word rest) ≡ (step_line fields roots word rest >>= roomed draft)
-own_of_word fields roots draft word rest own none = rw none refl
+own_of_word : (kinds : List (List ℕ)) (fields : List FieldDecl) (roots : List RootDecl) (draft : OpsDraft) (word : List ℕ) (rest : List (List ℕ)) (own : Result (Option OpsDraft) ℕ) → own ≡ nothing
+    → (own >>= or_plain kinds fields roots draft word rest) ≡ (step_line Second kinds fields roots word rest >>= roomed draft)
+own_of_word kinds fields roots draft word rest own none = rw none refl
 
-own_of_first : (fields : List FieldDecl) (roots : List RootDecl) (part : Part) (ops : List TargetOp) (op : TargetOp) (word : List ℕ) (rest : List (List ℕ)) (skipped : Bool)
+own_of_first : (kinds : List (List ℕ)) (fields : List FieldDecl) (roots : List RootDecl) (part : Part) (ops : List TargetOp) (op : TargetOp) (word : List ℕ) (rest : List (List ℕ)) (skipped : Bool)
     → words_own (rested part ops op) (if skipped then None else Some (word, rest)) ≡ nothing
-    → after_target_words fields roots (rested part ops op) (if skipped then None else Some (word, rest)) ≡ (step_line fields roots word rest >>= roomed (rested part ops op))
-own_of_first fields roots part ops op word rest true none = let e : adds (rested part ops op) ≡ nothing = none in absurd (let f : ⊥ = cc in f)
-own_of_first fields roots part ops op word rest false none = own_of_word fields roots (rested part ops op) word rest (own_line part (rested part ops op) word rest) none
+    → after_target_words kinds fields roots (rested part ops op) (if skipped then None else Some (word, rest)) ≡ (step_line Second kinds fields roots word rest >>= roomed (rested part ops op))
+own_of_first kinds fields roots part ops op word rest true none = let e : adds (rested part ops op) ≡ nothing = none in absurd (let f : ⊥ = cc in f)
+own_of_first kinds fields roots part ops op word rest false none = own_of_word kinds fields roots (rested part ops op) word rest (own_line part (rested part ops op) word rest) none
 
-own_of_words : (fields : List FieldDecl) (roots : List RootDecl) (part : Part) (ops : List TargetOp) (op : TargetOp) (words : List (List ℕ))
+own_of_words : (kinds : List (List ℕ)) (fields : List FieldDecl) (roots : List RootDecl) (part : Part) (ops : List TargetOp) (op : TargetOp) (words : List (List ℕ))
     → words_own (rested part ops op) (first_word words) ≡ nothing
-    → after_target_words fields roots (rested part ops op) (first_word words)
-    ≡ ((word_at words >>= λ word. step_line fields roots word.0 word.1) >>= roomed (rested part ops op))
-own_of_words fields roots part ops op [] none = let e : adds (rested part ops op) ≡ nothing = none in absurd (let f : ⊥ = cc in f)
-own_of_words fields roots part ops op (word ∷ rest) none = own_of_first fields roots part ops op word rest (is_comment word) none
+    → after_target_words kinds fields roots (rested part ops op) (first_word words)
+    ≡ ((word_at words >>= λ word. step_line Second kinds fields roots word.0 word.1) >>= roomed (rested part ops op))
+own_of_words kinds fields roots part ops op [] none = let e : adds (rested part ops op) ≡ nothing = none in absurd (let f : ⊥ = cc in f)
+own_of_words kinds fields roots part ops op (word ∷ rest) none = own_of_first kinds fields roots part ops op word rest (is_comment word) none
 
-own_of_line : (fields : List FieldDecl) (roots : List RootDecl) (part : Part) (ops : List TargetOp) (op : TargetOp) (r : Result (List (List ℕ)) ℕ)
+own_of_line : (kinds : List (List ℕ)) (fields : List FieldDecl) (roots : List RootDecl) (part : Part) (ops : List TargetOp) (op : TargetOp) (r : Result (List (List ℕ)) ℕ)
     → (r >>= λ words. words_own (rested part ops op) (first_word words)) ≡ nothing
-    → (r >>= λ words. after_target_words fields roots (rested part ops op) (first_word words))
-    ≡ ((r >>= λ words. word_at words >>= λ word. step_line fields roots word.0 word.1) >>= roomed (rested part ops op))
-own_of_line fields roots part ops op (Ok words) none = own_of_words fields roots part ops op words none
-own_of_line fields roots part ops op (Err fault) none = let e : Err fault ≡ nothing = none in absurd (let f : ⊥ = cc in f)
+    → (r >>= λ words. after_target_words kinds fields roots (rested part ops op) (first_word words))
+    ≡ ((r >>= λ words. word_at words >>= λ word. step_line Second kinds fields roots word.0 word.1) >>= roomed (rested part ops op))
+own_of_line kinds fields roots part ops op (Ok words) none = own_of_words kinds fields roots part ops op words none
+own_of_line kinds fields roots part ops op (Err fault) none = let e : Err fault ≡ nothing = none in absurd (let f : ⊥ = cc in f)
 
 -- the draft after a line that must be an instruction of the language
-step_roomed : (fields : List FieldDecl) (roots : List RootDecl) (part : Part) (ops : List TargetOp) (op : TargetOp) (line : TextLine) → line_own (rested part ops op) line ≡ nothing
-    → after_target_line fields roots (rested part ops op) line ≡ (step_of fields roots line >>= roomed (rested part ops op))
-step_roomed fields roots part ops op line none = own_of_line fields roots part ops op (words_in line) none
+step_roomed : (kinds : List (List ℕ)) (fields : List FieldDecl) (roots : List RootDecl) (part : Part) (ops : List TargetOp) (op : TargetOp) (line : TextLine) → line_own (rested part ops op) line ≡ nothing
+    → after_target_line kinds fields roots (rested part ops op) line ≡ (step_of kinds fields roots line >>= roomed (rested part ops op))
+step_roomed kinds fields roots part ops op line none = own_of_line kinds fields roots part ops op (words_in line) none
 
 -- an instruction that is read, if it isn't a fifth `new`
 abbrev counted : OpsDraft → ℕ → Instr → Result OpsDraft LineFault
 counted draft number i = at_line number (demand too_many (not (is_fifth_target_new draft (Whole i))) >>= λ room. Ok (with_one_more draft (Plain i)))
 
 -- the operations after an instruction that is read
-abbrev behind_instr : List FieldDecl → List RootDecl → ℕ → OpsDraft → ℕ → Instr × List TextLine → Result (List TargetOp) LineFault
-behind_instr fields roots past draft number read = counted draft number read.0 >>= λ next. ops_read fields roots past next read.1
+abbrev behind_instr : List (List ℕ) → List FieldDecl → List RootDecl → ℕ → OpsDraft → ℕ → Instr × List TextLine → Result (List TargetOp) LineFault
+behind_instr kinds fields roots past draft number read = counted draft number read.0 >>= λ next. ops_read kinds fields roots past next read.1
 
-opened : (fields : List FieldDecl) (roots : List RootDecl) (past number : ℕ) (part : Part) (ops : List TargetOp) (op : TargetOp) (r : Result (List CasEntry × List TextLine) LineFault)
-    → (r >>= behind_entries fields roots past (rested part ops op))
-    ≡ ((r >>= λ entries. Ok (instr.Commit entries.0, entries.1)) >>= behind_instr fields roots past (rested part ops op) number)
-opened fields roots past number part ops op (Ok read) = refl
-opened fields roots past number part ops op (Err fault) = refl
+opened : (kinds : List (List ℕ)) (fields : List FieldDecl) (roots : List RootDecl) (past number : ℕ) (part : Part) (ops : List TargetOp) (op : TargetOp) (r : Result (List CasEntry × List TextLine) LineFault)
+    → (r >>= behind_entries kinds fields roots past (rested part ops op))
+    ≡ ((r >>= λ entries. Ok (instr.Commit entries.0, entries.1)) >>= behind_instr kinds fields roots past (rested part ops op) number)
+opened kinds fields roots past number part ops op (Ok read) = refl
+opened kinds fields roots past number part ops op (Err fault) = refl
 
-whole : (fields : List FieldDecl) (roots : List RootDecl) (past number : ℕ) (next : OpsDraft) (lines : List TextLine) (room : Bool)
-    → ((at_line number (demand too_many room >>= λ done. Ok next) >>= λ after. after_target_lines fields roots after lines) >>= λ last. at_line past (finished_ops last))
-    ≡ (at_line number (demand too_many room >>= λ done. Ok next) >>= λ after. ops_read fields roots past after lines)
-whole fields roots past number next lines true = refl
-whole fields roots past number next lines false = refl
+whole : (kinds : List (List ℕ)) (fields : List FieldDecl) (roots : List RootDecl) (past number : ℕ) (next : OpsDraft) (lines : List TextLine) (room : Bool)
+    → ((at_line number (demand too_many room >>= λ done. Ok next) >>= λ after. after_target_lines kinds fields roots after lines) >>= λ last. at_line past (finished_ops last))
+    ≡ (at_line number (demand too_many room >>= λ done. Ok next) >>= λ after. ops_read kinds fields roots past after lines)
+whole kinds fields roots past number next lines true = refl
+whole kinds fields roots past number next lines false = refl
 
-by_step : (fields : List FieldDecl) (roots : List RootDecl) (past : ℕ) (part : Part) (ops : List TargetOp) (op : TargetOp) (line : TextLine) (lines : List TextLine) (r : Result Step ℕ)
-    → has_place (rested part ops op) ≡ true → after_target_line fields roots (rested part ops op) line ≡ (r >>= roomed (rested part ops op))
-    → ops_read fields roots past (rested part ops op) (line ∷ lines)
-    ≡ ((at_line line.number r >>= λ step. completed fields roots past step lines) >>= behind_instr fields roots past (rested part ops op) line.number)
-by_step fields roots past part ops op line lines (Err fault) room read = rw read refl
-by_step fields roots past part ops op line lines (Ok (Whole i)) room read =
-    rw (read, room) (whole fields roots past line.number (with_one_more (rested part ops op) (Plain i)) lines (not (is_fifth_target_new (rested part ops op) (Whole i))))
-by_step fields roots past part ops op line lines (Ok (Commits count)) room read =
-    rw (read, room) (entries_give fields roots past count (rested part ops op) [] lines ∙ opened fields roots past line.number part ops op (entries_from fields roots past count [] lines))
+by_step : (kinds : List (List ℕ)) (fields : List FieldDecl) (roots : List RootDecl) (past : ℕ) (part : Part) (ops : List TargetOp) (op : TargetOp) (line : TextLine) (lines : List TextLine) (r : Result Step ℕ)
+    → has_place (rested part ops op) ≡ true → after_target_line kinds fields roots (rested part ops op) line ≡ (r >>= roomed (rested part ops op))
+    → ops_read kinds fields roots past (rested part ops op) (line ∷ lines)
+    ≡ ((at_line line.number r >>= λ step. completed fields roots past step lines) >>= behind_instr kinds fields roots past (rested part ops op) line.number)
+by_step kinds fields roots past part ops op line lines (Err fault) room read = rw read refl
+by_step kinds fields roots past part ops op line lines (Ok (Whole i)) room read =
+    rw (read, room) (whole kinds fields roots past line.number (with_one_more (rested part ops op) (Plain i)) lines (not (is_fifth_target_new (rested part ops op) (Whole i))))
+by_step kinds fields roots past part ops op line lines (Ok (Commits count)) room read =
+    rw (read, room) (entries_give kinds fields roots past count (rested part ops op) [] lines ∙ opened kinds fields roots past line.number part ops op (entries_from fields roots past count [] lines))
 
 -- where the method isn't full, the operations are those after the instruction
-plain_gives : (fields : List FieldDecl) (roots : List RootDecl) (past : ℕ) (part : Part) (ops : List TargetOp) (op : TargetOp) (line : TextLine) (lines : List TextLine)
+plain_gives : (kinds : List (List ℕ)) (fields : List FieldDecl) (roots : List RootDecl) (past : ℕ) (part : Part) (ops : List TargetOp) (op : TargetOp) (line : TextLine) (lines : List TextLine)
     → line_own (rested part ops op) line ≡ nothing → has_place (rested part ops op) ≡ true → line.number + 1 + length lines ≡ past
-    → ops_read fields roots past (rested part ops op) (line ∷ lines) ≡ (instr_read fields roots line lines >>= behind_instr fields roots past (rested part ops op) line.number)
-plain_gives fields roots past part ops op line lines own room last =
-    rw last (by_step fields roots past part ops op line lines (step_of fields roots line) room (step_roomed fields roots part ops op line own))
+    → ops_read kinds fields roots past (rested part ops op) (line ∷ lines) ≡ (instr_read kinds fields roots line lines >>= behind_instr kinds fields roots past (rested part ops op) line.number)
+plain_gives kinds fields roots past part ops op line lines own room last =
+    rw last (by_step kinds fields roots past part ops op line lines (step_of kinds fields roots line) room (step_roomed kinds fields roots part ops op line own))
 
-pub plain_faulty : (fields : List FieldDecl) (roots : List RootDecl) (past : ℕ) (draft : OpsDraft) (line : TextLine) (lines : List TextLine) (fault : LineFault)
+pub plain_faulty : (kinds : List (List ℕ)) (fields : List FieldDecl) (roots : List RootDecl) (past : ℕ) (draft : OpsDraft) (line : TextLine) (lines : List TextLine) (fault : LineFault)
     → draft ≡ rested draft.part draft.ops draft.op → line_own draft line ≡ Ok None → has_place draft ≡ true → line.number + 1 + length lines ≡ past
-    → instr_read fields roots line lines ≡ Err fault → ops_read fields roots past draft (line ∷ lines) ≡ Err fault
-plain_faulty fields roots past draft line lines fault rest own room last read =
-    ap (λ d. ops_read fields roots past d (line ∷ lines)) rest
-    ∙ plain_gives fields roots past draft.part draft.ops draft.op line lines (ap (λ d. line_own d line) (sym rest) ∙ own) (ap has_place (sym rest) ∙ room) last
+    → instr_read kinds fields roots line lines ≡ Err fault → ops_read kinds fields roots past draft (line ∷ lines) ≡ Err fault
+plain_faulty kinds fields roots past draft line lines fault rest own room last read =
+    ap (λ d. ops_read kinds fields roots past d (line ∷ lines)) rest
+    ∙ plain_gives kinds fields roots past draft.part draft.ops draft.op line lines (ap (λ d. line_own d line) (sym rest) ∙ own) (ap has_place (sym rest) ∙ room) last
     ∙ rw read refl
 
-pub plain_added : (fields : List FieldDecl) (roots : List RootDecl) (past : ℕ) (draft next : OpsDraft) (line : TextLine) (lines left : List TextLine) (i : Instr)
+pub plain_added : (kinds : List (List ℕ)) (fields : List FieldDecl) (roots : List RootDecl) (past : ℕ) (draft next : OpsDraft) (line : TextLine) (lines left : List TextLine) (i : Instr)
     → draft ≡ rested draft.part draft.ops draft.op → line_own draft line ≡ Ok None → has_place draft ≡ true → line.number + 1 + length lines ≡ past
-    → instr_read fields roots line lines ≡ Ok (i, left) → is_fifth_target_new draft (Whole i) ≡ false → next ≡ with_one_more draft (Plain i)
-    → ops_read fields roots past draft (line ∷ lines) ≡ ops_read fields roots past next left
-plain_added fields roots past draft next line lines left i rest own room last read few added =
-    ap (λ d. ops_read fields roots past d (line ∷ lines)) rest
-    ∙ plain_gives fields roots past draft.part draft.ops draft.op line lines (ap (λ d. line_own d line) (sym rest) ∙ own) (ap has_place (sym rest) ∙ room) last
-    ∙ ap (λ d. instr_read fields roots line lines >>= behind_instr fields roots past d line.number) (sym rest)
+    → instr_read kinds fields roots line lines ≡ Ok (i, left) → is_fifth_target_new draft (Whole i) ≡ false → next ≡ with_one_more draft (Plain i)
+    → ops_read kinds fields roots past draft (line ∷ lines) ≡ ops_read kinds fields roots past next left
+plain_added kinds fields roots past draft next line lines left i rest own room last read few added =
+    ap (λ d. ops_read kinds fields roots past d (line ∷ lines)) rest
+    ∙ plain_gives kinds fields roots past draft.part draft.ops draft.op line lines (ap (λ d. line_own d line) (sym rest) ∙ own) (ap has_place (sym rest) ∙ room) last
+    ∙ ap (λ d. instr_read kinds fields roots line lines >>= behind_instr kinds fields roots past d line.number) (sym rest)
     ∙ rw (read, few, added) refl
 
-pub plain_fifth : (fields : List FieldDecl) (roots : List RootDecl) (past : ℕ) (draft : OpsDraft) (line : TextLine) (lines left : List TextLine) (i : Instr)
+pub plain_fifth : (kinds : List (List ℕ)) (fields : List FieldDecl) (roots : List RootDecl) (past : ℕ) (draft : OpsDraft) (line : TextLine) (lines left : List TextLine) (i : Instr)
     → draft ≡ rested draft.part draft.ops draft.op → line_own draft line ≡ Ok None → has_place draft ≡ true → line.number + 1 + length lines ≡ past
-    → instr_read fields roots line lines ≡ Ok (i, left) → is_fifth_target_new draft (Whole i) ≡ true
-    → ops_read fields roots past draft (line ∷ lines) ≡ Err (record { line = line.number; number = too_many })
-plain_fifth fields roots past draft line lines left i rest own room last read fifth =
-    ap (λ d. ops_read fields roots past d (line ∷ lines)) rest
-    ∙ plain_gives fields roots past draft.part draft.ops draft.op line lines (ap (λ d. line_own d line) (sym rest) ∙ own) (ap has_place (sym rest) ∙ room) last
-    ∙ ap (λ d. instr_read fields roots line lines >>= behind_instr fields roots past d line.number) (sym rest)
+    → instr_read kinds fields roots line lines ≡ Ok (i, left) → is_fifth_target_new draft (Whole i) ≡ true
+    → ops_read kinds fields roots past draft (line ∷ lines) ≡ Err (record { line = line.number; number = too_many })
+plain_fifth kinds fields roots past draft line lines left i rest own room last read fifth =
+    ap (λ d. ops_read kinds fields roots past d (line ∷ lines)) rest
+    ∙ plain_gives kinds fields roots past draft.part draft.ops draft.op line lines (ap (λ d. line_own d line) (sym rest) ∙ own) (ap has_place (sym rest) ∙ room) last
+    ∙ ap (λ d. instr_read kinds fields roots line lines >>= behind_instr kinds fields roots past d line.number) (sym rest)
     ∙ rw (read, fifth) refl
 
 abbrev refused : Result (Unit {0}) ℕ
@@ -146,34 +147,34 @@ line_of (Ok done) = 0
 line_of (Err fault) = fault.line
 
 -- the same by the step that the line is
-full_step : (fields : List FieldDecl) (roots : List RootDecl) (past : ℕ) (draft : OpsDraft) (line : TextLine) (lines : List TextLine) (fault : LineFault) (r : Result Step ℕ)
-    → has_place draft ≡ false → after_target_line fields roots draft line ≡ (r >>= roomed draft) → at_line line.number (r >>= λ step. refused) ≡ Err fault
-    → ops_read fields roots past draft (line ∷ lines) ≡ Err fault
-full_step fields roots past draft line lines fault (Err number) full read at = rw read (ap failed at)
-full_step fields roots past draft line lines fault (Ok step) full read at = rw (read, full) (ap failed at)
+full_step : (kinds : List (List ℕ)) (fields : List FieldDecl) (roots : List RootDecl) (past : ℕ) (draft : OpsDraft) (line : TextLine) (lines : List TextLine) (fault : LineFault) (r : Result Step ℕ)
+    → has_place draft ≡ false → after_target_line kinds fields roots draft line ≡ (r >>= roomed draft) → at_line line.number (r >>= λ step. refused) ≡ Err fault
+    → ops_read kinds fields roots past draft (line ∷ lines) ≡ Err fault
+full_step kinds fields roots past draft line lines fault (Err number) full read at = rw read (ap failed at)
+full_step kinds fields roots past draft line lines fault (Ok step) full read at = rw (read, full) (ap failed at)
 
 -- where the method is full, the line is one too many, unless it has a fault of its own
-pub full_faulty : (fields : List FieldDecl) (roots : List RootDecl) (past : ℕ) (draft : OpsDraft) (line : TextLine) (lines : List TextLine) (fault : LineFault)
-    → draft ≡ rested draft.part draft.ops draft.op → line_own draft line ≡ Ok None → has_place draft ≡ false → too_many_at fields roots line ≡ Err fault
-    → ops_read fields roots past draft (line ∷ lines) ≡ Err fault
-full_faulty fields roots past draft line lines fault rest own full at =
-    ap (λ d. ops_read fields roots past d (line ∷ lines)) rest
-    ∙ full_step fields roots past (rested draft.part draft.ops draft.op) line lines fault (step_of fields roots line) (ap has_place (sym rest) ∙ full)
-    (step_roomed fields roots draft.part draft.ops draft.op line (ap (λ d. line_own d line) (sym rest) ∙ own)) at
+pub full_faulty : (kinds : List (List ℕ)) (fields : List FieldDecl) (roots : List RootDecl) (past : ℕ) (draft : OpsDraft) (line : TextLine) (lines : List TextLine) (fault : LineFault)
+    → draft ≡ rested draft.part draft.ops draft.op → line_own draft line ≡ Ok None → has_place draft ≡ false → too_many_at kinds fields roots line ≡ Err fault
+    → ops_read kinds fields roots past draft (line ∷ lines) ≡ Err fault
+full_faulty kinds fields roots past draft line lines fault rest own full at =
+    ap (λ d. ops_read kinds fields roots past d (line ∷ lines)) rest
+    ∙ full_step kinds fields roots past (rested draft.part draft.ops draft.op) line lines fault (step_of kinds fields roots line) (ap has_place (sym rest) ∙ full)
+    (step_roomed kinds fields roots draft.part draft.ops draft.op line (ap (λ d. line_own d line) (sym rest) ∙ own)) at
 
-pub full_fails : (fields : List FieldDecl) (roots : List RootDecl) (past : ℕ) (draft : OpsDraft) (line : TextLine) (lines : List TextLine) (error : ParseError)
-    → draft ≡ rested draft.part draft.ops draft.op → line_own draft line ≡ Ok None → has_place draft ≡ false → Fails error (too_many_at fields roots line)
-    → Fails error (ops_read fields roots past draft (line ∷ lines))
-full_fails fields roots past draft line lines errors.Memory rest own full at = tt
-full_fails fields roots past draft line lines (errors.Fault fault) rest own full at =
-    full_faulty fields roots past draft line lines (record { line = fault.line; number = fault.number }) rest own full at
+pub full_fails : (kinds : List (List ℕ)) (fields : List FieldDecl) (roots : List RootDecl) (past : ℕ) (draft : OpsDraft) (line : TextLine) (lines : List TextLine) (error : ParseError)
+    → draft ≡ rested draft.part draft.ops draft.op → line_own draft line ≡ Ok None → has_place draft ≡ false → Fails error (too_many_at kinds fields roots line)
+    → Fails error (ops_read kinds fields roots past draft (line ∷ lines))
+full_fails kinds fields roots past draft line lines errors.Memory rest own full at = tt
+full_fails kinds fields roots past draft line lines (errors.Fault fault) rest own full at =
+    full_faulty kinds fields roots past draft line lines (record { line = fault.line; number = fault.number }) rest own full at
 
-pub plain_fails : (fields : List FieldDecl) (roots : List RootDecl) (past : ℕ) (draft : OpsDraft) (line : TextLine) (lines : List TextLine) (error : ParseError)
+pub plain_fails : (kinds : List (List ℕ)) (fields : List FieldDecl) (roots : List RootDecl) (past : ℕ) (draft : OpsDraft) (line : TextLine) (lines : List TextLine) (error : ParseError)
     → draft ≡ rested draft.part draft.ops draft.op → line_own draft line ≡ Ok None → has_place draft ≡ true → line.number + 1 + length lines ≡ past
-    → Fails error (instr_read fields roots line lines) → Fails error (ops_read fields roots past draft (line ∷ lines))
-plain_fails fields roots past draft line lines errors.Memory rest own room last read = tt
-plain_fails fields roots past draft line lines (errors.Fault fault) rest own room last read =
-    plain_faulty fields roots past draft line lines (record { line = fault.line; number = fault.number }) rest own room last read
+    → Fails error (instr_read kinds fields roots line lines) → Fails error (ops_read kinds fields roots past draft (line ∷ lines))
+plain_fails kinds fields roots past draft line lines errors.Memory rest own room last read = tt
+plain_fails kinds fields roots past draft line lines (errors.Fault fault) rest own room last read =
+    plain_faulty kinds fields roots past draft line lines (record { line = fault.line; number = fault.number }) rest own room last read
 
 abbrev settled_so : Result (Unit {0}) LineFault
 settled_so = Ok tt
@@ -201,17 +202,17 @@ alone_other : (fields : List FieldDecl) (roots : List RootDecl) (line : TextLine
 alone_other fields roots line fault (Ok step) is other = refl
 alone_other fields roots line fault (Err number) is other = absurd (other (sym (ap line_of is)))
 
-pub read_alone : (fields : List FieldDecl) (roots : List RootDecl) (line : TextLine) → alone fields roots line ≡ settled_so
-    → too_many_at fields roots line ≡ Err (record { line = line.number; number = too_many })
-read_alone fields roots line read = alone_ok fields roots line (step_of fields roots line) read
+pub read_alone : (kinds : List (List ℕ)) (fields : List FieldDecl) (roots : List RootDecl) (line : TextLine) → alone kinds fields roots line ≡ settled_so
+    → too_many_at kinds fields roots line ≡ Err (record { line = line.number; number = too_many })
+read_alone kinds fields roots line read = alone_ok fields roots line (step_of kinds fields roots line) read
 
-pub faulty_alone : (fields : List FieldDecl) (roots : List RootDecl) (line : TextLine) (fault : LineFault) → alone fields roots line ≡ Err fault → fault.line ≡ line.number
-    → too_many_at fields roots line ≡ Err fault
-faulty_alone fields roots line fault read same = alone_own fields roots line fault (step_of fields roots line) read same
+pub faulty_alone : (kinds : List (List ℕ)) (fields : List FieldDecl) (roots : List RootDecl) (line : TextLine) (fault : LineFault) → alone kinds fields roots line ≡ Err fault → fault.line ≡ line.number
+    → too_many_at kinds fields roots line ≡ Err fault
+faulty_alone kinds fields roots line fault read same = alone_own fields roots line fault (step_of kinds fields roots line) read same
 
-pub other_alone : (fields : List FieldDecl) (roots : List RootDecl) (line : TextLine) (fault : LineFault) → alone fields roots line ≡ Err fault → (fault.line ≡ line.number → ⊥)
-    → too_many_at fields roots line ≡ Err (record { line = line.number; number = too_many })
-other_alone fields roots line fault read other = alone_other fields roots line fault (step_of fields roots line) read other
+pub other_alone : (kinds : List (List ℕ)) (fields : List FieldDecl) (roots : List RootDecl) (line : TextLine) (fault : LineFault) → alone kinds fields roots line ≡ Err fault → (fault.line ≡ line.number → ⊥)
+    → too_many_at kinds fields roots line ≡ Err (record { line = line.number; number = too_many })
+other_alone kinds fields roots line fault read other = alone_other fields roots line fault (step_of kinds fields roots line) read other
 
 -- a line that must be an instruction isn't skipped
 stands_in : (draft : OpsDraft) (words : List (List ℕ)) → words_own draft (first_word words) ≡ nothing → are_skipped words ≡ false

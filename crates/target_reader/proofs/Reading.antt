@@ -13,15 +13,15 @@ pub left_all : (whole : List TextLine) → AreLeftOf whole whole
 left_all whole = record { front = []; same = refl }
 
 -- once a line and those that it takes are read, what is left gives what the whole gives
-pub ops_on : (fields : List FieldDecl) (roots : List RootDecl) (past : ℕ) (draft next : OpsDraft) (line : TextLine) (lines before left : List TextLine) (whole : Result (List TargetOp) LineFault)
+pub ops_on : (kinds : List (List ℕ)) (fields : List FieldDecl) (roots : List RootDecl) (past : ℕ) (draft next : OpsDraft) (line : TextLine) (lines before left : List TextLine) (whole : Result (List TargetOp) LineFault)
     → before ≡ line ∷ lines → AreUpTo past before
-    → ops_read fields roots (line.number + 1 + length lines) draft (line ∷ lines) ≡ ops_read fields roots (line.number + 1 + length lines) next left
-    → AreLeftOf lines left → ops_read fields roots past draft before ≡ whole
-    → (ops_read fields roots past next left ≡ whole) × AreUpTo past left
-ops_on fields roots past draft next line lines before left whole is up step rest so_far =
+    → ops_read kinds fields roots (line.number + 1 + length lines) draft (line ∷ lines) ≡ ops_read kinds fields roots (line.number + 1 + length lines) next left
+    → AreLeftOf lines left → ops_read kinds fields roots past draft before ≡ whole
+    → (ops_read kinds fields roots past next left ≡ whole) × AreUpTo past left
+ops_on kinds fields roots past draft next line lines before left whole is up step rest so_far =
     let last = (behind_line past line lines before is up).1 in
-    let taken : ops_read fields roots past draft (line ∷ lines) ≡ ops_read fields roots past next left
-    = ap (λ n. ops_read fields roots n draft (line ∷ lines)) (sym last) ∙ step ∙ ap (λ n. ops_read fields roots n next left) last in (
-      sym taken ∙ ap (ops_read fields roots past draft) (sym is) ∙ so_far,
+    let taken : ops_read kinds fields roots past draft (line ∷ lines) ≡ ops_read kinds fields roots past next left
+    = ap (λ n. ops_read kinds fields roots n draft (line ∷ lines)) (sym last) ∙ step ∙ ap (λ n. ops_read kinds fields roots n next left) last in (
+      sym taken ∙ ap (ops_read kinds fields roots past draft) (sym is) ∙ so_far,
       left_up_to past before left up record { front = line ∷ rest.front; same = ap (λ ls. line ∷ ls) rest.same ∙ sym is },
     )

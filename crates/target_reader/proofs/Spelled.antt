@@ -1,28 +1,31 @@
 -- The spelling of a target within the limits spells it.
-use Rattle.std.specs.Prelude.{◌≡◌, ℕ, ◌+◌, ◌≤◌, ◌&&◌, Bool, true, false, List, [], ◌∷◌, ◌++◌, map, length, Result, Ok, codes, nat_le, nat_lt}
+use Rattle.std.specs.Prelude.{◌≡◌, ℕ, ◌+◌, ◌≤◌, ◌&&◌, ◌||◌, Bool, true, false, List, [], ◌∷◌, ◌++◌, map, length, Result, Ok, codes, nat_le, nat_lt}
 use Rattle.std.specs.List.{list_all, flat_map, AllByRecursion}
-use Rattle.std.proofs.Common.{refl, ap, ◌∙◌, sym, arith}
+use Rattle.std.proofs.Common.{refl, ap, ◌∙◌, arith}
 use Rattle.std.proofs.lemmas.Bool.{and_parts, ltb-true, leb-true, lt-ltb}
-use Rattle.oa_text.specs.Lines.{numbered}
+use Rattle.oa_text.specs.Lines.{TextLine, numbered}
 use Rattle.norm_lang.specs.declared.text.Reg.{Reg}
 use Rattle.norm_lang.specs.declared.text.FieldDecl.{FieldDecl}
 use Rattle.norm_lang.specs.declared.text.RootDecl.{RootDecl}
+use Rattle.norm_lang.specs.declared.text.NodeDecl.{NodeDecl}
 use Rattle.norm_lang.specs.declared.text.Instr.{Instr}
 use Rattle.norm_lang.specs.declared.text.Instr.TheVariants as instr
+use Rattle.norm_lang.specs.declared.text.Version.TheVariants.{Second}
 use Rattle.norm_lang.specs.Faults.{LineFault, ◌>>=◌}
-use Rattle.norm_lang.specs.LineWords.{item_kind, is_name}
 use Rattle.norm_lang.specs.Kept.{holds_reference}
-use Rattle.norm_lang.specs.Spelling.{joined_words, register_word, spelled_field, spelled_nodes, spelled_node, spelled_root, spelled_entry, entries_of, declaration_lines}
-use Rattle.norm_lang.specs.Grammar.{Opening, Fields, Roots, draft_at, after_lines}
-use Rattle.norm_lang.specs.Limits.{has_between, are_different, is_register, is_entry, is_instr, are_kinds, is_field, are_fields, are_nodes, is_root, are_roots}
+use Rattle.norm_lang.specs.Spelling.{joined_words, register_word, kind_lines, spelled_field, count_lines, spelled_node, spelled_root, spelled_entry, entries_of, declaration_lines}
+use Rattle.norm_lang.specs.Grammar.{Opening, Roots, Draft, draft_at, after_lines}
+use Rattle.norm_lang.specs.Limits.{is_register, is_entry, is_instr, are_kinds, are_fields, owners_of, are_nodes, are_roots}
 use Rattle.norm_lang.proofs.SpelledLines.{is_visible, IsWord, IsLine, lines_found, words_found}
-use Rattle.text_laws.proofs.OneKind.{item_kinds, field_parts, is_node, node_parts, root_parts}
-use Rattle.text_laws.proofs.LinesSpelled.{gen_is, wrap_is, field_is, nodes_is, node_line_is, root_is, op_is, entry_is, instr_is}
-use Rattle.text_laws.proofs.WordsRead.{AreFields, AreRoots}
+use Rattle.text_laws.proofs.LinesSpelled.{gen_is, wrap_is, op_is, entry_is, instr_is}
+use Rattle.text_laws.proofs.WordsRead.{AreKinds, AreFields, AreRoots}
+use Rattle.text_laws.proofs.WithinLimits.{Declared, declared}
 use Rattle.text_laws.proofs.SpelledFolds as text
-use Rattle.text_laws.proofs.TextRead.{declared, fields_read, among_nodes, nodes_read_line, nodes_read, roots_read}
+use Rattle.text_laws.proofs.CodeRead.{AreNamed}
+use Rattle.text_laws.proofs.TextRead.{AreDeclared, declared as declared_draft, declarations_read}
+use Rattle.text_laws.proofs.SpellingStands.{names_of, declarations_are}
 use Rattle.norm_parser.specs.declared.head.Head.{Head}
-use Rattle.norm_parser.specs.FrontRead.{from_line, front_of, ends_head, head_lines, after_head, head_in}
+use Rattle.norm_parser.specs.FrontRead.{from_line, front_of, names_text, ends_head, head_lines, after_head, head_in}
 use Rattle.norm_parser.proofs.LinesLeft.{numbered_from}
 use Rattle.target_code.specs.declared.target.TargetInstr.{TargetInstr}
 use Rattle.target_code.specs.declared.target.TargetInstr.TheVariants.{Plain, Check, Guard}
@@ -33,6 +36,7 @@ use Rattle.target_code.specs.TargetLimits.{is_target_instr, is_target_op, are_ta
 use Rattle.target_reader.specs.TargetGrammar.{WrapUp, no_ops, opened, after_target_lines, ops_read, version_end, target_of}
 use Rattle.target_reader.specs.Laws.{SpellingsSpell}
 use Rattle.target_reader.proofs.Ordered.{all_left}
+use Rattle.target_reader.proofs.Targets.{declared_within}
 use Rattle.target_reader.proofs.CodeSpelled.{after_spelled, lines_then, lines_read, in_code}
 use Rattle.target_reader.proofs.OpsSpelled.{op_is as op_within, AreOps, first_op_read, behind_ops, ops_spelled, ops_finished}
 
@@ -63,175 +67,126 @@ keyword word is =
     record { some = ltb-true 0 (length word) p.0; short = leb-true (length word) 20 q.0; visible = q.1 }
 
 version_is : IsLine spelled_target_version
-version_is = record { few = omega arith; word = (keyword (codes "oat") refl, (keyword (codes "1") refl, tt)) }
+version_is = record { few = omega arith; word = (keyword (codes "oat") refl, (keyword (codes "2") refl, tt)) }
 
 check_is : IsLine spelled_check
 check_is = record { few = omega arith; word = (keyword (codes "chk") refl, tt) }
 
-guard_is : (fields : List FieldDecl) (roots : List RootDecl) (r : Reg) → AreFields fields → AreRoots roots → is_register r ≡ true → IsLine (codes "grd" ∷ register_word r ∷ [])
-guard_is fields roots r fs rs is = record { few = omega arith; word = (keyword (codes "grd") refl, (instr_is fields roots (instr.Null r) fs rs is).word.1) }
+module _ (kinds : List (List ℕ)) (fields : List FieldDecl) (roots : List RootDecl) (ks : AreKinds Second kinds) (fs : AreFields fields) (rs : AreRoots roots) where
+  guard_is : (r : Reg) → is_register r ≡ true → IsLine (codes "grd" ∷ register_word r ∷ [])
+  guard_is r is = record { few = omega arith; word = (keyword (codes "grd") refl, (instr_is Second kinds fields roots (instr.Null r) ks fs rs is).word.1) }
 
-entries_lines : (fields : List FieldDecl) (roots : List RootDecl) (i : Instr) → AreFields fields → AreRoots roots → is_instr 1 (length fields) (length roots) i ≡ true
-    → Lines (map (spelled_entry fields roots) (entries_of i))
-entries_lines fields roots (instr.Commit entries) fs rs is =
-    let p = and_parts (nat_le (length entries) 4) (list_all (is_entry (length fields) (length roots)) entries) is in
-    each_line (spelled_entry fields roots) (is_entry (length fields) (length roots)) (λ entry is. entry_is fields roots entry fs rs is) entries p.1
-entries_lines fields roots _ fs rs is = tt
+  entries_lines : (i : Instr) → is_instr (length kinds) (length fields) (length roots) i ≡ true → Lines (map (spelled_entry fields roots) (entries_of i))
+  entries_lines (instr.Commit entries) is =
+      let p = and_parts (nat_le (length entries) 4) (list_all (is_entry (length fields) (length roots)) entries) is in
+      each_line (spelled_entry fields roots) (is_entry (length fields) (length roots)) (λ entry is. entry_is fields roots entry fs rs is) entries p.1
+  entries_lines _ is = tt
 
-instr_lines_are : (fields : List FieldDecl) (roots : List RootDecl) (i : TargetInstr) → AreFields fields → AreRoots roots → is_target_instr 1 (length fields) (length roots) i ≡ true
-    → Lines (target_instr_lines fields roots i)
-instr_lines_are fields roots (Plain i) fs rs is = (instr_is fields roots i fs rs is, entries_lines fields roots i fs rs is)
-instr_lines_are fields roots Check fs rs is = (check_is, tt)
-instr_lines_are fields roots (Guard r) fs rs is = (guard_is fields roots r fs rs (and_parts (holds_reference r) (is_register r) is).1, tt)
+  instr_lines_are : (i : TargetInstr) → is_target_instr (length kinds) (length fields) (length roots) i ≡ true → Lines (target_instr_lines kinds fields roots i)
+  instr_lines_are (Plain i) is = (instr_is Second kinds fields roots i ks fs rs is, entries_lines i is)
+  instr_lines_are Check is = (check_is, tt)
+  instr_lines_are (Guard r) is = (guard_is r (and_parts (holds_reference r) (is_register r) is).1, tt)
 
-code_are : (fields : List FieldDecl) (roots : List RootDecl) (code : List TargetInstr) → AreFields fields → AreRoots roots → list_all (is_target_instr 1 (length fields) (length roots)) code ≡ true
-    → Lines (target_code_lines fields roots code)
-code_are fields roots code fs rs all = each_lines (target_instr_lines fields roots) (is_target_instr 1 (length fields) (length roots)) (λ i is. instr_lines_are fields roots i fs rs is) code all
+  code_are : (code : List TargetInstr) → list_all (is_target_instr (length kinds) (length fields) (length roots)) code ≡ true → Lines (target_code_lines kinds fields roots code)
+  code_are code all = each_lines (target_instr_lines kinds fields roots) (is_target_instr (length kinds) (length fields) (length roots)) instr_lines_are code all
 
-op_are : (fields : List FieldDecl) (roots : List RootDecl) (op : TargetOp) → AreFields fields → AreRoots roots → is_target_op 1 (length fields) (length roots) op ≡ true → Lines (target_op_lines fields roots op)
-op_are fields roots op fs rs within =
-    let is = op_within (length fields) (length roots) op within in (
-      op_is (opened op) is.name is.args,
-      (
-        gen_is,
-        both (target_code_lines fields roots op.generator) ((codes "wrap" ∷ []) ∷ target_code_lines fields roots op.wrapup)
-            (code_are fields roots op.generator fs rs (is.generator).each) (wrap_is, code_are fields roots op.wrapup fs rs (is.wrapup).each),
-      ),
-    )
+  op_are : (op : TargetOp) → is_target_op (length kinds) (length fields) (length roots) op ≡ true → Lines (target_op_lines kinds fields roots op)
+  op_are op within =
+      let is = op_within (length kinds) (length fields) (length roots) op within in (
+        op_is (opened op) is.name is.args,
+        (
+          gen_is,
+          both (target_code_lines kinds fields roots op.generator) ((codes "wrap" ∷ []) ∷ target_code_lines kinds fields roots op.wrapup)
+              (code_are op.generator (is.generator).each) (wrap_is, code_are op.wrapup (is.wrapup).each),
+        ),
+      )
 
 -- a target within the limits, part by part
 pub record IsTarget (target : Target) : Type 0 where
-  pub kinds : target.kinds ≡ item_kind ∷ []
+  pub declared : AreDeclared Second (declared_by target)
+  pub kinds : AreKinds Second target.kinds
   pub fields : AreFields target.fields
-  pub some_fields : 1 ≤ length target.fields
-  pub few_fields : length target.fields ≤ 4
-  pub nodes : list_all (is_node (length target.nodes) target.fields) target.nodes ≡ true
-  pub few_nodes : nat_le (length target.nodes) 256 ≡ true
-  pub root : list_all (is_root (length target.nodes)) target.roots ≡ true
   pub roots : AreRoots target.roots
   pub some_roots : 1 ≤ length target.roots
-  pub few_roots : length target.roots ≤ 256
-  pub ops : AreOps (length target.fields) (length target.roots) target.ops
+  pub ops : AreOps (length target.kinds) (length target.fields) (length target.roots) target.ops
   pub some_ops : 1 ≤ length target.ops
-
-root_names : (count : ℕ) (roots : List RootDecl) → list_all (is_root count) roots ≡ true → list_all (λ root. is_name root.name) roots ≡ true
-root_names count [] all = refl
-root_names count (root ∷ roots) all =
-    let p = and_parts (is_root count root) (list_all (is_root count) roots) all in
-    rw ((root_parts count root p.0).name, root_names count roots p.1) refl
 
 pub parts_of : (target : Target) → is_target_within_limits target ≡ true → IsTarget target
 parts_of target within =
-    let fields = target.fields in
-    let nodes = target.nodes in
-    let roots = target.roots in
-    let ops = target.ops in
-    let count = length nodes in
-    let f = length fields in
-    let r = length roots in
-    let first = and_parts (are_kinds target.kinds) (are_fields fields && (are_nodes fields nodes && (are_roots count roots && are_target_ops (length target.kinds) f r ops))) within in
-    let kinds = item_kinds target.kinds first.0 in
-    let p = and_parts (are_fields fields) (are_nodes fields nodes && (are_roots count roots && are_target_ops 1 f r ops)) (rw kinds at first.1) in
-    let q = and_parts (are_nodes fields nodes) (are_roots count roots && are_target_ops 1 f r ops) p.1 in
-    let s = and_parts (are_roots count roots) (are_target_ops 1 f r ops) q.1 in
-    let fp = and_parts (has_between 1 4 fields) (list_all is_field fields && are_different (map (λ field. field.name) fields)) p.0 in
-    let fb = and_parts (nat_le 1 f) (nat_le f 4) fp.0 in
-    let fn = and_parts (list_all is_field fields) (are_different (map (λ field. field.name) fields)) fp.1 in
-    let np = and_parts (has_between 0 256 nodes) (list_all (is_node count fields) nodes) q.0 in
-    let nb = and_parts (nat_le 0 count) (nat_le count 256) np.0 in
-    let rp = and_parts (has_between 1 256 roots) (list_all (is_root count) roots && are_different (map (λ root. root.name) roots)) s.0 in
-    let rb = and_parts (nat_le 1 r) (nat_le r 256) rp.0 in
-    let rn = and_parts (list_all (is_root count) roots) (are_different (map (λ root. root.name) roots)) rp.1 in
-    let op = and_parts (has_between 1 16 ops) (list_all (is_target_op 1 f r) ops && are_different (map (λ op. op.name) ops)) s.1 in
-    let ob = and_parts (nat_le 1 (length ops)) (nat_le (length ops) 16) op.0 in
-    let on = and_parts (list_all (is_target_op 1 f r) ops) (are_different (map (λ op. op.name) ops)) op.1 in
+    let fields = are_fields (length target.kinds) target.fields in
+    let nodes = are_nodes (length target.kinds) target.fields target.nodes in
+    let roots = are_roots (length target.kinds) (owners_of target.nodes) target.roots in
+    let all = are_target_ops (length target.kinds) (length target.fields) (length target.roots) target.ops in
+    let first = and_parts (are_kinds target.kinds) (fields && (nodes && (roots && all))) within in
+    let second = and_parts fields (nodes && (roots && all)) first.1 in
+    let third = and_parts nodes (roots && all) second.1 in
+    let fourth = and_parts roots all third.1 in
+    let are : AreDeclared Second (declared_by target) = declared_within (declared_by target) record { kinds = first.0; fields = second.0; nodes = third.0; roots = fourth.0 } in
+    let names : AreNamed Second (declared_by target) = names_of Second (declared_by target) are in
+    let ops : Declared 1 16 (λ op. op.name) (is_target_op (length target.kinds) (length target.fields) (length target.roots)) target.ops = declared 1 16 _ _ target.ops fourth.1 in
     record {
-      kinds = kinds;
-      fields = record { each = fn.0; different = fn.1 };
-      some_fields = leb-true 1 f fb.0;
-      few_fields = leb-true f 4 fb.1;
-      nodes = np.1;
-      few_nodes = nb.1;
-      root = rn.0;
-      roots = record { names = root_names count roots rn.0; different = rn.1 };
-      some_roots = leb-true 1 r rb.0;
-      few_roots = leb-true r 256 rb.1;
-      ops = record { each = on.0; different = on.1; few = leb-true (length ops) 16 ob.1 };
-      some_ops = leb-true 1 (length ops) ob.0;
+      declared = are;
+      kinds = names.kinds;
+      fields = names.fields;
+      roots = names.roots;
+      some_roots = ((are.roots).count).some;
+      ops = record { each = ops.each; different = ops.apart; few = (ops.count).few };
+      some_ops = (ops.count).some;
     }
 
--- each line of the declarations is plain and short
-declarations_are : (target : Target) → IsTarget target → Lines (declaration_lines (declared_by target))
-declarations_are target is =
-    let fields = target.fields in
-    let nodes = target.nodes in
-    let roots = target.roots in
-    let count = length nodes in
-    let few : count ≤ 256 = leb-true count 256 is.few_nodes in
-    both (map spelled_field fields) (spelled_nodes nodes ∷ (map spelled_node nodes ++ map spelled_root roots))
-    (each_line spelled_field is_field (λ field it. field_is field (field_parts field it).name) fields (is.fields).each) (
-      nodes_is nodes is.few_nodes,
-      both (map spelled_node nodes) (map spelled_root roots)
-          (each_line spelled_node (is_node count fields) (λ node it. node_line_is count fields node is.few_fields few (node_parts count fields node it).starts) nodes is.nodes)
-          (each_line spelled_root (is_root count) (λ root it.
-          let p = root_parts count root it in
-          root_is count root few p.name p.start) roots is.root),
-    )
+-- the draft after the declarations
+abbrev pub declared_target : Target → Draft
+declared_target target = declared_draft Second Roots (length target.kinds) (owners_of target.nodes) target.kinds target.fields target.nodes target.roots
 
 -- the declarations give their draft
-pub declarations_read : (target : Target) → IsTarget target
-    → text.after_spelled (declared Opening 0 [] [] []) (declaration_lines (declared_by target)) ≡ Ok (declared Roots (length target.nodes) target.fields target.nodes target.roots)
-declarations_read target is =
-    let fields = target.fields in
-    let nodes = target.nodes in
-    let roots = target.roots in
-    let count = length nodes in
-    let few : count ≤ 256 = leb-true count 256 is.few_nodes in
-    let last = declared Roots count fields nodes roots in
-    text.lines_then (declared Opening 0 [] [] []) (declared Fields 0 fields [] []) (map spelled_field fields) (spelled_nodes nodes ∷ (map spelled_node nodes ++ map spelled_root roots)) (Ok last)
-    (fields_read fields is.fields is.some_fields is.few_fields)
-    (text.line_then (declared Fields 0 fields [] []) (among_nodes fields count []) (spelled_nodes nodes) (map spelled_node nodes ++ map spelled_root roots) (Ok last)
-    (nodes_read_line fields nodes is.some_fields is.few_nodes)
-    (text.lines_then (among_nodes fields count []) (declared Roots count fields nodes []) (map spelled_node nodes) (map spelled_root roots) (Ok last)
-    (nodes_read fields nodes few is.nodes)
-    (roots_read count fields nodes roots few is.few_roots is.root (is.roots).different)))
+pub target_declared : (target : Target) → IsTarget target → text.after_spelled (draft_at Second Opening) (declaration_lines Second (declared_by target)) ≡ Ok (declared_target target)
+target_declared target is = declarations_read Second (declared_by target) is.declared
 
--- the first field is read the same where no `use` line may stand
-pub fields_first : (fields : List FieldDecl) (lines : List (List (List ℕ))) → 1 ≤ length fields
-    → text.after_spelled (declared Fields 0 [] [] []) (map spelled_field fields ++ lines) ≡ text.after_spelled (declared Opening 0 [] [] []) (map spelled_field fields ++ lines)
-fields_first [] lines some = absurd (omega (arith, some))
-fields_first (field ∷ fields) lines some = refl
+-- declarations end before a line that begins so: an operation begins, or a shipped text is named
+abbrev pub ends_declarations : List ℕ → Bool
+ends_declarations word = ends_head word || names_text word
 
--- lines of which none begins an operation
-abbrev pub NoOps : List (List (List ℕ)) → Type 0
-NoOps lines = AllByRecursion (λ words. ends_head (front_of words) ≡ false) lines
+-- lines of which none ends the declarations
+abbrev pub NoEnds : List (List (List ℕ)) → Type 0
+NoEnds lines = AllByRecursion (λ words. ends_declarations (front_of words) ≡ false) lines
 
-pub no_ops_in : {A : Type 0} (line : A → List (List ℕ)) → ((x : A) → ends_head (front_of (line x)) ≡ false) → (xs : List A) → NoOps (map line xs)
-no_ops_in line is [] = tt
-no_ops_in line is (x ∷ xs) = (is x, no_ops_in line is xs)
+no_ends_in : {A : Type 0} (line : A → List (List ℕ)) → ((x : A) → ends_declarations (front_of (line x)) ≡ false) → (xs : List A) → NoEnds (map line xs)
+no_ends_in line is [] = tt
+no_ends_in line is (x ∷ xs) = (is x, no_ends_in line is xs)
 
-no_ops_both : (xs ys : List (List (List ℕ))) → NoOps xs → NoOps ys → NoOps (xs ++ ys)
-no_ops_both [] ys first second = second
-no_ops_both (x ∷ xs) ys first second = (first.0, no_ops_both xs ys first.1 second)
+no_ends_both : (xs ys : List (List (List ℕ))) → NoEnds xs → NoEnds ys → NoEnds (xs ++ ys)
+no_ends_both [] ys first second = second
+no_ends_both (x ∷ xs) ys first second = (first.0, no_ends_both xs ys first.1 second)
 
-pub declarations_begin_none : (target : Target) → NoOps (declaration_lines (declared_by target))
-declarations_begin_none target =
-    no_ops_both (map spelled_field target.fields) (spelled_nodes target.nodes ∷ (map spelled_node target.nodes ++ map spelled_root target.roots))
-    (no_ops_in spelled_field (λ field. refl) target.fields)
-    (refl, no_ops_both (map spelled_node target.nodes) (map spelled_root target.roots) (no_ops_in spelled_node (λ node. refl) target.nodes) (no_ops_in spelled_root (λ root. refl) target.roots))
+counts_end_none : (k : ℕ) (kinds : List (List ℕ)) (nodes : List NodeDecl) → NoEnds (count_lines Second k kinds nodes)
+counts_end_none k [] nodes = tt
+counts_end_none k (name ∷ kinds) nodes = (refl, counts_end_none (k + 1) kinds nodes)
+
+pub declarations_end_none : (target : Target) → NoEnds (declaration_lines Second (declared_by target))
+declarations_end_none target =
+    let kinds = target.kinds in
+    let kind_names = kind_lines Second kinds in
+    let field_lines = map (spelled_field Second kinds) target.fields in
+    let counts = count_lines Second 0 kinds target.nodes in
+    let node_lines = map spelled_node target.nodes in
+    let root_lines = map (spelled_root Second kinds) target.roots in
+    no_ends_both kind_names (field_lines ++ (counts ++ (node_lines ++ root_lines))) (no_ends_in (λ name. codes "kind" ∷ name ∷ []) (λ name. refl) kinds)
+    (no_ends_both field_lines (counts ++ (node_lines ++ root_lines)) (no_ends_in (spelled_field Second kinds) (λ field. refl) target.fields)
+    (no_ends_both counts (node_lines ++ root_lines) (counts_end_none 0 kinds target.nodes)
+    (no_ends_both node_lines root_lines (no_ends_in spelled_node (λ node. refl) target.nodes) (no_ends_in (spelled_root Second kinds) (λ root. refl) target.roots))))
 
 -- where the head ends
 record Splits (n at : ℕ) (xs ys : List (List (List ℕ))) : Type 0 where
   front : head_lines (numbered n (map joined_words (xs ++ ys))) ≡ numbered n (map joined_words xs)
   behind : after_head (numbered n (map joined_words (xs ++ ys))) ≡ numbered at (map joined_words ys)
 
-splits : (n at : ℕ) (xs : List (List (List ℕ))) (first : List (List ℕ)) (rest : List (List (List ℕ))) → n + length xs ≡ at → Lines xs → NoOps xs → IsLine first
-    → ends_head (front_of first) ≡ true → Splits n at xs (first ∷ rest)
-splits n at [] first rest count are none is op =
+splits : (n at : ℕ) (xs : List (List (List ℕ))) (first : List (List ℕ)) (rest : List (List (List ℕ))) → n + length xs ≡ at → Lines xs → NoEnds xs → IsLine first
+    → ends_declarations (front_of first) ≡ true → Splits n at xs (first ∷ rest)
+splits n at [] first rest count are none is ends =
     let same : n ≡ at = omega (arith, count) in
-    record { front = rw (words_found first is, op) refl; behind = rw (words_found first is, op, same) refl }
-splits n at (x ∷ xs) first rest count are none is op =
-    let next = splits (n + 1) at xs first rest (omega (arith, count)) are.1 none.1 is op in
+    record { front = rw (words_found first is, ends) refl; behind = rw (words_found first is, ends, same) refl }
+splits n at (x ∷ xs) first rest count are none is ends =
+    let next = splits (n + 1) at xs first rest (omega (arith, count)) are.1 none.1 is ends in
     record { front = rw (words_found x are.0, none.0, next.front) refl; behind = rw (words_found x are.0, none.0, next.behind) refl }
 
 -- lines before a number are passed over
@@ -248,67 +203,81 @@ abbrev read_of : List (List ℕ) → Result Target LineFault
 read_of lines =
     version_end (length lines + 1) (numbered 1 lines) >>= λ behind.
     head_in (from_line behind (numbered 1 lines)) (length lines + 1) >>= λ head.
-    ops_read head.0.fields head.0.roots (length lines + 1) no_ops (from_line head.1 (numbered 1 lines)) >>= λ ops. Ok (target_of head.0 ops)
+    ops_read head.0.kinds head.0.fields head.0.roots (length lines + 1) no_ops (from_line head.1 (numbered 1 lines)) >>= λ ops. Ok (target_of head.0 ops)
 
-abbrev head_of : Target → Head
-head_of target = record { kinds = item_kind ∷ []; fields = target.fields; roots = target.roots; nodes = target.nodes }
-
--- a target with these kinds
-abbrev pub target_of_kinds : Target → List (List ℕ) → Target
-target_of_kinds target kinds = record target { kinds = kinds }
+-- what a target declares
+abbrev pub head_of : Target → Head
+head_of target = record { kinds = target.kinds; fields = target.fields; roots = target.roots; nodes = target.nodes }
 
 abbrev op_lines_of : Target → List TargetOp → List (List (List ℕ))
-op_lines_of target ops = flat_map (target_op_lines target.fields target.roots) ops
+op_lines_of target ops = flat_map (target_op_lines target.kinds target.fields target.roots) ops
 
 abbrev head_at : Target → ℕ → Result (Head × ℕ) LineFault
 head_at target at = Ok (head_of target, at)
 
 -- the declarations up to the first operation
-head_read_of : (target : Target) (past at : ℕ) (first : List (List ℕ)) (others : List (List (List ℕ))) → IsTarget target → IsLine first → ends_head (front_of first) ≡ true
-    → 2 + length (declaration_lines (declared_by target)) ≡ at
-    → head_in (numbered 2 (map joined_words (declaration_lines (declared_by target) ++ first ∷ others))) past ≡ head_at target at
-head_read_of target past at first others is line op count =
-    let lines = declaration_lines (declared_by target) in
-    let last = declared Roots (length target.nodes) target.fields target.nodes target.roots in
-    let split = splits 2 at lines first others count (declarations_are target is) (declarations_begin_none target) line op in
-    let given : text.after_spelled (draft_at Fields) lines ≡ Ok last
-    = fields_first target.fields (spelled_nodes target.nodes ∷ (map spelled_node target.nodes ++ map spelled_root target.roots)) is.some_fields ∙ declarations_read target is in
-    let read : after_lines (draft_at Fields) (numbered 2 (map joined_words lines)) ≡ Ok last = text.lines_read lines 2 (draft_at Fields) last (declarations_are target is) given in
-    rw (split.front, read, split.behind, lt-ltb 0 (length target.roots) is.some_roots) refl
+head_read_of : (target : Target) (past at : ℕ) (op : TargetOp) (others : List (List (List ℕ))) → IsTarget target → IsLine (spelled_target_op op)
+    → 2 + length (declaration_lines Second (declared_by target)) ≡ at
+    → head_in (numbered 2 (map joined_words (declaration_lines Second (declared_by target) ++ spelled_target_op op ∷ others))) past ≡ head_at target at
+head_read_of target past at op others is line count =
+    let lines = declaration_lines Second (declared_by target) in
+    let first = spelled_target_op op in
+    let opens : Draft = draft_at Second Opening in
+    let are : Lines lines = declarations_are Second (declared_by target) is.declared in
+    let split = splits 2 at lines first others count are (declarations_end_none target) line refl in
+    let read : after_lines opens (numbered 2 (map joined_words lines)) ≡ Ok (declared_target target) = text.lines_read lines 2 opens (declared_target target) are (target_declared target is) in
+    rw (split.front, read, split.behind, words_found first line, lt-ltb 0 (length target.roots) is.some_roots) refl
+
+-- each line of the operations is plain and short
+ops_are : (target : Target) (ops : List TargetOp) → IsTarget target → list_all (is_target_op (length target.kinds) (length target.fields) (length target.roots)) ops ≡ true → Lines (op_lines_of target ops)
+ops_are target ops is each =
+    each_lines (target_op_lines target.kinds target.fields target.roots) (is_target_op (length target.kinds) (length target.fields) (length target.roots))
+    (op_are target.kinds target.fields target.roots is.kinds is.fields is.roots) ops each
+
+-- the lines of the operations give their draft
+pub ops_given : (target : Target) (op : TargetOp) (rest : List TargetOp) → IsTarget target → target.ops ≡ op ∷ rest
+    → after_spelled target.kinds target.fields target.roots no_ops (flat_map (target_op_lines target.kinds target.fields target.roots) (op ∷ rest)) ≡ Ok (behind_ops [] op rest)
+ops_given target op rest is same =
+    let kinds = target.kinds in
+    let fields = target.fields in
+    let roots = target.roots in
+    let test = is_target_op (length kinds) (length fields) (length roots) in
+    let are : AreOps (length kinds) (length fields) (length roots) (op ∷ rest) = rw same at is.ops in
+    let first = op_within (length kinds) (length fields) (length roots) op (and_parts (test op) (list_all test rest) are.each).0 in
+    lines_then kinds fields roots no_ops (in_code WrapUp [] op) (target_op_lines kinds fields roots op) (op_lines_of target rest) (Ok (behind_ops [] op rest))
+    (first_op_read kinds fields roots op is.kinds is.fields is.roots first)
+    (ops_spelled kinds fields roots [] op rest (op ∷ rest) is.kinds is.fields is.roots are refl)
+
+-- once they are read, the operations are whole
+pub ops_whole : (target : Target) (past : ℕ) (op : TargetOp) (rest : List TargetOp) (lines : List TextLine) → IsTarget target → target.ops ≡ op ∷ rest
+    → after_target_lines target.kinds target.fields target.roots no_ops lines ≡ Ok (behind_ops [] op rest) → ops_read target.kinds target.fields target.roots past no_ops lines ≡ Ok (op ∷ rest)
+ops_whole target past op rest lines is same read =
+    let are : AreOps (length target.kinds) (length target.fields) (length target.roots) (op ∷ rest) = rw same at is.ops in
+    rw (read, ops_finished (length target.kinds) (length target.fields) (length target.roots) [] op rest (op ∷ rest) are.each refl) refl
 
 -- the operations
 ops_read_of : (target : Target) (past at : ℕ) (op : TargetOp) (rest : List TargetOp) → IsTarget target → target.ops ≡ op ∷ rest
-    → ops_read target.fields target.roots past no_ops (numbered at (map joined_words (op_lines_of target (op ∷ rest)))) ≡ Ok (op ∷ rest)
+    → ops_read target.kinds target.fields target.roots past no_ops (numbered at (map joined_words (op_lines_of target (op ∷ rest)))) ≡ Ok (op ∷ rest)
 ops_read_of target past at op rest is same =
-    let fields = target.fields in
-    let roots = target.roots in
-    let last = behind_ops [] op rest in
-    let are : AreOps (length fields) (length roots) (op ∷ rest) = rw same at is.ops in
-    let first = op_within (length fields) (length roots) op (and_parts (is_target_op 1 (length fields) (length roots) op) (list_all (is_target_op 1 (length fields) (length roots)) rest) are.each).0 in
-    let given : after_spelled fields roots no_ops (op_lines_of target (op ∷ rest)) ≡ Ok last
-    = lines_then fields roots no_ops (in_code WrapUp [] op) (target_op_lines fields roots op) (op_lines_of target rest) (Ok last) (first_op_read fields roots op is.fields is.roots first)
-    (ops_spelled fields roots [] op rest (op ∷ rest) is.fields is.roots are refl) in
-    let read : after_target_lines fields roots no_ops (numbered at (map joined_words (op_lines_of target (op ∷ rest)))) ≡ Ok last
-    = lines_read fields roots (op_lines_of target (op ∷ rest)) at no_ops last
-    (each_lines (target_op_lines fields roots) (is_target_op 1 (length fields) (length roots)) (λ op it. op_are fields roots op is.fields is.roots it) (op ∷ rest) are.each) given in
-    rw (read, ops_finished (length fields) (length roots) [] op rest (op ∷ rest) are.each refl) refl
+    let lines = op_lines_of target (op ∷ rest) in
+    let are : Lines lines = ops_are target (op ∷ rest) is (rw same at (is.ops).each) in
+    ops_whole target past op rest (numbered at (map joined_words lines)) is same
+    (lines_read target.kinds target.fields target.roots lines at no_ops (behind_ops [] op rest) are (ops_given target op rest is same))
 
 -- the whole target
 read_of_spelled : (target : Target) (ops : List TargetOp) → IsTarget target → target.ops ≡ ops
-    → read_of (map joined_words (spelled_target_version ∷ (declaration_lines (declared_by target) ++ op_lines_of target ops))) ≡ Ok (target_of (head_of target) ops)
+    → read_of (map joined_words (spelled_target_version ∷ (declaration_lines Second (declared_by target) ++ op_lines_of target ops))) ≡ Ok (target_of (head_of target) ops)
 read_of_spelled target [] is same = absurd (omega (arith, is.some_ops, ap length same))
 read_of_spelled target (op ∷ rest) is same =
-    let lines = declaration_lines (declared_by target) in
+    let lines = declaration_lines Second (declared_by target) in
     let behind = op_lines_of target (op ∷ rest) in
     let past = length (map joined_words (spelled_target_version ∷ (lines ++ behind))) + 1 in
     let at = 2 + length lines in
     let count : 1 + length (spelled_target_version ∷ lines) ≡ at = omega arith in
-    let are : AreOps (length target.fields) (length target.roots) (op ∷ rest) = rw same at is.ops in
-    let op_lines_are = op_are target.fields target.roots op is.fields is.roots
-    (and_parts (is_target_op 1 (length target.fields) (length target.roots) op) (list_all (is_target_op 1 (length target.fields) (length target.roots)) rest) are.each).0 in
+    let are : Lines behind = ops_are target (op ∷ rest) is (rw same at (is.ops).each) in
     rw (
       passes 1 2 (spelled_target_version ∷ []) (lines ++ behind) refl,
-      head_read_of target past at (spelled_target_op op) _ is op_lines_are.0 refl refl,
+      head_read_of target past at op _ is are.0 refl,
       passes 1 at (spelled_target_version ∷ lines) behind count,
       ops_read_of target past at op rest is same,
     ) refl
@@ -316,7 +285,6 @@ read_of_spelled target (op ∷ rest) is same =
 pub spellings_spell : SpellingsSpell
 spellings_spell target within =
     let is = parts_of target within in
-    let ops_are = each_lines (target_op_lines target.fields target.roots) (is_target_op 1 (length target.fields) (length target.roots))
-    (λ op it. op_are target.fields target.roots op is.fields is.roots it) target.ops (is.ops).each in
-    ap read_of (lines_found (spelled_target target) (version_is, both (declaration_lines (declared_by target)) (op_lines_of target target.ops) (declarations_are target is) ops_are))
-    ∙ read_of_spelled target target.ops is refl ∙ ap (λ kinds. Ok (target_of_kinds target kinds)) (sym is.kinds)
+    ap read_of (lines_found (spelled_target target)
+    (version_is, both (declaration_lines Second (declared_by target)) (op_lines_of target target.ops) (declarations_are Second (declared_by target) is.declared) (ops_are target target.ops is (is.ops).each)))
+    ∙ read_of_spelled target target.ops is refl

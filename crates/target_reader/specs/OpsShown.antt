@@ -44,12 +44,12 @@ abbrev pub settled : Instr × List TextLine → Result (Unit {0}) LineFault
 settled read = Ok tt
 
 -- an instruction's line as it is read with no line after it
-abbrev pub alone : List FieldDecl → List RootDecl → TextLine → Result (Unit {0}) LineFault
-alone fields roots line = instr_read fields roots line [] >>= settled
+abbrev pub alone : List (List ℕ) → List FieldDecl → List RootDecl → TextLine → Result (Unit {0}) LineFault
+alone kinds fields roots line = instr_read kinds fields roots line [] >>= settled
 
 -- a line that must be an instruction of the language, where its method is full: its own fault comes before the limit's
-abbrev pub too_many_at : List FieldDecl → List RootDecl → TextLine → Result (Unit {0}) LineFault
-too_many_at fields roots line = at_line line.number (step_of fields roots line >>= λ step. Err too_many)
+abbrev pub too_many_at : List (List ℕ) → List FieldDecl → List RootDecl → TextLine → Result (Unit {0}) LineFault
+too_many_at kinds fields roots line = at_line line.number (step_of kinds fields roots line >>= λ step. Err too_many)
 
 -- what is left gives what the whole gives, or the whole has this fault, unless memory ran out
 abbrev pub GoesOn : {X Y : Type 0} → Result Y LineFault → Result Y LineFault → Result X ParseError → Type 0

@@ -1,8 +1,8 @@
 -- The target that bytes spell, line by line, or the first fault.
 --
--- A target has the version line `oat 1`, the declarations of a text, no `use` line, and operations in whose methods `chk` and
--- `grd R` may stand. A line's fault is the first that it has, as in a text: its bytes are judged first, also where it is
--- skipped, and each line's form before its numbers, names and limits.
+-- A target has the version line `oat 2`, the declarations of a text, no `use` line, and operations in whose methods `chk` and
+-- `grd R` may stand. Its lines are those of the second version of the language. A line's fault is the first that it has, as in a
+-- text: its bytes are judged first, also where it is skipped, and each line's form before its numbers, names and limits.
 use Rattle.std.specs.Prelude.{◌≡◌, ℕ, zero, suc, ◌+◌, Bool, false, ◌&&◌, not, List, [], ◌∷◌, ◌++◌, map, length, Option, Some, None, Result, Ok, Err, codes, nat_lt, ◌==◌, if◌then◌else◌}
 use Rattle.std.specs.Str.{bytes_eq}
 use Rattle.oa_text.specs.Lines.{TextLine, lines_of, numbered}
@@ -12,6 +12,8 @@ use Rattle.norm_lang.specs.declared.text.RootDecl.{RootDecl}
 use Rattle.norm_lang.specs.declared.text.CasEntry.{CasEntry}
 use Rattle.norm_lang.specs.declared.text.Instr.TheVariants as instr
 use Rattle.norm_lang.specs.declared.text.Op.{Op}
+use Rattle.norm_lang.specs.declared.text.Version.{Version}
+use Rattle.norm_lang.specs.declared.text.Version.TheVariants.{Second}
 use Rattle.norm_lang.specs.Faults.{LineFault, form_fault, too_many, ◌>>=◌, demand, at_line}
 use Rattle.norm_lang.specs.LineWords.{end_at}
 use Rattle.norm_lang.specs.Declarations.{op_line}
@@ -21,7 +23,7 @@ use Rattle.norm_lang.specs.Kept.{holds_reference}
 use Rattle.line_words.specs.Lines.{words_in, first_word}
 use Rattle.norm_parser.specs.declared.head.Head.{Head}
 use Rattle.norm_parser.specs.FrontRead.{from_line, head_read}
-use Rattle.norm_parser.specs.Version.{is_version, version_in, after_version}
+use Rattle.norm_parser.specs.Version.{version_said, line_version, after_second_version}
 use Rattle.target_code.specs.declared.target.TargetInstr.{TargetInstr}
 use Rattle.target_code.specs.declared.target.TargetInstr.TheVariants.{Plain, Check, Guard}
 use Rattle.target_code.specs.declared.target.TargetOp.{TargetOp}
@@ -114,9 +116,9 @@ with_target_step draft (Whole i) = with_one_more draft (Plain i)
 with_target_step draft (Commits count) = with_target_entries count draft []
 
 -- an instruction of the language: its own faults come before a limit that it passes
-abbrev pub plain_line : List FieldDecl → List RootDecl → OpsDraft → List ℕ → List (List ℕ) → Result OpsDraft ℕ
-plain_line fields roots draft word rest = do
-  step ← step_line fields roots word rest
+abbrev pub plain_line : List (List ℕ) → List FieldDecl → List RootDecl → OpsDraft → List ℕ → List (List ℕ) → Result OpsDraft ℕ
+plain_line kinds fields roots draft word rest = do
+  step ← step_line Second kinds fields roots word rest
   room ← demand too_many (has_place draft && not (is_fifth_target_new draft step))
   Ok (with_target_step draft step)
 
@@ -179,36 +181,36 @@ own_line Generator draft word rest = in_target_generator draft word rest
 own_line WrapUp draft word rest = in_target_wrap_up draft word rest
 
 -- what it says, or else the instruction that it must be
-abbrev pub or_plain : List FieldDecl → List RootDecl → OpsDraft → List ℕ → List (List ℕ) → Option OpsDraft → Result OpsDraft ℕ
-or_plain fields roots draft word rest (Some next) = Ok next
-or_plain fields roots draft word rest None = plain_line fields roots draft word rest
+abbrev pub or_plain : List (List ℕ) → List FieldDecl → List RootDecl → OpsDraft → List ℕ → List (List ℕ) → Option OpsDraft → Result OpsDraft ℕ
+or_plain kinds fields roots draft word rest (Some next) = Ok next
+or_plain kinds fields roots draft word rest None = plain_line kinds fields roots draft word rest
 
 -- the draft after a line that isn't skipped: where entry lines of a commit must follow, they alone may stand
-abbrev pub in_target_place : List FieldDecl → List RootDecl → ℕ → OpsDraft → List ℕ → List (List ℕ) → Result OpsDraft ℕ
-in_target_place fields roots zero draft word rest = do
+abbrev pub in_target_place : List (List ℕ) → List FieldDecl → List RootDecl → ℕ → OpsDraft → List ℕ → List (List ℕ) → Result OpsDraft ℕ
+in_target_place kinds fields roots zero draft word rest = do
   own ← own_line draft.part draft word rest
-  or_plain fields roots draft word rest own
-in_target_place fields roots (suc left) draft word rest = do
+  or_plain kinds fields roots draft word rest own
+in_target_place kinds fields roots (suc left) draft word rest = do
   entry ← entry_line fields roots word rest
   Ok (with_target_entries left draft (draft.entries ++ entry ∷ []))
 
 -- the draft after a line's words: one that is skipped adds nothing
-abbrev pub after_target_words : List FieldDecl → List RootDecl → OpsDraft → Option (List ℕ × List (List ℕ)) → Result OpsDraft ℕ
-after_target_words fields roots draft None = Ok draft
-after_target_words fields roots draft (Some word) = in_target_place fields roots draft.left draft word.0 word.1
+abbrev pub after_target_words : List (List ℕ) → List FieldDecl → List RootDecl → OpsDraft → Option (List ℕ × List (List ℕ)) → Result OpsDraft ℕ
+after_target_words kinds fields roots draft None = Ok draft
+after_target_words kinds fields roots draft (Some word) = in_target_place kinds fields roots draft.left draft word.0 word.1
 
 -- the draft after a line, or the line's first fault
-abbrev pub after_target_line : List FieldDecl → List RootDecl → OpsDraft → TextLine → Result OpsDraft ℕ
-after_target_line fields roots draft line = do
+abbrev pub after_target_line : List (List ℕ) → List FieldDecl → List RootDecl → OpsDraft → TextLine → Result OpsDraft ℕ
+after_target_line kinds fields roots draft line = do
   words ← words_in line
-  after_target_words fields roots draft (first_word words)
+  after_target_words kinds fields roots draft (first_word words)
 
 -- the draft after lines, or the first line that has a fault, with its first fault
-abbrev pub after_target_lines : List FieldDecl → List RootDecl → OpsDraft → List TextLine → Result OpsDraft LineFault
-after_target_lines fields roots draft [] = Ok draft
-after_target_lines fields roots draft (line ∷ lines) = do
-  next ← at_line line.number (after_target_line fields roots draft line)
-  after_target_lines fields roots next lines
+abbrev pub after_target_lines : List (List ℕ) → List FieldDecl → List RootDecl → OpsDraft → List TextLine → Result OpsDraft LineFault
+after_target_lines kinds fields roots draft [] = Ok draft
+after_target_lines kinds fields roots draft (line ∷ lines) = do
+  next ← at_line line.number (after_target_line kinds fields roots draft line)
+  after_target_lines kinds fields roots next lines
 
 -- operations end after an instruction of a wrap-up
 abbrev pub finished_ops_in : Part → OpsDraft → Result (List TargetOp) ℕ
@@ -222,22 +224,22 @@ finished_ops draft = do
   finished_ops_in draft.part draft
 
 -- the operations after a draft, where `past` is one more than the last line's number
-abbrev pub ops_read : List FieldDecl → List RootDecl → ℕ → OpsDraft → List TextLine → Result (List TargetOp) LineFault
-ops_read fields roots past draft lines = do
-  last ← after_target_lines fields roots draft lines
+abbrev pub ops_read : List (List ℕ) → List FieldDecl → List RootDecl → ℕ → OpsDraft → List TextLine → Result (List TargetOp) LineFault
+ops_read kinds fields roots past draft lines = do
+  last ← after_target_lines kinds fields roots draft lines
   at_line past (finished_ops last)
 
--- whether a line's words are `oat 1`: a line that is skipped isn't, and any other is faulty
-abbrev pub version_words : Option (List ℕ × List (List ℕ)) → Result Bool ℕ
-version_words words = is_version (codes "oat") words
+-- the version that a line's words say: `oat` and its number. A line that is skipped says none, and any other is faulty
+abbrev pub version_words : Option (List ℕ × List (List ℕ)) → Result (Option Version) ℕ
+version_words words = version_said (codes "oat") words
 
 -- the same by its bytes
-abbrev pub version_of : TextLine → Result Bool ℕ
-version_of line = version_in (codes "oat") line
+abbrev pub version_of : TextLine → Result (Option Version) ℕ
+version_of line = line_version (codes "oat") line
 
--- the number of the line after the version line
+-- the number of the line after the version line: `oat 1` is faulty
 abbrev pub version_end : ℕ → List TextLine → Result ℕ LineFault
-version_end past lines = after_version (codes "oat") past lines
+version_end past lines = after_second_version (codes "oat") past lines
 
 -- declarations, with operations after them
 abbrev pub target_of : Head → List TargetOp → Target
@@ -248,7 +250,7 @@ abbrev pub target_read : List ℕ → Result Target LineFault
 target_read bytes = do
   behind ← version_end (length (lines_of bytes) + 1) (numbered 1 (lines_of bytes))
   head ← head_read bytes behind
-  ops ← ops_read head.0.fields head.0.roots (length (lines_of bytes) + 1) no_ops (from_line head.1 (numbered 1 (lines_of bytes)))
+  ops ← ops_read head.0.kinds head.0.fields head.0.roots (length (lines_of bytes) + 1) no_ops (from_line head.1 (numbered 1 (lines_of bytes)))
   Ok (target_of head.0 ops)
 
 -- bytes spell a target

@@ -1,8 +1,7 @@
 //! What the lines of a target have said of its operations so far.
 
 ghost use Rattle.std.specs.Prelude.{◌≡◌, ◌≤◌, length, Ok, IfOk};
-ghost use Rattle.norm_lang.specs.Grammar.{is_new};
-ghost use Rattle.line_words.specs.Answered.{Reads, Gives};
+ghost use Rattle.line_words.specs.Answered.{Gives};
 ghost use Rattle.target_code.specs.TargetLimits.{is_target_new, target_news_in, target_news_of};
 ghost use Rattle.target_reader.specs.TargetGrammar.{no_target_op, no_ops, target_code_so_far, with_one_more, has_place, with_target_op, with_whole_target_op, finished_ops};
 ghost use Rattle.target_reader.specs.OpsShown.{part_shown, draft_shown};
@@ -137,15 +136,21 @@ impl OpsDraft {
         }
     }
 
-    /// The operations, unless a further line must follow.
-    pub(crate) fn finish(self, alloc: Global) -> Result<TargetOps, Stop>
-        ensures { Gives (λ ops. ops) result (finished_ops (draft_shown self)) }
+    /// Makes the operations whole, unless a further line must follow.
+    pub(crate) fn end(&mut self, alloc: Global) -> Result<(), Stop>
+        ensures { Gives (λ _. self.new.ops) result (finished_ops (draft_shown self.old)) }
     {
-        let mut draft = self;
-        if draft.part != Part::WrapUp {
+        if self.part != Part::WrapUp {
             return Err(Stop::Fault(Fault::Form));
         }
-        draft.end_op(alloc)?;
-        Ok(draft.ops)
+        self.end_op(alloc)?;
+        Ok(())
+    }
+
+    /// The operations that are whole. What else a draft holds is dropped here.
+    pub(crate) fn into_ops(self) -> TargetOps
+        ensures { result ≡ (draft_shown self).ops }
+    {
+        self.ops
     }
 }

@@ -6,7 +6,7 @@ ghost use Rattle.std.specs.Str.{bytes_eq};
 ghost use Rattle.norm_lang.specs.Declarations.{is_reserved, has_op};
 ghost use Rattle.line_words.specs.Answered.{Reads, Gives};
 ghost use Rattle.oa_text.specs.Shown.{line_shown};
-ghost use Rattle.target_reader.specs.TargetGrammar.{opened, target_op_at, target_op_line, with_added, guarded_at, added_line, in_outside, in_begun_op, in_target_generator, next_target_op, in_target_wrap_up, own_line};
+ghost use Rattle.target_reader.specs.TargetGrammar.{opened, target_op_at, with_added, guarded_at, added_line, in_outside, in_begun_op, in_target_generator, next_target_op, in_target_wrap_up, own_line};
 ghost use Rattle.target_reader.specs.OpsShown.{draft_shown, read_or_plain, line_own};
 
 use crate::draft::{OpsDraft, Part};

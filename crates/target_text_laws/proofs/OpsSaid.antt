@@ -10,6 +10,7 @@ use Rattle.norm_lang.specs.declared.text.FieldDecl.{FieldDecl}
 use Rattle.norm_lang.specs.declared.text.RootDecl.{RootDecl}
 use Rattle.norm_lang.specs.declared.text.CasEntry.{CasEntry}
 use Rattle.norm_lang.specs.declared.text.Instr.TheVariants as instr
+use Rattle.norm_lang.specs.declared.text.Version.TheVariants.{Second}
 use Rattle.norm_lang.specs.Faults.{form_fault, too_many}
 use Rattle.norm_lang.specs.Declarations.{op_line}
 use Rattle.norm_lang.specs.Instructions.{Step, Whole, Commits, step_line, entry_line}
@@ -40,21 +41,21 @@ none left e = absurd (omega arith)
 grown : (before code next lines : Lines) (words : List (List ℕ)) → lines ≡ before ++ code → code ++ words ∷ [] ≡ next → lines ++ words ∷ [] ≡ before ++ next
 grown before code next lines words said same = rw said (append_assoc before code (words ∷ []) ∙ ap (λ l. before ++ l) same)
 
-module _ (fields : List FieldDecl) (roots : List RootDecl) where
+module _ (kinds : List (List ℕ)) (fields : List FieldDecl) (roots : List RootDecl) where
   -- the lines of whole operations
   abbrev pub whole_lines : List TargetOp → Lines
-  whole_lines ops = flat_map (target_op_lines fields roots) ops
+  whole_lines ops = flat_map (target_op_lines kinds fields roots) ops
 
   -- the lines of a method so far
   abbrev pub code_so_far_lines : List TargetInstr → ℕ → List CasEntry → Lines
-  code_so_far_lines code left entries = target_code_lines fields roots code ++ pending_lines fields roots left entries
+  code_so_far_lines code left entries = target_code_lines kinds fields roots code ++ pending_lines fields roots left entries
 
   -- the lines before a generator's, and before a wrap-up's
   abbrev pub before_generator : List TargetOp → TargetOp → Lines
   before_generator ops op = whole_lines ops ++ (spelled_target_op op ∷ (codes "gen" ∷ []) ∷ [])
 
   abbrev pub before_wrap_up : List TargetOp → TargetOp → Lines
-  before_wrap_up ops op = whole_lines ops ++ (spelled_target_op op ∷ (codes "gen" ∷ []) ∷ (target_code_lines fields roots op.generator ++ (codes "wrap" ∷ []) ∷ []))
+  before_wrap_up ops op = whole_lines ops ++ (spelled_target_op op ∷ (codes "gen" ∷ []) ∷ (target_code_lines kinds fields roots op.generator ++ (codes "wrap" ∷ []) ∷ []))
 
   pub record SaysOutside (draft : OpsDraft) (lines : Lines) : Type 0 where
     said : lines ≡ whole_lines draft.ops
@@ -126,9 +127,9 @@ module _ (fields : List FieldDecl) (roots : List RootDecl) where
       begins before is last none said = rw (said, is, last, none) (simp (append_assoc, append-nil))
 
   -- one more instruction
-  instr_said : (code : List TargetInstr) (i : TargetInstr) (words : List (List ℕ)) (entries others : List CasEntry) → words ∷ [] ≡ target_instr_lines fields roots i
+  instr_said : (code : List TargetInstr) (i : TargetInstr) (words : List (List ℕ)) (entries others : List CasEntry) → words ∷ [] ≡ target_instr_lines kinds fields roots i
       → code_so_far_lines code 0 entries ++ words ∷ [] ≡ code_so_far_lines (code ++ i ∷ []) 0 others
-  instr_said code i words entries others same = one_more (target_instr_lines fields roots) same
+  instr_said code i words entries others same = one_more (target_instr_lines kinds fields roots) same
     where
       placed : (before : Lines) (words : List (List ℕ)) → (before ++ []) ++ words ∷ [] ≡ (before ++ ((words ∷ []) ++ [])) ++ []
       placed before words = simp (append_assoc, append-nil)
@@ -141,7 +142,7 @@ module _ (fields : List FieldDecl) (roots : List RootDecl) where
       → code_so_far_lines code 0 entries ++ words ∷ [] ≡ code_so_far_lines code (suc count) []
   commit_said code count words entries same =
       let counted : 0 + suc count ≡ suc count = omega arith in
-      rw (same, counted) (ap (λ l. l ++ (codes "commit" ∷ decimal (suc count) ∷ []) ∷ []) (append-nil (target_code_lines fields roots code)))
+      rw (same, counted) (ap (λ l. l ++ (codes "commit" ∷ decimal (suc count) ∷ []) ∷ []) (append-nil (target_code_lines kinds fields roots code)))
 
   -- an entry line, where more follow
   entry_line_said : (code : List TargetInstr) (left : ℕ) (words : List (List ℕ)) (entries : List CasEntry) (entry : CasEntry) → words ≡ spelled_entry fields roots entry
@@ -149,34 +150,34 @@ module _ (fields : List FieldDecl) (roots : List RootDecl) where
   entry_line_said code left words entries entry same =
       let counted : length (entries ++ entry ∷ []) + suc left ≡ length entries + suc (suc left) = omega (arith, length-append entries (entry ∷ [])) in
       rw (same, counted, map-append (spelled_entry fields roots) entries (entry ∷ []))
-      (append_assoc (target_code_lines fields roots code) ((codes "commit" ∷ decimal (length entries + suc (suc left)) ∷ []) ∷ map (spelled_entry fields roots) entries) (spelled_entry fields roots entry ∷ []))
+      (append_assoc (target_code_lines kinds fields roots code) ((codes "commit" ∷ decimal (length entries + suc (suc left)) ∷ []) ∷ map (spelled_entry fields roots) entries) (spelled_entry fields roots entry ∷ []))
 
   -- the last entry line
   last_entry_said : (code : List TargetInstr) (words : List (List ℕ)) (entries : List CasEntry) (entry : CasEntry) → words ≡ spelled_entry fields roots entry
       → code_so_far_lines code 1 entries ++ words ∷ [] ≡ code_so_far_lines (code ++ Plain (instr.Commit (entries ++ entry ∷ [])) ∷ []) 0 []
   last_entry_said code words entries entry same =
       let counted : length (entries ++ entry ∷ []) ≡ length entries + 1 = omega (arith, length-append entries (entry ∷ [])) in
-      rw (same, flat_map-append (target_instr_lines fields roots) code (Plain (instr.Commit (entries ++ entry ∷ [])) ∷ []), counted, map-append (spelled_entry fields roots) entries (entry ∷ []))
-      (placed (target_code_lines fields roots code) (map (spelled_entry fields roots) entries) (codes "commit" ∷ decimal (length entries + 1) ∷ []) (spelled_entry fields roots entry))
+      rw (same, flat_map-append (target_instr_lines kinds fields roots) code (Plain (instr.Commit (entries ++ entry ∷ [])) ∷ []), counted, map-append (spelled_entry fields roots) entries (entry ∷ []))
+      (placed (target_code_lines kinds fields roots code) (map (spelled_entry fields roots) entries) (codes "commit" ∷ decimal (length entries + 1) ∷ []) (spelled_entry fields roots entry))
     where
       placed : (before entries : Lines) (first words : List (List ℕ)) → (before ++ (first ∷ entries)) ++ words ∷ [] ≡ (before ++ ((first ∷ (entries ++ words ∷ [])) ++ [])) ++ []
       placed before entries first words = simp (append_assoc, append-nil)
 
   -- one more instruction of a method
-  generator_more : (draft : OpsDraft) (i : TargetInstr) (words : List (List ℕ)) (lines : Lines) → SaysGenerator (at Generator draft) lines → words ∷ [] ≡ target_instr_lines fields roots i
+  generator_more : (draft : OpsDraft) (i : TargetInstr) (words : List (List ℕ)) (lines : Lines) → SaysGenerator (at Generator draft) lines → words ∷ [] ≡ target_instr_lines kinds fields roots i
       → SaidIn (lines ++ words ∷ []) (with_one_more (at Generator draft) i)
   generator_more draft i words lines h same = record {
     said = grown (before_generator draft.ops draft.op) _ _ lines words h.said (instr_said draft.op.generator i words draft.entries draft.entries same);
     no_wrap_up = h.no_wrap_up;
   }
 
-  wrap_up_more : (draft : OpsDraft) (i : TargetInstr) (words : List (List ℕ)) (lines : Lines) → SaysWrapUp (at WrapUp draft) lines → words ∷ [] ≡ target_instr_lines fields roots i
+  wrap_up_more : (draft : OpsDraft) (i : TargetInstr) (words : List (List ℕ)) (lines : Lines) → SaysWrapUp (at WrapUp draft) lines → words ∷ [] ≡ target_instr_lines kinds fields roots i
       → SaidIn (lines ++ words ∷ []) (with_one_more (at WrapUp draft) i)
   wrap_up_more draft i words lines h same = record {
     said = grown (before_wrap_up draft.ops draft.op) _ _ lines words h.said (instr_said draft.op.wrapup i words draft.entries draft.entries same);
   }
 
-  generator_step_said : (draft : OpsDraft) (step : Step) (words : List (List ℕ)) (lines : Lines) → SaysGenerator (at Generator draft) lines → StepSays fields roots words step
+  generator_step_said : (draft : OpsDraft) (step : Step) (words : List (List ℕ)) (lines : Lines) → SaysGenerator (at Generator draft) lines → StepSays Second kinds fields roots words step
       → SaidIn (lines ++ words ∷ []) (with_target_step (at Generator draft) step)
   generator_step_said draft (Whole i) words lines h same = generator_more draft (Plain i) words lines h same
   generator_step_said draft (Commits zero) words lines h same = record {
@@ -188,7 +189,7 @@ module _ (fields : List FieldDecl) (roots : List RootDecl) where
     no_wrap_up = h.no_wrap_up;
   }
 
-  wrap_up_step_said : (draft : OpsDraft) (step : Step) (words : List (List ℕ)) (lines : Lines) → SaysWrapUp (at WrapUp draft) lines → StepSays fields roots words step
+  wrap_up_step_said : (draft : OpsDraft) (step : Step) (words : List (List ℕ)) (lines : Lines) → SaysWrapUp (at WrapUp draft) lines → StepSays Second kinds fields roots words step
       → SaidIn (lines ++ words ∷ []) (with_target_step (at WrapUp draft) step)
   wrap_up_step_said draft (Whole i) words lines h same = wrap_up_more draft (Plain i) words lines h same
   wrap_up_step_said draft (Commits zero) words lines h same = record {
@@ -200,10 +201,10 @@ module _ (fields : List FieldDecl) (roots : List RootDecl) where
 
   -- an instruction of the language, where each step that the line says is said
   plain_said : (draft : OpsDraft) (word : List ℕ) (rest : List (List ℕ)) (lines : Lines)
-      → ((step : Step) → StepSays fields roots (word ∷ rest) step → SaidIn (lines ++ (word ∷ rest) ∷ []) (with_target_step draft step))
-      → IfOk (plain_line fields roots draft word rest) (SaidIn (lines ++ (word ∷ rest) ∷ []))
+      → ((step : Step) → StepSays Second kinds fields roots (word ∷ rest) step → SaidIn (lines ++ (word ∷ rest) ∷ []) (with_target_step draft step))
+      → IfOk (plain_line kinds fields roots draft word rest) (SaidIn (lines ++ (word ∷ rest) ∷ []))
   plain_said draft word rest lines next =
-      then_has (step_line fields roots word rest) _ (StepSays fields roots (word ∷ rest)) (SaidIn (lines ++ (word ∷ rest) ∷ [])) (step_said fields roots word rest) λ step same.
+      then_has (step_line Second kinds fields roots word rest) _ (StepSays Second kinds fields roots (word ∷ rest)) (SaidIn (lines ++ (word ∷ rest) ∷ [])) (step_said Second kinds fields roots word rest) λ step same.
       demanded too_many (has_place draft && not (is_fifth_target_new draft step)) _ (SaidIn (lines ++ (word ∷ rest) ∷ [])) λ _. next step same
 
   guarded_said : (words : List (List ℕ)) → IfOk (guarded_at words) (λ r. words ≡ register_word r ∷ [])
@@ -211,7 +212,7 @@ module _ (fields : List FieldDecl) (roots : List RootDecl) where
 
   -- a check or a guard, where each that the line says is said
   added_said : (draft : OpsDraft) (word : List ℕ) (rest : List (List ℕ)) (lines : Lines)
-      → ((i : TargetInstr) → (word ∷ rest) ∷ [] ≡ target_instr_lines fields roots i → SaidIn (lines ++ (word ∷ rest) ∷ []) (with_one_more draft i))
+      → ((i : TargetInstr) → (word ∷ rest) ∷ [] ≡ target_instr_lines kinds fields roots i → SaidIn (lines ++ (word ∷ rest) ∷ []) (with_one_more draft i))
       → IfOk (added_line draft word rest) (SaidIf (lines ++ (word ∷ rest) ∷ []))
   added_said draft word rest lines next =
       either (bytes_eq word (codes "chk")) _ _ (SaidIf (lines ++ (word ∷ rest) ∷ []))
@@ -225,7 +226,7 @@ module _ (fields : List FieldDecl) (roots : List RootDecl) where
   generator_said draft word rest lines h =
       either (bytes_eq word (codes "wrap") && nat_lt 0 (length draft.op.generator)) _ _ (SaidIf (lines ++ (word ∷ rest) ∷ []))
       (λ e. end_then rest _ (SaidIf (lines ++ (word ∷ rest) ∷ [])) λ last. record {
-        said = wraps (same_word word (codes "wrap") (and_parts _ _ e).0) last (whole_lines draft.ops) (target_code_lines fields roots draft.op.generator) h.said;
+        said = wraps (same_word word (codes "wrap") (and_parts _ _ e).0) last (whole_lines draft.ops) (target_code_lines kinds fields roots draft.op.generator) h.said;
       }) λ _.
       added_said (at Generator draft) word rest lines λ i same. generator_more draft i (word ∷ rest) lines h same
     where
@@ -246,8 +247,8 @@ module _ (fields : List FieldDecl) (roots : List RootDecl) where
       said : lines ≡ whole_lines (draft.ops ++ draft.op ∷ [])
       said =
           (rw whole at h.said)
-          ∙ placed (spelled_target_op draft.op) (codes "gen" ∷ []) (codes "wrap" ∷ []) (whole_lines draft.ops) (target_code_lines fields roots draft.op.generator) (target_code_lines fields roots draft.op.wrapup)
-          ∙ sym (flat_map-append (target_op_lines fields roots) draft.ops (draft.op ∷ []))
+          ∙ placed (spelled_target_op draft.op) (codes "gen" ∷ []) (codes "wrap" ∷ []) (whole_lines draft.ops) (target_code_lines kinds fields roots draft.op.generator) (target_code_lines kinds fields roots draft.op.wrapup)
+          ∙ sym (flat_map-append (target_op_lines kinds fields roots) draft.ops (draft.op ∷ []))
 
   wrap_up_said : (draft : OpsDraft) (word : List ℕ) (rest : List (List ℕ)) (lines : Lines) → SaysWrapUp (at WrapUp draft) lines
       → IfOk (in_target_wrap_up (at WrapUp draft) word rest) (SaidIf (lines ++ (word ∷ rest) ∷ []))
@@ -258,17 +259,17 @@ module _ (fields : List FieldDecl) (roots : List RootDecl) where
       added_said (at WrapUp draft) word rest lines λ i same. wrap_up_more draft i (word ∷ rest) lines h same
 
   -- what a line says of its own, or else the instruction that it must be
-  always_or_plain : (draft : OpsDraft) (word : List ℕ) (rest : List (List ℕ)) (more : Lines) (own : Option OpsDraft) → SaidAlways more own → IfOk (or_plain fields roots draft word rest own) (SaidIn more)
+  always_or_plain : (draft : OpsDraft) (word : List ℕ) (rest : List (List ℕ)) (more : Lines) (own : Option OpsDraft) → SaidAlways more own → IfOk (or_plain kinds fields roots draft word rest own) (SaidIn more)
   always_or_plain draft word rest more (Some next) own = own
   always_or_plain draft word rest more None own = absurd own
 
-  if_or_plain : (draft : OpsDraft) (word : List ℕ) (rest : List (List ℕ)) (more : Lines) (own : Option OpsDraft) → SaidIf more own → IfOk (plain_line fields roots draft word rest) (SaidIn more)
-      → IfOk (or_plain fields roots draft word rest own) (SaidIn more)
+  if_or_plain : (draft : OpsDraft) (word : List ℕ) (rest : List (List ℕ)) (more : Lines) (own : Option OpsDraft) → SaidIf more own → IfOk (plain_line kinds fields roots draft word rest) (SaidIn more)
+      → IfOk (or_plain kinds fields roots draft word rest own) (SaidIn more)
   if_or_plain draft word rest more (Some next) own plain = own
   if_or_plain draft word rest more None own plain = plain
 
   part_said : (part : Part) (draft : OpsDraft) (word : List ℕ) (rest : List (List ℕ)) (lines : Lines) → SaysIn part (at part draft) lines
-      → IfOk (in_target_place fields roots 0 (at part draft) word rest) (SaidIn (lines ++ (word ∷ rest) ∷ []))
+      → IfOk (in_target_place kinds fields roots 0 (at part draft) word rest) (SaidIn (lines ++ (word ∷ rest) ∷ []))
   part_said Outside draft word rest lines h =
       then_has (in_outside (at Outside draft) word rest) _ (SaidAlways (lines ++ (word ∷ rest) ∷ [])) (SaidIn (lines ++ (word ∷ rest) ∷ [])) (outside_said draft word rest lines h) λ own said.
       always_or_plain (at Outside draft) word rest (lines ++ (word ∷ rest) ∷ []) own said
@@ -312,10 +313,10 @@ module _ (fields : List FieldDecl) (roots : List RootDecl) where
   said_there part (suc left) draft entries lines h = h
 
   pub place_said : (left : ℕ) (draft : OpsDraft) (word : List ℕ) (rest : List (List ℕ)) (lines : Lines) → SaidIn lines (record draft { left = left })
-      → IfOk (in_target_place fields roots left (record draft { left = left }) word rest) (SaidIn (lines ++ (word ∷ rest) ∷ []))
+      → IfOk (in_target_place kinds fields roots left (record draft { left = left }) word rest) (SaidIn (lines ++ (word ∷ rest) ∷ []))
   place_said zero draft word rest lines h = part_said draft.part (record draft { left = 0 }) word rest lines h
   place_said (suc left) draft word rest lines h =
-      then_has (entry_line fields roots word rest) _ (λ entry. word ∷ rest ≡ spelled_entry fields roots entry) (SaidIn (lines ++ (word ∷ rest) ∷ [])) (entry_said fields roots word rest) λ entry same.
+      then_has (entry_line fields roots word rest) _ (λ entry. word ∷ rest ≡ spelled_entry fields roots entry) (SaidIn (lines ++ (word ∷ rest) ∷ [])) (entry_said Second kinds fields roots word rest) λ entry same.
       said_there draft.part left (record draft { left = suc left }) (draft.entries ++ entry ∷ []) (lines ++ (word ∷ rest) ∷ [])
       (entry_pushed draft.part left (record draft { left = suc left }) entry (word ∷ rest) lines h same)
 

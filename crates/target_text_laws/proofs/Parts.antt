@@ -1,6 +1,6 @@
 -- The lines of a target in three parts: up to its version line, its declarations, and from its first operation on.
-use Rattle.std.specs.Prelude.{◌≡◌, ℕ, ◌+◌, ◌<◌, ◌≤◌, Bool, true, false, cond, not, List, [], ◌∷◌, ◌++◌, map, Ok, Err, IfOk, codes, nat_lt, Some, None, if◌then◌else◌}
-use Rattle.std.specs.List.{list_all, filter, AllByRecursion}
+use Rattle.std.specs.Prelude.{◌≡◌, ℕ, ◌+◌, ◌<◌, ◌≤◌, Bool, true, false, cond, not, ◌||◌, List, [], ◌∷◌, ◌++◌, map, Option, Some, None, Result, Ok, Err, IfOk, codes, nat_lt, if◌then◌else◌}
+use Rattle.std.specs.List.{list_all, filter}
 use Rattle.std.specs.Str.{bytes_eq}
 use Rattle.std.proofs.Common.{refl, ap, ◌∙◌, sym, arith}
 use Rattle.std.proofs.lemmas.Bool.{and_from, lt-ltb, le-ltb}
@@ -9,11 +9,15 @@ use Rattle.std.proofs.lemmas.List.{map-append}
 use Rattle.std.proofs.lemmas.List.Elements.{filter-append}
 use Rattle.oa_text.specs.Lines.{TextLine, numbered}
 use Rattle.oa_text.specs.Tokens.{words_of, line_fault}
-use Rattle.norm_lang.specs.Faults.{◌>>=◌, form_fault, at_line}
+use Rattle.norm_lang.specs.declared.text.Version.{Version}
+use Rattle.norm_lang.specs.declared.text.Version.TheVariants.{First, Second}
+use Rattle.norm_lang.specs.Faults.{LineFault, ◌>>=◌, form_fault, at_line}
 use Rattle.norm_lang.specs.Grammar.{is_comment, plain}
 use Rattle.norm_lang.specs.Declarations.{version_line}
+use Rattle.norm_lang.specs.Spelling.{version_word, spelled_version}
 use Rattle.line_words.specs.Lines.{words_in, first_word}
-use Rattle.norm_parser.specs.FrontRead.{from_line, front_of, ends_head, head_lines, after_head}
+use Rattle.norm_parser.specs.FrontRead.{from_line, front_of, names_text, ends_head, head_lines, after_head}
+use Rattle.norm_parser.specs.Version.{version_or, after_version, of_second}
 use Rattle.text_laws.specs.StandsFor.{is_plain_line, begins_with_hash, is_skipped, told_in}
 use Rattle.text_laws.proofs.Readings.{then_has}
 use Rattle.text_laws.proofs.WordsSaid.{same_word}
@@ -21,8 +25,8 @@ use Rattle.text_laws.proofs.DeclarationsSaid.{version_said}
 use Rattle.text_laws.proofs.DraftLimits.{at_line_has}
 use Rattle.text_laws.proofs.DraftSaid.{told_line, same_comment}
 use Rattle.text_laws.proofs.TextsSaid.{follows, told_first, line_plain}
-use Rattle.target_code.specs.TargetSpelling.{spelled_target_version}
 use Rattle.target_reader.specs.TargetGrammar.{version_words, version_of, version_end}
+use Rattle.target_reader.proofs.Spelled.{ends_declarations, NoEnds}
 
 abbrev pub Lines : Type 0
 Lines = List (List (List ℕ))
@@ -57,87 +61,106 @@ abbrev rest_of : List (List ℕ) → List (List ℕ)
 rest_of [] = []
 rest_of (word ∷ rest) = rest
 
--- what a line tells that is the version line, or isn't
-record Stands (words : List (List ℕ)) (stands : Bool) : Type 0 where
-  told : told_line words ≡ (if stands then spelled_target_version ∷ [] else [])
+-- the line of a target's version
+abbrev pub version_line_of : Version → List (List ℕ)
+version_line_of version = codes "oat" ∷ version_word version ∷ []
 
-stands_said : (words : List (List ℕ)) → IfOk (version_words (first_word words)) (Stands words)
-stands_said [] = record { told = refl }
-stands_said (word ∷ rest) = go (is_comment word) refl
+-- what the words of a line tell that says a version, or none
+abbrev told_version : Option Version → Lines
+told_version None = []
+told_version (Some version) = version_line_of version ∷ []
+
+record Says (words : List (List ℕ)) (said : Option Version) : Type 0 where
+  told : told_line words ≡ told_version said
+
+said_of : (words : List (List ℕ)) → IfOk (version_words (first_word words)) (Says words)
+said_of [] = record { told = refl }
+said_of (word ∷ rest) = go (is_comment word) refl
   where
-    version : begins_with_hash word ≡ false → (t : Bool) → bytes_eq word (codes "oat") ≡ t → IfOk (if t then (version_line rest >>= λ done. Ok true) else Err form_fault) (Stands (word ∷ rest))
-    version plain true e =
-        then_has (version_line rest) _ (λ done. rest ≡ codes "1" ∷ []) (Stands (word ∷ rest)) (follows (version_line rest) _ (λ done. rest ≡ codes "1" ∷ []) (version_said rest) λ done same. ap rest_of same) λ done same.
-        record { told = rw plain (ap (λ l. l ∷ []) (rw (same_word word (codes "oat") e, same) refl)) }
-    version plain false e = tt
+    says : begins_with_hash word ≡ false → (t : Bool) → bytes_eq word (codes "oat") ≡ t → IfOk (if t then (version_line rest >>= λ version. Ok (Some version)) else Err form_fault) (Says (word ∷ rest))
+    says plain true e =
+        then_has (version_line rest) _ (λ version. codes "oa" ∷ rest ≡ spelled_version version) (Says (word ∷ rest)) (version_said rest) λ version same.
+        record { told = rw plain (ap (λ l. l ∷ []) (rw (same_word word (codes "oat") e, ap rest_of same) refl)) }
+    says plain false e = tt
 
-    go : (t : Bool) → is_comment word ≡ t → IfOk (version_words (if t then None else Some (word, rest))) (Stands (word ∷ rest))
+    go : (t : Bool) → is_comment word ≡ t → IfOk (version_words (if t then None else Some (word, rest))) (Says (word ∷ rest))
     go true e = let hash : begins_with_hash word ≡ true = sym (same_comment word) ∙ e in record { told = rw hash refl }
-    go false e = version (sym (same_comment word) ∙ e) (bytes_eq word (codes "oat")) refl
+    go false e = says (sym (same_comment word) ∙ e) (bytes_eq word (codes "oat")) refl
 
-record VersionLine (line : TextLine) (stands : Bool) : Type 0 where
+record VersionLine (line : TextLine) (said : Option Version) : Type 0 where
   plain_line : is_plain_line line.bytes ≡ true
-  stands_there : Stands (words_of line.bytes) stands
+  says : Says (words_of line.bytes) said
 
 version_of_said : (line : TextLine) → IfOk (version_of line) (VersionLine line)
 version_of_said line =
     then_has (words_in line) _ (λ words. (words ≡ words_of line.bytes) × (is_plain_line line.bytes ≡ true)) (VersionLine line) (words_in_said line) λ words is. by words is.0 is.1
   where
     by : (words : List (List ℕ)) → words ≡ words_of line.bytes → is_plain_line line.bytes ≡ true → IfOk (version_words (first_word words)) (VersionLine line)
-    by words same is = rw same (follows (version_words (first_word (words_of line.bytes))) (Stands (words_of line.bytes)) (VersionLine line) (stands_said (words_of line.bytes)) λ stands it. record { plain_line = is; stands_there = it })
+    by words same is = rw same (follows (version_words (first_word (words_of line.bytes))) (Says (words_of line.bytes)) (VersionLine line) (said_of (words_of line.bytes)) λ said it. record { plain_line = is; says = it })
 
 -- the lines after the version line
-pub record VersionSplit (n : ℕ) (lines : List (List ℕ)) (behind : ℕ) : Type 0 where
+pub record VersionSplit (n : ℕ) (lines : List (List ℕ)) (version : Version) (behind : ℕ) : Type 0 where
   pub rest : List (List ℕ)
   pub later : n < behind
   pub left : from_line behind (numbered n lines) ≡ numbered behind rest
-  pub told : told_in lines ≡ spelled_target_version ∷ told_in rest
+  pub told : told_in lines ≡ version_line_of version ∷ told_in rest
   pub plain_too : list_all is_plain_line rest ≡ true → list_all is_plain_line lines ≡ true
+
+abbrev Split : ℕ → List (List ℕ) → ℕ × Version → Type 0
+Split n lines read = VersionSplit n lines read.1 read.0
 
 -- a line and what the others tell
 told_more : (bytes : List ℕ) (lines : List (List ℕ)) → told_in (bytes ∷ lines) ≡ told_line (words_of bytes) ++ told_in lines
 told_more bytes lines = told_first (words_of bytes) (told_in lines) (not (is_skipped (words_of bytes)))
 
-version_found : (past n : ℕ) (bytes : List ℕ) (lines : List (List ℕ)) (stands : Bool) → VersionLine (record { number = n; bytes = bytes }) stands
-    → IfOk (version_end past (numbered (n + 1) lines)) (VersionSplit (n + 1) lines)
-    → IfOk (if stands then Ok (n + 1) else version_end past (numbered (n + 1) lines)) (VersionSplit n (bytes ∷ lines))
-version_found past n bytes lines true said others =
+version_found : (n : ℕ) (bytes : List ℕ) (lines : List (List ℕ)) (said : Option Version) (next : Result (ℕ × Version) LineFault) → VersionLine (record { number = n; bytes = bytes }) said
+    → IfOk next (Split (n + 1) lines) → IfOk (version_or said n next) (Split n (bytes ∷ lines))
+version_found n bytes lines (Some version) next said others =
     let passed : nat_lt n (n + 1) ≡ true = lt-ltb n (n + 1) (omega arith) in
     record {
       rest = lines;
       later = omega arith;
       left = rw passed (all_later (n + 1) (n + 1) lines (omega arith));
-      told = told_more bytes lines ∙ ap (λ l. l ++ told_in lines) ((said.stands_there).told);
+      told = told_more bytes lines ∙ ap (λ l. l ++ told_in lines) ((said.says).told);
       plain_too = λ rest. and_from (is_plain_line bytes) (list_all is_plain_line lines) said.plain_line rest;
     }
-version_found past n bytes lines false said others =
-    follows (version_end past (numbered (n + 1) lines)) (VersionSplit (n + 1) lines) (VersionSplit n (bytes ∷ lines)) others λ behind it.
-    let later : n + 1 < behind = it.later in
-    let passed : nat_lt n behind ≡ true = lt-ltb n behind (omega arith) in
+version_found n bytes lines None next said others =
+    follows next (Split (n + 1) lines) (Split n (bytes ∷ lines)) others λ read it.
+    let later : n + 1 < read.0 = it.later in
+    let passed : nat_lt n read.0 ≡ true = lt-ltb n read.0 (omega arith) in
     record {
       rest = it.rest;
       later = omega arith;
       left = rw passed it.left;
-      told = told_more bytes lines ∙ ap (λ l. l ++ told_in lines) ((said.stands_there).told) ∙ it.told;
+      told = told_more bytes lines ∙ ap (λ l. l ++ told_in lines) ((said.says).told) ∙ it.told;
       plain_too = λ rest. and_from (is_plain_line bytes) (list_all is_plain_line lines) said.plain_line (it.plain_too rest);
     }
 
-pub version_split : (past n : ℕ) (lines : List (List ℕ)) → IfOk (version_end past (numbered n lines)) (VersionSplit n lines)
-version_split past n [] = tt
-version_split past n (bytes ∷ lines) =
+versions_split : (past n : ℕ) (lines : List (List ℕ)) → IfOk (after_version (codes "oat") past (numbered n lines)) (Split n lines)
+versions_split past n [] = tt
+versions_split past n (bytes ∷ lines) =
     let line : TextLine = record { number = n; bytes = bytes } in
-    then_has (at_line n (version_of line)) _ (VersionLine line) (VersionSplit n (bytes ∷ lines)) (at_line_has n (version_of line) (VersionLine line) (version_of_said line)) λ stands said.
-    version_found past n bytes lines stands said (version_split past (n + 1) lines)
+    then_has (at_line n (version_of line)) _ (VersionLine line) (Split n (bytes ∷ lines)) (at_line_has n (version_of line) (VersionLine line) (version_of_said line)) λ said is.
+    version_found n bytes lines said (after_version (codes "oat") past (numbered (n + 1) lines)) is (versions_split past (n + 1) lines)
 
--- lines of which none begins an operation, and lines of which the first does
-abbrev pub NoOps : Lines → Type 0
-NoOps lines = AllByRecursion (λ words. ends_head (front_of words) ≡ false) lines
+-- the version line of a target is of the second version
+pub version_split : (past n : ℕ) (lines : List (List ℕ)) → IfOk (version_end past (numbered n lines)) (VersionSplit n lines Second)
+version_split past n lines = then_has (after_version (codes "oat") past (numbered n lines)) _ (Split n lines) (VersionSplit n lines Second) (versions_split past n lines) λ read it. second read.1 read.0 it
+  where
+    second : (version : Version) (behind : ℕ) → VersionSplit n lines version behind → IfOk (of_second behind version) (VersionSplit n lines Second)
+    second Second behind it = it
+    second First behind it = tt
 
-abbrev pub BeginsOp : Lines → Type 0
-BeginsOp [] = Unit {0}
-BeginsOp (words ∷ lines) = ends_head (front_of words) ≡ true
+-- lines of which the first ends the declarations
+abbrev pub BeginsEnd : Lines → Type 0
+BeginsEnd [] = Unit {0}
+BeginsEnd (words ∷ lines) = ends_declarations (front_of words) ≡ true
 
--- the lines before the first that begins an operation, and from there on
+abbrev pub EndsHere : List (List ℕ) → Type 0
+EndsHere [] = Unit {0}
+EndsHere (bytes ∷ lines) = ends_declarations (front_of (words_of bytes)) ≡ true
+
+-- the lines before the first that ends the declarations, and from there on
 pub record HeadSplit (n : ℕ) (lines : List (List ℕ)) : Type 0 where
   pub front : List (List ℕ)
   pub back : List (List ℕ)
@@ -147,22 +170,33 @@ pub record HeadSplit (n : ℕ) (lines : List (List ℕ)) : Type 0 where
   pub behind : after_head (numbered n lines) ≡ numbered place back
   pub left : from_line place (numbered n lines) ≡ numbered place back
   pub later : n ≤ place
-  pub none : NoOps (told_in front)
-  pub op : BeginsOp (told_in back)
+  pub none : NoEnds (told_in front)
+  pub ends : EndsHere back
 
-op_first : (words : List (List ℕ)) (told : Lines) → ends_head (front_of words) ≡ true → BeginsOp (cond (not (is_skipped words)) (words ∷ told) told)
-op_first [] told e = let f : ⊥ = cc in absurd f
-op_first (word ∷ rest) told e = rw (same_word word (codes "op") e) refl
+-- a line that ends the declarations isn't skipped
+pub end_stands : (words : List (List ℕ)) → ends_declarations (front_of words) ≡ true → is_skipped words ≡ false
+end_stands [] e = let f : ⊥ = cc in absurd f
+end_stands (word ∷ rest) e = go (ends_head word) refl (names_text word) refl e
+  where
+    go : (a : Bool) → ends_head word ≡ a → (b : Bool) → names_text word ≡ b → a || b ≡ true → begins_with_hash word ≡ false
+    go true op b named e = rw (same_word word (codes "op") op) refl
+    go false op true named e = rw (same_word word (codes "use") named) refl
+    go false op false named e = let f : ⊥ = cc in absurd f
 
-no_op_first : (words : List (List ℕ)) (told : Lines) (taken : Bool) → ends_head (front_of words) ≡ false → NoOps told → NoOps (cond taken (words ∷ told) told)
-no_op_first words told true e others = (e, others)
-no_op_first words told false e others = others
+-- and so it is told
+pub end_told : (back : List (List ℕ)) → EndsHere back → BeginsEnd (told_in back)
+end_told [] here = tt
+end_told (bytes ∷ back) here = rw (end_stands (words_of bytes) here) here
+
+no_end_first : (words : List (List ℕ)) (told : Lines) (taken : Bool) → ends_declarations (front_of words) ≡ false → NoEnds told → NoEnds (cond taken (words ∷ told) told)
+no_end_first words told true e others = (e, others)
+no_end_first words told false e others = others
 
 pub head_split : (n : ℕ) (lines : List (List ℕ)) → HeadSplit n lines
-head_split n [] = record { front = []; back = []; place = n; split = refl; first = refl; behind = refl; left = refl; later = omega arith; none = tt; op = tt }
-head_split n (bytes ∷ lines) = go (ends_head (front_of (words_of bytes))) refl (head_split (n + 1) lines)
+head_split n [] = record { front = []; back = []; place = n; split = refl; first = refl; behind = refl; left = refl; later = omega arith; none = tt; ends = tt }
+head_split n (bytes ∷ lines) = go (ends_declarations (front_of (words_of bytes))) refl (head_split (n + 1) lines)
   where
-    go : (t : Bool) → ends_head (front_of (words_of bytes)) ≡ t → HeadSplit (n + 1) lines → HeadSplit n (bytes ∷ lines)
+    go : (t : Bool) → ends_declarations (front_of (words_of bytes)) ≡ t → HeadSplit (n + 1) lines → HeadSplit n (bytes ∷ lines)
     go true e others = record {
       front = [];
       back = bytes ∷ lines;
@@ -173,7 +207,7 @@ head_split n (bytes ∷ lines) = go (ends_head (front_of (words_of bytes))) refl
       left = all_later n n (bytes ∷ lines) (omega arith);
       later = omega arith;
       none = tt;
-      op = op_first (words_of bytes) (told_in lines) e;
+      ends = e;
     }
     go false e others =
         let later : n + 1 ≤ others.place = others.later in
@@ -187,11 +221,11 @@ head_split n (bytes ∷ lines) = go (ends_head (front_of (words_of bytes))) refl
           behind = rw e others.behind;
           left = rw passed others.left;
           later = omega arith;
-          none = no_op_first (words_of bytes) (told_in others.front) (not (is_skipped (words_of bytes))) e others.none;
-          op = others.op;
+          none = no_end_first (words_of bytes) (told_in others.front) (not (is_skipped (words_of bytes))) e others.none;
+          ends = others.ends;
         }
 
--- where the lines before the first operation end is no choice
+-- where the lines of the declarations end is no choice
 pub record SameParts (front back first second : Lines) : Type 0 where
   pub before : front ≡ first
   pub from_there : back ≡ second
@@ -204,17 +238,17 @@ abbrev head_of : Lines → List (List ℕ)
 head_of [] = []
 head_of (words ∷ lines) = words
 
-pub same_parts : (front back first : Lines) (op : List (List ℕ)) (others : Lines) → NoOps front → BeginsOp back → NoOps first → ends_head (front_of op) ≡ true → front ++ back ≡ first ++ op ∷ others
+pub same_parts : (front back first : Lines) (op : List (List ℕ)) (others : Lines) → NoEnds front → BeginsEnd back → NoEnds first → ends_declarations (front_of op) ≡ true → front ++ back ≡ first ++ op ∷ others
     → SameParts front back first (op ∷ others)
 same_parts [] back [] op others none begins none_too is same = record { before = refl; from_there = same }
 same_parts [] back (words ∷ first) op others none begins none_too is same = absurd (clash back begins same)
   where
-    clash : (back : Lines) → BeginsOp back → back ≡ words ∷ (first ++ op ∷ others) → ⊥
+    clash : (back : Lines) → BeginsEnd back → back ≡ words ∷ (first ++ op ∷ others) → ⊥
     clash [] begins same = cc
-    clash (x ∷ back) begins same = let is : x ≡ words = ap head_of same in let e : true ≡ false = sym begins ∙ ap (λ w. ends_head (front_of w)) is ∙ none_too.0 in cc
+    clash (x ∷ back) begins same = let is : x ≡ words = ap head_of same in let e : true ≡ false = sym begins ∙ ap (λ w. ends_declarations (front_of w)) is ∙ none_too.0 in cc
 same_parts (words ∷ front) back [] op others none begins none_too is same =
     let here : words ≡ op = ap head_of same in
-    let e : true ≡ false = sym is ∙ ap (λ w. ends_head (front_of w)) (sym here) ∙ none.0 in
+    let e : true ≡ false = sym is ∙ ap (λ w. ends_declarations (front_of w)) (sym here) ∙ none.0 in
     let f : ⊥ = cc in absurd f
 same_parts (words ∷ front) back (x ∷ first) op others none begins none_too is same =
     let rest = same_parts front back first op others none.1 begins none_too.1 is (ap tail_of same) in

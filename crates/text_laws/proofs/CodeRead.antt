@@ -7,19 +7,19 @@ use Rattle.std.proofs.lemmas.Bool.{and_parts, not-true, lt-ltb, le-ltb}
 use Rattle.std.proofs.lemmas.List.{append-nil}
 use Rattle.norm_lang.specs.declared.text.FieldDecl.{FieldDecl}
 use Rattle.norm_lang.specs.declared.text.RootDecl.{RootDecl}
-use Rattle.norm_lang.specs.declared.text.NodeDecl.{NodeDecl}
 use Rattle.norm_lang.specs.declared.text.Place.{Place}
 use Rattle.norm_lang.specs.declared.text.Place.TheVariants as places
 use Rattle.norm_lang.specs.declared.text.CasEntry.{CasEntry}
 use Rattle.norm_lang.specs.declared.text.Instr.{Instr}
 use Rattle.norm_lang.specs.declared.text.Instr.TheVariants as instr
 use Rattle.norm_lang.specs.declared.text.Op.{Op}
-use Rattle.norm_lang.specs.LineWords.{item_kind}
+use Rattle.norm_lang.specs.declared.text.Text.{Text}
+use Rattle.norm_lang.specs.declared.text.Version.{Version}
 use Rattle.norm_lang.specs.Spelling.{spelled_cas, spelled_entry, spelled_instr, instr_lines, code_lines}
 use Rattle.norm_lang.specs.Instructions.{Step, Whole, Commits}
 use Rattle.norm_lang.specs.Grammar.{Section, Generator, WrapUp, Draft, is_new, news_in, news_of, with_instr, with_entries, with_step, is_fifth_new, has_room, is_comment, after_words}
-use Rattle.norm_lang.specs.Limits.{is_entry, is_instr}
-use Rattle.text_laws.proofs.WordsRead.{AreFields, AreRoots}
+use Rattle.norm_lang.specs.Limits.{is_entry, is_instr, owners_of}
+use Rattle.text_laws.proofs.WordsRead.{AreKinds, AreFields, AreRoots}
 use Rattle.text_laws.proofs.InstrsRead.{step_read, entry_read, step_of, entry_spelled, instr_spelled}
 use Rattle.text_laws.proofs.SpelledFolds.{after_spelled, line_then, lines_then, passes_among}
 
@@ -32,29 +32,29 @@ cas_inside : (fields : List FieldDecl) (roots : List RootDecl) (place : Place) (
 cas_inside fields roots (places.Root x) entry l at = rw at refl
 cas_inside fields roots (places.Field a f) entry l at = rw at refl
 
-instr_inside : (fields : List FieldDecl) (roots : List RootDecl) (i : Instr) → is_inside (spelled_instr fields roots i) ≡ true
-instr_inside fields roots (instr.Set d n) = refl
-instr_inside fields roots (instr.Mov d a) = refl
-instr_inside fields roots (instr.Add d a b) = refl
-instr_inside fields roots (instr.Sub d a b) = refl
-instr_inside fields roots (instr.Rem d a n) = refl
-instr_inside fields roots (instr.Mark d a) = refl
-instr_inside fields roots (instr.Unmark d a) = refl
-instr_inside fields roots (instr.Null d) = refl
-instr_inside fields roots (instr.LoadRoot d x) = refl
-instr_inside fields roots (instr.LoadPick d x n a) = refl
-instr_inside fields roots (instr.LoadField d a f) = refl
-instr_inside fields roots (instr.New d kind) = refl
-instr_inside fields roots (instr.Put a f b) = refl
-instr_inside fields roots (instr.Cas entry l) = cas_inside fields roots entry.place entry l refl
-instr_inside fields roots (instr.Jump l) = refl
-instr_inside fields roots (instr.IfEq a b l) = refl
-instr_inside fields roots (instr.IfLess a b l) = refl
-instr_inside fields roots (instr.IfMarked a l) = refl
-instr_inside fields roots (instr.Commit entries) = refl
-instr_inside fields roots (instr.Return a) = refl
-instr_inside fields roots instr.ReturnNone = refl
-instr_inside fields roots instr.Again = refl
+instr_inside : (version : Version) (kinds : List (List ℕ)) (fields : List FieldDecl) (roots : List RootDecl) (i : Instr) → is_inside (spelled_instr version kinds fields roots i) ≡ true
+instr_inside version kinds fields roots (instr.Set d n) = refl
+instr_inside version kinds fields roots (instr.Mov d a) = refl
+instr_inside version kinds fields roots (instr.Add d a b) = refl
+instr_inside version kinds fields roots (instr.Sub d a b) = refl
+instr_inside version kinds fields roots (instr.Rem d a n) = refl
+instr_inside version kinds fields roots (instr.Mark d a) = refl
+instr_inside version kinds fields roots (instr.Unmark d a) = refl
+instr_inside version kinds fields roots (instr.Null d) = refl
+instr_inside version kinds fields roots (instr.LoadRoot d x) = refl
+instr_inside version kinds fields roots (instr.LoadPick d x n a) = refl
+instr_inside version kinds fields roots (instr.LoadField d a f) = refl
+instr_inside version kinds fields roots (instr.New d kind) = refl
+instr_inside version kinds fields roots (instr.Put a f b) = refl
+instr_inside version kinds fields roots (instr.Cas entry l) = cas_inside fields roots entry.place entry l refl
+instr_inside version kinds fields roots (instr.Jump l) = refl
+instr_inside version kinds fields roots (instr.IfEq a b l) = refl
+instr_inside version kinds fields roots (instr.IfLess a b l) = refl
+instr_inside version kinds fields roots (instr.IfMarked a l) = refl
+instr_inside version kinds fields roots (instr.Commit entries) = refl
+instr_inside version kinds fields roots (instr.Return a) = refl
+instr_inside version kinds fields roots instr.ReturnNone = refl
+instr_inside version kinds fields roots instr.Again = refl
 
 entry_inside : (fields : List FieldDecl) (roots : List RootDecl) (place : Place) (entry : CasEntry) → entry.place ≡ place → is_inside (spelled_entry fields roots entry) ≡ true
 entry_inside fields roots (places.Root x) entry at = rw at refl
@@ -92,47 +92,61 @@ IsMethod Generator = Unit {0}
 IsMethod WrapUp = Unit {0}
 IsMethod _ = ⊥
 
-abbrev pub in_code : Section → ℕ → List FieldDecl → List NodeDecl → List RootDecl → List Op → Op → Draft
-in_code section count fields nodes roots ops op = record {
+-- a text's declarations, with these operations, and the operation whose lines stand here
+abbrev pub in_code : Version → Text → Section → List Op → Op → Draft
+in_code version text section ops op = record {
   section = section;
-  nodes = count;
-  text = record { kinds = item_kind ∷ []; fields = fields; roots = roots; nodes = nodes; ops = ops };
+  version = version;
+  counted = length text.kinds;
+  owners = owners_of text.nodes;
+  text = record text { ops = ops };
   op = op;
   left = 0;
   entries = [];
 }
 
+-- the kinds, fields and roots of a text that stands in a version have different names
+pub record AreNamed (version : Version) (text : Text) : Type 0 where
+  pub kinds : AreKinds version text.kinds
+  pub fields : AreFields text.fields
+  pub roots : AreRoots text.roots
+
+-- an instruction with a text's declarations
+abbrev pub fits_in : Text → Instr → Bool
+fits_in text i = is_instr (length text.kinds) (length text.fields) (length text.roots) i
+
 -- the line of a step in a method
-step_line_read : (section : Section) (count : ℕ) (fields : List FieldDecl) (nodes : List NodeDecl) (roots : List RootDecl) (ops : List Op) (op : Op) (words : List (List ℕ)) (step : Step)
-    → IsMethod section → is_inside words ≡ true → step_read fields roots words ≡ Ok step → has_room (in_code section count fields nodes roots ops op) step ≡ true
-    → after_words (in_code section count fields nodes roots ops op) words ≡ Ok (with_step (in_code section count fields nodes roots ops op) step)
-step_line_read section count fields nodes roots ops op [] step is inside read room = let e : false ≡ true = inside in absurd (let f : ⊥ = cc in f)
-step_line_read Generator count fields nodes roots ops op (word ∷ rest) step is inside read room =
+step_line_read : (version : Version) (text : Text) (section : Section) (ops : List Op) (op : Op) (words : List (List ℕ)) (step : Step)
+    → IsMethod section → is_inside words ≡ true → step_read version text.kinds text.fields text.roots words ≡ Ok step → has_room (in_code version text section ops op) step ≡ true
+    → after_words (in_code version text section ops op) words ≡ Ok (with_step (in_code version text section ops op) step)
+step_line_read version text section ops op [] step is inside read room = let e : false ≡ true = inside in absurd (let f : ⊥ = cc in f)
+step_line_read version text Generator ops op (word ∷ rest) step is inside read room =
     let p = and_parts (not (is_comment word)) (not (bytes_eq word (codes "wrap")) && not (bytes_eq word (codes "op"))) inside in
     let q = and_parts (not (bytes_eq word (codes "wrap"))) (not (bytes_eq word (codes "op"))) p.1 in
     rw (not-true (is_comment word) p.0, not-true (bytes_eq word (codes "wrap")) q.0, read, room) refl
-step_line_read WrapUp count fields nodes roots ops op (word ∷ rest) step is inside read room =
+step_line_read version text WrapUp ops op (word ∷ rest) step is inside read room =
     let p = and_parts (not (is_comment word)) (not (bytes_eq word (codes "wrap")) && not (bytes_eq word (codes "op"))) inside in
     let q = and_parts (not (bytes_eq word (codes "wrap"))) (not (bytes_eq word (codes "op"))) p.1 in
     rw (not-true (is_comment word) p.0, not-true (bytes_eq word (codes "op")) q.1, read, room) refl
-step_line_read _ count fields nodes roots ops op (word ∷ rest) step is inside read room = absurd is
+step_line_read version text _ ops op (word ∷ rest) step is inside read room = absurd is
 
 -- the lines of an instruction in a method
-instr_read : (section : Section) (count : ℕ) (fields : List FieldDecl) (nodes : List NodeDecl) (roots : List RootDecl) (ops : List Op) (op : Op) (i : Instr)
-    → IsMethod section → AreFields fields → AreRoots roots → is_instr 1 (length fields) (length roots) i ≡ true → has_room (in_code section count fields nodes roots ops op) (step_of i) ≡ true
-    → after_spelled (in_code section count fields nodes roots ops op) (instr_lines fields roots i) ≡ Ok (in_code section count fields nodes roots ops (with_instr section op i))
-instr_read section count fields nodes roots ops op (instr.Commit entries) is fs rs fits room =
-    let draft = in_code section count fields nodes roots ops op in
-    let line = spelled_instr fields roots (instr.Commit entries) in
-    let parts = and_parts (nat_le (length entries) 4) (list_all (is_entry (length fields) (length roots)) entries) fits in
-    line_then draft (with_entries (length entries) draft []) line (map (spelled_entry fields roots) entries) (Ok (in_code section count fields nodes roots ops (with_instr section op (instr.Commit entries))))
-    (step_line_read section count fields nodes roots ops op line (Commits (length entries)) is refl (instr_spelled fields roots (instr.Commit entries) fs rs fits) room)
-    (entries_read draft [] entries fs rs parts.1)
-instr_read section count fields nodes roots ops op i is fs rs fits room =
-    let draft = in_code section count fields nodes roots ops op in
-    let next = in_code section count fields nodes roots ops (with_instr section op i) in
-    line_then draft next (spelled_instr fields roots i) [] (Ok next)
-    (step_line_read section count fields nodes roots ops op (spelled_instr fields roots i) (Whole i) is (instr_inside fields roots i) (instr_spelled fields roots i fs rs fits) room)
+instr_read : (version : Version) (text : Text) (section : Section) (ops : List Op) (op : Op) (i : Instr)
+    → IsMethod section → AreNamed version text → fits_in text i ≡ true → has_room (in_code version text section ops op) (step_of i) ≡ true
+    → after_spelled (in_code version text section ops op) (instr_lines version text.kinds text.fields text.roots i) ≡ Ok (in_code version text section ops (with_instr section op i))
+instr_read version text section ops op (instr.Commit entries) is named fits room =
+    let draft = in_code version text section ops op in
+    let line = spelled_instr version text.kinds text.fields text.roots (instr.Commit entries) in
+    let parts = and_parts (nat_le (length entries) 4) (list_all (is_entry (length text.fields) (length text.roots)) entries) fits in
+    line_then draft (with_entries (length entries) draft []) line (map (spelled_entry text.fields text.roots) entries) (Ok (in_code version text section ops (with_instr section op (instr.Commit entries))))
+    (step_line_read version text section ops op line (Commits (length entries)) is refl (instr_spelled version text.kinds text.fields text.roots (instr.Commit entries) named.kinds named.fields named.roots fits) room)
+    (entries_read draft [] entries named.fields named.roots parts.1)
+instr_read version text section ops op i is named fits room =
+    let draft = in_code version text section ops op in
+    let next = in_code version text section ops (with_instr section op i) in
+    let line = spelled_instr version text.kinds text.fields text.roots i in
+    line_then draft next line [] (Ok next)
+    (step_line_read version text section ops op line (Whole i) is (instr_inside version text.kinds text.fields text.roots i) (instr_spelled version text.kinds text.fields text.roots i named.kinds named.fields named.roots fits) room)
     refl
 
 -- an operation with this code in the method
@@ -158,20 +172,20 @@ not_fifth : (op : Op) (i : Instr) → (is_new i ≡ true → news_of op ≤ 3) �
 not_fifth op (instr.New d kind) few = let le : news_of op ≤ 3 = few refl in le-ltb 3 (news_of op) le
 not_fifth op i few = refl
 
-room_left : (section : Section) (count : ℕ) (fields : List FieldDecl) (nodes : List NodeDecl) (roots : List RootDecl) (ops : List Op) (op : Op) (done rest whole : List Instr) (i : Instr)
+room_left : (version : Version) (text : Text) (section : Section) (ops : List Op) (op : Op) (done rest whole : List Instr) (i : Instr)
     → IsMethod section → done ++ i ∷ rest ≡ whole → length whole ≤ 256 → news_of (with_code section op whole) ≤ 4
-    → has_room (in_code section count fields nodes roots ops (with_code section op done)) (step_of i) ≡ true
-room_left Generator count fields nodes roots ops op done rest whole i is same short few =
+    → has_room (in_code version text section ops (with_code section op done)) (step_of i) ≡ true
+room_left version text Generator ops op done rest whole i is same short few =
     let long : length whole ≡ length done + suc (length rest) = ap length (sym same) ∙ length-append done (i ∷ rest) in
     let lt : length done < 256 = omega arith in
     let fifth : is_fifth_new (record op { generator = done }) (step_of i) ≡ false = not_fifth (record op { generator = done }) i (λ new. omega (arith, news_before done rest whole i same new)) in
     rw (lt-ltb (length done) 256 lt, fifth) refl
-room_left WrapUp count fields nodes roots ops op done rest whole i is same short few =
+room_left version text WrapUp ops op done rest whole i is same short few =
     let long : length whole ≡ length done + suc (length rest) = ap length (sym same) ∙ length-append done (i ∷ rest) in
     let lt : length done < 256 = omega arith in
     let fifth : is_fifth_new (record op { wrapup = done }) (step_of i) ≡ false = not_fifth (record op { wrapup = done }) i (λ new. omega (arith, news_before done rest whole i same new)) in
     rw (lt-ltb (length done) 256 lt, fifth) refl
-room_left _ count fields nodes roots ops op done rest whole i is same short few = absurd is
+room_left version text _ ops op done rest whole i is same short few = absurd is
 
 one_more : (section : Section) (op : Op) (done : List Instr) (i : Instr) → IsMethod section → with_instr section (with_code section op done) i ≡ with_code section op (done ++ i ∷ [])
 one_more Generator op done i is = refl
@@ -179,17 +193,17 @@ one_more WrapUp op done i is = refl
 one_more _ op done i is = absurd is
 
 -- the lines of a method's code
-pub code_read : (section : Section) (count : ℕ) (fields : List FieldDecl) (nodes : List NodeDecl) (roots : List RootDecl) (ops : List Op) (op : Op) (done rest whole : List Instr)
-    → IsMethod section → AreFields fields → AreRoots roots → list_all (is_instr 1 (length fields) (length roots)) whole ≡ true → length whole ≤ 256 → news_of (with_code section op whole) ≤ 4
+pub code_read : (version : Version) (text : Text) (section : Section) (ops : List Op) (op : Op) (done rest whole : List Instr)
+    → IsMethod section → AreNamed version text → list_all (fits_in text) whole ≡ true → length whole ≤ 256 → news_of (with_code section op whole) ≤ 4
     → done ++ rest ≡ whole
-    → after_spelled (in_code section count fields nodes roots ops (with_code section op done)) (code_lines fields roots rest) ≡ Ok (in_code section count fields nodes roots ops (with_code section op whole))
-code_read section count fields nodes roots ops op done [] whole is fs rs fit short few same = let e : done ≡ whole = sym (append-nil done) ∙ same in rw e refl
-code_read section count fields nodes roots ops op done (i ∷ rest) whole is fs rs fit short few same =
-    let draft = in_code section count fields nodes roots ops (with_code section op done) in
-    let next = in_code section count fields nodes roots ops (with_code section op (done ++ i ∷ [])) in
-    let last = in_code section count fields nodes roots ops (with_code section op whole) in
-    lines_then draft next (instr_lines fields roots i) (code_lines fields roots rest) (Ok last)
-    (instr_read section count fields nodes roots ops (with_code section op done) i is fs rs (passes_among (is_instr 1 (length fields) (length roots)) done rest whole i same fit)
-    (room_left section count fields nodes roots ops op done rest whole i is same short few)
-    ∙ ap (λ o. Ok (in_code section count fields nodes roots ops o)) (one_more section op done i is))
-    (code_read section count fields nodes roots ops op (done ++ i ∷ []) rest whole is fs rs fit short few (append_assoc done (i ∷ []) rest ∙ same))
+    → after_spelled (in_code version text section ops (with_code section op done)) (code_lines version text.kinds text.fields text.roots rest) ≡ Ok (in_code version text section ops (with_code section op whole))
+code_read version text section ops op done [] whole is named fit short few same = let e : done ≡ whole = sym (append-nil done) ∙ same in rw e refl
+code_read version text section ops op done (i ∷ rest) whole is named fit short few same =
+    let draft = in_code version text section ops (with_code section op done) in
+    let next = in_code version text section ops (with_code section op (done ++ i ∷ [])) in
+    let last = in_code version text section ops (with_code section op whole) in
+    lines_then draft next (instr_lines version text.kinds text.fields text.roots i) (code_lines version text.kinds text.fields text.roots rest) (Ok last)
+    (instr_read version text section ops (with_code section op done) i is named (passes_among (fits_in text) done rest whole i same fit)
+    (room_left version text section ops op done rest whole i is same short few)
+    ∙ ap (λ o. Ok (in_code version text section ops o)) (one_more section op done i is))
+    (code_read version text section ops op (done ++ i ∷ []) rest whole is named fit short few (append_assoc done (i ∷ []) rest ∙ same))

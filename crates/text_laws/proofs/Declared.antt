@@ -26,7 +26,7 @@ none_pushed name wanted (x ∷ items) item none differs =
     or_from _ _ parts.0 (none_pushed name wanted items item parts.1 differs)
 
 -- the names are different, and one more is new
-different_pushed : {A : Type 0} (name : A → List ℕ) (items : List A) (item : A)
+pub different_pushed : {A : Type 0} (name : A → List ℕ) (items : List A) (item : A)
     → are_different (map name items) ≡ true → list_any (λ other. bytes_eq (name other) (name item)) items ≡ false
     → are_different (map name (items ++ item ∷ [])) ≡ true
 different_pushed name [] item apart new = refl

@@ -1,17 +1,19 @@
--- Each line of a method that the grammar reads is spelled aw the spelling writes what it says.
+-- Each line of a method that the grammar reads is spelled as the spelling writes what it says.
 use Rattle.std.specs.Prelude.{◌≡◌, ℕ, List, [], ◌∷◌, Option, Result, Ok, Err, IfOk, codes, decimal, nat_le, true}
 use Rattle.std.specs.Str.{bytes_eq}
 use Rattle.std.proofs.Common.{refl, ap, ◌∙◌}
+use Rattle.std.proofs.lemmas.List.{append-nil}
 use Rattle.norm_lang.specs.declared.text.Reg.{Reg}
 use Rattle.norm_lang.specs.declared.text.FieldDecl.{FieldDecl}
 use Rattle.norm_lang.specs.declared.text.RootDecl.{RootDecl}
 use Rattle.norm_lang.specs.declared.text.CasEntry.{CasEntry}
 use Rattle.norm_lang.specs.declared.text.Instr.{Instr}
+use Rattle.norm_lang.specs.declared.text.Version.{Version}
 use Rattle.norm_lang.specs.Faults.{◌>>=◌, form_fault}
 use Rattle.norm_lang.specs.Instructions.{Step, Whole, Commits, whole, one_register, two_registers, three_registers, retire_at, target_at, set_line, mov_line, add_line, sub_line, rem_line, null_line, mark_line, unmark_line, load_root_line, pick_line, load_field_line, new_line, put_line, cas_line, casroot_line, jump_line, ifeq_line, ifless_line, ifmarked_line, return_line, returnnone_line, again_line, commit_line, step_line, with_line, withroot_line, entry_line}
-use Rattle.norm_lang.specs.Spelling.{register_word, retire_words, spelled_entry, instr_lines}
+use Rattle.norm_lang.specs.Spelling.{register_word, owner_words, retire_words, spelled_entry, instr_lines}
 use Rattle.text_laws.proofs.Readings.{then_has, demanded, either}
-use Rattle.text_laws.proofs.WordsSaid.{same_word, end_then, name_then, number_then, positive_then, register_then, value_then, up_to_then, field_then, root_then}
+use Rattle.text_laws.proofs.WordsSaid.{same_word, end_then, name_then, number_then, positive_then, register_then, owner_then, known_then, value_then, up_to_then, field_then, root_then}
 
 -- the last register is read, and then what is read has P
 pub one_then : {B : Type 0} (words : List (List ℕ)) (f : Reg → Result B ℕ) (P : B → Type 0) → ((a : Reg) → words ≡ register_word a ∷ [] → IfOk (f a) P) → IfOk (one_register words >>= f) P
@@ -52,10 +54,10 @@ target_then words f P next = then_has (target_at words) f (λ l. words ≡ decim
         number_then words _ _ λ word n rest here said. end_then rest _ _ λ last. value_then word n _ _ said λ v is.
         either (nat_le v 65535) _ _ (λ l. words ≡ decimal l ∷ []) (λ _. rw (here, last, is) refl) (λ _. tt)
 
-module _ (fields : List FieldDecl) (roots : List RootDecl) where
+module _ (version : Version) (kinds : List (List ℕ)) (fields : List FieldDecl) (roots : List RootDecl) where
   -- the line's keyword and the words after it are those of the instruction's only line
   abbrev Says : List ℕ → List (List ℕ) → Result Instr ℕ → Type 0
-  Says keyword words read = IfOk read (λ i. (keyword ∷ words) ∷ [] ≡ instr_lines fields roots i)
+  Says keyword words read = IfOk read (λ i. (keyword ∷ words) ∷ [] ≡ instr_lines version kinds fields roots i)
 
   set_said : (words : List (List ℕ)) → Says (codes "set") words (set_line words)
   set_said words = register_then words _ _ λ d rest ds. number_then rest _ _ λ word n rest ns said. end_then rest _ _ λ last. value_then word n _ _ said λ v vs. rw (ds, ns, last, vs) refl
@@ -90,8 +92,8 @@ module _ (fields : List FieldDecl) (roots : List RootDecl) where
   load_said : (words : List (List ℕ)) → Says (codes "load") words (load_field_line fields words)
   load_said words = register_then words _ _ λ d rest ds. register_then rest _ _ λ a rest aw. name_then rest _ _ λ x rest xs. end_then rest _ _ λ last. field_then fields x _ _ λ i is. rw (ds, aw, xs, last, is) refl
 
-  new_said : (words : List (List ℕ)) → Says (codes "new") words (new_line words)
-  new_said words = one_then words _ _ λ a same. rw same refl
+  new_said : (words : List (List ℕ)) → Says (codes "new") words (new_line version kinds words)
+  new_said words = register_then words _ _ λ d rest ds. owner_then version kinds rest _ _ λ owner rest os. end_then rest _ _ λ last. known_then owner _ _ λ k known. rw (ds, os.says k known, last, append-nil (owner_words version kinds k)) refl
 
   put_said : (words : List (List ℕ)) → Says (codes "put") words (put_line fields words)
   put_said words = register_then words _ _ λ a rest aw. name_then rest _ _ λ x rest xs. one_then rest _ _ λ b last. field_then fields x _ _ λ i is. rw (aw, xs, last, is) refl
@@ -125,7 +127,7 @@ module _ (fields : List FieldDecl) (roots : List RootDecl) where
 
   -- a line says a whole instruction, or begins a commit
   abbrev pub StepSays : List (List ℕ) → Step → Type 0
-  StepSays words (Whole i) = words ∷ [] ≡ instr_lines fields roots i
+  StepSays words (Whole i) = words ∷ [] ≡ instr_lines version kinds fields roots i
   StepSays words (Commits count) = words ≡ codes "commit" ∷ decimal count ∷ []
 
   commit_said : (words : List (List ℕ)) → IfOk (commit_line words) (StepSays (codes "commit" ∷ words))
@@ -135,7 +137,7 @@ module _ (fields : List FieldDecl) (roots : List RootDecl) where
   as_step word keyword rest (Ok i) e says = ap (λ w. (w ∷ rest) ∷ []) (same_word word keyword e) ∙ says
   as_step word keyword rest (Err fault) e says = tt
 
-  pub step_said : (word : List ℕ) (rest : List (List ℕ)) → IfOk (step_line fields roots word rest) (StepSays (word ∷ rest))
+  pub step_said : (word : List ℕ) (rest : List (List ℕ)) → IfOk (step_line version kinds fields roots word rest) (StepSays (word ∷ rest))
   step_said word rest =
       either (bytes_eq word (codes "set")) _ _ _ (λ e. as_step word _ rest _ e (set_said rest)) λ _.
       either (bytes_eq word (codes "mov")) _ _ _ (λ e. as_step word _ rest _ e (mov_said rest)) λ _.

@@ -2,11 +2,13 @@ pub mod CodeRead
 pub mod DeclarationLimits
 pub mod Declared
 pub mod DraftLimits
+pub mod FewDeclared
+pub mod FieldGroups
 pub mod InstrLimits
+pub mod InTurn
 pub mod InstrsRead
 pub mod LineLimits
 pub mod LinesSpelled
-pub mod OneKind
 pub mod OneText
 pub mod OpsRead
 pub mod Readings
@@ -22,5 +24,6 @@ pub mod DeclarationsSaid
 pub mod DraftSaid
 pub mod TextsSaid
 pub mod LinesAndWordsAre
+mod WorkedKinds
 mod WorkedTexts
 mod WrittenOut

@@ -9,10 +9,13 @@ use Rattle.oa_text.specs.Numbers.{fitting, is_numeral, number_of}
 use Rattle.norm_lang.specs.declared.text.Reg.{Reg}
 use Rattle.norm_lang.specs.declared.text.FieldDecl.{FieldDecl}
 use Rattle.norm_lang.specs.declared.text.RootDecl.{RootDecl}
+use Rattle.norm_lang.specs.declared.text.Version.{Version}
+use Rattle.norm_lang.specs.declared.text.Version.TheVariants.{First, Second}
 use Rattle.norm_lang.specs.Faults.{◌>>=◌, or_fault, form_fault, unknown_name}
-use Rattle.norm_lang.specs.LineWords.{end_at, name_at, is_name, number_in, number_at, is_positive, positive_at, value_of, up_to, register_of, register_in, register_at}
+use Rattle.norm_lang.specs.LineWords.{end_at, name_at, is_name, number_in, number_at, is_positive, positive_at, value_of, up_to, register_of, register_in, register_at, owner_at}
 use Rattle.norm_lang.specs.Instructions.{field_named, root_named, one_register, two_registers, three_registers, retire_at, target_at}
 use Rattle.norm_lang.specs.Limits.{is_number, is_register, is_retire, is_target}
+use Rattle.text_laws.specs.StandsFor.{KindsOf}
 use Rattle.text_laws.proofs.Readings.{then_has, anyhow, demanded, either}
 
 -- a number as it is spelled is small, or none
@@ -165,3 +168,30 @@ field_then fields name f P next = then_has (field_named fields name) f (λ i. na
 pub root_then : {B : Type 0} (roots : List RootDecl) (name : List ℕ) (f : ℕ → Result B ℕ) (P : B → Type 0)
     → ((i : ℕ) → nat_lt i (length roots) ≡ true → IfOk (f i) P) → IfOk (root_named roots name >>= f) P
 root_then roots name f P next = then_has (root_named roots name) f (λ i. nat_lt i (length roots) ≡ true) P (place_below (λ root. bytes_eq root.name name) roots) next
+
+-- the kind that a line means is one of so many, or isn't declared
+abbrev pub IsOwner : ℕ → Option ℕ → Type 0
+IsOwner kinds None = ⊤
+IsOwner kinds (Some k) = nat_lt k kinds ≡ true
+
+owner_place : {A : Type 0} (test : A → Bool) (items : List A) → IsOwner (length items) (position test items)
+owner_place test items = go (nat_lt (position_or_len test items) (length items)) refl
+  where
+    go : (b : Bool) → nat_lt (position_or_len test items) (length items) ≡ b → IsOwner (length items) (if b then Some (position_or_len test items) else None)
+    go true e = e
+    go false e = tt
+
+owner_known : (version : Version) (kinds words : List (List ℕ)) → KindsOf version kinds → IfOk (owner_at version kinds words) (λ t. IsOwner (length kinds) t.0)
+owner_known First kinds words are = rw are refl
+owner_known Second kinds words are = name_then words _ _ λ name rest named. owner_place (λ kind. bytes_eq kind name) kinds
+
+-- a kind is read, or meant without a word, and then what is read after it has P
+pub owner_then : {B : Type 0} (version : Version) (kinds words : List (List ℕ)) (f : Option ℕ × List (List ℕ) → Result B ℕ) (P : B → Type 0) → KindsOf version kinds
+    → ((owner : Option ℕ) (rest : List (List ℕ)) → IsOwner (length kinds) owner → IfOk (f (owner, rest)) P) → IfOk (owner_at version kinds words >>= f) P
+owner_then version kinds words f P are next = then_has (owner_at version kinds words) f (λ t. IsOwner (length kinds) t.0) P (owner_known version kinds words are) λ t h. next t.0 t.1 h
+
+-- the kind is declared, and then what is read has P
+pub declared_then : {B : Type 0} (kinds : ℕ) (owner : Option ℕ) (f : ℕ → Result B ℕ) (P : B → Type 0) → IsOwner kinds owner
+    → ((k : ℕ) → owner ≡ Some k → nat_lt k kinds ≡ true → IfOk (f k) P) → IfOk (or_fault unknown_name owner >>= f) P
+declared_then kinds None f P is next = tt
+declared_then kinds (Some k) f P is next = next k refl is

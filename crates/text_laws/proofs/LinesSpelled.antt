@@ -1,7 +1,7 @@
 -- Each spelled line is a line of few short words.
-use Rattle.std.specs.Prelude.{◌≡◌, ℕ, zero, suc, ◌+◌, ◌^◌, ◌<◌, ◌≤◌, ◌&&◌, true, false, List, [], ◌∷◌, map, length, Option, Some, None, codes, decimal, nat_le, nat_lt}
+use Rattle.std.specs.Prelude.{◌≡◌, ℕ, zero, suc, ◌+◌, ◌^◌, ◌<◌, ◌≤◌, ◌&&◌, true, false, List, [], ◌∷◌, ◌++◌, map, length, Option, Some, None, codes, decimal, nat_le, nat_lt}
 use Rattle.std.specs.List.{list_all, AllByRecursion}
-use Rattle.std.proofs.Common.{refl, ap, arith}
+use Rattle.std.proofs.Common.{refl, ap, arith, length-append}
 use Rattle.std.proofs.lemmas.Bool.{and_from, and_parts, ltb-true, leb-true}
 use Rattle.std.proofs.lemmas.Bool.Decides.{nat_tests}
 use Rattle.std.proofs.lemmas.Fmt.{decimal_digit, length-decimal-le}
@@ -20,12 +20,14 @@ use Rattle.norm_lang.specs.declared.text.CasEntry.{CasEntry}
 use Rattle.norm_lang.specs.declared.text.Instr.{Instr}
 use Rattle.norm_lang.specs.declared.text.Instr.TheVariants as instr
 use Rattle.norm_lang.specs.declared.text.Op.{Op}
-use Rattle.norm_lang.specs.Spelling.{register_word, kind_word, node_word, start_word, retire_words, field_name, root_name, spelled_version, spelled_field, spelled_nodes, spelled_node, spelled_root, spelled_cas, spelled_entry, spelled_instr, spelled_op}
+use Rattle.norm_lang.specs.declared.text.Version.{Version}
+use Rattle.norm_lang.specs.declared.text.Version.TheVariants.{First, Second}
+use Rattle.norm_lang.specs.Spelling.{register_word, named_kind, kind_name, owner_words, kind_words, node_word, start_word, retire_words, field_name, root_name, spelled_version, spelled_field, nodes_of, spelled_count, spelled_node, spelled_root, spelled_cas, spelled_entry, spelled_instr, spelled_op}
 use Rattle.norm_lang.specs.LineWords.{is_lower, is_name_byte, is_name}
-use Rattle.norm_lang.specs.Limits.{is_number, is_register, is_target, is_retire, is_entry, is_instr, is_start, are_starts}
+use Rattle.norm_lang.specs.Limits.{is_number, is_register, is_target, is_retire, is_entry, is_instr, is_kind, is_start, are_starts}
 use Rattle.norm_lang.proofs.SpelledLines.{is_visible, IsWord, IsLine, each}
 use Rattle.text_laws.proofs.SpelledWords.{decimal_word}
-use Rattle.text_laws.proofs.WordsRead.{AreFields, AreRoots, field_spelled, root_spelled}
+use Rattle.text_laws.proofs.WordsRead.{AreKinds, AreFields, AreRoots, node_within, kind_spelled, field_spelled, root_spelled}
 
 -- a word that computes
 keyword : (word : List ℕ) → nat_lt 0 (length word) && (nat_le (length word) 20 && list_all is_visible word) ≡ true → IsWord word
@@ -71,9 +73,30 @@ register_is : (r : Reg) → is_register r ≡ true → IsWord (register_word r)
 register_is (Num k) is = letter_word 110 k refl is
 register_is (Ref k) is = letter_word 114 k refl is
 
-kind_is : (kind : FieldKind) → IsWord (kind_word kind)
-kind_is holdings.Number = keyword (codes "num") refl
-kind_is (holdings.Reference k) = keyword (codes "ref") refl
+-- words, and others after them
+both : (xs ys : List (List ℕ)) → AllByRecursion IsWord xs → AllByRecursion IsWord ys → AllByRecursion IsWord (xs ++ ys)
+both [] ys first second = second
+both (x ∷ xs) ys first second = (first.0, both xs ys first.1 second)
+
+-- a kind's name, or nothing
+named_is : (version : Version) (name : List ℕ) → is_name name ≡ true → AllByRecursion IsWord (named_kind version name)
+named_is First name is = tt
+named_is Second name is = (name_word name is, tt)
+
+named_few : (version : Version) (name : List ℕ) → length (named_kind version name) ≤ 1
+named_few First name = omega arith
+named_few Second name = omega arith
+
+owner_is : (version : Version) (kinds : List (List ℕ)) (k : ℕ) → AreKinds version kinds → nat_lt k (length kinds) ≡ true → AllByRecursion IsWord (owner_words version kinds k)
+owner_is version kinds k are within = named_is version (kind_name kinds k) (kind_spelled version kinds k are within)
+
+kind_is : (version : Version) (kinds : List (List ℕ)) (kind : FieldKind) → AreKinds version kinds → is_kind (length kinds) kind ≡ true → AllByRecursion IsWord (kind_words version kinds kind)
+kind_is version kinds holdings.Number are is = (keyword (codes "num") refl, tt)
+kind_is version kinds (holdings.Reference k) are is = (keyword (codes "ref") refl, owner_is version kinds k are is)
+
+kind_few : (version : Version) (kinds : List (List ℕ)) (kind : FieldKind) → length (kind_words version kinds kind) ≤ 2
+kind_few version kinds holdings.Number = omega arith
+kind_few version kinds (holdings.Reference k) = omega (arith, named_few version (kind_name kinds k))
 
 node_is : (j : ℕ) → j ≤ 256 → IsWord (node_word j)
 node_is zero few = keyword (codes "null") refl
@@ -86,31 +109,36 @@ node_is (suc j) few =
       visible = and_from (is_visible 64) (list_all is_visible (decimal (suc j))) refl word.visible;
     }
 
--- a first value, with so many nodes
-start_is : (count : ℕ) (kind : FieldKind) (start : Start) → count ≤ 256 → is_start count kind start ≡ true → IsWord (start_word start)
-start_is count holdings.Number (starts.Value n) few is = number_word n is
-start_is count (holdings.Reference k) (starts.Value n) few is = let e : false ≡ true = is in absurd (let f : ⊥ = cc in f)
-start_is count holdings.Number (starts.Node j) few is = let e : false ≡ true = is in absurd (let f : ⊥ = cc in f)
-start_is count (holdings.Reference k) (starts.Node j) few is = let le : j ≤ count = leb-true j count is in node_is j (omega arith)
+-- a first value, where the initial nodes are of these kinds
+start_is : (owners : List ℕ) (kind : FieldKind) (start : Start) → length owners ≤ 256 → is_start owners kind start ≡ true → IsWord (start_word start)
+start_is owners holdings.Number (starts.Value n) few is = number_word n is
+start_is owners (holdings.Reference k) (starts.Value n) few is = let e : false ≡ true = is in absurd (let f : ⊥ = cc in f)
+start_is owners holdings.Number (starts.Node j) few is = let e : false ≡ true = is in absurd (let f : ⊥ = cc in f)
+start_is owners (holdings.Reference k) (starts.Node zero) few is = node_is zero (omega arith)
+start_is owners (holdings.Reference k) (starts.Node (suc j)) few is = let within : j < length owners = node_within owners j k is in node_is (suc j) (omega arith)
 
-starts_are : (count : ℕ) (fields : List FieldDecl) (values : List Start) → count ≤ 256 → are_starts count fields values ≡ true → AllByRecursion IsWord (map start_word values)
-starts_are count [] [] few are = tt
-starts_are count [] (start ∷ values) few are = let e : false ≡ true = are in absurd (let f : ⊥ = cc in f)
-starts_are count (field ∷ fields) [] few are = tt
-starts_are count (field ∷ fields) (start ∷ values) few are =
-    let p = and_parts (is_start count field.kind start) (are_starts count fields values) are in
-    (start_is count field.kind start few p.0, starts_are count fields values few p.1)
+starts_are : (owners : List ℕ) (fields : List FieldDecl) (values : List Start) → length owners ≤ 256 → are_starts owners fields values ≡ true → AllByRecursion IsWord (map start_word values)
+starts_are owners [] [] few are = tt
+starts_are owners [] (start ∷ values) few are = let e : false ≡ true = are in absurd (let f : ⊥ = cc in f)
+starts_are owners (field ∷ fields) [] few are = tt
+starts_are owners (field ∷ fields) (start ∷ values) few are =
+    let p = and_parts (is_start owners field.kind start) (are_starts owners fields values) are in
+    (start_is owners field.kind start few p.0, starts_are owners fields values few p.1)
 
-starts_few : (count : ℕ) (fields : List FieldDecl) (values : List Start) → are_starts count fields values ≡ true → length (map start_word values) ≡ length fields
-starts_few count [] [] are = refl
-starts_few count [] (start ∷ values) are = let e : false ≡ true = are in absurd (let f : ⊥ = cc in f)
-starts_few count (field ∷ fields) [] are = let e : false ≡ true = are in absurd (let f : ⊥ = cc in f)
-starts_few count (field ∷ fields) (start ∷ values) are =
-    let p = and_parts (is_start count field.kind start) (are_starts count fields values) are in
-    ap suc (starts_few count fields values p.1)
+starts_few : (owners : List ℕ) (fields : List FieldDecl) (values : List Start) → are_starts owners fields values ≡ true → length (map start_word values) ≡ length fields
+starts_few owners [] [] are = refl
+starts_few owners [] (start ∷ values) are = let e : false ≡ true = are in absurd (let f : ⊥ = cc in f)
+starts_few owners (field ∷ fields) [] are = let e : false ≡ true = are in absurd (let f : ⊥ = cc in f)
+starts_few owners (field ∷ fields) (start ∷ values) are =
+    let p = and_parts (is_start owners field.kind start) (are_starts owners fields values) are in
+    ap suc (starts_few owners fields values p.1)
 
-pub version_is : IsLine spelled_version
-version_is = record { few = omega arith; word = (keyword (codes "oa") refl, (keyword (codes "1") refl, tt)) }
+pub version_is : (version : Version) → IsLine (spelled_version version)
+version_is First = record { few = omega arith; word = (keyword (codes "oa") refl, (keyword (codes "1") refl, tt)) }
+version_is Second = record { few = omega arith; word = (keyword (codes "oa") refl, (keyword (codes "2") refl, tt)) }
+
+pub kind_line_is : (name : List ℕ) → is_name name ≡ true → IsLine (codes "kind" ∷ name ∷ [])
+kind_line_is name is = record { few = omega arith; word = (keyword (codes "kind") refl, (name_word name is, tt)) }
 
 pub gen_is : IsLine (codes "gen" ∷ [])
 gen_is = record { few = omega arith; word = (keyword (codes "gen") refl, tt) }
@@ -118,23 +146,49 @@ gen_is = record { few = omega arith; word = (keyword (codes "gen") refl, tt) }
 pub wrap_is : IsLine (codes "wrap" ∷ [])
 wrap_is = record { few = omega arith; word = (keyword (codes "wrap") refl, tt) }
 
-pub field_is : (field : FieldDecl) → is_name field.name ≡ true → IsLine (spelled_field field)
-field_is field name = record { few = omega arith; word = (keyword (codes "field") refl, (name_word field.name name, (kind_is field.kind, tt))) }
+pub field_is : (version : Version) (kinds : List (List ℕ)) (field : FieldDecl) → AreKinds version kinds → is_name field.name ≡ true → nat_lt field.owner (length kinds) ≡ true
+    → is_kind (length kinds) field.kind ≡ true → IsLine (spelled_field version kinds field)
+field_is version kinds field ks name owner kind =
+    let owner_few : length (owner_words version kinds field.owner) ≤ 1 = named_few version (kind_name kinds field.owner) in
+    let all = length-append (owner_words version kinds field.owner) (field.name ∷ kind_words version kinds field.kind) in
+    record {
+      few = omega (arith, all, owner_few, kind_few version kinds field.kind);
+      word = (
+        keyword (codes "field") refl,
+        both (owner_words version kinds field.owner) (field.name ∷ kind_words version kinds field.kind) (owner_is version kinds field.owner ks owner)
+            (name_word field.name name, kind_is version kinds field.kind ks kind),
+      );
+    }
 
-pub nodes_is : (nodes : List NodeDecl) → nat_le (length nodes) 256 ≡ true → IsLine (spelled_nodes nodes)
-nodes_is nodes few = record { few = omega arith; word = (keyword (codes "nodes") refl, (small_word 256 (length nodes) (omega arith) few, tt)) }
+pub count_is : (version : Version) (k : ℕ) (name : List ℕ) (nodes : List NodeDecl) → is_name name ≡ true → length (nodes_of k nodes) ≤ 256 → IsLine (spelled_count version k name nodes)
+count_is version k name nodes is few =
+    let count = decimal (length (nodes_of k nodes)) in
+    let all = length-append (named_kind version name) (count ∷ []) in
+    record {
+      few = omega (arith, all, named_few version name);
+      word = (keyword (codes "nodes") refl, both (named_kind version name) (count ∷ []) (named_is version name is) (decimal_word (length (nodes_of k nodes)) (omega (arith, few)), tt));
+    }
 
-pub node_line_is : (count : ℕ) (fields : List FieldDecl) (node : NodeDecl) → length fields ≤ 4 → count ≤ 256 → are_starts count fields node.values ≡ true → IsLine (spelled_node node)
-node_line_is count fields node short few are = record {
-  few = omega (arith, starts_few count fields node.values are);
-  word = (keyword (codes "node") refl, starts_are count fields node.values few are);
+pub node_line_is : (owners : List ℕ) (fields : List FieldDecl) (node : NodeDecl) → length fields ≤ 4 → length owners ≤ 256 → are_starts owners fields node.values ≡ true → IsLine (spelled_node node)
+node_line_is owners fields node short few are = record {
+  few = omega (arith, starts_few owners fields node.values are);
+  word = (keyword (codes "node") refl, starts_are owners fields node.values few are);
 }
 
-pub root_is : (count : ℕ) (root : RootDecl) → count ≤ 256 → is_name root.name ≡ true → is_start count root.kind root.start ≡ true → IsLine (spelled_root root)
-root_is count root few name start = record {
-  few = omega arith;
-  word = (keyword (codes "root") refl, (name_word root.name name, (kind_is root.kind, (start_is count root.kind root.start few start, tt))));
-}
+pub root_is : (version : Version) (kinds : List (List ℕ)) (owners : List ℕ) (root : RootDecl) → AreKinds version kinds → length owners ≤ 256 → is_name root.name ≡ true
+    → is_kind (length kinds) root.kind ≡ true → is_start owners root.kind root.start ≡ true → IsLine (spelled_root version kinds root)
+root_is version kinds owners root ks few name kind start =
+    let all = length-append (kind_words version kinds root.kind) (start_word root.start ∷ []) in
+    record {
+      few = omega (arith, all, kind_few version kinds root.kind);
+      word = (
+        keyword (codes "root") refl,
+        (
+          name_word root.name name,
+          both (kind_words version kinds root.kind) (start_word root.start ∷ []) (kind_is version kinds root.kind ks kind) (start_is owners root.kind root.start few start, tt),
+        ),
+      );
+    }
 
 pub op_is : (op : Op) → is_name op.name ≡ true → nat_le op.args 4 ≡ true → IsLine (spelled_op op)
 op_is op name args = record { few = omega arith; word = (keyword (codes "op") refl, (name_word op.name name, (small_word 4 op.args (omega arith) args, tt))) }
@@ -184,75 +238,75 @@ cas_is fields roots (places.Field a f) expected replacement retire l fs rs is to
     record { few = omega (arith, retire_few retire); word = (keyword (codes "cas") refl, (register_is a o.0, (name_word (field_name fields f) (field_spelled fields f fs o.1), (w.0, (w.1.0, (target_word l to, w.1.1)))))) }
 
 -- the line of an instruction
-pub instr_is : (fields : List FieldDecl) (roots : List RootDecl) (i : Instr) → AreFields fields → AreRoots roots → is_instr 1 (length fields) (length roots) i ≡ true
-    → IsLine (spelled_instr fields roots i)
-instr_is fields roots (instr.Set d n) fs rs is =
+pub instr_is : (version : Version) (kinds : List (List ℕ)) (fields : List FieldDecl) (roots : List RootDecl) (i : Instr) → AreKinds version kinds → AreFields fields → AreRoots roots → is_instr (length kinds) (length fields) (length roots) i ≡ true
+    → IsLine (spelled_instr version kinds fields roots i)
+instr_is version kinds fields roots (instr.Set d n) ks fs rs is =
     let p = and_parts (is_register d) (is_number n) is in
     record { few = omega arith; word = (keyword (codes "set") refl, (register_is d p.0, (number_word n p.1, tt))) }
-instr_is fields roots (instr.Mov d a) fs rs is =
+instr_is version kinds fields roots (instr.Mov d a) ks fs rs is =
     let p = and_parts (is_register d) (is_register a) is in
     record { few = omega arith; word = (keyword (codes "mov") refl, (register_is d p.0, (register_is a p.1, tt))) }
-instr_is fields roots (instr.Add d a b) fs rs is =
+instr_is version kinds fields roots (instr.Add d a b) ks fs rs is =
     let p = and_parts (is_register d) (is_register a && is_register b) is in
     let q = and_parts (is_register a) (is_register b) p.1 in
     record { few = omega arith; word = (keyword (codes "add") refl, (register_is d p.0, (register_is a q.0, (register_is b q.1, tt)))) }
-instr_is fields roots (instr.Sub d a b) fs rs is =
+instr_is version kinds fields roots (instr.Sub d a b) ks fs rs is =
     let p = and_parts (is_register d) (is_register a && is_register b) is in
     let q = and_parts (is_register a) (is_register b) p.1 in
     record { few = omega arith; word = (keyword (codes "sub") refl, (register_is d p.0, (register_is a q.0, (register_is b q.1, tt)))) }
-instr_is fields roots (instr.Rem d a n) fs rs is =
+instr_is version kinds fields roots (instr.Rem d a n) ks fs rs is =
     let p = and_parts (is_register d) (is_register a && (nat_le 1 n && is_number n)) is in
     let q = and_parts (is_register a) (nat_le 1 n && is_number n) p.1 in
     let t = and_parts (nat_le 1 n) (is_number n) q.1 in
     record { few = omega arith; word = (keyword (codes "rem") refl, (register_is d p.0, (register_is a q.0, (number_word n t.1, tt)))) }
-instr_is fields roots (instr.Mark d a) fs rs is =
+instr_is version kinds fields roots (instr.Mark d a) ks fs rs is =
     let p = and_parts (is_register d) (is_register a) is in
     record { few = omega arith; word = (keyword (codes "mark") refl, (register_is d p.0, (register_is a p.1, tt))) }
-instr_is fields roots (instr.Unmark d a) fs rs is =
+instr_is version kinds fields roots (instr.Unmark d a) ks fs rs is =
     let p = and_parts (is_register d) (is_register a) is in
     record { few = omega arith; word = (keyword (codes "unmark") refl, (register_is d p.0, (register_is a p.1, tt))) }
-instr_is fields roots (instr.Null d) fs rs is =
+instr_is version kinds fields roots (instr.Null d) ks fs rs is =
     record { few = omega arith; word = (keyword (codes "null") refl, (register_is d is, tt)) }
-instr_is fields roots (instr.LoadRoot d x) fs rs is =
+instr_is version kinds fields roots (instr.LoadRoot d x) ks fs rs is =
     let p = and_parts (is_register d) (nat_lt x (length roots)) is in
     record { few = omega arith; word = (keyword (codes "root") refl, (register_is d p.0, (name_word (root_name roots x) (root_spelled roots x rs p.1), tt))) }
-instr_is fields roots (instr.LoadPick d x n a) fs rs is =
+instr_is version kinds fields roots (instr.LoadPick d x n a) ks fs rs is =
     let p = and_parts (is_register d) (nat_lt x (length roots) && ((nat_le 1 n && nat_le n 256) && is_register a)) is in
     let q = and_parts (nat_lt x (length roots)) ((nat_le 1 n && nat_le n 256) && is_register a) p.1 in
     let t = and_parts (nat_le 1 n && nat_le n 256) (is_register a) q.1 in
     let u = and_parts (nat_le 1 n) (nat_le n 256) t.0 in
     record { few = omega arith; word = (keyword (codes "pick") refl, (register_is d p.0, (name_word (root_name roots x) (root_spelled roots x rs q.0), (small_word 256 n (omega arith) u.1, (register_is a t.1, tt))))) }
-instr_is fields roots (instr.LoadField d a f) fs rs is =
+instr_is version kinds fields roots (instr.LoadField d a f) ks fs rs is =
     let p = and_parts (is_register d) (is_register a && nat_lt f (length fields)) is in
     let q = and_parts (is_register a) (nat_lt f (length fields)) p.1 in
     record { few = omega arith; word = (keyword (codes "load") refl, (register_is d p.0, (register_is a q.0, (name_word (field_name fields f) (field_spelled fields f fs q.1), tt)))) }
-instr_is fields roots (instr.New d kind) fs rs is =
-    let p = and_parts (is_register d) (nat_lt kind 1) is in
-    record { few = omega arith; word = (keyword (codes "new") refl, (register_is d p.0, tt)) }
-instr_is fields roots (instr.Put a f b) fs rs is =
+instr_is version kinds fields roots (instr.New d kind) ks fs rs is =
+    let p = and_parts (is_register d) (nat_lt kind (length kinds)) is in
+    record { few = omega (arith, named_few version (kind_name kinds kind)); word = (keyword (codes "new") refl, (register_is d p.0, owner_is version kinds kind ks p.1)) }
+instr_is version kinds fields roots (instr.Put a f b) ks fs rs is =
     let p = and_parts (is_register a) (nat_lt f (length fields) && is_register b) is in
     let q = and_parts (nat_lt f (length fields)) (is_register b) p.1 in
     record { few = omega arith; word = (keyword (codes "put") refl, (register_is a p.0, (name_word (field_name fields f) (field_spelled fields f fs q.0), (register_is b q.1, tt)))) }
-instr_is fields roots (instr.Cas entry l) fs rs is =
+instr_is version kinds fields roots (instr.Cas entry l) ks fs rs is =
     let p = and_parts (is_entry (length fields) (length roots) entry) (is_target l) is in
     cas_is fields roots entry.place entry.expected entry.replacement entry.retire l fs rs p.0 p.1
-instr_is fields roots (instr.Jump l) fs rs is =
+instr_is version kinds fields roots (instr.Jump l) ks fs rs is =
     record { few = omega arith; word = (keyword (codes "jump") refl, (target_word l is, tt)) }
-instr_is fields roots (instr.IfEq a b l) fs rs is =
+instr_is version kinds fields roots (instr.IfEq a b l) ks fs rs is =
     let p = and_parts (is_register a) (is_register b && is_target l) is in
     let q = and_parts (is_register b) (is_target l) p.1 in
     record { few = omega arith; word = (keyword (codes "ifeq") refl, (register_is a p.0, (register_is b q.0, (target_word l q.1, tt)))) }
-instr_is fields roots (instr.IfLess a b l) fs rs is =
+instr_is version kinds fields roots (instr.IfLess a b l) ks fs rs is =
     let p = and_parts (is_register a) (is_register b && is_target l) is in
     let q = and_parts (is_register b) (is_target l) p.1 in
     record { few = omega arith; word = (keyword (codes "ifless") refl, (register_is a p.0, (register_is b q.0, (target_word l q.1, tt)))) }
-instr_is fields roots (instr.IfMarked a l) fs rs is =
+instr_is version kinds fields roots (instr.IfMarked a l) ks fs rs is =
     let p = and_parts (is_register a) (is_target l) is in
     record { few = omega arith; word = (keyword (codes "ifmarked") refl, (register_is a p.0, (target_word l p.1, tt))) }
-instr_is fields roots (instr.Commit entries) fs rs is =
+instr_is version kinds fields roots (instr.Commit entries) ks fs rs is =
     let p = and_parts (nat_le (length entries) 4) (list_all (is_entry (length fields) (length roots)) entries) is in
     record { few = omega arith; word = (keyword (codes "commit") refl, (small_word 4 (length entries) (omega arith) p.0, tt)) }
-instr_is fields roots (instr.Return a) fs rs is =
+instr_is version kinds fields roots (instr.Return a) ks fs rs is =
     record { few = omega arith; word = (keyword (codes "return") refl, (register_is a is, tt)) }
-instr_is fields roots instr.ReturnNone fs rs is = record { few = omega arith; word = (keyword (codes "returnnone") refl, tt) }
-instr_is fields roots instr.Again fs rs is = record { few = omega arith; word = (keyword (codes "again") refl, tt) }
+instr_is version kinds fields roots instr.ReturnNone ks fs rs is = record { few = omega arith; word = (keyword (codes "returnnone") refl, tt) }
+instr_is version kinds fields roots instr.Again ks fs rs is = record { few = omega arith; word = (keyword (codes "again") refl, tt) }

@@ -1,5 +1,5 @@
 -- Bytes stand for a text exactly where their lines are plain and say it.
-use Rattle.std.specs.Prelude.{◌≡◌, ℕ, ◌+◌, ◌^◌, Bool, true, false, cond, not, List, [], ◌∷◌, ◌++◌, length, Option, Some, None, Result, Ok, Err, IfOk, nat_lt, nat_le, if◌then◌else◌}
+use Rattle.std.specs.Prelude.{◌≡◌, ℕ, ◌+◌, ◌^◌, ◌≤◌, Bool, true, false, cond, not, List, [], ◌∷◌, ◌++◌, length, Option, Some, None, Result, Ok, Err, IfOk, nat_lt, nat_le, if◌then◌else◌}
 use Rattle.std.specs.List.{list_all}
 use Rattle.std.proofs.Common.{refl, ap, ◌∙◌, sym, arith, append_assoc, ⊎_elim}
 use Rattle.std.proofs.lemmas.Bool.{and_from, and_parts, lt-ltb, le-leb, le-ltb, leb-true}
@@ -10,8 +10,10 @@ use Rattle.oa_text.specs.declared.fault.TextFault.TheVariants as faults
 use Rattle.oa_text.specs.Lines.{TextLine, lines_of, numbered}
 use Rattle.oa_text.specs.Tokens.{is_plain, words_of, odd_column_from, byte_fault, line_fault}
 use Rattle.norm_lang.specs.declared.text.Text.{Text}
+use Rattle.norm_lang.specs.declared.text.Version.{Version}
+use Rattle.norm_lang.specs.declared.text.Version.TheVariants.{First, Second}
 use Rattle.norm_lang.specs.Faults.{LineFault, ◌>>=◌, at_line}
-use Rattle.norm_lang.specs.Spelling.{spelled_version, spelled}
+use Rattle.norm_lang.specs.Spelling.{spelled_version, spelled_by}
 use Rattle.norm_lang.specs.Limits.{is_number, IsWithinLimits}
 use Rattle.norm_lang.specs.Grammar.{Start, Opening, Shipped, Draft, draft_at, after_words, plain, after_line, after_lines, finished, text_in, Grammar}
 use Rattle.text_laws.specs.StandsFor.{is_plain_byte, is_plain_line, ArePlain, begins_with_hash, is_skipped, told_in, told, ShippedText, TheList, TheSet, TheQueue, IsShipped, spelled_use, shipped_text, SaysText, TextsAreSaid}
@@ -19,7 +21,7 @@ use Rattle.text_laws.proofs.Readings.{then_has, anyhow}
 use Rattle.text_laws.proofs.DraftLimits.{Kept, line_kept, at_line_has, nothing_declared, texts_are_within}
 use Rattle.text_laws.proofs.DraftSaid.{SaidIn, told_line, same_comment, words_said, nothing_said, finished_said}
 use Rattle.text_laws.proofs.SpelledFolds.{after_spelled}
-use Rattle.text_laws.proofs.SpellingStands.{GivesText, parts_of, ops_give, text_from}
+use Rattle.text_laws.proofs.SpellingStands.{GivesText, text_is, spelling_gives, text_from}
 use Rattle.text_laws.proofs.WordsRead.{number_read}
 
 abbrev Lines : Type 0
@@ -97,8 +99,8 @@ lines_plain number draft (bytes ∷ lines) =
 -- the text that lines spell is what they tell
 text_said : (lines : List (List ℕ)) → IfOk (text_in lines) (λ text. (list_all is_plain_line lines ≡ true) × SaysText (told_in lines) text)
 text_said lines =
-    then_has (after_lines (draft_at Start) (numbered 1 lines)) _ (λ last. (list_all is_plain_line lines ≡ true) × SaidIn (told_in lines) last) (λ text. (list_all is_plain_line lines ≡ true) × SaysText (told_in lines) text)
-    (both (after_lines (draft_at Start) (numbered 1 lines)) (λ last. list_all is_plain_line lines ≡ true) (SaidIn (told_in lines)) (lines_plain 1 (draft_at Start) lines) (lines_said 1 (draft_at Start) lines [] (told_in lines) nothing_declared nothing_said refl)) λ last has.
+    then_has (after_lines (draft_at Second Start) (numbered 1 lines)) _ (λ last. (list_all is_plain_line lines ≡ true) × SaidIn (told_in lines) last) (λ text. (list_all is_plain_line lines ≡ true) × SaysText (told_in lines) text)
+    (both (after_lines (draft_at Second Start) (numbered 1 lines)) (λ last. list_all is_plain_line lines ≡ true) (SaidIn (told_in lines)) (lines_plain 1 (draft_at Second Start) lines) (lines_said 1 (draft_at Second Start) lines [] (told_in lines) (nothing_declared Second) nothing_said refl)) λ last has.
     at_line_has (length lines + 1) (finished last) (λ text. (list_all is_plain_line lines ≡ true) × SaysText (told_in lines) text)
     (follows (finished last) (SaysText (told_in lines)) (λ text. (list_all is_plain_line lines ≡ true) × SaysText (told_in lines) text) (finished_said last (told_in lines) has.1) λ text says. (has.0, says))
 
@@ -140,26 +142,33 @@ lines_read number (bytes ∷ lines) draft last are read =
     (line_read (words_of bytes) (told_in lines) draft last number (λ d. after_lines d (numbered (number + 1) lines)) read (λ d read. lines_read (number + 1) lines d last parts.1 read))
 
 text_read_from : (lines : List (List ℕ)) (said : Lines) (text : Text) → list_all is_plain_line lines ≡ true → told_in lines ≡ said → GivesText text said → text_in lines ≡ Ok text
-text_read_from lines said text are same gives = text_from lines gives.draft text (lines_read 1 lines (draft_at Start) gives.draft are (ap (after_spelled (draft_at Start)) same ∙ gives.read)) gives.done
+text_read_from lines said text are same gives = text_from lines gives.draft text (lines_read 1 lines (draft_at Second Start) gives.draft are (ap (after_spelled (draft_at Second Start)) same ∙ gives.read)) gives.done
+
+small_buckets : (buckets : ℕ) → buckets ≤ 64 → is_number buckets ≡ true
+small_buckets buckets few = lt-ltb buckets (2 ^ 64) (omega (arith, few))
 
 -- a version line and a `use` line give the text that is named
-named_gives : (shipped : ShippedText) → IsShipped shipped → GivesText (shipped_text shipped) (spelled_version ∷ spelled_use shipped ∷ [])
-named_gives TheList may = record { draft = record (draft_at Opening) { section = Shipped; text = shipped_text TheList }; read = refl; done = refl }
-named_gives (TheSet buckets) may = record {
-  draft = record (draft_at Opening) { section = Shipped; text = shipped_text (TheSet buckets) };
-  read = rw (number_read buckets small, lt-ltb 0 buckets may.0, le-leb buckets 64 may.1) refl;
+named_gives : (version : Version) (shipped : ShippedText) → IsShipped shipped → GivesText (shipped_text shipped) (spelled_version version ∷ spelled_use shipped ∷ [])
+named_gives First TheList may = record { draft = record (draft_at First Opening) { section = Shipped; text = shipped_text TheList }; read = refl; done = refl }
+named_gives Second TheList may = record { draft = record (draft_at Second Opening) { section = Shipped; text = shipped_text TheList }; read = refl; done = refl }
+named_gives First (TheSet buckets) may = record {
+  draft = record (draft_at First Opening) { section = Shipped; text = shipped_text (TheSet buckets) };
+  read = rw (number_read buckets (small_buckets buckets may.1), lt-ltb 0 buckets may.0, le-leb buckets 64 may.1) refl;
   done = refl;
 }
-  where
-    small : is_number buckets ≡ true
-    small = lt-ltb buckets (2 ^ 64) (omega (arith, may.1))
-named_gives TheQueue may = record { draft = record (draft_at Opening) { section = Shipped; text = shipped_text TheQueue }; read = refl; done = refl }
+named_gives Second (TheSet buckets) may = record {
+  draft = record (draft_at Second Opening) { section = Shipped; text = shipped_text (TheSet buckets) };
+  read = rw (number_read buckets (small_buckets buckets may.1), lt-ltb 0 buckets may.0, le-leb buckets 64 may.1) refl;
+  done = refl;
+}
+named_gives First TheQueue may = record { draft = record (draft_at First Opening) { section = Shipped; text = shipped_text TheQueue }; read = refl; done = refl }
+named_gives Second TheQueue may = record { draft = record (draft_at Second Opening) { section = Shipped; text = shipped_text TheQueue }; read = refl; done = refl }
 
 read_from : (bytes : List ℕ) (text : Text) → ArePlain bytes → IsWithinLimits text → SaysText (told bytes) text → Grammar bytes text
 read_from bytes text are within says =
     ⊎_elim
-    (λ same. text_read_from (lines_of bytes) (spelled text) text are same (ops_give text text.ops (parts_of text within) refl))
-    (λ names. rw names.3 (text_read_from (lines_of bytes) (spelled_version ∷ spelled_use names.0 ∷ []) (shipped_text names.0) are names.2 (named_gives names.0 names.1)))
+    (λ spells. text_read_from (lines_of bytes) (spelled_by spells.0 text) text are spells.2 (spelling_gives spells.0 text (text_is spells.0 text spells.1 within)))
+    (λ names. rw names.4 (text_read_from (lines_of bytes) (spelled_version names.0 ∷ spelled_use names.1 ∷ []) (shipped_text names.1) are names.3 (named_gives names.0 names.1 names.2)))
     says
 
 pub texts_are_said : TextsAreSaid

@@ -1,5 +1,5 @@
 -- Each word that the grammar reads is spelled as the spelling writes what it says.
-use Rattle.std.specs.Prelude.{◌≡◌, ℕ, zero, suc, ◌+◌, ◌-◌, ◌*◌, ◌/◌, ◌%◌, ◌^◌, ◌<◌, ◌≤◌, ◌&&◌, Bool, true, false, List, [], ◌∷◌, ◌++◌, length, fold, Option, Some, None, Result, IfOk, decimal, slice_get, codes, nat_le, nat_lt, ◌==◌, if◌then◌else◌}
+use Rattle.std.specs.Prelude.{◌≡◌, ℕ, zero, suc, ◌+◌, ◌-◌, ◌*◌, ◌/◌, ◌%◌, ◌^◌, ◌<◌, ◌≤◌, ◌&&◌, Bool, true, false, List, [], ◌∷◌, ◌++◌, length, fold, Option, Some, None, Result, Ok, IfOk, decimal, slice_get, codes, nat_le, nat_lt, ◌==◌, if◌then◌else◌}
 use Rattle.std.specs.List.{list_all, position, position_or_len}
 use Rattle.std.specs.Str.{bytes_eq}
 use Rattle.std.proofs.Common.{refl, ap, ◌∙◌, sym, arith, append_assoc}
@@ -15,10 +15,12 @@ use Rattle.norm_lang.specs.declared.text.FieldKind.{FieldKind}
 use Rattle.norm_lang.specs.declared.text.FieldKind.TheVariants as holdings
 use Rattle.norm_lang.specs.declared.text.FieldDecl.{FieldDecl}
 use Rattle.norm_lang.specs.declared.text.RootDecl.{RootDecl}
+use Rattle.norm_lang.specs.declared.text.Version.{Version}
+use Rattle.norm_lang.specs.declared.text.Version.TheVariants.{First, Second}
 use Rattle.norm_lang.specs.Faults.{◌>>=◌, or_fault, form_fault, unknown_name}
 use Rattle.norm_lang.specs.Instructions.{field_named, root_named}
-use Rattle.norm_lang.specs.LineWords.{word_at, end_at, is_name, name_at, number_in, number_at, is_positive, positive_at, value_of, up_to, register_of, register_in, register_at, kind_in, kind_at, StartWord, Value, At, node_in, start_in, start_at, start_of}
-use Rattle.norm_lang.specs.Spelling.{register_word, kind_word, start_word, name_of_field, field_name, name_of_root, root_name}
+use Rattle.norm_lang.specs.LineWords.{word_at, end_at, is_name, name_at, number_in, number_at, is_positive, positive_at, value_of, up_to, register_of, register_in, register_at, kind_named, owner_at, Holding, OfNumbers, OfNodes, holding_at, kind_of_holding, StartWord, Value, At, node_in, start_in, start_at, start_of}
+use Rattle.norm_lang.specs.Spelling.{register_word, name_of_kind, kind_name, owner_words, kind_words, start_word, name_of_field, field_name, name_of_root, root_name}
 use Rattle.text_laws.proofs.Readings.{then_has, demanded, either}
 
 -- bytes that are found equal are the same
@@ -103,12 +105,6 @@ register_in_said (letter ∷ []) = tt
 register_in_said (letter ∷ digit ∷ []) = either (nat_le 48 digit && nat_le digit 55) _ _ _ (λ e. letter_said letter digit e) (λ _. tt)
 register_in_said (letter ∷ digit ∷ more ∷ rest) = tt
 
--- a kind
-pub kind_in_said : (word : List ℕ) → IfOk (kind_in word) (λ kind. word ≡ kind_word kind)
-kind_in_said word =
-    either (bytes_eq word (codes "num")) _ _ _ (λ e. same_word word (codes "num") e) λ _.
-    either (bytes_eq word (codes "ref")) _ _ _ (λ e. same_word word (codes "ref") e) λ _. tt
-
 -- a first value: what it is with so many nodes is spelled as the word
 pub record SaysStart (word : List ℕ) (read : StartWord) : Type 0 where
   pub says : (count : ℕ) → IfOk (start_of count read) (λ start. word ≡ start_word start)
@@ -163,6 +159,54 @@ found_named name shown wanted items shows = go (nat_lt (position_or_len (λ x. b
     go true e = place_named name shown wanted items shows e
     go false e = tt
 
+-- a kind as a line means it: if it is declared, the words are those that mean it, and then others
+pub record SaysOwner (version : Version) (kinds words : List (List ℕ)) (owner : Option ℕ) (rest : List (List ℕ)) : Type 0 where
+  pub says : (k : ℕ) → owner ≡ Some k → words ≡ owner_words version kinds k ++ rest
+
+named_said : (kinds : List (List ℕ)) (name : List ℕ) (k : ℕ) → kind_named kinds name ≡ Some k → name ≡ kind_name kinds k
+named_said kinds name k is = go (kind_named kinds name) is (found_named (λ (kind : List ℕ). kind) name_of_kind name kinds (λ x. refl))
+  where
+    go : (o : Option ℕ) → o ≡ Some k → IfOk (or_fault unknown_name o) (λ at. name ≡ kind_name kinds at) → name ≡ kind_name kinds k
+    go None is found = let f : ⊥ = cc in absurd f
+    go (Some at) is found = let same : at ≡ k = cc in found ∙ ap (kind_name kinds) same
+
+owner_said : (version : Version) (kinds words : List (List ℕ)) → IfOk (owner_at version kinds words) (λ t. SaysOwner version kinds words t.0 t.1)
+owner_said First kinds words = record { says = λ k same. refl }
+owner_said Second kinds [] = tt
+owner_said Second kinds (word ∷ rest) = read
+  where
+    read : IfOk (owner_at Second kinds (word ∷ rest)) (λ t. SaysOwner Second kinds (word ∷ rest) t.0 t.1)
+    read = then_has (name_at (word ∷ rest)) _ (λ t. word ∷ rest ≡ t.0 ∷ t.1) _ (demanded form_fault (is_name word) _ _ λ _. refl) λ name same. record {
+      says = λ k is. same ∙ ap (λ w. w ∷ name.1) (named_said kinds name.0 k is);
+    }
+
+-- what a field or a root holds as a line says it: if its kind is declared, the words are those that spell it, and then others
+pub record SaysHolding (version : Version) (kinds words : List (List ℕ)) (holding : Holding) (rest : List (List ℕ)) : Type 0 where
+  pub says : (kind : FieldKind) → kind_of_holding holding ≡ Ok kind → words ≡ kind_words version kinds kind ++ rest
+
+numbers_said : (version : Version) (kinds : List (List ℕ)) (word : List ℕ) (rest : List (List ℕ)) → word ≡ codes "num" → SaysHolding version kinds (word ∷ rest) OfNumbers rest
+numbers_said version kinds word rest is = record { says = λ kind same. go kind same }
+  where
+    go : (kind : FieldKind) → kind_of_holding OfNumbers ≡ Ok kind → word ∷ rest ≡ kind_words version kinds kind ++ rest
+    go holdings.Number same = ap (λ w. w ∷ rest) is
+    go (holdings.Reference k) same = let f : ⊥ = cc in absurd f
+
+nodes_said : (version : Version) (kinds : List (List ℕ)) (word : List ℕ) (words rest : List (List ℕ)) (owner : Option ℕ) → word ≡ codes "ref" → SaysOwner version kinds words owner rest
+    → SaysHolding version kinds (word ∷ words) (OfNodes owner) rest
+nodes_said version kinds word words rest None is said = record { says = λ kind same. let f : ⊥ = cc in absurd f }
+nodes_said version kinds word words rest (Some k) is said = record { says = λ kind same. go kind same }
+  where
+    go : (kind : FieldKind) → kind_of_holding (OfNodes (Some k)) ≡ Ok kind → word ∷ words ≡ kind_words version kinds kind ++ rest
+    go holdings.Number same = let f : ⊥ = cc in absurd f
+    go (holdings.Reference j) same = let at : k ≡ j = cc in rw (is, said.says k refl, at) refl
+
+holding_said : (version : Version) (kinds words : List (List ℕ)) → IfOk (holding_at version kinds words) (λ t. SaysHolding version kinds words t.0 t.1)
+holding_said version kinds [] = tt
+holding_said version kinds (word ∷ rest) =
+    either (bytes_eq word (codes "num")) _ _ (λ t. SaysHolding version kinds (word ∷ rest) t.0 t.1) (λ e. numbers_said version kinds word rest (same_word word (codes "num") e)) λ _.
+    either (bytes_eq word (codes "ref")) _ _ (λ t. SaysHolding version kinds (word ∷ rest) t.0 t.1)
+    (λ e. then_has (owner_at version kinds rest) _ (λ t. SaysOwner version kinds rest t.0 t.1) _ (owner_said version kinds rest) λ owner said. nodes_said version kinds word rest owner.1 owner.0 (same_word word (codes "ref") e) said) λ _. tt
+
 module _ {B : Type 0} where
   -- the line ends, and then what is read has P
   pub end_then : (words : List (List ℕ)) (f : Unit {0} → Result B ℕ) (P : B → Type 0) → (words ≡ [] → IfOk (f tt) P) → IfOk (end_at words >>= f) P
@@ -208,14 +252,26 @@ module _ {B : Type 0} where
       read : IfOk (register_at (word ∷ rest)) (λ t. word ∷ rest ≡ register_word t.0 ∷ t.1)
       read = then_has (register_in word) _ (λ r. word ≡ register_word r) _ (register_in_said word) λ r same. ap (λ w. w ∷ rest) same
 
-  -- a kind
-  pub kind_then : (words : List (List ℕ)) (f : FieldKind × List (List ℕ) → Result B ℕ) (P : B → Type 0)
-      → ((kind : FieldKind) (rest : List (List ℕ)) → words ≡ kind_word kind ∷ rest → IfOk (f (kind, rest)) P) → IfOk (kind_at words >>= f) P
-  kind_then [] f P next = tt
-  kind_then (word ∷ rest) f P next = then_has (kind_at (word ∷ rest)) f (λ t. word ∷ rest ≡ kind_word t.0 ∷ t.1) P read λ t h. next t.0 t.1 h
-    where
-      read : IfOk (kind_at (word ∷ rest)) (λ t. word ∷ rest ≡ kind_word t.0 ∷ t.1)
-      read = then_has (kind_in word) _ (λ kind. word ≡ kind_word kind) _ (kind_in_said word) λ kind same. ap (λ w. w ∷ rest) same
+  -- a kind, which may not be declared
+  pub owner_then : (version : Version) (kinds words : List (List ℕ)) (f : Option ℕ × List (List ℕ) → Result B ℕ) (P : B → Type 0)
+      → ((owner : Option ℕ) (rest : List (List ℕ)) → SaysOwner version kinds words owner rest → IfOk (f (owner, rest)) P) → IfOk (owner_at version kinds words >>= f) P
+  owner_then version kinds words f P next = then_has (owner_at version kinds words) f (λ t. SaysOwner version kinds words t.0 t.1) P (owner_said version kinds words) λ t h. next t.0 t.1 h
+
+  -- it is declared
+  pub known_then : (owner : Option ℕ) (f : ℕ → Result B ℕ) (P : B → Type 0) → ((k : ℕ) → owner ≡ Some k → IfOk (f k) P) → IfOk (or_fault unknown_name owner >>= f) P
+  known_then None f P next = tt
+  known_then (Some k) f P next = next k refl
+
+  -- what a field or a root holds
+  pub holding_then : (version : Version) (kinds words : List (List ℕ)) (f : Holding × List (List ℕ) → Result B ℕ) (P : B → Type 0)
+      → ((holding : Holding) (rest : List (List ℕ)) → SaysHolding version kinds words holding rest → IfOk (f (holding, rest)) P) → IfOk (holding_at version kinds words >>= f) P
+  holding_then version kinds words f P next = then_has (holding_at version kinds words) f (λ t. SaysHolding version kinds words t.0 t.1) P (holding_said version kinds words) λ t h. next t.0 t.1 h
+
+  -- its kind is declared
+  pub kind_then : (holding : Holding) (f : FieldKind → Result B ℕ) (P : B → Type 0) → ((kind : FieldKind) → kind_of_holding holding ≡ Ok kind → IfOk (f kind) P) → IfOk (kind_of_holding holding >>= f) P
+  kind_then OfNumbers f P next = next holdings.Number refl
+  kind_then (OfNodes None) f P next = tt
+  kind_then (OfNodes (Some k)) f P next = next (holdings.Reference k) refl
 
   -- a first value
   pub start_then : (kind : FieldKind) (words : List (List ℕ)) (f : StartWord × List (List ℕ) → Result B ℕ) (P : B → Type 0)

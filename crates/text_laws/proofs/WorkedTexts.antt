@@ -14,7 +14,7 @@ use Rattle.norm_lang.specs.Shipped.{set_text, queue_text}
 use Rattle.norm_lang.specs.Limits.{is_within_limits}
 use Rattle.norm_lang.specs.Grammar.{text_in, text_read, fault_in}
 
-abbrev counter : List (List ℕ)
+abbrev pub counter : List (List ℕ)
 counter =
     codes "oa 1"
     ∷ codes "field pad num"
@@ -38,7 +38,7 @@ counter =
     ∷ codes "returnnone"
     ∷ []
 
-abbrev counter_text : Text
+abbrev pub counter_text : Text
 counter_text = record {
   kinds = codes "item" ∷ [];
   fields = record { owner = 0; name = codes "pad"; kind = holdings.Number } ∷ [];
@@ -63,16 +63,16 @@ counter_is : text_in counter ≡ Ok counter_text
 counter_is = refl
 
 -- whether the first fault is this one
-abbrev is_fault : ℕ → ℕ → Option LineFault → Bool
+abbrev pub is_fault : ℕ → ℕ → Option LineFault → Bool
 is_fault line number None = false
 is_fault line number (Some fault) = (fault.line == line) && (fault.number == number)
 
 -- each text of a table has its first fault at this line, with the number beside it
-abbrev are_judged : ℕ → List (List (List ℕ) × ℕ) → Bool
+abbrev pub are_judged : ℕ → List (List (List ℕ) × ℕ) → Bool
 are_judged line rows = list_all (λ row. is_fault line row.1 (fault_in (text_in row.0))) rows
 
 -- lines after these, each with the number of its fault
-abbrev behind : List (List ℕ) → List (List ℕ × ℕ) → List (List (List ℕ) × ℕ)
+abbrev pub behind : List (List ℕ) → List (List ℕ × ℕ) → List (List (List ℕ) × ℕ)
 behind lines [] = []
 behind lines (row ∷ rows) = (lines ++ row.0 ∷ [], row.1) ∷ behind lines rows
 
@@ -222,7 +222,7 @@ openings = refl
 
 -- the first line, also where it is skipped
 starts_with : are_judged 1 (
-    (codes "oa 2" ∷ [], 4)
+    (codes "oa 3" ∷ [], 4)
     ∷ (codes "oa" ∷ [], 4)
     ∷ (codes "field pad num" ∷ [], 4)
     ∷ (replicate 201 32 ∷ [], 3)

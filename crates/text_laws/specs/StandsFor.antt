@@ -4,8 +4,11 @@ use Rattle.std.specs.List.{list_all, filter}
 use Rattle.oa_text.specs.Lines.{lines_of}
 use Rattle.oa_text.specs.Tokens.{words_of}
 use Rattle.norm_lang.specs.declared.text.Text.{Text}
+use Rattle.norm_lang.specs.declared.text.Version.{Version}
+use Rattle.norm_lang.specs.declared.text.Version.TheVariants.{First, Second}
+use Rattle.norm_lang.specs.LineWords.{item_kind}
 use Rattle.norm_lang.specs.Shipped.{set_text, queue_text}
-use Rattle.norm_lang.specs.Spelling.{spelled_version, spelled}
+use Rattle.norm_lang.specs.Spelling.{spelled_version, spelled_by}
 use Rattle.norm_lang.specs.Limits.{IsWithinLimits}
 use Rattle.norm_lang.specs.Grammar.{Grammar}
 
@@ -63,13 +66,27 @@ shipped_text TheList = set_text 1
 shipped_text (TheSet buckets) = set_text buckets
 shipped_text TheQueue = queue_text
 
+-- the kinds that a text of a version has: in the first one the kind `item` alone
+abbrev pub KindsOf : Version → List (List ℕ) → Type 0
+KindsOf First kinds = kinds ≡ item_kind ∷ []
+KindsOf Second kinds = ⊤
+
+-- a text may stand in a version: any text in the second one
+abbrev pub MayBeIn : Version → Text → Type 0
+MayBeIn version text = KindsOf version text.kinds
+
+-- the lines of words are those of the text's spelling in a version
+abbrev pub SpellsText : List (List (List ℕ)) → Text → Type 0
+SpellsText lines text = (version : Version) × MayBeIn version text × (lines ≡ spelled_by version text)
+
 -- the lines of words are a version line and a `use` line that names the text
 abbrev pub NamesText : List (List (List ℕ)) → Text → Type 0
-NamesText lines text = (shipped : ShippedText) × IsShipped shipped × (lines ≡ spelled_version ∷ spelled_use shipped ∷ []) × (text ≡ shipped_text shipped)
+NamesText lines text =
+    (version : Version) × (shipped : ShippedText) × IsShipped shipped × (lines ≡ spelled_version version ∷ spelled_use shipped ∷ []) × (text ≡ shipped_text shipped)
 
--- the lines of words say the text: they are those of its canonical spelling, or name it
+-- the lines of words say the text: they spell it, or name it
 abbrev pub SaysText : List (List (List ℕ)) → Text → Type 0
-SaysText lines text = (lines ≡ spelled text) ⊎ NamesText lines text
+SaysText lines text = SpellsText lines text ⊎ NamesText lines text
 
 -- bytes stand for a text exactly where every line is plain and short enough, the text is within the limits, and the lines
 -- that aren't skipped say it, word for word

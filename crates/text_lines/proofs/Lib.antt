@@ -1,2 +1,3 @@
+mod Groups
 mod NodeLines
 mod Wholes

@@ -4,6 +4,7 @@ use Rattle.std.specs.Str.{bytes_eq}
 use Rattle.norm_lang.specs.declared.text.FieldDecl.{FieldDecl}
 use Rattle.norm_lang.specs.declared.text.RootDecl.{RootDecl}
 use Rattle.norm_lang.specs.declared.text.Instr.{Instr}
+use Rattle.norm_lang.specs.declared.text.Version.{Version}
 use Rattle.norm_lang.specs.Faults.{form_fault}
 use Rattle.norm_lang.specs.Instructions.{Step, Whole, Commits, set_line, mov_line, add_line, sub_line, rem_line, null_line, mark_line, unmark_line, load_root_line, pick_line, load_field_line, new_line, put_line, cas_line, casroot_line, jump_line, ifeq_line, ifless_line, ifmarked_line, return_line, returnnone_line, again_line}
 use Rattle.line_words.specs.declared.fault.Fault.{Fault}
@@ -32,20 +33,20 @@ flow_line word rest =
     else Err form_fault))))))
 
 -- the instruction of a load, a fresh node, a put or an exchange, or of a line as above
-abbrev pub access_line : List FieldDecl → List RootDecl → List ℕ → List (List ℕ) → Result Instr ℕ
-access_line fields roots word rest =
+abbrev pub access_line : Version → List (List ℕ) → List FieldDecl → List RootDecl → List ℕ → List (List ℕ) → Result Instr ℕ
+access_line version kinds fields roots word rest =
     if bytes_eq word (codes "root") then load_root_line roots rest
     else (if bytes_eq word (codes "pick") then pick_line roots rest
     else (if bytes_eq word (codes "load") then load_field_line fields rest
-    else (if bytes_eq word (codes "new") then new_line rest
+    else (if bytes_eq word (codes "new") then new_line version kinds rest
     else (if bytes_eq word (codes "put") then put_line fields rest
     else (if bytes_eq word (codes "cas") then cas_line fields rest
     else (if bytes_eq word (codes "casroot") then casroot_line roots rest
     else flow_line word rest))))))
 
 -- the instruction of any line that says one whole
-abbrev pub instr_line : List FieldDecl → List RootDecl → List ℕ → List (List ℕ) → Result Instr ℕ
-instr_line fields roots word rest =
+abbrev pub instr_line : Version → List (List ℕ) → List FieldDecl → List RootDecl → List ℕ → List (List ℕ) → Result Instr ℕ
+instr_line version kinds fields roots word rest =
     if bytes_eq word (codes "set") then set_line rest
     else (if bytes_eq word (codes "mov") then mov_line rest
     else (if bytes_eq word (codes "add") then add_line rest
@@ -54,4 +55,4 @@ instr_line fields roots word rest =
     else (if bytes_eq word (codes "null") then null_line rest
     else (if bytes_eq word (codes "mark") then mark_line rest
     else (if bytes_eq word (codes "unmark") then unmark_line rest
-    else access_line fields roots word rest)))))))
+    else access_line version kinds fields roots word rest)))))))

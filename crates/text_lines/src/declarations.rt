@@ -1,20 +1,28 @@
 //! The lines before an operation's instructions, each after its first word: what it declares, or its first fault. Each
 //! reads the line's form first, and then judges its numbers, the names it uses, the name it declares, and the limits.
 
-ghost use Rattle.std.specs.Prelude.{◌≡◌, ◌≤◌, map, IfOk};
+ghost use Rattle.std.specs.Prelude.{◌≡◌, ◌+◌, ◌≤◌, length, get_or, map, IfOk};
 ghost use Rattle.std.specs.List.{list_any};
-ghost use Rattle.norm_lang.specs.LineWords.{is_great};
-ghost use Rattle.norm_lang.specs.Declarations.{has_field, has_root, has_op, version_line, field_line, nodes_line, values_at, starts_of, node_line, root_line, is_reserved, op_line, shipped_line, set_line, use_line};
+ghost use Rattle.norm_lang.specs.Bounds.{most_nodes};
+ghost use Rattle.norm_lang.specs.LineWords.{is_great, up_to};
+ghost use Rattle.norm_lang.specs.KindFields.{fields_of};
+ghost use Rattle.norm_lang.specs.Declarations.{has_field, has_root, has_op, has_kind, version_in, version_line, kind_line, groups_begun, may_follow, field_line, is_next, nodes_line, values_at, starts_of, are_matches, node_line, root_line, is_reserved, op_line, shipped_line, set_line, use_line};
 ghost use Rattle.norm_lang.specs.Shipped.{set_text, queue_text};
 ghost use Rattle.line_words.specs.Answered.{Reads, Gives};
 ghost use Rattle.line_words.specs.Shown.{start_shown};
 
 use line_words::fault::{Fault, Stop};
-use line_words::words::{StartWord, Words, great, start_of, up_to, value_of};
+use line_words::operands::known;
+use line_words::words::{
+    StartWord, Words, fits, great, kind_of_holding, spelled_kind, start_of, up_to, value_of,
+};
+use norm_lang::fields::count_of;
 use norm_lang::list::Listed;
-use norm_lang::text::{FieldDecl, NodeDecl, Op, RootDecl, Starts, Text};
+use norm_lang::text::{FieldDecl, Name, NodeDecl, Op, RootDecl, Start, Starts, Text, Version};
 use norm_lang::{shipped_queue, shipped_set};
 use std::alloc::Global;
+
+const MOST_KINDS: usize = 4;
 
 const MOST_FIELDS: usize = 4;
 
@@ -46,52 +54,165 @@ fn named_op(ops: &[Op], name: &[u8]) -> bool
     ops.iter().any(|op| op.name.items() == name)
 }
 
-/// `oa 1`
-pub fn version(words: &mut Words) -> Result<(), Fault>
-    ensures { Reads (λ _. tt) result (version_line words.old) }
+fn named_kind(kinds: &[Name], name: &[u8]) -> bool
+    ensures { result ≡ has_kind kinds.now name.now }
 {
-    words.keyword(b"1")?;
-    words.end()
+    kinds.iter().any(|kind| kind.items() == name)
 }
 
-/// `field NAME num` or `field NAME ref`: at most 4 fields, each with a name of its own.
-pub fn field(alloc: Global, fields: &[FieldDecl], words: &mut Words) -> Result<FieldDecl, Stop>
-    ensures { Gives (λ field. field) result (field_line fields.now words.old) }
+/// `1` or `2`
+fn version_in(word: &[u8]) -> Result<Version, Fault>
+    ensures { Reads (λ version. version) result (version_in word.now) }
+{
+    if word == b"1".as_slice() {
+        Ok(Version::First)
+    } else if word == b"2".as_slice() {
+        Ok(Version::Second)
+    } else {
+        Err(Fault::Form)
+    }
+}
+
+/// `oa 1` or `oa 2`
+pub fn version(words: &mut Words) -> Result<Version, Fault>
+    ensures { Reads (λ version. version) result (version_line words.old) }
+{
+    let version = version_in(words.word()?)?;
+    words.end()?;
+    Ok(version)
+}
+
+/// `kind NAME`: at most 4 kinds, each with a name of its own.
+pub fn kind(alloc: Global, kinds: &[Name], words: &mut Words) -> Result<Name, Stop>
+    ensures { Gives (λ name. name) result (kind_line kinds.now words.old) }
 {
     let name = words.name()?;
-    let kind = words.kind()?;
     words.end()?;
+    if named_kind(kinds, name) {
+        return Err(Stop::Fault(Fault::Repeated));
+    }
+    if kinds.len() >= MOST_KINDS {
+        return Err(Stop::Fault(Fault::TooMany));
+    }
+    Ok(Listed::from_slice(alloc, name)?)
+}
+
+/// How many kinds have a field, where fields stand in the order of their kinds.
+#[tactic(auto, using(crate::proofs::Groups::begun_more, crate::proofs::Groups::begun_done))]
+pub fn groups_begun(fields: &[FieldDecl]) -> usize
+    ensures { result ≡ groups_begun fields.now }
+{
+    let mut begun = 0;
+    for field in fields {
+        begun = begun.max(field.owner as usize + 1);
+    }
+    begun
+}
+
+/// Whether a field of this kind goes on with the kind begun last, or begins the next one. Where its kind isn't declared that
+/// is the line's fault, and not its place.
+fn may_follow(begun: usize, owner: Option<u8>) -> bool
+    ensures { result ≡ may_follow begun owner }
+{
+    match owner {
+        None => true,
+        Some(owner) => owner as usize + 1 == begun || owner as usize == begun,
+    }
+}
+
+/// `field KIND NAME num` or `field KIND NAME ref KIND`: at most 4 fields of a kind, in the order of the kinds, each with a
+/// name of its own. A line of the first version names no kind.
+pub fn field(
+    alloc: Global,
+    version: Version,
+    kinds: &[Name],
+    fields: &[FieldDecl],
+    words: &mut Words,
+) -> Result<FieldDecl, Stop>
+    requires few_kinds { length kinds.now ≤ 4 }
+    ensures { Gives (λ field. field) result (field_line version kinds.now fields.now words.old) }
+{
+    let owner = words.owner(version, kinds)?;
+    let name = words.name()?;
+    let holding = words.holding(version, kinds)?;
+    words.end()?;
+    if !may_follow(groups_begun(fields), owner) {
+        return Err(Stop::Fault(Fault::Form));
+    }
+    let owner = known(owner)?;
+    let kind = kind_of_holding(holding)?;
     if named_field(fields, name) {
         return Err(Stop::Fault(Fault::Repeated));
     }
-    if fields.len() >= MOST_FIELDS {
+    if count_of(fields, owner) >= MOST_FIELDS {
         return Err(Stop::Fault(Fault::TooMany));
     }
-    Ok(FieldDecl {
-        owner: 0,
-        name: Listed::from_slice(alloc, name)?,
-        kind,
-    })
+    let name = Listed::from_slice(alloc, name)?;
+    Ok(FieldDecl { owner, name, kind })
 }
 
-/// `nodes K`: the count of initial nodes, at most 256.
-pub fn nodes(words: &mut Words) -> Result<u32, Fault>
-    ensures { Reads (λ count. count) result (nodes_line words.old) }
+/// Whether it is the turn of this kind. Where the kind isn't declared that is the line's fault, and not its place.
+fn next(turn: u8, owner: Option<u8>) -> bool
+    ensures { result ≡ is_next turn owner }
 {
+    match owner {
+        None => true,
+        Some(owner) => owner == turn,
+    }
+}
+
+/// So many nodes and as many more: at most 256.
+fn sum_of_nodes(promised: usize, count: u64) -> Result<u64, Fault>
+    ensures sum { Reads (λ sum. sum) result (up_to most_nodes (promised + count)) }
+    ensures few { IfOk result (λ _. count ≤ 256) }
+{
+    let promised = promised as u64;
+    if promised <= MOST_NODES && count <= MOST_NODES - promised {
+        Ok(promised + count)
+    } else {
+        Err(Fault::TooMany)
+    }
+}
+
+/// `nodes KIND K`, for each kind in its turn: the count of its initial nodes, where so many nodes are promised already, at
+/// most 256 in all. A line of the first version names no kind.
+pub fn nodes(
+    version: Version,
+    kinds: &[Name],
+    turn: u8,
+    promised: usize,
+    words: &mut Words,
+) -> Result<u32, Fault>
+    requires few_kinds { length kinds.now ≤ 4 }
+    ensures { Reads (λ count. count) result (nodes_line version kinds.now turn promised words.old) }
+{
+    let owner = words.owner(version, kinds)?;
     let count = words.number()?;
     words.end()?;
-    let count = up_to(MOST_NODES, value_of(count)?)?;
+    if !next(turn, owner) {
+        return Err(Fault::Form);
+    }
+    let count = value_of(count)?;
+    known(owner)?;
+    sum_of_nodes(promised, count)?;
     Ok(count as u32)
 }
 
-/// One value for each field, and then the end.
-#[tactic(auto, using(crate::proofs::NodeLines::value_more, crate::proofs::NodeLines::value_stopped, crate::proofs::NodeLines::values_done, crate::proofs::NodeLines::values_stopped))]
-fn values(alloc: Global, fields: &[FieldDecl], words: &mut Words) -> Result<Listed<StartWord>, Stop>
-    ensures { Gives (λ values. map start_shown values) result (values_at fields.now words.old) }
+/// One value for each field of a kind, and then the end.
+#[tactic(auto, using(crate::proofs::NodeLines::value_more, crate::proofs::NodeLines::value_passed, crate::proofs::NodeLines::value_stopped, crate::proofs::NodeLines::values_done, crate::proofs::NodeLines::values_stopped))]
+fn values(
+    alloc: Global,
+    owner: u8,
+    fields: &[FieldDecl],
+    words: &mut Words,
+) -> Result<Listed<StartWord>, Stop>
+    ensures { Gives (λ values. map start_shown values) result (values_at (fields_of owner fields.now) words.old) }
 {
     let mut values = Listed::empty(alloc);
     for field in fields {
-        values.push(words.start(field.kind)?)?;
+        if field.owner == owner {
+            values.push(words.start(field.kind)?)?;
+        }
     }
     words.end()?;
     Ok(values)
@@ -116,52 +237,93 @@ fn starts(alloc: Global, count: u32, values: &[StartWord]) -> Result<Starts, Sto
     Ok(starts)
 }
 
-/// `node V V ..`: one value for each field, with so many initial nodes.
+/// Whether each value fits its field of a kind, where the initial nodes are of these kinds.
+#[tactic(auto, using(crate::proofs::NodeLines::fit_passed, crate::proofs::NodeLines::fit_more, crate::proofs::NodeLines::fit_refused, crate::proofs::NodeLines::fit_ended, crate::proofs::NodeLines::fits_done))]
+fn all_fit(owners: &[u8], owner: u8, fields: &[FieldDecl], starts: &[Start]) -> bool
+    ensures { result ≡ are_matches owners.now (fields_of owner fields.now) starts.now }
+{
+    let mut left = starts;
+    for field in fields {
+        if field.owner == owner {
+            match left.split_first() {
+                None => return true,
+                Some((start, rest)) => {
+                    if !fits(owners, field.kind, *start) {
+                        return false;
+                    }
+                    left = rest;
+                }
+            }
+        }
+    }
+    true
+}
+
+/// The kind of the initial node at a place among nodes of these kinds.
+fn owner_of(owners: &[u8], at: usize) -> u8
+    ensures { result ≡ get_or owners.now at 0 }
+{
+    match owners.get(at) {
+        None => 0,
+        Some(owner) => *owner,
+    }
+}
+
+/// `node V V ..`, one value for each field of the node's kind, for the initial node at a place among nodes of these kinds.
 #[tactic(auto, using(crate::proofs::NodeLines::any_shown))]
 pub fn node(
     alloc: Global,
     fields: &[FieldDecl],
-    count: u32,
+    owners: &[u8],
+    at: usize,
     words: &mut Words,
 ) -> Result<NodeDecl, Stop>
-    ensures { Gives (λ node. node) result (node_line fields.now count words.old) }
+    requires few_owners { length owners.now ≤ 256 }
+    ensures { Gives (λ node. node) result (node_line fields.now owners.now at words.old) }
 {
-    let values = values(alloc, fields, words)?;
+    let owner = owner_of(owners, at);
+    let values = values(alloc, owner, fields, words)?;
     if any_great(values.items()) {
         return Err(Stop::Fault(Fault::Number));
     }
-    Ok(NodeDecl {
-        owner: 0,
-        values: starts(alloc, count, values.items())?,
-    })
+    let values = starts(alloc, owners.len() as u32, values.items())?;
+    if !all_fit(owners, owner, fields, values.items()) {
+        return Err(Stop::Fault(Fault::Mismatch));
+    }
+    Ok(NodeDecl { owner, values })
 }
 
-/// `root NAME num V`, `root NAME ref null` or `root NAME ref @J`, with so many initial nodes: at most 256 roots, each with
-/// a name of its own.
+/// `root NAME num V`, `root NAME ref KIND null` or `root NAME ref KIND @J`, where the initial nodes are of these kinds: at
+/// most 256 roots, each with a name of its own. A line of the first version names no kind.
 pub fn root(
     alloc: Global,
-    count: u32,
+    version: Version,
+    kinds: &[Name],
+    owners: &[u8],
     roots: &[RootDecl],
     words: &mut Words,
 ) -> Result<RootDecl, Stop>
-    ensures { Gives (λ root. root) result (root_line count roots.now words.old) }
+    requires few_kinds { length kinds.now ≤ 4 }
+    requires few_owners { length owners.now ≤ 256 }
+    ensures { Gives (λ root. root) result (root_line version kinds.now owners.now roots.now words.old) }
 {
     let name = words.name()?;
-    let kind = words.kind()?;
-    let value = words.start(kind)?;
+    let holding = words.holding(version, kinds)?;
+    let value = words.start(spelled_kind(holding))?;
     words.end()?;
-    let start = start_of(count, value)?;
+    let start = start_of(owners.len() as u32, value)?;
+    let kind = kind_of_holding(holding)?;
     if named_root(roots, name) {
         return Err(Stop::Fault(Fault::Repeated));
     }
     if roots.len() >= MOST_ROOTS {
         return Err(Stop::Fault(Fault::TooMany));
     }
-    Ok(RootDecl {
-        name: Listed::from_slice(alloc, name)?,
-        kind,
-        start,
-    })
+    if !fits(owners, kind, start) {
+        return Err(Stop::Fault(Fault::Mismatch));
+    }
+    let name = Listed::from_slice(alloc, name)?;
+    Ok(RootDecl { name, kind, start })
 }
 
 /// Whether a line that begins with this word begins a part of a document, so that no operation may have the name.

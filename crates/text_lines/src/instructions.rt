@@ -1,5 +1,5 @@
 //! The lines of a method, each after its first word: the instruction, or the line's first fault. Each reads the line's
-//! form first, and then judges its numbers, the fields and roots it names, and the limits.
+//! form first, and then judges its numbers, the kinds, fields and roots it names, and the limits.
 
 ghost use Rattle.std.specs.Prelude.{◌≡◌, ◌≤◌, length, IfOk};
 ghost use Rattle.norm_lang.specs.Instructions.{set_line, mov_line, add_line, sub_line, rem_line, null_line, mark_line, unmark_line, load_root_line, pick_line, load_field_line, new_line, put_line, cas_line, casroot_line, jump_line, ifeq_line, ifless_line, ifmarked_line, commit_line, Commits, return_line, returnnone_line, again_line, with_line, withroot_line};
@@ -7,11 +7,11 @@ ghost use Rattle.line_words.specs.Answered.{Reads};
 
 use line_words::fault::Fault;
 use line_words::operands::{
-    field_number, last_target, one_register, retired, root_number, target, three_registers,
+    field_number, known, last_target, one_register, retired, root_number, target, three_registers,
     two_registers,
 };
 use line_words::words::{Words, up_to, value_of};
-use norm_lang::text::{CasEntry, FieldDecl, Instr, Place, RootDecl};
+use norm_lang::text::{CasEntry, FieldDecl, Instr, Name, Place, RootDecl, Version};
 
 const MOST_PICKED: u64 = 256;
 
@@ -113,7 +113,7 @@ pub fn pick(roots: &[RootDecl], words: &mut Words) -> Result<Instr, Fault>
 
 /// `load D A F`
 pub fn load_field(fields: &[FieldDecl], words: &mut Words) -> Result<Instr, Fault>
-    requires { length fields.now ≤ 4 }
+    requires { length fields.now ≤ 16 }
     ensures { Reads (λ i. i) result (load_field_line fields.now words.old) }
 {
     let d = words.register()?;
@@ -123,16 +123,20 @@ pub fn load_field(fields: &[FieldDecl], words: &mut Words) -> Result<Instr, Faul
     Ok(Instr::LoadField(d, a, field_number(fields, f)?))
 }
 
-/// `new D`
-pub fn fresh(words: &mut Words) -> Result<Instr, Fault>
-    ensures { Reads (λ i. i) result (new_line words.old) }
+/// `new D KIND`; a line of the first version names no kind.
+pub fn fresh(version: Version, kinds: &[Name], words: &mut Words) -> Result<Instr, Fault>
+    requires { length kinds.now ≤ 4 }
+    ensures { Reads (λ i. i) result (new_line version kinds.now words.old) }
 {
-    Ok(Instr::New(one_register(words)?, 0))
+    let d = words.register()?;
+    let owner = words.owner(version, kinds)?;
+    words.end()?;
+    Ok(Instr::New(d, known(owner)?))
 }
 
 /// `put A F B`
 pub fn put(fields: &[FieldDecl], words: &mut Words) -> Result<Instr, Fault>
-    requires { length fields.now ≤ 4 }
+    requires { length fields.now ≤ 16 }
     ensures { Reads (λ i. i) result (put_line fields.now words.old) }
 {
     let a = words.register()?;
@@ -143,7 +147,7 @@ pub fn put(fields: &[FieldDecl], words: &mut Words) -> Result<Instr, Fault>
 
 /// `cas A F B D L`, and maybe `retire R`.
 pub fn cas(fields: &[FieldDecl], words: &mut Words) -> Result<Instr, Fault>
-    requires { length fields.now ≤ 4 }
+    requires { length fields.now ≤ 16 }
     ensures { Reads (λ i. i) result (cas_line fields.now words.old) }
 {
     let a = words.register()?;
@@ -253,7 +257,7 @@ pub fn again(words: &mut Words) -> Result<Instr, Fault>
 
 /// `with A F B D`, and maybe `retire R`.
 pub fn field_entry(fields: &[FieldDecl], words: &mut Words) -> Result<CasEntry, Fault>
-    requires { length fields.now ≤ 4 }
+    requires { length fields.now ≤ 16 }
     ensures { Reads (λ entry. entry) result (with_line fields.now words.old) }
 {
     let a = words.register()?;

@@ -9,7 +9,7 @@ ghost use Rattle.text_lines.specs.Steps.{step_shown, whole_read, instr_line, acc
 use crate::instructions;
 use line_words::fault::Fault;
 use line_words::words::Words;
-use norm_lang::text::{CasEntry, FieldDecl, Instr, RootDecl};
+use norm_lang::text::{CasEntry, FieldDecl, Instr, Name, RootDecl, Version};
 
 /// What a line of a method says.
 #[derive(Drop)]
@@ -62,14 +62,17 @@ fn flow(word: &[u8], words: &mut Words) -> Result<Instr, Fault>
 
 /// The instruction of a load, a fresh node, a put or an exchange, or else of a line of `flow`.
 fn access(
+    version: Version,
+    kinds: &[Name],
     fields: &[FieldDecl],
     roots: &[RootDecl],
     word: &[u8],
     words: &mut Words,
 ) -> Result<Instr, Fault>
-    requires few_fields { length fields.now ≤ 4 }
+    requires few_kinds { length kinds.now ≤ 4 }
+    requires few_fields { length fields.now ≤ 16 }
     requires few_roots { length roots.now ≤ 256 }
-    ensures { Reads (λ i. i) result (access_line fields.now roots.now word.now words.old) }
+    ensures { Reads (λ i. i) result (access_line version kinds.now fields.now roots.now word.now words.old) }
 {
     if says(word, b"root") {
         instructions::load_root(roots, words)
@@ -78,7 +81,7 @@ fn access(
     } else if says(word, b"load") {
         instructions::load_field(fields, words)
     } else if says(word, b"new") {
-        instructions::fresh(words)
+        instructions::fresh(version, kinds, words)
     } else if says(word, b"put") {
         instructions::put(fields, words)
     } else if says(word, b"cas") {
@@ -92,14 +95,17 @@ fn access(
 
 /// The instruction of a line that sets a register from others, or else of a line of `access`.
 fn read_instr(
+    version: Version,
+    kinds: &[Name],
     fields: &[FieldDecl],
     roots: &[RootDecl],
     word: &[u8],
     words: &mut Words,
 ) -> Result<Instr, Fault>
-    requires few_fields { length fields.now ≤ 4 }
+    requires few_kinds { length kinds.now ≤ 4 }
+    requires few_fields { length fields.now ≤ 16 }
     requires few_roots { length roots.now ≤ 256 }
-    ensures { Reads (λ i. i) result (instr_line fields.now roots.now word.now words.old) }
+    ensures { Reads (λ i. i) result (instr_line version kinds.now fields.now roots.now word.now words.old) }
 {
     if says(word, b"set") {
         instructions::set(words)
@@ -118,26 +124,29 @@ fn read_instr(
     } else if says(word, b"unmark") {
         instructions::unmark(words)
     } else {
-        access(fields, roots, word, words)
+        access(version, kinds, fields, roots, word, words)
     }
 }
 
 /// A line of a method: the beginning of a commit, or an instruction that one line says whole.
 #[tactic(auto, using(crate::proofs::Wholes::commit_begins))]
 pub fn read_step(
+    version: Version,
+    kinds: &[Name],
     fields: &[FieldDecl],
     roots: &[RootDecl],
     word: &[u8],
     words: &mut Words,
 ) -> Result<Step, Fault>
-    requires few_fields { length fields.now ≤ 4 }
+    requires few_kinds { length kinds.now ≤ 4 }
+    requires few_fields { length fields.now ≤ 16 }
     requires few_roots { length roots.now ≤ 256 }
-    ensures { Reads step_shown result (step_line fields.now roots.now word.now words.old) }
+    ensures { Reads step_shown result (step_line version kinds.now fields.now roots.now word.now words.old) }
 {
     if says(word, b"commit") {
         Ok(Step::Commits(instructions::commit(words)?))
     } else {
-        whole(read_instr(fields, roots, word, words))
+        whole(read_instr(version, kinds, fields, roots, word, words))
     }
 }
 
@@ -148,7 +157,7 @@ pub fn read_entry(
     word: &[u8],
     words: &mut Words,
 ) -> Result<CasEntry, Fault>
-    requires few_fields { length fields.now ≤ 4 }
+    requires few_fields { length fields.now ≤ 16 }
     requires few_roots { length roots.now ≤ 256 }
     ensures { Reads (λ entry. entry) result (entry_line fields.now roots.now word.now words.old) }
 {

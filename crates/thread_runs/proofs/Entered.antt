@@ -4,9 +4,9 @@ use Rattle.std.proofs.lemmas.List.Sorted.{All-permutation}
 use Rattle.caller_parts.specs.declared.call.Call.{Call}
 use Rattle.caller_steps.specs.Entries.{RoomyEntry, idle_entry}
 use Rattle.core_runs.specs.Scripts.{SuitScripts}
-use Rattle.table_rule.specs.Seen.{Fixed}
-use Rattle.table_rule.specs.Closing.{IsClosed}
-use Rattle.table_rule.proofs.Moves.{sound}
+use Rattle.word_runner.specs.table_rule.Seen.{Fixed}
+use Rattle.word_runner.specs.table_rule.Closing.{IsClosed}
+use Rattle.word_runner.proofs.table_rule.Moves.{sound}
 use Rattle.word_runner.specs.Shown.{ArenaShown, BlankShown, CallerShown}
 use Rattle.thread_runs.specs.Scripts.{Fresh, Ended}
 use Rattle.thread_runs.specs.Whole.{IsBlank, HasRooms, AreShort, AllEnded, IsFinalOf}

@@ -6,7 +6,7 @@ use Rattle.caller_steps.specs.Entries.{Entry, idle_entry, is_idle}
 use Rattle.caller_steps.specs.After.{taken}
 use Rattle.core_runs.specs.Scripts.{script_of}
 use Rattle.core_runs.proofs.Advancing.{advances_number}
-use Rattle.table_rule.specs.Seen.{Fixed}
+use Rattle.word_runner.specs.table_rule.Seen.{Fixed}
 use Rattle.word_runner.specs.Shown.{ArenaShown, CallerShown}
 use Rattle.thread_runs.specs.Scripts.{Fresh, RanScript, Finished, Took, Ended}
 

@@ -13,10 +13,10 @@ use Rattle.core_runs.specs.Histories.{running_of, calls_of, calls_in}
 use Rattle.core_runs.specs.Scripts.{script_of, AreOfScript, HasEnded, IsCompleteRun}
 use Rattle.core_runs.proofs.Advancing.{runs_end}
 use Rattle.core_runs.proofs.Keeping.{kept_calls}
-use Rattle.core_sound.specs.Sound.{IsSound}
-use Rattle.table_rule.specs.Seen.{Fixed}
-use Rattle.table_rule.specs.Rule.{IsReached}
-use Rattle.table_rule.specs.Seats.{cores}
+use Rattle.core_runs.specs.core_sound.Sound.{IsSound}
+use Rattle.word_runner.specs.table_rule.Seen.{Fixed}
+use Rattle.word_runner.specs.table_rule.Rule.{IsReached}
+use Rattle.word_runner.specs.table_rule.Seats.{cores}
 use Rattle.word_runner.specs.Shown.{Operated}
 use Rattle.thread_runs.specs.Scripts.{Took, Ended}
 use Rattle.thread_runs.specs.Whole.{AllEnded}

@@ -5,7 +5,7 @@ use Rattle.caller_steps.specs.Entries.{Entry, idle_entry, is_idle}
 use Rattle.caller_parts.specs.Calls.{AreCalls}
 use Rattle.caller_steps.specs.After.{taken}
 use Rattle.core_runs.specs.Scripts.{script_of}
-use Rattle.table_rule.specs.Seen.{Fixed}
+use Rattle.word_runner.specs.table_rule.Seen.{Fixed}
 use Rattle.word_runner.specs.Shown.{ArenaShown, CallerShown, CameFrom, Operated}
 
 -- the calls were taken in order, up to one that hasn't ended

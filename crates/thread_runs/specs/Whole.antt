@@ -4,9 +4,9 @@ use Rattle.caller_parts.specs.declared.call.Call.{Call}
 use Rattle.caller_steps.specs.Entries.{RoomyEntry}
 use Rattle.core_runs.specs.Machine.{CoreState, CoreEvent}
 use Rattle.core_runs.specs.Scripts.{IsCompleteRun}
-use Rattle.core_sound.specs.Sound.{IsSound}
-use Rattle.table_rule.specs.Seen.{Fixed}
-use Rattle.table_rule.specs.Seats.{cores}
+use Rattle.core_runs.specs.core_sound.Sound.{IsSound}
+use Rattle.word_runner.specs.table_rule.Seen.{Fixed}
+use Rattle.word_runner.specs.table_rule.Seats.{cores}
 use Rattle.word_runner.specs.Shown.{ArenaShown, BlankShown, CameFrom}
 use Rattle.thread_runs.specs.Scripts.{Ended}
 

@@ -38,11 +38,23 @@ fn split_all(
     requires count { 0 < count }
     ensures { IfOk result (λ v. AllBlank arena.now first.room v.items × (length v.items ≡ count)) }
 {
-    let mut blanks = Vec::with_capacity(alloc, count)?;
+    let mut blanks = match Vec::with_capacity(alloc, count) {
+        Ok(blanks) => blanks,
+        Err(error) => {
+            drop(first);
+            return Err(error);
+        }
+    };
     let mut left = count - 1;
     while left > 0 {
-        let next = first.split(alloc, arena)?;
-        blanks.push_reserved(next);
+        match first.split(alloc, arena) {
+            Ok(next) => blanks.push_reserved(next),
+            Err(error) => {
+                drop(first);
+                drop(blanks);
+                return Err(error);
+            }
+        }
         left -= 1;
     }
     blanks.push_reserved(first);
@@ -63,13 +75,25 @@ fn enter_all(
     requires short { AreShort scripts.now }
     ensures { IfOk result (λ v. AllFresh arena.now scripts.now v.items × (length v.items ≡ length blanks.items)) }
 {
-    let mut callers = Vec::with_capacity(alloc, blanks.len())?;
+    let mut callers = match Vec::with_capacity(alloc, blanks.len()) {
+        Ok(callers) => callers,
+        Err(error) => {
+            drop(blanks);
+            return Err(error);
+        }
+    };
     while let Some(blank) = blanks.pop() {
         match blank.enter(arena) {
             Ok(caller) => callers.push_reserved(caller),
-            Err(_) => return Err(AllocError),
+            Err(refused) => {
+                drop(refused);
+                drop(callers);
+                drop(blanks);
+                return Err(AllocError);
+            }
         }
     }
+    drop(blanks);
     Ok(callers)
 }
 
@@ -120,7 +144,10 @@ fn run_callers<R: Threads + Sync, G: Gate + Sync>(
     run_all(rt, arena, gate, scripts, fuel, callers.as_mut_slice());
     match callers.pop() {
         Some(first) => Ok(gather(arena, scripts, fuel, first, callers)),
-        None => Err(AllocError),
+        None => {
+            drop(callers);
+            Err(AllocError)
+        }
     }
 }
 

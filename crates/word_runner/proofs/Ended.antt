@@ -8,8 +8,8 @@ use Rattle.caller_steps.specs.Entries.{Entry, is_idle}
 use Rattle.caller_steps.specs.After.{taken}
 use Rattle.core_runs.specs.Advances.{Stays, Stops}
 use Rattle.core_runs.proofs.Advancing.{runs_end}
-use Rattle.table_rule.specs.Seen.{Fixed}
-use Rattle.table_rule.specs.Plays.{Steps}
+use Rattle.word_runner.specs.table_rule.Seen.{Fixed}
+use Rattle.word_runner.specs.table_rule.Plays.{Steps}
 use Rattle.word_runner.specs.Outcome.{Replies, Answers}
 
 neither : (e : Entry) → is_idle e.routine ≡ true → is_idle e.routine ≡ false → ⊥

@@ -5,9 +5,9 @@ use Rattle.caller_parts.specs.declared.call.Call.{Call}
 use Rattle.caller_parts.specs.Calls.{is_call}
 use Rattle.caller_steps.specs.Entries.{Entry, is_idle}
 use Rattle.caller_steps.specs.After.{taken}
-use Rattle.table_rule.specs.Seen.{Fixed, SeatView}
-use Rattle.table_rule.specs.Plays.{Belonging, CanGo}
-use Rattle.table_rule.specs.Seats.{Seated}
+use Rattle.word_runner.specs.table_rule.Seen.{Fixed, SeatView}
+use Rattle.word_runner.specs.table_rule.Plays.{Belonging, CanGo}
+use Rattle.word_runner.specs.table_rule.Seats.{Seated}
 
 pub may_go : (key : Fixed) (me : Me ℕ SeatView) (base e : Entry) (call : Call) → Seated me base → me.0.fixed ≡ key → is_idle base.routine ≡ true → is_call key.target.target call ≡ true
     → e ≡ taken call base → Belonging key e → CanGo key me e

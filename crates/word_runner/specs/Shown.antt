@@ -3,8 +3,8 @@
 use Rattle.std.specs.Prelude.{ℕ, ◌≡◌, ◌<◌, ◌≤◌, false, List, length}
 use Rattle.atomic_table.specs.Seated.{TableId}
 use Rattle.caller_steps.specs.Entries.{Entry, RoomyEntry, is_idle}
-use Rattle.table_rule.specs.Seen.{Fixed}
-use Rattle.table_rule.specs.Plays.{AreTold, Steps}
+use Rattle.word_runner.specs.table_rule.Seen.{Fixed}
+use Rattle.word_runner.specs.table_rule.Plays.{AreTold, Steps}
 
 pub record ArenaShown : Type 0 where
   pub table : TableId

@@ -1,8 +1,8 @@
 //! One access of a caller on the table.
 
 ghost use Rattle.std.specs.Prelude.{◌≡◌, ◌<◌};
-ghost use Rattle.table_rule.specs.Plays.{CanStep, Made};
-ghost use Rattle.table_rule.specs.Seen.{IsGround};
+ghost use Rattle.word_runner.specs.table_rule.Plays.{CanStep, Made};
+ghost use Rattle.word_runner.specs.table_rule.Seen.{IsGround};
 ghost use Rattle.oa_words.specs.Words.{word_count};
 
 use crate::ground::{Hand, Makes, Place, Puts, Words};

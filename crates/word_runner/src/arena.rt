@@ -5,11 +5,11 @@ ghost use Rattle.caller_steps.specs.Entries.{idle_entry, is_idle};
 ghost use Rattle.caller_parts.specs.Calls.{is_call};
 ghost use Rattle.caller_steps.specs.After.{taken};
 ghost use Rattle.oa_words.specs.Words.{word_count};
-ghost use Rattle.table_rule.specs.Seen.{IsGround};
-ghost use Rattle.table_rule.specs.Rule.{callers_of};
-ghost use Rattle.table_rule.specs.Plays.{CanGo, Belonging, parted, cut_off, joined, Looked, with_accesses, with_entry, with_found};
-ghost use Rattle.table_rule.specs.Drives.{Went, Ran};
-ghost use Rattle.table_rule.specs.Closing.{Shut};
+ghost use Rattle.word_runner.specs.table_rule.Seen.{IsGround};
+ghost use Rattle.word_runner.specs.table_rule.Rule.{callers_of};
+ghost use Rattle.word_runner.specs.table_rule.Plays.{CanGo, Belonging, parted, cut_off, joined, Looked, with_accesses, with_entry, with_found};
+ghost use Rattle.word_runner.specs.table_rule.Drives.{Went, Ran};
+ghost use Rattle.word_runner.specs.table_rule.Closing.{Shut};
 
 use crate::access::access;
 use crate::ground::{Cut, Glue, Ground, Hand, Looks, Place, Tries, Words};
@@ -27,7 +27,7 @@ pub struct Arena {
 impl Model for Arena {
     ghost use Rattle.std.specs.Prelude.{◌≡◌};
     ghost use Rattle.oa_words.specs.Words.{word_count};
-    ghost use Rattle.table_rule.specs.Seen.{IsGround};
+    ghost use Rattle.word_runner.specs.table_rule.Seen.{IsGround};
     ghost use Rattle.word_runner.specs.Shown.{ArenaShown};
 
     ghost Value = { ArenaShown };
@@ -51,7 +51,8 @@ impl Arena {
         requires { seat.table_id ≡ self.table }
         ensures { Shut self.fixed seat.me.0 result }
     {
-        let Arena { table, ground: _ } = self;
+        let Arena { table, ground } = self;
+        drop(ground);
         let closed = table.close_with(seat);
         let phase = closed.word(0);
         closed.free();

@@ -3,10 +3,10 @@
 ghost use Rattle.std.specs.Prelude.{◌≡◌, ◌<◌, ◌≤◌, ◌+◌, ◌-◌, [], true, IfOk, IfErr, OnErr, MatchBool, vec_capacity};
 ghost use Rattle.caller_steps.specs.Entries.{idle_entry};
 ghost use Rattle.word_runner.specs.Shown.{CameFrom};
-ghost use Rattle.table_rule.specs.Parts.{halved};
-ghost use Rattle.table_rule.specs.Rule.{callers_of};
-ghost use Rattle.table_rule.specs.Plays.{Belonging, with_accesses, with_entry, with_found};
-ghost use Rattle.table_rule.specs.Seats.{Vacant};
+ghost use Rattle.word_runner.specs.table_rule.Parts.{halved};
+ghost use Rattle.word_runner.specs.table_rule.Rule.{callers_of};
+ghost use Rattle.word_runner.specs.table_rule.Plays.{Belonging, with_accesses, with_entry, with_found};
+ghost use Rattle.word_runner.specs.table_rule.Seats.{Vacant};
 
 use crate::arena::Arena;
 use crate::caller::Caller;
@@ -27,7 +27,7 @@ pub struct Blank {
 
 impl Model for Blank {
     ghost use Rattle.std.specs.Prelude.{◌≡◌, [], vec_capacity};
-    ghost use Rattle.table_rule.specs.Seats.{Vacant};
+    ghost use Rattle.word_runner.specs.table_rule.Seats.{Vacant};
     ghost use Rattle.word_runner.specs.Shown.{BlankShown};
 
     ghost Value = { BlankShown };

@@ -4,9 +4,9 @@ ghost use Rattle.std.specs.Prelude.{◌≡◌, ℕ, ◌<◌, ◌≤◌, ◌+◌,
 ghost use Rattle.caller_steps.specs.After.{taken};
 ghost use Rattle.caller_steps.specs.Entries.{is_idle};
 ghost use Rattle.caller_parts.specs.Calls.{is_call};
-ghost use Rattle.table_rule.specs.Rule.{callers_of};
-ghost use Rattle.table_rule.specs.Plays.{Belonging, Apart};
-ghost use Rattle.table_rule.specs.Seats.{cores, Seated, IsFew};
+ghost use Rattle.word_runner.specs.table_rule.Rule.{callers_of};
+ghost use Rattle.word_runner.specs.table_rule.Plays.{Belonging, Apart};
+ghost use Rattle.word_runner.specs.table_rule.Seats.{cores, Seated, IsFew};
 ghost use Rattle.word_runner.specs.Shown.{CameFrom, Operated};
 ghost use Rattle.word_runner.specs.Outcome.{Replies, Answers, answer_of};
 
@@ -38,8 +38,8 @@ pub struct Caller {
 
 impl Model for Caller {
     ghost use Rattle.std.specs.Prelude.{◌≡◌, ◌<◌, ◌≤◌, [], vec_capacity};
-    ghost use Rattle.table_rule.specs.Rule.{callers_of};
-    ghost use Rattle.table_rule.specs.Seats.{Seated, IsFew};
+    ghost use Rattle.word_runner.specs.table_rule.Rule.{callers_of};
+    ghost use Rattle.word_runner.specs.table_rule.Seats.{Seated, IsFew};
     ghost use Rattle.word_runner.specs.Shown.{CallerShown};
 
     ghost Value = { CallerShown };

@@ -3,10 +3,10 @@
 ghost use Rattle.std.specs.Prelude.{◌≡◌, ◌<◌, ◌≤◌, ◌+◌, [], ◌∷◌, length, IfOk};
 ghost use Rattle.caller_parts.specs.Settings.{Fits};
 ghost use Rattle.word_runner.specs.Shown.{CameFrom};
-ghost use Rattle.table_rule.specs.Rule.{callers_of};
+ghost use Rattle.word_runner.specs.table_rule.Rule.{callers_of};
 ghost use Rattle.oa_words.specs.Words.{word_count};
-ghost use Rattle.table_rule.specs.Seen.{newcomer, IsGround};
-ghost use Rattle.table_rule.specs.Closing.{IsClosed};
+ghost use Rattle.word_runner.specs.table_rule.Seen.{newcomer, IsGround};
+ghost use Rattle.word_runner.specs.table_rule.Closing.{IsClosed};
 
 use crate::arena::Arena;
 use crate::blank::{Blank, supplies};
@@ -46,8 +46,13 @@ impl Arena {
         setting.kept();
         let target = LoadedTarget::new(barred);
         let ground = Ground { target, setting };
-        let (table, blank) = begin_on(alloc, &ground, room)?;
-        Ok((Arena::over(table, ground), blank))
+        match begin_on(alloc, &ground, room) {
+            Ok((table, blank)) => Ok((Arena::over(table, ground), blank)),
+            Err(error) => {
+                drop(ground);
+                Err(error)
+            }
+        }
     }
 
     /// Closes the table with all its callers at rest. Takes no memory, and waits for nobody.

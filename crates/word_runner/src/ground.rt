@@ -16,7 +16,7 @@ pub(crate) struct Ground {
 }
 
 impl Model for Ground {
-    ghost use Rattle.table_rule.specs.Seen.{Fixed};
+    ghost use Rattle.word_runner.specs.table_rule.Seen.{Fixed};
 
     ghost Value = { Fixed };
 
@@ -29,7 +29,7 @@ pub(crate) struct Sight {
 }
 
 impl Model for Sight {
-    ghost use Rattle.table_rule.specs.Seen.{SeatView, nobody};
+    ghost use Rattle.word_runner.specs.table_rule.Seen.{SeatView, nobody};
 
     ghost Value = { SeatView };
 
@@ -40,8 +40,8 @@ impl Model for Sight {
 pub(crate) struct Shown;
 
 impl TableRule<u8, Sight, Ground> for Shown {
-    ghost use Rattle.table_rule.specs.Seen.{newcomer};
-    ghost use Rattle.table_rule.specs.Rule.{Holds};
+    ghost use Rattle.word_runner.specs.table_rule.Seen.{newcomer};
+    ghost use Rattle.word_runner.specs.table_rule.Rule.{Holds};
 
     ghost holds = { Holds };
 
@@ -70,7 +70,7 @@ impl Hand for Brand {
 pub(crate) struct Makes<H>(PhantomData<H>);
 
 impl<H: Hand> Play<u8, Sight> for Makes<H> {
-    ghost use Rattle.table_rule.specs.Plays.{Made};
+    ghost use Rattle.word_runner.specs.table_rule.Plays.{Made};
 
     ghost then = { λ _ me n w. Made H.entry me n w };
 }
@@ -79,7 +79,7 @@ impl<H: Hand> Play<u8, Sight> for Makes<H> {
 pub(crate) struct Puts<H>(PhantomData<H>);
 
 impl<H: Hand> Play<u8, Sight> for Puts<H> {
-    ghost use Rattle.table_rule.specs.Plays.{Made};
+    ghost use Rattle.word_runner.specs.table_rule.Plays.{Made};
 
     ghost then = { λ _ me n w. Made H.entry me 0 w };
 }
@@ -88,7 +88,7 @@ impl<H: Hand> Play<u8, Sight> for Puts<H> {
 pub(crate) struct Tries;
 
 impl Play<u8, Sight> for Tries {
-    ghost use Rattle.table_rule.specs.Plays.{Tried};
+    ghost use Rattle.word_runner.specs.table_rule.Plays.{Tried};
 
     ghost then = { Tried };
 }
@@ -97,7 +97,7 @@ impl Play<u8, Sight> for Tries {
 pub(crate) struct Looks;
 
 impl Play<u8, Sight> for Looks {
-    ghost use Rattle.table_rule.specs.Plays.{Looked};
+    ghost use Rattle.word_runner.specs.table_rule.Plays.{Looked};
 
     ghost then = { λ _ me _ w. Looked me w };
 }
@@ -105,7 +105,7 @@ impl Play<u8, Sight> for Looks {
 pub(crate) struct Cut;
 
 impl Split<Sight> for Cut {
-    ghost use Rattle.table_rule.specs.Plays.{parted, cut_off};
+    ghost use Rattle.word_runner.specs.table_rule.Plays.{parted, cut_off};
 
     ghost left = { parted };
 
@@ -115,8 +115,8 @@ impl Split<Sight> for Cut {
 pub(crate) struct Glue;
 
 impl Join<Sight> for Glue {
-    ghost use Rattle.table_rule.specs.Seen.{nobody};
-    ghost use Rattle.table_rule.specs.Plays.{joined};
+    ghost use Rattle.word_runner.specs.table_rule.Seen.{nobody};
+    ghost use Rattle.word_runner.specs.table_rule.Plays.{joined};
 
     ghost both = { joined };
 

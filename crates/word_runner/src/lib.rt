@@ -8,6 +8,7 @@ pub mod caller;
 pub mod close;
 mod ground;
 mod rest;
+pub mod table_rule;
 
 pub use arena::Arena;
 pub use blank::{Blank, NoPlace};

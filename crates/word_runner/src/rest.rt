@@ -2,9 +2,9 @@
 
 ghost use Rattle.std.specs.Prelude.{◌≡◌, ◌<◌, ◌≤◌, ◌+◌, ◌++◌, [], length, vec_len, vec_capacity};
 ghost use Rattle.word_runner.specs.Shown.{CameFrom};
-ghost use Rattle.table_rule.specs.Rule.{callers_of};
-ghost use Rattle.table_rule.specs.Plays.{Apart};
-ghost use Rattle.table_rule.specs.Seats.{cores, Resting};
+ghost use Rattle.word_runner.specs.table_rule.Rule.{callers_of};
+ghost use Rattle.word_runner.specs.table_rule.Plays.{Apart};
+ghost use Rattle.word_runner.specs.table_rule.Seats.{cores, Resting};
 
 use crate::arena::Arena;
 use crate::ground::Place;
@@ -20,7 +20,7 @@ pub struct Rest {
 
 impl Model for Rest {
     ghost use Rattle.std.specs.Prelude.{vec_capacity};
-    ghost use Rattle.table_rule.specs.Seats.{Resting};
+    ghost use Rattle.word_runner.specs.table_rule.Seats.{Resting};
     ghost use Rattle.word_runner.specs.Shown.{RestShown};
 
     ghost Value = { RestShown };

@@ -44,7 +44,7 @@ marked_object : Replies on_marked 0 2 (replies.Number 1)
 marked_object = refl
 
 marked_object_changes : nodes_after on_marked (undisturbed 0 2)
-    ≡ Some (record { name = 1; values = Number 9 ∷ to_node 2 ∷ [] } ∷ record { name = 2; values = Number 6 ∷ to_node 0 ∷ [] } ∷ [])
+    ≡ Some (record { name = 1; kind = 0; values = Number 9 ∷ to_node 2 ∷ [] } ∷ record { name = 2; kind = 0; values = Number 6 ∷ to_node 0 ∷ [] } ∷ [])
 marked_object_changes = refl
 
 null_retired : Replies retires_null 0 3 (replies.Number 1)

@@ -6,3 +6,5 @@ pub mod OtherTargets
 pub mod Exchanges
 pub mod Methods
 pub mod Values
+pub mod TwoKinds
+pub mod Typed

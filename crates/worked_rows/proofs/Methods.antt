@@ -71,11 +71,11 @@ no_such_operation : replies_after makes_node 1 (Begin 0 1 (0 ∷ 0 ∷ 0 ∷ 0 �
 no_such_operation = refl
 
 new_is_blank : nodes_after makes_node (begins 0 5 ∷ Access 0 3 ∷ [])
-    ≡ Some (record { name = 3; values = Number 0 ∷ to_node 0 ∷ [] } ∷ first_nodes)
+    ≡ Some (record { name = 3; kind = 0; values = Number 0 ∷ to_node 0 ∷ [] } ∷ first_nodes)
 new_is_blank = refl
 
 put_sets_field : nodes_after makes_node (begins 0 5 ∷ Access 0 3 ∷ Access 0 0 ∷ [])
-    ≡ Some (record { name = 3; values = Number 5 ∷ to_node 0 ∷ [] } ∷ first_nodes)
+    ≡ Some (record { name = 3; kind = 0; values = Number 5 ∷ to_node 0 ∷ [] } ∷ first_nodes)
 put_sets_field = refl
 
 pub method_rows : MethodRows

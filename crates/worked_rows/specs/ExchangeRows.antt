@@ -92,7 +92,7 @@ pub record ExchangeRows : Type 0 where
   -- on a marked object it works on the node
   pub marked_object : Replies on_marked 0 2 (replies.Number 1)
   pub marked_object_changes : nodes_after on_marked (undisturbed 0 2)
-      ≡ Some (record { name = 1; values = Number 9 ∷ to_node 2 ∷ [] } ∷ record { name = 2; values = Number 6 ∷ to_node 0 ∷ [] } ∷ [])
+      ≡ Some (record { name = 1; kind = 0; values = Number 9 ∷ to_node 2 ∷ [] } ∷ record { name = 2; kind = 0; values = Number 6 ∷ to_node 0 ∷ [] } ∷ [])
   -- to retire null does nothing: the exchange succeeds, and nothing is retired
   pub null_retired : Replies retires_null 0 3 (replies.Number 1)
   pub null_isnt_listed : retired_after retires_null (undisturbed 0 3) ≡ Some []

@@ -7,3 +7,5 @@ pub mod Runs
 pub mod ExchangeRows
 pub mod MethodRows
 pub mod ValueRows
+pub mod TwoKindRows
+pub mod TypedRows

@@ -77,6 +77,6 @@ pub record MethodRows : Type 0 where
   pub no_such_operation : replies_after makes_node 1 (Begin 0 1 (0 ∷ 0 ∷ 0 ∷ 0 ∷ []) ∷ []) ≡ None
   -- a new node has 0 and null in its fields, and a put sets one of them
   pub new_is_blank : nodes_after makes_node (begins 0 5 ∷ Access 0 3 ∷ [])
-      ≡ Some (record { name = 3; values = Number 0 ∷ to_node 0 ∷ [] } ∷ first_nodes)
+      ≡ Some (record { name = 3; kind = 0; values = Number 0 ∷ to_node 0 ∷ [] } ∷ first_nodes)
   pub put_sets_field : nodes_after makes_node (begins 0 5 ∷ Access 0 3 ∷ Access 0 0 ∷ [])
-      ≡ Some (record { name = 3; values = Number 5 ∷ to_node 0 ∷ [] } ∷ first_nodes)
+      ≡ Some (record { name = 3; kind = 0; values = Number 5 ∷ to_node 0 ∷ [] } ∷ first_nodes)

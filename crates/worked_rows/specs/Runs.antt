@@ -73,6 +73,6 @@ to_node name = Node (record { node = name; marked = false })
 -- the two nodes with which a run starts
 abbrev pub first_nodes : List NamedNode
 first_nodes =
-    record { name = 1; values = Number 4 ∷ to_node 2 ∷ [] }
-    ∷ record { name = 2; values = Number 6 ∷ to_node 0 ∷ [] }
+    record { name = 1; kind = 0; values = Number 4 ∷ to_node 2 ∷ [] }
+    ∷ record { name = 2; kind = 0; values = Number 6 ∷ to_node 0 ∷ [] }
     ∷ []

@@ -8,14 +8,17 @@ ghost use Rattle.worked_rows.specs.MethodRows.{MethodRows};
 ghost use Rattle.worked_rows.specs.NormalFormRows.{NormalFormRows};
 ghost use Rattle.worked_rows.specs.SchemeRows.{BarrierRows, CheckRows, QueueRows};
 ghost use Rattle.worked_rows.specs.TargetRows.{FlawRows, ErasingRows};
+ghost use Rattle.worked_rows.specs.TwoKindRows.{TwoKindRows};
+ghost use Rattle.worked_rows.specs.TypedRows.{TypedRows};
 ghost use Rattle.worked_rows.specs.ValueRows.{ValueRows};
 
-/// Exchanges, beginning again, loads and local instructions, in runs of the source machine.
-#[tactic(auto, using(crate::proofs::Exchanges::exchange_rows, crate::proofs::Methods::method_rows, crate::proofs::Values::value_rows))]
+/// Exchanges, beginning again, loads and local instructions, in runs of the source machine, and nodes of two kinds.
+#[tactic(auto, using(crate::proofs::Exchanges::exchange_rows, crate::proofs::Methods::method_rows, crate::proofs::Values::value_rows, crate::proofs::TwoKinds::two_kind_rows))]
 pub fn source_machine_rows()
     ensures exchanges { ExchangeRows }
     ensures methods { MethodRows }
     ensures values { ValueRows }
+    ensures kinds { TwoKindRows }
 {}
 
 /// What breaks the rules N3, N4, N6, N8 and N11 to N13, what doesn't, and what the tests of one instruction find.
@@ -38,4 +41,10 @@ pub fn scheme_rows()
     ensures barriers { BarrierRows }
     ensures checks { CheckRows }
     ensures queue { QueueRows }
+{}
+
+/// Typed memory and typed callers in a run over two kinds of nodes: the laws' premises are met there.
+#[tactic(auto, using(crate::proofs::Typed::typed_rows))]
+pub fn typed_rows()
+    ensures { TypedRows }
 {}

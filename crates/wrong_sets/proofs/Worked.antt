@@ -37,7 +37,7 @@ abbrev marked : ℕ → Reference
 marked n = record { node = n; marked = true }
 
 abbrev node : ℕ → ℕ → Reference → NamedNode
-node n key next = record { name = n; values = Number key ∷ Node next ∷ [] }
+node n key next = record { name = n; kind = 0; values = Number key ∷ Node next ∷ [] }
 
 abbrev machine : List NamedNode → List ℕ → SourceCaller → SourceCaller → SourceMachine
 machine nodes retired c d = record { memory = record { nodes = nodes; roots = Node (to 1) ∷ []; retired = retired }; callers = c ∷ d ∷ [] }

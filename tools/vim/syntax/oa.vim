@@ -19,6 +19,8 @@ syntax match oaEnd "^\s*\(commit\|return\|returnnone\|again\)\>"
 syntax match oaBarrier "^\s*\(chk\|grd\)\>"
 syntax match oaRetire "\<retire\>"
 syntax match oaSetting "^\s*\(slots\|phases\|fuel\|script\|schedule\|step\|upto\)\>"
+syntax match oaEvent "^\s*\(begin\|access\|restart\|full\|reply\)\ze\s\+[0-9]"
+syntax match oaEvent "^\s*\(events\|replies\)\s*$"
 syntax match oaSetting "\<\(check\|exchange\)\ze\s\+[0-9]"
 highlight default link oaComment Comment
 highlight default link oaLabel Label
@@ -35,4 +37,5 @@ highlight default link oaEnd Keyword
 highlight default link oaBarrier PreProc
 highlight default link oaRetire Exception
 highlight default link oaSetting Define
+highlight default link oaEvent Statement
 let b:current_syntax = "oa"

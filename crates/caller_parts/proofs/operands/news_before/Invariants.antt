@@ -1,6 +1,6 @@
-use Rattle.std.proofs.Common.{◌≡◌, ◌≤◌}
+use Rattle.std.proofs.Common.{◌≡◌, ◌≤◌, length}
 use Rattle.caller_parts.specs.Operands.{news_before}
 use Rattle.caller_parts.proofs.operands.news_before.Given as goal
 
 abbrev pub invariant-loop-place : goal.invariant-loop-place
-invariant-loop-place l = record { same : l.count ≡ news_before l.code l.place; few : l.count ≤ l.place }
+invariant-loop-place l = record { same : l.count ≡ news_before l.kind l.code l.place; few : l.count ≤ l.place; within : l.count ≤ length l.code }

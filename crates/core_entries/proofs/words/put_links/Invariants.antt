@@ -1,10 +1,10 @@
 use Rattle.std.proofs.Common.{◌≡◌, ◌++◌, ◌+◌, ◌-◌}
-use Rattle.oa_words.specs.Words.{slot_range}
 use Rattle.oa_words.specs.Starts.{start_links}
+use Rattle.core_entries.specs.Starts.{bare_start}
 use Rattle.core_entries.proofs.words.put_links.Given as goal
 
 -- what is left gives what the whole gives
 abbrev pub invariant-loop-slot : goal.invariant-loop-slot
 invariant-loop-slot l =
-    l.words ++ start_links (slot_range l.setting.sizes) l.setting.nodes l.slot (l.slots + 1 - l.slot)
-    ≡ l.fn.words ++ start_links (slot_range l.setting.sizes) l.setting.nodes 0 (l.slots + 1)
+    l.words ++ start_links l.setting.sizes (bare_start l.setting) l.slot (l.slots + 1 - l.slot)
+    ≡ l.fn.words ++ start_links l.setting.sizes (bare_start l.setting) 0 (l.slots + 1)

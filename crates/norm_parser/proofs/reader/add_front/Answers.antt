@@ -12,7 +12,7 @@ loop-next-preserved c = record {
   same =
       front_goes_on (draft_shown c.loop-next.draft) (draft_shown c.read_line.new.draft) c.loop-next.named c.names_text-named.result c.args.line (length (lines_of c.args.input.now) + 1)
       c.number.result (line_shown c.in-Some.next) c.loop-next.next-iterator c.next.new.self c.front_word-word.result.now
-      (front_end (from_line c.args.line (numbered 1 (lines_of c.args.input.now))) (length (lines_of c.args.input.now) + 1))
+      (front_end c.args.draft.now.version (from_line c.args.line (numbered 1 (lines_of c.args.input.now))) (length (lines_of c.args.input.now) + 1))
       (search rules) c.number.ensures c.if-number-line.false (search rules) (search rules) c.in_ok-read_line.ensures c.names_text-named.ensures c.loop-next.invariant.same;
   kept = kept_on (draft_shown c.loop-next.draft) (draft_shown c.read_line.new.draft) (line_shown c.in-Some.next) c.loop-next.invariant.kept c.in_ok-read_line.ensures;
   past = search rules;

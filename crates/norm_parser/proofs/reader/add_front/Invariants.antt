@@ -8,7 +8,7 @@ use Rattle.norm_parser.proofs.reader.add_front.Given as goal
 
 abbrev pub invariant-loop-next : goal.invariant-loop-next
 invariant-loop-next l = record {
-  same : front_from (draft_shown l.draft) l.named (from_line l.line l.next-iterator) (length (lines_of l.input) + 1) ≡ front_end (from_line l.line (numbered 1 (lines_of l.input))) (length (lines_of l.input) + 1);
+  same : front_from (draft_shown l.draft) l.named (from_line l.line l.next-iterator) (length (lines_of l.input) + 1) ≡ front_end l.fn.draft.version (from_line l.line (numbered 1 (lines_of l.input))) (length (lines_of l.input) + 1);
   kept : Kept (draft_shown l.draft);
   past : l.past + length l.next-iterator ≡ length (lines_of l.input) + 1;
 }

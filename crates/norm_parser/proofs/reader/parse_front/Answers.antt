@@ -8,5 +8,5 @@ use Rattle.norm_parser.proofs.reader.parse_front.Goals as goal
 
 pub returns-in-Ok-clause-within : goal.returns-in-Ok-clause-within
 returns-in-Ok-clause-within c =
-    front_is_within (from_line c.args.line (numbered 1 (lines_of c.args.input.now))) (length (lines_of c.args.input.now) + 1) (draft_shown c.in_ok-draft.draft) (fault_shown c.in_ok-draft.end) c.in-Ok.text
+    front_is_within c.numbered_version.result (from_line c.args.line (numbered 1 (lines_of c.args.input.now))) (length (lines_of c.args.input.now) + 1) (draft_shown c.in_ok-draft.draft) (fault_shown c.in_ok-draft.end) c.in-Ok.text
     c.in_ok-draft.ensures c.in-Ok.ensures

@@ -1,6 +1,6 @@
-use Rattle.verdicts.specs.Telling.{text_for}
+use Rattle.oa_cli.specs.verdicts.Telling.{text_for}
 use Rattle.statuses.specs.declared.status.Status.TheVariants as statuses
-use Rattle.verdicts.specs.declared.verdict.Verdict.TheVariants as verdicts
+use Rattle.oa_cli.specs.declared.verdicts.verdict.Verdict.TheVariants as verdicts
 use Rattle.oa_cli.proofs.Telling.{said_finished}
 use Rattle.oa_cli.proofs.program.refuse_for_memory.Goals as goal
 

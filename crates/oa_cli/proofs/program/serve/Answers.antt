@@ -1,5 +1,5 @@
 use Rattle.std.proofs.Common.{map, string_bytes}
-use Rattle.verdicts.specs.Telling.{text_for, status_for}
+use Rattle.oa_cli.specs.verdicts.Telling.{text_for, status_for}
 use Rattle.command_input.specs.Commands.{request_of}
 use Rattle.oa_cli.proofs.Telling.{said_finished, told}
 use Rattle.oa_cli.proofs.Completing.{complete}

@@ -1,14 +1,12 @@
-use Rattle.std.proofs.Common.{rules}
+use Rattle.std.proofs.Common.{ℕ, List, subst}
+use Rattle.oa_cli.specs.Judged.{LIMIT, IsOfBytes}
+use Rattle.oa_cli.proofs.Sources.{read, unread}
 use Rattle.oa_cli.proofs.top.judge_source.Goals as goal
 
-pub returns-then-len-eq-LIMIT : goal.returns-then-len-eq-LIMIT
-returns-then-len-eq-LIMIT g c = search rules
+pub returns-in-Ok : goal.returns-in-Ok
+returns-in-Ok g c =
+    read LIMIT (IsOfBytes c.args.command) _ _ _ _ _ c.judge_bytes.result (λ none. none.2) (λ none. none.2) c.in-Ok.ensures.0 c.in-Ok.ensures.1
+    (subst (λ (l : List ℕ). IsOfBytes c.args.command l c.judge_bytes.result) c.items.ensures c.judge_bytes.ensures)
 
-pub returns-in-Err-Memory : goal.returns-in-Err-Memory
-returns-in-Err-Memory g c = search rules
-
-pub returns-in-Err-Fault : goal.returns-in-Err-Fault
-returns-in-Err-Fault g c = search rules
-
-pub returns-else-len-eq-LIMIT : goal.returns-else-len-eq-LIMIT
-returns-else-len-eq-LIMIT g c = search rules
+pub returns-in-Err : goal.returns-in-Err
+returns-in-Err g c = unread LIMIT (IsOfBytes c.args.command) _ _ _ _ c.in-Err.verdict c.in-Err.ensures

@@ -1,13 +1,16 @@
-use Rattle.std.proofs.Common.{sym, subst}
-use Rattle.oa_core.specs.Finals.{HasRooms}
-use Rattle.oa_core.specs.Shown.{Progress}
+use Rattle.std.proofs.Common.{subst}
+use Rattle.barrier_check.specs.Paired.{Paired}
+use Rattle.core_runs.specs.Replays.{replayed}
+use Rattle.oa_core.specs.Finals.{Answers, replay_of}
 use Rattle.oa_core.proofs.Ending.{ends_run}
 use Rattle.oa_core.proofs.replaying.replay.Goals as goal
 
-pub returns-in-Ok-run-clause-complete : goal.returns-in-Ok-run-clause-complete
-returns-in-Ok-run-clause-complete c =
-    ends_run (record { pair = c.new.result; setting = c.args.setting.now; scripts = c.args.scripts.now; fuel = c.args.fuel; limit = c.replay_limit.result }) c.args.barred.now c.args.schedule.now c.in-Ok.now _ c.run.new.now
-    c.new.ensures c.kept.ensures c.kept-2.ensures c.requires.fits c.requires.count c.requires.calls c.requires.fuel c.replay_limit.ensures c.in-Ok.ensures.started c.now.view_is c.in-Ok-run.ensures.made
+pub returns-clause-replayed : goal.returns-clause-replayed
+returns-clause-replayed c =
+    subst (λ (pair : Paired). Answers c.replay_prepared.result c.args.fuel (replayed (replay_of pair.target c.args.setting.now c.args.scripts.now c.args.fuel) c.args.schedule.now))
+    c.new-prepared.ensures c.replay_prepared.ensures.replayed
 
-pub returns-in-Ok-run-clause-rooms : goal.returns-in-Ok-run-clause-rooms
-returns-in-Ok-run-clause-rooms c = subst (λ (n : Progress). HasRooms c.args.scripts.now n.entries) (sym c.now.view_is) c.in-Ok-run.ensures.under_way.rooms
+pub returns-clause-complete : goal.returns-clause-complete
+returns-clause-complete c =
+    ends_run c.args.barred.now c.args.setting.now c.args.scripts.now c.args.fuel c.args.schedule.now c.replay_prepared.result c.kept.ensures c.kept-2.ensures c.requires.fits c.requires.count c.requires.calls c.requires.fuel
+    (returns-clause-replayed c)

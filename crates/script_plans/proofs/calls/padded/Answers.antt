@@ -7,5 +7,5 @@ returns-clause-same c = search rules
 
 pub returns-clause-words : goal.returns-clause-words
 returns-clause-words c =
-    four_words c.argument.result c.argument-2.result c.argument-3.result c.argument-4.result
-    (omega (arith, c.argument.type_inv)) (omega (arith, c.argument-2.type_inv)) (omega (arith, c.argument-3.type_inv)) (omega (arith, c.argument-4.type_inv))
+    four_words c.number_at.result c.number_at-2.result c.number_at-3.result c.number_at-4.result
+    (omega (arith, c.number_at.type_inv)) (omega (arith, c.number_at-2.type_inv)) (omega (arith, c.number_at-3.type_inv)) (omega (arith, c.number_at-4.type_inv))

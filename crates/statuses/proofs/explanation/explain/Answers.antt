@@ -20,3 +20,6 @@ returns-in-WriteFault-clause-bytes g c = rw c.in-WriteFault.is c.write_all-in-Wr
 
 pub returns-in-Memory-clause-bytes : goal.returns-in-Memory-clause-bytes
 returns-in-Memory-clause-bytes g c = rw c.in-Memory.is c.write_all-in-Memory.ensures.bytes
+
+pub returns-in-Rejected-clause-bytes : goal.returns-in-Rejected-clause-bytes
+returns-in-Rejected-clause-bytes g c = rw c.in-Rejected.is c.explain_rejection.ensures.bytes

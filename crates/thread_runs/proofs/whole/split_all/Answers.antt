@@ -9,8 +9,8 @@ pub loop-left-preserved : goal.loop-left-preserved
 loop-left-preserved c =
     let i = c.loop-left.invariant in
     let P = IsBlank c.args.arena.now c.args.first.room in
-    let one : P c.in_ok-next.next = search rules in
-    let all = subst (All P) (sym c.push_reserved.ensures.items) (All-push P c.loop-left.blanks.items c.in_ok-next.next i.0 one) in
+    let one : P c.in-Ok-split.next = search rules in
+    let all = subst (All P) (sym c.push_reserved.ensures.items) (All-push P c.loop-left.blanks.items c.in-Ok-split.next i.0 one) in
     (all, grind (arith, common_steps), grind (arith, common_steps), search rules, grind (arith, common_steps))
 
 pub returns : goal.returns

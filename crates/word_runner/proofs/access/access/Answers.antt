@@ -1,5 +1,5 @@
 use Rattle.std.proofs.Common.{ℕ, ◌<◌, subst, sym}
-use Rattle.table_rule.proofs.Accesses.{load_allowed, store_put, exchange_allowed, raise_allowed}
+use Rattle.word_runner.proofs.table_rule.Accesses.{load_allowed, store_put, exchange_allowed, raise_allowed}
 use Rattle.word_runner.proofs.access.access.Goals as goal
 
 pub load-requires : goal.load-requires

@@ -1,6 +1,6 @@
 use Rattle.std.proofs.Common.{rules, false, ◌≡◌}
 use Rattle.caller_steps.specs.Entries.{is_idle}
-use Rattle.table_rule.proofs.Drives.{can_again, drive_first, drive_more}
+use Rattle.word_runner.proofs.table_rule.Drives.{can_again, drive_first, drive_more}
 use Rattle.word_runner.proofs.arena.drive.Goals as goal
 
 pub loop-left-init : goal.loop-left-init

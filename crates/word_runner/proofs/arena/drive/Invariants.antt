@@ -1,5 +1,5 @@
 use Rattle.std.proofs.Common.{◌≡◌}
-use Rattle.table_rule.specs.Drives.{Driving}
+use Rattle.word_runner.specs.table_rule.Drives.{Driving}
 use Rattle.word_runner.proofs.arena.drive.Given as goal
 
 abbrev pub invariant-loop-left : goal.invariant-loop-left

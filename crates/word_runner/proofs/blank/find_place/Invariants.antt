@@ -1,5 +1,5 @@
 use Rattle.std.proofs.Common.{◌≡◌, ◌≤◌, ◌-◌, []}
-use Rattle.table_rule.specs.Plays.{with_accesses, with_found}
+use Rattle.word_runner.specs.table_rule.Plays.{with_accesses, with_found}
 use Rattle.word_runner.proofs.blank.find_place.Given as goal
 
 abbrev pub invariant-loop-found : goal.invariant-loop-found

@@ -11,20 +11,20 @@ use Rattle.core_entries.proofs.entry.Entry.pending_in.Goals as goal
 
 pub pending-requires-clause-can : goal.pending-requires-clause-can
 pending-requires-clause-can c =
-    asks c.args.prepared.now c.program.result c.args.setting.now c.self.inside.state.core c.program.ensures.same c.program.ensures.sound c.kept.ensures
-    (subst (λ (e : RoomyEntry). BelongsTo c.args.prepared.now c.args.setting.now e.core) (sym c.self.view_is) c.requires.belongs)
+    asks c.args.barred.now c.args.program.now c.args.setting.now c.self.inside.state.core c.requires.program c.kept-2.ensures c.kept.ensures
+    (subst (λ (e : RoomyEntry). BelongsTo c.args.barred.now c.args.setting.now e.core) (sym c.self.view_is) c.requires.belongs)
 
 pub returns-clause-idle : goal.returns-clause-idle
 returns-clause-idle c =
     ap is_some (c.pending.ensures
-    ∙ ap (λ (t : Target). located_option c.args.setting.now.sizes (wants t c.self.inside.state.core)) c.program.ensures.same
-    ∙ ap (λ (e : RoomyEntry). located_option c.args.setting.now.sizes (wants c.args.prepared.now.target e.core)) c.self.view_is)
-    ∙ wanted c.args.prepared.now c.args.setting.now c.args.self.now.core c.program.ensures.sound c.kept.ensures c.requires.belongs
+    ∙ ap (λ (t : Target). located_option c.args.setting.now.sizes (wants t c.self.inside.state.core)) c.requires.program
+    ∙ ap (λ (e : RoomyEntry). located_option c.args.setting.now.sizes (wants c.args.barred.now.target e.core)) c.self.view_is)
+    ∙ wanted c.args.barred.now c.args.setting.now c.args.self.now.core c.kept-2.ensures c.kept.ensures c.requires.belongs
 
 pub returns-clause-row : goal.returns-clause-row
 returns-clause-row c =
     subst (λ (o : Option Access). IsInRow c.args.setting.now o)
     (sym (c.pending.ensures
-    ∙ ap (λ (t : Target). located_option c.args.setting.now.sizes (wants t c.self.inside.state.core)) c.program.ensures.same
-    ∙ ap (λ (e : RoomyEntry). located_option c.args.setting.now.sizes (wants c.args.prepared.now.target e.core)) c.self.view_is))
-    (row c.args.prepared.now c.args.setting.now c.args.self.now.core c.program.ensures.sound c.kept.ensures c.requires.belongs)
+    ∙ ap (λ (t : Target). located_option c.args.setting.now.sizes (wants t c.self.inside.state.core)) c.requires.program
+    ∙ ap (λ (e : RoomyEntry). located_option c.args.setting.now.sizes (wants c.args.barred.now.target e.core)) c.self.view_is))
+    (row c.args.barred.now c.args.setting.now c.args.self.now.core c.kept-2.ensures c.kept.ensures c.requires.belongs)

@@ -1,7 +1,7 @@
 use Rattle.std.proofs.Common.{rules, ◌≡◌, subst, sym}
 use Rattle.barrier_check.specs.Paired.{Paired}
 use Rattle.caller_steps.specs.Entries.{Entry}
-use Rattle.table_rule.specs.Plays.{Belonging}
+use Rattle.word_runner.specs.table_rule.Plays.{Belonging}
 use Rattle.word_runner.proofs.arena.Arena.begin.Goals as goal
 
 pub returns-clause-belongs : goal.returns-clause-belongs

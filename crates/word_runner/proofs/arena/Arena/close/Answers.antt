@@ -1,11 +1,11 @@
 use Rattle.std.proofs.Common.{rules, ◌≡◌, ◌∙◌, ap, sym, subst, length, List}
 use Rattle.std.proofs.lemmas.List.Sorted.{IsNonDecreasingBy-from_sort_by_key}
 use Rattle.caller_steps.specs.Entries.{RoomyEntry}
-use Rattle.table_rule.specs.Seen.{Fixed}
-use Rattle.table_rule.specs.Plays.{Apart}
-use Rattle.table_rule.specs.Seats.{cores}
-use Rattle.table_rule.specs.Closing.{IsClosed}
-use Rattle.table_rule.proofs.Ordered.{closed}
+use Rattle.word_runner.specs.table_rule.Seen.{Fixed}
+use Rattle.word_runner.specs.table_rule.Plays.{Apart}
+use Rattle.word_runner.specs.table_rule.Seats.{cores}
+use Rattle.word_runner.specs.table_rule.Closing.{IsClosed}
+use Rattle.word_runner.proofs.table_rule.Ordered.{closed}
 use Rattle.word_runner.proofs.arena.Arena.close.Goals as goal
 
 pub returns : goal.returns

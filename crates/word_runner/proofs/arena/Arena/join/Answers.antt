@@ -1,6 +1,6 @@
 use Rattle.std.proofs.Common.{sym, ap, ◌∙◌, arith}
 use Rattle.word_runner.specs.Shown.{ArenaShown}
-use Rattle.table_rule.proofs.Others.{join_kept}
+use Rattle.word_runner.proofs.table_rule.Others.{join_kept}
 use Rattle.word_runner.proofs.arena.Arena.join.Goals as goal
 
 pub join_seat-requires : goal.join_seat-requires

@@ -1,6 +1,6 @@
 use Rattle.std.proofs.Common.{sym, ap, ◌∙◌, arith}
 use Rattle.word_runner.specs.Shown.{ArenaShown}
-use Rattle.table_rule.proofs.Others.{look_allowed}
+use Rattle.word_runner.proofs.table_rule.Others.{look_allowed}
 use Rattle.word_runner.proofs.arena.Arena.look.Goals as goal
 
 pub load-requires : goal.load-requires

@@ -1,6 +1,6 @@
 use Rattle.std.proofs.Common.{sym, subst}
 use Rattle.barrier_check.specs.Paired.{Paired}
-use Rattle.table_rule.specs.Seen.{IsGround}
+use Rattle.word_runner.specs.table_rule.Seen.{IsGround}
 use Rattle.word_runner.proofs.arena.Arena.make.Goals as goal
 
 pub begin_on-requires : goal.begin_on-requires

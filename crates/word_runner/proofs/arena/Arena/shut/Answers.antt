@@ -1,8 +1,8 @@
 use Rattle.std.proofs.Common.{ap, ◌∙◌, arith}
 use Rattle.std.specs.Slots.{slots_items}
 use Rattle.word_runner.specs.Shown.{ArenaShown}
-use Rattle.table_rule.proofs.Others.{closes}
-use Rattle.table_rule.proofs.Ordered.{shut_is}
+use Rattle.word_runner.proofs.table_rule.Others.{closes}
+use Rattle.word_runner.proofs.table_rule.Ordered.{shut_is}
 use Rattle.word_runner.proofs.arena.Arena.shut.Goals as goal
 
 pub free-requires : goal.free-requires

@@ -1,6 +1,6 @@
 use Rattle.std.proofs.Common.{sym, ap, ◌∙◌, arith}
 use Rattle.word_runner.specs.Shown.{ArenaShown}
-use Rattle.table_rule.proofs.Others.{split_kept}
+use Rattle.word_runner.proofs.table_rule.Others.{split_kept}
 use Rattle.word_runner.proofs.arena.Arena.split.Goals as goal
 
 pub split_seat-requires : goal.split_seat-requires

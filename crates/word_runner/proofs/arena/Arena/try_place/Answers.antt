@@ -1,7 +1,7 @@
 use Rattle.std.proofs.Common.{◌+◌, ◌<◌, ℕ, sym, ap, ◌∙◌, subst, arith}
 use Rattle.word_runner.specs.Shown.{ArenaShown}
-use Rattle.table_rule.specs.Seen.{Fixed}
-use Rattle.table_rule.proofs.Others.{try_allowed}
+use Rattle.word_runner.specs.table_rule.Seen.{Fixed}
+use Rattle.word_runner.proofs.table_rule.Others.{try_allowed}
 use Rattle.word_runner.proofs.arena.Arena.try_place.Goals as goal
 
 pub compare_exchange-requires : goal.compare_exchange-requires

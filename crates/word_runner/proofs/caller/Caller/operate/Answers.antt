@@ -2,7 +2,7 @@ use Rattle.std.proofs.Common.{rules, sym, ap, ◌∙◌}
 use Rattle.caller_parts.specs.declared.call.Call.{Call}
 use Rattle.caller_parts.specs.Calls.{is_call}
 use Rattle.caller_steps.specs.Entries.{RoomyEntry, is_idle}
-use Rattle.table_rule.specs.Seen.{Fixed}
+use Rattle.word_runner.specs.table_rule.Seen.{Fixed}
 use Rattle.caller_steps.specs.After.{taken}
 use Rattle.word_runner.specs.Shown.{CallerShown}
 use Rattle.word_runner.specs.Outcome.{answer_of}

@@ -1,5 +1,5 @@
 use Rattle.std.proofs.Common.{rules, ◌≤◌, length, vec_capacity}
-use Rattle.table_rule.proofs.Merged.{rest_few}
+use Rattle.word_runner.proofs.table_rule.Merged.{rest_few}
 use Rattle.word_runner.proofs.rest.Rest.count.Goals as goal
 
 pub overflow_cast-result : goal.overflow_cast-result

@@ -1,9 +1,9 @@
 use Rattle.std.proofs.Common.{◌≡◌, vec_capacity, ℕ, ap, ◌∙◌, subst, sym, arith}
 use Rattle.atomic_table.specs.Table.{Me}
-use Rattle.table_rule.specs.Seen.{Fixed, SeatView}
-use Rattle.table_rule.specs.Plays.{Apart}
-use Rattle.table_rule.specs.Seats.{cores, Resting}
-use Rattle.table_rule.proofs.Merged.{rested, rested_room}
+use Rattle.word_runner.specs.table_rule.Seen.{Fixed, SeatView}
+use Rattle.word_runner.specs.table_rule.Plays.{Apart}
+use Rattle.word_runner.specs.table_rule.Seats.{cores, Resting}
+use Rattle.word_runner.proofs.table_rule.Merged.{rested, rested_room}
 use Rattle.word_runner.specs.Shown.{RestShown}
 use Rattle.word_runner.proofs.rest.Rest.merge.Goals as goal
 

@@ -1,0 +1,53 @@
+-- A caller that stands at an access of its method.
+use Rattle.std.proofs.Common.{◌≡◌, ℕ, zero, suc, ◌+◌, true, false, List, length, Option, Some, None, refl, ◌∙◌, ap}
+use Rattle.std.specs.Prelude.{slice_get}
+use Rattle.norm_lang.specs.declared.registers.Registers.{Registers}
+use Rattle.norm_lang.specs.Local.{Spot}
+use Rattle.target_code.specs.declared.target.TargetInstr.{TargetInstr}
+use Rattle.target_code.specs.declared.target.TargetInstr.TheVariants.{Plain, Check, Guard}
+use Rattle.target_code.specs.declared.target.Target.{Target}
+use Rattle.target_code.specs.LocalCode.{target_local_at, target_run}
+use Rattle.oa_words.specs.Words.{Sizes}
+use Rattle.caller_parts.specs.declared.routine.Routine.{Routine}
+use Rattle.caller_parts.specs.declared.routine.Routine.TheVariants.{At}
+use Rattle.caller_parts.specs.Settings.{Setting}
+use Rattle.caller_steps.specs.Entries.{Entry, code_in, instr_in}
+use Rattle.caller_steps.specs.Stands.{is_stop}
+use Rattle.caller_steps.specs.Wants.{wants, wanted, instr_wanted}
+use Rattle.caller_steps.specs.After.{after, accepted, counted, instr_accepted, stops, goes_on, hand_at, with_hand, with_routine}
+
+-- what it wants
+pub wants_at : (target : Target) (e : Entry) → e.routine ≡ At → wants target e ≡ instr_wanted target.fields e.number (instr_in target e) e.hand.registers
+unfolding wants
+wants_at target e is = ap (λ (r : Routine). wanted target e r) is
+
+-- and what becomes of it
+pub after_at : (target : Target) (setting : Setting) (e : Entry) (word : ℕ) → e.routine ≡ At
+    → after target setting e word ≡ (instr_accepted target setting.sizes (instr_in target e) word (counted e)).entry
+unfolding after
+after_at target setting e word is = ap (λ (r : Routine). (accepted target setting word (counted e) r).entry) is
+
+-- no local code runs at a check or a guard
+not_local : (o : Option TargetInstr) (at : ℕ) (registers : Registers) → is_stop o ≡ true → target_local_at o at registers ≡ None
+not_local None at registers stop = refl
+not_local (Some (Plain i)) at registers stop = absurd (let no : false ≡ true = stop in cc)
+not_local (Some Check) at registers stop = refl
+not_local (Some (Guard r)) at registers stop = refl
+
+stays : (code : List TargetInstr) (n : ℕ) (spot : Spot) → is_stop (slice_get code spot.at) ≡ true → target_run code n spot ≡ spot
+stays code zero spot stop = refl
+stays code (suc n) spot stop = rw (not_local (slice_get code spot.at) spot.at spot.registers stop) refl
+
+stops_at : (target : Target) (sizes : Sizes) (o : Option TargetInstr) (e : Entry) → is_stop o ≡ true → (stops target sizes o e).entry ≡ with_routine e At
+stops_at target sizes None e stop = refl
+stops_at target sizes (Some (Plain i)) e stop = absurd (let no : false ≡ true = stop in cc)
+stops_at target sizes (Some Check) e stop = refl
+stops_at target sizes (Some (Guard r)) e stop = refl
+
+-- where one comes next, the caller stands there
+pub stop_next : (target : Target) (sizes : Sizes) (e : Entry) → is_stop (slice_get (code_in target e) (e.hand.at + 1)) ≡ true
+    → (goes_on target sizes e.hand.registers e).entry ≡ with_routine (with_hand e (record e.hand { at = e.hand.at + 1 })) At
+stop_next target sizes e stop =
+    let next : Spot = record { at = e.hand.at + 1; registers = e.hand.registers } in
+    ap (λ (spot : Spot). (stops target sizes (slice_get (code_in target e) spot.at) (with_hand e (hand_at e.hand spot))).entry) (stays (code_in target e) (length (code_in target e)) next stop)
+    ∙ stops_at target sizes (slice_get (code_in target e) (e.hand.at + 1)) (with_hand e (hand_at e.hand next)) stop

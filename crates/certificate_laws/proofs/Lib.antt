@@ -1,0 +1,2 @@
+mod Beginning
+pub mod Accepting

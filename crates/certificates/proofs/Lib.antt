@@ -1,0 +1,9 @@
+mod Worked
+mod Cuts
+mod Tables
+mod Spelled
+mod EventsRead
+mod ClaimsRead
+mod CutsFound
+mod ReadBack
+mod WhatIsRead

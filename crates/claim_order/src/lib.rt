@@ -1,4 +1,0 @@
-//! In which order slots are claimed for the first time, whatever the callers retire.
-#![tactic(auto)]
-
-pub mod laws;

@@ -1,0 +1,222 @@
+-- Where local code stops the entry belongs: before an access, at a clear, at a claim, at a list or in a reply.
+use Rattle.std.proofs.Common.{◌≡◌, ℕ, zero, suc, ◌≤◌, ◌<◌, Bool, true, false, List, [], ◌∷◌, length, Option, Some, None, refl, sym, ◌∙◌, subst, arith}
+use Rattle.std.specs.Prelude.{slice_index_or}
+use Rattle.std.proofs.lemmas.Option.{slice_get-get_or}
+use Rattle.norm_lang.specs.declared.text.CasEntry.{CasEntry}
+use Rattle.norm_lang.specs.declared.text.Instr.{Instr}
+use Rattle.norm_lang.specs.declared.text.Instr.TheVariants as instr
+use Rattle.norm_lang.specs.declared.text.Reg.TheVariants.{Num, Ref}
+use Rattle.norm_lang.specs.InstructionRules.{is_end_of_other}
+use Rattle.norm_lang.specs.Registers.{reference_in, first_registers, with_count, number_in}
+use Rattle.norm_lang.specs.Local.{Spot, local_step}
+use Rattle.target_code.specs.declared.target.TargetInstr.{TargetInstr}
+use Rattle.target_code.specs.declared.target.TargetInstr.TheVariants.{Plain, Check, Guard}
+use Rattle.target_code.specs.declared.target.Target.{Target}
+use Rattle.caller_parts.specs.declared.call.Reply.TheVariants as replies
+use Rattle.caller_parts.specs.declared.routine.AfterClear.{AfterClear}
+use Rattle.caller_parts.specs.declared.routine.AfterClear.TheVariants as clears
+use Rattle.caller_parts.specs.Settings.{Setting, Fits}
+use Rattle.caller_steps.specs.Entries.{Entry, op_of, code_in, cradle_of, instr_in, new_kind, new_number}
+use Rattle.caller_parts.specs.Operands.{list_of, code_at, instr_at}
+use Rattle.caller_steps.specs.Clearing.{clear_next, restart_next}
+use Rattle.caller_steps.specs.After.{clear_on, cleared, first_spot, hand_at, list_begun, list_ended, method_begun, new_on, plain_stop, restart_on, restarted, settles, stopped, stops, then_goes, with_hand, with_routine, wrap_up_hand}
+use Rattle.caller_steps.specs.Signs.{Moved}
+use Rattle.caller_steps.specs.Belongs.{Belongs, ClaimBelongs, ClearStands, GuardsSlots, HandBelongs, HaveKinds, HoldsSlots, IsSomeOf, NamesSlots, Reaches, has_access, is_check_at}
+use Rattle.caller_parts.specs.declared.routine.Routine.TheVariants.{At}
+use Rattle.target_code.specs.LocalCode.{target_local_at, target_run}
+use Rattle.target_laws.specs.target_runs.Sane.{SaneAt}
+use Rattle.core_runs.proofs.caller_laws.Methods.{Methods, SettingSane, new_fits, zero_count_fits}
+use Rattle.core_runs.proofs.caller_laws.KindSteps.{carried_typed, first_typed}
+use Rattle.core_runs.proofs.caller_laws.Named.{numbered}
+use Rattle.phase_pools.specs.declared.stages.Scheme.TheVariants.{Warned}
+use Rattle.phase_pools.specs.Pools.{claim_begun}
+use Rattle.core_runs.proofs.caller_laws.Pools.{fresh_sweep}
+use Rattle.core_runs.proofs.caller_laws.Reaching.{start_reached}
+use Rattle.core_runs.proofs.caller_laws.Settling.{Comes, run_comes}
+
+-- what an entry holds wherever it runs, but for its place and its registers
+abbrev pub Holds : Target → Setting → Entry → Type 0
+Holds target setting e = record {
+  number : e.number < setting.sizes.callers;
+  op : e.running.call.op < length target.ops;
+  started : NamesSlots setting.sizes.slots e.hand.started;
+  start : e.hand.wrapup ≡ true → HaveKinds target setting (op_of target e) true 0 e.hand.started;
+  guards : GuardsSlots setting.sizes.slots e.hand.guards;
+  cradles : HoldsSlots setting.sizes e.cradles;
+  seen : e.hand.seen ≤ setting.last;
+}
+
+-- what is moved leaves an entry that belongs
+abbrev pub BelongsIn : Target → Setting → Moved → Type 0
+BelongsIn target setting m = Belongs target setting m.entry
+
+-- its place and its registers
+abbrev pub Here : Target → Setting → Entry → Type 0
+Here target setting e = Comes target setting e.running.call.op e.hand.wrapup (record { at = e.hand.at; registers = e.hand.registers })
+
+pub hand_belongs : (target : Target) (setting : Setting) (e : Entry) → Holds target setting e → NamesSlots setting.sizes.slots e.hand.registers → HandBelongs setting e.hand
+hand_belongs target setting e h names = record { registers = names; started = h.started; guards = h.guards; seen = h.seen }
+
+-- at an access of its instruction, and at what follows
+pub at_access : (target : Target) (setting : Setting) (e : Entry) → Holds target setting e → Here target setting e
+    → has_access (instr_in target e) ≡ true → Belongs target setting (with_routine e At)
+at_access target setting e h c has = record { number = h.number; op = h.op; hand = hand_belongs target setting e h c.names; cradles = h.cradles; reaches = c.reached; kinds = record { now = c.kinds; started = h.start }; stands = has }
+
+then_belongs : (target : Target) (setting : Setting) (next : AfterClear) (e : Entry) → Methods target → SettingSane setting → Fits target setting → Holds target setting e → Here target setting e
+    → ClearStands (instr_in target e) e.hand next → Belongs target setting (then_goes target setting.sizes next e)
+then_belongs target setting clears.New e sane some fits h c stands = of (cradle_of e (new_number target e)) refl where
+  begun_claim : ClaimBelongs setting (claim_begun setting.sizes (new_kind target e) Warned)
+  begun_claim = record { kind = (new_fits target setting e.running.call.op e.hand.wrapup e.hand.at sane some fits stands).0; scheme = refl; stands = tt; sweep = fresh_sweep setting Warned }
+
+  of : (j : ℕ) → cradle_of e (new_number target e) ≡ j → Belongs target setting (new_on setting.sizes (new_kind target e) (new_number target e) j e)
+  of zero is = record { number = h.number; op = h.op; hand = hand_belongs target setting e h c.names; cradles = h.cradles; reaches = c.reached; kinds = record { now = c.kinds; started = h.start }; stands = (stands, begun_claim, refl) }
+  of (suc j) is = record { number = h.number; op = h.op; hand = hand_belongs target setting e h c.names; cradles = h.cradles; reaches = c.reached; kinds = record { now = c.kinds; started = h.start }; stands = (stands, refl, (λ null. let z : suc j ≡ 0 = sym is ∙ null in omega (arith, z)), (zero_count_fits target setting e.running.call.op e.hand.wrapup e.hand.at sane fits stands).0) }
+then_belongs target setting clears.WrapUp e sane some fits h c stands = record { number = h.number; op = h.op; hand = hand_belongs target setting e h c.names; cradles = h.cradles; reaches = c.reached; kinds = record { now = c.kinds; started = h.start }; stands = stands }
+then_belongs target setting (clears.Reply reply) e sane some fits h c stands = record { number = h.number; op = h.op; hand = hand_belongs target setting e h c.names; cradles = h.cradles; reaches = c.reached.inside; kinds = tt; stands = tt }
+then_belongs target setting clears.Again e sane some fits h c stands = record { number = h.number; op = h.op; hand = hand_belongs target setting e h c.names; cradles = h.cradles; reaches = c.reached; kinds = record { now = c.kinds; started = h.start }; stands = stands }
+
+pub cleared_belongs : (target : Target) (setting : Setting) (next : AfterClear) (e : Entry) → Methods target → SettingSane setting → Fits target setting → Holds target setting e → Here target setting e
+    → ClearStands (instr_in target e) e.hand next → Belongs target setting (cleared target setting.sizes next e)
+cleared_belongs target setting next e sane some fits h c stands = of (clear_next target next e) refl where
+  of : (o : Option ℕ) → clear_next target next e ≡ o → Belongs target setting (clear_on target setting.sizes next o e)
+  of None is = then_belongs target setting next e sane some fits h c stands
+  of (Some r) is = record { number = h.number; op = h.op; hand = hand_belongs target setting e h c.names; cradles = h.cradles; reaches = c.reached; kinds = record { now = c.kinds; started = h.start }; stands = (stands, subst IsSomeOf (sym is) tt) }
+
+-- what an instruction says of its method
+pub site_of : (target : Target) (e : Entry) (i : TargetInstr) → Methods target → Reaches (code_in target e) e.hand.at e.hand.registers → instr_in target e ≡ Some i → SaneAt target e.hand.wrapup (code_in target e) e.hand.at i
+site_of target e i sane reached is = (sane.code e.running.call.op e.hand.wrapup).each e.hand.at i reached.path.0 is reached.path.1
+
+-- a commit stands in a generator
+in_generator : (wrapup : Bool) (exchanges : List CasEntry) → is_end_of_other wrapup (instr.Commit exchanges) ≡ false → wrapup ≡ false
+in_generator false exchanges own = refl
+in_generator true exchanges own = absurd (let e : true ≡ false = own in cc)
+
+-- so what registers may have there they may have where the wrap-up starts
+commit_carries : (target : Target) (setting : Setting) (made : ℕ) (e : Entry) (exchanges : List CasEntry) → Methods target → Here target setting e → instr_in target e ≡ Some (Plain (instr.Commit exchanges))
+    → HaveKinds target setting (op_of target e) true 0 (with_count e.hand.registers made)
+commit_carries target setting made e exchanges sane c is =
+    carried_typed target setting (op_of target e) e.hand.at e.hand.registers exchanges made
+    (subst (λ (w : Bool). instr_at target e.running.call.op w e.hand.at ≡ Some (Plain (instr.Commit exchanges))) here is)
+    (subst (λ (w : Bool). HaveKinds target setting (op_of target e) w e.hand.at e.hand.registers) here c.kinds)
+  where
+    here : e.hand.wrapup ≡ false
+    here = in_generator e.hand.wrapup exchanges (site_of target e (Plain (instr.Commit exchanges)) sane c.reached is).own.form.own_end
+
+-- a list has ended: the wrap-up's start
+pub ended_belongs : (target : Target) (setting : Setting) (made : ℕ) (e : Entry) (exchanges : List CasEntry) → Methods target → SettingSane setting → Fits target setting → Holds target setting e → Here target setting e
+    → instr_in target e ≡ Some (Plain (instr.Commit exchanges)) → Belongs target setting (list_ended target setting.sizes made e)
+ended_belongs target setting made e exchanges sane some fits h c is =
+    let counts = numbered setting.sizes.slots e.hand.registers (Num 7) made c.names in
+    let carried = commit_carries target setting made e exchanges sane c is in
+    cleared_belongs target setting clears.WrapUp (with_hand e (wrap_up_hand made e.hand)) sane some fits
+    (record { number = h.number; op = h.op; started = counts; start = λ wrapup. carried; guards = h.guards; cradles = h.cradles; seen = h.seen })
+    (record { reached = start_reached (code_in target (with_hand e (wrap_up_hand made e.hand))) (with_count e.hand.registers made) (sane.some e.running.call.op true h.op); names = counts; kinds = carried })
+    (refl, refl)
+
+list_belongs : (target : Target) (setting : Setting) (exchanges : List CasEntry) (e : Entry) → Methods target → SettingSane setting → Fits target setting → Holds target setting e → Here target setting e
+    → instr_in target e ≡ Some (Plain (instr.Commit exchanges)) → BelongsIn target setting (list_begun target setting.sizes exchanges e)
+list_belongs target setting [] e sane some fits h c is = ended_belongs target setting 0 e [] sane some fits h c is
+list_belongs target setting (exchange ∷ exchanges) e sane some fits h c is = record {
+  number = h.number;
+  op = h.op;
+  hand = hand_belongs target setting e h c.names;
+  cradles = h.cradles;
+  reaches = c.reached;
+  kinds = record { now = c.kinds; started = h.start };
+  stands = subst (λ (o : Option TargetInstr). 0 < length (list_of o)) (sym is) (omega arith);
+}
+
+pub in_wrap_up : (wrapup : Bool) → is_end_of_other wrapup instr.ReturnNone ≡ false → wrapup ≡ true
+in_wrap_up true own = refl
+in_wrap_up false own = absurd (let e : true ≡ false = own in cc)
+
+plain_belongs : (target : Target) (setting : Setting) (i : Instr) (e : Entry) → Methods target → SettingSane setting → Fits target setting → Holds target setting e → Here target setting e
+    → instr_in target e ≡ Some (Plain i) → local_step i e.hand.at e.hand.registers ≡ None → BelongsIn target setting (plain_stop target setting.sizes i e)
+plain_belongs target setting (instr.New d kind) e sane some fits h c is ends = cleared_belongs target setting clears.New e sane some fits h c (rw is refl)
+plain_belongs target setting (instr.Commit exchanges) e sane some fits h c is ends = list_belongs target setting exchanges e sane some fits h c is
+plain_belongs target setting (instr.Return a) e sane some fits h c is ends =
+    cleared_belongs target setting (clears.Reply (replies.Number (number_in e.hand.registers a))) e sane some fits h c (in_wrap_up e.hand.wrapup (own e.hand.wrapup (site_of target e (Plain (instr.Return a)) sane c.reached is).own.form.own_end), rw is refl) where
+      own : (w : Bool) → is_end_of_other w (instr.Return a) ≡ false → is_end_of_other w instr.ReturnNone ≡ false
+      own true x = x
+      own false x = x
+plain_belongs target setting instr.ReturnNone e sane some fits h c is ends =
+    cleared_belongs target setting (clears.Reply replies.Nothing) e sane some fits h c (in_wrap_up e.hand.wrapup (site_of target e (Plain instr.ReturnNone) sane c.reached is).own.form.own_end, rw is refl)
+plain_belongs target setting instr.Again e sane some fits h c is ends =
+    cleared_belongs target setting clears.Again e sane some fits h c (in_wrap_up e.hand.wrapup (own e.hand.wrapup (site_of target e (Plain instr.Again) sane c.reached is).own.form.own_end), rw is refl) where
+      own : (w : Bool) → is_end_of_other w instr.Again ≡ false → is_end_of_other w instr.ReturnNone ≡ false
+      own true x = x
+      own false x = x
+plain_belongs target setting (instr.LoadRoot d x) e sane some fits h c is ends = at_access target setting e h c (rw is refl)
+plain_belongs target setting (instr.LoadPick d x n a) e sane some fits h c is ends = at_access target setting e h c (rw is refl)
+plain_belongs target setting (instr.LoadField d a f) e sane some fits h c is ends = at_access target setting e h c (rw is refl)
+plain_belongs target setting (instr.Put a f b) e sane some fits h c is ends = at_access target setting e h c (rw is refl)
+plain_belongs target setting (instr.Cas exchange l) e sane some fits h c is ends = at_access target setting e h c (rw is refl)
+plain_belongs target setting (instr.Set d n) e sane some fits h c is ends = absurd cc
+plain_belongs target setting (instr.Mov d a) e sane some fits h c is ends = absurd cc
+plain_belongs target setting (instr.Add d a b) e sane some fits h c is ends = absurd cc
+plain_belongs target setting (instr.Sub d a b) e sane some fits h c is ends = absurd cc
+plain_belongs target setting (instr.Rem d a n) e sane some fits h c is ends = absurd cc
+plain_belongs target setting (instr.Mark d a) e sane some fits h c is ends = absurd cc
+plain_belongs target setting (instr.Unmark d a) e sane some fits h c is ends = absurd cc
+plain_belongs target setting (instr.Null d) e sane some fits h c is ends = absurd cc
+plain_belongs target setting (instr.Jump l) e sane some fits h c is ends = absurd cc
+plain_belongs target setting (instr.IfEq a b l) e sane some fits h c is ends = absurd cc
+plain_belongs target setting (instr.IfLess a b l) e sane some fits h c is ends = absurd cc
+plain_belongs target setting (instr.IfMarked a l) e sane some fits h c is ends = absurd cc
+
+pub stopped_belongs : (target : Target) (setting : Setting) (e : Entry) → Methods target → SettingSane setting → Fits target setting → Holds target setting e → Here target setting e
+    → target_local_at (instr_in target e) e.hand.at e.hand.registers ≡ None → BelongsIn target setting (stopped target setting.sizes e)
+stopped_belongs target setting e sane some fits h c ends = of (instr_in target e) refl ends where
+  of : (o : Option TargetInstr) → instr_in target e ≡ o → target_local_at o e.hand.at e.hand.registers ≡ None → BelongsIn target setting (stops target setting.sizes o e)
+  of None is none = absurd (let there : instr_in target e ≡ Some (slice_index_or (code_in target e) e.hand.at Check) = slice_get-get_or (code_in target e) e.hand.at Check c.reached.inside in cc)
+  of (Some Check) is none = at_access target setting e h c (rw is refl)
+  of (Some (Guard r)) is none = at_access target setting e h c (rw is refl)
+  of (Some (Plain i)) is none = plain_belongs target setting i e sane some fits h c is none
+
+-- local code from a spot on
+pub settles_belongs : (target : Target) (setting : Setting) (spot : Spot) (e : Entry) → Methods target → SettingSane setting → Fits target setting → Holds target setting e
+    → Comes target setting e.running.call.op e.hand.wrapup spot → BelongsIn target setting (settles target setting.sizes spot e)
+settles_belongs target setting spot e sane some fits h c =
+    let method = sane.code e.running.call.op e.hand.wrapup in
+    let code = code_in target e in
+    stopped_belongs target setting (with_hand e (hand_at e.hand (target_run code (length code) spot))) sane some fits
+    (record { number = h.number; op = h.op; started = h.started; start = h.start; guards = h.guards; cradles = h.cradles; seen = h.seen })
+    (run_comes target setting e.running.call.op e.hand.wrapup (length code) spot method c)
+    (method.ends spot)
+
+-- the registers with which a generator starts
+pub first_names : (slots : ℕ) (args : List ℕ) → NamesSlots slots (first_registers args)
+first_names slots args = record { numbers = refl; references = refl; within = eight } where
+  eight : (r : ℕ) → (reference_in (first_registers args) (Ref r)).node ≤ slots
+  eight zero = omega arith
+  eight (suc zero) = omega arith
+  eight (suc (suc zero)) = omega arith
+  eight (suc (suc (suc zero))) = omega arith
+  eight (suc (suc (suc (suc zero)))) = omega arith
+  eight (suc (suc (suc (suc (suc zero))))) = omega arith
+  eight (suc (suc (suc (suc (suc (suc zero)))))) = omega arith
+  eight (suc (suc (suc (suc (suc (suc (suc zero))))))) = omega arith
+  eight (suc (suc (suc (suc (suc (suc (suc (suc r)))))))) = omega arith
+
+-- a method runs from its start: a wrap-up where one runs already
+pub begun_belongs : (target : Target) (setting : Setting) (wrapup : Bool) (e : Entry) → Methods target → SettingSane setting → Fits target setting → Holds target setting e → (wrapup ≡ true → e.hand.wrapup ≡ true)
+    → BelongsIn target setting (method_begun target setting.sizes wrapup e)
+begun_belongs target setting wrapup e sane some fits h runs =
+    settles_belongs target setting (first_spot wrapup e.running.call.args e.hand.started) (with_hand e (record e.hand { wrapup = wrapup; accessed = false })) sane some fits
+    (record { number = h.number; op = h.op; started = h.started; start = λ is. h.start (runs is); guards = h.guards; cradles = h.cradles; seen = h.seen })
+    (of wrapup runs) where
+      of : (w : Bool) → (w ≡ true → e.hand.wrapup ≡ true) → Comes target setting e.running.call.op w (first_spot w e.running.call.args e.hand.started)
+      of true runs = record { reached = start_reached (code_at target e.running.call.op true) e.hand.started (sane.some e.running.call.op true h.op); names = h.started; kinds = h.start (runs refl) }
+      of false runs = record {
+        reached = start_reached (code_at target e.running.call.op false) (first_registers e.running.call.args) (sane.some e.running.call.op false h.op);
+        names = first_names setting.sizes.slots e.running.call.args;
+        kinds = first_typed target setting false (op_of target e) 0 e.running.call.args;
+      }
+
+-- after a failed check
+pub restarted_belongs : (target : Target) (setting : Setting) (e : Entry) → Methods target → SettingSane setting → Fits target setting → Holds target setting e → Here target setting e
+    → is_check_at (instr_in target e) ≡ true → BelongsIn target setting (restarted target setting.sizes e)
+restarted_belongs target setting e sane some fits h c stands = of (restart_next target e) refl where
+  of : (o : Option ℕ) → restart_next target e ≡ o → BelongsIn target setting (restart_on target setting.sizes o e)
+  of None is = begun_belongs target setting e.hand.wrapup e sane some fits h (λ runs. runs)
+  of (Some r) is = record { number = h.number; op = h.op; hand = hand_belongs target setting e h c.names; cradles = h.cradles; reaches = c.reached; kinds = record { now = c.kinds; started = h.start }; stands = (stands, subst IsSomeOf (sym is) tt) }

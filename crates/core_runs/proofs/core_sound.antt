@@ -1,0 +1,5 @@
+pub mod Grouped
+pub mod Machine
+pub mod StartSound
+pub mod Stamping
+pub mod Reached

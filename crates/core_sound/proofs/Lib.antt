@@ -1,4 +1,0 @@
-pub mod Machine
-pub mod StartSound
-pub mod Stamping
-pub mod Reached

@@ -1,0 +1,9 @@
+pub mod JoinedWords
+pub mod DocumentParts
+pub mod OwnLines
+pub mod SpelledFront
+pub mod TailSpelled
+pub mod ScriptsSpelled
+pub mod TailPlain
+pub mod SpellingsRead
+pub mod CallsPlaced

@@ -1,0 +1,5 @@
+mod Worked
+pub mod Walks
+pub mod Agreements
+pub mod Verdicts
+pub mod Rejections

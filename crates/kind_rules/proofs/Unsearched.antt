@@ -1,0 +1,36 @@
+-- A kind that no instruction of an operation gives is held by no register.
+use Rattle.std.proofs.Common.{◌≡◌, ◌↔◌, ℕ, zero, suc, Bool, true, false, ◌||◌, List, [], ◌∷◌, Some, None, refl, sym, ap, subst, ◌∙◌}
+use Rattle.std.specs.Prelude.{slice_get, IsTrue}
+use Rattle.std.specs.List.{list_any}
+use Rattle.norm_lang.specs.declared.text.FieldDecl.{FieldDecl}
+use Rattle.norm_lang.specs.declared.text.RootDecl.{RootDecl}
+use Rattle.norm_lang.specs.declared.text.Instr.{Instr}
+use Rattle.norm_lang.specs.declared.text.Op.{Op}
+use Rattle.norm_lang.specs.Kept.{code_of}
+use Rattle.norm_lang.specs.Kinds.{MayHaveKind}
+use Rattle.origin_facts.specs.Steps.{holds_by}
+use Rattle.kind_rules.specs.declared.facts.KindFacts.{KindFacts}
+use Rattle.kind_rules.specs.Effects.{gives, some_give}
+use Rattle.kind_rules.specs.KindsFound.{AreRight, AreKindFacts}
+use Rattle.kind_rules.proofs.Mixing.{or_left, or_right, may_given}
+
+one_of : (p : Instr → Bool) (code : List Instr) (at : ℕ) (i : Instr) → slice_get code at ≡ Some i → p i ≡ true → list_any p code ≡ true
+one_of p [] at i is has = absurd (let no : None ≡ Some i = is in cc)
+one_of p (first ∷ code) zero i is has = let same : first ≡ i = cc in or_left (p first) (list_any p code) (ap p same ∙ has)
+one_of p (first ∷ code) (suc at) i is has = or_right (p first) (list_any p code) (one_of p code at i is has)
+
+module _ (fields : List FieldDecl) (roots : List RootDecl) (op : Op) (t : ℕ) (none : some_give fields roots op t ≡ false) where
+  some : (wrapup : Bool) → list_any (gives fields roots t) (code_of op wrapup) ≡ true → some_give fields roots op t ≡ true
+  some false is = or_left (list_any (gives fields roots t) op.generator) (list_any (gives fields roots t) op.wrapup) is
+  some true is = or_right (list_any (gives fields roots t) op.generator) (list_any (gives fields roots t) op.wrapup) is
+
+  never_given : (wrapup : Bool) (at : ℕ) (i : Instr) → slice_get (code_of op wrapup) at ≡ Some i → gives fields roots t i ≡ true → ⊥
+  never_given wrapup at i stands given = let no : false ≡ true = sym none ∙ some wrapup (one_of (gives fields roots t) (code_of op wrapup) at i stands given) in cc
+
+  none_right : (wrapup : Bool) → AreRight fields roots op wrapup t []
+  none_right wrapup at r inside few =
+      ((λ (is : IsTrue (holds_by [] at r)). absurd (let no : false ≡ true = is in cc)), λ (may : MayHaveKind fields roots op wrapup r at t). absurd (may_given ⊥ fields roots op t never_given wrapup r at may))
+
+pub not_given : (fields : List FieldDecl) (roots : List RootDecl) (op : Op) (t : ℕ) (facts : KindFacts) → some_give fields roots op t ≡ false → facts ≡ record { generator = []; wrapup = [] } → AreKindFacts fields roots op t facts
+not_given fields roots op t facts none is =
+    subst (AreKindFacts fields roots op t) (sym is) (record { generator = none_right fields roots op t none false; wrapup = none_right fields roots op t none true })

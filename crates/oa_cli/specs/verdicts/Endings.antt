@@ -1,0 +1,33 @@
+-- How the program ends.
+use Rattle.std.specs.Prelude.{◌≡◌, ℕ, List, Bool, true, false, Option, IsFalse, ◌⊎◌}
+use Rattle.std.specs.Io.KnownBytes.{Appends}
+use Rattle.oa_text.specs.Causes.{Rose}
+use Rattle.oa_text.specs.Written.{AppendsPrefix}
+use Rattle.statuses.specs.Explanations.{explanation}
+use Rattle.statuses.specs.declared.status.Status.{Status}
+use Rattle.statuses.specs.declared.status.Status.TheVariants.{Done, Partial, Usage, ReadFault, LongInput, BadDocument, Refused, BadShape, WriteFault, Memory, Rejected}
+
+-- a fault of writing
+abbrev pub is_write_fault : Status → Bool
+is_write_fault WriteFault = true
+is_write_fault Done = false
+is_write_fault Partial = false
+is_write_fault Usage = false
+is_write_fault ReadFault = false
+is_write_fault LongInput = false
+is_write_fault (BadDocument line fault) = false
+is_write_fault (Refused refusal) = false
+is_write_fault (BadShape number at) = false
+is_write_fault Memory = false
+is_write_fault (Rejected number at) = false
+
+-- the status is the one given and nothing failed, or what was buffered could not be handed on; after a fault of writing that
+-- isn't tried
+abbrev pub IsFinished : ℕ → ℕ → Status → Status → Type 0
+IsFinished before now status result =
+    ((result ≡ status) × (now ≡ before)) ⊎ (IsFalse (is_write_fault status) × (result ≡ WriteFault) × Rose before now)
+
+-- the whole sentence on the status was written, or writing failed after a prefix of it
+abbrev pub IsExplained : Option (List ℕ) → Option (List ℕ) → ℕ → ℕ → Status → Type 0
+IsExplained old new before now status =
+    Appends old new (explanation status) ⊎ (Rose before now × AppendsPrefix old new (explanation status))

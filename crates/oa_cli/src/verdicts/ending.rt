@@ -1,0 +1,43 @@
+//! How the program ends, and a sentence for a person.
+
+ghost use Rattle.std.specs.Prelude.{◌≡◌};
+ghost use Rattle.std.specs.Io.KnownBytes.{Keeps};
+ghost use Rattle.statuses.specs.Statuses.{number_of};
+ghost use Rattle.oa_cli.specs.verdicts.Endings.{is_write_fault, IsFinished, IsExplained};
+
+use oa_text::StdSink;
+use statuses::{Status, explain, status_number};
+use std::io::Write;
+
+fn is_write_fault(status: Status) -> bool
+    ensures { result ≡ is_write_fault status }
+{
+    matches!(status, Status::WriteFault)
+}
+
+/// Hands on what the writer has buffered, at the end: a fault there is a fault of writing like any other. After a fault
+/// of writing no more is written.
+pub fn finish<W: Write>(out: &mut StdSink<W>, status: Status) -> Status
+    ensures bytes { Keeps out.old.written out.new.written }
+    ensures status { IsFinished out.old.faults out.new.faults status result }
+{
+    if is_write_fault(status) {
+        return status;
+    }
+    match out.flush() {
+        Ok(()) => status,
+        Err(_) => Status::WriteFault,
+    }
+}
+
+/// Writes the sentence on a status to `errors`, for a person, and answers the number with which to end. A fault of `errors`
+/// changes nothing: a prefix of the sentence was written then.
+pub fn conclude<E: Write>(errors: &mut StdSink<E>, status: Status) -> u8
+    ensures number { result ≡ number_of status }
+    ensures explained { IsExplained errors.old.written errors.new.written errors.old.faults errors.new.faults status }
+{
+    match explain(errors, status) {
+        Ok(()) => status_number(status),
+        Err(_) => status_number(status),
+    }
+}

@@ -1,0 +1,13 @@
+pub mod Inside
+pub mod Walks
+pub mod Pools
+pub mod Guards
+pub mod Exchanges
+pub mod Accesses
+pub mod Calling
+pub mod Dispatching
+pub mod Drawing
+pub mod Agreeing
+pub mod Turning
+pub mod Seen
+pub mod Worlds

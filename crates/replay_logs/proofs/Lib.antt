@@ -1,0 +1,6 @@
+mod Following
+mod Looking
+mod Moving
+mod Parting
+mod Starting
+mod Stepping

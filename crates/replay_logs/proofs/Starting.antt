@@ -1,0 +1,100 @@
+-- The start of a replay, and its end.
+use Rattle.std.proofs.Common.{◌≡◌, ◌+◌, true, ℕ, zero, suc, List, [], ◌∷◌, map, length, Some, None, refl, sym, ap, ◌∙◌}
+use Rattle.std.specs.Prelude.{slice_get, Result, Ok, Err}
+use Rattle.std.specs.List.{list_all}
+use Rattle.oa_words.specs.SlotKinds.{together}
+use Rattle.norm_lang.specs.declared.text.Text.{Text}
+use Rattle.source_machine.specs.declared.event.SourceReply.{SourceReply}
+use Rattle.source_machine.specs.Calls.{IsOfSourceRun}
+use Rattle.caller_parts.specs.declared.call.Call.{Call}
+use Rattle.caller_parts.specs.declared.call.Replied.{Replied}
+use Rattle.caller_parts.specs.Pairing.{reply_of}
+use Rattle.caller_steps.specs.Entries.{Entry, RoomyEntry, idle_entry}
+use Rattle.core_runs.specs.Machine.{CoreState, core_start, idle_from}
+use Rattle.core_runs.specs.Scripts.{script_of}
+use Rattle.core_runs.specs.Replays.{Replaying, Refusal, replay_start}
+use Rattle.core_runs.proofs.core_sound.Grouped.{nodes_together}
+use Rattle.core_runs.proofs.core_sound.StartSound.{stand}
+use Rattle.oa_simulation.specs.sim_relation.Callers.{source_reply, replies_of}
+use Rattle.oa_simulation.specs.Shadow.{shadow_start}
+use Rattle.run_logs.specs.Logged.{Recording, is_sized, recording_start}
+use Rattle.run_logs.specs.LogLaws.{recording}
+use Rattle.replay_logs.specs.declared.error.LogError.{LogError}
+use Rattle.replay_logs.specs.declared.error.LogError.TheVariants as errors
+use Rattle.replay_logs.specs.declared.replaying.LoggedRun.{LoggedRun}
+use Rattle.replay_logs.specs.UnderWay.{Terms, Progress, replay_by, core_part, entry_replies, fresh_entries, Suits, Starts, Shows, Tells, Follows}
+use Rattle.replay_logs.specs.Logged.{is_sized_reply, IsLogged, LogsFrom}
+use Rattle.replay_logs.proofs.Following.{Way, done, failed}
+
+-- ---- entries
+
+fresh_cores : (c : ℕ) (scripts : List (List Call)) → map core_part (fresh_entries c scripts) ≡ idle_from c (length scripts)
+fresh_cores c [] = refl
+fresh_cores c (script ∷ scripts) = ap (λ (l : List Entry). idle_entry c ∷ l) (fresh_cores (c + 1) scripts)
+
+fresh_rooms : (c k : ℕ) (scripts : List (List Call)) (e : RoomyEntry) → slice_get (fresh_entries c scripts) k ≡ Some e → length (script_of scripts k) ≡ e.room
+fresh_rooms c k [] e is = absurd (let no : None ≡ Some e = is in cc)
+fresh_rooms c zero (script ∷ scripts) e is = let same : record { core = idle_entry c; room = length script } ≡ e = cc in ap (λ (x : RoomyEntry). x.room) same
+fresh_rooms c (suc k) (script ∷ scripts) e is = fresh_rooms (c + 1) k scripts e is
+
+-- ---- the start
+
+-- the initial nodes are named
+pub log_starts : (t : Terms) (text : Text) (callers nodes : ℕ) → Suits t → text ≡ t.text → callers ≡ t.setting.sizes.callers → nodes ≡ length t.pair.target.nodes
+    → recording_start text callers nodes ≡ recording (shadow_start t.text t.setting)
+log_starts t text callers nodes suits same all is =
+    let stands = stand suits.sound.within suits.own suits.fits in
+    let named : together t.setting.nodes ≡ length t.pair.target.nodes = ap together suits.fits.nodes ∙ nodes_together t.pair.target stands in
+    ap (λ (x : Text). recording_start x callers nodes) same
+    ∙ (ap (λ (n : ℕ). recording_start t.text n nodes) all
+    ∙ ap (λ (n : ℕ). recording_start t.text t.setting.sizes.callers n) (is ∙ sym named))
+
+pub starts_so : (t : Terms) (now : Progress) → Starts t → now.words ≡ (core_start t.pair.target t.setting).words → now.entries ≡ fresh_entries 0 t.scripts
+    → now.log ≡ recording (shadow_start t.text t.setting) → IsOfSourceRun t.text now.log.machine → now.steps ≡ 0 → Shows t now (replay_start (replay_by t))
+starts_so t now starts words entries log source steps = record {
+  state =
+      ap (λ (l : List ℕ). record { words = l; entries = map core_part now.entries }) words
+      ∙ ap (λ (l : List Entry). record { words = (core_start t.pair.target t.setting).words; entries = l }) cores;
+  steps = steps;
+  runs = refl;
+  written = log;
+  rooms = λ c e is. sym (fresh_rooms 0 c t.scripts e (ap (λ (l : List RoomyEntry). slice_get l c) (sym entries) ∙ is));
+  source = source;
+} where
+  cores : map core_part now.entries ≡ idle_from 0 t.setting.sizes.callers
+  cores = ap (map core_part) entries ∙ (fresh_cores 0 t.scripts ∙ ap (idle_from 0) starts.count)
+
+-- ---- the end
+
+all_replies : (entries : List RoomyEntry) → map entry_replies entries ≡ map replies_of (map core_part entries)
+all_replies [] = refl
+all_replies (e ∷ entries) = ap (λ (rest : List (List SourceReply)). replies_of e.core ∷ rest) (all_replies entries)
+
+-- what was written down is answered
+pub logs_so : (t : Terms) (old now : Progress) (next : Way) (u : Unit {0}) (run : LoggedRun) → Follows t old (done u) now next → run ≡ record { events = now.log.events; replies = map entry_replies now.entries }
+    → list_all is_sized run.events ≡ true → list_all (list_all is_sized_reply) run.replies ≡ true → LogsFrom t old next (Ok run)
+logs_so t old now next u run follows is sized numbers = record { each = λ r shows. of (next r) refl (follows.each r shows) } where
+  of : {r : Replaying} (o : Result Replaying Refusal) → next r ≡ o → Tells t (done u) now o → IsLogged (replay_by t) t.text (next r) (Ok run)
+  of (Ok later) given shows = record {
+    replaying = later;
+    is = given;
+    events = ap (λ (x : LoggedRun). x.events) is ∙ ap (λ (l : Recording). l.events) shows.written;
+    replies = ap (λ (x : LoggedRun). x.replies) is ∙ (all_replies now.entries ∙ ap (λ (s : CoreState). map replies_of s.entries) shows.state);
+    sized = sized;
+    numbers = numbers;
+  }
+  of (Err refusal) given none = absurd none
+
+-- and so is why there is nothing
+pub logs_none : (t : Terms) (old now : Progress) (next : Way) (error : LogError) → Follows t old (failed error) now next → LogsFrom t old next (Err error)
+logs_none t old now next errors.Memory follows = record { each = λ r shows. tt }
+logs_none t old now next (errors.StepOfNobody steps) follows = record { each = λ r shows. follows.each r shows }
+logs_none t old now next (errors.LongReplay steps) follows = record { each = λ r shows. follows.each r shows }
+
+pub memory_none : (t : Terms) (old : Progress) (next : Way) → LogsFrom t old next (Err errors.Memory)
+memory_none t old next = record { each = λ r shows. tt }
+
+-- the replies of an entry, one by one
+pub replies_so : (replies : List Replied) → map source_reply (map reply_of replies) ≡ map (λ (replied : Replied). source_reply replied.reply) replies
+replies_so [] = refl
+replies_so (replied ∷ replies) = ap (λ (rest : List SourceReply). source_reply replied.reply ∷ rest) (replies_so replies)

@@ -1,0 +1,8 @@
+use Rattle.std.proofs.Common.{sym}
+use Rattle.replay_logs.proofs.Stepping.{step_follows}
+use Rattle.replay_logs.proofs.progress.Terms.step_of.Goals as goal
+
+pub returns-clause-followed : goal.returns-clause-followed
+returns-clause-followed c =
+    step_follows c.args.self.now c.args.caller c.args.now.now c.move_in.new.now c.count.new.now tt c.requires.under_way.suits (sym c.if-not-has_next.ensures) (sym c.if-is_at_limit.ensures)
+    c.in_ok-move_in.ensures.moved c.count.ensures

@@ -1,0 +1,11 @@
+use Rattle.std.proofs.Common.{◌≡◌, true, map, take}
+use Rattle.std.specs.List.{list_all}
+use Rattle.oa_simulation.specs.sim_relation.Callers.{source_reply}
+use Rattle.replay_logs.specs.Logged.{is_sized_reply}
+use Rattle.replay_logs.proofs.replies.source_replies.Given as goal
+
+abbrev pub invariant-loop-reply : goal.invariant-loop-reply
+invariant-loop-reply l = record {
+  same : l.list ≡ map source_reply (take l.reply-index l.replies);
+  sized : list_all is_sized_reply l.list ≡ true;
+}

@@ -1,0 +1,6 @@
+mod Lengthening
+mod Made
+mod Shaped
+mod Shortness
+mod Spelling
+mod Telling

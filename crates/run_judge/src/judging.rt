@@ -1,0 +1,55 @@
+//! Judging a certificate.
+
+ghost use Rattle.std.specs.Prelude.{◌≡◌, length, IfOk};
+ghost use Rattle.documents.specs.DocumentLimits.{IsWithinDocumentLimits};
+ghost use Rattle.run_judge.specs.Judged.{IsReadied, IsJudged, IsMeant};
+
+use certificates::Certificate;
+use documents::Document;
+use event_judge::{Verdict, judge_events};
+use norm_check::{Normal, check};
+use script_plans::{RunFault, plan_of};
+use std::alloc::Global;
+
+/// The text of a document that can be run.
+fn readied(alloc: Global, document: &Document) -> Result<Normal, RunFault>
+    requires { IsWithinDocumentLimits document.now }
+    ensures { IsReadied document.now result }
+{
+    let plan = plan_of(alloc, document)?;
+    drop(plan);
+    let normal = check(alloc, document.text.copy(alloc)?)?;
+    Ok(normal)
+}
+
+/// What is found of a certificate: `Accepted` exactly where its events are a source run of the text that begins the calls of the
+/// scripts in order and agrees with the replies; else 1 where an event isn't enabled, 2 where one begins another call than the next of its
+/// caller's script, with its place, and 3 where the replies of a caller don't agree, with the first such. The first event that shows 2 or 1
+/// decides, 2 before 1.
+///
+/// Its document's text is within the limits of texts, each of its scripts has at most 100,000 calls, each turn counts at least 1, and it has a
+/// list of replies for each script: a certificate that was read has all this.
+///
+/// # Errors
+///
+/// `Refused` exactly where the text isn't in normal form, with the first rule that is broken. Else `Shape` exactly where the document's shape
+/// is refused, with the first fault, 1 to 9. `Memory` where memory runs out, be it before one of these.
+#[tactic(auto, using(crate::proofs::Shaped::some_scripts, crate::proofs::Shaped::few_scripts, crate::proofs::Shaped::means))]
+pub fn judge(alloc: Global, certificate: &Certificate) -> Result<Verdict, RunFault>
+    requires within { IsWithinDocumentLimits certificate.now.document }
+    requires replies { length certificate.now.replies ≡ length certificate.now.document.scripts }
+    ensures judged { IsJudged certificate.now result }
+    ensures means { IfOk result (IsMeant certificate.now) }
+{
+    let document = &certificate.document;
+    let normal = readied(alloc, document)?;
+    let scripts = document.scripts.items();
+    let verdict = judge_events(
+        alloc,
+        &normal,
+        scripts,
+        certificate.events.items(),
+        certificate.replies.items(),
+    )?;
+    Ok(verdict)
+}

@@ -1,0 +1,247 @@
+-- The lines of a document's report, where its text is a shipped one, show calls that have a legal order.
+use Rattle.std.proofs.Common.{◌≡◌, ◌≢◌, ◌≤◌, ◌<◌, ℕ, zero, suc, ◌+◌, ◌==◌, Bool, true, false, List, [], ◌∷◌, ◌++◌, length, map, take, drop, Option, Some, None, inl, inr, ⊎_elim, refl, sym, ap, ◌∙◌, subst, arith}
+use Rattle.std.proofs.lemmas.List.{length-map, length-append, length-take-le}
+use Rattle.std.proofs.lemmas.Bool.{cases_lt}
+use Rattle.std.proofs.lemmas.Bool.Decides.{nat_tests}
+use Rattle.std.specs.Prelude.{slice_get, slice_index, slice_index_or, if◌then◌else◌}
+use Rattle.norm_lang.specs.declared.text.Op.{Op}
+use Rattle.source_machine.specs.declared.event.SourceReply.{SourceReply}
+use Rattle.source_machine.specs.declared.event.SourceReply.TheVariants as source_replies
+use Rattle.source_machine.specs.Run.{source_replies as replies_in}
+use Rattle.caller_parts.specs.declared.call.Call.{Call}
+use Rattle.caller_parts.specs.declared.call.Reply.{Reply}
+use Rattle.caller_parts.specs.declared.call.Reply.TheVariants as replies
+use Rattle.caller_parts.specs.declared.call.Running.{Running}
+use Rattle.caller_parts.specs.Pairing.{run_of}
+use Rattle.caller_steps.specs.Entries.{Entry, is_idle}
+use Rattle.core_runs.specs.Histories.{running_of, calls_in}
+use Rattle.core_runs.specs.Scripts.{script_of, AreOfScript, HasEnded}
+use Rattle.oa_simulation.specs.sim_relation.Callers.{source_reply, replies_of}
+use Rattle.oa_simulation.specs.Statements.{AgreesWith}
+use Rattle.run_laws.specs.begin_laws.Begins.{BeginsScript}
+use Rattle.documents.specs.declared.document.ScriptCall.{ScriptCall}
+use Rattle.script_plans.specs.Shapes.{op_number}
+use Rattle.script_plans.specs.Plans.{call_of}
+use Rattle.document_runs.specs.declared.report.Answer.{Answer}
+use Rattle.document_runs.specs.declared.report.Answer.TheVariants as answers
+use Rattle.document_runs.specs.Reports.{lines_from, all_lines}
+use Rattle.histories.specs.declared.call.Call as told
+use Rattle.histories.specs.declared.call.Action.{Action}
+use Rattle.histories.specs.declared.call.Answer as shown
+use Rattle.histories.specs.declared.call.Answer.TheVariants.{NoEffect, Spent}
+use Rattle.histories.specs.Histories.{calls_of}
+use Rattle.legal_histories.specs.Told.{AnswerTold, IsAsked, AreTold}
+use Rattle.script_driver.specs.report_laws.Legal.{answer_shown, Shows, AreShown}
+use Rattle.script_driver.proofs.report_laws.Naming.{AllAsk, EachAsks}
+
+-- ---- the calls that lines show
+
+module _ (action : ℕ → ℕ → Action) (ops : List Op) where
+  abbrev pub it_of : ℕ → ScriptCall → Answer → told.Call
+  it_of c call answer = record { caller = c; action = action (op_number ops call.name) (slice_index call.args 0); answer = answer_shown answer }
+
+  abbrev pub told_from : (ℕ → Answer) → ℕ → ℕ → List ScriptCall → List told.Call
+  told_from answer c i [] = []
+  told_from answer c i (call ∷ script) = it_of c call (answer i) ∷ told_from answer c (i + 1) script
+
+  abbrev pub all_told : (ℕ → ℕ → Answer) → ℕ → List (List ScriptCall) → List told.Call
+  all_told answer c [] = []
+  all_told answer c (script ∷ scripts) = told_from (answer c) c 0 script ++ all_told answer (c + 1) scripts
+
+  shown_from : (answer : ℕ → Answer) (c i : ℕ) (script : List ScriptCall) → AllAsk action ops script → AreShown (lines_from answer c i script) (told_from answer c i script)
+  shown_from answer c i [] ask = tt
+  shown_from answer c i (call ∷ script) ask = (record { caller = refl; action = ask.0; answer = refl }, shown_from answer c (i + 1) script ask.1)
+
+  pub all_shown : (answer : ℕ → ℕ → Answer) (c : ℕ) (scripts : List (List ScriptCall)) → EachAsks action ops scripts → AreShown (all_lines answer c scripts) (all_told answer c scripts)
+  all_shown answer c [] ask = tt
+  all_shown answer c (script ∷ scripts) ask = with_more (answer c) c 0 script ask.0 (all_shown answer (c + 1) scripts ask.1)
+    where
+      with_more : (one : ℕ → Answer) (d i : ℕ) (calls : List ScriptCall) → AllAsk action ops calls → AreShown (all_lines answer (c + 1) scripts) (all_told answer (c + 1) scripts)
+          → AreShown (lines_from one d i calls ++ all_lines answer (c + 1) scripts) (told_from one d i calls ++ all_told answer (c + 1) scripts)
+      with_more one d i [] asked more = more
+      with_more one d i (call ∷ calls) asked more = (record { caller = refl; action = asked.0; answer = refl }, with_more one d (i + 1) calls asked.1 more)
+
+  -- ---- those of one caller
+
+  same_test : (a : ℕ) → (a == a) ≡ true
+  same_test a = grind (arith, nat_tests)
+
+  other_test : (a b : ℕ) → b ≢ a → (a == b) ≡ false
+  other_test a b ne = grind (arith, nat_tests)
+
+  own_before : (answer : ℕ → Answer) (c i : ℕ) (script : List ScriptCall) (more : List told.Call) → calls_of c (told_from answer c i script ++ more) ≡ told_from answer c i script ++ calls_of c more
+  own_before answer c i [] more = refl
+  own_before answer c i (call ∷ script) more =
+      ap (λ b. if b then it_of c call (answer i) ∷ calls_of c (told_from answer c (i + 1) script ++ more) else calls_of c (told_from answer c (i + 1) script ++ more)) (same_test c)
+      ∙ ap (λ l. it_of c call (answer i) ∷ l) (own_before answer c (i + 1) script more)
+
+  other_before : (answer : ℕ → Answer) (d c i : ℕ) (script : List ScriptCall) (more : List told.Call) → c ≢ d → calls_of c (told_from answer d i script ++ more) ≡ calls_of c more
+  other_before answer d c i [] more ne = refl
+  other_before answer d c i (call ∷ script) more ne =
+      ap (λ b. if b then it_of d call (answer i) ∷ calls_of c (told_from answer d (i + 1) script ++ more) else calls_of c (told_from answer d (i + 1) script ++ more)) (other_test d c ne)
+      ∙ other_before answer d c (i + 1) script more ne
+
+  before_all : (answer : ℕ → ℕ → Answer) (c k : ℕ) (scripts : List (List ScriptCall)) → c < k → calls_of c (all_told answer k scripts) ≡ []
+  before_all answer c k [] lt = refl
+  before_all answer c k (script ∷ scripts) lt =
+      other_before (answer k) k c 0 script (all_told answer (k + 1) scripts) (λ e. let no : ⊥ = omega (arith, lt, e) in no) ∙ before_all answer c (k + 1) scripts (omega (arith, lt))
+
+  append_none : (xs : List told.Call) → xs ++ [] ≡ xs
+  append_none [] = refl
+  append_none (x ∷ xs) = ap (λ l. x ∷ l) (append_none xs)
+
+  pub told_of : (answer : ℕ → ℕ → Answer) (c k j : ℕ) (scripts : List (List ScriptCall)) (script : List ScriptCall) → c ≡ k + j → slice_get scripts j ≡ Some script
+      → calls_of c (all_told answer k scripts) ≡ told_from (answer c) c 0 script
+  told_of answer c k j [] script is there = absurd (let z : None ≡ Some script = there in cc)
+  told_of answer c k zero (s ∷ scripts) script is there =
+      let same : c ≡ k = omega (arith, is) in
+      let here : s ≡ script = (let z : Some s ≡ Some script = there in cc) in
+      ap (λ i. calls_of c (told_from (answer i) i 0 s ++ all_told answer (i + 1) scripts)) (sym same) ∙ (own_before (answer c) c 0 s (all_told answer (c + 1) scripts)
+      ∙ (ap (λ l. told_from (answer c) c 0 s ++ l) (before_all answer c (c + 1) scripts (omega arith)) ∙ (append_none (told_from (answer c) c 0 s) ∙ ap (λ l. told_from (answer c) c 0 l) here)))
+  told_of answer c k (suc j) (s ∷ scripts) script is there =
+      other_before (answer k) k c 0 s (all_told answer (k + 1) scripts) (λ e. let no : ⊥ = omega (arith, is, e) in no) ∙ told_of answer c (k + 1) j scripts script (omega (arith, is)) there
+
+  pub none_of : (answer : ℕ → ℕ → Answer) (c k : ℕ) (scripts : List (List ScriptCall)) → k + length scripts ≤ c → calls_of c (all_told answer k scripts) ≡ []
+  none_of answer c k [] le = refl
+  none_of answer c k (s ∷ scripts) le =
+      other_before (answer k) k c 0 s (all_told answer (k + 1) scripts) (λ e. let no : ⊥ = omega (arith, le, e) in no) ∙ none_of answer c (k + 1) scripts (omega (arith, le))
+
+-- ---- what is known of the answers to a caller's calls
+
+-- calls that were begun are the first of a script
+abbrev pub Front : List Call → List Call → Type 0
+Front [] calls = Unit {0}
+Front (x ∷ begun) [] = ⊥
+Front (x ∷ begun) (y ∷ calls) = (x ≡ y) × Front begun calls
+
+-- from the call at an index on, by the calls from there on that were begun, and their replies
+pub record Answered (answer : ℕ → Answer) (i : ℕ) (begun : List Call) (got : List SourceReply) : Type 0 where
+  pub replied : (k j : ℕ) (reply : Reply) → k ≡ i + j → answer k ≡ answers.Replied reply → slice_get got j ≡ Some (source_reply reply)
+  pub spent : (k j : ℕ) → k ≡ i + j → answer k ≡ answers.Spent → j < length begun
+  pub unreached : (k j : ℕ) → k ≡ i + j → answer k ≡ answers.Unreached → length begun ≤ j
+  pub few : length got ≤ length begun
+
+next_got : (got : List SourceReply) (j : ℕ) → slice_get (drop 1 got) j ≡ slice_get got (suc j)
+next_got [] j = refl
+next_got (x ∷ got) j = refl
+
+later : (answer : ℕ → Answer) (i : ℕ) (x : Call) (begun : List Call) (got : List SourceReply) → Answered answer i (x ∷ begun) got → Answered answer (i + 1) begun (drop 1 got)
+later answer i x begun got h = record {
+  replied = λ k j reply is a. next_got got j ∙ h.replied k (suc j) reply (omega (arith, is)) a;
+  spent = λ k j is a. let lt = h.spent k (suc j) (omega (arith, is)) a in omega (arith, lt);
+  unreached = λ k j is a. let le = h.unreached k (suc j) (omega (arith, is)) a in omega (arith, le);
+  few = fewer got h.few;
+} where
+  fewer : (rs : List SourceReply) → length rs ≤ length (x ∷ begun) → length (drop 1 rs) ≤ length begun
+  fewer [] le = omega arith
+  fewer (r ∷ rs) le = omega (arith, le)
+
+none_later : (answer : ℕ → Answer) (i : ℕ) → Answered answer i [] [] → Answered answer (i + 1) [] []
+none_later answer i h = record {
+  replied = λ k j reply is a. h.replied k (suc j) reply (omega (arith, is)) a;
+  spent = λ k j is a. let lt = h.spent k (suc j) (omega (arith, is)) a in let no : ⊥ = omega (arith, lt) in absurd no;
+  unreached = λ k j is a. omega arith;
+  few = omega arith;
+}
+
+-- ---- one call
+
+no_effect : (answer : ℕ → Answer) (i : ℕ) → Answered answer i [] [] → (a : Answer) → answer i ≡ a → answer_shown a ≡ NoEffect
+no_effect answer i h (answers.Replied reply) is = absurd (let z : None ≡ Some (source_reply reply) = h.replied i 0 reply (omega arith) is in cc)
+no_effect answer i h answers.Spent is = let lt = h.spent i 0 (omega arith) is in let no : ⊥ = omega (arith, lt) in absurd no
+no_effect answer i h answers.Unreached is = refl
+
+is_spent : (answer : ℕ → Answer) (i : ℕ) (x : Call) (begun : List Call) → Answered answer i (x ∷ begun) [] → (a : Answer) → answer i ≡ a → answer_shown a ≡ Spent
+is_spent answer i x begun h (answers.Replied reply) is = absurd (let z : None ≡ Some (source_reply reply) = h.replied i 0 reply (omega arith) is in cc)
+is_spent answer i x begun h answers.Spent is = refl
+is_spent answer i x begun h answers.Unreached is = let le = h.unreached i 0 (omega arith) is in let no : ⊥ = omega (arith, le) in absurd no
+
+told_reply : (reply : Reply) → AnswerTold (source_reply reply) (answer_shown (answers.Replied reply))
+told_reply (replies.Number n) = refl
+told_reply replies.Nothing = tt
+told_reply replies.Full = tt
+told_reply (replies.Phases p) = tt
+
+any_spent : (reply : SourceReply) → AnswerTold reply Spent
+any_spent (source_replies.Number v) = tt
+any_spent source_replies.Nothing = tt
+any_spent source_replies.Full = tt
+any_spent (source_replies.Phases p) = tt
+
+answer_told : (answer : ℕ → Answer) (i : ℕ) (x : Call) (begun : List Call) (r : SourceReply) (got : List SourceReply) → Answered answer i (x ∷ begun) (r ∷ got) → (a : Answer) → answer i ≡ a → AnswerTold r (answer_shown a)
+answer_told answer i x begun r got h (answers.Replied reply) is =
+    let same : r ≡ source_reply reply = (let z : Some r ≡ Some (source_reply reply) = h.replied i 0 reply (omega arith) is in cc) in
+    subst (λ y. AnswerTold y (answer_shown (answers.Replied reply))) (sym same) (told_reply reply)
+answer_told answer i x begun r got h answers.Spent is = any_spent r
+answer_told answer i x begun r got h answers.Unreached is = let le = h.unreached i 0 (omega arith) is in let no : ⊥ = omega (arith, le) in absurd no
+
+-- ---- a caller's calls
+
+module _ (action : ℕ → ℕ → Action) (ops : List Op) (c : ℕ) (answer : ℕ → Answer) where
+  asked : (x : Call) (call : ScriptCall) → x ≡ call_of ops call → action x.op (slice_index x.args 0) ≡ action (op_number ops call.name) (slice_index call.args 0)
+  asked x call is = ap (λ (y : Call). action y.op (slice_index y.args 0)) is
+
+  pub are_told : (script : List ScriptCall) (i : ℕ) (begun : List Call) (got : List SourceReply) → Front begun (map (call_of ops) script) → Answered answer i begun got → AreTold action begun got (told_from action ops answer c i script)
+  are_told [] i [] [] front h = tt
+  are_told [] i [] (r ∷ got) front h = let few = h.few in let no : ⊥ = omega (arith, few) in absurd no
+  are_told [] i (x ∷ begun) got front h = absurd front
+  are_told (call ∷ script) i [] [] front h = (no_effect answer i h (answer i) refl, are_told script (i + 1) [] [] tt (none_later answer i h))
+  are_told (call ∷ script) i [] (r ∷ got) front h = let few = h.few in let no : ⊥ = omega (arith, few) in absurd no
+  are_told (call ∷ script) i (x ∷ begun) [] front h = (asked x call front.0, is_spent answer i x begun h (answer i) refl, are_told script (i + 1) begun [] front.1 (later answer i x begun [] h))
+  are_told (call ∷ script) i (x ∷ begun) (r ∷ got) front h = (asked x call front.0, answer_told answer i x begun r got h (answer i) refl, are_told script (i + 1) begun got front.1 (later answer i x begun (r ∷ got) h))
+
+-- ---- begun calls, and their count
+
+all_front : (calls : List Call) → Front calls calls
+all_front [] = tt
+all_front (x ∷ calls) = (refl, all_front calls)
+
+take_front : (n : ℕ) (calls : List Call) → Front (take n calls) calls
+take_front zero calls = tt
+take_front (suc n) [] = tt
+take_front (suc n) (x ∷ calls) = (refl, take_front n calls)
+
+few_taken : (fuel : ℕ) (script : List Call) (taken : List Running) → AreOfScript fuel script taken → length taken ≤ length script
+few_taken fuel script [] of = omega arith
+few_taken fuel [] (x ∷ taken) of = absurd of
+few_taken fuel (call ∷ script) (x ∷ taken) of = let more = few_taken fuel script taken of.2 in omega (arith, more)
+
+-- what is begun of a script, by the calls that were taken
+pub record Begun (script : List Call) (begun : List Call) (count : ℕ) : Type 0 where
+  pub front : Front begun script
+  pub length : length begun ≡ count
+
+pub begun_is : (fuel : ℕ) (e : Entry) (idle : Bool) (script : List Call) (taken : List Running) (begun : List Call) → map run_of e.replies ++ running_of idle e ≡ taken → AreOfScript fuel script taken
+    → HasEnded fuel script taken idle → BeginsScript idle script e begun → Begun script begun (length taken)
+begun_is fuel e true script taken begun kept of ended begins = record { front = subst (λ b. Front b script) (sym begins) (all_front script); length = ap length begins ∙ sym ended }
+begun_is fuel e false script taken begun kept of ended begins =
+    let few = few_taken fuel script taken of in
+    let count : length e.replies + 1 ≡ length taken = sym (length-append (map run_of e.replies) (e.running ∷ []) ∙ ap (λ n. n + 1) (length-map e.replies run_of)) ∙ ap length kept in
+    record {
+      front = subst (λ b. Front b script) (sym begins) (take_front (length e.replies + 1) script);
+      length = ap length begins ∙ (length-take-le (length e.replies + 1) script (omega (arith, few, count)) ∙ count);
+    }
+
+one_longer : (xs : List SourceReply) (x : SourceReply) → length (xs ++ x ∷ []) ≡ length xs + 1
+one_longer [] x = refl
+one_longer (y ∷ xs) x = let more = one_longer xs x in omega (arith, more)
+
+-- no more replies than calls
+pub few_replies : (e : Entry) (idle : Bool) (taken : List Running) (got : List SourceReply) → map run_of e.replies ++ running_of idle e ≡ taken → AgreesWith idle (replies_of e) got → length got ≤ length taken
+few_replies e idle taken got kept agrees = by idle kept agrees
+  where
+    own : length (replies_of e) ≡ length e.replies
+    own = length-map e.replies (λ replied. source_reply replied.reply)
+
+    taken_is : (b : Bool) → map run_of e.replies ++ running_of b e ≡ taken → length e.replies + length (running_of b e) ≡ length taken
+    taken_is b same = sym (length-append (map run_of e.replies) (running_of b e) ∙ ap (λ n. n + length (running_of b e)) (length-map e.replies run_of)) ∙ ap length same
+
+    by : (b : Bool) → map run_of e.replies ++ running_of b e ≡ taken → AgreesWith b (replies_of e) got → length got ≤ length taken
+    by true same is = let a = ap length is in let n = taken_is true same in let o = own in omega (arith, a, n, o)
+    by false same (inl is) = let a = ap length is in let n = taken_is false same in let o = own in omega (arith, a, n, o)
+    by false same (inr more) = let a = ap length more.1 in let l = one_longer (replies_of e) more.0 in let n = taken_is false same in let o = own in omega (arith, a, l, n, o)
+
+pub script_there : (ops : List Op) (scripts : List (List ScriptCall)) (c : ℕ) (script : List ScriptCall) → slice_get scripts c ≡ Some script → script_of (map (map (call_of ops)) scripts) c ≡ map (call_of ops) script
+script_there ops [] c script there = absurd (let z : None ≡ Some script = there in cc)
+script_there ops (s ∷ scripts) zero script there = let same : s ≡ script = (let z : Some s ≡ Some script = there in cc) in ap (map (call_of ops)) same
+script_there ops (s ∷ scripts) (suc c) script there = script_there ops scripts c script there

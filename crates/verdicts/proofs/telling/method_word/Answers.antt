@@ -1,5 +1,0 @@
-use Rattle.std.proofs.Common.{rules}
-use Rattle.verdicts.proofs.telling.method_word.Goals as goal
-
-pub returns-then-wrapup : goal.returns-then-wrapup
-returns-then-wrapup c = search rules
