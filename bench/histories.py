@@ -1,9 +1,10 @@
 #!/usr/bin/env python3
 """Runs small random documents of the set, the queue, and two stacks with nodes of two kinds on threads, and looks for one legal order of their calls.
 
-usage: bench/histories.py [SECONDS [PROGRAM [SEED [JUDGE [SLOTS]]]]]
+usage: bench/histories.py [SECONDS [PROGRAM [SEED [JUDGE [SLOTS [COMMAND]]]]]]
 
-Eight callers share a row with few slots to spare, three in most documents, or SLOTS in each. In a third of them calls have little fuel, so that
+The documents are run by the command `run`, or by COMMAND, which is `epochs`. Eight callers share a row with few slots to spare, three in most documents, or SLOTS
+in each if that isn't 0. In a third of them calls have little fuel, so that
 callers stop in the middle of a call and stand still, with the guards and cradles that they have, while the others go on. A run is legal where the
 calls can be put in one order, each caller's in its own, in which each reply is that of a set, a queue or two stacks. A call that is printed as `spent` may
 have had its effect or not; one that is `full`, `phases` or `unreached` has none.
@@ -171,7 +172,8 @@ def main():
     program = sys.argv[2] if len(sys.argv) > 2 else "crates/oa/out/oa"
     seed = int(sys.argv[3]) if len(sys.argv) > 3 else time.time_ns()
     judge = sys.argv[4] if len(sys.argv) > 4 else "crates/history_rows/out/history_rows"
-    wanted = int(sys.argv[5]) if len(sys.argv) > 5 else None
+    wanted = int(sys.argv[5]) or None if len(sys.argv) > 5 else None
+    command = sys.argv[6] if len(sys.argv) > 6 else "run"
     for needed in (program, judge):
         if not os.access(needed, os.X_OK):
             print(f"{needed} isn't there: the gate makes it, or `rt run` in its crate's folder", file=sys.stderr)
@@ -179,7 +181,7 @@ def main():
     source, end, runs, three, two_kinds, judged, stopped, full, unsettled = random.Random(seed), time.monotonic() + seconds, 0, 0, 0, 0, 0, 0, 0
     while time.monotonic() < end:
         model, scripts, text = document(source, wanted)
-        run = subprocess.run([program, "run"], input=text.encode(), capture_output=True, timeout=600)
+        run = subprocess.run([program, command], input=text.encode(), capture_output=True, timeout=600)
         answers = answers_in(run.stdout.decode(), scripts)
         legal = answers is not None and is_legal(model, scripts, answers)
         is_small = model != "stacks" and answers is not None and sum(map(len, scripts)) <= MOST_JUDGED

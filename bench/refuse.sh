@@ -29,7 +29,7 @@ every=${1-1} failures=0 started=$SECONDS
 shift || true
 [ $# -gt 0 ] || set -- list queue workload eight 100KB
 for document in "$@"; do
-  commands=(run replay check show compile upgrade 'judge make') unwritten=1
+  commands=(run epochs replay check show compile upgrade 'judge make') unwritten=1
   [ "$document" != workload ] || commands=('workload 8 2' 'workload 8 8')
   case $document in eight | 100KB) unwritten=0 ;; esac
   for command in "${commands[@]}"; do

@@ -1,12 +1,14 @@
 #!/usr/bin/env python3
 """Counts the steps of operations of the shipped texts, each alone and undisturbed: by combined checks, by a check after each load,
-and with one hazard published a read. Run it at the top of the repository; ./oa has to compile.
+under epochs, and with one hazard published a read. Run it at the top of the repository; ./oa has to compile.
 
 A step is one access to one word that callers share. The targets are what `./oa compile` prints. This program isn't proved; it reads
-the targets, rearranges their checks for the other two columns, and interprets them over a memory of its own:
+the targets, rearranges or leaves out their checks for the other three columns, and interprets them over a memory of its own:
 
 - combined: the target as it stands.
 - first scheme: the same instructions and guards; a check after each load and `new`, and after guards.
+- epochs: the text as it is. The operation begins with a load of the phase and a store in the own warning word, and its return
+  stores 0 there.
 - hazards: no guards, no checks, and no load of a warning. Each load of a node is followed by a store of its slot in a hazard word
   and by a second load of the same word, as by hazard pointers (Michael, IEEE TPDS 2004). They are cleared when the operation ends.
 
@@ -83,20 +85,25 @@ def first_scheme(code):
     return laid_out(blocks)
 
 
+def bare(code):
+    return erased(code).instrs
+
+
 def with_hazards(code):
     return laid_out([[instr] + ([["publish", instr[1]]] if instr[0] in LOADS and instr[1][0] == "r" else []) for instr in erased(code).instrs])
 
 
 class Memory:
-    """The words of a text: roots, and the fields of nodes. A reference is a slot and a mark, and (0, False) is null."""
+    """The words of a target, whose nodes are all of one kind: roots, and the fields of nodes. A reference is a slot and a mark, and
+    (0, False) is null."""
 
     def __init__(self, target):
         self.fields, self.roots, self.nodes = [], {}, {}
         for words in map(str.split, target.splitlines()):
             if words[0] == "field":
-                self.fields.append(words[1:])
+                self.fields.append(words[2:4])
             elif words[0] == "root":
-                self.roots[words[1]] = self.value(words[3])
+                self.roots[words[1]] = self.value(words[-1])
             elif words[0] == "node":
                 self.nodes[len(self.nodes) + 1] = dict(zip((name for name, _ in self.fields), map(self.value, words[1:])))
             elif words[0] == "op":
@@ -108,10 +115,10 @@ class Memory:
 
 
 class Caller:
-    """A caller that nobody disturbs. With hazards it loads no warning."""
+    """A caller that nobody disturbs. `way` says what it does beside its code: `warned`, `announced` or `hazards`."""
 
-    def __init__(self, memory, hazards):
-        self.memory, self.hazards, self.steps, self.guards = memory, hazards, 0, {}
+    def __init__(self, memory, way):
+        self.memory, self.way, self.steps, self.guards = memory, way, 0, {}
 
     def store_guard(self, register):
         self.steps += 1
@@ -121,8 +128,19 @@ class Caller:
         self.steps += sum(slot != 0 for slot in self.guards.values())
         self.guards = {}
 
-    def load_warning(self):
-        self.steps += not self.hazards
+    def begin(self):
+        """What comes before the generator: a load of the warning, or a load of the phase and its store."""
+        self.steps += {"warned": 1, "announced": 2, "hazards": 0}[self.way]
+
+    def begin_wrap_up(self):
+        if self.way == "warned":
+            self.clear()
+            self.steps += 1
+
+    def leave(self):
+        """What comes before the reply: the clear, or the store of 0 in the own warning word."""
+        self.clear()
+        self.steps += self.way == "announced"
 
     def word(self, place):
         """Where a word stands, and its key there."""
@@ -152,7 +170,7 @@ class Caller:
         return where[key]
 
     def new(self, register):
-        if not self.hazards:
+        if self.way == "warned":
             self.clear()
         slot = max(self.memory.nodes) + 1
         self.memory.nodes[slot] = {name: (0, False) if kind == "ref" else 0 for name, kind in self.memory.fields}
@@ -221,14 +239,12 @@ class Caller:
         """Makes an operation, and answers its reply and its steps. The shipped wrap-ups keep no reference."""
         self.steps, self.guards = 0, {}
         self.registers = {f"n{i}": value for i, value in enumerate(args)}
-        self.load_warning()
+        self.begin()
         count = self.run(op.generator)
-        if not self.hazards:
-            self.clear()
-        self.load_warning()
+        self.begin_wrap_up()
         self.registers["n7"] = count
         reply = self.run(op.wrapup)
-        self.clear()
+        self.leave()
         return reply, self.steps
 
 
@@ -239,16 +255,16 @@ def compiled(text):
 def columns(target):
     ops = methods_of(target)
     made = lambda scheme: {name: Op(scheme(op.generator), scheme(op.wrapup)) for name, op in ops.items()}
-    return [(made(first_scheme), False), (ops, False), (made(with_hazards), True)]
+    return [(made(first_scheme), "warned"), (ops, "warned"), (made(bare), "announced"), (made(with_hazards), "hazards")]
 
 
 def row(target, prepared, asked, wanted):
     """The steps of calls after others, each column a mean over the calls."""
     means = []
-    for ops, hazards in columns(target):
+    for ops, way in columns(target):
         total = 0
         for call, reply in zip(asked, wanted):
-            caller = Caller(Memory(target), hazards)
+            caller = Caller(Memory(target), way)
             for name, *args in prepared:
                 caller.operate(ops[name], *args)
             answer, steps = caller.operate(ops[call[0]], *call[1:])
@@ -258,26 +274,26 @@ def row(target, prepared, asked, wanted):
     return means
 
 
-def line(what, means):
-    print(f"| {what} | " + " | ".join(f"{mean:.0f}" if mean == int(mean) else f"{mean:.1f}" for mean in means) + " |")
+def line(what, rows):
+    """A line of the table: in each column the steps of one operation after the other."""
+    spelled = lambda mean: f"{mean:.0f}" if mean == int(mean) else f"{mean:.1f}"
+    print(f"| {what} | " + " | ".join(", ".join(map(spelled, column)) for column in zip(*rows)) + " |")
 
 
 def main():
-    print("| Operation | first scheme | combined checks | one hazard a read |\n|---|---|---|---|")
+    print("| Operations | first scheme | combined checks | epochs | one hazard a read |\n|---|---|---|---|---|")
     target = compiled("use list")
-    for count in (1, 10, 100):
+    for count in (10, 100):
         keys = [("insert", key) for key in range(1, count + 1)]
-        nodes = "a list of one node" if count == 1 else f"a list of {count} nodes"
-        line(f"`contains` of the last key, {nodes}", row(target, keys, [("contains", count)], [1]))
-        line(f"`insert` after the last key, {nodes}", row(target, keys, [("insert", count + 1)], [1]))
-        line(f"`remove` of the last key, {nodes}", row(target, keys, [("remove", count)], [1]))
+        calls = [("contains", count), ("insert", count + 1), ("remove", count)]
+        line(f"`contains`, `insert`, `remove` at the end of a list of {count} nodes", [row(target, keys, [call], [1]) for call in calls])
     target = compiled("use set 64")
     keys = [("insert", key) for key in range(100)]
-    calls = [("contains", key) for key in range(100)]
-    line("`contains`, a set of 64 buckets and 100 nodes, mean over its keys", row(target, keys, calls, [1] * 100))
+    asked = [[(name, key) for key in range(first, first + 100)] for name, first in (("contains", 0), ("insert", 100), ("remove", 0))]
+    line("the same on a set of 64 buckets and 100 nodes, means over 100 keys", [row(target, keys, calls, [1] * 100) for calls in asked])
     target = compiled("use queue")
-    line("`enqueue`, one value in the queue", row(target, [("enqueue", 9)], [("enqueue", 8)], [8]))
-    line("`dequeue`, one value in the queue", row(target, [("enqueue", 9)], [("dequeue",)], [9]))
+    calls = [(("enqueue", 8), 8), (("dequeue",), 9)]
+    line("`enqueue`, `dequeue` on a queue of one value", [row(target, [("enqueue", 9)], [call], [reply]) for call, reply in calls])
 
 
 if __name__ == "__main__":

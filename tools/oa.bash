@@ -4,7 +4,7 @@ _oa() {
   if [[ $before == '<' ]]; then
     mapfile -t COMPREPLY < <(compgen -f -X '!*.@(oa|cert)' -- "$word"; compgen -d -- "$word")
   elif [ "$COMP_CWORD" -eq 1 ]; then
-    mapfile -t COMPREPLY < <(compgen -W 'check compile judge replay run show upgrade workload' -- "$word")
+    mapfile -t COMPREPLY < <(compgen -W 'check compile epochs judge replay run show upgrade workload' -- "$word")
   elif [ "${COMP_WORDS[1]}" = judge ] && [ "$COMP_CWORD" -eq 2 ]; then
     mapfile -t COMPREPLY < <(compgen -W 'check make' -- "$word")
   elif [ "${COMP_WORDS[1]}" = workload ] && [ "$COMP_CWORD" -eq 3 ]; then

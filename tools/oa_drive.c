@@ -7,8 +7,12 @@
  *     fifo|bag PUT,TAKE   each number that was put is taken once; of `fifo` those of one caller in their order
  *     cell STORE,READ     a reader finds numbers that were stored, those of one caller in their order, and that of the start before all
  *     sum ADD             each `ADD 1` answers another sum, without gaps
+ *     echo OPS            each call answers its argument
+ *     count PUT,TAKE      each PUT answers its argument, and as many are left to take as were put and not taken
+ *     same CHANGE,READ    each READ answers the same number
+ *     swap SWAP           two calls swap their arguments
  *
- * The last five take SEED CALLS CALLERS KEYS and a count of slots for each kind. The status is 1 where an answer is wrong, or is short. Built with
+ * All but the first three take SEED CALLS CALLERS KEYS and a count of slots for each kind. The status is 1 where an answer is wrong, or is short. Built with
  * OA_REPLAY they make the callers' steps on one thread, in an order that follows from the seed.
  * `replay`, `log` and `run` read from standard input what tools/test_oa2c makes of the end of a document:
  *     slots S ..   phases F L   fuel N   script   call OP ARGUMENT ..   turn step|op|load|check|exchange C N
@@ -442,10 +446,35 @@ static int check_sum(void) {
   return 0;
 }
 
+/* What a call of these modes answers follows from its argument, from that of its partner, or from another's answer. */
+static int check_each(const char *mode, const unsigned *op) {
+  const a_call *first = NULL;
+  for (unsigned c = 0; c < callers; c++)
+    for (size_t at = 0; at < script[c].count; at++) {
+      const a_call *call = &script[c].call[at];
+      unsigned from = call->reply % MOST_CALLERS;
+      uint64_t place = call->reply / MOST_CALLERS;
+      int right = call->reply == call->argument[0];
+      if (is_short(call)) return 1;
+      if (!strcmp(mode, "count") && call->op != op[0]) continue;
+      if (!strcmp(mode, "same") && call->op != op[1]) continue;
+      if (!first) first = call;
+      if (!strcmp(mode, "same")) right = call->reply == first->reply;
+      if (!strcmp(mode, "swap"))
+        right = place > 0 && from < callers && place <= script[from].count && script[from].call[place - 1].reply == call->argument[0];
+      if (call->end == OA_NUMBER && right) continue;
+      printf("%u %zu %s %" PRIu64 ": %d %" PRIu64 "\n", c, at, text_OPERATIONS[call->op].name, call->argument[0], call->end, call->reply);
+      return 1;
+    }
+  return 0;
+}
+
 static int check(const char *mode, const unsigned *op) {
   if (!strcmp(mode, "own")) return check_own();
   if (!strcmp(mode, "sum")) return check_sum();
   if (!strcmp(mode, "cell")) return check_taken(op[0], op[1], 1, 0);
+  if (!strcmp(mode, "count")) return check_each(mode, op) || check_left(op[0], op[1]);
+  if (!strcmp(mode, "echo") || !strcmp(mode, "same") || !strcmp(mode, "swap")) return check_each(mode, op);
   return check_taken(op[0], op[1], !strcmp(mode, "fifo"), 1) || check_left(op[0], op[1]);
 }
 
@@ -481,7 +510,7 @@ static int stress(int count, char **word) {
 }
 
 int main(int count, char **word) {
-  if (count < 2) fail("replay, log, run, own, fifo, bag, cell or sum");
+  if (count < 2) fail("replay, log, run, own, fifo, bag, cell, sum, echo, count, same or swap");
   if (strcmp(word[1], "replay") && strcmp(word[1], "log") && strcmp(word[1], "run")) return stress(count, word);
   read_document();
   open_pool(slots, callers);

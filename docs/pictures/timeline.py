@@ -1,8 +1,8 @@
 #!/usr/bin/env python3
-"""Draws runs as SVG: those told in docs/pictures/*.run, access by access, and any certificate that `oa judge make` writes.
+"""Draws runs as SVG, from the certificates that `oa judge make` writes.
 
-usage: timeline.py                            draws each docs/pictures/*.run and *.cert, as an SVG of its name beside it
-       timeline.py CERTIFICATE [FROM [TO]]    writes the SVG of a certificate to standard output; `-` is standard input
+usage: timeline.py                            draws each docs/pictures/*.cert, with the notes beside it if there are any, as an SVG of its name
+       timeline.py CERTIFICATE [FROM [TO]]    writes the SVG of any certificate to standard output; `-` is standard input
 
 It needs Python alone.
 
@@ -11,27 +11,32 @@ accesses, and names the nodes that it makes; a call that nobody meets is one box
 counted from 0, as `rejected 1 at P` counts them. FROM and TO are such places: only the boxes from the one to the other are drawn. Whether
 such a run is possible isn't asked here: that is what `oa judge check` does.
 
-A .run file tells a run of compiled code, an access a line, in the order of time. Words are named and not addressed. The program keeps
-the words as the accesses leave them, and refuses a line that finds another word than stands there; whether a caller would make
-these accesses it doesn't know. These are the lines, beside empty ones and comments that begin with #:
+Each docs/pictures/*.cert is what `oa judge make` writes of the document that it begins with, up to its line `events`.
+
+NAME.notes beside NAME.cert are no part of the certificate. They tell what a certificate can't: slots, phases, warnings, hazards, and the steps
+on them, an access of compiled code a line, in the order of time. An access that is an event of the certificate says which. It is refused if no
+such event of this caller stands at this place, or if it isn't the next one. Of the certificate are the callers, their calls and replies, and the
+events with their order; all else is believed. Words are named and not addressed. The program keeps them as the accesses leave them, and refuses
+a line that finds another word than stands there. These are the lines, beside empty ones and comments that begin with #:
 
     title TEXT
     story TEXT                             a line below the title
     small NAME                             a second picture, with a row for each part and for each marked access
-    left CALLER | HEADING                  and `right`: a caller's column
+    left CALLER                            and `right`: a caller's column
     word NAME | WIDTH | VALUE              a word with a column of its own, and its value at the start
     also NAME | VALUE                      a word without a column
     part CALLER | TEXT                     a part of the run, in which this caller steps
-    CALLER | load NAME | FOUND | MEANING
-    CALLER | store NAME | VALUE | MEANING
-    CALLER | exchange NAME | EXPECTED -> NEW | MEANING         `EXPECTED -> NEW, finds FOUND` is one that fails
-    CALLER | raise NAME | VALUE, finds FOUND | MEANING         the word becomes the greater of both
-    CALLER | load hazards of CALLER | FOUND, .. | MEANING      its eight hazards, in order: eight steps
+    WHO | load NAME | FOUND | MEANING
+    WHO | store NAME | VALUE | MEANING
+    WHO | exchange NAME | EXPECTED -> NEW | MEANING         `EXPECTED -> NEW, finds FOUND` is one that fails
+    WHO | raise NAME | VALUE, finds FOUND | MEANING         the word becomes the greater of both
+    WHO | load hazards of CALLER | FOUND, .. | MEANING      its eight hazards, in order: eight steps
 
-The meaning `..` puts an access into the row of the one before it. A meaning that begins with `!` tells what would do harm, one with
-`*` what makes it safe. The status `retired 1` is that of a slot which was retired in phase 1, `ready 2` of one that was made ready in
-phase 2, and `used 2` of one that was taken when the chain's head had phase 2. `slot 3 in 2` is a head with slot 3 on top and phase 2,
-`none in 2` one with no slot on top.
+WHO is `CALLER begin PLACE`, `CALLER access PLACE` or `CALLER restart PLACE` if the access is that event, and else `CALLER`. Of a `new` it is
+the last store of a zero, of a list without exchanges the load of the warning behind it. The meaning `..` puts an access into the row of the one
+before it. A meaning that begins with `!` tells what would do harm, one with `*` what makes it safe. The status `retired 1` is that of a slot
+which was retired in phase 1, `ready 2` of one that was made ready in phase 2, and `used 2` of one that was taken when the chain's head had
+phase 2. `slot 3 in 2` is a head with slot 3 on top and phase 2, `none in 2` one with no slot on top.
 """
 import glob
 import html
@@ -39,7 +44,7 @@ import os
 import re
 import sys
 
-WIDTH, MARGIN, STEPS = 900, 8, 56  # the whole width, the margin, and the width of the column of steps
+WIDTH, MARGIN, STEPS, PLACES = 900, 8, 56, 84  # the whole width, the margin, and the width of the column of places, without and with notes
 TEXT, SMALL, LINE = 12, 10.5, 15  # sizes of letters, and the height of a line
 INK, PALE, HARM, HELP = "#1a1a1a", "#6b6b6b", "#b3400a", "#0b5aa2"
 NARROW, BROAD = set("iljtfrI.,:;'|!()[]-` \N{NO-BREAK SPACE}"), set("mwMW@%")
@@ -54,26 +59,54 @@ PATTERNS = """<defs>
 
 
 class Row:
-    """What is drawn in one row: a caller's accesses, or the heading of a part."""
+    """What is drawn in one row: a caller's accesses, and the events that they are, by places; or the heading of a part."""
 
     def __init__(self, caller, text, mark="", heading=False):
         self.caller, self.text, self.mark, self.heading = caller, text, mark, heading
-        self.first, self.last, self.accesses = None, None, []
-
-    def add(self, access, steps, before):
-        """An access of so many steps that comes after so many others."""
-        self.accesses.append(access)
-        self.first, self.last = self.first or before + 1, before + steps
+        self.accesses, self.places = [], []
 
     def take(self, row):
         self.accesses += row.accesses
-        self.first, self.last = self.first or row.first, row.last
+        self.places += row.places
 
 
 class Run:
-    def __init__(self):
+    """A certificate with notes: `told` is the place of the last event that a note has told."""
+
+    def __init__(self, events, replies):
+        self.events, self.replies, self.told = events, replies, None
         self.title, self.story, self.small = "", [], None
-        self.sides, self.lanes, self.start, self.rows, self.step = {}, [], {}, [], 0
+        self.sides, self.lanes, self.start, self.rows = {}, [], {}, []
+
+    def tie(self, caller, kind, place):
+        """Returns the place of the event that an access is said to be."""
+        at = int(place)
+        if at >= len(self.events):
+            raise ValueError("the certificate has %d events" % len(self.events))
+        if self.events[at][:2] != (kind, int(caller)):
+            raise ValueError("event %d is `%s %d`" % ((at,) + self.events[at][:2]))
+        if self.told is not None and at != self.told + 1:
+            raise ValueError("the next event is %d" % (self.told + 1))
+        self.told = at
+        return at
+
+    def label(self, places, is_small):
+        """The first and last of some places, and, unless the picture is small, what stands there beside accesses of nodes that are there."""
+        words = [str(places[0]) if len(places) == 1 else "%d\N{EN DASH}%d" % (places[0], places[-1])]
+        for kind, _, rest in (self.events[at] for at in places):
+            word = kind if kind != "access" else "node\N{NO-BREAK SPACE}%s" % rest[0] if rest[0] != "0" else ""
+            words += [word] if word and word not in words and not is_small else []
+        return words[0] + " " + ", ".join(words[1:])
+
+    def calls(self, caller):
+        """The calls of a caller that have events in the picture, each with its reply."""
+        calls, first = [], min(at for row in self.rows for at in row.places)
+        for box in folded(self.events, self.replies):
+            if box.caller == int(caller):
+                begun = calls.pop()[1] if box.before else box.first
+                calls.append((box.call, begun, box.last, box.end))
+        told = ["%s \N{RIGHTWARDS ARROW} %s" % (call, end) for call, begun, last, end in calls if last >= first and begun <= self.told]
+        return ", ".join(call.replace(" ", "\N{NO-BREAK SPACE}") for call in told)
 
 
 def expanded(name, value):
@@ -92,23 +125,23 @@ def access_of(memory, verb, name, value):
                 raise ValueError("%s holds %s" % (word, memory[word]))
         zeros = all(found == "0" for _, found in pairs)
         told = value if len(pairs) == 1 else "all 0" if zeros else ", ".join(found for _, found in pairs if found != "0") + ", else 0"
-        return ("load", [word for word, _ in pairs], None, "load %s: %s" % (name, told)), len(pairs)
+        return "load", [word for word, _ in pairs], None, "load %s: %s" % (name, told)
     given, _, found = value.partition(", finds ")
     if verb == "store":
         memory[name] = given
-        return ("store", [name], given, "store in %s: %s" % (name, given)), 1
+        return "store", [name], given, "store in %s: %s" % (name, given)
     if verb == "raise":
         if memory[name] != found:
             raise ValueError("%s holds %s" % (name, memory[name]))
         memory[name] = str(max(int(found), int(given)))
-        return ("store", [name], memory[name], "raise %s to %s" % (name, given)), 1
+        return "store", [name], memory[name], "raise %s to %s" % (name, given)
     expected, _, new = given.partition(" -> ")
     if verb != "exchange" or memory[name] != (found or expected) or found == expected:
         raise ValueError("%s holds %s" % (name, memory.get(name)))
     if found:
-        return ("fail", [name], None, "exchange %s: expects %s, finds %s" % (name, expected, found)), 1
+        return "fail", [name], None, "exchange %s: expects %s, finds %s" % (name, expected, found)
     memory[name] = new
-    return ("store", [name], new, "exchange %s: %s \N{RIGHTWARDS ARROW} %s" % (name, expected, new)), 1
+    return "store", [name], new, "exchange %s: %s \N{RIGHTWARDS ARROW} %s" % (name, expected, new)
 
 
 def read_line(run, memory, parts):
@@ -120,7 +153,7 @@ def read_line(run, memory, parts):
     elif head == "small":
         run.small = rest
     elif head in ("left", "right"):
-        run.sides[rest] = (head, parts[1])
+        run.sides[rest] = head
     elif head in ("word", "also"):
         memory.update(expanded(rest, parts[-1]))
         if head == "word":
@@ -130,23 +163,27 @@ def read_line(run, memory, parts):
         run.rows.append(Row(rest, parts[1], heading=True))
     else:
         verb, _, name = parts[1].partition(" ")
-        access, steps = access_of(memory, verb, name, parts[2])
+        access = access_of(memory, verb, name, parts[2])
         if parts[3] != "..":
             mark = parts[3][:1] if parts[3][:1] in ("!", "*") else ""
             run.rows.append(Row(head, parts[3].lstrip("!* "), mark))
-        run.rows[-1].add(access, steps, run.step)
-        run.step += steps
+        if run.rows[-1].heading or run.rows[-1].caller != head:
+            raise ValueError("this isn't of the row before it")
+        run.rows[-1].accesses.append(access)
+        if rest:
+            kind, place = rest.split()
+            run.rows[-1].places.append(run.tie(head, kind, place))
 
 
-def read(path):
-    run, memory = Run(), {}
-    for number, line in enumerate(open(path, encoding="ascii"), 1):
-        line = line.strip()
-        if line and not line.startswith("#"):
-            try:
-                read_line(run, memory, [part.strip() for part in line.split("|")])
-            except (ValueError, KeyError, IndexError) as error:
-                sys.exit("%s, line %d: %s" % (path, number, error))
+def read_notes(path, events, replies):
+    run, memory = Run(events, replies), {}
+    with open(path, encoding="ascii") as lines:
+        for number, line in enumerate(map(str.strip, lines), 1):
+            if line and not line.startswith("#"):
+                try:
+                    read_line(run, memory, [part.strip() for part in line.split("|")])
+                except (ValueError, KeyError, IndexError) as error:
+                    sys.exit("%s, line %d: %s" % (path, number, error))
     return run
 
 
@@ -234,8 +271,8 @@ def page(height, title, story, parts, patterns=()):
 class Drawing:
     def __init__(self, run, rows):
         self.run, self.rows, self.sheet, self.y = run, rows, Sheet(), 0.0
-        self.column = (WIDTH - 2 * MARGIN - STEPS - sum(width for _, width in run.lanes)) / 2
-        self.left = MARGIN + STEPS
+        self.column = (WIDTH - 2 * MARGIN - PLACES - sum(width for _, width in run.lanes)) / 2
+        self.left = MARGIN + PLACES
         x, self.lane = self.left + self.column, {}
         for name, width in run.lanes:
             self.lane[name] = (x + width / 2, width)
@@ -244,7 +281,7 @@ class Drawing:
         self.values, self.turns = dict(run.start), {name: [] for name in run.start}  # from which height on a word has which value
 
     def is_left(self, caller):
-        return self.run.sides[caller][0] == "left"
+        return self.run.sides[caller] == "left"
 
     def corner(self, caller):
         return self.left if self.is_left(caller) else self.right
@@ -266,11 +303,12 @@ class Drawing:
         for name, (x, _) in self.lane.items():
             for at, line in enumerate(lines[name]):
                 sheet.text(x, self.y + 28 + 13 * at, line, SMALL, anchor="middle")
-        for caller, (_, heading) in self.run.sides.items():
-            for at, line in enumerate(wrapped(heading, TEXT, self.column - 20, "bold")):
+        heads = {caller: wrapped("caller %s: %s" % (caller, self.run.calls(caller)), TEXT, self.column - 20, "bold") for caller in self.run.sides}
+        for caller, head in heads.items():
+            for at, line in enumerate(head):
                 sheet.text(self.corner(caller) + 10, self.y + 12 + LINE * at, line, weight="bold")
-        sheet.text(self.left - 8, self.y + 12, "step", SMALL, PALE, "end")
-        self.y += 20 + 13 * max(map(len, lines.values()))
+        sheet.text(self.left - 8, self.y + 12, "event", SMALL, PALE, "end")
+        self.y += 20 + max(13 * max(map(len, lines.values())), LINE * max(map(len, heads.values())))
         sheet.line(MARGIN, self.y, WIDTH - MARGIN, self.y, width=1.2)
         self.y += 4
         for name, value in self.values.items():
@@ -336,22 +374,26 @@ class Drawing:
         if len(row.accesses) == 1 and places and kind == "fail":
             self.sheet.arrow(edge, places[0], y, ink, width, True)
 
+    def label(self, row):
+        return wrapped(self.run.label(row.places, self.rows is not self.run.rows), SMALL, PLACES - 10) if row.places else []
+
     def draw_row(self, row):
         """What is accessed, where that is one access, and below it in italics what it means; of several what they come to."""
         ink, dashes = {"!": (HARM, "6 3"), "*": (HELP, None), "": (INK, None)}[row.mark]
         weight, room, alone = "bold" if row.mark else None, self.column - 28, len(row.accesses) == 1
         lines = [(line, None) for line in (wrapped(row.accesses[0][3], TEXT, room, weight) if alone else [])]
         lines += [(line, "italic" if alone else None) for line in wrapped(row.text, TEXT, room, weight)]
-        changes = self.changes(row)
-        height = max(LINE * len(lines), 17 * len(changes)) + (10 if row.mark else 6)
+        changes, label = self.changes(row), self.label(row)
+        height = max(LINE * max(len(lines), len(label)), 17 * len(changes)) + (10 if row.mark else 6)
         middle, corner = self.y + (12 if row.mark else 10), self.corner(row.caller)
-        self.sheet.box(corner + 4, self.y, self.column - 8, height, "#f6f6f6")
+        if row.places:
+            self.sheet.box(corner + 4, self.y, self.column - 8, height, "#f0f0f0")
         if row.mark:
             self.sheet.box(corner + 5, self.y + 1, self.column - 10, height - 2, "white", ink, 2.2, dashes, 3)
         for at, (line, style) in enumerate(lines):
             self.sheet.text(corner + 14, middle + 4 + LINE * at, line, fill=ink if row.mark else None, style=style, weight=weight)
-        steps = str(row.first) if row.first == row.last else "%d\N{EN DASH}%d" % (row.first, row.last)
-        self.sheet.text(self.left - 8, middle + 4, steps, SMALL, PALE, "end")
+        for at, line in enumerate(label):
+            self.sheet.text(self.left - 8, middle + 4 + LINE * at, line, SMALL, PALE, "end")
         self.draw_accesses(row, changes, middle, ink)
         self.y += height
 
@@ -363,6 +405,10 @@ class Drawing:
             sheet.text(at[0] + room + 6, at[1] + 4, text, SMALL)
             at[0] += room + 6 + wide(text, SMALL) + 16
 
+        sheet.text(at[0], at[1] + 4, "7", SMALL, PALE)
+        sheet.box(at[0] + 10, at[1] - 7, 26, 14, "#f0f0f0")
+        told("an event of the certificate, and its place. The calls and replies at the top are the certificate's too; all else is notes", 36)
+        at[:] = MARGIN + 4.0, at[1] + 22
         sheet.arrow(at[0] + 26, *at)
         sheet.dot(at[0] + 26, at[1])
         told("a word is loaded", 30)
@@ -551,15 +597,17 @@ def draw_certificate(name, lines, first=0, last=None):
 
 
 def draw_folder(folder, into):
-    """Draws what stands in a folder."""
-    for path in sorted(glob.glob(os.path.join(folder, "*.run"))):
-        run = read(path)
-        pictures = [(os.path.basename(path)[:-4], run.rows)] + ([(run.small, parts_alone(run.rows))] if run.small else [])
-        for name, rows in pictures:
-            write(into, name, Drawing(run, rows).svg())
+    """Draws the certificates of a folder, those that have notes with these."""
     for path in sorted(glob.glob(os.path.join(folder, "*.cert"))):
+        notes, name = path[:-5] + ".notes", os.path.basename(path)[:-5]
         with open(path, encoding="ascii") as lines:
-            write(into, os.path.basename(path)[:-5], draw_certificate(path, lines))
+            if not os.path.exists(notes):
+                write(into, name, draw_certificate(path, lines))
+                continue
+            run = read_notes(notes, *read_certificate(path, lines)[1:])
+        write(into, name, Drawing(run, run.rows).svg())
+        if run.small:
+            write(into, run.small, Drawing(run, parts_alone(run.rows)).svg())
 
 
 def write(folder, name, picture):
@@ -569,10 +617,10 @@ def write(folder, name, picture):
 
 def main():
     words = sys.argv[1:]
-    if not words:
-        here = os.path.dirname(os.path.realpath(__file__))
+    here = os.path.dirname(os.path.realpath(__file__))
+    if not words and glob.glob(os.path.join(here, "*.cert")):
         return draw_folder(here, here)
-    if len(words) > 3 or (words[0].startswith("-") and words[0] != "-") or not all(word.isdigit() for word in words[1:]):
+    if not 1 <= len(words) <= 3 or (words[0].startswith("-") and words[0] != "-") or not all(word.isdigit() for word in words[1:]):
         sys.exit(__doc__[__doc__.index("usage"):__doc__.index("It needs")].rstrip())
     with open(0 if words[0] == "-" else words[0], encoding="ascii", errors="replace") as lines:
         picture = draw_certificate("standard input" if words[0] == "-" else words[0], lines, *map(int, words[1:]))

@@ -1,4 +1,5 @@
 pub mod Sides
+pub mod Bare
 pub mod News
 pub mod Slots
 pub mod Turns

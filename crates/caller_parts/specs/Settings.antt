@@ -5,15 +5,24 @@ use Rattle.oa_words.specs.SlotKinds.{slots_of}
 use Rattle.oa_words.specs.Within.{AreSizes}
 use Rattle.target_code.specs.declared.target.Target.{Target}
 use Rattle.caller_parts.specs.KindCounts.{greatest_count, node_counts}
+use Rattle.caller_parts.specs.declared.setting.Reclamation.{Reclamation}
+use Rattle.caller_parts.specs.declared.setting.Reclamation.TheVariants.{Optimistic, Epochs}
 use Rattle.caller_parts.specs.declared.setting.SettingFault.{SettingFault}
 use Rattle.caller_parts.specs.declared.setting.SettingFault.TheVariants as faults
 
--- the sizes of the row, the first and the last phase, and how many initial nodes each of four kinds has
+-- the scheme by which nodes are recycled, the sizes of the row, the first and the last phase, and how many initial nodes each of four
+-- kinds has
 pub record Setting : Type 0 where
+  pub reclamation : Reclamation
   pub sizes : Sizes
   pub first : ℕ
   pub last : ℕ
   pub nodes : List ℕ
+
+-- what a caller's warning word holds at the start: the first phase, of which it has been warned, or nothing that it has announced
+abbrev pub first_warning : Reclamation → ℕ → ℕ
+first_warning Optimistic first = first
+first_warning Epochs first = 0
 
 -- a setting fits a target: as many kinds and roots, as many fields as the kind with the most, and as many initial nodes of each kind
 pub record Fits (target : Target) (setting : Setting) : Type 0 where

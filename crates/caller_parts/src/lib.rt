@@ -3,6 +3,7 @@
 #![tactic(auto)]
 
 pub mod call;
+pub mod code;
 pub mod counts;
 pub mod fields;
 pub mod local;
@@ -13,8 +14,9 @@ pub mod routine;
 pub mod setting;
 
 pub use call::{Call, Replied, Reply, Running};
+pub use code::{Code, Step};
 pub use fields::FieldTable;
 pub use program::Program;
 pub use replies::Replies;
-pub use routine::{AfterClear, AfterRetire, MethodStart, Routine};
-pub use setting::{Setting, SettingFault};
+pub use routine::{AfterClear, AfterRetire, AnnounceReason, Announcing, MethodStart, Routine};
+pub use setting::{Reclamation, Setting, SettingFault};

@@ -1,15 +1,15 @@
 //! What an instruction works on: registers as words, slots, exchanges of a list, cradles.
 
 ghost use Rattle.std.specs.Prelude.{◌≡◌, ◌<◌, ◌≤◌, length, option_copied, slice_get, slice_set, map};
+ghost use Rattle.caller_parts.specs.Codes.{code_shown, shown_at};
 ghost use Rattle.caller_parts.specs.Operands.{word_in, with_word, slot_in, list_of, is_new_of, kind_made, news_before, cradle_of_kind, cradle_number, has_object, succeeds, to_retire, emptied, with_new, AreSlots};
 
-use crate::local::instr_at;
+use crate::code::{Code, Step};
 use norm_lang::registers::{
     Reference, Registers, number_at, put_number, put_reference, reference_at,
 };
 use norm_lang::text::{CasEntry, Instr, Place, Reg};
 use oa_words::packed::{is_marked, ref_word, slot_part};
-use target_code::target::TargetInstr;
 
 /// The slot that a register names, 0 for null.
 #[tactic(auto, using(crate::proofs::Slots::slot_fits))]
@@ -79,11 +79,11 @@ pub fn to_retire(retire: Option<Reg>, registers: &Registers) -> u32
 }
 
 /// The exchanges of a commit, or none.
-pub fn list_of(instr: Option<&TargetInstr>) -> &[CasEntry]
-    ensures { result.now ≡ list_of (option_copied instr.entry) }
+pub fn list_of<'a>(instr: Option<Step<'a>>) -> &'a [CasEntry]
+    ensures { result.now ≡ list_of (shown_at instr.entry) }
 {
     match instr {
-        Some(TargetInstr::Plain(Instr::Commit(exchanges))) => exchanges.items(),
+        Some(Step::Plain(Instr::Commit(exchanges))) => exchanges.items(),
         _ => &[],
     }
 }
@@ -96,33 +96,33 @@ pub fn exchange_at(list: &[CasEntry], k: usize) -> Option<&CasEntry>
 }
 
 /// Whether it is a `new` of a node of a kind.
-fn is_new_of(kind: u8, instr: Option<&TargetInstr>) -> bool
-    ensures { result ≡ is_new_of kind (option_copied instr.entry) }
+fn is_new_of(kind: u8, instr: Option<Step>) -> bool
+    ensures { result ≡ is_new_of kind (shown_at instr.entry) }
 {
     match instr {
-        Some(TargetInstr::Plain(Instr::New(_, made))) => *made == kind,
+        Some(Step::Plain(Instr::New(_, made))) => *made == kind,
         _ => false,
     }
 }
 
 /// The kind of the node that a `new` makes; for any other instruction the first.
-pub fn kind_made(instr: Option<&TargetInstr>) -> u8
-    ensures { result ≡ kind_made (option_copied instr.entry) }
+pub fn kind_made(instr: Option<Step>) -> u8
+    ensures { result ≡ kind_made (shown_at instr.entry) }
 {
     match instr {
-        Some(TargetInstr::Plain(Instr::New(_, kind))) => *kind,
+        Some(Step::Plain(Instr::New(_, kind))) => *kind,
         _ => 0,
     }
 }
 
 /// How many `new` of a kind stand before a place.
-fn news_before(kind: u8, code: &[TargetInstr], at: usize) -> usize
-    ensures same { result ≡ news_before kind code.now at }
-    ensures few { result ≤ length code.now }
+fn news_before(kind: u8, code: Code, at: usize) -> usize
+    ensures same { result ≡ news_before kind (code_shown code.entry) at }
+    ensures few { result ≤ length (code_shown code.entry) }
 {
     let mut count = 0;
     for place in 0..at {
-        if is_new_of(kind, instr_at(code, place)) {
+        if is_new_of(kind, code.at(place)) {
             count += 1;
         }
     }
@@ -130,19 +130,19 @@ fn news_before(kind: u8, code: &[TargetInstr], at: usize) -> usize
 }
 
 /// The number of the cradle that the `new` at a place has.
-pub fn cradle_number(code: &[TargetInstr], at: usize) -> usize
-    ensures { result ≡ cradle_number code.now at }
+pub fn cradle_number(code: Code, at: usize) -> usize
+    ensures { result ≡ cradle_number (code_shown code.entry) at }
 {
     let _length = code.len();
-    let kind = kind_made(instr_at(code, at));
+    let kind = kind_made(code.at(at));
     4 * kind as usize + news_before(kind, code, at)
 }
 
 /// Puts the unmarked reference to a slot into the register that a `new` sets.
-pub fn put_new(registers: &mut Registers, instr: Option<&TargetInstr>, slot: u32)
-    ensures { registers.new ≡ with_new (option_copied instr.entry) slot registers.old }
+pub fn put_new(registers: &mut Registers, instr: Option<Step>, slot: u32)
+    ensures { registers.new ≡ with_new (shown_at instr.entry) slot registers.old }
 {
-    if let Some(TargetInstr::Plain(Instr::New(d, _))) = instr {
+    if let Some(Step::Plain(Instr::New(d, _))) = instr {
         let reference = Reference {
             node: slot as u64,
             marked: false,

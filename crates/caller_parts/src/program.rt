@@ -1,35 +1,41 @@
-//! What a caller runs: a target, with what its operations' wrap-ups keep.
+//! What a caller runs: a target, or a text as it is, with what its operations' wrap-ups keep.
 
-ghost use Rattle.std.specs.Prelude.{◌≡◌, slice_get, slice_index_or, option_copied};
+ghost use Rattle.std.specs.Prelude.{◌≡◌, slice_get, slice_index_or};
 ghost use Rattle.norm_lang.specs.KindFields.{place_of};
+ghost use Rattle.bare_targets.specs.Bare.{bare};
 ghost use Rattle.caller_parts.specs.KindCounts.{field_count};
 ghost use Rattle.caller_parts.specs.FieldTables.{IsFieldTable};
 ghost use Rattle.caller_parts.specs.Operands.{method_code};
 ghost use Rattle.caller_parts.specs.Spared.{kept_by, none_spared, KeptIs};
+ghost use Rattle.caller_parts.specs.Codes.{code_shown};
 
+use crate::code::{Code, Source};
 use crate::fields::FieldTable;
 use norm_lang::fields::{count_of, place_of};
+use norm_lang::text::Text;
 use std::marker::Model;
-use target_code::target::{Target, TargetInstr, TargetOp};
+use target_code::target::Target;
 
-/// A target, for each of its operations which of the reference registers r0 to r7 its wrap-up keeps, and the table of its fields.
+/// A target, or a text that is run as it is, for each of its operations which of the reference registers r0 to r7 its wrap-up keeps, and
+/// the table of its fields.
 #[derive(Drop)]
 pub struct Program<'a> {
-    target: &'a Target,
+    source: Source<'a>,
     kept: &'a [[bool; 8]],
     table: &'a FieldTable,
 }
 
 impl<'a> Model for Program<'a> {
     ghost use Rattle.target_code.specs.declared.target.Target.{Target};
+    ghost use Rattle.caller_parts.specs.Codes.{source_shown};
     ghost use Rattle.caller_parts.specs.Spared.{KeptIs};
     ghost use Rattle.caller_parts.specs.FieldTables.{IsFieldTable};
 
     ghost Value = { Target };
 
-    ghost view = { λ p. p.target.now };
+    ghost view = { λ p. source_shown p.source };
 
-    ghost invariant = { λ p. KeptIs p.target.now p.kept.now × IsFieldTable p.target.now.fields p.table.now };
+    ghost invariant = { λ p. KeptIs (source_shown p.source) p.kept.now × IsFieldTable (source_shown p.source).fields p.table.now };
 }
 
 impl<'a> Program<'a> {
@@ -40,26 +46,31 @@ impl<'a> Program<'a> {
         ensures { result ≡ target.now }
     {
         Program {
-            target,
+            source: Source::Barred(target),
             kept,
             table,
         }
     }
 
-    /// The code of a method; none where the target has no such operation.
-    pub fn code(&self, op: u8, wrapup: bool) -> &'a [TargetInstr]
-        ensures { result.now ≡ method_code (slice_get self.now.ops op) wrapup }
+    /// A text with its tables, which is run without checks and guards.
+    pub fn bare(text: &'a Text, kept: &'a [[bool; 8]], table: &'a FieldTable) -> Program<'a>
+        requires kept { KeptIs (bare text.now) kept.now }
+        requires fields { IsFieldTable text.now.fields table.now }
+        ensures { result ≡ bare text.now }
     {
-        match op_at(self.target, op) {
-            None => &[],
-            Some(op) => {
-                if wrapup {
-                    op.wrapup.items()
-                } else {
-                    op.generator.items()
-                }
-            }
+        Program {
+            source: Source::Bare(text),
+            kept,
+            table,
         }
+    }
+
+    /// The code of a method; none where there is no such operation.
+    #[inline(always)]
+    pub fn code(&self, op: u8, wrapup: bool) -> Code<'a>
+        ensures { code_shown result ≡ method_code (slice_get self.now.ops op) wrapup }
+    {
+        self.source.code(op, wrapup)
     }
 
     /// The place of a field among those of its kind.
@@ -69,7 +80,7 @@ impl<'a> Program<'a> {
     {
         match self.table.places.get(field as usize) {
             Some(place) => *place as u32,
-            None => place_of(self.target.fields.items(), field) as u32,
+            None => place_of(self.source.fields(), field) as u32,
         }
     }
 
@@ -79,7 +90,7 @@ impl<'a> Program<'a> {
     {
         match self.table.counts.get(kind as usize) {
             Some(count) => *count,
-            None => count_of(self.target.fields.items(), kind),
+            None => count_of(self.source.fields(), kind),
         }
     }
 
@@ -89,12 +100,6 @@ impl<'a> Program<'a> {
     {
         kept_at(self.kept, op)
     }
-}
-
-fn op_at(target: &Target, op: u8) -> Option<&TargetOp>
-    ensures { option_copied result ≡ slice_get target.now.ops op }
-{
-    target.ops.items().get(op as usize)
 }
 
 fn kept_at(kept: &[[bool; 8]], op: u8) -> [bool; 8]

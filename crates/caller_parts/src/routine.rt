@@ -37,6 +37,29 @@ pub enum AfterRetire {
     List(usize),
 }
 
+/// Why a caller under epochs announces the phase; the generator runs from its start then.
+#[derive(Clone, Copy)]
+pub enum AnnounceReason {
+    /// An operation begins.
+    Begin,
+    /// It begins again, after `again`.
+    Again,
+    /// The caller has claimed a slot after a sweep of its own, for which it had withdrawn its announcement.
+    Swept,
+}
+
+/// An access with which a caller under epochs announces the phase in its own warning word, or withdraws what it has announced there
+/// (Fraser, "Practical Lock-Freedom", 2004).
+#[derive(Clone, Copy)]
+pub enum Announcing {
+    /// The load of the phase.
+    Loads(AnnounceReason),
+    /// The store of that phase.
+    Stores(AnnounceReason, u64),
+    /// The store of 0, with which the call ends with this reply.
+    Leaves(Reply),
+}
+
 /// Where a caller stands between two accesses.
 #[derive(Drop)]
 pub enum Routine {
@@ -58,4 +81,6 @@ pub enum Routine {
     Claims(ClaimState),
     /// Before the store of 0 to a field of the slot in a cradle: the cradle and the field.
     Zeroes(usize, u32),
+    /// Before an access of an announcement.
+    Announces(Announcing),
 }

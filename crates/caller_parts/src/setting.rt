@@ -15,10 +15,21 @@ pub enum SettingFault {
     Phases,
 }
 
-/// The shape of the row of words, the first and the last phase, and how many initial nodes each kind has: no more than slots.
-/// Phases are from 1 to 2^50.
+/// The scheme by which the slots of nodes that were taken out are given out again.
+#[derive(Clone, Copy, Debug, PartialEq, Eq)]
+pub enum Reclamation {
+    /// Optimistic access: readers check after a read whether they were warned, and guard what they exchange (Cohen and Petrank, SPAA 2015).
+    Optimistic,
+    /// Epochs: a caller announces the phase in which its operation began, and nothing is recycled that was retired since then (Fraser,
+    /// "Practical Lock-Freedom", 2004).
+    Epochs,
+}
+
+/// The scheme by which nodes are recycled, the shape of the row of words, the first and the last phase, and how many initial nodes each
+/// kind has: no more than slots. Phases are from 1 to 2^50.
 #[derive(Drop)]
 pub struct Setting {
+    reclamation: Reclamation,
     shape: Shape,
     first: u64,
     last: u64,
@@ -30,9 +41,9 @@ impl Model for Setting {
 
     ghost Value = { Told };
 
-    ghost view = { λ s. record { sizes = s.shape; first = s.first; last = s.last; nodes = s.nodes } };
+    ghost view = { λ s. record { reclamation = s.reclamation; sizes = s.shape; first = s.first; last = s.last; nodes = s.nodes } };
 
-    ghost invariant = { λ s. IsSetting (record { sizes = s.shape; first = s.first; last = s.last; nodes = s.nodes }) };
+    ghost invariant = { λ s. IsSetting (record { reclamation = s.reclamation; sizes = s.shape; first = s.first; last = s.last; nodes = s.nodes }) };
 }
 
 /// Whether each kind has a slot for each of its initial nodes.
@@ -47,19 +58,19 @@ fn have_slots(shape: &Shape, nodes: &[u32; 4]) -> bool
 }
 
 impl Setting {
-    /// A setting of a shape, the first and the last phase, and the counts of initial nodes of the kinds; numbers past the kinds aren't
-    /// judged.
+    /// A setting of a scheme, as `new` makes one of optimistic access.
     ///
     /// # Errors
     /// `Nodes` where a kind has more initial nodes than slots, else `Phases` where `1 <= first_phase <= last_phase <= 2^50` fails.
     #[tactic(auto, using(crate::proofs::KindCounts::kinds_have_slots))]
-    pub fn new(
+    pub fn of(
+        reclamation: Reclamation,
         shape: Shape,
         first_phase: u64,
         last_phase: u64,
         nodes: [u32; 4],
     ) -> Result<Setting, SettingFault>
-        ensures { result ≡ setting_or_fault (record { sizes = shape; first = first_phase; last = last_phase; nodes = nodes }) }
+        ensures { result ≡ setting_or_fault (record { reclamation = reclamation; sizes = shape; first = first_phase; last = last_phase; nodes = nodes }) }
     {
         if !have_slots(&shape, &nodes) {
             return Err(SettingFault::Nodes);
@@ -68,6 +79,7 @@ impl Setting {
             return Err(SettingFault::Phases);
         }
         Ok(Setting {
+            reclamation,
             shape,
             first: first_phase,
             last: last_phase,
@@ -75,11 +87,40 @@ impl Setting {
         })
     }
 
+    /// A setting of optimistic access: a shape, the first and the last phase, and the counts of initial nodes of the kinds; numbers past
+    /// the kinds aren't judged.
+    ///
+    /// # Errors
+    /// `Nodes` where a kind has more initial nodes than slots, else `Phases` where `1 <= first_phase <= last_phase <= 2^50` fails.
+    pub fn new(
+        shape: Shape,
+        first_phase: u64,
+        last_phase: u64,
+        nodes: [u32; 4],
+    ) -> Result<Setting, SettingFault>
+        ensures { result ≡ setting_or_fault (record { reclamation = Reclamation.Optimistic; sizes = shape; first = first_phase; last = last_phase; nodes = nodes }) }
+    {
+        Setting::of(
+            Reclamation::Optimistic,
+            shape,
+            first_phase,
+            last_phase,
+            nodes,
+        )
+    }
+
     /// What every setting keeps: a law for those who hold one.
     pub fn kept(&self)
         ensures { IsSetting self.now }
     {
         let _ = &self.shape;
+    }
+
+    /// The scheme by which nodes are recycled.
+    pub fn reclamation(&self) -> Reclamation
+        ensures { result ≡ self.now.reclamation }
+    {
+        self.reclamation
     }
 
     /// The shape of the row of words.

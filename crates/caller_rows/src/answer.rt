@@ -1,12 +1,13 @@
 //! What a row is answered.
 
+ghost use Rattle.std.specs.Prelude.{IfSome};
 ghost use Rattle.word_runner.specs.Shown.{CameFrom};
 
 use crate::accesses::accesses;
 use crate::budgets::budgets;
 use crate::callers::callers;
 use crate::entries::{entry_row, setting_row};
-use crate::hall::{Hall, open, planned};
+use crate::hall::{Hall, epoch_planned, open, open_bare, planned};
 use crate::numbers::{number, numbers};
 use crate::places::places;
 use crate::sharing::sharing;
@@ -80,15 +81,23 @@ fn in_hall(
     }
 }
 
+/// A hall of the document, by the scheme that the row's kind says, and its first blank.
+fn hall_of(alloc: Global, kind: &str, room: u32, bytes: &[u8]) -> Option<(Hall, Blank)>
+    ensures { IfSome result (λ p. CameFrom p.0 p.1.table p.1.fixed) }
+{
+    if kind == "announced" {
+        open_bare(alloc, epoch_planned(alloc, bytes)?, room)
+    } else {
+        open(alloc, planned(alloc, bytes)?, room)
+    }
+}
+
 /// The row of the callers of a document, each with room for so many replies.
 fn hall_row(alloc: Global, row: Row<'_>, bytes: &[u8], out: &mut String) -> Result<(), RowError> {
     let Ok(room) = u32::try_from(number(row.head).unwrap_or(0)) else {
         return Err(RowError::Wrong);
     };
-    let Some(plan) = planned(alloc, bytes) else {
-        return Err(RowError::Wrong);
-    };
-    match open(alloc, plan, room) {
+    match hall_of(alloc, row.kind, room, bytes) {
         Some((hall, blank)) => in_hall(alloc, row, hall, blank, out),
         None => Err(RowError::Wrong),
     }

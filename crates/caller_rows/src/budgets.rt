@@ -117,7 +117,7 @@ fn rest_both(
     }
 }
 
-/// The callers go as the row's kind says, one alone or two together, and then rest.
+/// The callers go as the row's kind says, one alone or two together, by either scheme, and then rest.
 fn rest_of(
     alloc: Global,
     hall: &Hall,
@@ -131,7 +131,7 @@ fn rest_of(
 {
     match kind {
         "alone" => rest_alone(hall, blank, moves, out),
-        "together" => rest_both(alloc, hall, blank, moves, out),
+        "together" | "announced" => rest_both(alloc, hall, blank, moves, out),
         _ => Err(RowError::Wrong),
     }
 }

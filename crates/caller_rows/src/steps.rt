@@ -2,6 +2,7 @@
 
 ghost use Rattle.std.specs.Prelude.{◌≡◌, ◌<◌, ◌==◌, drop, length, option_copied, IfOk};
 ghost use Rattle.std.specs.List.{list_all};
+ghost use Rattle.caller_parts.specs.declared.setting.Reclamation.TheVariants.{Optimistic};
 ghost use Rattle.caller_parts.specs.Calls.{is_call_of};
 ghost use Rattle.caller_parts.specs.Settings.{Fits};
 ghost use Rattle.oa_words.specs.Words.{word_count};
@@ -9,6 +10,7 @@ ghost use Rattle.core_entries.specs.Callers.{BelongsTo};
 ghost use Rattle.core_entries.specs.Steps.{WordsSound};
 
 use barrier_check::Barred;
+use caller_parts::Reclamation;
 use core_entries::prepared::kept;
 use oa_core::laws::runs_in_row;
 use oa_core::{Call, Entry, PlainWords, Port, Setting};
@@ -71,8 +73,9 @@ fn is_call_of(op: Option<&TargetOp>, args: &[u64; 4]) -> bool
 }
 
 /// Whether the entry takes a call with one argument: it is idle, has room for the reply, and the target has the call.
-pub(crate) fn begin(barred: &Barred, setting: &Setting, entry: &mut Entry, op: u8, arg: u64) -> bool
-    requires { BelongsTo barred.now setting.now entry.old.core }
+fn begin_on(barred: &Barred, setting: &Setting, entry: &mut Entry, op: u8, arg: u64) -> bool
+    requires optimistic { setting.now.reclamation ≡ Optimistic }
+    requires belongs { BelongsTo barred.now setting.now entry.old.core }
     ensures { BelongsTo barred.now setting.now entry.new.core }
 {
     let call = Call {
@@ -85,6 +88,17 @@ pub(crate) fn begin(barred: &Barred, setting: &Setting, entry: &mut Entry, op: u
     }
     entry.begin(barred, call.op, call.args);
     true
+}
+
+/// `begin_on` for a caller that goes by optimistic access, as each of these rows does.
+pub(crate) fn begin(barred: &Barred, setting: &Setting, entry: &mut Entry, op: u8, arg: u64) -> bool
+    requires { BelongsTo barred.now setting.now entry.old.core }
+    ensures { BelongsTo barred.now setting.now entry.new.core }
+{
+    match setting.reclamation() {
+        Reclamation::Optimistic => begin_on(barred, setting, entry, op, arg),
+        Reclamation::Epochs => false,
+    }
 }
 
 /// A step of a caller that runs, and the access that it made; none where it is idle.

@@ -1,5 +1,5 @@
 -- A caller that stands at an access of its method.
-use Rattle.std.proofs.Common.{◌≡◌, ℕ, zero, suc, ◌+◌, true, false, List, length, Option, Some, None, refl, ◌∙◌, ap}
+use Rattle.std.proofs.Common.{◌≡◌, ℕ, zero, suc, ◌+◌, ◌<◌, true, false, List, length, Option, Some, None, refl, ◌∙◌, ap}
 use Rattle.std.specs.Prelude.{slice_get}
 use Rattle.norm_lang.specs.declared.registers.Registers.{Registers}
 use Rattle.norm_lang.specs.Local.{Spot}
@@ -11,10 +11,16 @@ use Rattle.oa_words.specs.Words.{Sizes}
 use Rattle.caller_parts.specs.declared.routine.Routine.{Routine}
 use Rattle.caller_parts.specs.declared.routine.Routine.TheVariants.{At}
 use Rattle.caller_parts.specs.Settings.{Setting}
+use Rattle.caller_parts.specs.declared.setting.Reclamation.{Reclamation}
+use Rattle.caller_parts.specs.declared.setting.Reclamation.TheVariants.{Optimistic, Epochs}
+use Rattle.phase_pools.specs.Ranges.{HasOwn}
+use Rattle.caller_steps.specs.Belongs.{scheme_of}
+use Rattle.norm_lang.specs.declared.text.Instr.{Instr}
+use Rattle.norm_lang.specs.declared.text.Instr.TheVariants as instr
 use Rattle.caller_steps.specs.Entries.{Entry, code_in, instr_in}
-use Rattle.caller_steps.specs.Stands.{is_stop}
+use Rattle.caller_steps.specs.Stands.{is_stop, leaves}
 use Rattle.caller_steps.specs.Wants.{wants, wanted, instr_wanted}
-use Rattle.caller_steps.specs.After.{after, accepted, counted, instr_accepted, stops, goes_on, hand_at, with_hand, with_routine}
+use Rattle.caller_steps.specs.After.{after, accepted, counted, instr_accepted, stop_at, stops, goes_on, hand_at, with_hand, with_routine}
 
 -- what it wants
 pub wants_at : (target : Target) (e : Entry) → e.routine ≡ At → wants target e ≡ instr_wanted target.fields e.number (instr_in target e) e.hand.registers
@@ -23,9 +29,9 @@ wants_at target e is = ap (λ (r : Routine). wanted target e r) is
 
 -- and what becomes of it
 pub after_at : (target : Target) (setting : Setting) (e : Entry) (word : ℕ) → e.routine ≡ At
-    → after target setting e word ≡ (instr_accepted target setting.sizes (instr_in target e) word (counted e)).entry
+    → after target setting e word ≡ (instr_accepted setting.reclamation target setting.sizes (instr_in target e) word (counted e)).entry
 unfolding after
-after_at target setting e word is = ap (λ (r : Routine). (accepted target setting word (counted e) r).entry) is
+after_at target setting e word is = ap (λ (r : Routine). (accepted setting.reclamation target setting word (counted e) r).entry) is
 
 -- no local code runs at a check or a guard
 not_local : (o : Option TargetInstr) (at : ℕ) (registers : Registers) → is_stop o ≡ true → target_local_at o at registers ≡ None
@@ -38,16 +44,63 @@ stays : (code : List TargetInstr) (n : ℕ) (spot : Spot) → is_stop (slice_get
 stays code zero spot stop = refl
 stays code (suc n) spot stop = rw (not_local (slice_get code spot.at) spot.at spot.registers stop) refl
 
-stops_at : (target : Target) (sizes : Sizes) (o : Option TargetInstr) (e : Entry) → is_stop o ≡ true → (stops target sizes o e).entry ≡ with_routine e At
-stops_at target sizes None e stop = refl
-stops_at target sizes (Some (Plain i)) e stop = absurd (let no : false ≡ true = stop in cc)
-stops_at target sizes (Some Check) e stop = refl
-stops_at target sizes (Some (Guard r)) e stop = refl
+stops_at : (by : Reclamation) (target : Target) (sizes : Sizes) (o : Option TargetInstr) (e : Entry) → is_stop o ≡ true → (stops by target sizes o e).entry ≡ with_routine e At
+stops_at by target sizes None e stop = refl
+stops_at by target sizes (Some (Plain i)) e stop = absurd (let no : false ≡ true = stop in cc)
+stops_at by target sizes (Some Check) e stop = refl
+stops_at by target sizes (Some (Guard r)) e stop = refl
 
 -- where one comes next, the caller stands there
-pub stop_next : (target : Target) (sizes : Sizes) (e : Entry) → is_stop (slice_get (code_in target e) (e.hand.at + 1)) ≡ true
-    → (goes_on target sizes e.hand.registers e).entry ≡ with_routine (with_hand e (record e.hand { at = e.hand.at + 1 })) At
-stop_next target sizes e stop =
+pub stop_next : (by : Reclamation) (target : Target) (sizes : Sizes) (e : Entry) → is_stop (slice_get (code_in target e) (e.hand.at + 1)) ≡ true
+    → (goes_on by target sizes e.hand.registers e).entry ≡ with_routine (with_hand e (record e.hand { at = e.hand.at + 1 })) At
+stop_next by target sizes e stop =
     let next : Spot = record { at = e.hand.at + 1; registers = e.hand.registers } in
-    ap (λ (spot : Spot). (stops target sizes (slice_get (code_in target e) spot.at) (with_hand e (hand_at e.hand spot))).entry) (stays (code_in target e) (length (code_in target e)) next stop)
-    ∙ stops_at target sizes (slice_get (code_in target e) (e.hand.at + 1)) (with_hand e (hand_at e.hand next)) stop
+    ap (λ (spot : Spot). (stops by target sizes (slice_get (code_in target e) spot.at) (with_hand e (hand_at e.hand spot))).entry) (stays (code_in target e) (length (code_in target e)) next stop)
+    ∙ stops_at by target sizes (slice_get (code_in target e) (e.hand.at + 1)) (with_hand e (hand_at e.hand next)) stop
+
+-- nor does a caller go on to something else at an access or local code
+pub stands_there : (by : Reclamation) (target : Target) (sizes : Sizes) (i : Instr) (e : Entry) → leaves i ≡ false → (stop_at by target sizes i e).entry ≡ with_routine e At
+stands_there by target sizes (instr.New d kind) e h = absurd (let wrong : true ≡ false = h in cc)
+stands_there by target sizes (instr.Commit exchanges) e h = absurd (let wrong : true ≡ false = h in cc)
+stands_there by target sizes (instr.Return a) e h = absurd (let wrong : true ≡ false = h in cc)
+stands_there by target sizes instr.ReturnNone e h = absurd (let wrong : true ≡ false = h in cc)
+stands_there by target sizes instr.Again e h = absurd (let wrong : true ≡ false = h in cc)
+stands_there Optimistic target sizes (instr.Set d n) e h = refl
+stands_there Epochs target sizes (instr.Set d n) e h = refl
+stands_there Optimistic target sizes (instr.Mov d a) e h = refl
+stands_there Epochs target sizes (instr.Mov d a) e h = refl
+stands_there Optimistic target sizes (instr.Add d a b) e h = refl
+stands_there Epochs target sizes (instr.Add d a b) e h = refl
+stands_there Optimistic target sizes (instr.Sub d a b) e h = refl
+stands_there Epochs target sizes (instr.Sub d a b) e h = refl
+stands_there Optimistic target sizes (instr.Rem d a n) e h = refl
+stands_there Epochs target sizes (instr.Rem d a n) e h = refl
+stands_there Optimistic target sizes (instr.Mark d a) e h = refl
+stands_there Epochs target sizes (instr.Mark d a) e h = refl
+stands_there Optimistic target sizes (instr.Unmark d a) e h = refl
+stands_there Epochs target sizes (instr.Unmark d a) e h = refl
+stands_there Optimistic target sizes (instr.Null d) e h = refl
+stands_there Epochs target sizes (instr.Null d) e h = refl
+stands_there Optimistic target sizes (instr.LoadRoot d x) e h = refl
+stands_there Epochs target sizes (instr.LoadRoot d x) e h = refl
+stands_there Optimistic target sizes (instr.LoadPick d x count a) e h = refl
+stands_there Epochs target sizes (instr.LoadPick d x count a) e h = refl
+stands_there Optimistic target sizes (instr.LoadField d a f) e h = refl
+stands_there Epochs target sizes (instr.LoadField d a f) e h = refl
+stands_there Optimistic target sizes (instr.Put a f b) e h = refl
+stands_there Epochs target sizes (instr.Put a f b) e h = refl
+stands_there Optimistic target sizes (instr.Cas exchange l) e h = refl
+stands_there Epochs target sizes (instr.Cas exchange l) e h = refl
+stands_there Optimistic target sizes (instr.Jump l) e h = refl
+stands_there Epochs target sizes (instr.Jump l) e h = refl
+stands_there Optimistic target sizes (instr.IfEq a b l) e h = refl
+stands_there Epochs target sizes (instr.IfEq a b l) e h = refl
+stands_there Optimistic target sizes (instr.IfLess a b l) e h = refl
+stands_there Epochs target sizes (instr.IfLess a b l) e h = refl
+stands_there Optimistic target sizes (instr.IfMarked a l) e h = refl
+stands_there Epochs target sizes (instr.IfMarked a l) e h = refl
+
+-- the caller's number is one of the row's
+pub own_there : (by : Reclamation) (sizes : Sizes) (c : ℕ) → c < sizes.callers → HasOwn sizes (scheme_of by c)
+own_there Optimistic sizes c within = tt
+own_there Epochs sizes c within = within

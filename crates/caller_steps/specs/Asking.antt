@@ -22,7 +22,7 @@ use Rattle.phase_pools.specs.Ranges.{HasOwn, ClaimInRange, ClaimTold, RetireTold
 use Rattle.caller_parts.specs.declared.routine.AfterRetire.{AfterRetire}
 use Rattle.caller_parts.specs.declared.routine.AfterRetire.TheVariants as retires
 use Rattle.caller_parts.specs.declared.routine.Routine.{Routine}
-use Rattle.caller_parts.specs.declared.routine.Routine.TheVariants.{Idle, LoadSeen, At, InList, Retires, Restarts, Clears, Claims, Zeroes}
+use Rattle.caller_parts.specs.declared.routine.Routine.TheVariants.{Idle, LoadSeen, At, InList, Retires, Restarts, Clears, Claims, Zeroes, Announces}
 use Rattle.caller_parts.specs.Settings.{Setting}
 use Rattle.caller_steps.specs.Entries.{Entry, instr_in, cradle_of}
 use Rattle.caller_parts.specs.Operands.{slot_in, list_of, instr_at, kind_made}
@@ -74,6 +74,7 @@ CanAsk target setting e Restarts = IsRegister (restart_next target e)
 CanAsk target setting e (Clears next) = IsRegister (clear_next target next e)
 CanAsk target setting e (Claims claim) = (claim.kind < length setting.sizes.kinds) × ClaimInRange setting.sizes claim.sweep claim.stage
 CanAsk target setting e (Zeroes k field) = HasField setting.sizes (cradle_of e k) field
+CanAsk target setting e (Announces announcing) = Unit {0}
 
 -- ---- accepting
 
@@ -104,3 +105,4 @@ CanAccept target setting e word (Claims claim) =
     (claim.kind < length setting.sizes.kinds) × HasOwn setting.sizes claim.sweep.scheme × ClaimInRange setting.sizes claim.sweep claim.stage
     × ClaimTold setting.sizes setting.last claim.sweep claim.stage word
 CanAccept target setting e word (Zeroes k field) = field < setting.sizes.fields
+CanAccept target setting e word (Announces announcing) = Unit {0}

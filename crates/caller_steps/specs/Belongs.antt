@@ -34,9 +34,15 @@ use Rattle.caller_parts.specs.declared.routine.AfterRetire.TheVariants as retire
 use Rattle.caller_parts.specs.declared.routine.MethodStart.{MethodStart}
 use Rattle.caller_parts.specs.declared.routine.MethodStart.TheVariants as starts
 use Rattle.caller_steps.specs.declared.entry.Hand.{Hand}
+use Rattle.caller_parts.specs.declared.routine.AnnounceReason.{AnnounceReason}
+use Rattle.caller_parts.specs.declared.routine.AnnounceReason.TheVariants as reasons
+use Rattle.caller_parts.specs.declared.routine.Announcing.{Announcing}
+use Rattle.caller_parts.specs.declared.routine.Announcing.TheVariants as announces
+use Rattle.caller_parts.specs.declared.setting.Reclamation.{Reclamation}
+use Rattle.caller_parts.specs.declared.setting.Reclamation.TheVariants.{Optimistic, Epochs}
 use Rattle.caller_parts.specs.Settings.{Setting}
 use Rattle.caller_parts.specs.declared.routine.Routine.{Routine}
-use Rattle.caller_parts.specs.declared.routine.Routine.TheVariants.{Idle, LoadSeen, At, InList, Retires, Restarts, Clears, Claims, Zeroes}
+use Rattle.caller_parts.specs.declared.routine.Routine.TheVariants.{Idle, LoadSeen, At, InList, Retires, Restarts, Clears, Claims, Zeroes, Announces}
 use Rattle.caller_steps.specs.Entries.{Entry, op_of, code_in, instr_in, new_kind, new_number, zero_count, cradle_of}
 use Rattle.caller_parts.specs.Operands.{list_of, is_new_at, cradle_count}
 use Rattle.caller_steps.specs.Clearing.{restart_next, clear_next}
@@ -127,23 +133,28 @@ SweepBelongs setting sweep = record {
   gathered : All (λ j. j ≤ setting.sizes.slots) sweep.gathered;
 }
 
--- where a claim of a slot of a kind stands; no look takes slot 0
-abbrev pub ClaimStands : Setting → ℕ → ClaimStage → Type 0
-ClaimStands setting k claims.ReadHead = Unit {0}
-ClaimStands setting k (claims.ReadLink q t) = (first_slot setting ≤ t) × (t ≤ last_slot setting) × (q ≤ setting.last) × (kind_of setting.sizes t ≡ k)
-ClaimStands setting k (claims.Take q t next) =
+-- where a claim of a slot of a kind stands; no look takes slot 0, and a caller withdraws the announcement that is its own
+abbrev pub ClaimStands : Setting → Scheme → ℕ → ClaimStage → Type 0
+ClaimStands setting scheme k claims.ReadHead = Unit {0}
+ClaimStands setting scheme k (claims.ReadLink q t) = (first_slot setting ≤ t) × (t ≤ last_slot setting) × (q ≤ setting.last) × (kind_of setting.sizes t ≡ k)
+ClaimStands setting scheme k (claims.Take q t next) =
     (first_slot setting ≤ t) × (t ≤ last_slot setting) × (q ≤ setting.last) × IsNullOrOf setting.sizes k next × (kind_of setting.sizes t ≡ k)
-ClaimStands setting k (claims.StoreUsed q t) = (first_slot setting ≤ t) × (t ≤ last_slot setting) × (q ≤ setting.last) × (kind_of setting.sizes t ≡ k)
-ClaimStands setting k (claims.Withdraw own) = ⊥
-ClaimStands setting k claims.Sweeps = Unit {0}
+ClaimStands setting scheme k (claims.StoreUsed q t) = (first_slot setting ≤ t) × (t ≤ last_slot setting) × (q ≤ setting.last) × (kind_of setting.sizes t ≡ k)
+ClaimStands setting scheme k (claims.Withdraw own) = scheme ≡ Announced own
+ClaimStands setting scheme k claims.Sweeps = Unit {0}
 
--- its kind is one of the row's, and its sweeps warn the callers. Its sweep belongs, whether it is under way or has ended: the slots and
+-- how the sweeps of a caller with this number deal with the others: they warn them, or load what they have announced
+abbrev pub scheme_of : Reclamation → ℕ → Scheme
+scheme_of Optimistic c = Warned
+scheme_of Epochs c = Announced c
+
+-- its kind is one of the row's, and its sweeps go by the setting's scheme. Its sweep belongs, whether it is under way or has ended: the slots and
 -- phases of one that has ended stay with the claim that looks again
-abbrev pub ClaimBelongs : Setting → Claim → Type 0
-ClaimBelongs setting claim = record {
+abbrev pub ClaimBelongs : Setting → ℕ → Claim → Type 0
+ClaimBelongs setting c claim = record {
   kind : claim.kind < length setting.sizes.kinds;
-  scheme : claim.sweep.scheme ≡ Warned;
-  stands : ClaimStands setting claim.kind claim.stage;
+  scheme : claim.sweep.scheme ≡ scheme_of setting.reclamation c;
+  stands : ClaimStands setting claim.sweep.scheme claim.kind claim.stage;
   sweep : SweepBelongs setting claim.sweep;
 }
 
@@ -212,22 +223,36 @@ StartStands i hand starts.Begin = (hand.wrapup ≡ false) × (hand.at ≡ 0)
 StartStands i hand starts.WrapUp = (hand.wrapup ≡ true) × (hand.at ≡ 0)
 StartStands i hand starts.Again = (hand.wrapup ≡ true) × (is_again_at i ≡ true)
 
+-- an announcement stands at the moment of its row: where an operation begins or begins again, at a `new` for which the caller has
+-- swept, or at a reply
+abbrev pub ReasonStands : Option TargetInstr → Hand → AnnounceReason → Type 0
+ReasonStands i hand reasons.Begin = (hand.wrapup ≡ false) × (hand.at ≡ 0)
+ReasonStands i hand reasons.Again = (hand.wrapup ≡ true) × (is_again_at i ≡ true)
+ReasonStands i hand reasons.Swept = (hand.wrapup ≡ false) × (is_new_at i ≡ true)
+
+abbrev pub AnnouncingStands : Setting → Option TargetInstr → Hand → Announcing → Type 0
+AnnouncingStands setting i hand (announces.Loads why) = ReasonStands i hand why
+AnnouncingStands setting i hand (announces.Stores why phase) = ReasonStands i hand why × (setting.first ≤ phase) × (phase ≤ setting.last)
+AnnouncingStands setting i hand (announces.Leaves reply) = (hand.wrapup ≡ true) × (is_reply_at i ≡ true)
+
 abbrev pub IsSomeOf : Option ℕ → Type 0
 IsSomeOf None = ⊥
 IsSomeOf (Some r) = Unit {0}
 
--- it stands at an access of its routine
+-- it stands at an access of its routine. Only under optimistic access does a caller load its warning for a start, or clear hazards, and only
+-- under epochs does it announce
 abbrev pub Stands : Target → Setting → Entry → Routine → Type 0
 Stands target setting e Idle = Unit {0}
-Stands target setting e (LoadSeen why) = StartStands (instr_in target e) e.hand why
+Stands target setting e (LoadSeen why) = (setting.reclamation ≡ Optimistic) × StartStands (instr_in target e) e.hand why
 Stands target setting e At = has_access (instr_in target e) ≡ true
 Stands target setting e (InList k) = k < length (list_of (instr_in target e))
 Stands target setting e (Retires retirement go) = RetireBelongs setting retirement × RetireFits (instr_in target e) go
-Stands target setting e Restarts = (is_check_at (instr_in target e) ≡ true) × IsSomeOf (restart_next target e)
-Stands target setting e (Clears next) = ClearStands (instr_in target e) e.hand next × IsSomeOf (clear_next target next e)
-Stands target setting e (Claims claim) = (is_new_at (instr_in target e) ≡ true) × ClaimBelongs setting claim × (claim.kind ≡ new_kind target e)
+Stands target setting e Restarts = (setting.reclamation ≡ Optimistic) × (is_check_at (instr_in target e) ≡ true) × IsSomeOf (restart_next target e)
+Stands target setting e (Clears next) = (setting.reclamation ≡ Optimistic) × ClearStands (instr_in target e) e.hand next × IsSomeOf (clear_next target next e)
+Stands target setting e (Claims claim) = (is_new_at (instr_in target e) ≡ true) × ClaimBelongs setting e.number claim × (claim.kind ≡ new_kind target e)
 Stands target setting e (Zeroes k field) =
     (is_new_at (instr_in target e) ≡ true) × (k ≡ new_number target e) × (cradle_of e k ≢ 0) × (field < zero_count target (instr_in target e))
+Stands target setting e (Announces announcing) = (setting.reclamation ≡ Epochs) × AnnouncingStands setting (instr_in target e) e.hand announcing
 
 -- where it runs it has come to its instruction
 abbrev pub RunsAt : Target → Entry → Routine → Type 0

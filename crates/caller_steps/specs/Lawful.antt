@@ -10,6 +10,8 @@ use Rattle.oa_words.specs.Packed.{slot_part, head_parts}
 use Rattle.oa_words.specs.SlotKinds.{kind_of, IsNullOrOf}
 use Rattle.phase_pools.specs.Ranges.{IsStatus}
 use Rattle.phase_pools.specs.Accesses.{word_of, word_after, WordAccess, Loads, Stores, Exchanges, Raises}
+use Rattle.caller_parts.specs.declared.setting.Reclamation.{Reclamation}
+use Rattle.caller_parts.specs.declared.setting.Reclamation.TheVariants.{Optimistic, Epochs}
 use Rattle.caller_parts.specs.Settings.{Setting}
 
 -- what the field at a place of a kind's nodes holds, if the kind has one there
@@ -26,6 +28,11 @@ LawfulValue n (Some (holdings.Reference t)) word = IsNullOrOf n t (slot_part wor
 abbrev pub LawfulPhase : Setting → ℕ → Type 0
 LawfulPhase setting word = (setting.first ≤ word) × (word ≤ setting.last)
 
+-- a phase of which a caller was warned, or one that it has announced, 0 for none
+abbrev pub LawfulWarning : Reclamation → Setting → ℕ → Type 0
+LawfulWarning Optimistic setting word = LawfulPhase setting word
+LawfulWarning Epochs setting word = word ≤ setting.last
+
 -- a status of a phase that isn't past the last
 abbrev pub LawfulStatus : ℕ → ℕ → Type 0
 LawfulStatus last word = IsStatus last word
@@ -40,7 +47,7 @@ LawfulHead setting t word = ((head_parts word).phase ≤ setting.last) × IsNull
 abbrev pub IsLawful : Target → Setting → Word → ℕ → Type 0
 IsLawful target setting Phase word = LawfulPhase setting word
 IsLawful target setting (Place c) word = Unit {0}
-IsLawful target setting (Warning c) word = LawfulPhase setting word
+IsLawful target setting (Warning c) word = LawfulWarning setting.reclamation setting word
 IsLawful target setting (Hazard c r) word = word ≤ setting.sizes.slots
 IsLawful target setting (Status j) word = LawfulStatus setting.last word
 IsLawful target setting (FieldOf zero g) word = word ≡ 0

@@ -1,5 +1,7 @@
 -- Where a caller stands, as the code keeps it: the claim apart from all else.
 use Rattle.std.specs.Prelude.{Bool, true, false, Option, Some, None}
+use Rattle.norm_lang.specs.declared.text.Instr.{Instr}
+use Rattle.norm_lang.specs.declared.text.Instr.TheVariants as instr
 use Rattle.target_code.specs.declared.target.TargetInstr.{TargetInstr}
 use Rattle.target_code.specs.declared.target.TargetInstr.TheVariants.{Plain, Check, Guard}
 use Rattle.phase_pools.specs.Pools.{Claim}
@@ -23,6 +25,7 @@ routine_of stands.Restarts claim = routines.Restarts
 routine_of (stands.Clears next) claim = routines.Clears next
 routine_of stands.Claims claim = claim_of claim
 routine_of (stands.Zeroes k field) claim = routines.Zeroes k field
+routine_of (stands.Announces announcing) claim = routines.Announces announcing
 
 -- whether a check or a guard is there: no local code, and no end of a method
 abbrev pub is_stop : Option TargetInstr → Bool
@@ -30,3 +33,12 @@ is_stop None = false
 is_stop (Some (Plain i)) = false
 is_stop (Some Check) = true
 is_stop (Some (Guard r)) = true
+
+-- an instruction that is no access and no local code: a caller that comes to it goes on to something else
+abbrev pub leaves : Instr → Bool
+leaves (instr.New d kind) = true
+leaves (instr.Commit exchanges) = true
+leaves (instr.Return a) = true
+leaves instr.ReturnNone = true
+leaves instr.Again = true
+leaves _ = false

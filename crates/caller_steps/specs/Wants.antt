@@ -13,11 +13,13 @@ use Rattle.norm_lang.specs.Local.{remainder}
 use Rattle.target_code.specs.declared.target.TargetInstr.{TargetInstr}
 use Rattle.target_code.specs.declared.target.TargetInstr.TheVariants.{Plain, Check, Guard}
 use Rattle.target_code.specs.declared.target.Target.{Target}
-use Rattle.oa_words.specs.Words.{Warning, Hazard, FieldOf, Cell}
+use Rattle.oa_words.specs.Words.{Phase, Warning, Hazard, FieldOf, Cell}
 use Rattle.phase_pools.specs.Accesses.{WordAccess, Loads, Stores, Exchanges}
 use Rattle.phase_pools.specs.Pools.{claim_wants, retire_wants}
+use Rattle.caller_parts.specs.declared.routine.Announcing.{Announcing}
+use Rattle.caller_parts.specs.declared.routine.Announcing.TheVariants as announces
 use Rattle.caller_parts.specs.declared.routine.Routine.{Routine}
-use Rattle.caller_parts.specs.declared.routine.Routine.TheVariants.{Idle, LoadSeen, At, InList, Retires, Restarts, Clears, Claims, Zeroes}
+use Rattle.caller_parts.specs.declared.routine.Routine.TheVariants.{Idle, LoadSeen, At, InList, Retires, Restarts, Clears, Claims, Zeroes, Announces}
 use Rattle.caller_steps.specs.Entries.{Entry, instr_in, cradle_of}
 use Rattle.caller_parts.specs.Operands.{word_in, slot_in, register_number, list_of}
 use Rattle.caller_steps.specs.Clearing.{restart_next, clear_next}
@@ -60,6 +62,12 @@ list_wanted fields exchange registers = option_map (λ e. exchange_wanted fields
 abbrev pub clear_wanted : ℕ → Option ℕ → Option WordAccess
 clear_wanted c register = option_map (λ r. Stores (Hazard c r) 0) register
 
+-- the load of the phase, or a store to the own warning word
+abbrev pub announcing_wanted : ℕ → Announcing → WordAccess
+announcing_wanted c (announces.Loads why) = Loads Phase
+announcing_wanted c (announces.Stores why phase) = Stores (Warning c) phase
+announcing_wanted c (announces.Leaves reply) = Stores (Warning c) 0
+
 abbrev pub wanted : Target → Entry → Routine → Option WordAccess
 wanted target e Idle = None
 wanted target e (LoadSeen why) = Some (Loads (Warning e.number))
@@ -70,6 +78,7 @@ wanted target e Restarts = clear_wanted e.number (restart_next target e)
 wanted target e (Clears next) = clear_wanted e.number (clear_next target next e)
 wanted target e (Claims claim) = Some (claim_wants claim)
 wanted target e (Zeroes k field) = Some (Stores (FieldOf (cradle_of e k) field) 0)
+wanted target e (Announces announcing) = Some (announcing_wanted e.number announcing)
 
 -- the one access that the entry makes next
 unfoldable pub wants : Target → Entry → Option WordAccess

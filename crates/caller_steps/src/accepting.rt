@@ -1,27 +1,30 @@
 //! An entry after its wanted access found a word: one small function for each routine state and each instruction.
 
-ghost use Rattle.std.specs.Prelude.{◌≡◌, ◌<◌, ◌≤◌, ◌^◌, length, option_copied, slice_get, Some, None};
-ghost use Rattle.phase_pools.specs.Ranges.{ClaimInRange, ClaimTold, RetireTold};
+ghost use Rattle.std.specs.Prelude.{◌≡◌, ◌<◌, ◌≤◌, ◌^◌, length, slice_get, Some, None};
+ghost use Rattle.phase_pools.specs.Ranges.{HasOwn, ClaimInRange, ClaimTold, RetireTold};
+ghost use Rattle.caller_parts.specs.Codes.{code_shown, shown_at};
 ghost use Rattle.caller_parts.specs.declared.routine.Routine.TheVariants.{At};
 ghost use Rattle.caller_steps.specs.Entries.{code_in, instr_in};
 ghost use Rattle.caller_parts.specs.Operands.{list_of, AreSlots};
 ghost use Rattle.caller_steps.specs.Clearing.{restart_next, clear_next, unguarded};
-ghost use Rattle.caller_steps.specs.After.{seen_loaded, check_passed, check_failed, checked, guarded, loaded, put_made, list_on, onward_goes, retires_then, cas_ended, cas_made, plain_accepted, instr_accepted, with_published, entry_ended, entry_made, list_accepted, restart_cleared, then_cleared, claim_counted, slot_claimed, claim_ended, node_made, zeroed, after};
+ghost use Rattle.caller_steps.specs.After.{seen_loaded, with_restart, check_passed, check_failed, checked, guarded, loaded, put_made, list_on, list_goes, onward_goes, retires_then, cas_ended, cas_made, plain_accepted, checked_by, guarded_by, instr_accepted, with_published, list_failed, entry_ended, entry_made, list_accepted, restart_cleared, then_cleared, claim_counted, slot_claimed, slot_swept, slot_gained, claim_ended, node_made, zeroed, announced, after};
+ghost use Rattle.caller_steps.specs.Belongs.{scheme_of};
 ghost use Rattle.caller_steps.specs.Asking.{NewsFit, IsNear, IsRegister, InstrAccepts, CanAccept};
 
 use crate::entry::{Entry, one_more};
 use crate::stand::Stand;
-use caller_parts::local::instr_at;
 use caller_parts::operands::{
     empty_cradles, exchange_at, kind_made, list_of, put_cradle, put_new, put_word, slot_in,
     succeeds, to_retire,
 };
-use caller_parts::{AfterClear, AfterRetire, MethodStart, Program, Reply, Setting};
+use caller_parts::{
+    AfterClear, AfterRetire, AnnounceReason, Announcing, Code, MethodStart, Program, Reclamation,
+    Reply, Setting, Step,
+};
 use norm_lang::text::{CasEntry, Instr, Reg};
 use oa_words::shape::Shape;
 use phase_pools::access::ClaimEnd;
 use phase_pools::retire::RetireState;
-use target_code::target::TargetInstr;
 
 impl Entry {
     /// The own warning was loaded.
@@ -38,15 +41,21 @@ impl Entry {
     }
 
     #[inline(always)]
-    fn check_passed(&mut self, program: &Program, shape: &Shape, code: &[TargetInstr])
+    fn check_passed(&mut self, program: &Program, shape: &Shape, code: Code)
         requires spare { length self.old.core.replies < self.old.room }
         requires kinds { NewsFit program.now shape.now }
         requires near { self.old.core.hand.at < 2 ^ 62 }
-        requires code { code.now ≡ code_in program.now self.old.core }
+        requires code { code_shown code ≡ code_in program.now self.old.core }
         ensures { self.new ≡ record self.old { core = (check_passed program.now shape.now self.old.core).entry } }
     {
         self.hand.guards.pass_check();
-        self.go_on_in(program, shape, code);
+        self.go_on_in(Reclamation::Optimistic, program, shape, code);
+    }
+
+    fn count_restart(&mut self)
+        ensures { self.new ≡ record self.old { core = with_restart self.old.core } }
+    {
+        self.counts.restarts = one_more(self.counts.restarts);
     }
 
     #[inline(never)]
@@ -55,18 +64,18 @@ impl Entry {
         requires kinds { NewsFit program.now shape.now }
         ensures { self.new ≡ record self.old { core = (check_failed program.now shape.now found self.old.core).entry } }
     {
-        self.counts.restarts = one_more(self.counts.restarts);
+        self.count_restart();
         self.hand.seen = found;
         self.hand.accessed = false;
         self.restarted(program, shape);
     }
 
     #[inline(always)]
-    fn checked(&mut self, program: &Program, shape: &Shape, code: &[TargetInstr], word: u64)
+    fn checked(&mut self, program: &Program, shape: &Shape, code: Code, word: u64)
         requires spare { length self.old.core.replies < self.old.room }
         requires kinds { NewsFit program.now shape.now }
         requires near { self.old.core.hand.at < 2 ^ 62 }
-        requires code { code.now ≡ code_in program.now self.old.core }
+        requires code { code_shown code ≡ code_in program.now self.old.core }
         ensures { self.new ≡ record self.old { core = (checked program.now shape.now word self.old.core).entry } }
     {
         if word == self.hand.seen {
@@ -78,39 +87,87 @@ impl Entry {
 
     /// The slot of a register was stored in its hazard.
     #[inline(always)]
-    fn guarded(&mut self, program: &Program, shape: &Shape, code: &[TargetInstr], register: u8)
+    fn guarded(&mut self, program: &Program, shape: &Shape, code: Code, register: u8)
         requires spare { length self.old.core.replies < self.old.room }
         requires kinds { NewsFit program.now shape.now }
         requires near { self.old.core.hand.at < 2 ^ 62 }
         requires slots { AreSlots self.old.core.hand.registers }
         requires register { register < 8 }
-        requires code { code.now ≡ code_in program.now self.old.core }
+        requires code { code_shown code ≡ code_in program.now self.old.core }
         ensures { self.new ≡ record self.old { core = (guarded program.now shape.now (Reg.Ref register) self.old.core).entry } }
     {
         let slot = slot_in(&self.hand.registers, Reg::Ref(register));
         self.hand.guards.put(register as u32, slot);
-        self.go_on_in(program, shape, code);
+        self.go_on_in(Reclamation::Optimistic, program, shape, code);
+    }
+
+    /// A check under epochs, whose code has none, does nothing.
+    #[inline(always)]
+    fn checked_by(
+        &mut self,
+        by: Reclamation,
+        program: &Program,
+        shape: &Shape,
+        code: Code,
+        word: u64,
+    )
+        requires spare { length self.old.core.replies < self.old.room }
+        requires kinds { NewsFit program.now shape.now }
+        requires near { self.old.core.hand.at < 2 ^ 62 }
+        requires code { code_shown code ≡ code_in program.now self.old.core }
+        ensures { self.new ≡ record self.old { core = (checked_by by program.now shape.now word self.old.core).entry } }
+    {
+        match by {
+            Reclamation::Optimistic => self.checked(program, shape, code, word),
+            Reclamation::Epochs => {}
+        }
+    }
+
+    /// Nor does a guard.
+    #[inline(always)]
+    fn guarded_by(
+        &mut self,
+        by: Reclamation,
+        program: &Program,
+        shape: &Shape,
+        code: Code,
+        register: u8,
+    )
+        requires spare { length self.old.core.replies < self.old.room }
+        requires kinds { NewsFit program.now shape.now }
+        requires near { self.old.core.hand.at < 2 ^ 62 }
+        requires slots { AreSlots self.old.core.hand.registers }
+        requires register { register < 8 }
+        requires code { code_shown code ≡ code_in program.now self.old.core }
+        ensures { self.new ≡ record self.old { core = (guarded_by by program.now shape.now (Reg.Ref register) self.old.core).entry } }
+    {
+        match by {
+            Reclamation::Optimistic => self.guarded(program, shape, code, register),
+            Reclamation::Epochs => {}
+        }
     }
 
     /// A word of the text was loaded into a register.
     #[inline(always)]
     fn loaded(
         &mut self,
+        by: Reclamation,
         program: &Program,
         shape: &Shape,
-        code: &[TargetInstr],
+        code: Code,
         register: Reg,
         word: u64,
     )
         requires spare { length self.old.core.replies < self.old.room }
         requires kinds { NewsFit program.now shape.now }
+        requires own { HasOwn shape.now (scheme_of by self.old.core.number) }
         requires near { self.old.core.hand.at < 2 ^ 62 }
-        requires code { code.now ≡ code_in program.now self.old.core }
-        ensures { self.new ≡ record self.old { core = (loaded program.now shape.now register word self.old.core).entry } }
+        requires code { code_shown code ≡ code_in program.now self.old.core }
+        ensures { self.new ≡ record self.old { core = (loaded by program.now shape.now register word self.old.core).entry } }
     {
         put_word(&mut self.hand.registers, register, word);
         self.hand.accessed = self.hand.wrapup;
-        self.go_on_in(program, shape, code);
+        self.go_on_in(by, program, shape, code);
     }
 
     /// After the exchange of a list with this number.
@@ -127,29 +184,63 @@ impl Entry {
         }
     }
 
-    fn onward_goes(&mut self, program: &Program, shape: &Shape, onward: AfterRetire)
+    /// The same by the scheme.
+    fn list_goes(&mut self, by: Reclamation, program: &Program, shape: &Shape, k: usize)
         requires spare { length self.old.core.replies < self.old.room }
         requires kinds { NewsFit program.now shape.now }
+        requires near { k < 2 ^ 62 }
+        ensures { self.new ≡ record self.old { core = (list_goes by program.now shape.now k self.old.core).entry } }
+    {
+        match by {
+            Reclamation::Optimistic => self.list_on(program, shape, k),
+            Reclamation::Epochs => {
+                if k + 1 < list_of(self.instr_in(program)).len() {
+                    self.stand = Stand::InList(k + 1);
+                } else {
+                    self.wrap_up_begun(program, k + 1);
+                }
+            }
+        }
+    }
+
+    fn onward_goes(
+        &mut self,
+        by: Reclamation,
+        program: &Program,
+        shape: &Shape,
+        onward: AfterRetire,
+    )
+        requires spare { length self.old.core.replies < self.old.room }
+        requires kinds { NewsFit program.now shape.now }
+        requires own { HasOwn shape.now (scheme_of by self.old.core.number) }
         requires near { self.old.core.hand.at < 2 ^ 62 }
         requires few { IsNear onward }
-        ensures { self.new ≡ record self.old { core = (onward_goes program.now shape.now onward self.old.core).entry } }
+        ensures { self.new ≡ record self.old { core = (onward_goes by program.now shape.now onward self.old.core).entry } }
     {
         match onward {
-            AfterRetire::Next => self.go_on(program, shape),
-            AfterRetire::List(k) => self.list_on(program, shape, k),
+            AfterRetire::Next => self.go_on(by, program, shape),
+            AfterRetire::List(k) => self.list_goes(by, program, shape, k),
         }
     }
 
     /// After an exchange that succeeded; slot 0 isn't retired.
-    fn retires_then(&mut self, program: &Program, shape: &Shape, onward: AfterRetire, slot: u32)
+    fn retires_then(
+        &mut self,
+        by: Reclamation,
+        program: &Program,
+        shape: &Shape,
+        onward: AfterRetire,
+        slot: u32,
+    )
         requires spare { length self.old.core.replies < self.old.room }
         requires kinds { NewsFit program.now shape.now }
+        requires own { HasOwn shape.now (scheme_of by self.old.core.number) }
         requires near { self.old.core.hand.at < 2 ^ 62 }
         requires few { IsNear onward }
-        ensures { self.new ≡ record self.old { core = (retires_then program.now shape.now onward slot self.old.core).entry } }
+        ensures { self.new ≡ record self.old { core = (retires_then by program.now shape.now onward slot self.old.core).entry } }
     {
         if slot == 0 {
-            self.onward_goes(program, shape, onward);
+            self.onward_goes(by, program, shape, onward);
         } else {
             self.stand = Stand::Retires(RetireState::begin(slot), onward);
         }
@@ -157,6 +248,7 @@ impl Entry {
 
     fn cas_ended(
         &mut self,
+        by: Reclamation,
         program: &Program,
         shape: &Shape,
         exchange: &CasEntry,
@@ -165,16 +257,17 @@ impl Entry {
     )
         requires spare { length self.old.core.replies < self.old.room }
         requires kinds { NewsFit program.now shape.now }
+        requires own { HasOwn shape.now (scheme_of by self.old.core.number) }
         requires near { self.old.core.hand.at < 2 ^ 62 }
         requires slots { AreSlots self.old.core.hand.registers }
-        ensures { self.new ≡ record self.old { core = (cas_ended program.now shape.now exchange.now failed word self.old.core).entry } }
+        ensures { self.new ≡ record self.old { core = (cas_ended by program.now shape.now exchange.now failed word self.old.core).entry } }
     {
         if succeeds(exchange, &self.hand.registers, word) {
             let slot = to_retire(exchange.retire, &self.hand.registers);
-            self.retires_then(program, shape, AfterRetire::Next, slot);
+            self.retires_then(by, program, shape, AfterRetire::Next, slot);
         } else {
             let code = self.code_in(program);
-            self.settle(program, shape, code, failed as usize);
+            self.settle(by, program, shape, code, failed as usize);
         }
     }
 
@@ -182,6 +275,7 @@ impl Entry {
     #[inline(never)]
     fn cas_made(
         &mut self,
+        by: Reclamation,
         program: &Program,
         shape: &Shape,
         exchange: &CasEntry,
@@ -190,37 +284,40 @@ impl Entry {
     )
         requires spare { length self.old.core.replies < self.old.room }
         requires kinds { NewsFit program.now shape.now }
+        requires own { HasOwn shape.now (scheme_of by self.old.core.number) }
         requires near { self.old.core.hand.at < 2 ^ 62 }
         requires slots { AreSlots self.old.core.hand.registers }
-        ensures { self.new ≡ record self.old { core = (cas_made program.now shape.now exchange.now failed word self.old.core).entry } }
+        ensures { self.new ≡ record self.old { core = (cas_made by program.now shape.now exchange.now failed word self.old.core).entry } }
     {
         self.hand.accessed = self.hand.wrapup;
-        self.cas_ended(program, shape, exchange, failed, word);
+        self.cas_ended(by, program, shape, exchange, failed, word);
     }
 
     #[inline(always)]
     fn plain_accepted(
         &mut self,
+        by: Reclamation,
         program: &Program,
         shape: &Shape,
-        code: &[TargetInstr],
+        code: Code,
         instr: &Instr,
         word: u64,
     )
         requires spare { length self.old.core.replies < self.old.room }
         requires kinds { NewsFit program.now shape.now }
+        requires own { HasOwn shape.now (scheme_of by self.old.core.number) }
         requires near { self.old.core.hand.at < 2 ^ 62 }
         requires slots { AreSlots self.old.core.hand.registers }
-        requires code { code.now ≡ code_in program.now self.old.core }
-        ensures { self.new ≡ record self.old { core = (plain_accepted program.now shape.now instr.now word self.old.core).entry } }
+        requires code { code_shown code ≡ code_in program.now self.old.core }
+        ensures { self.new ≡ record self.old { core = (plain_accepted by program.now shape.now instr.now word self.old.core).entry } }
     {
         match instr {
             Instr::LoadRoot(d, _) | Instr::LoadPick(d, _, _, _) | Instr::LoadField(d, _, _) => {
-                self.loaded(program, shape, code, *d, word);
+                self.loaded(by, program, shape, code, *d, word);
             }
-            Instr::Put(_, _, _) => self.go_on_in(program, shape, code),
+            Instr::Put(_, _, _) => self.go_on_in(by, program, shape, code),
             Instr::Cas(exchange, failed) => {
-                self.cas_made(program, shape, exchange, *failed, word);
+                self.cas_made(by, program, shape, exchange, *failed, word);
             }
             _ => {}
         }
@@ -229,43 +326,46 @@ impl Entry {
     #[inline(always)]
     fn instr_accepted(
         &mut self,
+        by: Reclamation,
         program: &Program,
         shape: &Shape,
-        code: &[TargetInstr],
-        instr: Option<&TargetInstr>,
+        code: Code,
+        instr: Option<Step>,
         word: u64,
     )
-        requires code { code.now ≡ code_in program.now self.old.core }
-        requires instr { option_copied instr ≡ instr_in program.now self.old.core }
+        requires code { code_shown code ≡ code_in program.now self.old.core }
+        requires instr { shown_at instr ≡ instr_in program.now self.old.core }
         requires spare { length self.old.core.replies < self.old.room }
         requires kinds { NewsFit program.now shape.now }
+        requires own { HasOwn shape.now (scheme_of by self.old.core.number) }
         requires near { self.old.core.hand.at < 2 ^ 62 }
         requires slots { AreSlots self.old.core.hand.registers }
         requires can { InstrAccepts (instr_in program.now self.old.core) }
-        ensures { self.new ≡ record self.old { core = (instr_accepted program.now shape.now (instr_in program.now self.old.core) word self.old.core).entry } }
+        ensures { self.new ≡ record self.old { core = (instr_accepted by program.now shape.now (instr_in program.now self.old.core) word self.old.core).entry } }
     {
         match instr {
             None => {}
-            Some(TargetInstr::Plain(instr)) => {
-                self.plain_accepted(program, shape, code, instr, word);
+            Some(Step::Plain(instr)) => {
+                self.plain_accepted(by, program, shape, code, instr, word);
             }
-            Some(TargetInstr::Check) => self.checked(program, shape, code, word),
-            Some(TargetInstr::Guard(Reg::Ref(r))) => self.guarded(program, shape, code, *r),
-            Some(TargetInstr::Guard(Reg::Num(_))) => {}
+            Some(Step::Check) => self.checked_by(by, program, shape, code, word),
+            Some(Step::Guard(Reg::Ref(r))) => self.guarded_by(by, program, shape, code, r),
+            Some(Step::Guard(Reg::Num(_))) => {}
         }
     }
 
     /// The same of the instruction at which the entry stands.
-    fn here_accepted(&mut self, program: &Program, shape: &Shape, word: u64)
+    fn here_accepted(&mut self, by: Reclamation, program: &Program, shape: &Shape, word: u64)
         requires spare { length self.old.core.replies < self.old.room }
         requires kinds { NewsFit program.now shape.now }
+        requires own { HasOwn shape.now (scheme_of by self.old.core.number) }
         requires near { self.old.core.hand.at < 2 ^ 62 }
         requires slots { AreSlots self.old.core.hand.registers }
         requires can { InstrAccepts (instr_in program.now self.old.core) }
-        ensures { self.new ≡ record self.old { core = (instr_accepted program.now shape.now (instr_in program.now self.old.core) word self.old.core).entry } }
+        ensures { self.new ≡ record self.old { core = (instr_accepted by program.now shape.now (instr_in program.now self.old.core) word self.old.core).entry } }
     {
         let code = self.code_in(program);
-        self.instr_accepted(program, shape, code, instr_at(code, self.hand.at), word);
+        self.instr_accepted(by, program, shape, code, code.at(self.hand.at), word);
     }
 
     /// Each cradle that holds the slot of the operand is emptied.
@@ -279,9 +379,22 @@ impl Entry {
         }
     }
 
+    /// A list ends with the first of its exchanges that fails.
+    fn list_failed(&mut self, by: Reclamation, program: &Program, shape: &Shape, k: usize)
+        requires spare { length self.old.core.replies < self.old.room }
+        requires kinds { NewsFit program.now shape.now }
+        ensures { self.new ≡ record self.old { core = (list_failed by program.now shape.now k self.old.core).entry } }
+    {
+        match by {
+            Reclamation::Optimistic => self.list_ended(program, shape, k),
+            Reclamation::Epochs => self.wrap_up_begun(program, k),
+        }
+    }
+
     /// An exchange of a list was made.
     fn entry_made(
         &mut self,
+        by: Reclamation,
         program: &Program,
         shape: &Shape,
         k: usize,
@@ -290,30 +403,39 @@ impl Entry {
     )
         requires spare { length self.old.core.replies < self.old.room }
         requires kinds { NewsFit program.now shape.now }
+        requires own { HasOwn shape.now (scheme_of by self.old.core.number) }
         requires near { self.old.core.hand.at < 2 ^ 62 }
         requires slots { AreSlots self.old.core.hand.registers }
         requires few { k < 2 ^ 62 }
-        ensures { self.new ≡ record self.old { core = (entry_made program.now shape.now k exchange.now word self.old.core).entry } }
+        ensures { self.new ≡ record self.old { core = (entry_made by program.now shape.now k exchange.now word self.old.core).entry } }
     {
         if succeeds(exchange, &self.hand.registers, word) {
             let slot = to_retire(exchange.retire, &self.hand.registers);
             self.publish(exchange.replacement);
-            self.retires_then(program, shape, AfterRetire::List(k), slot);
+            self.retires_then(by, program, shape, AfterRetire::List(k), slot);
         } else {
-            self.list_ended(program, shape, k);
+            self.list_failed(by, program, shape, k);
         }
     }
 
-    fn list_accepted(&mut self, program: &Program, shape: &Shape, k: usize, word: u64)
+    fn list_accepted(
+        &mut self,
+        by: Reclamation,
+        program: &Program,
+        shape: &Shape,
+        k: usize,
+        word: u64,
+    )
         requires spare { length self.old.core.replies < self.old.room }
         requires kinds { NewsFit program.now shape.now }
+        requires own { HasOwn shape.now (scheme_of by self.old.core.number) }
         requires near { self.old.core.hand.at < 2 ^ 62 }
         requires slots { AreSlots self.old.core.hand.registers }
         requires few { k < 2 ^ 62 }
-        ensures { self.new ≡ record self.old { core = (list_accepted program.now shape.now k (slice_get (list_of (instr_in program.now self.old.core)) k) word self.old.core).entry } }
+        ensures { self.new ≡ record self.old { core = (list_accepted by program.now shape.now k (slice_get (list_of (instr_in program.now self.old.core)) k) word self.old.core).entry } }
     {
         if let Some(exchange) = exchange_at(list_of(self.instr_in(program)), k) {
-            self.entry_made(program, shape, k, exchange, word);
+            self.entry_made(by, program, shape, k, exchange, word);
         }
     }
 
@@ -366,42 +488,82 @@ impl Entry {
         self.stand = Stand::Zeroes(k, 0);
     }
 
-    fn claim_ended(&mut self, program: &Program, end: ClaimEnd)
+    /// And if the caller has swept for it under epochs, it announces anew, and begins its generator again.
+    fn slot_swept(&mut self, program: &Program, slot: u32)
+        ensures { self.new ≡ record self.old { core = slot_swept program.now slot self.old.core } }
+    {
+        self.slot_claimed(program, slot);
+        self.count_restart();
+        self.stand = Stand::Announces(Announcing::Loads(AnnounceReason::Swept));
+    }
+
+    fn slot_gained(&mut self, by: Reclamation, program: &Program, sweeps: u8, slot: u32)
+        ensures { self.new ≡ record self.old { core = slot_gained by program.now sweeps slot self.old.core } }
+    {
+        match by {
+            Reclamation::Optimistic => self.slot_claimed(program, slot),
+            Reclamation::Epochs => {
+                if sweeps == 0 {
+                    self.slot_claimed(program, slot);
+                } else {
+                    self.slot_swept(program, slot);
+                }
+            }
+        }
+    }
+
+    fn claim_ended(&mut self, by: Reclamation, program: &Program, sweeps: u8, end: ClaimEnd)
         requires { length self.old.core.replies < self.old.room }
-        ensures { self.new ≡ record self.old { core = (claim_ended program.now end self.old.core).entry } }
+        ensures { self.new ≡ record self.old { core = (claim_ended by program.now sweeps end self.old.core).entry } }
     {
         match end {
-            ClaimEnd::Claimed(slot) => self.slot_claimed(program, slot),
+            ClaimEnd::Claimed(slot) => self.slot_gained(by, program, sweeps, slot),
             ClaimEnd::Full => self.replied(Reply::Full),
             ClaimEnd::PhasesOver(p) => self.replied(Reply::Phases(p)),
         }
     }
 
     /// The last field of a `new` was stored.
-    fn node_made(&mut self, program: &Program, shape: &Shape, slot: u32)
+    fn node_made(&mut self, by: Reclamation, program: &Program, shape: &Shape, slot: u32)
         requires spare { length self.old.core.replies < self.old.room }
         requires kinds { NewsFit program.now shape.now }
+        requires own { HasOwn shape.now (scheme_of by self.old.core.number) }
         requires near { self.old.core.hand.at < 2 ^ 62 }
-        ensures { self.new ≡ record self.old { core = (node_made program.now shape.now slot self.old.core).entry } }
+        ensures { self.new ≡ record self.old { core = (node_made by program.now shape.now slot self.old.core).entry } }
     {
         let code = self.code_in(program);
-        put_new(&mut self.hand.registers, instr_at(code, self.hand.at), slot);
-        self.go_on_in(program, shape, code);
+        put_new(&mut self.hand.registers, code.at(self.hand.at), slot);
+        self.go_on_in(by, program, shape, code);
     }
 
-    fn zeroed(&mut self, program: &Program, shape: &Shape, k: usize, field: u32)
+    fn zeroed(&mut self, by: Reclamation, program: &Program, shape: &Shape, k: usize, field: u32)
         requires spare { length self.old.core.replies < self.old.room }
         requires kinds { NewsFit program.now shape.now }
+        requires own { HasOwn shape.now (scheme_of by self.old.core.number) }
         requires near { self.old.core.hand.at < 2 ^ 62 }
         requires field { field < shape.now.fields }
-        ensures { self.new ≡ record self.old { core = (zeroed program.now shape.now k field self.old.core).entry } }
+        ensures { self.new ≡ record self.old { core = (zeroed by program.now shape.now k field self.old.core).entry } }
     {
         let _row = shape.fields();
         let fields = program.field_count(kind_made(self.instr_in(program)));
         if field as usize + 1 < fields {
             self.stand = Stand::Zeroes(k, field + 1);
         } else {
-            self.node_made(program, shape, self.cradle(k));
+            self.node_made(by, program, shape, self.cradle(k));
+        }
+    }
+
+    /// The phase was loaded; or it, or 0, was stored in the own warning word.
+    fn announced(&mut self, program: &Program, shape: &Shape, announcing: Announcing, word: u64)
+        requires spare { length self.old.core.replies < self.old.room }
+        requires kinds { NewsFit program.now shape.now }
+        requires number { self.old.core.number < shape.now.callers }
+        ensures { self.new ≡ record self.old { core = (announced program.now shape.now announcing word self.old.core).entry } }
+    {
+        match announcing {
+            Announcing::Loads(why) => self.stand = Stand::Announces(Announcing::Stores(why, word)),
+            Announcing::Stores(_, _) => self.begin_generator(program, shape),
+            Announcing::Leaves(reply) => self.replied(reply),
         }
     }
 
@@ -412,22 +574,24 @@ impl Entry {
         &mut self,
         program: &Program,
         setting: &Setting,
-        code: &[TargetInstr],
-        instr: Option<&TargetInstr>,
+        code: Code,
+        instr: Option<Step>,
         word: u64,
     )
         requires spare { length self.old.core.replies < self.old.room }
         requires kinds { NewsFit program.now setting.now.sizes }
+        requires caller { self.old.core.number < setting.now.sizes.callers }
         requires near { self.old.core.hand.at < 2 ^ 62 }
         requires slots { AreSlots self.old.core.hand.registers }
         requires stands { self.old.core.routine ≡ At }
-        requires code { code.now ≡ code_in program.now self.old.core }
-        requires instr { option_copied instr ≡ instr_in program.now self.old.core }
+        requires code { code_shown code ≡ code_in program.now self.old.core }
+        requires instr { shown_at instr ≡ instr_in program.now self.old.core }
         requires can { CanAccept program.now setting.now self.old.core word self.old.core.routine }
         ensures { self.new ≡ record self.old { core = after program.now setting.now self.old.core word } }
     {
+        let by = setting.reclamation();
         self.running.steps = one_more(self.running.steps);
-        self.instr_accepted(program, setting.shape(), code, instr, word);
+        self.instr_accepted(by, program, setting.shape(), code, instr, word);
     }
 
     /// The entry after its wanted access found a word. It runs, with room for a reply, its registers name slots, and the word
@@ -437,23 +601,24 @@ impl Entry {
     pub fn accept(&mut self, program: &Program, setting: &Setting, word: u64)
         requires spare { length self.old.core.replies < self.old.room }
         requires kinds { NewsFit program.now setting.now.sizes }
+        requires caller { self.old.core.number < setting.now.sizes.callers }
         requires near { self.old.core.hand.at < 2 ^ 62 }
         requires slots { AreSlots self.old.core.hand.registers }
         requires can { CanAccept program.now setting.now self.old.core word self.old.core.routine }
         ensures { self.new ≡ record self.old { core = after program.now setting.now self.old.core word } }
     {
-        let shape = setting.shape();
+        let (by, shape) = (setting.reclamation(), setting.shape());
         self.running.steps = one_more(self.running.steps);
         match &mut self.stand {
             Stand::Idle => {}
             &mut Stand::LoadSeen(why) => self.seen_loaded(program, shape, why, word),
-            Stand::At => self.here_accepted(program, shape, word),
-            &mut Stand::InList(k) => self.list_accepted(program, shape, k, word),
+            Stand::At => self.here_accepted(by, program, shape, word),
+            &mut Stand::InList(k) => self.list_accepted(by, program, shape, k, word),
             Stand::Retires(retirement, onward) => {
                 let onward = *onward;
                 if retirement.accept(shape, word) {
                     self.stand = Stand::At;
-                    self.onward_goes(program, shape, onward);
+                    self.onward_goes(by, program, shape, onward);
                 }
             }
             Stand::Restarts => self.restart_cleared(program, shape),
@@ -462,15 +627,17 @@ impl Entry {
                 Some(claim) => {
                     let takes = claim.takes(shape, word);
                     let ended = claim.accept(shape, setting.last_phase(), word);
+                    let sweeps = claim.sweeps();
                     self.count_claim(takes);
                     if let Some(end) = ended {
                         self.stand = Stand::At;
-                        self.claim_ended(program, end);
+                        self.claim_ended(by, program, sweeps, end);
                     }
                 }
-                None => self.here_accepted(program, shape, word),
+                None => self.here_accepted(by, program, shape, word),
             },
-            &mut Stand::Zeroes(k, field) => self.zeroed(program, shape, k, field),
+            &mut Stand::Zeroes(k, field) => self.zeroed(by, program, shape, k, field),
+            &mut Stand::Announces(announcing) => self.announced(program, shape, announcing, word),
         }
     }
 }

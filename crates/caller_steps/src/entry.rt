@@ -6,7 +6,9 @@ ghost use Rattle.caller_steps.specs.Entries.{idle_entry, is_idle, one_more};
 ghost use Rattle.caller_steps.specs.After.{taken};
 
 use crate::stand::Stand;
-use caller_parts::{Call, MethodStart, Replies, Reply, Running};
+use caller_parts::{
+    AnnounceReason, Announcing, Call, MethodStart, Reclamation, Replies, Reply, Running,
+};
 use guard_words::row::GuardRow;
 use norm_lang::registers::{Registers, starting_registers};
 use phase_pools::claim::ClaimState;
@@ -124,16 +126,20 @@ impl Entry {
         self.number = number;
     }
 
-    /// Takes a call: the entry stands at the start of its generator, with the call's arguments in its registers.
-    pub fn begin(&mut self, call: Call)
-        ensures { self.new ≡ record self.old { core = taken call self.old.core } }
+    /// Takes a call: the entry stands at the start of its generator, with the call's arguments in its registers, before the first access
+    /// of the scheme.
+    pub fn begin(&mut self, by: Reclamation, call: Call)
+        ensures { self.new ≡ record self.old { core = taken by call self.old.core } }
     {
         self.running = Running { call, steps: 0 };
         self.hand.wrapup = false;
         self.hand.at = 0;
         self.hand.registers = starting_registers(&call.args);
         self.hand.started = starting_registers(&[0; 4]);
-        self.stand = Stand::LoadSeen(MethodStart::Begin);
+        self.stand = match by {
+            Reclamation::Optimistic => Stand::LoadSeen(MethodStart::Begin),
+            Reclamation::Epochs => Stand::Announces(Announcing::Loads(AnnounceReason::Begin)),
+        };
     }
 
     /// Whether no call runs.

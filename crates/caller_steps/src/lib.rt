@@ -8,8 +8,8 @@ pub mod stand;
 mod wanting;
 
 pub use caller_parts::{
-    AfterClear, AfterRetire, Call, MethodStart, Program, Replied, Replies, Reply, Routine, Running,
-    Setting, SettingFault,
+    AfterClear, AfterRetire, AnnounceReason, Announcing, Call, Code, MethodStart, Program,
+    Reclamation, Replied, Replies, Reply, Routine, Running, Setting, SettingFault, Step,
 };
 pub use entry::{Counts, Entry, Hand};
 pub use stand::Stand;

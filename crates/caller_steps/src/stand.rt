@@ -1,6 +1,6 @@
 //! Where a caller stands, apart from what its claim keeps.
 
-use caller_parts::{AfterClear, AfterRetire, MethodStart};
+use caller_parts::{AfterClear, AfterRetire, Announcing, MethodStart};
 use phase_pools::retire::RetireState;
 
 /// Where a caller stands between two accesses: a `Routine` without its claim. A claim has room for all that a sweep gathers, and most steps
@@ -25,4 +25,6 @@ pub enum Stand {
     Claims,
     /// Before the store of 0 to a field of the slot in a cradle: the cradle and the field.
     Zeroes(usize, u32),
+    /// Before an access of an announcement.
+    Announces(Announcing),
 }

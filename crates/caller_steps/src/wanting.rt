@@ -1,22 +1,22 @@
 //! The one access that an entry makes next.
 
-ghost use Rattle.std.specs.Prelude.{◌≡◌, ◌<◌, ◌≤◌, option_copied, slice_get, Some, None};
+ghost use Rattle.std.specs.Prelude.{◌≡◌, ◌<◌, ◌≤◌, slice_get, Some, None};
+ghost use Rattle.caller_parts.specs.Codes.{shown_at};
 ghost use Rattle.phase_pools.specs.Accesses.{located};
 ghost use Rattle.caller_parts.specs.declared.routine.Routine.TheVariants.{At};
 ghost use Rattle.caller_steps.specs.Entries.{instr_in};
 ghost use Rattle.caller_parts.specs.Operands.{list_of, AreSlots};
-ghost use Rattle.caller_steps.specs.Wants.{exchange_wanted, object_exchange, plain_wanted, instr_wanted, list_wanted, clear_wanted, wants};
+ghost use Rattle.caller_steps.specs.Wants.{exchange_wanted, object_exchange, plain_wanted, instr_wanted, list_wanted, clear_wanted, announcing_wanted, wants};
 ghost use Rattle.caller_steps.specs.Asking.{located_option, CanExchange, CanAsk, CanAskPlain, CanAskInstr, CanAskList, IsRegister};
 
 use crate::entry::Entry;
 use crate::stand::Stand;
 use caller_parts::operands::{exchange_at, list_of, slot_in, word_in};
-use caller_parts::{Program, Setting};
+use caller_parts::{Announcing, Program, Setting, Step};
 use norm_lang::registers::{Registers, number_at};
 use norm_lang::text::{CasEntry, Instr, Place, Reg};
 use oa_words::shape::Shape;
 use phase_pools::access::Access;
-use target_code::target::TargetInstr;
 
 /// The exchange of a node's field; where the object is null the field is loaded.
 fn object_exchange(shape: &Shape, slot: u32, field: u32, expected: u64, replacement: u64) -> Access
@@ -116,35 +116,45 @@ fn clear_wanted(shape: &Shape, caller: u32, register: Option<u32>) -> Option<Acc
     }
 }
 
+/// The load of the phase, or a store to the own warning word.
+fn announcing_wanted(shape: &Shape, caller: u32, announcing: Announcing) -> Access
+    requires { caller < shape.now.callers }
+    ensures { result ≡ located shape.now (announcing_wanted caller announcing) }
+{
+    let word = match announcing {
+        Announcing::Loads(_) => {
+            return Access::Load {
+                at: shape.phase_at(),
+            };
+        }
+        Announcing::Stores(_, phase) => phase,
+        Announcing::Leaves(_) => 0,
+    };
+    Access::Store {
+        at: shape.warning_at(caller),
+        word,
+    }
+}
+
 impl Entry {
     #[inline(always)]
-    fn instr_wanted(
-        &self,
-        program: &Program,
-        shape: &Shape,
-        instr: Option<&TargetInstr>,
-    ) -> Option<Access>
+    fn instr_wanted(&self, program: &Program, shape: &Shape, instr: Option<Step>) -> Option<Access>
         requires caller { self.now.core.number < shape.now.callers }
         requires slots { AreSlots self.now.core.hand.registers }
-        requires can { CanAskInstr program.now.fields shape.now (option_copied instr) self.now.core.hand.registers }
-        ensures { result ≡ located_option shape.now (instr_wanted program.now.fields self.now.core.number (option_copied instr.entry) self.now.core.hand.registers) }
+        requires can { CanAskInstr program.now.fields shape.now (shown_at instr) self.now.core.hand.registers }
+        ensures { result ≡ located_option shape.now (instr_wanted program.now.fields self.now.core.number (shown_at instr.entry) self.now.core.hand.registers) }
     {
         match instr {
             None => None,
-            Some(TargetInstr::Plain(instr)) => plain_wanted(
-                program,
-                shape,
-                instr,
-                &self.hand.registers,
-            ),
-            Some(TargetInstr::Check) => Some(Access::Load {
+            Some(Step::Plain(instr)) => plain_wanted(program, shape, instr, &self.hand.registers),
+            Some(Step::Check) => Some(Access::Load {
                 at: shape.warning_at(self.number),
             }),
-            Some(TargetInstr::Guard(Reg::Ref(r))) => Some(Access::Store {
-                at: shape.hazard_at(self.number, *r as u32),
-                word: slot_in(&self.hand.registers, Reg::Ref(*r)) as u64,
+            Some(Step::Guard(Reg::Ref(r))) => Some(Access::Store {
+                at: shape.hazard_at(self.number, r as u32),
+                word: slot_in(&self.hand.registers, Reg::Ref(r)) as u64,
             }),
-            Some(TargetInstr::Guard(Reg::Num(_))) => None,
+            Some(Step::Guard(Reg::Num(_))) => None,
         }
     }
 
@@ -166,12 +176,12 @@ impl Entry {
         &self,
         program: &Program,
         setting: &Setting,
-        instr: Option<&TargetInstr>,
+        instr: Option<Step>,
     ) -> Option<Access>
         requires caller { self.now.core.number < setting.now.sizes.callers }
         requires slots { AreSlots self.now.core.hand.registers }
         requires stands { self.now.core.routine ≡ At }
-        requires instr { option_copied instr ≡ instr_in program.now self.now.core }
+        requires instr { shown_at instr ≡ instr_in program.now self.now.core }
         requires can { CanAsk program.now setting.now self.now.core self.now.core.routine }
         ensures { result ≡ located_option setting.now.sizes (wants program.now self.now.core) }
     {
@@ -205,6 +215,9 @@ impl Entry {
                 Some(claim) => Some(claim.pending(shape, setting.last_phase())),
                 None => self.instr_wanted(program, shape, self.instr_in(program)),
             },
+            Stand::Announces(announcing) => {
+                Some(announcing_wanted(shape, self.number, *announcing))
+            }
             Stand::Zeroes(k, field) => Some(Access::Store {
                 at: shape.field_at(self.cradle(*k), *field),
                 word: 0,

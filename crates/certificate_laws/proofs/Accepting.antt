@@ -17,7 +17,7 @@ use Rattle.documents.specs.declared.document.ScriptCall.{ScriptCall}
 use Rattle.caller_parts.specs.declared.call.Call.{Call}
 use Rattle.caller_parts.specs.declared.call.Replied.{Replied}
 use Rattle.caller_parts.specs.declared.routine.Routine.{Routine}
-use Rattle.caller_parts.specs.declared.routine.Routine.TheVariants.{Idle, LoadSeen, At, InList, Retires, Restarts, Clears, Claims, Zeroes}
+use Rattle.caller_parts.specs.declared.routine.Routine.TheVariants.{Idle, LoadSeen, At, InList, Retires, Restarts, Clears, Claims, Zeroes, Announces}
 use Rattle.caller_parts.specs.Settings.{Setting, Fits, IsSetting}
 use Rattle.caller_steps.specs.Entries.{Entry, idle_entry, is_idle as rests}
 use Rattle.core_runs.specs.Machine.{CoreState, CoreEvent}
@@ -36,6 +36,7 @@ use Rattle.event_judge.specs.JudgingLaws.{calls_begun, are_first_calls, BeginInO
 use Rattle.event_judge.proofs.Verdicts.{accepted_is_true}
 use Rattle.certificate_laws.specs.Certified.{replies_in, spells, Spell, RunsAreAccepted}
 use Rattle.certificate_laws.proofs.Beginning.{begins_first, idle_count, busy_count, none_begun}
+use Rattle.caller_parts.specs.declared.setting.Reclamation.TheVariants.{Optimistic}
 
 -- ---- one caller
 
@@ -49,6 +50,7 @@ rests_by Restarts is = absurd (let no : false ≡ true = is in cc)
 rests_by (Clears next) is = absurd (let no : false ≡ true = is in cc)
 rests_by (Claims claim) is = absurd (let no : false ≡ true = is in cc)
 rests_by (Zeroes k field) is = absurd (let no : false ≡ true = is in cc)
+rests_by (Announces announcing) is = absurd (let no : false ≡ true = is in cc)
 
 -- a caller that rests is idle in the source
 source_rests : (t : Plan) (s : Shared) (d : ℕ) (x : Caller) → CallerHolds t s d x → x.entry.routine ≡ Idle → is_none x.source.running ≡ true
@@ -59,7 +61,7 @@ source_rests t s d x holds at =
 none_later : (n c : ℕ) → n ≤ c → slice_get (replicate n idle_caller) c ≡ None
 none_later n c past = slice_get_past (replicate n idle_caller) c (let count = length-replicate n idle_caller in omega (arith, count, past))
 
-module _ (pair : Paired) (setting : Setting) (sound : IsSound pair) (own : IsSetting setting) (fits : Fits pair.target setting) (proper : IsProper pair.source)
+module _ (pair : Paired) (setting : Setting) (sound : IsSound pair) (own : IsSetting setting) (fits : Fits pair.target setting) (optimistic : setting.reclamation ≡ Optimistic) (proper : IsProper pair.source)
     (lines : List (List ScriptCall)) (scripts : List (List Call)) (fuel : ℕ) (events : List CoreEvent) (state : CoreState) (some : 1 ≤ fuel) (count : length lines ≡ setting.sizes.callers)
     (spelled : Spell pair.source.ops lines scripts) (complete : IsCompleteRun pair.target setting scripts fuel events state) where
   abbrev events_of : List SourceEvent
@@ -72,7 +74,7 @@ module _ (pair : Paired) (setting : Setting) (sound : IsSound pair) (own : IsSet
   may = record { small = sound.small; normal = sound.normal; within = sound.within; erases = sound.barred.erases }
 
   stood : Stood pair.target pair.source setting events state
-  stood = stands pair.target pair.source setting events state may sound.barred own fits proper complete.run.runs
+  stood = stands pair.target pair.source setting events state may sound.barred own fits optimistic proper complete.run.runs
 
   source : IsSourceRun pair.source setting.sizes.callers events_of machine
   source = stood.beside.sourced.run
@@ -86,7 +88,7 @@ module _ (pair : Paired) (setting : Setting) (sound : IsSound pair) (own : IsSet
   order_at c = of (slice_get_cases state.entries c).1 where
     of : ((e : Entry) × (c < length state.entries) × (slice_get state.entries c ≡ Some e) × (get_or state.entries c e ≡ e)) ⊎ ((length state.entries ≤ c) × (slice_get state.entries c ≡ None))
         → are_first_calls pair.source.ops (calls_begun c events_of) (lines_of lines c) ≡ true
-    of (inl t) = begins_first pair.target pair.source setting scripts fuel events state some complete c t.0 t.2 pair.source.ops (lines_of lines c) (spelled c)
+    of (inl t) = begins_first pair.target pair.source setting optimistic scripts fuel events state some complete c t.0 t.2 pair.source.ops (lines_of lines c) (spelled c)
     of (inr t) =
         let past = t.0 in
         let many = entries_count in
@@ -112,12 +114,12 @@ module _ (pair : Paired) (setting : Setting) (sound : IsSound pair) (own : IsSet
   agrees_by : (c : ℕ) (e : Entry) → c < setting.sizes.callers → slice_get state.entries c ≡ Some e → (b : Bool) → rests e.routine ≡ b → AgreesWith b (replies_of e) (source_replies machine c)
       → Agrees (length (calls_begun c events_of)) (is_idle (slice_get machine.callers c)) (source_replies machine c) (replies_of e)
   agrees_by c e lt there true idle same = inl (record {
-    counted = idle_count pair.target pair.source setting scripts fuel events state some complete c e there idle ∙ sym (replies_count e);
+    counted = idle_count pair.target pair.source setting optimistic scripts fuel events state some complete c e there idle ∙ sym (replies_count e);
     is_idle = idle_at c e lt there idle;
     same = same;
   })
   agrees_by c e lt there false busy same = inr (record {
-    counted = busy_count pair.target pair.source setting scripts fuel events state some complete c e there busy ∙ ap (λ (n : ℕ). n + 1) (sym (replies_count e));
+    counted = busy_count pair.target pair.source setting optimistic scripts fuel events state some complete c e there busy ∙ ap (λ (n : ℕ). n + 1) (sym (replies_count e));
     same = same;
   })
 
@@ -125,7 +127,7 @@ module _ (pair : Paired) (setting : Setting) (sound : IsSound pair) (own : IsSet
   agrees_at c e lt there =
       subst (λ (l : List SourceReply). Agrees (length (calls_begun c events_of)) (is_idle (slice_get machine.callers c)) (source_replies machine c) l)
       (sym (ap listed (slice_get-map replies_of state.entries c ∙ ap (option_map replies_of) there)))
-      (agrees_by c e lt there (rests e.routine) refl ((refines pair.target pair.source setting events state may sound.barred own fits proper complete.run.runs).agrees c e there))
+      (agrees_by c e lt there (rests e.routine) refl ((refines pair.target pair.source setting events state may sound.barred own fits optimistic proper complete.run.runs).agrees c e there))
 
   agree : (c : ℕ) → c < length lines → AgreesAfter events_of machine (replies_in state) c
   agree c below = of (slice_get_cases state.entries c).1 where
@@ -150,6 +152,6 @@ module _ (pair : Paired) (setting : Setting) (sound : IsSound pair) (own : IsSet
       let claims : length (replies_in state) ≡ length lines = (let same = length-map state.entries replies_of in omega (arith, same, many, entries)) in
       (accepted_is_true pair.source lines events_of (replies_in state) (omega (arith, first, many)) (omega (arith, few, many)) claims).1 is_true
 
-pub are_accepted : (pair : Paired) (setting : Setting) → IsSound pair → IsSetting setting → Fits pair.target setting → RunsAreAccepted pair.target pair.source setting
-are_accepted pair setting sound own fits proper lines scripts fuel events state some count spelled complete =
-    accepted pair setting sound own fits proper lines scripts fuel events state some count spelled complete
+pub are_accepted : (pair : Paired) (setting : Setting) → IsSound pair → IsSetting setting → Fits pair.target setting → setting.reclamation ≡ Optimistic → RunsAreAccepted pair.target pair.source setting
+are_accepted pair setting sound own fits optimistic proper lines scripts fuel events state some count spelled complete =
+    accepted pair setting sound own fits optimistic proper lines scripts fuel events state some count spelled complete

@@ -32,6 +32,7 @@ use Rattle.run_laws.proofs.begin_laws.ScriptsBegun.{scripts_begin}
 use Rattle.event_judge.specs.Calls.{is_call_of_op}
 use Rattle.event_judge.specs.JudgingLaws.{Begun, calls_begun, are_first_calls}
 use Rattle.certificate_laws.specs.Certified.{spells}
+use Rattle.caller_parts.specs.declared.setting.Reclamation.TheVariants.{Optimistic}
 
 -- ---- the judge's begun calls are the run's
 
@@ -71,13 +72,13 @@ one_call_more : (xs : List Replied) (call : Call) → length (map call_replied x
 one_call_more [] call = refl
 one_call_more (x ∷ xs) call = let more = one_call_more xs call in omega (arith, more)
 
-module _ (target : Target) (text : Text) (setting : Setting) (scripts : List (List Call)) (fuel : ℕ) (events : List CoreEvent) (state : CoreState) (some : 1 ≤ fuel)
+module _ (target : Target) (text : Text) (setting : Setting) (optimistic : setting.reclamation ≡ Optimistic) (scripts : List (List Call)) (fuel : ℕ) (events : List CoreEvent) (state : CoreState) (some : 1 ≤ fuel)
     (complete : IsCompleteRun target setting scripts fuel events state) (c : ℕ) (e : Entry) (there : slice_get state.entries c ≡ Some e) where
   begins : BeginsScript (is_idle e.routine) (script_of scripts c) e (begun_in c (image target text setting events))
-  begins = (scripts_begin target setting).each text scripts fuel events state some complete c e there
+  begins = (scripts_begin target setting).each optimistic text scripts fuel events state some complete c e there
 
   begun : begun_in c (image target text setting events) ≡ started e
-  begun = (calls_of_run target text setting events state c e complete.run.runs there).0
+  begun = (calls_of_run target text setting optimistic events state c e complete.run.runs there).0
 
   kept : calls_of e ≡ calls_in c events
   kept = kept_calls target setting events state c e complete.run.runs there

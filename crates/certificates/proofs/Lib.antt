@@ -7,3 +7,4 @@ mod ClaimsRead
 mod CutsFound
 mod ReadBack
 mod WhatIsRead
+mod Digits

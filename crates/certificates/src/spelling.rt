@@ -1,6 +1,6 @@
 //! The canonical spelling of a certificate.
 
-ghost use Rattle.std.specs.Prelude.{◌≡◌, ◌∷◌, ◌++◌, OnOk, IfOk, [], codes, map, decimal, take, option_copied, slice_get};
+ghost use Rattle.std.specs.Prelude.{◌≡◌, ◌<◌, ◌∷◌, ◌++◌, OnOk, IfOk, [], codes, map, decimal, take, option_copied, slice_get};
 ghost use Rattle.std.specs.List.{flat_map};
 ghost use Rattle.norm_lang.specs.Spelling.{spaced, line_bytes};
 ghost use Rattle.certificates.specs.CertificateSpelling.{owed_lines, call_words, spelled_event, reply_words, spelled_reply, replies_lines, account_lines, certificate_spelling};
@@ -27,9 +27,22 @@ fn put_owed(alloc: Global, out: &mut Vec<u8>, schedule: &[Turn]) -> Result<(), A
     }
 }
 
+/// A number of one digit, for which no memory is taken but that of the output.
+#[tactic(auto, using(crate::proofs::Digits::one_digit))]
+fn put_digit(out: &mut Vec<u8>, n: u8) -> Result<(), AllocError>
+    requires { n < 10 }
+    ensures { OnOk result (out.new.items ≡ out.old.items ++ decimal n) }
+{
+    out.push(b'0' + n)?;
+    Ok(())
+}
+
 fn put_number(alloc: Global, out: &mut Vec<u8>, n: u64) -> Result<(), AllocError>
     ensures { OnOk result (out.new.items ≡ out.old.items ++ decimal n) }
 {
+    if n < 10 {
+        return put_digit(out, n as u8);
+    }
     let digits = n.to_string(alloc)?;
     out.extend_from_slice(digits.as_bytes())
 }
@@ -92,6 +105,18 @@ fn put_begin(
     Ok(())
 }
 
+/// `access C N`, into the output itself, since most lines are such.
+fn put_access(alloc: Global, out: &mut Vec<u8>, caller: u32, name: u64) -> Result<(), AllocError>
+    ensures { OnOk result (out.new.items ≡ out.old.items ++ line_bytes (codes "access" ∷ decimal caller ∷ decimal name ∷ [])) }
+{
+    out.extend_from_slice(b"access ")?;
+    put_number(alloc, out, caller as u64)?;
+    out.push(b' ')?;
+    put_number(alloc, out, name)?;
+    out.push(b'\n')?;
+    Ok(())
+}
+
 fn put_event(
     alloc: Global,
     out: &mut Vec<u8>,
@@ -104,10 +129,7 @@ fn put_event(
         SourceEvent::Begin { caller, op, args } => {
             put_begin(alloc, out, *caller, ops.get(*op as usize), args)
         }
-        SourceEvent::Access { caller, name } => {
-            let words = [Number(*caller as u64), Number(*name)];
-            put_line(alloc, out, b"access", &words)
-        }
+        SourceEvent::Access { caller, name } => put_access(alloc, out, *caller, *name),
         SourceEvent::Restart { caller } => {
             put_line(alloc, out, b"restart", &[Number(*caller as u64)])
         }

@@ -26,7 +26,7 @@ use Rattle.chain_laws.proofs.Lists.{put_same}
 use Rattle.chain_laws.proofs.Changes.{tells, head_here, once_here, top_chained}
 use Rattle.chain_laws.proofs.Told.{pool_tells}
 use Rattle.caller_parts.specs.declared.routine.Routine.{Routine}
-use Rattle.caller_parts.specs.declared.routine.Routine.TheVariants.{Idle, LoadSeen, At, InList, Retires, Restarts, Clears, Claims, Zeroes}
+use Rattle.caller_parts.specs.declared.routine.Routine.TheVariants.{Idle, LoadSeen, At, InList, Retires, Restarts, Clears, Claims, Zeroes, Announces}
 use Rattle.caller_parts.specs.Settings.{Setting}
 use Rattle.caller_steps.specs.Entries.{Entry}
 use Rattle.caller_steps.specs.After.{after, accepted, counted, claim_counted, claim_on}
@@ -39,6 +39,7 @@ use Rattle.core_runs.specs.core_pools.Pooled.{standings}
 use Rattle.chain_runs.specs.Slots.{Carries, Chained, InChain, PutsOnTop, TakesTop, words}
 use Rattle.chain_runs.proofs.Chains.{is_in, is_out, stands_in}
 use Rattle.core_runs.proofs.core_pools.Going.{pool_with}
+use Rattle.caller_parts.specs.declared.setting.Reclamation.{Reclamation}
 
 -- who has a slot in a claim carries it
 carries_by : (setting : Setting) (state : CoreState) (c j : ℕ) (r : Routine) → ((view setting state).who c).routine ≡ r → slot_of (standing_of r) ≡ j → IsClaiming (standing_of r) → Carries setting state c j
@@ -51,6 +52,7 @@ carries_by setting state c j Restarts at slot is = absurd is
 carries_by setting state c j (Clears next) at slot is = absurd is
 carries_by setting state c j (Claims claim) at slot is = record { claim = claim; at = at; slot = slot }
 carries_by setting state c j (Zeroes k field) at slot is = absurd is
+carries_by setting state c j (Announces announcing) at slot is = absurd is
 
 carries_slot : (setting : Setting) (state : CoreState) (c j : ℕ) → Carries setting state c j → slot_of (standings (view setting state).who c) ≡ j
 carries_slot setting state c j k = ap (λ (r : Routine). slot_of (standing_of r)) k.at ∙ k.slot
@@ -78,16 +80,16 @@ claim_steps target setting state later c claim shaped at goes =
     }
 
 -- a claim that goes on
-on_in : (target : Target) (claim : Claim) (o : Option ClaimEnd) (e : Entry) → o ≡ None → (claim_on target claim o e).entry.routine ≡ Claims claim
-on_in target claim None e is = refl
-on_in target claim (Some end) e is = absurd (let z : Some end ≡ None = is in cc)
+on_in : (by : Reclamation) (target : Target) (claim : Claim) (o : Option ClaimEnd) (e : Entry) → o ≡ None → (claim_on by target claim o e).entry.routine ≡ Claims claim
+on_in by target claim None e is = refl
+on_in by target claim (Some end) e is = absurd (let z : Some end ≡ None = is in cc)
 
 claim_goes_on : (target : Target) (setting : Setting) (e : Entry) (word : ℕ) (claim next : Claim) → e.routine ≡ Claims claim → claim_accepts setting.sizes setting.last claim word ≡ record { claim = next; ended = None } → (after target setting e word).routine ≡ Claims next
 unfolding after
 claim_goes_on target setting e word claim next at turns =
     let turn : ClaimTurn = claim_accepts setting.sizes setting.last claim word in
-    ap (λ (r : Routine). (accepted target setting word (counted e) r).entry.routine) at
-    ∙ (on_in target turn.claim turn.ended (claim_counted (claim_takes claim word) (counted e)) (ap (λ (t : ClaimTurn). t.ended) turns) ∙ ap (λ (t : ClaimTurn). Claims t.claim) turns)
+    ap (λ (r : Routine). (accepted setting.reclamation target setting word (counted e) r).entry.routine) at
+    ∙ (on_in setting.reclamation target turn.claim turn.ended (claim_counted (claim_takes claim word) (counted e)) (ap (λ (t : ClaimTurn). t.ended) turns) ∙ ap (λ (t : ClaimTurn). Claims t.claim) turns)
 
 -- ---- a state
 

@@ -14,6 +14,7 @@ use Rattle.chain_laws.specs.Chains.{stamp}
 use Rattle.chain_laws.proofs.Told.{pool_tells}
 use Rattle.source_machine.specs.Proper.{IsProper}
 use Rattle.target_laws.specs.target_runs.Runnable.{IsRunnable}
+use Rattle.caller_parts.specs.declared.setting.Reclamation.TheVariants.{Optimistic}
 use Rattle.caller_parts.specs.Settings.{Setting, Fits, IsSetting}
 use Rattle.caller_steps.specs.Asking.{NewsFit}
 use Rattle.core_runs.proofs.caller_laws.Methods.{news_fit, setting_sane}
@@ -51,7 +52,7 @@ from_to target setting before between all state later came goes split =
 small : (word : ℕ) → (head_parts word).top < 8192
 small word = omega arith
 
-module _ (target : Target) (text : Text) (setting : Setting) (runs : IsRunnable target text) (barred : IsBarred target text) (own : IsSetting setting) (fits : Fits target setting) (proper : IsProper text) where
+module _ (target : Target) (text : Text) (setting : Setting) (runs : IsRunnable target text) (barred : IsBarred target text) (own : IsSetting setting) (fits : Fits target setting) (optimistic : setting.reclamation ≡ Optimistic) (proper : IsProper text) where
   are : AreKinds setting.sizes
   are = own.sizes.8
 
@@ -66,7 +67,7 @@ module _ (target : Target) (text : Text) (setting : Setting) (runs : IsRunnable 
 
   all : AllRetiring target setting
   all state reached =
-      let k = stands target text setting reached.events state runs barred own fits proper reached.runs in
+      let k = stands target text setting reached.events state runs barred own fits optimistic proper reached.runs in
       record {
         shaped = sound_is_shaped target setting state (methods target text runs) (setting_sane setting own) fits k.sound;
         used = retires_used (plan_of target text setting reached.events) state (shadow target text setting reached.events) k.beside;
@@ -159,8 +160,8 @@ module _ (target : Target) (text : Text) (setting : Setting) (runs : IsRunnable 
         (none_in setting.sizes (words setting first.0) x.between k j lt x.between_holds.fine ((pool_tells setting.sizes (pool_with setting first.0 x.between) x.between_holds).once k j) gone)
         (is_in setting.sizes (words setting later) x.later k j lt x.later_holds.fine (subst (λ (kind : ℕ). InChain (words setting later) kind j) same back)))
 
-pub slots_are_chained : (pair : Paired) (setting : Setting) → IsSound pair → IsSetting setting → Fits pair.target setting → SlotsAreChained pair.target pair.source setting
-slots_are_chained pair setting sound own fits proper events state is = slots pair.target pair.source setting (record { small = sound.small; normal = sound.normal; within = sound.within; erases = sound.barred.erases }) sound.barred own fits proper events state is
+pub slots_are_chained : (pair : Paired) (setting : Setting) → IsSound pair → IsSetting setting → Fits pair.target setting → setting.reclamation ≡ Optimistic → SlotsAreChained pair.target pair.source setting
+slots_are_chained pair setting sound own fits optimistic proper events state is = slots pair.target pair.source setting (record { small = sound.small; normal = sound.normal; within = sound.within; erases = sound.barred.erases }) sound.barred own fits optimistic proper events state is
 
-pub tops_have_stood : (pair : Paired) (setting : Setting) → IsSound pair → IsSetting setting → Fits pair.target setting → TopsHaveStood pair.target pair.source setting
-tops_have_stood pair setting sound own fits proper events state is = tops pair.target pair.source setting (record { small = sound.small; normal = sound.normal; within = sound.within; erases = sound.barred.erases }) sound.barred own fits proper events state is
+pub tops_have_stood : (pair : Paired) (setting : Setting) → IsSound pair → IsSetting setting → Fits pair.target setting → setting.reclamation ≡ Optimistic → TopsHaveStood pair.target pair.source setting
+tops_have_stood pair setting sound own fits optimistic proper events state is = tops pair.target pair.source setting (record { small = sound.small; normal = sound.normal; within = sound.within; erases = sound.barred.erases }) sound.barred own fits optimistic proper events state is

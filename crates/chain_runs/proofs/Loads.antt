@@ -27,11 +27,13 @@ use Rattle.phase_pools.specs.Pools.{Sweep, SweepTurn, sweep_goes, sweep_ends, sw
 use Rattle.chain_laws.specs.Machine.{Elsewhere}
 use Rattle.chain_laws.proofs.Lists.{each_put}
 use Rattle.caller_parts.specs.declared.routine.Routine.{Routine}
-use Rattle.caller_parts.specs.declared.routine.Routine.TheVariants.{Idle, LoadSeen, At, InList, Retires, Restarts, Clears, Claims, Zeroes}
+use Rattle.caller_parts.specs.declared.routine.Routine.TheVariants.{Idle, LoadSeen, At, InList, Retires, Restarts, Clears, Claims, Zeroes, Announces}
+use Rattle.caller_parts.specs.declared.setting.Reclamation.{Reclamation}
+use Rattle.caller_parts.specs.declared.setting.Reclamation.TheVariants.{Optimistic, Epochs}
 use Rattle.caller_parts.specs.Settings.{Setting}
 use Rattle.caller_steps.specs.Entries.{Entry}
 use Rattle.caller_steps.specs.Wants.{wants}
-use Rattle.caller_steps.specs.After.{after, taken}
+use Rattle.caller_steps.specs.After.{after, taken, first_routine}
 use Rattle.core_runs.specs.Machine.{CoreState, CoreEvent, Takes, Steps, core_event, core_run, core_start, run_on}
 use Rattle.core_runs.specs.Views.{IsShaped, Moves, view}
 use Rattle.core_runs.proofs.Reaching.{run_more, some_is}
@@ -136,6 +138,7 @@ module _ (target : Target) (setting : Setting) where
   AtRoutine events c (Clears next) = Unit {0}
   AtRoutine events c (Claims claim) = AtStage events c claim.kind claim.sweep claim.stage
   AtRoutine events c (Zeroes k field) = Unit {0}
+  AtRoutine events c (Announces announcing) = Unit {0}
 
   -- what a caller that doesn't move keeps
   module _ (past more : List CoreEvent) (c : ℕ) (keep : (i q t : ℕ) → Found past c i q t → Found more c i q t) where
@@ -168,6 +171,7 @@ module _ (target : Target) (setting : Setting) where
     stays_routine (Clears next) k = tt
     stays_routine (Claims claim) k = stays_stage claim.kind claim.sweep claim.stage k
     stays_routine (Zeroes n field) k = tt
+    stays_routine (Announces announcing) k = tt
 
   -- ---- a step of a claim
 
@@ -271,7 +275,7 @@ module _ (target : Target) (setting : Setting) where
   -- ---- events
 
   begins_loadless : (events : List CoreEvent) (c : ℕ) → HoldsAtBegins target setting.sizes (AtRoutine events c)
-  begins_loadless events c = record { idle = tt; seen = λ why. tt; here = tt; lists = λ k. tt; retires = λ j go. tt; restarts = tt; clears = λ next. tt; claims = λ e. tt; zeroes = λ k field. tt }
+  begins_loadless events c = record { idle = tt; seen = λ why. tt; here = tt; lists = λ k. tt; retires = λ j go. tt; restarts = tt; clears = λ next. tt; claims = λ e scheme. tt; zeroes = λ k field. tt; announces = λ announcing. tt }
 
   own_step : (past : List CoreEvent) (state : CoreState) (c : ℕ) (a : WordAccess) → core_run target setting past (core_start target setting) ≡ Some state → wants target ((view setting state).who c) ≡ Some a → AtRoutine past c ((view setting state).who c).routine
       → AtRoutine (past ++ Steps c ∷ []) c (after target setting ((view setting state).who c) (words setting state (word_of a))).routine
@@ -294,11 +298,15 @@ module _ (target : Target) (setting : Setting) where
   abbrev AllAt : List CoreEvent → CoreState → Type 0
   AllAt events state = (c : ℕ) → c < setting.sizes.callers → AtRoutine events c ((view setting state).who c).routine
 
+  taken_at : (events : List CoreEvent) (c : ℕ) (by : Reclamation) → AtRoutine events c (first_routine by)
+  taken_at events c Optimistic = tt
+  taken_at events c Epochs = tt
+
   event_at : (past : List CoreEvent) (state later : CoreState) (event : CoreEvent) → core_run target setting past (core_start target setting) ≡ Some state → Moves target setting (view setting state) event (view setting later) → AllAt past state
       → AllAt (past ++ event ∷ []) later
   event_at past state later (Takes d call) runs m all =
       subst (λ (who : ℕ → Entry). (c : ℕ) → c < setting.sizes.callers → AtRoutine (past ++ Takes d call ∷ []) c (who c).routine) (sym m.4)
-      (each_put (λ c (e : Entry). c < setting.sizes.callers → AtRoutine (past ++ Takes d call ∷ []) c e.routine) (view setting state).who d (taken call ((view setting state).who d)) (λ lt. tt)
+      (each_put (λ c (e : Entry). c < setting.sizes.callers → AtRoutine (past ++ Takes d call ∷ []) c e.routine) (view setting state).who d (taken setting.reclamation call ((view setting state).who d)) (λ lt. taken_at (past ++ Takes d call ∷ []) d setting.reclamation)
       (λ c ne lt. stays_routine past (past ++ Takes d call ∷ []) c
       (λ i q t l. still_loaded past state (Takes d call) c i (head_word q t) runs (λ same. absurd (let no : Takes d call ≡ Steps c = same in cc)) l)
       ((view setting state).who c).routine (all c lt)))
@@ -329,7 +337,10 @@ module _ (target : Target) (setting : Setting) where
   -- ---- what an exchange on the head expects
 
   elsewhere : (e : Entry) (i expected replacement : ℕ) → standing_of e.routine ≡ Elsewhere → wants target e ≡ Some (Exchanges (Head i) expected replacement) → ⊥
-  elsewhere e i expected replacement at want = let no : false ≡ true = elsewhere_wants target e (Exchanges (Head i) expected replacement) at want in cc
+  elsewhere e i expected replacement at want = ⊎_elim
+      (λ (other : false ≡ true). let no : false ≡ true = other in cc)
+      (λ (loads : Exchanges (Head i) expected replacement ≡ Loads Phase). let no : Exchanges (Head i) expected replacement ≡ Loads Phase = loads in cc)
+      (elsewhere_wants target e (Exchanges (Head i) expected replacement) at want)
 
   retiring : (slot : ℕ) (stage : RetireStage) (i expected replacement : ℕ) → retire_wants_at slot stage ≡ Exchanges (Head i) expected replacement → ⊥
   retiring slot retires.ReadPhase i expected replacement is = cc
@@ -381,6 +392,7 @@ module _ (target : Target) (setting : Setting) where
   expects_at events c i expected replacement e (Clears next) at k want = absurd (elsewhere e i expected replacement (ap standing_of at) want)
   expects_at events c i expected replacement e (Claims claim) at k want = claiming events c i expected replacement claim.kind claim.sweep claim.stage k (same_access _ _ (sym (wants_claims target e claim at) ∙ want))
   expects_at events c i expected replacement e (Zeroes n field) at k want = absurd (elsewhere e i expected replacement (ap standing_of at) want)
+  expects_at events c i expected replacement e (Announces announcing) at k want = absurd (elsewhere e i expected replacement (ap standing_of at) want)
 
   -- at every state of a run
   pub expects : ((past : List CoreEvent) (state : CoreState) → core_run target setting past (core_start target setting) ≡ Some state → IsShaped target setting state) → (events : List CoreEvent) (state : CoreState) → core_run target setting events (core_start target setting) ≡ Some state

@@ -23,17 +23,20 @@ use Rattle.caller_parts.specs.declared.call.Reply.{Reply}
 use Rattle.caller_parts.specs.declared.call.Reply.TheVariants as replies
 use Rattle.caller_parts.specs.declared.call.Replied.{Replied}
 use Rattle.caller_parts.specs.declared.call.Running.{Running}
+use Rattle.caller_parts.specs.declared.routine.AnnounceReason.{AnnounceReason}
+use Rattle.caller_parts.specs.declared.routine.AnnounceReason.TheVariants as reasons
+use Rattle.caller_parts.specs.declared.routine.Announcing.TheVariants as announces
 use Rattle.caller_parts.specs.declared.routine.MethodStart.{MethodStart}
 use Rattle.caller_parts.specs.declared.routine.MethodStart.TheVariants as starts
 use Rattle.caller_parts.specs.declared.routine.AfterRetire.TheVariants as retires
 use Rattle.caller_parts.specs.declared.routine.Routine.{Routine}
-use Rattle.caller_parts.specs.declared.routine.Routine.TheVariants.{Idle, LoadSeen, At, InList, Retires, Restarts, Clears, Claims, Zeroes}
+use Rattle.caller_parts.specs.declared.routine.Routine.TheVariants.{Idle, LoadSeen, At, InList, Retires, Restarts, Clears, Claims, Zeroes, Announces}
 use Rattle.caller_parts.specs.Pairing.{replied_by}
 use Rattle.caller_parts.specs.Settings.{Setting}
 use Rattle.caller_steps.specs.Entries.{Entry, is_idle, code_in, cradle_of, instr_in, new_number}
 use Rattle.caller_parts.specs.Operands.{is_new_at, kind_made, code_at, cradle_number, method_code}
 use Rattle.caller_steps.specs.Signs.{Moved}
-use Rattle.caller_steps.specs.After.{after, counted, claim_counted, claim_on, is_wrap_up}
+use Rattle.caller_steps.specs.After.{after, counted, claim_counted, claim_on, is_wrap_up, slot_gained, with_routine}
 use Rattle.caller_steps.specs.Belongs.{Belongs, ClaimStands, RunsAt, Stands}
 use Rattle.core_runs.specs.Advances.{RunsOn, Ends}
 use Rattle.core_runs.proofs.Turning.{after_turns}
@@ -44,8 +47,8 @@ use Rattle.core_runs.proofs.caller_laws.Stopping.{site_of}
 use Rattle.core_runs.proofs.caller_laws.Cradles.{cradle_number_small, new_counts}
 use Rattle.core_runs.proofs.caller_laws.Pools.{ClaimOn}
 use Rattle.claim_laws.specs.CallSteps.{StepMade}
-use Rattle.claim_laws.specs.Publishing.{news_of, news_of_call, HasFewNews, Publishes}
-use Rattle.claim_laws.proofs.Onward.{IsAnswer, IsBefore, IsNoClaim, StandsAfter, after_answers, ClaimStarts, KeepsFrom, IsPastAt, IsPast, StepKeeps, after_keeps}
+use Rattle.claim_laws.specs.Publishing.{again_routine, news_of, news_of_call, HasFewNews, Publishes}
+use Rattle.claim_laws.proofs.Onward.{IsAnswer, IsBefore, IsNoClaim, StandsAfter, after_answers, ClaimStarts, Gains, IsNoStore, KeepsFrom, IsPastAt, IsPast, StepKeeps, after_keeps, slot_gains}
 
 -- ---- at a `new`
 
@@ -104,9 +107,9 @@ module _ (target : Target) (setting : Setting) (sane : Methods target) where
     count : target_news_in (code_in target e) ≡ news_of_call target e.running.call
     count = ap (λ (w : Bool). target_news_in (method_code (slice_get target.ops e.running.call.op) w)) in_generator ∙ generator_news (slice_get target.ops e.running.call.op)
 
-  -- a caller of a wrap-up claims nothing
-  past_of_wrap : (e : Entry) → Belongs target setting e → e.hand.wrapup ≡ true → IsPast e ⊎ (is_idle e.routine ≡ true)
-  past_of_wrap e b w = of e.routine refl where
+  -- a caller of a wrap-up claims nothing, and is past its list as long as it hasn't loaded a phase to announce
+  past_of_wrap : (e : Entry) → Belongs target setting e → e.hand.wrapup ≡ true → IsNoStore e.routine → IsPast e ⊎ (is_idle e.routine ≡ true)
+  past_of_wrap e b w no_store = of e.routine refl where
     of : (routine : Routine) → e.routine ≡ routine → IsPast e ⊎ (is_idle e.routine ≡ true)
     of Idle is = inr (ap is_idle is)
     of (Claims claim) is = absurd (let z : true ≡ false = sym w ∙ (claims_at_new e claim b is).0 in cc)
@@ -118,6 +121,9 @@ module _ (target : Target) (setting : Setting) (sane : Methods target) where
     of Restarts is = inl (subst (IsPastAt e) (sym is) w)
     of (Clears next) is = inl (subst (IsPastAt e) (sym is) w)
     of (Zeroes k field) is = inl (subst (IsPastAt e) (sym is) w)
+    of (Announces (announces.Loads why)) is = inl (subst (IsPastAt e) (sym is) w)
+    of (Announces (announces.Stores why phase)) is = absurd (subst IsNoStore is no_store)
+    of (Announces (announces.Leaves reply)) is = inl (subst (IsPastAt e) (sym is) w)
 
 -- ---- credits
 
@@ -187,6 +193,7 @@ took_claims (Retires retirement go) took none = took
 took_claims Restarts took none = took
 took_claims (Clears next) took none = took
 took_claims (Zeroes k field) took none = took
+took_claims (Announces announcing) took none = took
 
 -- it has claimed nothing, or it has claimed once and holds the slot, or it has published the node and is past its generator
 abbrev HasClaimed : Target → Setting → Entry → List StepMade → Type 0
@@ -237,7 +244,7 @@ module _ (target : Target) (setting : Setting) (sane : Methods target) (row : Se
       own.number ∙ ap (cradle_number (generator_of target x)) (only_place (generator_of target x) x.hand.at at one own.new new)
 
   module _ (b : Belongs target setting e) (b_later : Belongs target setting later) (busy : is_idle e.routine ≡ false) (before : IsBefore e.routine)
-      (never : e.routine ≡ LoadSeen starts.Again → HasPublished target setting steps → ⊥) (standing : Standing target setting e steps) where
+      (never : e.routine ≡ again_routine setting.reclamation → HasPublished target setting steps → ⊥) (standing : Standing target setting e steps) where
     turns : RunsOn (counted e) later ⊎ Ends (counted e) later
     turns = after_turns target setting e word busy
 
@@ -278,6 +285,7 @@ module _ (target : Target) (setting : Setting) (sane : Methods target) (row : Se
         by (Clears next) is stands = absurd (let z : false ≡ true = sym (ap is_idle is) ∙ idle in cc)
         by (Claims claim) is stands = absurd (let z : false ≡ true = sym (ap is_idle is) ∙ idle in cc)
         by (Zeroes k field) is stands = absurd (let z : false ≡ true = sym (ap is_idle is) ∙ idle in cc)
+        by (Announces announcing) is stands = absurd (let z : false ≡ true = sym (ap is_idle is) ∙ idle in cc)
 
       -- it goes on: what is left to say is whether it still holds its slot or is past its generator
       goes_so : RunsOn (counted e) later → (Holds target e → Holds target later ⊎ (HasPublished target setting all × IsPast later)) → (HasPublished target setting steps → IsPast e → IsPast later) → Going target setting e later all
@@ -325,13 +333,14 @@ module _ (target : Target) (setting : Setting) (sane : Methods target) (row : Se
         by Restarts is empty = subst NoClaim (sym is) tt
         by (Clears next) is empty = subst NoClaim (sym is) tt
         by (Zeroes k field) is empty = subst NoClaim (sym is) tt
+        by (Announces announcing) is empty = subst NoClaim (sym is) tt
 
-      past_busy : is_idle later.routine ≡ false → later.hand.wrapup ≡ true → IsPast later
-      past_busy running w = ⊎_elim (λ (t : IsPast later). t) (λ (t : is_idle later.routine ≡ true). absurd (let z : false ≡ true = sym running ∙ t in cc)) (past_of_wrap target setting sane later b_later w)
+      past_busy : is_idle later.routine ≡ false → later.hand.wrapup ≡ true → IsNoStore later.routine → IsPast later
+      past_busy running w no_store = ⊎_elim (λ (t : IsPast later). t) (λ (t : is_idle later.routine ≡ true). absurd (let z : false ≡ true = sym running ∙ t in cc)) (past_of_wrap target setting sane later b_later w no_store)
 
       -- a step that keeps cradles and wrap-ups
       kept_goes : RunsOn (counted e) later → (wrapup : Bool) → KeepsFrom target e.cradles wrapup later → (HasPublished target setting steps → IsPast e → wrapup ≡ true) → Going target setting e later all
-      kept_goes runs wrapup keeps wraps = goes_so runs (λ holds. inl (holds_on runs keeps.0 keeps.2 holds)) (λ published past. past_busy runs.0 (keeps.1 (wraps published past)))
+      kept_goes runs wrapup keeps wraps = goes_so runs (λ holds. inl (holds_on runs keeps.0 keeps.2 holds)) (λ published past. past_busy runs.0 (keeps.1 (wraps published past)) keeps.3)
 
       no_claim_past : (x : Entry) (routine : Routine) → x.routine ≡ routine → IsPastAt x routine → NoClaim x.routine
       no_claim_past x (Claims claim) is past = absurd past
@@ -343,6 +352,7 @@ module _ (target : Target) (setting : Setting) (sane : Methods target) (row : Se
       no_claim_past x Restarts is past = subst NoClaim (sym is) tt
       no_claim_past x (Clears next) is past = subst NoClaim (sym is) tt
       no_claim_past x (Zeroes k field) is past = subst NoClaim (sym is) tt
+      no_claim_past x (Announces announcing) is past = subst NoClaim (sym is) tt
 
       -- a step of a list, which may publish
       list_goes : RunsOn (counted e) later → IsPast later → Going target setting e later all
@@ -360,12 +370,25 @@ module _ (target : Target) (setting : Setting) (sane : Methods target) (row : Se
         kept : (routine : Routine) → e.routine ≡ routine → (IsPastAt e routine → e.hand.wrapup ≡ true) → KeepsFrom target e.cradles e.hand.wrapup later → Going target setting e later all
         kept routine is wraps keeps = kept_goes runs e.hand.wrapup keeps (λ published past. wraps (subst (IsPastAt e) is past))
 
+        -- how it stands there
+        by_scheme : (routine : Routine) → e.routine ≡ routine → Stands target setting e routine
+        by_scheme routine is = subst (Stands target setting e) is b.stands
+
         seen : (why : MethodStart) → e.routine ≡ LoadSeen why → KeepsFrom target e.cradles (is_wrap_up why) later → Going target setting e later all
         seen starts.Begin is keeps = kept_goes runs false keeps
             (λ published past. absurd (let w : e.hand.wrapup ≡ true = subst (IsPastAt e) is past in
-            let stands : Stands target setting e (LoadSeen starts.Begin) = subst (Stands target setting e) is b.stands in let z : true ≡ false = sym w ∙ stands.0 in cc))
+            let stands : Stands target setting e (LoadSeen starts.Begin) = subst (Stands target setting e) is b.stands in let z : true ≡ false = sym w ∙ stands.1.0 in cc))
         seen starts.WrapUp is keeps = kept_goes runs true keeps (λ published past. refl)
-        seen starts.Again is keeps = kept_goes runs false keeps (λ published past. absurd (never is published))
+        seen starts.Again is keeps =
+            kept_goes runs false keeps (λ published past. absurd (never (is ∙ sym (ap again_routine (by_scheme (LoadSeen starts.Again) is).0)) published))
+
+        -- before the load of a phase to announce it is past its list only where it begins again
+        unpast : (why : AnnounceReason) → e.routine ≡ Announces (announces.Loads why) → HasPublished target setting steps → IsPast e → ⊥
+        unpast reasons.Begin is published past =
+            let w : e.hand.wrapup ≡ true = subst (IsPastAt e) is past in let z : true ≡ false = sym w ∙ (by_scheme (Announces (announces.Loads reasons.Begin)) is).1.0 in cc
+        unpast reasons.Swept is published past =
+            let w : e.hand.wrapup ≡ true = subst (IsPastAt e) is past in let z : true ≡ false = sym w ∙ (by_scheme (Announces (announces.Loads reasons.Swept)) is).1.0 in cc
+        unpast reasons.Again is published past = never (is ∙ sym (ap again_routine (by_scheme (Announces (announces.Loads reasons.Again)) is).0)) published
 
         by : (routine : Routine) → e.routine ≡ routine → StepKeeps target (counted e) later routine → Going target setting e later all
         by Idle is keeps = absurd (let z : true ≡ false = sym (ap is_idle is) ∙ busy in cc)
@@ -378,6 +401,10 @@ module _ (target : Target) (setting : Setting) (sane : Methods target) (row : Se
         by Restarts is keeps = kept Restarts is (λ w. w) keeps
         by (Clears next) is keeps = kept (Clears next) is (λ w. w) keeps
         by (Zeroes k field) is keeps = kept (Zeroes k field) is (λ w. w) keeps
+        by (Announces (announces.Loads why)) is keeps = goes_so runs
+            (λ holds. inl (holds_on runs keeps.0 (subst (ClaimStarts target later) (sym keeps.2) tt) holds)) (λ published past. absurd (unpast why is published past))
+        by (Announces (announces.Stores why phase)) is keeps = kept_goes runs false keeps (λ published past. absurd (subst (IsPastAt e) is past))
+        by (Announces (announces.Leaves reply)) is keeps = kept (Announces (announces.Leaves reply)) is (λ w. w) keeps
 
       plain_step : Going target setting e later all ⊎ Ended target e later
       plain_step = ⊎_elim (λ (t : RunsOn (counted e) later). inl (busy_goes t)) (λ (t : Ends (counted e) later). inr (ends_so t.1)) turns
@@ -391,14 +418,14 @@ module _ (target : Target) (setting : Setting) (sane : Methods target) (row : Se
       abbrev Outcome : Entry → Type 0
       Outcome x = Going target setting e x all ⊎ Ended target e x
 
-      later_is : later ≡ (claim_on target turn.claim turn.ended (claim_counted (claim_takes claim word) (counted e))).entry
-      later_is = after_is target setting e word ∙ ap (λ (m : Moved). m.entry) (moved_claims target setting e word claim there)
+      later_is : later ≡ (claim_on setting.reclamation target turn.claim turn.ended (claim_counted (claim_takes claim word) (counted e))).entry
+      later_is = after_is target setting e word ∙ ap (λ (m : Moved). m.entry) (moved_claims setting.reclamation target setting e word claim there)
 
       -- as the claim's stage says
-      later_by : (takes : Bool) (x : ClaimTurn) → claim_takes claim word ≡ takes → turn ≡ x → later ≡ (claim_on target x.claim x.ended (claim_counted takes (counted e))).entry
+      later_by : (takes : Bool) (x : ClaimTurn) → claim_takes claim word ≡ takes → turn ≡ x → later ≡ (claim_on setting.reclamation target x.claim x.ended (claim_counted takes (counted e))).entry
       later_by takes x same is =
-          later_is ∙ ap (λ (b : Bool). (claim_on target turn.claim turn.ended (claim_counted b (counted e))).entry) same
-          ∙ ap (λ (y : ClaimTurn). (claim_on target y.claim y.ended (claim_counted takes (counted e))).entry) is
+          later_is ∙ ap (λ (b : Bool). (claim_on setting.reclamation target turn.claim turn.ended (claim_counted b (counted e))).entry) same
+          ∙ ap (λ (y : ClaimTurn). (claim_on setting.reclamation target y.claim y.ended (claim_counted takes (counted e))).entry) is
 
       -- nothing was claimed yet
       none_yet : (TookAt claim.stage → ⊥) → Standing target setting e steps → e.counts.claims ≤ credits target e.replies
@@ -412,9 +439,15 @@ module _ (target : Target) (setting : Setting) (sane : Methods target) (row : Se
       at_new = claims_at_new target setting sane e claim b there
 
       -- a step that takes no slot and doesn't end with one
-      by_end : e.counts.claims ≤ credits target e.replies → (next : Claim) (o : Option ClaimEnd) → ClaimOn setting o next → Outcome (claim_on target next o (claim_counted false (counted e))).entry
+      by_end : e.counts.claims ≤ credits target e.replies → (next : Claim) (o : Option ClaimEnd) → ClaimOn setting e.number o next → Outcome (claim_on setting.reclamation target next o (claim_counted false (counted e))).entry
       by_end none next None on = inl (record { busy = refl; given = refl; stands = inl none })
-      by_end none next (Some (ends.Claimed j)) on = inl (record { busy = refl; given = refl; stands = inl none })
+      by_end none next (Some (ends.Claimed j)) on =
+          let x = with_routine (claim_counted false (counted e)) At in
+          let g = slot_gains setting.reclamation target next.sweeps j x in
+          inl (record { busy = g.busy; given = g.replies; stands = inl (within_same (slot_gained setting.reclamation target next.sweeps j x) g.claims g.replies) })
+        where
+          within_same : (y : Entry) → y.counts.claims ≡ e.counts.claims → y.replies ≡ e.replies → y.counts.claims ≤ credits target y.replies
+          within_same y claims replies = let sum = ap (credits target) replies in omega (arith, none, claims, sum)
       by_end none next (Some ends.Full) on = inr (record {
         reply = replies.Full;
         idle = refl;
@@ -435,13 +468,23 @@ module _ (target : Target) (setting : Setting) (sane : Methods target) (row : Se
       most_one (inr claimed) = claimed.0
 
       -- the slot that was taken goes into the cradle
-      fills : (j : ℕ) → 1 ≤ j → Outcome (claim_on target claim (Some (ends.Claimed j)) (claim_counted false (counted e))).entry
+      fills : (j : ℕ) → 1 ≤ j → Outcome (claim_on setting.reclamation target claim (Some (ends.Claimed j)) (claim_counted false (counted e))).entry
       fills j low =
-          let number : ℕ = new_number target e in
-          let held : slice_index (set e.cradles number j) number ≡ j = get_or-set_same e.cradles number j 0 inside in
-          let full : slice_index (set e.cradles number j) number ≢ 0 = (λ null. let z : j ≡ 0 = sym held ∙ null in omega (arith, low, z)) in
-          let slot = subst (λ (k : ℕ). slice_index (set e.cradles number j) k ≢ 0) at_new.2.number full in
-          inl (record { busy = refl; given = refl; stands = inr (most_one standing, at_new.1, inl (inl ((e.hand.at, at_new.2.new, slot), tt))) }) where
+          let x = with_routine (claim_counted false (counted e)) At in
+          let g = slot_gains setting.reclamation target claim.sweeps j x in
+          inl (record { busy = g.busy; given = g.replies; stands = filled (slot_gained setting.reclamation target claim.sweeps j x) g }) where
+            no_claim : (routine : Routine) → IsNoClaim routine → NoClaim routine
+            no_claim (Claims claim) other = other
+            no_claim Idle other = tt
+            no_claim (LoadSeen why) other = tt
+            no_claim At other = tt
+            no_claim (InList k) other = tt
+            no_claim (Retires retirement go) other = tt
+            no_claim Restarts other = tt
+            no_claim (Clears next) other = tt
+            no_claim (Zeroes k field) other = tt
+            no_claim (Announces announcing) other = tt
+
             inside : new_number target e < length e.cradles
             inside =
                 let all_stands : Stands target setting e (Claims claim) = subst (Stands target setting e) there b.stands in
@@ -452,9 +495,28 @@ module _ (target : Target) (setting : Setting) (sane : Methods target) (row : Se
                 let small = cradle_number_small target e.hand.wrapup (code_in target e) e.hand.at (sane.code e.running.call.op e.hand.wrapup) all_stands.0 kind in
                 let count = b.cradles.count in omega (arith, small, count)
 
-      claim_step : ClaimOn setting turn.ended turn.claim → Outcome later
+            filled : (y : Entry) → Gains target j (with_routine (claim_counted false (counted e)) At) y → Standing target setting y all
+            filled y g =
+                let held : slice_index (set e.cradles (new_number target e) j) (new_number target e) ≡ j = get_or-set_same e.cradles (new_number target e) j 0 inside in
+                let full : slice_index (set e.cradles (new_number target e) j) (new_number target e) ≢ 0 = (λ null. let z : j ≡ 0 = sym held ∙ null in omega (arith, low, z)) in
+                let slot : slice_index (set e.cradles (new_number target e) j) (cradle_number (generator_of target e) e.hand.at) ≢ 0 =
+                subst (λ (k : ℕ). slice_index (set e.cradles (new_number target e) j) k ≢ 0) at_new.2.number full in
+                let code : generator_of target e ≡ generator_of target y = ap (λ (run : Running). code_at target run.call.op false) (sym g.running) in
+                let there : cradle_of y (cradle_number (generator_of target y) e.hand.at) ≢ 0 =
+                subst (λ (code : List TargetInstr). cradle_of y (cradle_number code e.hand.at) ≢ 0) code
+                (subst (λ (l : List ℕ). slice_index l (cradle_number (generator_of target e) e.hand.at) ≢ 0) (sym g.cradles) slot) in
+                let most = most_one standing in
+                let claims = g.claims in
+                let sum : credits target y.replies ≡ credits target e.replies = ap (credits target) g.replies in
+                inr (
+                  omega (arith, most, claims, sum),
+                  subst (λ (run : Running). 1 ≤ news_of_call target run.call) (sym g.running) at_new.1,
+                  inl (inl ((e.hand.at, subst (λ (code : List TargetInstr). is_new_at (slice_get code e.hand.at) ≡ true) code at_new.2.new, there), no_claim y.routine g.other)),
+                )
+
+      claim_step : ClaimOn setting e.number turn.ended turn.claim → Outcome later
       claim_step on = of claim.stage refl where
-        stands : ClaimStands setting claim.kind claim.stage
+        stands : ClaimStands setting claim.sweep.scheme claim.kind claim.stage
         stands = (let all_stands : Stands target setting e (Claims claim) = subst (Stands target setting e) there b.stands in all_stands.1.stands)
 
         other : (stage : ClaimStage) → claim.stage ≡ stage → takes_at stage word ≡ false → (TookAt stage → ⊥) → Outcome later
@@ -467,7 +529,7 @@ module _ (target : Target) (setting : Setting) (sane : Methods target) (row : Se
         of (claims.Withdraw own) is = other (claims.Withdraw own) is refl (λ z. z)
         of claims.Sweeps is = other claims.Sweeps is refl (λ z. z)
         of (claims.StoreUsed q t) is =
-            let low : (1 ≤ t) × (t ≤ setting.sizes.slots) × (q ≤ setting.last) × (kind_of setting.sizes t ≡ claim.kind) = subst (ClaimStands setting claim.kind) is stands in
+            let low : (1 ≤ t) × (t ≤ setting.sizes.slots) × (q ≤ setting.last) × (kind_of setting.sizes t ≡ claim.kind) = subst (ClaimStands setting claim.sweep.scheme claim.kind) is stands in
             subst Outcome (sym (later_by false (claim_ends claim (ends.Claimed t)) (ap (λ (x : ClaimStage). takes_at x word) is) (ap (claim_accepts_at setting.sizes setting.last claim word) is))) (fills t low.0)
         of (claims.Take q t next) is = by (word == head_word q t) refl where
           turns_by : (d : Bool) → (word == head_word q t) ≡ d → turn ≡ (if d then claim_goes claim (claims.StoreUsed q t) else claim_goes claim claims.ReadHead)
@@ -482,7 +544,7 @@ module _ (target : Target) (setting : Setting) (sane : Methods target) (row : Se
                 stands = inr ((let none = none_yet (λ z. subst TookAt is z) standing in omega (arith, none)), at_new.1, inl (inr tt));
               }))
 
-    pub call_step : ((claim : Claim) → e.routine ≡ Claims claim → (let turn = claim_accepts setting.sizes setting.last claim word in ClaimOn setting turn.ended turn.claim)) → Going target setting e later all ⊎ Ended target e later
+    pub call_step : ((claim : Claim) → e.routine ≡ Claims claim → (let turn = claim_accepts setting.sizes setting.last claim word in ClaimOn setting e.number turn.ended turn.claim)) → Going target setting e later all ⊎ Ended target e later
     call_step on = of e.routine refl where
       plain_by : (routine : Routine) → e.routine ≡ routine → IsNoClaim routine → Going target setting e later all ⊎ Ended target e later
       plain_by routine is other = plain_step (subst IsNoClaim (sym is) other)
@@ -497,3 +559,4 @@ module _ (target : Target) (setting : Setting) (sane : Methods target) (row : Se
       of Restarts is = plain_by Restarts is tt
       of (Clears next) is = plain_by (Clears next) is tt
       of (Zeroes k field) is = plain_by (Zeroes k field) is tt
+      of (Announces announcing) is = plain_by (Announces announcing) is tt

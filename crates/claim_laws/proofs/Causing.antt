@@ -7,19 +7,19 @@ use Rattle.phase_pools.specs.Pools.{Claim, ClaimTurn, claim_takes, claim_accepts
 use Rattle.caller_parts.specs.declared.call.Reply.{Reply}
 use Rattle.caller_parts.specs.declared.call.Reply.TheVariants as replies
 use Rattle.caller_parts.specs.declared.routine.Routine.{Routine}
-use Rattle.caller_parts.specs.declared.routine.Routine.TheVariants.{Idle, LoadSeen, At, InList, Retires, Restarts, Clears, Claims, Zeroes}
+use Rattle.caller_parts.specs.declared.routine.Routine.TheVariants.{Idle, LoadSeen, At, InList, Retires, Restarts, Clears, Claims, Zeroes, Announces}
 use Rattle.caller_parts.specs.Pairing.{replied_by}
 use Rattle.caller_parts.specs.Settings.{Setting}
 use Rattle.caller_steps.specs.Entries.{Entry, is_idle}
 use Rattle.caller_steps.specs.Signs.{Moved}
-use Rattle.caller_steps.specs.After.{after, counted, claim_counted, claim_on}
+use Rattle.caller_steps.specs.After.{after, counted, claim_counted, claim_on, with_routine}
 use Rattle.core_runs.specs.Advances.{RunsOn, Ends}
 use Rattle.core_runs.proofs.Turning.{after_turns}
 use Rattle.core_runs.proofs.caller_laws.Equations.{after_is, moved_claims}
 use Rattle.claim_laws.specs.CallSteps.{StepMade}
 use Rattle.claim_laws.specs.Causes.{IsSweepsPhaseLoad, FoundLastPhase, FindsNoTop, EndsInFailedLook, IsCaused, FoundNeither}
 use Rattle.claim_laws.proofs.Lasts.{last_same, last_or_before}
-use Rattle.claim_laws.proofs.Onward.{IsAnswer, IsBefore, IsNoClaim, StandsAfter, after_answers}
+use Rattle.claim_laws.proofs.Onward.{IsAnswer, IsBefore, IsNoClaim, StandsAfter, after_answers, slot_gains}
 use Rattle.claim_laws.proofs.Claiming.{GivesAt, claim_gives, phases_end, empty_ends}
 
 -- what holds of a call that runs, with the steps that were made for it
@@ -113,6 +113,7 @@ module _ (target : Target) (setting : Setting) (e : Entry) (steps : List StepMad
   by_routine later (InList k) is stands stay neither = runs_on later (InList k) is refl tt (stay (ap is_idle is)) neither
   by_routine later (Retires retirement go) is stands stay neither = runs_on later (Retires retirement go) is refl tt (stay (ap is_idle is)) neither
   by_routine later Restarts is stands stay neither = runs_on later Restarts is refl tt (stay (ap is_idle is)) neither
+  by_routine later (Announces announcing) is stands stay neither = runs_on later (Announces announcing) is refl stands (stay (ap is_idle is)) neither
   by_routine later (Zeroes k field) is stands stay neither = runs_on later (Zeroes k field) is refl tt (stay (ap is_idle is)) neither
 
   plain_step : IsNoClaim e.routine → is_idle e.routine ≡ false → Outcome setting e all (after target setting e word)
@@ -129,8 +130,8 @@ module _ (target : Target) (setting : Setting) (e : Entry) (steps : List StepMad
     abbrev counts : Entry
     counts = claim_counted (claim_takes claim word) (counted e)
 
-    later_is : after target setting e word ≡ (claim_on target turn.claim turn.ended counts).entry
-    later_is = after_is target setting e word ∙ ap (λ (m : Moved). m.entry) (moved_claims target setting e word claim there)
+    later_is : after target setting e word ≡ (claim_on setting.reclamation target turn.claim turn.ended counts).entry
+    later_is = after_is target setting e word ∙ ap (λ (m : Moved). m.entry) (moved_claims setting.reclamation target setting e word claim there)
 
     -- the claim has one end
     one_end : (end : ClaimEnd) → EndsClaim setting s end → turn.ended ≡ Some end
@@ -139,9 +140,11 @@ module _ (target : Target) (setting : Setting) (e : Entry) (steps : List StepMad
     still : (o : Option ClaimEnd) → turn.ended ≡ o → ((p : ℕ) → o ≡ Some (ends.PhasesOver p) → ⊥) → (o ≡ Some ends.Full → ⊥) → FoundNeither setting all
     still o is no_phases no_full = still_neither setting steps s u.neither ((λ p ended. no_phases p (sym is ∙ one_end (ends.PhasesOver p) ended)), (λ ended. no_full (sym is ∙ one_end ends.Full ended)))
 
-    by_end : (next : Claim) (o : Option ClaimEnd) → turn.ended ≡ o → GivesAt setting s claim there o → Outcome setting e all (claim_on target next o counts).entry
+    by_end : (next : Claim) (o : Option ClaimEnd) → turn.ended ≡ o → GivesAt setting s claim there o → Outcome setting e all (claim_on setting.reclamation target next o counts).entry
     by_end next None is gives = inl (refl, refl, record { before = tt; neither = still None is (λ p z. cc) (λ z. cc) })
-    by_end next (Some (ends.Claimed j)) is gives = inl (refl, refl, record { before = tt; neither = still (Some (ends.Claimed j)) is (λ p z. cc) (λ z. cc) })
+    by_end next (Some (ends.Claimed j)) is gives =
+        let g = slot_gains setting.reclamation target next.sweeps j (with_routine counts At) in
+        inl (g.busy, g.replies, record { before = g.before; neither = still (Some (ends.Claimed j)) is (λ p z. cc) (λ z. cc) })
     by_end next (Some ends.Full) is gives = inr (
       refl,
       replies.Full,
@@ -181,3 +184,4 @@ module _ (target : Target) (setting : Setting) (e : Entry) (steps : List StepMad
     of Restarts is = plain Restarts is tt
     of (Clears next) is = plain (Clears next) is tt
     of (Zeroes k field) is = plain (Zeroes k field) is tt
+    of (Announces announcing) is = plain (Announces announcing) is tt

@@ -21,6 +21,7 @@ use Rattle.core_runs.specs.caller_laws.Laws.{ForRuns}
 use Rattle.claim_laws.specs.CallSteps.{StepMade, steps_wanted, steps_by, with_steps, event_steps, steps_on, events_steps, call_steps}
 use Rattle.claim_laws.specs.Causes.{IsCaused, FoundNeither, RepliesAreCaused}
 use Rattle.claim_laws.proofs.Lasts.{never_nil}
+use Rattle.claim_laws.proofs.Onward.{first_before, first_busy}
 use Rattle.claim_laws.proofs.Causing.{Unfinished, GoesOn, GetsReply, step_caused}
 
 -- each reply is caused by the steps beside it
@@ -97,8 +98,9 @@ module _ (target : Target) (setting : Setting) where
   nothing_found : FoundNeither setting []
   nothing_found = record { phases = λ p found. never_nil found.before found.step found.later found.among; full = λ failed. never_nil failed.0 failed.1 [] failed.2 }
 
-  take_follows : (e : Entry) (call : Call) (calls : List (List StepMade)) → AreCaused setting e.replies calls → Follows setting (taken call e) (calls ++ [] ∷ []) false
-  take_follows e call calls are = (calls, [], refl, are, record { before = tt; neither = nothing_found })
+  take_follows : (e : Entry) (call : Call) (calls : List (List StepMade)) → AreCaused setting e.replies calls → (let begun = taken setting.reclamation call e in Follows setting begun (calls ++ [] ∷ []) (is_idle begun.routine))
+  take_follows e call calls are =
+      subst (Follows setting (taken setting.reclamation call e) (calls ++ [] ∷ [])) (sym (first_busy setting.reclamation)) (calls, [], refl, are, record { before = first_before setting.reclamation; neither = nothing_found })
 
   -- ---- an event
 
@@ -122,9 +124,9 @@ module _ (target : Target) (setting : Setting) where
       → Follows setting e calls (is_idle e.routine) → Following setting mid c (event_steps target setting c state event calls)
   event_follows state mid (Takes k call) c e calls goes there follows = of (slice_get state.entries k) refl goes where
     by : (d : Entry) → slice_get state.entries k ≡ Some d → (i : Bool) → is_idle d.routine ≡ i → (b : Bool) → is_call target call ≡ b
-        → (if i && b then Some (record state { entries = slice_set state.entries k (taken call d) }) else None) ≡ Some mid → Following setting mid c (event_steps target setting c state (Takes k call) calls)
-    by d at true idle true is became = one_changes state mid state.words k c d (taken call d) e calls (calls ++ [] ∷ []) (some_is _ mid became) at there follows
-        (λ same. subst (λ (x : Entry). Follows setting (taken call x) (calls ++ [] ∷ []) false) (sym same) (take_follows e call calls (subst (Follows setting e calls) (sym (ap (λ (x : Entry). is_idle x.routine) same) ∙ idle) follows)))
+        → (if i && b then Some (record state { entries = slice_set state.entries k (taken setting.reclamation call d) }) else None) ≡ Some mid → Following setting mid c (event_steps target setting c state (Takes k call) calls)
+    by d at true idle true is became = one_changes state mid state.words k c d (taken setting.reclamation call d) e calls (calls ++ [] ∷ []) (some_is _ mid became) at there follows
+        (λ same. subst (λ (x : Entry). let begun = taken setting.reclamation call x in Follows setting begun (calls ++ [] ∷ []) (is_idle begun.routine)) (sym same) (take_follows e call calls (subst (Follows setting e calls) (sym (ap (λ (x : Entry). is_idle x.routine) same) ∙ idle) follows)))
     by d at true idle false is became = absurd (let z : None ≡ Some mid = became in cc)
     by d at false idle b is became = absurd (let z : None ≡ Some mid = became in cc)
 

@@ -42,13 +42,15 @@ use Rattle.oa_words.specs.SlotKinds.{kind_of}
 use Rattle.phase_pools.specs.declared.stages.Scheme.{Scheme}
 use Rattle.phase_pools.specs.declared.stages.Scheme.TheVariants.{Warned, Announced}
 use Rattle.phase_pools.specs.Pools.{Sweep, has_lower, warn_wanted, sweep_follows, sweep_goes, sweep_ends, sweep_on, sweep_accepts, sweep_accepts_at, sweep_wants_at, freeing, status_read, Claim, ClaimTurn, claim_accepts_at, claim_goes, claim_ends, claim_wants_at, look_begun, sweep_ended, retire_wants_at}
+use Rattle.caller_parts.specs.declared.routine.Announcing.{Announcing}
+use Rattle.caller_parts.specs.declared.routine.Announcing.TheVariants as announces
 use Rattle.caller_parts.specs.declared.routine.Routine.{Routine}
-use Rattle.caller_parts.specs.declared.routine.Routine.TheVariants.{Idle, LoadSeen, At, InList, Retires, Restarts, Clears, Claims, Zeroes}
+use Rattle.caller_parts.specs.declared.routine.Routine.TheVariants.{Idle, LoadSeen, At, InList, Retires, Restarts, Clears, Claims, Zeroes, Announces}
 use Rattle.caller_parts.specs.Settings.{Setting}
 use Rattle.caller_steps.specs.Entries.{Entry, code_in, instr_in, cradle_of}
 use Rattle.caller_parts.specs.Operands.{list_of, slot_in, word_in}
 use Rattle.caller_steps.specs.Clearing.{restart_next, clear_next}
-use Rattle.caller_steps.specs.Wants.{clear_wanted, exchange_wanted, instr_wanted, list_wanted, object_exchange, place_exchange, plain_wanted, wanted, wants}
+use Rattle.caller_steps.specs.Wants.{announcing_wanted, clear_wanted, exchange_wanted, instr_wanted, list_wanted, object_exchange, place_exchange, plain_wanted, wanted, wants}
 use Rattle.caller_steps.specs.Lawful.{held_at}
 use Rattle.caller_steps.specs.Belongs.{Belongs, RunsAt, RunsWithKinds, Stands}
 use Rattle.target_laws.specs.target_runs.Sane.{SaneAt}
@@ -283,6 +285,7 @@ module _ (target : Target) (setting : Setting) (sane : Methods target) (j : ℕ)
   found_step e word (Clears next) b reaches kinds s a told other = tt
   found_step e word (Claims claim) b reaches kinds s a told other = claim_goes_on claim word claim.stage refl a.0 a.1 told other
   found_step e word (Zeroes k field) b reaches kinds s a told other = tt
+  found_step e word (Announces announcing) b reaches kinds s a told other = tt
 
   pub step_found : (e : Entry) (word : ℕ) → Belongs target setting e → EntryAvoids j e → ToldAvoids target setting.sizes j (wants target e) word → ClaimsOther j word e.routine → StepAvoids target setting j e word e.routine
   unfolding wants
@@ -414,6 +417,11 @@ module _ (target : Target) (setting : Setting) (sane : Methods target) (j : ℕ)
   claim_leaves k sweep (claims.Withdraw own) = λ found was. tt
   claim_leaves k sweep claims.Sweeps = sweep_leaves sweep.scheme sweep.bound sweep.stage
 
+  announcing_leaves : (c : ℕ) (announcing : Announcing) → LeavesOther target setting.sizes j (Some (announcing_wanted c announcing))
+  announcing_leaves c (announces.Loads why) = λ found was. tt
+  announcing_leaves c (announces.Stores why phase) = λ found was. tt
+  announcing_leaves c (announces.Leaves reply) = λ found was. tt
+
   leaves_step : (e : Entry) (routine : Routine) → Belongs target setting e → RunsAt target e routine → RunsWithKinds target setting e routine → Stands target setting e routine → RegistersAvoid j e.hand.registers → LeavesOther target setting.sizes j (wanted target e routine)
   leaves_step e Idle b reaches kinds stands s = tt
   leaves_step e (LoadSeen why) b reaches kinds stands s = λ found was. was
@@ -424,6 +432,7 @@ module _ (target : Target) (setting : Setting) (sane : Methods target) (j : ℕ)
   leaves_step e (Clears next) b reaches kinds stands s = clear_leaves e.number (clear_next target next e)
   leaves_step e (Claims claim) b reaches kinds stands s = claim_leaves claim.kind claim.sweep claim.stage
   leaves_step e (Zeroes k field) b reaches kinds stands s = λ found was. field_emptied (cradle_of e k) field
+  leaves_step e (Announces announcing) b reaches kinds stands s = announcing_leaves e.number announcing
 
   pub step_leaves : (e : Entry) → Belongs target setting e → EntryAvoids j e → LeavesOther target setting.sizes j (wants target e)
   unfolding wants

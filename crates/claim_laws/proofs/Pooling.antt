@@ -24,7 +24,6 @@ use Rattle.chain_laws.specs.Chains.{top}
 use Rattle.chain_laws.specs.Machine.{Elsewhere}
 use Rattle.chain_laws.specs.Memories.{after_access, put}
 use Rattle.chain_laws.proofs.Lists.{each_put, put_same}
-use Rattle.chain_laws.proofs.Same.{same_written}
 use Rattle.chain_laws.specs.claim_order.Frontier.{ClaimFits, Fits, IsOrdered, AreOrdered, frontier_at}
 use Rattle.chain_laws.proofs.claim_order.Ranges.{near_below, near_inside, near_none}
 use Rattle.chain_laws.proofs.claim_order.Frontier.{ClaimOn, AllMove, Kept, all_stay, claim_open, fits_later, ordered_same, retire_open}
@@ -34,15 +33,17 @@ use Rattle.caller_parts.specs.declared.call.Reply.TheVariants as replies
 use Rattle.caller_parts.specs.declared.call.Replied.{Replied}
 use Rattle.caller_parts.specs.declared.call.Running.{Running}
 use Rattle.caller_parts.specs.declared.routine.AfterRetire.{AfterRetire}
+use Rattle.caller_parts.specs.declared.setting.Reclamation.{Reclamation}
+use Rattle.caller_parts.specs.declared.setting.Reclamation.TheVariants.{Optimistic, Epochs}
 use Rattle.caller_parts.specs.declared.routine.Routine.{Routine}
-use Rattle.caller_parts.specs.declared.routine.Routine.TheVariants.{Idle, LoadSeen, At, InList, Retires, Restarts, Clears, Claims, Zeroes}
+use Rattle.caller_parts.specs.declared.routine.Routine.TheVariants.{Idle, LoadSeen, At, InList, Retires, Restarts, Clears, Claims, Zeroes, Announces}
 use Rattle.caller_parts.specs.Pairing.{replied_by}
 use Rattle.caller_parts.specs.Settings.{Setting, Fits as FitsTarget}
 use Rattle.caller_steps.specs.Entries.{Entry, is_idle, one_more}
 use Rattle.caller_parts.specs.Calls.{is_call}
 use Rattle.caller_steps.specs.Signs.{Moved}
 use Rattle.caller_steps.specs.Wants.{wants}
-use Rattle.caller_steps.specs.After.{after, taken, claim_counted, claim_on, counted}
+use Rattle.caller_steps.specs.After.{after, taken, claim_counted, claim_on, counted, first_routine, with_routine}
 use Rattle.caller_steps.specs.Lawful.{AsksSafely, IsSafe, MayBeTold}
 use Rattle.caller_steps.specs.Belongs.{Belongs, Stands}
 use Rattle.core_runs.specs.Machine.{CoreState, CoreEvent, Takes, Steps, core_event, event_by, found_by, made, stepped, word_at}
@@ -59,11 +60,11 @@ use Rattle.core_runs.proofs.caller_laws.Steps.{after_belongs}
 use Rattle.core_runs.specs.core_sound.Sound.{IsSound}
 use Rattle.core_runs.specs.core_sound.Standing.{standing_of}
 use Rattle.core_runs.proofs.core_sound.Machine.{found_told, set_got}
-use Rattle.core_runs.proofs.core_sound.Stamping.{elsewhere_wants}
+use Rattle.core_runs.proofs.core_sound.Stamping.{elsewhere_wants, leaves_same}
 use Rattle.claim_laws.specs.Untouched.{nodes_in, HeldNone, WordAvoids, EntryAvoids, IsUntouched, RoutineAvoids}
 use Rattle.claim_laws.specs.Causes.{FindsNoTop}
 use Rattle.claim_laws.specs.CallSteps.{StepMade}
-use Rattle.claim_laws.proofs.Onward.{IsAnswer, IsBefore, IsNoClaim, StandsAfter, after_answers}
+use Rattle.claim_laws.proofs.Onward.{IsAnswer, IsBefore, IsNoClaim, StandsAfter, after_answers, first_before, slot_gains}
 use Rattle.claim_laws.proofs.Avoiding.{after_avoids}
 use Rattle.claim_laws.proofs.Naming.{first_avoid}
 use Rattle.claim_laws.proofs.Claiming.{GivesAt, claim_gives}
@@ -182,9 +183,9 @@ module _ (target : Target) (setting : Setting) where
     plain routine is other none =
         (after_answers target setting e word before (subst IsNoClaim (sym is) other)).0 ∙ ap (λ (b : Bool). count_after b e.counts.claims) (sym (ap (λ (r : Routine). takes_in r word) is ∙ none))
 
-    ended : (claim : Claim) (o : Option ClaimEnd) (x : Entry) → (claim_on target claim o x).entry.counts.claims ≡ x.counts.claims
+    ended : (claim : Claim) (o : Option ClaimEnd) (x : Entry) → (claim_on setting.reclamation target claim o x).entry.counts.claims ≡ x.counts.claims
     ended claim None x = refl
-    ended claim (Some (ends.Claimed k)) x = refl
+    ended claim (Some (ends.Claimed k)) x = (slot_gains setting.reclamation target claim.sweeps k (with_routine x At)).claims
     ended claim (Some ends.Full) x = refl
     ended claim (Some (ends.PhasesOver p)) x = refl
 
@@ -192,7 +193,7 @@ module _ (target : Target) (setting : Setting) where
     of Idle is = absurd (let z : true ≡ false = sym (ap is_idle is) ∙ busy in cc)
     of (Claims claim) is =
         let turn : ClaimTurn = claim_accepts setting.sizes setting.last claim word in
-        ap (λ (x : Entry). x.counts.claims) (after_is target setting e word ∙ ap (λ (m : Moved). m.entry) (moved_claims target setting e word claim is))
+        ap (λ (x : Entry). x.counts.claims) (after_is target setting e word ∙ ap (λ (m : Moved). m.entry) (moved_claims setting.reclamation target setting e word claim is))
         ∙ (ended turn.claim turn.ended (claim_counted (claim_takes claim word) (counted e))
         ∙ ap (λ (b : Bool). count_after b e.counts.claims) (sym (ap (λ (r : Routine). takes_in r word) is)))
     of (LoadSeen why) is = plain (LoadSeen why) is tt refl
@@ -202,6 +203,7 @@ module _ (target : Target) (setting : Setting) where
     of Restarts is = plain Restarts is tt refl
     of (Clears next) is = plain (Clears next) is tt refl
     of (Zeroes k field) is = plain (Zeroes k field) is tt refl
+    of (Announces announcing) is = plain (Announces announcing) is tt refl
 
   module _ (slots : List ℕ) (e : Entry) (word : ℕ) (busy : is_idle e.routine ≡ false) (p : CallerPool setting slots e) where
     abbrev later : Entry
@@ -237,18 +239,21 @@ module _ (target : Target) (setting : Setting) where
       by (Retires retirement go) is stands = same (Retires retirement go) is refl tt
       by Restarts is stands = same Restarts is refl tt
       by (Zeroes k field) is stands = same (Zeroes k field) is refl tt
+      by (Announces announcing) is stands = same (Announces announcing) is refl stands
 
     -- one of a claim: where it ends with `Full` each slot was claimed
-    claim_end : (next : Claim) (o : Option ClaimEnd) (x : Entry) → (o ≡ Some ends.Full → KindTouched setting slots) → FullOnly setting slots x.replies → CallerPool setting slots (claim_on target next o x).entry
+    claim_end : (next : Claim) (o : Option ClaimEnd) (x : Entry) → (o ≡ Some ends.Full → KindTouched setting slots) → FullOnly setting slots x.replies → CallerPool setting slots (claim_on setting.reclamation target next o x).entry
     claim_end next None x touches full = record { before = tt; full = full }
-    claim_end next (Some (ends.Claimed k)) x touches full = record { before = tt; full = full }
+    claim_end next (Some (ends.Claimed k)) x touches full =
+        let g = slot_gains setting.reclamation target next.sweeps k (with_routine x At) in
+        record { before = g.before; full = subst (FullOnly setting slots) (sym g.replies) full }
     claim_end next (Some ends.Full) x touches full = record { before = tt; full = add_reply setting slots x.replies replies.Full x.running (λ is. touches refl) (inr refl) full }
     claim_end next (Some (ends.PhasesOver q)) x touches full = record { before = tt; full = add_reply setting slots x.replies (replies.Phases q) x.running (λ is. absurd cc) (inl (λ is. cc)) full }
 
     claim_step : (claim : Claim) → e.routine ≡ Claims claim → ((claim_accepts setting.sizes setting.last claim word).ended ≡ Some ends.Full → KindTouched setting slots) → CallerPool setting slots later
     claim_step claim is touches =
         let turn : ClaimTurn = claim_accepts setting.sizes setting.last claim word in
-        subst (CallerPool setting slots) (sym (after_is target setting e word ∙ ap (λ (m : Moved). m.entry) (moved_claims target setting e word claim is)))
+        subst (CallerPool setting slots) (sym (after_is target setting e word ∙ ap (λ (m : Moved). m.entry) (moved_claims setting.reclamation target setting e word claim is)))
         (claim_end turn.claim turn.ended (claim_counted (claim_takes claim word) (counted e)) touches p.full)
 
     -- either
@@ -264,6 +269,7 @@ module _ (target : Target) (setting : Setting) where
       of Restarts is = plain_step (subst IsNoClaim (sym is) tt)
       of (Clears next) is = plain_step (subst IsNoClaim (sym is) tt)
       of (Zeroes k field) is = plain_step (subst IsNoClaim (sym is) tt)
+      of (Announces announcing) is = plain_step (subst IsNoClaim (sym is) tt)
 
 -- ---- the words after a step, and which slots it leaves unclaimed
 
@@ -293,7 +299,7 @@ module _ (setting : Setting) (some : SettingSane setting) (m : Word → ℕ) (sl
   elsewhere_advances : (target : Target) (a : WordAccess) → standing_of e.routine ≡ Elsewhere → wants target e ≡ Some a → AdvancesBy setting m slots v e a
   elsewhere_advances target a at want = inl (
     takes_none e.routine at,
-    still a (ordered_same setting.sizes (nodes_in setting) setting.first m (after_access m a) v (same_written m (word_of a) (word_after a (m (word_of a))) (elsewhere_wants target e a at want)) ordered)
+    still a (ordered_same setting.sizes (nodes_in setting) setting.first m (after_access m a) v (leaves_same m a (elsewhere_wants target e a at want)) ordered)
         (λ j. other_none j e.routine at) (λ claim is. absurd (no_claim claim (sym (ap standing_of is) ∙ at))),
   ) where
     no_claim : (claim : Claim) → standing_of (Claims claim) ≡ Elsewhere → ⊥
@@ -309,6 +315,7 @@ module _ (setting : Setting) (some : SettingSane setting) (m : Word → ℕ) (sl
     takes_none Restarts is = refl
     takes_none (Clears next) is = refl
     takes_none (Zeroes k field) is = refl
+    takes_none (Announces announcing) is = refl
 
     other_none : (j : ℕ) (routine : Routine) → standing_of routine ≡ Elsewhere → ClaimsOther j (m (word_of a)) routine
     other_none j (Claims claim) is = absurd (no_claim claim is)
@@ -320,6 +327,7 @@ module _ (setting : Setting) (some : SettingSane setting) (m : Word → ℕ) (sl
     other_none j Restarts is = tt
     other_none j (Clears next) is = tt
     other_none j (Zeroes k field) is = tt
+    other_none j (Announces announcing) is = tt
 
   retires_advances : (retirement : Retirement) (go : AfterRetire) → e.routine ≡ Retires retirement go → retirement.slot < v (kind_of setting.sizes retirement.slot) → AdvancesBy setting m slots v e (retire_wants retirement)
   retires_advances retirement go is lt = inl (
@@ -466,17 +474,25 @@ module _ (setting : Setting) (some : SettingSane setting) (m : Word → ℕ) (sl
 
 -- ---- events
 
+-- before the first access of a call
+first_elsewhere : (by : Reclamation) → standing_of (first_routine by) ≡ Elsewhere
+first_elsewhere Optimistic = refl
+first_elsewhere Epochs = refl
+
 pub take_untouched : (target : Target) (setting : Setting) (state : CoreState) (c : ℕ) (call : Call) (e : Entry) (j : ℕ) → 1 ≤ j → slice_get state.entries c ≡ Some e → IsUntouched target setting state j
-    → IsUntouched target setting (record state { entries = set state.entries c (taken call e) }) j
+    → IsUntouched target setting (record state { entries = set state.entries c (taken setting.reclamation call e) }) j
 take_untouched target setting state c call e j low there was = record {
   status = was.status;
   words = was.words;
   entries = λ d f got. ⊎_elim
-      (λ (t : (d ≡ c) × (f ≡ taken call e)). subst (EntryAvoids j) (sym t.1) (let held = was.entries c e there in
-      record { registers = first_avoid j low call.args; started = first_avoid j low []; guards = held.guards; cradles = held.cradles; routine = tt }))
+      (λ (t : (d ≡ c) × (f ≡ taken setting.reclamation call e)). subst (EntryAvoids j) (sym t.1) (let held = was.entries c e there in
+      record { registers = first_avoid j low call.args; started = first_avoid j low []; guards = held.guards; cradles = held.cradles; routine = first_avoids setting.reclamation }))
       (λ (t : slice_get state.entries d ≡ Some f). was.entries d f t)
-      (set_got state.entries c d (taken call e) f got);
-}
+      (set_got state.entries c d (taken setting.reclamation call e) f got);
+} where
+  first_avoids : (by : Reclamation) → RoutineAvoids j (first_routine by)
+  first_avoids Optimistic = tt
+  first_avoids Epochs = tt
 
 -- what a step leaves of claims
 abbrev ClaimsFit : Sizes → (Word → ℕ) → (ℕ → ℕ) → Routine → Type 0
@@ -571,6 +587,7 @@ module _ (target : Target) (setting : Setting) (sane : Methods target) (some : S
         of Restarts is w = elsewhere_advances setting some m slots v e pool.words pool.past pool.ahead target a (ap standing_of is) want
         of (Clears next) is w = elsewhere_advances setting some m slots v e pool.words pool.past pool.ahead target a (ap standing_of is) want
         of (Zeroes k field) is w = elsewhere_advances setting some m slots v e pool.words pool.past pool.ahead target a (ap standing_of is) want
+        of (Announces announcing) is w = elsewhere_advances setting some m slots v e pool.words pool.past pool.ahead target a (ap standing_of is) want
 
       -- a third look that found no slot on top
       touches : (claim : Claim) → e.routine ≡ Claims claim → (claim_accepts setting.sizes setting.last claim found).ended ≡ Some ends.Full → KindTouched setting slots
@@ -597,7 +614,7 @@ module _ (target : Target) (setting : Setting) (sane : Methods target) (some : S
             untouched_stays j (held_some setting j u.0) (status_row j u.1) (pool.untouched j was.0) (subst (λ (n : ℕ). ClaimsOther j n e.routine) found_seen was.1)
 
         begins_fit : HoldsAtBegins target setting.sizes (ClaimsFit setting.sizes (after_access m a) v')
-        begins_fit = record { idle = tt; seen = λ why. tt; here = tt; lists = λ k. tt; retires = λ j go. tt; restarts = tt; clears = λ next. tt; claims = λ e. (news_fit target setting sane some fits e.running.call.op e.hand.wrapup e.hand.at, tt); zeroes = λ k field. tt }
+        begins_fit = record { idle = tt; seen = λ why. tt; here = tt; lists = λ k. tt; retires = λ j go. tt; restarts = tt; clears = λ next. tt; claims = λ e scheme. (news_fit target setting sane some fits e.running.call.op e.hand.wrapup e.hand.at, tt); zeroes = λ k field. tt; announces = λ announcing. tt }
 
         going_fit : HoldsAsGoesOn setting (m (word_of a)) (ClaimsFit setting.sizes (after_access m a) v') e.routine
         going_fit = record {
@@ -646,6 +663,7 @@ module _ (target : Target) (setting : Setting) (sane : Methods target) (some : S
           of Restarts is w = tt
           of (Clears next) is w = tt
           of (Zeroes k field) is w = tt
+          of (Announces announcing) is w = tt
 
         pool_then : IsCounted (length slots') (set state.entries c (after target setting e found)) → Pool target setting (stepped_state state c e a) slots' v'
         pool_then count = record {
@@ -683,27 +701,27 @@ module _ (target : Target) (setting : Setting) (sane : Methods target) (some : S
 
   -- a call is taken
   take_pool : (state : CoreState) (c : ℕ) (call : Call) (e : Entry) (slots : List ℕ) (v : ℕ → ℕ) → slice_get state.entries c ≡ Some e → Pool target setting state slots v
-      → Pool target setting (record state { entries = set state.entries c (taken call e) }) slots v
+      → Pool target setting (record state { entries = set state.entries c (taken setting.reclamation call e) }) slots v
   take_pool state c call e slots v there pool = record {
     untouched = λ j u. take_untouched target setting state c call e j (held_some setting j u.0) there (pool.untouched j u);
     past = pool.past;
     ahead = pool.ahead;
     words = pool.words;
     fits = λ d f got. ⊎_elim
-        (λ (t : (d ≡ c) × (f ≡ taken call e)). subst (λ (x : Entry). Fits setting.sizes (seen setting.sizes state.words) v (standing_of x.routine)) (sym t.1) tt)
+        (λ (t : (d ≡ c) × (f ≡ taken setting.reclamation call e)). subst (λ (x : Entry). Fits setting.sizes (seen setting.sizes state.words) v (standing_of x.routine)) (sym t.1) (subst (Fits setting.sizes (seen setting.sizes state.words) v) (sym (first_elsewhere setting.reclamation)) tt))
         (λ (t : slice_get state.entries d ≡ Some f). pool.fits d f t)
-        (set_got state.entries c d (taken call e) f got);
+        (set_got state.entries c d (taken setting.reclamation call e) f got);
     callers = λ d f got. ⊎_elim
-        (λ (t : (d ≡ c) × (f ≡ taken call e)). subst (CallerPool setting slots) (sym t.1) (record { before = tt; full = (pool.callers c e there).full }))
+        (λ (t : (d ≡ c) × (f ≡ taken setting.reclamation call e)). subst (CallerPool setting slots) (sym t.1) (record { before = first_before setting.reclamation; full = (pool.callers c e there).full }))
         (λ (t : slice_get state.entries d ≡ Some f). pool.callers d f t)
-        (set_got state.entries c d (taken call e) f got);
-    count = counts_same (length slots) state.entries c e (taken call e) there refl pool.count;
+        (set_got state.entries c d (taken setting.reclamation call e) f got);
+    count = counts_same (length slots) state.entries c e (taken setting.reclamation call e) there refl pool.count;
   }
 
   pub event_pool : (state later : CoreState) (event : CoreEvent) → IsSound target setting state → IsPooled target setting state → core_event target setting state event ≡ Some later → IsPooled target setting later
   event_pool state later (Takes c call) sound pooled is = of (slice_get state.entries c) refl is where
     by : (e : Entry) → slice_get state.entries c ≡ Some e → (b : Bool)
-        → (if b then Some (record state { entries = slice_set state.entries c (taken call e) }) else None) ≡ Some later → IsPooled target setting later
+        → (if b then Some (record state { entries = slice_set state.entries c (taken setting.reclamation call e) }) else None) ≡ Some later → IsPooled target setting later
     by e at true became = subst (IsPooled target setting) (some_is _ later became) (record { slots = pooled.slots; frontier = pooled.frontier; pool = take_pool state c call e pooled.slots pooled.frontier at pooled.pool })
     by e at false became = absurd (let z : None ≡ Some later = became in cc)
 

@@ -22,6 +22,7 @@ use Rattle.core_runs.proofs.Turning.{after_turns}
 use Rattle.core_runs.proofs.core_sound.StartSound.{idle_at}
 use Rattle.claim_laws.specs.CallSteps.{StepMade, steps_wanted, steps_by, with_steps, event_steps, steps_on, events_steps, call_steps, steps_of_call}
 use Rattle.claim_laws.proofs.Following.{with_last}
+use Rattle.claim_laws.proofs.Onward.{first_busy}
 
 -- ---- lists of steps
 
@@ -95,9 +96,9 @@ module _ (target : Target) (setting : Setting) (Rests : Entry → Type 0) (Runs 
   abbrev AllStand : List CoreEvent → CoreState → Type 0
   AllStand events state = (c : ℕ) (e : Entry) → slice_get state.entries c ≡ Some e → Stands e (call_steps target setting events c) (is_idle e.routine)
 
-  module _ (starts : (c : ℕ) → Rests (idle_entry c)) (takes : (e : Entry) (call : Call) → Rests e → Runs (taken call e) []) (keeps : StepKeeps) where
-    take_stands : (e : Entry) (call : Call) (calls : List (List StepMade)) → Stands e calls true → Stands (taken call e) (calls ++ [] ∷ []) false
-    take_stands e call calls was = (calls, [], refl, was.1, takes e call was.0)
+  module _ (starts : (c : ℕ) → Rests (idle_entry c)) (takes : (e : Entry) (call : Call) → Rests e → Runs (taken setting.reclamation call e) []) (keeps : StepKeeps) where
+    take_stands : (e : Entry) (call : Call) (calls : List (List StepMade)) → Stands e calls true → (let begun = taken setting.reclamation call e in Stands begun (calls ++ [] ∷ []) (is_idle begun.routine))
+    take_stands e call calls was = subst (Stands (taken setting.reclamation call e) (calls ++ [] ∷ [])) (sym (first_busy setting.reclamation)) (calls, [], refl, was.1, takes e call was.0)
 
     -- a caller's step
     step_stands : (past : List CoreEvent) (state : CoreState) (k : ℕ) (e : Entry) (a : WordAccess) → IsStepOf target setting past state k e a → Stands e (call_steps target setting past k) false
@@ -157,9 +158,9 @@ module _ (target : Target) (setting : Setting) (Rests : Entry → Type 0) (Runs 
     event_stands : (past : List CoreEvent) (state later : CoreState) (event : CoreEvent) → core_run target setting past (core_start target setting) ≡ Some state → AllStand past state → core_event target setting state event ≡ Some later
         → AllStand (past ++ event ∷ []) later
     event_stands past state later (Takes k call) came all goes = of (slice_get state.entries k) refl goes where
-      by : (d : Entry) → slice_get state.entries k ≡ Some d → (i : Bool) → is_idle d.routine ≡ i → (b : Bool) → (if i && b then Some (record state { entries = slice_set state.entries k (taken call d) }) else None) ≡ Some later
+      by : (d : Entry) → slice_get state.entries k ≡ Some d → (i : Bool) → is_idle d.routine ≡ i → (b : Bool) → (if i && b then Some (record state { entries = slice_set state.entries k (taken setting.reclamation call d) }) else None) ≡ Some later
           → AllStand (past ++ Takes k call ∷ []) later
-      by d at true idle true became = one_changes past (Takes k call) state later state.words k d (taken call d) (λ (l : List (List StepMade)). l ++ [] ∷ []) (some_is _ later became) at all
+      by d at true idle true became = one_changes past (Takes k call) state later state.words k d (taken setting.reclamation call d) (λ (l : List (List StepMade)). l ++ [] ∷ []) (some_is _ later became) at all
           (λ c. steps_more target setting c past (Takes k call) state later came goes) (take_stands d call (call_steps target setting past k) (subst (Stands d (call_steps target setting past k)) idle (all k d at)))
       by d at true idle false became = absurd (let z : None ≡ Some later = became in cc)
       by d at false idle b became = absurd (let z : None ≡ Some later = became in cc)

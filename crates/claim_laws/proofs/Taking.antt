@@ -10,8 +10,7 @@ use Rattle.caller_parts.specs.declared.call.Reply.{Reply}
 use Rattle.caller_parts.specs.declared.call.Reply.TheVariants as replies
 use Rattle.caller_parts.specs.declared.call.Replied.{Replied}
 use Rattle.caller_parts.specs.declared.call.Running.{Running}
-use Rattle.caller_parts.specs.declared.routine.MethodStart.TheVariants as starts
-use Rattle.caller_parts.specs.declared.routine.Routine.TheVariants.{LoadSeen, Claims}
+use Rattle.caller_parts.specs.declared.routine.Routine.TheVariants.{Claims}
 use Rattle.caller_parts.specs.Pairing.{replied_by, run_of}
 use Rattle.caller_parts.specs.Settings.{Setting, Fits, IsSetting}
 use Rattle.caller_steps.specs.Entries.{Entry, is_idle}
@@ -33,7 +32,7 @@ use Rattle.core_runs.proofs.core_sound.Machine.{found_told}
 use Rattle.core_runs.proofs.core_sound.Reached.{states_are_sound}
 use Rattle.claim_laws.specs.CallSteps.{StepMade, call_steps}
 use Rattle.claim_laws.specs.Full.{claims_in}
-use Rattle.claim_laws.specs.Publishing.{news_of_call, HasFewNews, PublishedEnd, new_calls, new_calls_in, FullTakesCalls}
+use Rattle.claim_laws.specs.Publishing.{again_routine, news_of_call, HasFewNews, PublishedEnd, new_calls, new_calls_in, FullTakesCalls}
 use Rattle.claim_laws.proofs.Running.{IsStepOf, StepKeeps, Stands, run_stands}
 use Rattle.claim_laws.proofs.Pooling.{got_last}
 use Rattle.claim_laws.proofs.Filling.{reached_pool, full_takes}
@@ -61,12 +60,12 @@ Called target setting = Stands target setting (HasRested target) (IsRunning targ
 
 -- a claim's step ends with a slot of the row, if with any
 pub claim_on_step : (target : Target) (text : Text) (setting : Setting) → IsRunnable target text → IsSetting setting → Fits target setting → (past : List CoreEvent) (state : CoreState) (k : ℕ) (d : Entry) (a : WordAccess) (claim : Claim)
-    → IsStepOf target setting past state k d a → d.routine ≡ Claims claim → (let turn = claim_accepts setting.sizes setting.last claim (found_by setting state a) in ClaimOn setting turn.ended turn.claim)
+    → IsStepOf target setting past state k d a → d.routine ≡ Claims claim → (let turn = claim_accepts setting.sizes setting.last claim (found_by setting state a) in ClaimOn setting d.number turn.ended turn.claim)
 claim_on_step target text setting runs own fits past state k d a claim step is =
     let stands : StandsAt target setting d (Claims claim) = subst (StandsAt target setting d) is belongs.stands in
     let wanted : a ≡ claim_wants claim = (let same : Some a ≡ Some (claim_wants claim) = sym step.wanted ∙ wants_claims target d claim is in cc) in
     let told : Accepts target setting (claim_wants_at claim.kind claim.sweep claim.stage) (found_by setting state a) = subst (λ (x : WordAccess). Accepts target setting x (found_by setting state a)) wanted (found_told target setting state a sound safe) in
-    claim_keeps target setting claim (found_by setting state a) claim.stage refl (setting_sane setting own) (let lt = belongs.number in omega (arith, lt)) stands.1.kind stands.1.scheme stands.1.stands stands.1.sweep told where
+    claim_keeps target setting d.number claim (found_by setting state a) claim.stage refl (setting_sane setting own) (let lt = belongs.number in omega (arith, lt)) stands.1.kind stands.1.scheme stands.1.stands stands.1.sweep told where
       sound : IsSound target setting state
       sound = states_are_sound target text setting state runs own fits (record { events = past; runs = step.came })
 
@@ -108,10 +107,10 @@ module _ (target : Target) (text : Text) (setting : Setting) (runs : IsRunnable 
       belongs_later : Belongs target setting new
       belongs_later = ((states_are_sound target text setting step.next runs own_setting fits reached_later).belong k new step.later).0
 
-      again : d.routine ≡ LoadSeen starts.Again → HasPublished target setting steps → ⊥
+      again : d.routine ≡ again_routine setting.reclamation → HasPublished target setting steps → ⊥
       again is h = never.each past state k d h.before h.step h.later step.came step.there is (own ∙ h.among) h.publishes
 
-      on : (claim : Claim) → d.routine ≡ Claims claim → (let turn = claim_accepts setting.sizes setting.last claim found in ClaimOn setting turn.ended turn.claim)
+      on : (claim : Claim) → d.routine ≡ Claims claim → (let turn = claim_accepts setting.sizes setting.last claim found in ClaimOn setting d.number turn.ended turn.claim)
       on claim is = claim_on_step target text setting runs own_setting fits past state k d a claim step is
 
       by : Going target setting d new (steps ++ s ∷ []) ⊎ Ended target d new

@@ -16,7 +16,7 @@ use Rattle.phase_pools.specs.declared.stages.ClaimStage.TheVariants as claims
 use Rattle.phase_pools.specs.Accesses.{WordAccess}
 use Rattle.phase_pools.specs.Pools.{takes_at}
 use Rattle.caller_parts.specs.declared.routine.Routine.{Routine}
-use Rattle.caller_parts.specs.declared.routine.Routine.TheVariants.{Idle, LoadSeen, At, InList, Retires, Restarts, Clears, Claims, Zeroes}
+use Rattle.caller_parts.specs.declared.routine.Routine.TheVariants.{Idle, LoadSeen, At, InList, Retires, Restarts, Clears, Claims, Zeroes, Announces}
 use Rattle.caller_parts.specs.Settings.{Setting, Fits, IsSetting}
 use Rattle.caller_steps.specs.Entries.{Entry, is_idle, one_more}
 use Rattle.caller_parts.specs.Calls.{is_call}
@@ -75,6 +75,7 @@ taken_counts (Retires retirement go) word n le = stays_count n le
 taken_counts Restarts word n le = stays_count n le
 taken_counts (Clears next) word n le = stays_count n le
 taken_counts (Zeroes k field) word n le = stays_count n le
+taken_counts (Announces announcing) word n le = stays_count n le
 
 module _ (target : Target) (setting : Setting) where
   -- each step counts the slot that it took
@@ -115,9 +116,9 @@ module _ (target : Target) (setting : Setting) where
     choose true n = refl
     choose false n = refl
 
-    by : (d : Entry) → slice_get state.entries k ≡ Some d → (b : Bool) → (if b then Some (record state { entries = slice_set state.entries k (taken call d) }) else None) ≡ Some mid → Tallies mid c e.counts.claims 0
+    by : (d : Entry) → slice_get state.entries k ≡ Some d → (b : Bool) → (if b then Some (record state { entries = slice_set state.entries k (taken setting.reclamation call d) }) else None) ≡ Some mid → Tallies mid c e.counts.claims 0
     by d at true became = subst (Tallies mid c e.counts.claims) (choose (k == c) 0)
-        (one_changes state mid state.words k c 0 d (taken call d) e (some_is _ mid became) at there (known c e there).1 (stays_count d.counts.claims (known k d at).1))
+        (one_changes state mid state.words k c 0 d (taken setting.reclamation call d) e (some_is _ mid became) at there (known c e there).1 (stays_count d.counts.claims (known k d at).1))
     by d at false became = absurd (let z : None ≡ Some mid = became in cc)
 
     of : (o : Option Entry) → slice_get state.entries k ≡ o → event_by target setting state (Takes k call) o ≡ Some mid → Tallies mid c e.counts.claims 0
@@ -218,6 +219,7 @@ module _ (target : Target) (text : Text) (setting : Setting) (runs : IsRunnable 
   not_claimed j word Restarts none = tt
   not_claimed j word (Clears next) none = tt
   not_claimed j word (Zeroes k field) none = tt
+  not_claimed j word (Announces announcing) none = tt
 
   module _ (j : ℕ) (past : HeldNone setting j) (le : j ≤ setting.sizes.slots) where
     some : 1 ≤ j
@@ -226,7 +228,7 @@ module _ (target : Target) (text : Text) (setting : Setting) (runs : IsRunnable 
     event_untouched : (state mid : CoreState) (event : CoreEvent) → Reachable target setting state → core_event target setting state event ≡ Some mid
         → ((c : ℕ) → has_slot (event_claims target setting c state event) j ≡ false) → IsUntouched target setting state j → IsUntouched target setting mid j
     event_untouched state mid (Takes k call) reached goes none was = of (slice_get state.entries k) refl goes where
-      by : (d : Entry) → slice_get state.entries k ≡ Some d → (b : Bool) → (if b then Some (record state { entries = slice_set state.entries k (taken call d) }) else None) ≡ Some mid → IsUntouched target setting mid j
+      by : (d : Entry) → slice_get state.entries k ≡ Some d → (b : Bool) → (if b then Some (record state { entries = slice_set state.entries k (taken setting.reclamation call d) }) else None) ≡ Some mid → IsUntouched target setting mid j
       by d at true became = subst (λ (s : CoreState). IsUntouched target setting s j) (some_is _ mid became) (take_untouched target setting state k call d j some at was)
       by d at false became = absurd (let z : None ≡ Some mid = became in cc)
 

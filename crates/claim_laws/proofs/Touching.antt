@@ -29,13 +29,15 @@ use Rattle.oa_words.specs.Starts.{first_ready}
 use Rattle.phase_pools.specs.declared.stages.Scheme.{Scheme}
 use Rattle.phase_pools.specs.declared.stages.Scheme.TheVariants.{Warned, Announced}
 use Rattle.phase_pools.specs.Pools.{Sweep, warn_wanted, sweep_wants_at, claim_wants_at, retire_wants_at}
+use Rattle.caller_parts.specs.declared.routine.Announcing.{Announcing}
+use Rattle.caller_parts.specs.declared.routine.Announcing.TheVariants as announces
 use Rattle.caller_parts.specs.declared.routine.Routine.{Routine}
-use Rattle.caller_parts.specs.declared.routine.Routine.TheVariants.{Idle, LoadSeen, At, InList, Retires, Restarts, Clears, Claims, Zeroes}
+use Rattle.caller_parts.specs.declared.routine.Routine.TheVariants.{Idle, LoadSeen, At, InList, Retires, Restarts, Clears, Claims, Zeroes, Announces}
 use Rattle.caller_parts.specs.Settings.{Setting}
 use Rattle.caller_steps.specs.Entries.{Entry, instr_in}
 use Rattle.caller_parts.specs.Operands.{list_of, slot_in, word_in}
 use Rattle.caller_steps.specs.Clearing.{restart_next, clear_next}
-use Rattle.caller_steps.specs.Wants.{clear_wanted, exchange_wanted, instr_wanted, list_wanted, object_exchange, place_exchange, plain_wanted, wanted, wants}
+use Rattle.caller_steps.specs.Wants.{announcing_wanted, clear_wanted, exchange_wanted, instr_wanted, list_wanted, object_exchange, place_exchange, plain_wanted, wanted, wants}
 use Rattle.claim_laws.specs.Untouched.{nodes_in, HeldNone, StageAvoids, RoutineAvoids, EntryAvoids}
 
 -- ---- a status that stays
@@ -134,6 +136,11 @@ module _ (target : Target) (setting : Setting) (j : ℕ) where
   claim_leaves k sweep (claims.Withdraw own) other is = absurd cc
   claim_leaves k sweep claims.Sweeps other is = sweep_leaves sweep.scheme sweep.bound sweep.stage is
 
+  announcing_leaves : (c : ℕ) (announcing : Announcing) → Leaves (Some (announcing_wanted c announcing))
+  announcing_leaves c (announces.Loads why) is = refl
+  announcing_leaves c (announces.Stores why phase) is = absurd cc
+  announcing_leaves c (announces.Leaves reply) is = absurd cc
+
   leaves_step : (e : Entry) (routine : Routine) → RoutineAvoids j routine → Leaves (wanted target e routine)
   leaves_step e Idle a = tt
   leaves_step e (LoadSeen why) a = λ is. refl
@@ -144,6 +151,7 @@ module _ (target : Target) (setting : Setting) (j : ℕ) where
   leaves_step e (Clears next) a = clear_leaves e.number (clear_next target next e)
   leaves_step e (Claims claim) a = claim_leaves claim.kind claim.sweep claim.stage a.1
   leaves_step e (Zeroes k field) a = λ is. absurd cc
+  leaves_step e (Announces announcing) a = announcing_leaves e.number announcing
 
   pub step_leaves_ready : (e : Entry) → EntryAvoids j e → Leaves (wants target e)
   unfolding wants

@@ -10,7 +10,12 @@ use Rattle.caller_parts.specs.declared.call.Reply.TheVariants as replies
 use Rattle.caller_parts.specs.declared.call.Replied.{Replied}
 use Rattle.caller_parts.specs.declared.call.Running.{Running}
 use Rattle.caller_parts.specs.declared.routine.MethodStart.TheVariants as starts
-use Rattle.caller_parts.specs.declared.routine.Routine.TheVariants.{LoadSeen}
+use Rattle.caller_parts.specs.declared.routine.AnnounceReason.TheVariants as reasons
+use Rattle.caller_parts.specs.declared.routine.Announcing.TheVariants as announces
+use Rattle.caller_parts.specs.declared.routine.Routine.{Routine}
+use Rattle.caller_parts.specs.declared.routine.Routine.TheVariants.{LoadSeen, Announces}
+use Rattle.caller_parts.specs.declared.setting.Reclamation.{Reclamation}
+use Rattle.caller_parts.specs.declared.setting.Reclamation.TheVariants.{Optimistic, Epochs}
 use Rattle.caller_parts.specs.Settings.{Setting}
 use Rattle.caller_steps.specs.Entries.{Entry, cradle_of}
 use Rattle.caller_steps.specs.After.{after}
@@ -35,10 +40,15 @@ HasFewNews target = (op : ℕ) → news_of (slice_get target.ops op) ≤ 1
 abbrev pub Publishes : Target → Setting → StepMade → Type 0
 Publishes target setting step = (k : ℕ) × (cradle_of step.entry k ≢ 0) × (cradle_of (after target setting step.entry step.found) k ≡ 0)
 
+-- before the first access of a call that begins again: the load of the own warning, or that of the phase to announce
+abbrev pub again_routine : Reclamation → Routine
+again_routine Optimistic = LoadSeen starts.Again
+again_routine Epochs = Announces (announces.Loads reasons.Again)
+
 -- in no run does a call begin again once it has published a node
 pub record PublishedEnd (target : Target) (setting : Setting) : Type 0 where
   pub each : (events : List CoreEvent) (state : CoreState) (c : ℕ) (e : Entry) (before : List StepMade) (step : StepMade) (later : List StepMade)
-      → core_run target setting events (core_start target setting) ≡ Some state → slice_get state.entries c ≡ Some e → e.routine ≡ LoadSeen starts.Again
+      → core_run target setting events (core_start target setting) ≡ Some state → slice_get state.entries c ≡ Some e → e.routine ≡ again_routine setting.reclamation
       → steps_of_call target setting events c (length e.replies) ≡ before ++ step ∷ later → Publishes target setting step → ⊥
 
 -- the `new` of all calls that a caller took; where no operation has more than one, that is how many calls are of one with a `new`

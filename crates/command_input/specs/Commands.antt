@@ -6,20 +6,21 @@ use Rattle.oa_text.specs.Numbers.{is_numeral, number_of}
 use Rattle.oa_words.specs.Within.{is_count}
 use Rattle.documents.specs.DocumentLimits.{most_calls}
 use Rattle.command_input.specs.declared.command.Command.{Command}
-use Rattle.command_input.specs.declared.command.Command.TheVariants.{Run, Replay, Check, Show, Upgrade, Compile, Certify}
+use Rattle.command_input.specs.declared.command.Command.TheVariants.{Run, Replay, Epochs, Check, Show, Upgrade, Compile, Certify}
 use Rattle.command_input.specs.declared.command.Request.{Request}
 use Rattle.command_input.specs.declared.command.Request.TheVariants.{OfDocument, OfCertificate, Workload}
 
--- `run`, `replay`, `check`, `show`, `upgrade` or `compile`
+-- `run`, `replay`, `epochs`, `check`, `show`, `upgrade` or `compile`
 abbrev pub command_named : List ℕ → Option Command
 command_named word =
     if bytes_eq word (codes "run") then Some Run
     else (if bytes_eq word (codes "replay") then Some Replay
+    else (if bytes_eq word (codes "epochs") then Some Epochs
     else (if bytes_eq word (codes "check") then Some Check
     else (if bytes_eq word (codes "show") then Some Show
     else (if bytes_eq word (codes "upgrade") then Some Upgrade
     else (if bytes_eq word (codes "compile") then Some Compile
-    else None)))))
+    else None))))))
 
 -- the number that a word spells, from 1 to `most`, as a document spells numbers
 abbrev pub count_in : ℕ → List ℕ → Option ℕ

@@ -15,6 +15,8 @@ pub enum Command {
     Run,
     /// The same, with the steps of the callers in the order that the document's schedule gives.
     Replay,
+    /// The document's calls are made on its text as it is, under epochs, and their answers written.
+    Epochs,
     /// The document's text is judged by the rules of the normal form.
     Check,
     /// The document's text is written in its canonical spelling.
@@ -47,6 +49,7 @@ fn command_named(word: &str) -> Option<Command>
     match word {
         "run" => Some(Command::Run),
         "replay" => Some(Command::Replay),
+        "epochs" => Some(Command::Epochs),
         "check" => Some(Command::Check),
         "show" => Some(Command::Show),
         "upgrade" => Some(Command::Upgrade),

@@ -1,7 +1,7 @@
 //! What the top call answers to a row.
 
 use crate::world::World;
-use oa_cli::{Status, oa_main, status_number};
+use oa_cli::{RememberingSource, Status, explain_read, oa_main, status_number};
 use oa_text::{MemorySink, MemorySource, OpenGate};
 use row_spelling::{NamedLines, RowError, one_line, spelled};
 use std::alloc::{AllocError, Global};
@@ -24,18 +24,36 @@ fn told(alloc: Global, status: Status, sink: &MemorySink) -> Result<String, Allo
     format!(in alloc; "{} {status:?}: {text}", status_number(status))
 }
 
-/// Makes the top call on a source, and tells its status and what it writes.
+/// The message on a status, where a source remembers what was read: as much of it as there is memory for.
+fn message(
+    alloc: Global,
+    status: Status,
+    source: &RememberingSource<MemorySource>,
+) -> Result<String, AllocError> {
+    let mut errors = MemorySink::new(alloc, 4096, Vec::new(alloc));
+    match explain_read(&mut errors, source, status) {
+        Ok(()) => one_line(alloc, errors.bytes()),
+        Err(_) => one_line(alloc, errors.bytes()),
+    }
+}
+
+/// Makes the top call on a source, and tells its status and what it writes, or the message.
 fn called<R: Threads + Sync>(
     rt: &R,
     alloc: Global,
     world: World,
     words: &[String],
-    mut source: MemorySource,
+    source: MemorySource,
 ) -> Result<String, AllocError> {
     let fails = Vec::from_slice(alloc, &[world.failing_write])?;
     let mut sink = MemorySink::new(alloc, world.most.max(1), fails);
+    let mut source = RememberingSource::new(alloc, source);
     let status = oa_main(rt, alloc, words, &mut source, &mut sink, &OpenGate);
-    told(alloc, status, &sink)
+    if world.messages {
+        message(alloc, status, &source)
+    } else {
+        told(alloc, status, &sink)
+    }
 }
 
 /// The source that gives what a row spells.

@@ -4,7 +4,8 @@
 //! output the row stands as it is, and the line after it has the status's number, its name, and what was written. A line that
 //! begins with `#` is a heading and is written as it stands; an empty line is skipped. `lines NAME SPELLING` names lines that
 //! the rows below it begin with. `world MOST READ WRITE` says of the rows below it how many bytes the source gives and the
-//! sink takes a call, and which read and which write fails, counted from 1; 0 is none.
+//! sink takes a call, and which read and which write fails, counted from 1; 0 is none. Below a line `world MOST READ WRITE messages`
+//! a row's answer is what the program says on standard error.
 #![tactic(auto)]
 
 mod answer;

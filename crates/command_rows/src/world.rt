@@ -1,11 +1,13 @@
 //! What the source gives and the sink takes.
 
-/// How many bytes the source gives and the sink takes a call, and the numbers of the calls that fail, from 1; 0 is none.
+/// How many bytes the source gives and the sink takes a call, the numbers of the calls that fail, from 1, where 0 is none, and
+/// whether a row is answered by what standard error says in place of standard output.
 #[derive(Clone, Copy)]
 pub(crate) struct World {
     pub(crate) most: usize,
     pub(crate) failing_read: u64,
     pub(crate) failing_write: u64,
+    pub(crate) messages: bool,
 }
 
 /// What stands before the first space, and what stands after it.
@@ -27,16 +29,19 @@ impl World {
         most: 4096,
         failing_read: 0,
         failing_write: 0,
+        messages: false,
     };
 
-    /// The world that a line's three numbers say.
+    /// The world that a line's three numbers say, and maybe the word `messages` after them.
     pub(crate) fn of_line(line: &str) -> World {
         let (most, calls) = cut(line);
-        let (read, write) = cut(calls);
+        let (read, writes) = cut(calls);
+        let (write, word) = cut(writes);
         World {
             most: number(most) as usize,
             failing_read: number(read),
             failing_write: number(write),
+            messages: word == "messages",
         }
     }
 }

@@ -2,13 +2,13 @@
 use Rattle.std.proofs.Common.{◌≡◌, ◌≢◌, ℕ, ◌<◌, ◌^◌, Bool, true, false, List, length, Option, Some, None, refl, sym, ◌∙◌, subst, not, ⊎_elim}
 use Rattle.std.specs.Prelude.{is_some}
 use Rattle.target_code.specs.declared.target.Target.{Target}
-use Rattle.target_laws.specs.target_runs.Runnable.{IsRunnable}
 use Rattle.oa_words.specs.Words.{address_of, word_count}
 use Rattle.oa_words.proofs.Places.{within}
 use Rattle.phase_pools.specs.Accesses.{WordAccess, word_of, located, Loads, Stores, Exchanges, Raises}
 use Rattle.caller_parts.specs.declared.call.Call.{Call}
 use Rattle.caller_parts.specs.declared.call.Replied.{Replied}
 use Rattle.caller_parts.specs.Settings.{Setting, IsSetting}
+use Rattle.caller_parts.specs.declared.setting.Reclamation.{Reclamation}
 use Rattle.caller_steps.specs.Entries.{Entry, idle_entry, is_idle}
 use Rattle.caller_parts.specs.Calls.{is_call}
 use Rattle.caller_steps.specs.Wants.{wants}
@@ -23,59 +23,68 @@ use Rattle.core_runs.specs.Advances.{RunsOn, Ends}
 use Rattle.core_runs.proofs.Advancing.{runs_end}
 use Rattle.barrier_check.specs.Paired.{Paired, IsSound}
 use Rattle.core_entries.specs.Ports.{at_of}
+use Rattle.core_entries.specs.Running.{MayRun}
 use Rattle.core_entries.specs.Callers.{BelongsTo, BelongsToAll, StaysWithAll, IsInRow}
 
 -- callers may run it
-pub runnable : (pair : Paired) → IsSound pair → IsRunnable pair.target pair.source
+pub runnable : (pair : Paired) → IsSound pair → MayRun pair
 runnable pair s = record { small = s.small; normal = s.normal; within = s.within; erases = s.barred.erases }
 
 pub new_belongs : (c : ℕ) → BelongsToAll (idle_entry c)
 new_belongs c = record {
   each = λ pair setting sound fits lt. record { fits = fits; belongs = idle_belongs pair.target setting c (methods pair.target pair.source (runnable pair sound)) lt };
+  any = λ pair setting runs fits lt. record { fits = fits; belongs = idle_belongs pair.target setting c (methods pair.target pair.source runs) lt };
 }
 
-pub begins : (pair : Paired) (call : Call) (e : Entry) → IsSound pair → is_call pair.target call ≡ true → StaysWithAll pair e (taken call e)
-begins pair call e sound is = record {
-  each = λ setting b. record { fits = b.fits; belongs = taken_belongs pair.target setting call e (methods pair.target pair.source (runnable pair sound)) is b.belongs };
+pub begins : (by : Reclamation) (pair : Paired) (call : Call) (e : Entry) → MayRun pair → is_call pair.target call ≡ true → StaysWithAll by pair e (taken by call e)
+begins by pair call e sound is = record {
+  each = λ setting scheme b. record {
+    fits = b.fits;
+    belongs = taken_belongs pair.target setting by call e (methods pair.target pair.source sound) scheme is b.belongs;
+  };
 }
 
 -- ---- what the code may ask and be told
 
-pub asks : (pair : Paired) (target : Target) (setting : Setting) (e : Entry) → target ≡ pair.target → IsSound pair → IsSetting setting → BelongsTo pair setting e
+pub asks : (pair : Paired) (target : Target) (setting : Setting) (e : Entry) → target ≡ pair.target → MayRun pair → IsSetting setting → BelongsTo pair setting e
     → CanAsk target setting e e.routine
 asks pair target setting e same sound own b =
-    subst (λ (t : Target). CanAsk t setting e e.routine) (sym same) ((fits_code pair.target pair.source setting (runnable pair sound) own b.fits).asks e b.belongs)
+    subst (λ (t : Target). CanAsk t setting e e.routine) (sym same) ((fits_code pair.target pair.source setting sound own b.fits).asks e b.belongs)
 
-pub told : (pair : Paired) (target : Target) (setting : Setting) (e : Entry) (word : ℕ) → target ≡ pair.target → IsSound pair → IsSetting setting → BelongsTo pair setting e
+pub told : (pair : Paired) (target : Target) (setting : Setting) (e : Entry) (word : ℕ) → target ≡ pair.target → MayRun pair → IsSetting setting → BelongsTo pair setting e
     → MayBeTold pair.target setting (wants pair.target e) word → CanAccept target setting e word e.routine
 told pair target setting e word same sound own b lawful =
-    subst (λ (t : Target). CanAccept t setting e word e.routine) (sym same) ((fits_code pair.target pair.source setting (runnable pair sound) own b.fits).accepts e word b.belongs lawful)
+    subst (λ (t : Target). CanAccept t setting e word e.routine) (sym same) ((fits_code pair.target pair.source setting sound own b.fits).accepts e word b.belongs lawful)
 
 -- each `new` of its code is of a kind of the row
-pub news : (pair : Paired) (target : Target) (setting : Setting) (e : Entry) → target ≡ pair.target → IsSound pair → IsSetting setting → BelongsTo pair setting e → NewsFit target setting.sizes
+pub news : (pair : Paired) (target : Target) (setting : Setting) (e : Entry) → target ≡ pair.target → MayRun pair → IsSetting setting → BelongsTo pair setting e → NewsFit target setting.sizes
 news pair target setting e same sound own b =
-    subst (λ (t : Target). NewsFit t setting.sizes) (sym same) (fits_code pair.target pair.source setting (runnable pair sound) own b.fits).news
+    subst (λ (t : Target). NewsFit t setting.sizes) (sym same) (fits_code pair.target pair.source setting sound own b.fits).news
 
-pub near : (pair : Paired) (setting : Setting) (e : Entry) → IsSound pair → IsSetting setting → BelongsTo pair setting e → e.hand.at < 2 ^ 62
-near pair setting e sound own b = (fits_code pair.target pair.source setting (runnable pair sound) own b.fits).near e b.belongs
+-- its number is one of the row's
+pub numbered : (pair : Paired) (setting : Setting) (e : Entry) → BelongsTo pair setting e → e.number < setting.sizes.callers
+numbered pair setting e b = b.belongs.number
 
-pub slots : (pair : Paired) (setting : Setting) (e : Entry) → IsSound pair → IsSetting setting → BelongsTo pair setting e → AreSlots e.hand.registers
-slots pair setting e sound own b = ((fits_code pair.target pair.source setting (runnable pair sound) own b.fits).slots e b.belongs).0
+pub near : (pair : Paired) (setting : Setting) (e : Entry) → MayRun pair → IsSetting setting → BelongsTo pair setting e → e.hand.at < 2 ^ 62
+near pair setting e sound own b = (fits_code pair.target pair.source setting sound own b.fits).near e b.belongs
 
-pub keeps : (pair : Paired) (setting : Setting) (e : Entry) (word : ℕ) → IsSound pair → IsSetting setting → BelongsTo pair setting e
+pub slots : (pair : Paired) (setting : Setting) (e : Entry) → MayRun pair → IsSetting setting → BelongsTo pair setting e → AreSlots e.hand.registers
+slots pair setting e sound own b = ((fits_code pair.target pair.source setting sound own b.fits).slots e b.belongs).0
+
+pub keeps : (pair : Paired) (setting : Setting) (e : Entry) (word : ℕ) → MayRun pair → IsSetting setting → BelongsTo pair setting e
     → MayBeTold pair.target setting (wants pair.target e) word → BelongsTo pair setting (after pair.target setting e word)
 keeps pair setting e word sound own b lawful =
-    record { fits = b.fits; belongs = (belong pair.target pair.source setting (runnable pair sound) own b.fits).steps e word b.belongs lawful }
+    record { fits = b.fits; belongs = (belong pair.target pair.source setting sound own b.fits).steps e word b.belongs lawful }
 
 -- ---- what it wants
 
 -- a caller that wants an access runs
-busy_by : (pair : Paired) (setting : Setting) (e : Entry) → IsSound pair → IsSetting setting → BelongsTo pair setting e → wants pair.target e ≢ None
+busy_by : (pair : Paired) (setting : Setting) (e : Entry) → MayRun pair → IsSetting setting → BelongsTo pair setting e → wants pair.target e ≢ None
     → (b : Bool) → is_idle e.routine ≡ b → is_idle e.routine ≡ false
 busy_by pair setting e sound own b some false idle = idle
-busy_by pair setting e sound own b some true idle = absurd (some ((safe pair.target pair.source setting (runnable pair sound) own b.fits).idle e idle))
+busy_by pair setting e sound own b some true idle = absurd (some ((safe pair.target pair.source setting sound own b.fits).idle e idle))
 
-pub runs : (pair : Paired) (setting : Setting) (e : Entry) → IsSound pair → IsSetting setting → BelongsTo pair setting e → wants pair.target e ≢ None → is_idle e.routine ≡ false
+pub runs : (pair : Paired) (setting : Setting) (e : Entry) → MayRun pair → IsSetting setting → BelongsTo pair setting e → wants pair.target e ≢ None → is_idle e.routine ≡ false
 runs pair setting e sound own b some = busy_by pair setting e sound own b some (is_idle e.routine) refl
 
 pub at_located : (setting : Setting) (a : WordAccess) → at_of (located setting.sizes a) ≡ address_of setting.sizes (word_of a)
@@ -85,11 +94,11 @@ at_located setting (Exchanges w expected replacement) = refl
 at_located setting (Raises w x) = refl
 
 -- one that runs wants an access to a word of the row, and an idle one none
-in_row : (pair : Paired) (setting : Setting) (e : Entry) → IsSound pair → IsSetting setting → BelongsTo pair setting e
+in_row : (pair : Paired) (setting : Setting) (e : Entry) → MayRun pair → IsSetting setting → BelongsTo pair setting e
     → (is_some (located_option setting.sizes (wants pair.target e)) ≡ not (is_idle e.routine)) × IsInRow setting (located_option setting.sizes (wants pair.target e))
 in_row pair setting e sound own b = by (wants pair.target e) refl (is_idle e.routine) refl where
   law : EntriesAskSafely pair.target setting
-  law = safe pair.target pair.source setting (runnable pair sound) own b.fits
+  law = safe pair.target pair.source setting sound own b.fits
 
   asked : (o : Option WordAccess) → wants pair.target e ≡ o → is_idle e.routine ≡ false → AsksSafely pair.target setting o
   asked o is busy = subst (λ (o : Option WordAccess). AsksSafely pair.target setting o) is (law.busy e b.belongs busy)
@@ -102,11 +111,11 @@ in_row pair setting e sound own b = by (wants pair.target e) refl (is_idle e.rou
   by (Some a) is false idle =
       (refl, subst (λ (at : ℕ). at < word_count setting.sizes) (sym (at_located setting a)) (within setting.sizes (word_of a) (asked (Some a) is idle).row))
 
-pub wanted : (pair : Paired) (setting : Setting) (e : Entry) → IsSound pair → IsSetting setting → BelongsTo pair setting e
+pub wanted : (pair : Paired) (setting : Setting) (e : Entry) → MayRun pair → IsSetting setting → BelongsTo pair setting e
     → is_some (located_option setting.sizes (wants pair.target e)) ≡ not (is_idle e.routine)
 wanted pair setting e sound own b = (in_row pair setting e sound own b).0
 
-pub row : (pair : Paired) (setting : Setting) (e : Entry) → IsSound pair → IsSetting setting → BelongsTo pair setting e → IsInRow setting (located_option setting.sizes (wants pair.target e))
+pub row : (pair : Paired) (setting : Setting) (e : Entry) → MayRun pair → IsSetting setting → BelongsTo pair setting e → IsInRow setting (located_option setting.sizes (wants pair.target e))
 row pair setting e sound own b = (in_row pair setting e sound own b).1
 
 -- a step keeps the room: the call runs on with the same replies, or the entry is idle

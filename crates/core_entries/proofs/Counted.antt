@@ -164,7 +164,7 @@ pub kind_pending : (pair : Paired) (setting : Setting) (e : Entry) (access : Acc
 kind_pending pair setting e access first head sound own b check pending base top =
     let it : Pends pair setting e access = pends pair setting e access pending in
     let some : wants pair.target e ≢ None = λ none. (let no : None ≡ Some it.0 = sym none ∙ it.1 in cc) in
-    let busy : is_idle e.routine ≡ false = runs pair setting e sound own b some in
+    let busy : is_idle e.routine ≡ false = runs pair setting e (runnable pair sound) own b some in
     let asks : AsksSafely pair.target setting (Some it.0) =
     subst (λ (o : Option WordAccess). AsksSafely pair.target setting o) it.1 ((safe pair.target pair.source setting (runnable pair sound) own b.fits).busy e b.belongs busy) in
     ap (λ (n : ℕ). kind_at n head access) base ∙ ap (λ (n : ℕ). kind_at (field_base setting.sizes) n access) top

@@ -12,7 +12,7 @@ use Rattle.norm_lang.specs.Kept.{IsKept}
 use Rattle.target_code.specs.declared.target.TargetOp.{TargetOp}
 use Rattle.target_code.specs.declared.target.Target.{Target}
 use Rattle.target_code.specs.TargetLimits.{IsTargetWithinLimits}
-use Rattle.target_code.specs.Erasing.{erased_op}
+use Rattle.target_code.specs.Erasing.{erased_op, ErasesTo}
 use Rattle.target_code.specs.Keeping.{keeps}
 use Rattle.target_code.specs.Barred.{IsBarred}
 use Rattle.target_code.proofs.Keeping.{keeps_is_kept}
@@ -36,18 +36,18 @@ not_there [] k is lt = omega (arith, lt)
 not_there (o ∷ ops) zero is lt = let z : Some o ≡ None = is in cc
 not_there (o ∷ ops) (suc k) is lt = not_there ops k is (omega (arith, lt))
 
-kept_found : (target : Target) (source : Text) (op r : ℕ) (b : Bool) → IsBarred target source → op < length target.ops
+kept_found : (target : Target) (source : Text) (op r : ℕ) (b : Bool) → ErasesTo target source → op < length target.ops
     → IsSomeAnd (slice_get source.ops op) (λ (o : Op). IsTrue b ↔ IsKept o (Ref r)) → (o : Option TargetOp) → slice_get target.ops op ≡ o → b ≡ keeps_at o r
-kept_found target source op r b barred lt kept None is = absurd (not_there target.ops op is lt)
-kept_found target source op r b barred lt kept (Some found) is =
+kept_found target source op r b erases lt kept None is = absurd (not_there target.ops op is lt)
+kept_found target source op r b erases lt kept (Some found) is =
     let there : slice_get source.ops op ≡ Some (erased_op found) =
-    ap (λ (t : Text). slice_get t.ops op) (sym barred.erases) ∙ (slice_get-map erased_op target.ops op ∙ ap (option_map erased_op) is) in
+    ap (λ (t : Text). slice_get t.ops op) (sym erases) ∙ (slice_get-map erased_op target.ops op ∙ ap (option_map erased_op) is) in
     let exact : IsTrue b ↔ IsKept (erased_op found) (Ref r) = subst (λ (o : Option Op). IsSomeAnd o (λ (o : Op). IsTrue b ↔ IsKept o (Ref r))) there kept in
     same_bool b (keeps (erased_op found) (Ref r)) (λ t. (keeps_is_kept (erased_op found) (Ref r)).1 (exact.0 t)) (λ t. exact.1 ((keeps_is_kept (erased_op found) (Ref r)).0 t))
 
-pub kept_register : (target : Target) (source : Text) (op r : ℕ) (b : Bool) → IsBarred target source → op < length target.ops
+pub kept_register : (target : Target) (source : Text) (op r : ℕ) (b : Bool) → ErasesTo target source → op < length target.ops
     → IsSomeAnd (slice_get source.ops op) (λ (o : Op). IsTrue b ↔ IsKept o (Ref r)) → b ≡ keeps_at (slice_get target.ops op) r
-kept_register target source op r b barred lt kept = kept_found target source op r b barred lt kept (slice_get target.ops op) refl
+kept_register target source op r b erases lt kept = kept_found target source op r b erases lt kept (slice_get target.ops op) refl
 
 pub kept_by_none : (target : Target) (op r : ℕ) → length target.ops ≤ op → false ≡ keeps_at (slice_get target.ops op) r
 kept_by_none target op r past = ap (λ (o : Option TargetOp). keeps_at o r) (sym (slice_get_past target.ops op past))

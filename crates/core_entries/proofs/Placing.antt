@@ -1,17 +1,17 @@
 -- Where the slots of each kind begin and end, and which initial node stands in a slot.
-use Rattle.std.proofs.Common.{◌≡◌, ℕ, zero, suc, ◌+◌, ◌-◌, ◌*◌, ◌≤◌, ◌<◌, ◌^◌, min, true, false, List, [], ◌∷◌, map, drop, length, Option, Some, None, refl, sym, ap, ◌∙◌, subst, arith}
-use Rattle.std.specs.Prelude.{nat_le, nat_lt, slice_get, slice_index, option_map, if◌then◌else◌}
+use Rattle.std.proofs.Common.{◌≡◌, ℕ, zero, suc, ◌+◌, ◌-◌, ◌≤◌, ◌<◌, min, true, false, List, [], ◌∷◌, drop, length, Option, None, refl, sym, ap, ◌∙◌, subst, arith}
+use Rattle.std.specs.Prelude.{nat_le, nat_lt, slice_get, slice_index, option_map}
 use Rattle.std.proofs.lemmas.Bool.Decides.{nat_tests}
 use Rattle.std.proofs.lemmas.Option.{slice_get-map}
 use Rattle.norm_lang.specs.declared.text.NodeDecl.{NodeDecl}
 use Rattle.target_code.specs.declared.target.Target.{Target}
 use Rattle.oa_words.specs.Words.{Sizes}
-use Rattle.oa_words.specs.SlotKinds.{together, sum_before, kind_in, slots_of, first_of, range_of, kind_of}
-use Rattle.oa_words.specs.Starts.{first_home, start_node}
+use Rattle.oa_words.specs.SlotKinds.{sum_before, kind_in, slots_of, first_of, range_of, kind_of}
+use Rattle.oa_words.specs.Starts.{start_node}
 use Rattle.oa_words.specs.Within.{AreSizes, AreKinds}
 use Rattle.oa_words.proofs.Counts.{ends_at_last, ends_within}
-use Rattle.oa_words.proofs.KindRanges.{part_within, parts_follow, kind_small, of_kind_is_in_range}
-use Rattle.caller_parts.specs.Settings.{Setting, IsSetting}
+use Rattle.oa_words.proofs.KindRanges.{part_within, parts_follow, of_kind_is_in_range}
+use Rattle.caller_parts.specs.Settings.{Setting}
 use Rattle.core_runs.specs.Machine.{node_words}
 use Rattle.core_entries.specs.Starts.{home_in, start_of}
 

@@ -4,8 +4,8 @@ use Rattle.std.proofs.lemmas.List.{append_assoc}
 use Rattle.target_code.specs.declared.target.Target.{Target}
 use Rattle.oa_words.specs.Words.{Sizes, slot_rows}
 use Rattle.oa_words.specs.Starts.{Beginning, start_node, start_row, status_at_start, link_at_start, start_head, start_statuses, start_rows, start_heads, start_links, start_words, first_home}
-use Rattle.caller_parts.specs.Settings.{Setting, Fits}
-use Rattle.core_runs.specs.Machine.{node_words, root_word, beginning_of, core_start}
+use Rattle.caller_parts.specs.Settings.{Setting, Fits, first_warning}
+use Rattle.core_runs.specs.Machine.{node_words, root_word, core_start}
 use Rattle.core_entries.specs.Starts.{home_in, start_of, bare_start, caller_words, pool_words, slot_words}
 
 -- ---- one more is put
@@ -80,14 +80,14 @@ module _ (target : Target) (setting : Setting) where
 
   parts_together : caller_words setting ++ (slot_words target setting ++ pool_words setting) ≡ start_words n (start_of target setting)
   parts_together =
-      ap (λ (l : List ℕ). setting.first ∷ l) (three_joined (replicate n.callers 0) (replicate n.callers setting.first) (replicate (8 * n.callers) 0) (slot_words target setting ++ pool_words setting))
-      ∙ ap (λ (l : List ℕ). setting.first ∷ (replicate n.callers 0 ++ (replicate n.callers setting.first ++ (replicate (8 * n.callers) 0 ++ l)))) back_joined
+      ap (λ (l : List ℕ). setting.first ∷ l) (three_joined (replicate n.callers 0) (replicate n.callers (first_warning setting.reclamation setting.first)) (replicate (8 * n.callers) 0) (slot_words target setting ++ pool_words setting))
+      ∙ ap (λ (l : List ℕ). setting.first ∷ (replicate n.callers 0 ++ (replicate n.callers (first_warning setting.reclamation setting.first) ++ (replicate (8 * n.callers) 0 ++ l)))) back_joined
 
   -- by the counts of the setting or of the target, which are the same
   abbrev start_by : List ℕ → Beginning
   start_by counts = record {
     first = setting.first;
-    warnings = setting.first;
+    warnings = first_warning setting.reclamation setting.first;
     nodes = map (node_words (first_home n counts)) target.nodes;
     counts = counts;
     cells = map (root_word (first_home n counts)) target.roots;

@@ -1,8 +1,10 @@
 pub mod Ports
 pub mod Starts
 pub mod Tables
+pub mod Running
 pub mod Kinds
 pub mod Callers
 pub mod Steps
 pub mod StepSigns
 pub mod StepRuns
+pub mod Told

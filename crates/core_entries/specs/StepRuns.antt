@@ -1,5 +1,5 @@
 -- A step's parts as the code finds them: the sign of the access, and the local code that runs after it.
-use Rattle.std.specs.Prelude.{ℕ, zero, suc, ◌+◌, Bool, true, false, ◌&&◌, List, [], ◌∷◌, length, Option, Some, None, nat_lt, ◌==◌, if◌then◌else◌, slice_get}
+use Rattle.std.specs.Prelude.{ℕ, zero, suc, ◌+◌, Bool, true, false, ◌&&◌, List, [], ◌∷◌, length, Option, Some, None, nat_lt, ◌==◌, slice_get}
 use Rattle.norm_lang.specs.declared.text.CasEntry.{CasEntry}
 use Rattle.norm_lang.specs.declared.text.Instr.{Instr}
 use Rattle.norm_lang.specs.declared.text.Instr.TheVariants as instr
@@ -13,10 +13,16 @@ use Rattle.phase_pools.specs.declared.access.ClaimEnd.TheVariants as claim_ends
 use Rattle.phase_pools.specs.Pools.{claim_accepts, Retirement, retire_accepts}
 use Rattle.caller_parts.specs.declared.routine.MethodStart.{MethodStart}
 use Rattle.caller_parts.specs.declared.routine.MethodStart.TheVariants as starts
+use Rattle.caller_parts.specs.declared.routine.AnnounceReason.{AnnounceReason}
+use Rattle.caller_parts.specs.declared.routine.AnnounceReason.TheVariants as reasons
+use Rattle.caller_parts.specs.declared.routine.Announcing.{Announcing}
+use Rattle.caller_parts.specs.declared.routine.Announcing.TheVariants as announces
+use Rattle.caller_parts.specs.declared.setting.Reclamation.{Reclamation}
+use Rattle.caller_parts.specs.declared.setting.Reclamation.TheVariants.{Optimistic, Epochs}
 use Rattle.caller_parts.specs.declared.routine.AfterRetire.{AfterRetire}
 use Rattle.caller_parts.specs.declared.routine.AfterRetire.TheVariants as retires
 use Rattle.caller_parts.specs.declared.routine.Routine.{Routine}
-use Rattle.caller_parts.specs.declared.routine.Routine.TheVariants.{Idle, LoadSeen, At, InList, Retires, Restarts, Clears, Claims, Zeroes}
+use Rattle.caller_parts.specs.declared.routine.Routine.TheVariants.{Idle, LoadSeen, At, InList, Retires, Restarts, Clears, Claims, Zeroes, Announces}
 use Rattle.caller_parts.specs.Settings.{Setting}
 use Rattle.caller_parts.specs.Operands.{with_word, list_of, succeeds, to_retire, with_new, code_at}
 use Rattle.caller_steps.specs.Entries.{Entry, instr_in, zero_count, cradle_of}
@@ -42,11 +48,16 @@ abbrev pub check_named : Bool → Option Sign
 check_named true = None
 check_named false = Some Restart
 
-abbrev pub instr_named : Option TargetInstr → ℕ → ℕ → Option Sign
-instr_named None seen word = None
-instr_named (Some (Plain i)) seen word = plain_named (plain_has_access i)
-instr_named (Some Check) seen word = check_named (word == seen)
-instr_named (Some (Guard r)) seen word = None
+-- under epochs nothing comes of a check
+abbrev pub check_named_by : Reclamation → Bool → Option Sign
+check_named_by Optimistic passes = check_named passes
+check_named_by Epochs passes = None
+
+abbrev pub instr_named : Reclamation → Option TargetInstr → ℕ → ℕ → Option Sign
+instr_named by None seen word = None
+instr_named by (Some (Plain i)) seen word = plain_named (plain_has_access i)
+instr_named by (Some Check) seen word = check_named_by by (word == seen)
+instr_named by (Some (Guard r)) seen word = None
 
 abbrev pub list_named : Option CasEntry → Option Sign
 list_named None = None
@@ -66,16 +77,28 @@ abbrev pub fresh_named : Bool → Option Sign
 fresh_named true = None
 fresh_named false = Some Fresh
 
+-- the store of the phase begins a run
+abbrev pub reason_named : AnnounceReason → Sign
+reason_named reasons.Begin = Begin
+reason_named reasons.Again = Restart
+reason_named reasons.Swept = Restart
+
+abbrev pub announcing_named : Announcing → Option Sign
+announcing_named (announces.Loads why) = None
+announcing_named (announces.Stores why phase) = Some (reason_named why)
+announcing_named (announces.Leaves reply) = None
+
 abbrev pub first_sign : Target → Setting → Entry → ℕ → Routine → Option Sign
 first_sign target setting e word Idle = None
 first_sign target setting e word (LoadSeen why) = Some (start_named why)
-first_sign target setting e word At = instr_named (instr_in target e) e.hand.seen word
+first_sign target setting e word At = instr_named setting.reclamation (instr_in target e) e.hand.seen word
 first_sign target setting e word (InList k) = list_named (slice_get (list_of (instr_in target e)) k)
 first_sign target setting e word (Retires retirement go) = None
 first_sign target setting e word Restarts = None
 first_sign target setting e word (Clears next) = None
 first_sign target setting e word (Claims claim) = end_named (claim_accepts setting.sizes setting.last claim word).ended
 first_sign target setting e word (Zeroes k field) = fresh_named (stores_more target e field)
+first_sign target setting e word (Announces announcing) = announcing_named announcing
 
 -- ---- the local code that runs after the access, if any does
 
@@ -109,11 +132,19 @@ plain_run e (instr.Put a f b) word = Some (next_run e e.hand.accessed e.hand.reg
 plain_run e (instr.Cas exchange l) word = cas_run e exchange l (succeeds exchange e.hand.registers word)
 plain_run e _ word = None
 
-abbrev pub instr_run : Target → Entry → Option TargetInstr → ℕ → Option Run
-instr_run target e None word = None
-instr_run target e (Some (Plain i)) word = plain_run e i word
-instr_run target e (Some Check) word = check_run target e (word == e.hand.seen)
-instr_run target e (Some (Guard r)) word = Some (next_run e e.hand.accessed e.hand.registers)
+abbrev pub check_run_by : Reclamation → Target → Entry → Bool → Option Run
+check_run_by Optimistic target e passes = check_run target e passes
+check_run_by Epochs target e passes = None
+
+abbrev pub guard_run_by : Reclamation → Entry → Option Run
+guard_run_by Optimistic e = Some (next_run e e.hand.accessed e.hand.registers)
+guard_run_by Epochs e = None
+
+abbrev pub instr_run : Reclamation → Target → Entry → Option TargetInstr → ℕ → Option Run
+instr_run by target e None word = None
+instr_run by target e (Some (Plain i)) word = plain_run e i word
+instr_run by target e (Some Check) word = check_run_by by target e (word == e.hand.seen)
+instr_run by target e (Some (Guard r)) word = guard_run_by by e
 
 abbrev pub onward_run : Entry → AfterRetire → Option Run
 onward_run e retires.Next = Some (next_run e e.hand.accessed e.hand.registers)
@@ -131,16 +162,22 @@ abbrev pub zeroed_run : Target → Entry → ℕ → Bool → Option Run
 zeroed_run target e k true = None
 zeroed_run target e k false = Some (next_run e e.hand.accessed (with_new (instr_in target e) (cradle_of e k) e.hand.registers))
 
-abbrev pub run_after : Target → Entry → ℕ → Routine → Option Run
-run_after target e word Idle = None
-run_after target e word (LoadSeen why) = Some (method_run (is_wrap_up why) e)
-run_after target e word At = instr_run target e (instr_in target e) word
-run_after target e word (InList k) = None
-run_after target e word (Retires retirement go) = retired_run e go (retire_accepts retirement word)
-run_after target e word Restarts = restart_run e (restart_after target e)
-run_after target e word (Clears next) = None
-run_after target e word (Claims claim) = None
-run_after target e word (Zeroes k field) = zeroed_run target e k (stores_more target e field)
+abbrev pub announcing_run : Entry → Announcing → Option Run
+announcing_run e (announces.Loads why) = None
+announcing_run e (announces.Stores why phase) = Some (method_run false e)
+announcing_run e (announces.Leaves reply) = None
+
+abbrev pub run_after : Reclamation → Target → Entry → ℕ → Routine → Option Run
+run_after by target e word Idle = None
+run_after by target e word (LoadSeen why) = Some (method_run (is_wrap_up why) e)
+run_after by target e word At = instr_run by target e (instr_in target e) word
+run_after by target e word (InList k) = None
+run_after by target e word (Retires retirement go) = retired_run e go (retire_accepts retirement word)
+run_after by target e word Restarts = restart_run e (restart_after target e)
+run_after by target e word (Clears next) = None
+run_after by target e word (Claims claim) = None
+run_after by target e word (Zeroes k field) = zeroed_run target e k (stores_more target e field)
+run_after by target e word (Announces announcing) = announcing_run e announcing
 
 -- ---- where it stops
 

@@ -1,14 +1,10 @@
 -- The signs of a step by what it does: an access of the text, and the end of a list or of a wrap-up run, are told apart.
-use Rattle.std.specs.Prelude.{ℕ, zero, suc, ◌+◌, Bool, true, false, ◌&&◌, not, List, [], ◌∷◌, ◌++◌, map, length, Option, Some, None, nat_lt, ◌==◌, if◌then◌else◌, slice_get, slice_set}
-use Rattle.norm_lang.specs.declared.text.CasEntry.{CasEntry}
-use Rattle.norm_lang.specs.declared.text.Instr.{Instr}
-use Rattle.norm_lang.specs.declared.text.Instr.TheVariants as instr
-use Rattle.norm_lang.specs.declared.registers.Registers.{Registers}
+use Rattle.std.specs.Prelude.{ℕ, Bool, true, false, List, [], ◌∷◌, map, Option, Some, None}
 use Rattle.target_code.specs.declared.target.TargetInstr.{TargetInstr}
 use Rattle.target_code.specs.declared.target.TargetInstr.TheVariants.{Plain, Check, Guard}
 use Rattle.target_code.specs.declared.target.Target.{Target}
 use Rattle.caller_parts.specs.declared.routine.Routine.{Routine}
-use Rattle.caller_parts.specs.declared.routine.Routine.TheVariants.{Idle, LoadSeen, At, InList, Retires, Restarts, Clears, Claims, Zeroes}
+use Rattle.caller_parts.specs.declared.routine.Routine.TheVariants.{Idle, LoadSeen, At, InList, Retires, Restarts, Clears, Claims, Zeroes, Announces}
 use Rattle.caller_parts.specs.Settings.{Setting}
 use Rattle.caller_steps.specs.Entries.{Entry, instr_in}
 use Rattle.caller_steps.specs.Signs as steps
@@ -35,6 +31,7 @@ is_of_text target e Restarts = false
 is_of_text target e (Clears next) = false
 is_of_text target e (Claims claim) = false
 is_of_text target e (Zeroes k field) = false
+is_of_text target e (Announces announcing) = false
 
 -- an access of the source is that of the step, or else an end to which local code has come
 abbrev pub access_named : Bool → Sign

@@ -1,9 +1,11 @@
 //! A caller's entry.
 
-ghost use Rattle.std.specs.Prelude.{◌≡◌, ◌≢◌, ◌-◌, ◌<◌, None, IfOk, IfSome, length, map, option_copied, slice_get, true, is_some, not};
+ghost use Rattle.std.specs.Prelude.{◌≡◌, ◌≢◌, ◌-◌, ◌<◌, None, IfOk, IfSome, length, map, slice_get, true, is_some, not, ◌&&◌};
 ghost use Rattle.caller_steps.specs.Entries.{idle_entry, is_idle, code_in, instr_in};
 ghost use Rattle.caller_parts.specs.declared.routine.Routine.TheVariants.{At};
 ghost use Rattle.caller_parts.specs.Pairing.{reply_of};
+ghost use Rattle.caller_parts.specs.Codes.{code_shown, shown_at};
+ghost use Rattle.caller_parts.specs.declared.setting.Reclamation.TheVariants.{Optimistic};
 ghost use Rattle.caller_parts.specs.Calls.{is_call};
 ghost use Rattle.caller_steps.specs.Asking.{located_option};
 ghost use Rattle.caller_steps.specs.Lawful.{MayBeTold};
@@ -12,19 +14,22 @@ ghost use Rattle.caller_steps.specs.After.{after, taken};
 ghost use Rattle.caller_steps.specs.Belongs.{is_check_at};
 ghost use Rattle.core_runs.specs.Replays.{is_spent, stands_at_check, kind_wanted};
 ghost use Rattle.core_entries.specs.StepSigns.{step_signs};
+ghost use Rattle.core_entries.specs.Running.{pair_of};
+ghost use Rattle.core_entries.specs.Told.{told_by};
 ghost use Rattle.core_entries.specs.Callers.{BelongsTo, BelongsToAll, BelongsToSome, StaysWithAll, IsInRow};
 
-use crate::kinds::{first_field, instr_at, is_check, kind_at, pool_head};
-use crate::loaded::LoadedTarget;
+use crate::kinds::{first_field, is_check, kind_at, pool_head};
+use crate::loaded::{LoadedTarget, Ready};
 use crate::prepared::{Prepared, kept};
+use crate::running::Runs;
 use crate::signs::{Signs, signs_after};
 use barrier_check::Barred;
-use caller_steps::{Call, Entry as State, Program, Reply, Setting, Stand};
+use caller_parts::{AfterClear, MethodStart};
+use caller_steps::{Call, Code, Entry as State, Program, Reclamation, Reply, Setting, Stand, Step};
 use phase_pools::access::Access;
 use schedule_turns::StepKind;
 use std::alloc::{AllocError, Global};
 use std::marker::Model;
-use target_code::target::TargetInstr;
 
 /// A caller of the core, with room for its replies: the call that it runs, where it stands in its method or in the routine of
 /// its pool, its guards, the slots that it has claimed and hasn't published, its replies, and its counts. What it does is
@@ -76,17 +81,29 @@ impl Entry {
 
     /// Takes a call of the operation `op`, by its number in the target, with its arguments. The entry is idle and has room for
     /// the reply, and the words of `args` past the operation's count are 0.
-    #[inline(never)]
     pub fn begin(&mut self, barred: &Barred, op: u8, args: [u64; 4])
         requires belongs { BelongsToSome barred.now self.old.core }
         requires idle { is_idle self.old.core.routine ≡ true }
         requires spare { length self.old.core.replies < self.old.room }
         requires call { is_call barred.now.target (record { op = op; args = args }) ≡ true }
-        ensures taken { self.new ≡ record self.old { core = taken (record { op = op; args = args }) self.old.core } }
-        ensures belongs { StaysWithAll barred.now self.old.core self.new.core }
+        ensures taken { self.new ≡ record self.old { core = taken Optimistic (record { op = op; args = args }) self.old.core } }
+        ensures belongs { StaysWithAll Optimistic barred.now self.old.core self.new.core }
     {
-        kept(barred);
-        self.state.begin(Call { op, args });
+        self.begin_by(Reclamation::Optimistic, Runs::Barred(barred), op, args);
+    }
+
+    /// `begin` of what callers run, by the scheme of their setting.
+    #[inline(never)]
+    pub fn begin_by(&mut self, by: Reclamation, runs: Runs, op: u8, args: [u64; 4])
+        requires belongs { BelongsToSome (pair_of runs) self.old.core }
+        requires idle { is_idle self.old.core.routine ≡ true }
+        requires room { length self.old.core.replies < self.old.room }
+        requires call { is_call (pair_of runs).target (record { op = op; args = args }) ≡ true }
+        ensures taken { self.new ≡ record self.old { core = taken by (record { op = op; args = args }) self.old.core } }
+        ensures belongs { StaysWithAll by (pair_of runs.entry) self.old.core self.new.core }
+    {
+        runs.kept();
+        self.state.begin(by, Call { op, args });
     }
 
     /// The one access that the entry makes next, to a word of the row; none exactly where it is idle.
@@ -101,13 +118,29 @@ impl Entry {
     }
 
     /// `pending` of a loaded target.
+    #[inline(always)]
     pub fn pending_on(&self, loaded: &LoadedTarget, setting: &Setting) -> Option<Access>
         requires belongs { BelongsTo loaded.now setting.now self.now.core }
         ensures wanted { result ≡ located_option setting.now.sizes (wants loaded.now.target self.now.core) }
         ensures idle { is_some result ≡ not (is_idle self.now.core.routine) }
         ensures row { IsInRow setting.now result }
     {
-        self.pending_in(loaded.barred(), &loaded.program(), setting)
+        setting.kept();
+        loaded.kept();
+        self.state.pending(&loaded.program(), setting)
+    }
+
+    /// `pending` of what callers run.
+    pub fn pending_by(&self, runs: Runs, setting: &Setting) -> Option<Access>
+        requires belongs { BelongsTo (pair_of runs) setting.now self.now.core }
+        ensures wanted { result ≡ located_option setting.now.sizes (wants (pair_of runs.entry).target self.now.core) }
+        ensures idle { is_some result ≡ not (is_idle self.now.core.routine) }
+        ensures row { IsInRow setting.now result }
+    {
+        setting.kept();
+        runs.kept();
+        let ready = Ready::new(runs);
+        self.state.pending(&ready.program(), setting)
     }
 
     /// `pending` for many steps of one target, whose program was made once for them.
@@ -131,18 +164,18 @@ impl Entry {
 
     /// The code of the method, if the caller stands at an access of it.
     #[inline(always)]
-    pub(crate) fn code_at<'a>(&self, program: &Program<'a>) -> Option<&'a [TargetInstr]>
-        ensures { IfSome result (λ code. (self.now.core.routine ≡ At) × (code.now ≡ code_in program.now self.now.core)) }
+    pub(crate) fn code_at<'a>(&self, program: &Program<'a>) -> Option<Code<'a>>
+        ensures { IfSome result (λ code. (self.now.core.routine ≡ At) × (code_shown code ≡ code_in program.now self.now.core)) }
     {
         self.state.code_at(program)
     }
 
     /// The instruction at which the entry stands, in the code of its method.
     #[inline(always)]
-    pub(crate) fn instr_of<'a>(&self, code: &'a [TargetInstr]) -> Option<&'a TargetInstr>
-        ensures { option_copied result ≡ slice_get code.now self.now.core.hand.at }
+    pub(crate) fn instr_of<'a>(&self, code: Code<'a>) -> Option<Step<'a>>
+        ensures { shown_at result ≡ slice_get (code_shown code.entry) self.now.core.hand.at }
     {
-        instr_at(code, self.state.hand.at)
+        code.at(self.state.hand.at)
     }
 
     /// `pending_in` where the caller stands at an access of its method, whose instruction is given.
@@ -152,12 +185,12 @@ impl Entry {
         barred: &Barred,
         program: &Program,
         setting: &Setting,
-        instr: Option<&TargetInstr>,
+        instr: Option<Step>,
     ) -> Option<Access>
         requires program { program.now ≡ barred.now.target }
         requires belongs { BelongsTo barred.now setting.now self.now.core }
         requires stands { self.now.core.routine ≡ At }
-        requires instr { option_copied instr ≡ instr_in program.now self.now.core }
+        requires instr { shown_at instr ≡ instr_in program.now self.now.core }
         ensures wanted { result ≡ located_option setting.now.sizes (wants barred.now.target self.now.core) }
         ensures idle { is_some result ≡ not (is_idle self.now.core.routine) }
     {
@@ -180,6 +213,7 @@ impl Entry {
     }
 
     /// `accept` of a loaded target.
+    #[inline(always)]
     pub fn accept_on(&mut self, loaded: &LoadedTarget, setting: &Setting, word: u64)
         requires belongs { BelongsTo loaded.now setting.now self.old.core }
         requires wanted { wants loaded.now.target self.old.core ≢ None }
@@ -187,7 +221,23 @@ impl Entry {
         ensures after { self.new ≡ record self.old { core = after loaded.now.target setting.now self.old.core word } }
         ensures belongs { BelongsTo loaded.now setting.now self.new.core }
     {
-        self.accept_in(loaded.barred(), &loaded.program(), setting, word);
+        setting.kept();
+        loaded.kept();
+        self.state.accept(&loaded.program(), setting, word);
+    }
+
+    /// `accept` of what callers run.
+    pub fn accept_by(&mut self, runs: Runs, setting: &Setting, word: u64)
+        requires belongs { BelongsTo (pair_of runs) setting.now self.old.core }
+        requires wanted { wants (pair_of runs).target self.old.core ≢ None }
+        requires lawful { MayBeTold (pair_of runs).target setting.now (wants (pair_of runs).target self.old.core) word }
+        ensures after { self.new ≡ record self.old { core = after (pair_of runs.entry).target setting.now self.old.core word } }
+        ensures belongs { BelongsTo (pair_of runs.entry) setting.now self.new.core }
+    {
+        setting.kept();
+        runs.kept();
+        let ready = Ready::new(runs);
+        self.state.accept(&ready.program(), setting, word);
     }
 
     /// `accept` for many steps of one target, whose program was made once for them.
@@ -218,15 +268,15 @@ impl Entry {
         barred: &Barred,
         program: &Program,
         setting: &Setting,
-        code: &[TargetInstr],
-        instr: Option<&TargetInstr>,
+        code: Code,
+        instr: Option<Step>,
         word: u64,
     )
         requires program { program.now ≡ barred.now.target }
         requires belongs { BelongsTo barred.now setting.now self.old.core }
         requires stands { self.old.core.routine ≡ At }
-        requires code { code.now ≡ code_in program.now self.old.core }
-        requires instr { option_copied instr ≡ instr_in program.now self.old.core }
+        requires code { code_shown code ≡ code_in program.now self.old.core }
+        requires instr { shown_at instr ≡ instr_in program.now self.old.core }
         requires wanted { wants barred.now.target self.old.core ≢ None }
         requires lawful { MayBeTold barred.now.target setting.now (wants barred.now.target self.old.core) word }
         ensures after { self.new ≡ record self.old { core = after barred.now.target setting.now self.old.core word } }
@@ -268,6 +318,53 @@ impl Entry {
         signs_after(&self.state, program, setting, word)
     }
 
+    /// The phase that its method has seen.
+    #[inline(always)]
+    pub(crate) fn seen(&self) -> u64
+        ensures { result ≡ self.now.core.hand.seen }
+    {
+        self.state.hand.seen
+    }
+
+    #[inline(always)]
+    pub(crate) fn is_wrap_up(&self) -> bool
+        ensures { result ≡ self.now.core.hand.wrapup }
+    {
+        self.state.hand.wrapup
+    }
+
+    /// Whether its run owes the source an access for its end.
+    #[inline(always)]
+    pub(crate) fn owes(&self) -> bool
+        ensures { result ≡ (self.now.core.hand.wrapup && self.now.core.hand.accessed) }
+    {
+        self.state.hand.wrapup && self.state.hand.accessed
+    }
+
+    /// Whether local code has come to an end that the source is told, by where the entry stands now.
+    #[inline(always)]
+    pub(crate) fn has_ended(&self, owes: bool) -> bool
+        ensures { result ≡ told_by owes self.now.core.routine }
+    {
+        match self.state.stand {
+            Stand::Idle => owes,
+            Stand::LoadSeen(MethodStart::Begin) => false,
+            Stand::LoadSeen(MethodStart::WrapUp) => true,
+            Stand::LoadSeen(MethodStart::Again) => owes,
+            Stand::Clears(AfterClear::New) => false,
+            Stand::Clears(AfterClear::WrapUp) => true,
+            Stand::Clears(AfterClear::Reply(_)) => owes,
+            Stand::Clears(AfterClear::Again) => owes,
+            Stand::At => false,
+            Stand::InList(_) => false,
+            Stand::Retires(..) => false,
+            Stand::Restarts => false,
+            Stand::Claims => false,
+            Stand::Zeroes(..) => false,
+            Stand::Announces(_) => false,
+        }
+    }
+
     /// Whether so many steps were made for the call that runs that it takes no more.
     pub fn is_spent(&self, fuel: u64) -> bool
         ensures { result ≡ is_spent fuel self.now.core }
@@ -282,7 +379,7 @@ impl Entry {
         let code = prepared
             .program()
             .code(self.state.running.call.op, self.state.hand.wrapup);
-        is_check(instr_at(code, self.state.hand.at))
+        is_check(code.at(self.state.hand.at))
     }
 
     /// Whether the entry stands at a check.

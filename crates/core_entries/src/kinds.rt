@@ -1,25 +1,19 @@
 //! The kinds of access that turns count.
 
-ghost use Rattle.std.specs.Prelude.{◌≡◌, option_copied, slice_get};
+ghost use Rattle.std.specs.Prelude.{◌≡◌};
+ghost use Rattle.caller_parts.specs.Codes.{shown_at};
 ghost use Rattle.oa_words.specs.Words.{field_base, head_base};
 ghost use Rattle.caller_steps.specs.Belongs.{is_check_at};
 ghost use Rattle.core_entries.specs.Kinds.{kind_at, kind_between};
 
-use caller_steps::Setting;
+use caller_steps::{Setting, Step};
 use phase_pools::access::Access;
 use schedule_turns::StepKind;
-use target_code::target::TargetInstr;
 
-pub(crate) fn instr_at(code: &[TargetInstr], at: usize) -> Option<&TargetInstr>
-    ensures { option_copied result ≡ slice_get code.now at }
+pub(crate) fn is_check(instr: Option<Step>) -> bool
+    ensures { result ≡ is_check_at (shown_at instr.entry) }
 {
-    code.get(at)
-}
-
-pub(crate) fn is_check(instr: Option<&TargetInstr>) -> bool
-    ensures { result ≡ is_check_at (option_copied instr.entry) }
-{
-    matches!(instr, Some(TargetInstr::Check))
+    matches!(instr, Some(Step::Check))
 }
 
 /// The address of the first field. From there on fields and cells stand, up to the pool's first head.

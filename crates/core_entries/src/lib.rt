@@ -1,4 +1,4 @@
-//! Entries of the core and the words on which they step: what a caller of a barred target does next, and its step on plain words.
+//! Entries of the core and the words on which they step: what a caller of a barred target, or of a text as it is, does next, and its step on plain words.
 #![tactic(auto)]
 
 pub mod entry;
@@ -7,13 +7,16 @@ pub mod loaded;
 mod places;
 pub mod port;
 pub mod prepared;
+pub mod running;
 pub mod signs;
 pub mod step;
+pub mod telling;
 pub mod words;
 
 pub use entry::Entry;
-pub use loaded::LoadedTarget;
+pub use loaded::{LoadedTarget, Ready};
 pub use port::Port;
 pub use prepared::Prepared;
+pub use running::Runs;
 pub use signs::{Sign, Signs};
 pub use words::PlainWords;

@@ -4,11 +4,12 @@ ghost use Rattle.std.specs.Prelude.{◌≡◌, ◌≤◌, ◌<◌, ◌*◌, ◌+
 ghost use Rattle.oa_words.specs.SlotKinds.{first_of, range_of, range_at, kind_of, sum_before};
 ghost use Rattle.oa_words.specs.Starts.{first_ready, slot_or_none, start_node};
 ghost use Rattle.core_runs.specs.Machine.{node_words};
+ghost use Rattle.core_entries.specs.Running.{pair_of};
 ghost use Rattle.core_entries.specs.Starts.{home_in, start_of};
 
+use crate::running::Runs;
 use caller_steps::Setting;
 use norm_lang::text::NodeDecl;
-use target_code::Target;
 
 /// The first slot of a kind, and past the kinds one more than the last slot.
 #[tactic(auto, using(crate::proofs::Placing::first_none, crate::proofs::Placing::first_more, crate::proofs::Placing::first_few, crate::proofs::Placing::first_whole))]
@@ -131,9 +132,9 @@ pub(crate) fn home_of(setting: &Setting, node: u32) -> u64
 
 /// The initial node in a slot, if there is one.
 #[tactic(auto, using(crate::proofs::Placing::begins_before, crate::proofs::Placing::node_none, crate::proofs::Placing::node_found))]
-pub(crate) fn node_in<'a>(target: &'a Target, setting: &Setting, slot: u32) -> Option<&'a NodeDecl>
+pub(crate) fn node_in<'a>(runs: Runs<'a>, setting: &Setting, slot: u32) -> Option<&'a NodeDecl>
     requires { slot ≤ setting.now.sizes.slots }
-    ensures { option_map (node_words (home_in setting.now)) (option_copied result) ≡ start_node setting.now.sizes (start_of target.now setting.now) slot }
+    ensures { option_map (node_words (home_in setting.now)) (option_copied result) ≡ start_node setting.now.sizes (start_of (pair_of runs.entry).target setting.now) slot }
 {
     setting.kept();
     if slot == 0 {
@@ -145,5 +146,5 @@ pub(crate) fn node_in<'a>(target: &'a Target, setting: &Setting, slot: u32) -> O
         return None;
     }
     let number = nodes_before(setting, kind) + place as u64;
-    target.nodes.items().get(number as usize)
+    runs.nodes().get(number as usize)
 }

@@ -4,8 +4,10 @@ ghost use Rattle.std.specs.Prelude.{◌≡◌, ◌<◌, length, slice_get};
 ghost use Rattle.barrier_check.specs.Paired.{IsSound};
 ghost use Rattle.caller_parts.specs.Spared.{KeptIs};
 ghost use Rattle.caller_parts.specs.FieldTables.{IsFieldTable};
+ghost use Rattle.core_entries.specs.Running.{pair_of};
 ghost use Rattle.core_entries.specs.Tables.{keeps_at, row_at, table_of};
 
+use crate::running::Runs;
 use barrier_check::Barred;
 use caller_parts::fields::FieldTable;
 use caller_steps::Program;
@@ -31,7 +33,7 @@ impl<'a> Model for Prepared<'a> {
     ghost invariant = { λ p. KeptIs p.barred.now.target p.rows × IsFieldTable p.barred.now.target.fields p.fields };
 }
 
-fn keeps_register(barred: &Barred, op: u8, register: u8) -> bool
+pub(crate) fn keeps_register(barred: &Barred, op: u8, register: u8) -> bool
     requires op { op < length barred.now.target.ops }
     requires register { register < 8 }
     ensures { result ≡ keeps_at (slice_get barred.now.target.ops op) register }
@@ -41,52 +43,52 @@ fn keeps_register(barred: &Barred, op: u8, register: u8) -> bool
 }
 
 #[tactic(auto, using(crate::proofs::Keeping::kept_by_none))]
-fn keeps_at(barred: &Barred, op: u8, register: u8) -> bool
+fn keeps_at(runs: Runs, op: u8, register: u8) -> bool
     requires { register < 8 }
-    ensures { result ≡ keeps_at (slice_get barred.now.target.ops op) register }
+    ensures { result ≡ keeps_at (slice_get (pair_of runs.entry).target.ops op) register }
 {
-    if (op as usize) < barred.target().ops.items().len() {
-        return keeps_register(barred, op, register);
+    if (op as usize) < runs.op_count() {
+        return runs.keeps(op, register);
     }
     false
 }
 
-fn row_at(barred: &Barred, op: u8) -> [bool; 8]
-    ensures { result ≡ row_at barred.now.target op }
+fn row_at(runs: Runs, op: u8) -> [bool; 8]
+    ensures { result ≡ row_at (pair_of runs.entry).target op }
 {
     [
-        keeps_at(barred, op, 0),
-        keeps_at(barred, op, 1),
-        keeps_at(barred, op, 2),
-        keeps_at(barred, op, 3),
-        keeps_at(barred, op, 4),
-        keeps_at(barred, op, 5),
-        keeps_at(barred, op, 6),
-        keeps_at(barred, op, 7),
+        keeps_at(runs, op, 0),
+        keeps_at(runs, op, 1),
+        keeps_at(runs, op, 2),
+        keeps_at(runs, op, 3),
+        keeps_at(runs, op, 4),
+        keeps_at(runs, op, 5),
+        keeps_at(runs, op, 6),
+        keeps_at(runs, op, 7),
     ]
 }
 
 /// A target has no more than sixteen operations.
-pub(crate) fn table_of(barred: &Barred) -> [[bool; 8]; 16]
-    ensures { result ≡ table_of barred.now.target }
+pub(crate) fn table_of(runs: Runs) -> [[bool; 8]; 16]
+    ensures { result ≡ table_of (pair_of runs.entry).target }
 {
     [
-        row_at(barred, 0),
-        row_at(barred, 1),
-        row_at(barred, 2),
-        row_at(barred, 3),
-        row_at(barred, 4),
-        row_at(barred, 5),
-        row_at(barred, 6),
-        row_at(barred, 7),
-        row_at(barred, 8),
-        row_at(barred, 9),
-        row_at(barred, 10),
-        row_at(barred, 11),
-        row_at(barred, 12),
-        row_at(barred, 13),
-        row_at(barred, 14),
-        row_at(barred, 15),
+        row_at(runs, 0),
+        row_at(runs, 1),
+        row_at(runs, 2),
+        row_at(runs, 3),
+        row_at(runs, 4),
+        row_at(runs, 5),
+        row_at(runs, 6),
+        row_at(runs, 7),
+        row_at(runs, 8),
+        row_at(runs, 9),
+        row_at(runs, 10),
+        row_at(runs, 11),
+        row_at(runs, 12),
+        row_at(runs, 13),
+        row_at(runs, 14),
+        row_at(runs, 15),
     ]
 }
 
@@ -105,7 +107,7 @@ impl<'a> Prepared<'a> {
         ensures { result ≡ barred.now }
     {
         kept(barred);
-        let rows = table_of(barred);
+        let rows = table_of(Runs::Barred(barred));
         let fields = FieldTable::of(barred.target().fields.items());
         Prepared {
             barred,

@@ -1,6 +1,7 @@
 //! What a step of an entry gives to the source machine.
 
 ghost use Rattle.std.specs.Prelude.{◌≡◌, ◌≤◌, ◌<◌, ◌^◌, length, option_copied};
+ghost use Rattle.caller_parts.specs.Codes.{code_shown, shown_at};
 ghost use Rattle.caller_parts.specs.Operands.{AreSlots, with_word};
 ghost use Rattle.caller_parts.specs.Spared.{restart_spares};
 ghost use Rattle.caller_steps.specs.Entries.{op_of, code_in, instr_in};
@@ -9,20 +10,21 @@ ghost use Rattle.caller_steps.specs.Clearing.{restart_next};
 ghost use Rattle.caller_steps.specs.Asking.{CanAccept, IsRegister};
 ghost use Rattle.phase_pools.specs.Pools.{retire_accepts};
 ghost use Rattle.core_entries.specs.StepSigns.{step_signs};
-ghost use Rattle.core_entries.specs.StepRuns.{start_named, plain_named, check_named, instr_named, list_named, end_named, stores_more, fresh_named, first_sign, next_run, method_run, restart_run, restart_after, check_run, retire_run, cas_run, plain_run, instr_run, retired_run, zeroed_run, run_after, plain_ends, stop_ends, code_ends, run_ends, signs_of};
+ghost use Rattle.core_entries.specs.StepRuns.{start_named, plain_named, check_named, check_named_by, instr_named, list_named, end_named, stores_more, fresh_named, reason_named, announcing_named, first_sign, next_run, method_run, restart_run, restart_after, check_run, check_run_by, guard_run_by, retire_run, cas_run, plain_run, instr_run, retired_run, zeroed_run, announcing_run, run_after, plain_ends, stop_ends, code_ends, run_ends, signs_of};
 
-use caller_parts::local::{instr_at, run_target};
+use caller_parts::local::run_target;
 use caller_parts::operands::{
     exchange_at, kind_made, list_of, put_new, put_word, slot_in, succeeds, to_retire,
 };
-use caller_parts::{AfterRetire, MethodStart, Program};
+use caller_parts::{
+    AfterRetire, AnnounceReason, Announcing, Code, MethodStart, Program, Reclamation, Step,
+};
 use caller_steps::{Entry as State, Setting, Stand};
 use norm_lang::registers::{Registers, starting_registers};
 use norm_lang::text::{CasEntry, Instr, Reg};
 use phase_pools::access::{Access, ClaimEnd};
 use phase_pools::retire::RetireState;
 use std::marker::Model;
-use target_code::target::TargetInstr;
 
 /// What a step tells the source machine.
 #[derive(Clone, Copy, Debug, PartialEq, Eq)]
@@ -96,16 +98,16 @@ pub(crate) struct Run {
     pub(crate) registers: Registers,
 }
 
-fn code_in<'a>(state: &State, program: &Program<'a>) -> &'a [TargetInstr]
-    ensures { result.now ≡ code_in program.now state.now.core }
+fn code_in<'a>(state: &State, program: &Program<'a>) -> Code<'a>
+    ensures { code_shown result ≡ code_in program.now state.now.core }
 {
     program.code(state.running.call.op, state.hand.wrapup)
 }
 
-fn instr_in<'a>(state: &State, program: &Program<'a>) -> Option<&'a TargetInstr>
-    ensures { option_copied result ≡ instr_in program.now state.now.core }
+fn instr_in<'a>(state: &State, program: &Program<'a>) -> Option<Step<'a>>
+    ensures { shown_at result ≡ instr_in program.now state.now.core }
 {
-    instr_at(code_in(state, program), state.hand.at)
+    code_in(state, program).at(state.hand.at)
 }
 
 fn start_named(why: MethodStart) -> Sign
@@ -137,20 +139,29 @@ fn plain_named(accesses: bool) -> Option<Sign>
     if accesses { Some(Sign::Access) } else { None }
 }
 
-fn check_named(passes: bool) -> Option<Sign>
+pub(crate) fn check_named(passes: bool) -> Option<Sign>
     ensures { result ≡ check_named passes }
 {
     if passes { None } else { Some(Sign::Restart) }
 }
 
-fn instr_named(instr: Option<&TargetInstr>, seen: u64, word: u64) -> Option<Sign>
-    ensures { result ≡ instr_named (option_copied instr.entry) seen word }
+fn check_named_by(by: Reclamation, passes: bool) -> Option<Sign>
+    ensures { result ≡ check_named_by by passes }
+{
+    match by {
+        Reclamation::Optimistic => check_named(passes),
+        Reclamation::Epochs => None,
+    }
+}
+
+fn instr_named(by: Reclamation, instr: Option<Step>, seen: u64, word: u64) -> Option<Sign>
+    ensures { result ≡ instr_named by (shown_at instr.entry) seen word }
 {
     match instr {
         None => None,
-        Some(TargetInstr::Plain(instr)) => plain_named(has_access(instr)),
-        Some(TargetInstr::Check) => check_named(word == seen),
-        Some(TargetInstr::Guard(_)) => None,
+        Some(Step::Plain(instr)) => plain_named(has_access(instr)),
+        Some(Step::Check) => check_named_by(by, word == seen),
+        Some(Step::Guard(_)) => None,
     }
 }
 
@@ -187,20 +198,41 @@ fn fresh_named(more: bool) -> Option<Sign>
     if more { None } else { Some(Sign::Fresh) }
 }
 
+fn reason_named(why: AnnounceReason) -> Sign
+    ensures { result ≡ reason_named why }
+{
+    match why {
+        AnnounceReason::Begin => Sign::Begin,
+        AnnounceReason::Again | AnnounceReason::Swept => Sign::Restart,
+    }
+}
+
+/// The store of the phase begins a run.
+fn announcing_named(announcing: Announcing) -> Option<Sign>
+    ensures { result ≡ announcing_named announcing }
+{
+    match announcing {
+        Announcing::Stores(why, _) => Some(reason_named(why)),
+        Announcing::Loads(_) | Announcing::Leaves(_) => None,
+    }
+}
+
 /// The sign of the access that finds a word.
 fn first_sign(state: &State, program: &Program, setting: &Setting, word: u64) -> Option<Sign>
     ensures { result ≡ first_sign program.now setting.now state.now.core word state.now.core.routine }
 {
+    let by = setting.reclamation();
     match &state.stand {
         Stand::Idle | Stand::Retires(..) | Stand::Restarts | Stand::Clears(_) => None,
         Stand::LoadSeen(why) => Some(start_named(*why)),
-        Stand::At => instr_named(instr_in(state, program), state.hand.seen, word),
+        Stand::At => instr_named(by, instr_in(state, program), state.hand.seen, word),
         Stand::InList(k) => list_named(exchange_at(list_of(instr_in(state, program)), *k)),
         Stand::Claims => match &state.claim {
             Some(claim) => end_named(claim.end(setting.shape(), setting.last_phase(), word)),
-            None => instr_named(instr_in(state, program), state.hand.seen, word),
+            None => instr_named(by, instr_in(state, program), state.hand.seen, word),
         },
         Stand::Zeroes(_, field) => fresh_named(stores_more(state, program, *field)),
+        Stand::Announces(announcing) => announcing_named(*announcing),
     }
 }
 
@@ -286,6 +318,28 @@ fn check_run(state: &State, program: &Program, passes: bool) -> Option<Run>
     restart_run(state, restart_next(state, program))
 }
 
+fn check_run_by(by: Reclamation, state: &State, program: &Program, passes: bool) -> Option<Run>
+    requires { state.now.core.hand.at < 2 ^ 62 }
+    ensures { result ≡ check_run_by by program.now state.now.core passes }
+{
+    match by {
+        Reclamation::Optimistic => check_run(state, program, passes),
+        Reclamation::Epochs => None,
+    }
+}
+
+fn guard_run_by(by: Reclamation, state: &State) -> Option<Run>
+    requires { state.now.core.hand.at < 2 ^ 62 }
+    ensures { result ≡ guard_run_by by state.now.core }
+{
+    match by {
+        Reclamation::Optimistic => {
+            Some(next_run(state, state.hand.accessed, state.hand.registers))
+        }
+        Reclamation::Epochs => None,
+    }
+}
+
 /// After an exchange that succeeded; slot 0 isn't retired.
 fn retire_run(state: &State, slot: u32) -> Option<Run>
     requires { state.now.core.hand.at < 2 ^ 62 }
@@ -340,18 +394,16 @@ fn plain_run(state: &State, instr: &Instr, word: u64) -> Option<Run>
     }
 }
 
-fn instr_run(state: &State, program: &Program, word: u64) -> Option<Run>
+fn instr_run(by: Reclamation, state: &State, program: &Program, word: u64) -> Option<Run>
     requires near { state.now.core.hand.at < 2 ^ 62 }
     requires slots { AreSlots state.now.core.hand.registers }
-    ensures { result ≡ instr_run program.now state.now.core (instr_in program.now state.now.core) word }
+    ensures { result ≡ instr_run by program.now state.now.core (instr_in program.now state.now.core) word }
 {
     match instr_in(state, program) {
         None => None,
-        Some(TargetInstr::Plain(instr)) => plain_run(state, instr, word),
-        Some(TargetInstr::Check) => check_run(state, program, word == state.hand.seen),
-        Some(TargetInstr::Guard(_)) => {
-            Some(next_run(state, state.hand.accessed, state.hand.registers))
-        }
+        Some(Step::Plain(instr)) => plain_run(state, instr, word),
+        Some(Step::Check) => check_run_by(by, state, program, word == state.hand.seen),
+        Some(Step::Guard(_)) => guard_run_by(by, state),
     }
 }
 
@@ -389,21 +441,32 @@ fn zeroed_run(state: &State, program: &Program, k: usize, more: bool) -> Option<
     Some(next_run(state, state.hand.accessed, registers))
 }
 
+/// The phase was announced: the generator runs.
+fn announcing_run(state: &State, announcing: Announcing) -> Option<Run>
+    ensures { result ≡ announcing_run state.now.core announcing }
+{
+    match announcing {
+        Announcing::Stores(_, _) => Some(method_run(state, false)),
+        Announcing::Loads(_) | Announcing::Leaves(_) => None,
+    }
+}
+
 /// The local code that runs after the access that finds a word.
 fn run_after(state: &State, program: &Program, setting: &Setting, word: u64) -> Option<Run>
     requires near { state.now.core.hand.at < 2 ^ 62 }
     requires slots { AreSlots state.now.core.hand.registers }
     requires can { CanAccept program.now setting.now state.now.core word state.now.core.routine }
-    ensures { result ≡ run_after program.now state.now.core word state.now.core.routine }
+    ensures { result ≡ run_after setting.now.reclamation program.now state.now.core word state.now.core.routine }
 {
+    let by = setting.reclamation();
     match &state.stand {
         Stand::Idle | Stand::InList(_) | Stand::Clears(_) => None,
         Stand::Claims => match &state.claim {
             Some(_) => None,
-            None => instr_run(state, program, word),
+            None => instr_run(by, state, program, word),
         },
         Stand::LoadSeen(why) => { Some(method_run(state, matches!(why, MethodStart::WrapUp))) }
-        Stand::At => instr_run(state, program, word),
+        Stand::At => instr_run(by, state, program, word),
         Stand::Retires(retirement, onward) => {
             retired_run(state, setting, retirement, *onward, word)
         }
@@ -411,6 +474,7 @@ fn run_after(state: &State, program: &Program, setting: &Setting, word: u64) -> 
         Stand::Zeroes(k, field) => {
             zeroed_run(state, program, *k, stores_more(state, program, *field))
         }
+        Stand::Announces(announcing) => announcing_run(state, *announcing),
     }
 }
 
@@ -424,22 +488,22 @@ fn plain_ends(owes: bool, instr: &Instr) -> bool
     }
 }
 
-fn stop_ends(owes: bool, instr: Option<&TargetInstr>) -> bool
-    ensures { result ≡ stop_ends owes (option_copied instr.entry) }
+fn stop_ends(owes: bool, instr: Option<Step>) -> bool
+    ensures { result ≡ stop_ends owes (shown_at instr.entry) }
 {
     match instr {
-        Some(TargetInstr::Plain(instr)) => plain_ends(owes, instr),
-        Some(TargetInstr::Check) | Some(TargetInstr::Guard(_)) | None => false,
+        Some(Step::Plain(instr)) => plain_ends(owes, instr),
+        Some(Step::Check) | Some(Step::Guard(_)) | None => false,
     }
 }
 
 /// Whether local code comes to an end that the source tells.
-fn code_ends(code: &[TargetInstr], run: Run) -> bool
-    ensures { result ≡ code_ends code.now run }
+fn code_ends(code: Code, run: Run) -> bool
+    ensures { result ≡ code_ends (code_shown code.entry) run }
 {
     let mut registers = run.registers;
     let at = run_target(code, run.at, &mut registers);
-    stop_ends(run.wrapup && run.accessed, instr_at(code, at))
+    stop_ends(run.wrapup && run.accessed, code.at(at))
 }
 
 fn run_ends(program: &Program, op: u8, run: Option<Run>) -> bool

@@ -1,6 +1,7 @@
 //! One step of one caller on words in a vector.
 
-ghost use Rattle.std.specs.Prelude.{◌≡◌, false, option_copied, slice_index};
+ghost use Rattle.std.specs.Prelude.{◌≡◌, false, slice_index};
+ghost use Rattle.caller_parts.specs.Codes.{code_shown, shown_at};
 ghost use Rattle.caller_steps.specs.Entries.{is_idle, code_in, instr_in};
 ghost use Rattle.caller_parts.specs.declared.routine.Routine.TheVariants.{At};
 ghost use Rattle.core_entries.specs.Callers.{BelongsTo};
@@ -13,8 +14,7 @@ use crate::prepared::kept;
 use crate::signs::Signs;
 use crate::words::PlainWords;
 use barrier_check::Barred;
-use caller_steps::{Program, Setting};
-use target_code::target::TargetInstr;
+use caller_steps::{Code, Program, Setting, Step};
 
 /// A step of a caller that runs: it makes the access that it wants, and goes on with the word found. The program of the target was made
 /// once for many steps.
@@ -48,21 +48,28 @@ fn step_at(
     barred: &Barred,
     program: &Program,
     setting: &Setting,
-    code: &[TargetInstr],
+    code: Code,
 )
     requires program { program.now ≡ barred.now.target }
     requires belongs { BelongsTo barred.now setting.now entry.old.core }
     requires stands { entry.old.core.routine ≡ At }
-    requires code { code.now ≡ code_in program.now entry.old.core }
+    requires code { code_shown code ≡ code_in program.now entry.old.core }
     requires lawful { WordsSound barred.now.target setting.now words.old }
     ensures step { StepIs barred.now.target setting.now words.old words.new entry.old entry.new }
     ensures belongs { BelongsTo barred.now setting.now entry.new.core }
     ensures lawful { WordsSound barred.now.target setting.now words.new }
 {
     match entry.instr_of(code) {
-        Some(TargetInstr::Check) => {
-            let check = TargetInstr::Check;
-            step_with(entry, words, barred, program, setting, code, Some(&check));
+        Some(Step::Check) => {
+            step_with(
+                entry,
+                words,
+                barred,
+                program,
+                setting,
+                code,
+                Some(Step::Check),
+            );
         }
         instr => step_with(entry, words, barred, program, setting, code, instr),
     }
@@ -71,20 +78,20 @@ fn step_at(
 /// The same, with the instruction.
 #[inline(always)]
 #[tactic(auto, using(crate::proofs::Stepping::step_within, crate::proofs::Stepping::step_told, crate::proofs::Stepping::step_wants, crate::proofs::Stepping::step_lawful, crate::proofs::Stepping::step_is))]
-fn step_with(
+pub(crate) fn step_with(
     entry: &mut Entry,
     words: &mut PlainWords,
     barred: &Barred,
     program: &Program,
     setting: &Setting,
-    code: &[TargetInstr],
-    instr: Option<&TargetInstr>,
+    code: Code,
+    instr: Option<Step>,
 )
     requires program { program.now ≡ barred.now.target }
     requires belongs { BelongsTo barred.now setting.now entry.old.core }
     requires stands { entry.old.core.routine ≡ At }
-    requires code { code.now ≡ code_in program.now entry.old.core }
-    requires instr { option_copied instr ≡ instr_in program.now entry.old.core }
+    requires code { code_shown code ≡ code_in program.now entry.old.core }
+    requires instr { shown_at instr ≡ instr_in program.now entry.old.core }
     requires lawful { WordsSound barred.now.target setting.now words.old }
     ensures step { StepIs barred.now.target setting.now words.old words.new entry.old entry.new }
     ensures belongs { BelongsTo barred.now setting.now entry.new.core }

@@ -3,21 +3,22 @@
 ghost use Rattle.std.specs.Prelude.{◌≡◌, ◌≤◌, ◌<◌, ◌++◌, ◌-◌, IfOk, Some, length, map, option_copied, replicate, slice_index};
 ghost use Rattle.oa_words.specs.Starts.{status_at_start, link_at_start, start_head, start_statuses, start_rows, start_heads, start_links};
 ghost use Rattle.oa_words.specs.Words.{slot_rows};
-ghost use Rattle.caller_parts.specs.Settings.{Fits};
+ghost use Rattle.caller_parts.specs.Settings.{Fits, first_warning};
 ghost use Rattle.core_runs.specs.Machine.{value_word, root_word, core_start};
+ghost use Rattle.core_entries.specs.Running.{pair_of};
 ghost use Rattle.core_entries.specs.Starts.{home_in, bare_start, start_of, node_row, caller_words, pool_words, slot_words};
 
 use crate::places::{first_ready, home_of, is_filled, node_in, slot_after, slot_or_none};
 use crate::port::{Port, answer_to, at_of, left_by};
+use crate::running::Runs;
 use barrier_check::Barred;
-use caller_steps::Setting;
+use caller_steps::{Reclamation, Setting};
 use norm_lang::list::Listed;
 use norm_lang::text::{NodeDecl, RootDecl, Start};
 use oa_words::packed::{Kind, head_word, status_word};
 use phase_pools::access::Access;
 use std::alloc::{AllocError, Global};
 use std::marker::Model;
-use target_code::Target;
 
 /// The words of a row in a vector, for callers that take turns.
 #[derive(Drop)]
@@ -98,12 +99,12 @@ fn put_row(
     }
 }
 
-fn put_rows(words: &mut Listed<u64>, target: &Target, setting: &Setting) -> Result<(), AllocError>
-    ensures { IfOk result (λ _. words.new ≡ words.old ++ start_rows setting.now.sizes (start_of target.now setting.now) 0 (slot_rows setting.now.sizes)) }
+fn put_rows(words: &mut Listed<u64>, runs: Runs, setting: &Setting) -> Result<(), AllocError>
+    ensures { IfOk result (λ _. words.new ≡ words.old ++ start_rows setting.now.sizes (start_of (pair_of runs.entry).target setting.now) 0 (slot_rows setting.now.sizes)) }
 {
     let slots = setting.shape().slots();
     for slot in 0..slots + 1 {
-        put_row(words, setting, node_in(target, setting, slot))?;
+        put_row(words, setting, node_in(runs, setting, slot))?;
     }
     Ok(())
 }
@@ -196,6 +197,16 @@ fn put_pool(words: &mut Listed<u64>, setting: &Setting) -> Result<(), AllocError
     Ok(())
 }
 
+/// What a caller's warning word holds at the start.
+fn first_warning(setting: &Setting) -> u64
+    ensures { result ≡ first_warning setting.now.reclamation setting.now.first }
+{
+    match setting.reclamation() {
+        Reclamation::Optimistic => setting.first_phase(),
+        Reclamation::Epochs => 0,
+    }
+}
+
 /// The first phase, and the words of callers.
 fn put_callers(words: &mut Listed<u64>, setting: &Setting) -> Result<(), AllocError>
     ensures { IfOk result (λ _. words.new ≡ words.old ++ caller_words setting.now) }
@@ -204,18 +215,18 @@ fn put_callers(words: &mut Listed<u64>, setting: &Setting) -> Result<(), AllocEr
     let first = setting.first_phase();
     words.push(first)?;
     put_copies(words, callers, 0)?;
-    put_copies(words, callers, first)?;
+    put_copies(words, callers, first_warning(setting))?;
     put_copies(words, 8 * callers, 0)?;
     Ok(())
 }
 
 /// The words of slots, and the cells.
-fn put_slots(words: &mut Listed<u64>, target: &Target, setting: &Setting) -> Result<(), AllocError>
-    ensures { IfOk result (λ _. words.new ≡ words.old ++ slot_words target.now setting.now) }
+fn put_slots(words: &mut Listed<u64>, runs: Runs, setting: &Setting) -> Result<(), AllocError>
+    ensures { IfOk result (λ _. words.new ≡ words.old ++ slot_words (pair_of runs.entry).target setting.now) }
 {
     put_statuses(words, setting)?;
-    put_rows(words, target, setting)?;
-    put_roots(words, setting, target.roots.items())?;
+    put_rows(words, runs, setting)?;
+    put_roots(words, setting, runs.roots())?;
     Ok(())
 }
 
@@ -225,15 +236,26 @@ impl PlainWords {
     ///
     /// # Errors
     /// Memory ran out.
-    #[tactic(auto, using(crate::proofs::Starting::words_put))]
     pub fn new(alloc: Global, barred: &Barred, setting: &Setting) -> Result<PlainWords, AllocError>
         requires { Fits barred.now.target setting.now }
         ensures { IfOk result (λ words. words ≡ (core_start barred.now.target setting.now).words) }
     {
+        PlainWords::of(alloc, Runs::Barred(barred), setting)
+    }
+
+    /// `new` for what callers run.
+    ///
+    /// # Errors
+    /// Memory ran out.
+    #[tactic(auto, using(crate::proofs::Starting::words_put))]
+    pub fn of(alloc: Global, runs: Runs, setting: &Setting) -> Result<PlainWords, AllocError>
+        requires { Fits (pair_of runs).target setting.now }
+        ensures { IfOk result (λ words. words ≡ (core_start (pair_of runs.entry).target setting.now).words) }
+    {
         setting.kept();
         let mut words = Listed::empty(alloc);
         put_callers(&mut words, setting)?;
-        put_slots(&mut words, barred.target(), setting)?;
+        put_slots(&mut words, runs, setting)?;
         put_pool(&mut words, setting)?;
         Ok(PlainWords { words })
     }

@@ -9,6 +9,7 @@ use Rattle.norm_lang.specs.declared.text.NodeDecl.{NodeDecl}
 use Rattle.norm_lang.specs.declared.text.Place.TheVariants as places
 use Rattle.norm_lang.specs.declared.text.CasEntry.{CasEntry}
 use Rattle.caller_parts.specs.declared.call.Call.{Call}
+use Rattle.caller_parts.specs.declared.setting.Reclamation.TheVariants.{Optimistic}
 use Rattle.caller_parts.specs.Settings.{Setting}
 
 abbrev pub n0 : Reg
@@ -63,10 +64,11 @@ field_entry object field expected replacement = record { place = places.Field ob
 abbrev pub call_of : ℕ → ℕ → Call
 call_of op argument = record { op = op; args = argument ∷ 0 ∷ 0 ∷ 0 ∷ [] }
 
--- a setting by its callers, slots, fields, roots, initial nodes and last phase; the first phase is 1, and all nodes are of one kind
+-- a setting by its callers, slots, fields, roots, initial nodes and last phase: the first phase is 1, all nodes are of one kind, and access
+-- is optimistic
 abbrev pub setting_of : ℕ → ℕ → ℕ → ℕ → ℕ → ℕ → Setting
 setting_of callers slots fields roots nodes last =
-    record { sizes = record { callers = callers; slots = slots; fields = fields; cells = roots; kinds = slots ∷ [] }; first = 1; last = last; nodes = nodes ∷ 0 ∷ 0 ∷ 0 ∷ [] }
+    record { reclamation = Optimistic; sizes = record { callers = callers; slots = slots; fields = fields; cells = roots; kinds = slots ∷ [] }; first = 1; last = last; nodes = nodes ∷ 0 ∷ 0 ∷ 0 ∷ [] }
 
 -- the cradles of the first kind, four of them; those of other kinds hold no slot
 abbrev pub cradles_of : ℕ → ℕ → ℕ → ℕ → List ℕ

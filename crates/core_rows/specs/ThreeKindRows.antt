@@ -12,6 +12,7 @@ use Rattle.oa_words.specs.Words.{Word, Hazard, FieldOf, Cell, Head, Link}
 use Rattle.caller_parts.specs.declared.setting.SettingFault.TheVariants as faults
 use Rattle.caller_parts.specs.KindCounts.{field_count, greatest_count, node_counts}
 use Rattle.caller_parts.specs.Operands.{cradle_number}
+use Rattle.caller_parts.specs.declared.setting.Reclamation.TheVariants.{Optimistic}
 use Rattle.caller_parts.specs.Settings.{Setting, Fits, setting_or_fault}
 use Rattle.caller_steps.specs.Lawful.{IsLawful}
 use Rattle.core_rows.specs.Short.{r0, r1, r2, r3}
@@ -42,7 +43,7 @@ three_kinds = record {
 
 -- so many slots of each kind, three fields in each, and these counts of initial nodes
 abbrev pub told : List ℕ → List ℕ → Setting
-told slots nodes = record { sizes = record { callers = 1; slots = 6; fields = 3; cells = 2; kinds = slots }; first = 1; last = 9; nodes = nodes }
+told slots nodes = record { reclamation = Optimistic; sizes = record { callers = 1; slots = 6; fields = 3; cells = 2; kinds = slots }; first = 1; last = 9; nodes = nodes }
 
 -- slots 1 and 2 are for the first kind, 3 to 5 for the second, and 6 for the third
 abbrev pub three_setting : Setting

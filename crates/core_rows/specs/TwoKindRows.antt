@@ -14,11 +14,12 @@ use Rattle.schedule_turns.specs.declared.turn.Turn.TheVariants as turns
 use Rattle.oa_words.specs.Words.{Sizes, Status, FieldOf, Cell, Head, Link, address_of, word_count}
 use Rattle.caller_parts.specs.declared.call.Call.{Call}
 use Rattle.caller_parts.specs.declared.call.Reply.TheVariants as replies
+use Rattle.caller_parts.specs.declared.setting.Reclamation.TheVariants.{Optimistic}
 use Rattle.caller_parts.specs.Settings.{Setting}
 use Rattle.core_runs.specs.Machine.{CoreEvent, core_start}
 use Rattle.core_rows.specs.Short.{n0, n3, n7, r0, r1, call_of}
 use Rattle.core_rows.specs.Stories.{Line, Load, Store, Exchange, silent, story, lines_after, left_after, calls, steps, passes, ends, renews, draws, zeroes}
-use Rattle.core_rows.specs.ReplayRows.{Summary, summary}
+use Rattle.core_rows.specs.ReplayRows.{summary}
 
 -- ---- texts
 
@@ -77,6 +78,7 @@ set_target = record {
 
 abbrev pub set_setting : ℕ → ℕ → ℕ → Setting
 set_setting callers items pairs = record {
+  reclamation = Optimistic;
   sizes = record { callers = callers; slots = items + pairs; fields = 2; cells = 2; kinds = items ∷ pairs ∷ [] };
   first = 1;
   last = 1000000000;
@@ -110,7 +112,7 @@ abbrev pub meeting_sizes : Sizes
 meeting_sizes = record { callers = 1; slots = 7; fields = 3; cells = 2; kinds = 4 ∷ 3 ∷ [] }
 
 abbrev pub meeting_setting : Setting
-meeting_setting = record { sizes = meeting_sizes; first = 1; last = 1000; nodes = 2 ∷ 1 ∷ 0 ∷ 0 ∷ [] }
+meeting_setting = record { reclamation = Optimistic; sizes = meeting_sizes; first = 1; last = 1000; nodes = 2 ∷ 1 ∷ 0 ∷ 0 ∷ [] }
 
 -- @1 and @2 stand in slots 1 and 2, and @3 in slot 5. The reference to a slot is twice its number
 abbrev pub meeting_words : List ℕ

@@ -10,13 +10,15 @@ use Rattle.caller_parts.specs.declared.call.Call.{Call}
 use Rattle.caller_parts.specs.declared.call.Replied.{Replied}
 use Rattle.caller_parts.specs.declared.call.Running.{Running}
 use Rattle.caller_parts.specs.declared.routine.Routine.{Routine}
-use Rattle.caller_parts.specs.declared.routine.Routine.TheVariants.{Idle, LoadSeen, At, InList, Retires, Restarts, Clears, Claims, Zeroes}
+use Rattle.caller_parts.specs.declared.routine.Routine.TheVariants.{Idle, LoadSeen, At, InList, Retires, Restarts, Clears, Claims, Zeroes, Announces}
+use Rattle.caller_parts.specs.declared.setting.Reclamation.{Reclamation}
+use Rattle.caller_parts.specs.declared.setting.Reclamation.TheVariants.{Optimistic, Epochs}
 use Rattle.caller_parts.specs.Pairing.{run_of, replied_by}
 use Rattle.caller_parts.specs.Settings.{Setting}
 use Rattle.caller_steps.specs.Entries.{Entry, idle_entry, one_more, is_idle}
 use Rattle.caller_parts.specs.Calls.{is_call}
 use Rattle.caller_steps.specs.Wants.{wants, wanted}
-use Rattle.caller_steps.specs.After.{after, taken, counted}
+use Rattle.caller_steps.specs.After.{after, first_routine, taken, counted}
 use Rattle.core_runs.specs.Machine.{CoreState, CoreEvent, Takes, Steps, core_event, core_run, run_on, core_start, event_by, stepped, found_by, made, idle_from, OfAll}
 use Rattle.core_runs.specs.Advances.{RunsOn, Ends}
 use Rattle.core_runs.specs.Histories.{bumped, with_event, with_events, running_of, calls_of, calls_in, KeepsCalls}
@@ -34,6 +36,7 @@ wanted_idle target e a Restarts idle want = let no : false ≡ true = idle in cc
 wanted_idle target e a (Clears next) idle want = let no : false ≡ true = idle in cc
 wanted_idle target e a (Claims claim) idle want = let no : false ≡ true = idle in cc
 wanted_idle target e a (Zeroes k field) idle want = let no : false ≡ true = idle in cc
+wanted_idle target e a (Announces announcing) idle want = let no : false ≡ true = idle in cc
 
 pub idle_wants : (target : Target) (e : Entry) (a : WordAccess) → is_idle e.routine ≡ true → wants target e ≡ Some a → ⊥
 unfolding wants
@@ -58,11 +61,16 @@ step_keeps target setting e w busy =
     ∙ (append-nil (map run_of e'.replies) ∙ (ap (map run_of) t.2 ∙ (map-append run_of e.replies (replied_by t.0 (counted e).running ∷ []) ∙ sym bump))))
     (after_turns target setting e w busy)
 
-pub take_keeps : (e : Entry) (call : Call) → is_idle e.routine ≡ true → calls_of (taken call e) ≡ calls_of e ++ record { call = call; steps = 0 } ∷ []
-take_keeps e call idle =
+first_busy : (by : Reclamation) → is_idle (first_routine by) ≡ false
+first_busy Optimistic = refl
+first_busy Epochs = refl
+
+pub take_keeps : (by : Reclamation) (e : Entry) (call : Call) → is_idle e.routine ≡ true → calls_of (taken by call e) ≡ calls_of e ++ record { call = call; steps = 0 } ∷ []
+take_keeps by e call idle =
     let kept : List Running = map run_of e.replies in
     let one : List Running = record { call = call; steps = 0 } ∷ [] in
-    sym (ap (λ (b : Bool). (kept ++ running_of b e) ++ one) idle ∙ ap (λ (l : List Running). l ++ one) (append-nil kept))
+    ap (λ (b : Bool). kept ++ running_of b (taken by call e)) (first_busy by)
+    ∙ sym (ap (λ (b : Bool). (kept ++ running_of b e) ++ one) idle ∙ ap (λ (l : List Running). l ++ one) (append-nil kept))
 
 -- the state has an entry of c, with these calls
 abbrev pub Keeping : CoreState → ℕ → List Running → Type 0
@@ -97,8 +105,8 @@ pub event_keeps : (target : Target) (setting : Setting) (state mid : CoreState) 
     → Keeping mid c (with_event c event (calls_of e))
 event_keeps target setting state mid (Takes k call) c e goes there = of (slice_get state.entries k) refl goes where
   by : (d : Entry) → slice_get state.entries k ≡ Some d → (i : Bool) → is_idle d.routine ≡ i → (b : Bool) → is_call target call ≡ b
-      → (if i && b then Some (record state { entries = slice_set state.entries k (taken call d) }) else None) ≡ Some mid → Keeping mid c (with_event c (Takes k call) (calls_of e))
-  by d at true idle true is became = one_changes state mid state.words k c d (taken call d) e (λ (l : List Running). l ++ record { call = call; steps = 0 } ∷ []) (some_is _ mid became) at there (take_keeps d call idle)
+      → (if i && b then Some (record state { entries = slice_set state.entries k (taken setting.reclamation call d) }) else None) ≡ Some mid → Keeping mid c (with_event c (Takes k call) (calls_of e))
+  by d at true idle true is became = one_changes state mid state.words k c d (taken setting.reclamation call d) e (λ (l : List Running). l ++ record { call = call; steps = 0 } ∷ []) (some_is _ mid became) at there (take_keeps setting.reclamation d call idle)
   by d at true idle false is became = absurd (let z : None ≡ Some mid = became in cc)
   by d at false idle b is became = absurd (let z : None ≡ Some mid = became in cc)
 
@@ -139,8 +147,8 @@ was_there (x ∷ xs) (suc i) (suc j) a b is = was_there xs i j a b is
 event_count : (target : Target) (setting : Setting) (state mid : CoreState) (event : CoreEvent) (c : ℕ) (e : Entry) → core_event target setting state event ≡ Some mid → slice_get mid.entries c ≡ Some e
     → (d : Entry) × (slice_get state.entries c ≡ Some d)
 event_count target setting state mid (Takes k call) c e goes there = of (slice_get state.entries k) goes where
-  by : (d : Entry) (b : Bool) → (if b then Some (record state { entries = slice_set state.entries k (taken call d) }) else None) ≡ Some mid → (d : Entry) × (slice_get state.entries c ≡ Some d)
-  by d true became = was_there state.entries k c (taken call d) e (subst (λ (s : CoreState). slice_get s.entries c ≡ Some e) (sym (some_is _ mid became)) there)
+  by : (d : Entry) (b : Bool) → (if b then Some (record state { entries = slice_set state.entries k (taken setting.reclamation call d) }) else None) ≡ Some mid → (d : Entry) × (slice_get state.entries c ≡ Some d)
+  by d true became = was_there state.entries k c (taken setting.reclamation call d) e (subst (λ (s : CoreState). slice_get s.entries c ≡ Some e) (sym (some_is _ mid became)) there)
   by d false became = absurd (let z : None ≡ Some mid = became in cc)
 
   of : (o : Option Entry) → event_by target setting state (Takes k call) o ≡ Some mid → (d : Entry) × (slice_get state.entries c ≡ Some d)

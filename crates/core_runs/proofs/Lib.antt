@@ -4,6 +4,7 @@ pub mod Advancing
 pub mod Starting
 pub mod Seeing
 pub mod Keeping
+pub mod Restarting
 pub mod Replaying
 pub mod Worked
 pub mod WorkedKinds

@@ -159,8 +159,8 @@ next_are p c r events is = of (slice_get r.state.entries c) is where
 event_others : (target : Target) (setting : Setting) (state mid : CoreState) (event : CoreEvent) (k : ℕ) → core_event target setting state event ≡ Some mid → k ≢ mover event
     → slice_get mid.entries k ≡ slice_get state.entries k
 event_others target setting state mid (Takes c call) k goes other = of (slice_get state.entries c) goes where
-  by : (d : Entry) (b : Bool) → (if b then Some (record state { entries = slice_set state.entries c (taken call d) }) else None) ≡ Some mid → slice_get mid.entries k ≡ slice_get state.entries k
-  by d true became = ap (λ (s : CoreState). slice_get s.entries k) (sym (some_is _ mid became)) ∙ got_other state.entries c k (taken call d) other
+  by : (d : Entry) (b : Bool) → (if b then Some (record state { entries = slice_set state.entries c (taken setting.reclamation call d) }) else None) ≡ Some mid → slice_get mid.entries k ≡ slice_get state.entries k
+  by d true became = ap (λ (s : CoreState). slice_get s.entries k) (sym (some_is _ mid became)) ∙ got_other state.entries c k (taken setting.reclamation call d) other
   by d false became = absurd (let no : None ≡ Some mid = became in cc)
 
   of : (o : Option Entry) → event_by target setting state (Takes c call) o ≡ Some mid → slice_get mid.entries k ≡ slice_get state.entries k

@@ -71,7 +71,7 @@ found_is setting state a row = ap (λ (b : Bool). if b then found_by setting sta
 
 module _ {target : Target} {setting : Setting} where
   take_moves : (state : CoreState) (c : ℕ) (call : Call) (e : Entry) → IsShaped target setting state → slice_get state.entries c ≡ Some e → is_idle e.routine ≡ true → is_call target call ≡ true
-      → Moves target setting (view setting state) (Takes c call) (view setting (record state { entries = set state.entries c (taken call e) }))
+      → Moves target setting (view setting state) (Takes c call) (view setting (record state { entries = set state.entries c (taken setting.reclamation call e) }))
   take_moves state c call e s there idle is =
       let lt = slice_get_within state.entries c e there in
       let callers = s.callers in
@@ -80,7 +80,7 @@ module _ {target : Target} {setting : Setting} where
         ap (λ (e : Entry). is_idle e.routine) me ∙ idle,
         is,
         refl,
-        who_set state.entries c (taken call e) lt ∙ ap (λ (e : Entry). put (view setting state).who c (taken call e)) (sym me),
+        who_set state.entries c (taken setting.reclamation call e) lt ∙ ap (λ (e : Entry). put (view setting state).who c (taken setting.reclamation call e)) (sym me),
       )
 
   step_moves : (state : CoreState) (c : ℕ) (e : Entry) (a : WordAccess) → IsShaped target setting state → slice_get state.entries c ≡ Some e → wants target e ≡ Some a
@@ -105,9 +105,9 @@ module _ {target : Target} {setting : Setting} where
       → Moves target setting (view setting state) event (view setting later)
   event_moves state later (Takes c call) s is = of (slice_get state.entries c) refl is where
     by : (e : Entry) → slice_get state.entries c ≡ Some e → (i : Bool) → is_idle e.routine ≡ i → (k : Bool) → is_call target call ≡ k
-        → (if i && k then Some (record state { entries = set state.entries c (taken call e) }) else None) ≡ Some later → Moves target setting (view setting state) (Takes c call) (view setting later)
+        → (if i && k then Some (record state { entries = set state.entries c (taken setting.reclamation call e) }) else None) ≡ Some later → Moves target setting (view setting state) (Takes c call) (view setting later)
     by e at true idle true call_is became =
-        subst (λ (x : CoreState). Moves target setting (view setting state) (Takes c call) (view setting x)) (some_is (record state { entries = set state.entries c (taken call e) }) later became) (take_moves state c call e s at idle call_is)
+        subst (λ (x : CoreState). Moves target setting (view setting state) (Takes c call) (view setting x)) (some_is (record state { entries = set state.entries c (taken setting.reclamation call e) }) later became) (take_moves state c call e s at idle call_is)
     by e at true idle false call_is became = absurd cc
     by e at false idle k call_is became = absurd cc
 
@@ -136,7 +136,7 @@ module _ {target : Target} {setting : Setting} where
       → (later : CoreState) × (core_event target setting state (Takes c call) ≡ Some later)
   can_take state c call s lt idle is =
       let e = who_of state.entries c in
-      let later : CoreState = record state { entries = set state.entries c (taken call e) } in
+      let later : CoreState = record state { entries = set state.entries c (taken setting.reclamation call e) } in
       (later, ap (event_by target setting state (Takes c call)) (caller_there state c s lt) ∙ ap (λ (b : Bool). if b then Some later else None) (both (is_idle e.routine) (is_call target call) idle is))
 
   can_step : (state : CoreState) (c : ℕ) (a : WordAccess) → IsShaped target setting state → c < setting.sizes.callers → wants target (who_of state.entries c) ≡ Some a

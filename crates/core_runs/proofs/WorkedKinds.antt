@@ -9,11 +9,12 @@ use Rattle.target_code.specs.declared.target.TargetInstr.TheVariants.{Plain}
 use Rattle.target_code.specs.declared.target.TargetOp.{TargetOp}
 use Rattle.target_code.specs.declared.target.Target.{Target}
 use Rattle.caller_parts.specs.declared.call.Call.{Call}
+use Rattle.caller_parts.specs.declared.setting.Reclamation.TheVariants.{Optimistic}
 use Rattle.caller_parts.specs.Settings.{Setting}
 use Rattle.caller_steps.specs.Entries.{Entry}
 use Rattle.caller_steps.specs.Wants.{wants}
 use Rattle.caller_steps.specs.After.{after}
-use Rattle.core_runs.specs.Machine.{CoreState, CoreEvent, Takes, Steps, core_run, core_start}
+use Rattle.core_runs.specs.Machine.{CoreState, Takes, Steps, core_run, core_start}
 
 join : TargetOp
 join = record {
@@ -51,7 +52,7 @@ two_kinds = record {
 
 -- two slots for items, and three for pairs: items stand in slots 1 and 2, pairs in 3 to 5
 setting : Setting
-setting = record { sizes = record { callers = 1; slots = 5; fields = 2; cells = 2; kinds = 2 ∷ 3 ∷ [] }; first = 1; last = 9; nodes = 1 ∷ 1 ∷ 0 ∷ 0 ∷ [] }
+setting = record { reclamation = Optimistic; sizes = record { callers = 1; slots = 5; fields = 2; cells = 2; kinds = 2 ∷ 3 ∷ [] }; first = 1; last = 9; nodes = 1 ∷ 1 ∷ 0 ∷ 0 ∷ [] }
 
 words_of : Option CoreState → List ℕ
 words_of None = []

@@ -1,4 +1,5 @@
 pub mod Fields
+pub mod Schemes
 pub mod Methods
 pub mod Named
 pub mod KindSteps

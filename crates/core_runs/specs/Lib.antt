@@ -5,6 +5,7 @@ pub mod Advances
 pub mod Histories
 pub mod Scripts
 pub mod Replays
+pub mod Swept
 pub mod core_sound
 pub mod caller_laws
 pub mod core_pools

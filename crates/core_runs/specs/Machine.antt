@@ -1,5 +1,5 @@
 -- The core: the words, the entries, and the events of a run.
-use Rattle.std.specs.Prelude.{◌≡◌, ◌↔◌, ◌⊎◌, ℕ, zero, suc, ◌+◌, Bool, true, false, ◌&&◌, List, [], ◌∷◌, length, map, Option, Some, None, if◌then◌else◌, slice_get, slice_set, slice_index}
+use Rattle.std.specs.Prelude.{◌≡◌, ◌↔◌, ◌⊎◌, ℕ, zero, suc, ◌+◌, Bool, true, false, ◌&&◌, List, [], ◌∷◌, map, Option, Some, None, if◌then◌else◌, slice_get, slice_set, slice_index}
 use Rattle.norm_lang.specs.declared.text.Start.{Start}
 use Rattle.norm_lang.specs.declared.text.Start.TheVariants as starts
 use Rattle.norm_lang.specs.declared.text.NodeDecl.{NodeDecl}
@@ -11,7 +11,8 @@ use Rattle.oa_words.specs.Starts.{Beginning, first_home, start_words}
 use Rattle.phase_pools.specs.Accesses.{WordAccess, word_of, word_after}
 use Rattle.caller_parts.specs.declared.call.Call.{Call}
 use Rattle.caller_parts.specs.KindCounts.{node_counts}
-use Rattle.caller_parts.specs.Settings.{Setting}
+use Rattle.caller_parts.specs.declared.setting.Reclamation.{Reclamation}
+use Rattle.caller_parts.specs.Settings.{Setting, first_warning}
 use Rattle.caller_steps.specs.Entries.{Entry, idle_entry, is_idle}
 use Rattle.caller_parts.specs.Calls.{is_call}
 use Rattle.caller_steps.specs.Wants.{wants}
@@ -39,11 +40,11 @@ node_words home node = map (value_word home) node.values
 abbrev pub root_word : (ℕ → ℕ) → RootDecl → ℕ
 root_word home root = value_word home root.start
 
--- each caller has been warned of the first phase
+-- each caller has been warned of the first phase, or has announced none
 abbrev pub beginning_of : Target → Setting → Beginning
 beginning_of target setting = record {
   first = setting.first;
-  warnings = setting.first;
+  warnings = first_warning setting.reclamation setting.first;
   nodes = map (node_words (node_home target setting.sizes)) target.nodes;
   counts = node_counts target;
   cells = map (root_word (node_home target setting.sizes)) target.roots;
@@ -77,9 +78,9 @@ abbrev pub made : Setting → CoreState → WordAccess → List ℕ
 made setting state a = slice_set state.words (address_of setting.sizes (word_of a)) (word_after a (found_by setting state a))
 
 -- an idle caller may take any call of the target
-abbrev pub takes : Target → CoreState → ℕ → Call → Entry → Option CoreState
-takes target state c call e =
-    if is_idle e.routine && is_call target call then Some (record state { entries = slice_set state.entries c (taken call e) }) else None
+abbrev pub takes : Reclamation → Target → CoreState → ℕ → Call → Entry → Option CoreState
+takes by target state c call e =
+    if is_idle e.routine && is_call target call then Some (record state { entries = slice_set state.entries c (taken by call e) }) else None
 
 -- one that runs may make its access
 abbrev pub stepped : Target → Setting → CoreState → ℕ → Entry → Option WordAccess → Option CoreState
@@ -91,7 +92,7 @@ stepped target setting state c e (Some a) = Some (record {
 
 abbrev pub event_by : Target → Setting → CoreState → CoreEvent → Option Entry → Option CoreState
 event_by target setting state event None = None
-event_by target setting state (Takes c call) (Some e) = takes target state c call e
+event_by target setting state (Takes c call) (Some e) = takes setting.reclamation target state c call e
 event_by target setting state (Steps c) (Some e) = stepped target setting state c e (wants target e)
 
 abbrev pub mover : CoreEvent → ℕ

@@ -98,7 +98,7 @@ kind_of_access (Exchanges (FieldOf j g) expected replacement) = Some kinds.Excha
 kind_of_access (Exchanges (Cell x) expected replacement) = Some kinds.Exchange
 kind_of_access _ = None
 
--- the load of the warning is a Check where the caller stands at a check, and of no kind where a method begins with it
+-- the load of the warning is a Check where the caller stands at a check, and of no kind where a method begins with it; announcements are of none
 abbrev pub stands_at_check : Target → Entry → Routine → Bool
 stands_at_check target e At = is_check_at (instr_in target e)
 stands_at_check target e _ = false

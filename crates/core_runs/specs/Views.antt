@@ -36,7 +36,7 @@ pub record IsShaped (target : Target) (setting : Setting) (state : CoreState) : 
 abbrev pub Moves : Target → Setting → CoreView → CoreEvent → CoreView → Type 0
 Moves target setting before (Takes c call) later =
     (c < setting.sizes.callers) × (is_idle (before.who c).routine ≡ true) × (is_call target call ≡ true)
-    × (later.memory ≡ before.memory) × (later.who ≡ put before.who c (taken call (before.who c)))
+    × (later.memory ≡ before.memory) × (later.who ≡ put before.who c (taken setting.reclamation call (before.who c)))
 Moves target setting before (Steps c) later =
     (a : WordAccess) × (c < setting.sizes.callers) × (wants target (before.who c) ≡ Some a) × (in_row setting.sizes (word_of a) ≡ true)
     × (later.memory ≡ store before.memory (word_of a) (word_after a (before.memory (word_of a))))

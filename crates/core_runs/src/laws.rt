@@ -5,6 +5,7 @@ ghost use Rattle.core_runs.specs.Views.{EventsAreSeen, StartIsSeen};
 ghost use Rattle.core_runs.specs.Advances.{RunsEnd};
 ghost use Rattle.core_runs.specs.Histories.{KeepsCalls};
 ghost use Rattle.core_runs.specs.Replays.{Replay, ReplaysReach};
+ghost use Rattle.core_runs.specs.Swept.{RestartsAreCounted};
 
 /// Reachable states are those to which events lead, one after another: what holds at the start and is kept by every event
 /// holds of each.
@@ -36,4 +37,9 @@ pub fn keeps_calls()
 /// The events of a replay are a complete run of its scripts, from the start to its state.
 pub fn replays_reach()
     ensures { (p : Replay) → ReplaysReach p }
+{}
+
+/// Under epochs a restart is counted exactly where a claim that has swept ends with a slot.
+pub fn restarts_are_counted()
+    ensures { OfAll RestartsAreCounted }
 {}

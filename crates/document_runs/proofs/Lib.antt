@@ -3,3 +3,4 @@ mod Blanking
 mod Answering
 mod Totals
 mod PlanLaws
+mod EpochLaws

@@ -68,7 +68,7 @@ is_refused document plan error planned given =
 
 -- ---- a run
 
-cores_are : (entries : List RoomyEntry) → cores entries ≡ map core_part entries
+pub cores_are : (entries : List RoomyEntry) → cores entries ≡ map core_part entries
 cores_are [] = refl
 cores_are (e ∷ entries) = ap (λ (rest : List Entry). e.core ∷ rest) (cores_are entries)
 

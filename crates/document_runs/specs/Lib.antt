@@ -3,3 +3,4 @@ pub mod Texts
 pub mod Runs
 pub mod Blanks
 pub mod PlanRuns
+pub mod Epochs

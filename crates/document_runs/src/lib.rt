@@ -3,10 +3,12 @@
 #![tactic(auto)]
 
 mod building;
+mod epochs;
 mod printing;
 mod report;
 mod running;
 
+pub use epochs::epoch_document;
 pub use printing::{count_short, is_partial, show_report};
 pub use report::{Answer, Report, ReportLine, ReportLines};
 pub use running::{replay_document, run_document};

@@ -2,12 +2,12 @@
 use Rattle.std.proofs.Common.{◌≡◌, ℕ, ◌∙◌, ◌++◌, List, [], ◌∷◌, refl, ap, subst, Bool, true, false, arith}
 use Rattle.std.specs.List.{AllByRecursion}
 use Rattle.std.specs.Prelude.{slice_index_or}
-use Rattle.phase_pools.specs.declared.stages.Scheme.TheVariants.{Warned}
+use Rattle.phase_pools.specs.declared.stages.Scheme.TheVariants.{Warned, Announced}
 use Rattle.phase_pools.specs.declared.stages.ClaimStage.TheVariants as stages
-use Rattle.oa_words.specs.Words.{Phase, Head}
+use Rattle.oa_words.specs.Words.{Phase, Warning, Head}
 use Rattle.oa_words.specs.Packed.{head_parts}
 use Rattle.phase_pools.specs.declared.stages.SweepStage.TheVariants as sweeps
-use Rattle.phase_pools.specs.Accesses.{Loads}
+use Rattle.phase_pools.specs.Accesses.{Loads, Stores}
 use Rattle.phase_pools.specs.Pools.{Claim, sweep_begun, claim_wants}
 use Rattle.caller_parts.specs.declared.routine.Routine.{Routine}
 use Rattle.caller_parts.specs.declared.routine.Routine.TheVariants.{Claims}
@@ -16,7 +16,7 @@ use Rattle.caller_steps.specs.Wants.{wants}
 use Rattle.caller_steps.specs.After.{after}
 use Rattle.claim_laws.specs.CallSteps.{StepMade}
 use Rattle.claim_laws.specs.Causes.{IsSweepsPhaseLoad, EndsInFailedLook}
-use Rattle.law_rows.specs.CallRuns.{StepRows, CauseRows, ClaimedRows, NewRows, wanting}
+use Rattle.law_rows.specs.CallRuns.{StepRows, CauseRows, EpochCauseRows, ClaimedRows, NewRows, waiting, wanting}
 
 pub step_rows : StepRows
 unfolding wants after
@@ -120,6 +120,52 @@ cause_rows = record {
   first_look = λ h. let is : ◌≡◌ {A = ℕ} 0 2 = ends_so (wanting 1000 2) h in omega arith;
   second_look = λ h. let is : ◌≡◌ {A = ℕ} 1 2 = ends_so (wanting 1000 24) h in omega arith;
   before_look = λ h. let is : stages.Sweeps ≡ stages.ReadHead = ends_there (wanting 1000 45) h in cc;
+}
+
+-- ---- causes under epochs
+
+not_withdrawal : Stores (Warning 0) 0 ≡ Loads Phase → ⊥
+not_withdrawal is = cc
+
+-- neither the announcement at a call's begin is one, nor the look and the withdrawal after it
+no_epoch_sweep : AllByRecursion (λ (step : StepMade). IsSweepsPhaseLoad step → ⊥) (waiting 1 4)
+unfolding wants after
+no_epoch_sweep = (
+  (λ h. let is : _ ≡ Claims h.0 = h.1 in cc),
+  (
+    (λ h. let is : _ ≡ Claims h.0 = h.1 in cc),
+    (
+      (λ h. let is : claim_at (at 2 (waiting 1 4)) ≡ h.0 = ap claim_of h.1 in let loads : claim_wants h.0 ≡ Loads Phase = h.2 in not_head 0 (ap claim_wants is ∙ loads)),
+      ((λ h. let is : claim_at (at 3 (waiting 1 4)) ≡ h.0 = ap claim_of h.1 in let loads : claim_wants h.0 ≡ Loads Phase = h.2 in not_withdrawal (ap claim_wants is ∙ loads)), tt),
+    ),
+  ),
+)
+
+abbrev third_epoch_look : Claim
+third_epoch_look = record { kind = 0; stage = stages.ReadHead; sweeps = 2; sweep = record { scheme = Announced 0; stage = sweeps.ReadStatus 1; bound = 3; low = 3; gathered = [] } }
+
+third_epoch_looks : (last_of (waiting 1000 16)).entry.routine ≡ Claims third_epoch_look
+unfolding wants after
+third_epoch_looks = refl
+
+third_epoch_empty : (head_parts (last_of (waiting 1000 16)).found).top ≡ 0
+unfolding wants after
+third_epoch_empty = refl
+
+pub epoch_cause_rows : EpochCauseRows
+unfolding wants after
+epoch_cause_rows = record {
+  over = record { before = front_of (waiting 1 5); step = last_of (waiting 1 5); later = []; among = front_and_last (waiting 1 5) refl; loads = (claim_at (last_of (waiting 1 5)), refl, refl); found = refl; last = refl };
+  not_yet = λ h. member (λ (step : StepMade). IsSweepsPhaseLoad step → ⊥) h.before h.step h.later (subst (AllByRecursion (λ (step : StepMade). IsSweepsPhaseLoad step → ⊥)) h.among no_epoch_sweep) h.loads;
+  full = (
+    front_of (waiting 1000 16),
+    last_of (waiting 1000 16),
+    front_and_last (waiting 1000 16) refl,
+    record { claim = third_epoch_look; claims = third_epoch_looks; sweeps = refl; looks = refl; empty = third_epoch_empty },
+  );
+  first_look = λ h. let is : ◌≡◌ {A = ℕ} 0 2 = ends_so (waiting 1000 3) h in omega arith;
+  second_look = λ h. let is : ◌≡◌ {A = ℕ} 1 2 = ends_so (waiting 1000 10) h in omega arith;
+  before_look = λ h. let is : stages.Sweeps ≡ stages.ReadHead = ends_there (waiting 1000 15) h in cc;
 }
 
 -- ---- claims and calls

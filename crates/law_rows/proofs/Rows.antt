@@ -1,6 +1,7 @@
 -- States that don't stay in the row: each breaks the conjunct that speaks of it.
 use Rattle.std.proofs.Common.{◌≡◌, ℕ, ◌≤◌, ◌<◌, inl, inr, refl, arith, true, false}
 use Rattle.oa_words.specs.SlotKinds.{IsNullOrOf}
+use Rattle.caller_parts.specs.declared.setting.Reclamation.TheVariants.{Optimistic, Epochs}
 use Rattle.caller_steps.specs.Wants.{wants}
 use Rattle.law_rows.specs.RowStates.{phases_setting, PhaseRows, OutOfRow, StrangeEntries}
 
@@ -12,6 +13,10 @@ phase_rows = record {
   after_last = λ h. omega arith;
   phase_word = λ h. omega arith;
   warning = λ h. omega arith;
+  no_warning = λ h. omega arith;
+  nothing_announced = omega arith;
+  late_announced = λ h. let is : 10 ≤ 9 = h in omega arith;
+  announced_phase_word = λ h. omega arith;
   status = omega arith;
   head = (omega arith, inr (omega arith, omega arith, refl));
   late_status = λ h. omega arith;
@@ -52,6 +57,12 @@ out_of_row = record {
 not_so : false ≡ true → ⊥
 not_so is = cc
 
+other_scheme : Optimistic ≡ Epochs → ⊥
+other_scheme is = cc
+
+same_scheme : Epochs ≡ Optimistic → ⊥
+same_scheme is = cc
+
 pub strange_entries : StrangeEntries
 strange_entries = record {
   number = λ h. let is : 1 < 1 = h.number in omega arith;
@@ -67,9 +78,16 @@ strange_entries = record {
   idle_past_the_end = λ h. let is : 7 < 7 = h.reaches in omega arith;
   no_access = λ h. not_so h.stands;
   empty_list = λ h. let is : 0 < 0 = h.stands in omega arith;
-  no_check = λ h. not_so h.stands.0;
+  no_check = λ h. not_so h.stands.1;
   no_new = λ h. not_so h.stands.0;
   no_claim = λ h. not_so h.stands.0;
-  no_start = λ h. let is : ◌≡◌ {A = ℕ} 2 0 = h.stands.1 in omega arith;
+  no_start = λ h. let is : ◌≡◌ {A = ℕ} 2 0 = h.stands.1.1 in omega arith;
   no_exchange = λ h. not_so h.stands.1;
+  no_epochs = λ h. other_scheme h.stands.0;
+  no_warning = λ h. same_scheme h.stands.0;
+  no_clear = λ h. same_scheme h.stands.0;
+  no_begin = λ h. let is : ◌≡◌ {A = ℕ} 2 0 = h.stands.1.1 in omega arith;
+  no_phase = λ h. let is : 5 ≤ 4 = h.stands.1.1 in omega arith;
+  no_sweep = λ h. not_so h.stands.1.1;
+  no_reply = λ h. not_so h.stands.1.0;
 }

@@ -1,14 +1,19 @@
 -- The steps of calls, causes, claims, and calls with a `new`, on explicit runs.
-use Rattle.std.specs.Prelude.{◌≡◌, ℕ, List, [], ◌∷◌, ◌++◌, map}
+use Rattle.std.specs.Prelude.{◌≡◌, ℕ, List, [], ◌∷◌, ◌++◌, map, codes}
+use Rattle.norm_lang.specs.declared.text.Instr.TheVariants as instr
+use Rattle.norm_lang.specs.Shipped.{root_entry}
+use Rattle.target_code.specs.declared.target.TargetInstr.TheVariants.{Plain}
+use Rattle.target_code.specs.declared.target.TargetOp.{TargetOp}
 use Rattle.caller_parts.specs.declared.call.Call.{Call}
 use Rattle.caller_parts.specs.declared.call.Running.{Running}
 use Rattle.caller_parts.specs.declared.call.Replied.{Replied}
 use Rattle.caller_parts.specs.declared.call.Reply.TheVariants as replies
 use Rattle.caller_parts.specs.declared.routine.Routine.TheVariants.{At}
+use Rattle.caller_parts.specs.declared.setting.Reclamation.TheVariants.{Epochs}
 use Rattle.caller_parts.specs.Settings.{Setting}
 use Rattle.caller_steps.specs.Entries.{Entry, idle_entry}
 use Rattle.core_runs.specs.Machine.{CoreEvent, Takes}
-use Rattle.core_rows.specs.Short.{call_of, setting_of}
+use Rattle.core_rows.specs.Short.{r0, r1, call_of, setting_of}
 use Rattle.core_rows.specs.SmallTargets.{counter_target, swap_target, branches_target}
 use Rattle.core_rows.specs.ShippedTargets.{list_target, queue_target}
 use Rattle.core_rows.specs.ReplayRows.{insert, remove, contains, enqueue, dequeue, add, nop}
@@ -76,6 +81,29 @@ pub record CauseRows : Type 0 where
   pub second_look : EndsInFailedLook (wanting 1000 24) → ⊥
   -- and the step before it is a sweep's
   pub before_look : EndsInFailedLook (wanting 1000 45) → ⊥
+
+-- the same under epochs: the code of the text itself
+abbrev pub bare_put_in : TargetOp
+bare_put_in = record {
+  name = codes "put_in";
+  args = 0;
+  generator = Plain (instr.Null r0) ∷ Plain (instr.New r1 0) ∷ Plain (instr.Commit (root_entry 1 r0 r1 ∷ [])) ∷ [];
+  wrapup = Plain instr.ReturnNone ∷ [];
+}
+
+abbrev pub waiting : ℕ → ℕ → List StepMade
+waiting last n = steps_of_call (record later_target { ops = bare_put_in ∷ [] }) (record (crowded last) { reclamation = Epochs }) (calls 0 (call_of 0 0) n) 0 0
+
+pub record EpochCauseRows : Type 0 where
+  -- its fifth step is the sweep's load of the phase, after the look and the withdrawal of what it had announced. Its first step loaded the
+  -- same word, to announce it
+  pub over : FoundLastPhase (crowded 1) 1 (waiting 1 5)
+  pub not_yet : FoundLastPhase (crowded 1) 1 (waiting 1 4) → ⊥
+  -- the looks are its third, tenth and 16th steps: a sweep loads the two warnings and one status
+  pub full : EndsInFailedLook (waiting 1000 16)
+  pub first_look : EndsInFailedLook (waiting 1000 3) → ⊥
+  pub second_look : EndsInFailedLook (waiting 1000 10) → ⊥
+  pub before_look : EndsInFailedLook (waiting 1000 15) → ⊥
 
 -- ---- claims
 

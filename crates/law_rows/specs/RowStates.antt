@@ -7,10 +7,15 @@ use Rattle.phase_pools.specs.declared.stages.RetireStage.TheVariants as stages
 use Rattle.guard_words.specs.Guards.{no_guards}
 use Rattle.phase_pools.specs.declared.stages.Scheme.TheVariants.{Warned}
 use Rattle.phase_pools.specs.Pools.{claim_begun}
+use Rattle.caller_parts.specs.declared.call.Reply.TheVariants as replies
+use Rattle.caller_parts.specs.declared.routine.AfterClear.TheVariants as clears
 use Rattle.caller_parts.specs.declared.routine.AfterRetire.TheVariants as retires
+use Rattle.caller_parts.specs.declared.routine.AnnounceReason.TheVariants as reasons
+use Rattle.caller_parts.specs.declared.routine.Announcing.TheVariants as announces
+use Rattle.caller_parts.specs.declared.setting.Reclamation.TheVariants.{Epochs}
 use Rattle.caller_parts.specs.declared.routine.MethodStart.TheVariants as starts
 use Rattle.caller_parts.specs.declared.routine.Routine.{Routine}
-use Rattle.caller_parts.specs.declared.routine.Routine.TheVariants.{Idle, LoadSeen, At, InList, Retires, Restarts, Claims, Zeroes}
+use Rattle.caller_parts.specs.declared.routine.Routine.TheVariants.{Idle, LoadSeen, At, InList, Retires, Restarts, Clears, Claims, Zeroes, Announces}
 use Rattle.caller_parts.specs.Settings.{Setting}
 use Rattle.caller_steps.specs.Entries.{Entry, idle_entry, empty_hand}
 use Rattle.caller_steps.specs.declared.entry.Hand.{Hand}
@@ -25,6 +30,10 @@ use Rattle.core_runs.specs.core_sound.Sound.{StaysInRow}
 abbrev pub phases_setting : Setting
 phases_setting = record (setting_of 1 2 2 1 2 9) { first = 5 }
 
+-- the same for callers that announce
+abbrev pub announced_setting : Setting
+announced_setting = record phases_setting { reclamation = Epochs }
+
 -- ---- phases
 
 pub record PhaseRows : Type 0 where
@@ -35,6 +44,11 @@ pub record PhaseRows : Type 0 where
   -- of the phase word and of a warning
   pub phase_word : IsLawful pair_target phases_setting Phase 4 → ⊥
   pub warning : IsLawful pair_target phases_setting (Warning 0) 4 → ⊥
+  -- one that announces nothing is lawful under epochs alone, and none after the last phase
+  pub no_warning : IsLawful pair_target phases_setting (Warning 0) 0 → ⊥
+  pub nothing_announced : IsLawful pair_target announced_setting (Warning 0) 0
+  pub late_announced : IsLawful pair_target announced_setting (Warning 0) 10 → ⊥
+  pub announced_phase_word : IsLawful pair_target announced_setting Phase 4 → ⊥
   -- a status and a head may have an earlier phase than the first: 4 times 4, and 1 for used; 8192 times 4, and the slot 2
   pub status : IsLawful pair_target phases_setting (Status 1) 17
   pub head : IsLawful pair_target phases_setting (Head 0) 32770
@@ -121,6 +135,9 @@ stands_at at routine = record (idle_entry 0) { running = record { call = call_of
 abbrev pub BelongsThere : Entry → Type 0
 BelongsThere e = Belongs pair_target phases_setting e
 
+abbrev pub BelongsAnnounced : Entry → Type 0
+BelongsAnnounced e = Belongs pair_target announced_setting e
+
 pub record StrangeEntries : Type 0 where
   -- caller 1 of one, and an operation after the last of three
   pub number : BelongsThere (idle_entry 1) → ⊥
@@ -146,3 +163,12 @@ pub record StrangeEntries : Type 0 where
   pub no_claim : BelongsThere (stands_at 0 (Claims (claim_begun phases_setting.sizes 0 Warned))) → ⊥
   pub no_start : BelongsThere (stands_at 2 (LoadSeen starts.Begin)) → ⊥
   pub no_exchange : BelongsThere (stands_at 0 (Retires (record { slot = 1; stage = stages.ReadPhase }) retires.Next)) → ⊥
+  -- before an announcement, where access is optimistic; and where callers announce, before the load of the own warning, before a clear, before
+  -- an announcement in the midst of the generator, before that of a phase before the first, and before its end where no reply is given
+  pub no_epochs : BelongsThere (stands_at 0 (Announces (announces.Loads reasons.Begin))) → ⊥
+  pub no_warning : BelongsAnnounced (stands_at 0 (LoadSeen starts.Begin)) → ⊥
+  pub no_clear : BelongsAnnounced (stands_at 0 (Clears clears.New)) → ⊥
+  pub no_begin : BelongsAnnounced (stands_at 2 (Announces (announces.Loads reasons.Begin))) → ⊥
+  pub no_phase : BelongsAnnounced (stands_at 0 (Announces (announces.Stores reasons.Begin 4))) → ⊥
+  pub no_sweep : BelongsAnnounced (stands_at 0 (Announces (announces.Loads reasons.Swept))) → ⊥
+  pub no_reply : BelongsAnnounced (stands_at 0 (Announces (announces.Leaves replies.Nothing))) → ⊥

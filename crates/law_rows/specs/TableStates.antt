@@ -3,6 +3,7 @@ use Rattle.std.specs.Prelude.{◌≡◌, ℕ, List, [], ◌∷◌, ◌++◌, Som
 use Rattle.caller_parts.specs.Settings.{Setting}
 use Rattle.caller_parts.specs.declared.call.Reply.TheVariants as replies
 use Rattle.caller_steps.specs.Entries.{Entry, RoomyEntry, idle_entry}
+use Rattle.caller_parts.specs.declared.setting.Reclamation.TheVariants.{Optimistic}
 use Rattle.caller_steps.specs.After.{taken}
 use Rattle.core_runs.specs.Machine.{CoreState, core_run, core_start}
 use Rattle.core_rows.specs.Short.{setting_of}
@@ -39,7 +40,7 @@ at_start = core_with (idle_entry 0)
 
 -- caller 0 has taken a call, and stands at its begin
 abbrev pub begun : Entry
-begun = taken (add 5) (idle_entry 0)
+begun = taken Optimistic (add 5) (idle_entry 0)
 
 abbrev pub with_begun : CoreState
 with_begun = core_with begun

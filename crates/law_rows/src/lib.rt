@@ -2,7 +2,7 @@
 #![tactic(auto)]
 
 ghost use Rattle.law_rows.specs.RowStates.{PhaseRows, OutOfRow, StrangeEntries};
-ghost use Rattle.law_rows.specs.CallRuns.{StepRows, CauseRows, ClaimedRows, NewRows};
+ghost use Rattle.law_rows.specs.CallRuns.{StepRows, CauseRows, EpochCauseRows, ClaimedRows, NewRows};
 ghost use Rattle.law_rows.specs.NamedSlots.{TouchedRows};
 ghost use Rattle.law_rows.specs.TableStates.{ShownRows, NotShownRows, NotClosedRows};
 
@@ -13,10 +13,11 @@ pub fn row_states()
     ensures strange { StrangeEntries }
 {}
 
-/// The steps of each call, why calls were given up, and which slots were claimed, on explicit runs; and calls with a `new`.
+/// The steps of each call, why calls were given up under either scheme, and which slots were claimed, on explicit runs; and calls with a `new`.
 pub fn call_runs()
     ensures steps { StepRows }
     ensures causes { CauseRows }
+    ensures epoch_causes { EpochCauseRows }
     ensures claimed { ClaimedRows }
     ensures news { NewRows }
 {}

@@ -60,7 +60,7 @@ module _ (action : ℕ → ℕ → Action) where
 
   none_begun : (its : List told.Call) → AreTold action [] [] its → Explain action [] its
   none_begun [] k = tt
-  none_begun (it ∷ its) k = (quiet_of it NoEffect k.0 tt, none_begun its k.1)
+  none_begun (it ∷ its) k = (⊎_elim (λ is. quiet_of it NoEffect is tt) (λ is. quiet_of it Spent is tt) k.0, none_begun its k.1)
 
   last_begun : (ds : List Deed) (s : Started) (call : Call) (it : told.Call) (its : List told.Call) → TellNow ds (Some s) → IsStarted call s → AreTold action (call ∷ []) [] (it ∷ its) → Explain action ds (it ∷ its)
   last_begun [] s call it its tell started k = (quiet_of it Spent k.1 tt, none_begun its k.2)

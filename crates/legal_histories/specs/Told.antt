@@ -1,5 +1,5 @@
 -- What the callers of a shipped text are told of their calls.
-use Rattle.std.specs.Prelude.{◌≡◌, ◌<◌, ◌≤◌, ℕ, zero, suc, List, [], ◌∷◌, slice_index}
+use Rattle.std.specs.Prelude.{◌≡◌, ◌<◌, ◌≤◌, ◌⊎◌, ℕ, zero, suc, List, [], ◌∷◌, slice_index}
 use Rattle.norm_lang.specs.Shipped.{set_text, queue_text}
 use Rattle.source_machine.specs.declared.event.SourceEvent.{SourceEvent}
 use Rattle.source_machine.specs.declared.event.SourceReply.{SourceReply}
@@ -49,12 +49,16 @@ AnswerTold (replies.Phases p) NoEffect = Unit {0}
 abbrev pub IsAsked : (ℕ → ℕ → Action) → Call → told.Call → Type 0
 IsAsked action call it = action call.op (slice_index call.args 0) ≡ it.action
 
+-- of a call that was never begun it may be told that it had no effect, or that it was spent
+abbrev pub NeverBegun : Answer → Type 0
+NeverBegun answer = (answer ≡ NoEffect) ⊎ (answer ≡ Spent)
+
 -- what a caller is told of its calls, by those that it began and the replies that it got, both in order: of one that ended its reply; of one
--- that runs still that it is spent; of one that it never began that it had no effect
+-- that runs still that it is spent; of one that it never began that it had no effect, or was spent. No run has more replies than calls
 abbrev pub AreTold : (ℕ → ℕ → Action) → List Call → List SourceReply → List told.Call → Type 0
 AreTold action [] [] [] = Unit {0}
-AreTold action [] [] (it ∷ its) = (it.answer ≡ NoEffect) × AreTold action [] [] its
-AreTold action [] (reply ∷ rest) its = ⊥
+AreTold action [] [] (it ∷ its) = NeverBegun it.answer × AreTold action [] [] its
+AreTold action [] (reply ∷ rest) its = Unit {0}
 AreTold action (call ∷ calls) replies [] = ⊥
 AreTold action (call ∷ calls) [] (it ∷ its) = IsAsked action call it × (it.answer ≡ Spent) × AreTold action calls [] its
 AreTold action (call ∷ calls) (reply ∷ rest) (it ∷ its) = IsAsked action call it × AnswerTold reply it.answer × AreTold action calls rest its

@@ -56,6 +56,7 @@ not_refused text refusal normal refused = normal (breach_of refusal) refused.fir
 pub accepted_is_normal : (command : Command) (document : Document) → IsTrue (takes_rules command) → IsAccepted command document → IsNormal document.text
 accepted_is_normal commands.Run document takes accepted = accepted.normal
 accepted_is_normal commands.Replay document takes accepted = accepted.0.normal
+accepted_is_normal commands.Epochs document takes accepted = accepted.normal
 accepted_is_normal commands.Certify document takes accepted = accepted.0.normal
 accepted_is_normal commands.Check document takes accepted = accepted
 accepted_is_normal commands.Compile document takes accepted = accepted
@@ -68,6 +69,7 @@ none_is_some fault same = cc
 pub has_shape : (command : Command) (document : Document) (number at : ℕ) → IsAccepted command document → IsShapeRefused command document (faults.Shape number at) → ⊥
 has_shape commands.Run document number at accepted refused = none_is_some (record { number = number; at = at }) (sym accepted.shape ∙ refused.1)
 has_shape commands.Replay document number at accepted refused = none_is_some (record { number = number; at = at }) (sym accepted.1 ∙ refused.1)
+has_shape commands.Epochs document number at accepted refused = none_is_some (record { number = number; at = at }) (sym accepted.shape ∙ refused.1)
 has_shape commands.Certify document number at accepted refused = none_is_some (record { number = number; at = at }) (sym accepted.1 ∙ refused.1)
 has_shape commands.Check document number at accepted refused = absurd refused
 has_shape commands.Compile document number at accepted refused = absurd refused

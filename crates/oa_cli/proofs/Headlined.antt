@@ -11,6 +11,8 @@ use Rattle.script_plans.specs.declared.fault.RunFault.TheVariants as faults
 use Rattle.document_runs.specs.declared.report.Report.{Report}
 use Rattle.document_runs.specs.Texts.{report_text, is_partial}
 use Rattle.core_runs.specs.Machine.{CoreState, CoreEvent}
+use Rattle.script_driver.specs.report_laws.EpochLines.{EpochsTellOf}
+use Rattle.script_driver.specs.report_laws.EpochSources.{HasEpochSourceRun}
 use Rattle.script_driver.specs.report_laws.Lines.{TellsOf}
 use Rattle.script_driver.specs.report_laws.Sources.{HasSourceRun}
 use Rattle.statuses.specs.declared.status.Status.{Status}
@@ -24,7 +26,7 @@ use Rattle.oa_cli.specs.declared.verdicts.verdict.Verdict.TheVariants as verdict
 use Rattle.oa_cli.specs.verdicts.Telling.{IsSaid, text_for, status_for}
 use Rattle.oa_cli.specs.Complete.{HasAccepted, IsAccepted}
 use Rattle.oa_cli.specs.Judged.{LIMIT, IsAnswered, IsShapeRefused, IsShown, IsOfBytes, IsOfSource, IsOfRequest}
-use Rattle.oa_cli.specs.Headline.{MakesCalls, Premises, IsTakenForProper, Promise, IsPrinted, Headline}
+use Rattle.oa_cli.specs.Headline.{MakesCalls, Premises, IsTakenForProper, Promised, IsPrinted, Headline}
 use Rattle.oa_cli.proofs.Completing.{not_faulty, one_document, not_refused, accepted_is_normal, has_shape}
 use Rattle.oa_cli.proofs.Sources.{told}
 
@@ -43,6 +45,7 @@ other_command command other makes same none = absurd (none (subst MakesCalls sam
 writes_none : {A : Type 0} (command : Command) (document : Document) (spelling : List ℕ) → MakesCalls command → IsShown command document spelling → A
 writes_none commands.Run document spelling makes shown = absurd shown
 writes_none commands.Replay document spelling makes shown = absurd shown
+writes_none commands.Epochs document spelling makes shown = absurd shown
 writes_none commands.Check document spelling makes shown = absurd makes
 writes_none commands.Compile document spelling makes shown = absurd makes
 writes_none commands.Show document spelling makes shown = absurd makes
@@ -85,8 +88,12 @@ taken_for_proper : (document : Document) (events : List CoreEvent) (state : Core
 taken_for_proper document events state report tells (inl proper) = tells.proper proper
 taken_for_proper document events state report tells (inr named) = tells.named named.0 named.1
 
-promised : (command : Command) (document : Document) (report : Report) → IsAnswered command document report → Promise command document report
-promised commands.Run document report is = record {
+epochs_for_proper : (document : Document) (events : List CoreEvent) (state : CoreState) (report : Report) → EpochsTellOf document events state report → IsTakenForProper document.text → HasEpochSourceRun document events state report
+epochs_for_proper document events state report tell (inl proper) = tell.proper proper
+epochs_for_proper document events state report tell (inr named) = tell.named named.0 named.1
+
+promised : (command : Command) (document : Document) (report : Report) → MakesCalls command → IsAnswered command document report → Promised command document report
+promised commands.Run document report makes is = record {
   events = is.events;
   state = is.state;
   complete = is.tells.complete;
@@ -96,7 +103,7 @@ promised commands.Run document report is = record {
   source = taken_for_proper document is.events is.state report is.tells;
   legal = is.tells.legal;
 }
-promised commands.Replay document report is = record {
+promised commands.Replay document report makes is = record {
   events = is.replaying.events;
   state = is.replaying.state;
   complete = is.tells.complete;
@@ -106,11 +113,21 @@ promised commands.Replay document report is = record {
   source = taken_for_proper document is.replaying.events is.replaying.state report is.tells;
   legal = is.tells.legal;
 }
-promised commands.Check document report is = absurd is
-promised commands.Compile document report is = absurd is
-promised commands.Show document report is = absurd is
-promised commands.Upgrade document report is = absurd is
-promised commands.Certify document report is = absurd is
+promised commands.Epochs document report makes is = record {
+  events = is.events;
+  state = is.state;
+  complete = is.tells.complete;
+  final = is.tells.of;
+  causes = is.tells.lines;
+  source = epochs_for_proper document is.events is.state report is.tells;
+  legal = is.tells.legal;
+  restarts = is.tells.restarts;
+}
+promised commands.Check document report makes is = absurd is
+promised commands.Compile document report makes is = absurd is
+promised commands.Show document report makes is = absurd is
+promised commands.Upgrade document report makes is = absurd is
+promised commands.Certify document report makes is = absurd is
 
 -- ---- the whole
 
@@ -134,7 +151,7 @@ done command old new held holds before now earlier later verdict status given ju
       report = it.report;
       printed = appended held holds given.written (report_text it.report) given.text_told (subst (λ (v : Verdict). Appends held holds (text_for v)) it.same added);
       answered = subst IsDoneOrPartial (sym (same ∙ ap status_for it.same)) (done_or_partial (is_partial it.report));
-      promise = promised command given.bytes_told.document it.report it.answered;
+      promise = promised command given.bytes_told.document it.report given.calls it.answered;
     }
 
 pub headline : (request : Option Request) (old new held holds : Option (List ℕ)) (before now earlier later : ℕ) (verdict : Verdict) (status : Status) → IsOfRequest request old new before now verdict

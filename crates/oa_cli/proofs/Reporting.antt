@@ -20,6 +20,11 @@ replay_refused document faults.Memory is = tt
 replay_refused document (faults.Refused refusal) is = (refl, is)
 replay_refused document (faults.Shape number at) is = is
 
+pub epochs_refused : (document : Document) (fault : RunFault) → IsFaultOf document fault → IsFound commands.Epochs document (fault_verdict fault)
+epochs_refused document faults.Memory is = tt
+epochs_refused document (faults.Refused refusal) is = (refl, is)
+epochs_refused document (faults.Shape number at) is = is
+
 pub certify_refused : (document : Document) (fault : RunFault) → IsMakingFaultOf document fault → IsFound commands.Certify document (fault_verdict fault)
 certify_refused document faults.Memory is = tt
 certify_refused document (faults.Refused refusal) is = (refl, is)

@@ -24,6 +24,7 @@ use Rattle.command_input.specs.declared.command.Request.TheVariants as requests
 -- `replay` and `judge make` no turn is refused; `show` and `upgrade` take every text
 abbrev pub IsAccepted : Command → Document → Type 0
 IsAccepted commands.Run document = IsRunnable document
+IsAccepted commands.Epochs document = IsRunnable document
 IsAccepted commands.Replay document = IsRunnable document × (replay_fault document ≡ None)
 IsAccepted commands.Certify document = IsRunnable document × (certificate_fault document ≡ None)
 IsAccepted commands.Check document = IsNormal document.text

@@ -1,9 +1,11 @@
--- The headline: what is promised of that which `run` and `replay` print, with all its premises.
+-- The headline: what is promised of that which `run`, `replay` and `epochs` print, with all its premises.
 --
 --     For every accepted document whose text is proper, and however its callers' steps interleave, the printed replies are those of one run
 --     of its text on memory that is never recycled; replies and printed counts are those of the core's one final state; no slot is given
 --     out again while a validated guard names it; no value read from a recycled slot passes its check. For a document with a `use` line
 --     the printed replies have one legal history: that of a set, or of a queue, which is empty at first.
+--
+-- Under epochs there are no guards and no checks: no load goes to what was recycled.
 --
 -- It is the clause `headline` of `oa_main`. The clause `judged` implies it, by this chain of definitions:
 --
@@ -15,6 +17,9 @@
 --     run_laws/specs/Source        FollowsSource
 --     run_laws/specs/Each          AtEachState
 --
+-- and for `epochs` by EpochsTellOf (report_laws/specs/EpochLines), HasEpochSourceRun (EpochSources), FollowsSource of epoch_runs/specs/Source,
+-- Simulates (epoch_relation/specs/Simulated)
+--
 -- and on from there to what each part says:
 --
 --     oa_simulation/specs/Statements    Refined: a run of the source machine, whose replies agree
@@ -23,18 +28,22 @@
 --     stale_laws/specs/Stale            StaleLoadsAreWarned: a check after a load from a recycled slot fails
 --     source_machine/specs/Proper       IsProper
 --     histories/specs/Histories         HasLegalOrder: an order of calls that a set or a queue explains
-use Rattle.std.specs.Prelude.{◌≡◌, ◌≢◌, ◌⊎◌, ℕ, List, ◌++◌, Option, Some, None, Ok}
+use Rattle.std.specs.Prelude.{◌≡◌, ◌≢◌, ◌⊎◌, ℕ, List, ◌++◌, Option, Some, None, Ok, slice_get}
 use Rattle.std.specs.List.{All}
 use Rattle.norm_lang.specs.declared.text.Text.{Text}
 use Rattle.source_machine.specs.Proper.{IsProper}
+use Rattle.caller_steps.specs.Entries.{Entry}
 use Rattle.core_runs.specs.Machine.{CoreState, CoreEvent}
 use Rattle.core_runs.specs.Replays.{Replaying}
 use Rattle.oa_text.specs.Causes.{Rose}
 use Rattle.documents.specs.declared.document.Document.{Document}
 use Rattle.document_runs.specs.declared.report.Report.{Report}
 use Rattle.document_runs.specs.Reports.{report_of}
+use Rattle.document_runs.specs.Epochs.{IsCompleteEpochRunOf}
 use Rattle.document_runs.specs.Runs.{IsCompleteRunOf, replay_given}
 use Rattle.document_runs.specs.Texts.{report_text}
+use Rattle.script_driver.specs.report_laws.EpochLines.{CountsRestarts, IsTrueEpochLine}
+use Rattle.script_driver.specs.report_laws.EpochSources.{HasEpochSourceRun}
 use Rattle.script_driver.specs.report_laws.Legal.{HasLegalHistory}
 use Rattle.script_driver.specs.report_laws.Lines.{IsTrueLine}
 use Rattle.script_driver.specs.report_laws.Sources.{HasSourceRun, IsNamed}
@@ -48,10 +57,11 @@ use Rattle.oa_cli.specs.Complete.{HasAccepted}
 
 -- ---- the premises
 
--- the command makes a document's calls, and prints their answers
+-- the command makes a document's calls and prints their answers
 abbrev pub MakesCalls : Command → Type 0
 MakesCalls commands.Run = Unit {0}
 MakesCalls commands.Replay = Unit {0}
+MakesCalls commands.Epochs = Unit {0}
 MakesCalls commands.Check = ⊥
 MakesCalls commands.Compile = ⊥
 MakesCalls commands.Show = ⊥
@@ -100,12 +110,30 @@ pub record Promise (command : Command) (document : Document) (report : Report) :
   pub source : IsTakenForProper document.text → HasSourceRun document events state report
   pub legal : (words : List (List ℕ)) → IsNamed words document.text → HasLegalHistory report
 
+-- Under epochs the run is one of the document's text as it is. Where the text is proper, or is one that a `use` line names (`source`), the
+-- printed replies are those of one run of it on memory that is never recycled, and the base of each load is null or resident: `lines` of
+-- HasEpochSourceRun, and `simulated` and `begins` of its `run`. Of a text that a `use` line names the printed calls have a legal history
+-- (`legal`), as for `run`. Each caller has counted its restarts (`restarts`).
+pub record EpochPromise (document : Document) (report : Report) : Type 0 where
+  pub events : List CoreEvent
+  pub state : CoreState
+  pub complete : IsCompleteEpochRunOf document events state
+  pub final : report ≡ report_of document state
+  pub causes : All (IsTrueEpochLine document events state) report.lines
+  pub source : IsTakenForProper document.text → HasEpochSourceRun document events state report
+  pub legal : (words : List (List ℕ)) → IsNamed words document.text → HasLegalHistory report
+  pub restarts : (c : ℕ) (e : Entry) → slice_get state.entries c ≡ Some e → CountsRestarts document events c e
+
+abbrev pub Promised : Command → Document → Report → Type 0
+Promised commands.Epochs document report = EpochPromise document report
+Promised command document report = Promise command document report
+
 -- the whole text of a report was written, of which this is so, and the status tells whether each call returned
 pub record IsPrinted (command : Command) (document : Document) (written : List ℕ) (holds : Option (List ℕ)) (status : Status) : Type 0 where
   pub report : Report
   pub printed : holds ≡ Some (written ++ report_text report)
   pub answered : (status ≡ statuses.Done) ⊎ (status ≡ statuses.Partial)
-  pub promise : Promise command document report
+  pub promise : Promised command document report
 
 -- ---- the whole
 

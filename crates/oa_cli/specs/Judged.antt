@@ -28,6 +28,7 @@ use Rattle.event_judge.specs.declared.verdict.Verdict.TheVariants as judgements
 use Rattle.run_judge.specs.Judged.{IsJudged as IsFoundOf, IsMeant}
 use Rattle.run_judge.specs.Made.{IsCertificateOf, IsMakingFaultOf}
 use Rattle.script_driver.specs.report_laws.Runs.{IsRunReport, IsReplayReport}
+use Rattle.script_driver.specs.report_laws.EpochLines.{IsEpochReport}
 use Rattle.script_driver.specs.WorkloadRuns.{IsWorkloadReport}
 use Rattle.statuses.specs.declared.status.Status.{Status}
 use Rattle.statuses.specs.declared.status.Status.TheVariants as statuses
@@ -61,15 +62,17 @@ pub record Untouched (old new : Option (List ℕ)) (before now : ℕ) : Type 0 w
   pub faults : NoFault before now
 
 -- the answers of a command to the calls of a document: for `run` they tell of a complete run of it, for `replay` of the one that the
--- turns of its schedule give. What it is to tell of a run says `TellsOf`
+-- turns of its schedule give, for `epochs` of a complete run of it under epochs. What it is to tell of a run say `TellsOf` and `EpochsTellOf`
 abbrev pub IsAnswered : Command → Document → Report → Type 0
 IsAnswered commands.Run document report = IsRunReport document report
 IsAnswered commands.Replay document report = IsReplayReport document report
+IsAnswered commands.Epochs document report = IsEpochReport document report
 IsAnswered _ document report = ⊥
 
 -- a command that makes a document's calls refuses its shape: `replay` and `judge make` also where its turns are refused
 abbrev pub IsShapeRefused : Command → Document → RunFault → Type 0
 IsShapeRefused commands.Run document fault = IsFaultOf document fault
+IsShapeRefused commands.Epochs document fault = IsFaultOf document fault
 IsShapeRefused commands.Replay document fault = IsReplayFaultOf document fault
 IsShapeRefused commands.Certify document fault = IsMakingFaultOf document fault
 IsShapeRefused _ document fault = ⊥
@@ -84,6 +87,7 @@ IsShown _ document spelling = ⊥
 abbrev pub takes_rules : Command → Bool
 takes_rules commands.Run = true
 takes_rules commands.Replay = true
+takes_rules commands.Epochs = true
 takes_rules commands.Check = true
 takes_rules commands.Compile = true
 takes_rules commands.Certify = true

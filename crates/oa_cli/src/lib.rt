@@ -10,6 +10,7 @@ pub mod verdicts;
 
 pub use crate::verdicts::{conclude, finish};
 pub use command_input::input;
+pub use messages::{RememberingSource, explain_read};
 pub use program::{run_program, serve};
 pub use statuses::{Refusal, Status, explain, status_number};
 pub use top::oa_main;

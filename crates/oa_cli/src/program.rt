@@ -11,6 +11,7 @@ ghost use Rattle.oa_cli.specs.Headline.{Headline};
 
 use crate::top::oa_main;
 use crate::verdicts::{Verdict, conclude, finish, say};
+use messages::RememberingSource;
 use oa_text::{Gate, OpenGate, Source, StdSink, StdSource};
 use statuses::Status;
 use std::alloc::Global;
@@ -63,29 +64,30 @@ fn refuse_for_memory<W: Write>(out: &mut StdSink<W>) -> Status
     finish(out, status)
 }
 
-/// Does the command with standard input, over a writer.
-fn answer<R: Env + Input + AllocGlobal + Threads + Sync, W: Write + Drop>(
+/// Does the command with a source, over a writer.
+fn answer<R: Env + AllocGlobal + Threads + Sync, S: Source, W: Write + Drop>(
     rt: &R,
+    source: &mut S,
     writer: W,
 ) -> Status {
-    let mut source = StdSource::new(rt.reader());
     let mut sink = StdSink::new(writer);
     match command_words(rt) {
-        Some(words) => serve(rt, rt.alloc(), &words, &mut source, &mut sink, &OpenGate),
+        Some(words) => serve(rt, rt.alloc(), &words, source, &mut sink, &OpenGate),
         None => refuse_for_memory(&mut sink),
     }
 }
 
 /// All that the program does: it answers standard input on standard output, buffered where there is memory for that,
-/// writes a sentence on the status to `errors`, and answers the number with which to end. A fault of `errors` changes
-/// nothing.
+/// writes a message on the status and on what was read to `errors`, and answers the number with which to end. A fault of
+/// `errors` changes nothing.
 pub fn run_program<R: Env + Input + Print + AllocGlobal + Threads + Sync, E: Write + Drop>(
     rt: &R,
     errors: E,
 ) -> u8 {
+    let mut source = RememberingSource::new(rt.alloc(), StdSource::new(rt.reader()));
     let status = match BufWriter::new(rt.alloc(), io::writer(rt)) {
-        Ok(buffer) => answer(rt, buffer),
-        Err(_) => answer(rt, io::writer(rt)),
+        Ok(buffer) => answer(rt, &mut source, buffer),
+        Err(_) => answer(rt, &mut source, io::writer(rt)),
     };
-    conclude(&mut StdSink::new(errors), status)
+    conclude(&mut StdSink::new(errors), &source, status)
 }

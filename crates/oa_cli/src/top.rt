@@ -25,7 +25,7 @@ use norm_check::{CheckError, Normal, Refusal};
 use norm_lang::show;
 use norm_lang::text::ByteText;
 use oa_text::{Gate, Sink, Source};
-use script_driver::{replay_document, run_document, run_workload, show_document};
+use script_driver::{epoch_document, replay_document, run_document, run_workload, show_document};
 use script_plans::RunFault;
 use statuses::Status;
 use std::alloc::{AllocError, Global};
@@ -76,6 +76,7 @@ fn find_verdict<R: Threads + Sync, G: Gate + Sync>(
     match command {
         Command::Run => run_verdict(rt, alloc, document, gate),
         Command::Replay => replay_verdict(alloc, document),
+        Command::Epochs => epoch_verdict(rt, alloc, document, gate),
         Command::Check => check_verdict(alloc, document),
         Command::Show => Ok(show_verdict(alloc, document)),
         Command::Upgrade => Ok(upgrade_verdict(alloc, document)),
@@ -163,6 +164,22 @@ fn run_verdict<R: Threads + Sync, G: Gate + Sync>(
     ensures { IsFound Command.Run document.now result }
 {
     match run_document(rt, alloc, document, gate) {
+        Ok(report) => Ok(Verdict::Answered(report)),
+        Err(fault) => fault_verdict(fault),
+    }
+}
+
+/// Makes the calls of a document on its text as it is, under epochs, by callers on threads.
+fn epoch_verdict<R: Threads + Sync, G: Gate + Sync>(
+    rt: &R,
+    alloc: Global,
+    document: &Document,
+    gate: &G,
+) -> Result<Verdict, Refusal>
+    requires { IsWithinDocumentLimits document.now }
+    ensures { IsFound Command.Epochs document.now result }
+{
+    match epoch_document(rt, alloc, document, gate) {
         Ok(report) => Ok(Verdict::Answered(report)),
         Err(fault) => fault_verdict(fault),
     }
@@ -257,8 +274,8 @@ fn judge<R: Threads + Sync, S: Source, G: Gate + Sync>(
 /// what was read and judged, what was said, and the status. The second says that each fault is told. The third says that all is
 /// answered which nothing refuses, where memory suffices; by the first the whole text was written then, and each call has a reply
 /// at `Done`; of a certificate what is found of it is told. The fourth says what `run` and `replay` promise, with all the
-/// premises: see `Headline`. The gate is handed to the callers of `run` and of a workload; it changes nothing but how their steps
-/// interleave.
+/// premises: see `Headline`. The gate is handed to the callers of `run`, of `epochs` and of a workload; it changes nothing but how
+/// their steps interleave.
 pub fn oa_main<R: Threads + Sync, S: Source, K: Sink, G: Gate + Sync>(
     rt: &R,
     alloc: Global,

@@ -1,5 +1,5 @@
 -- The end of a replay is that of a complete run of its scripts; and what holds in every state of a run.
-use Rattle.std.proofs.Common.{◌≡◌, ◌≤◌, ℕ, List, length, refl, sym, ap, ◌∙◌, subst}
+use Rattle.std.proofs.Common.{◌≡◌, ◌≤◌, ℕ, List, length, refl, sym, ap, subst}
 use Rattle.std.specs.Prelude.{Result, Ok, Err, IfOk, All}
 use Rattle.schedule_turns.specs.declared.turn.Turn.{Turn}
 use Rattle.caller_parts.specs.declared.call.Call.{Call}
@@ -31,7 +31,7 @@ complete_end pair setting scripts fuel schedule r final sound own fits some give
   complete = ended;
   sound = states_are_sound pair.target pair.source setting (core_of final) (runnable pair sound) own fits reached;
   stays = states_stay pair.target pair.source setting (core_of final) (runnable pair sound) own fits reached;
-  source = λ proper. follows pair setting sound own fits proper scripts fuel r.events (core_of final) some ended;
+  source = λ optimistic proper. follows pair setting sound own fits optimistic proper scripts fuel r.events (core_of final) some ended;
 } where
   ended : IsCompleteRun pair.target setting scripts fuel r.events (core_of final)
   ended = subst (λ (s : CoreState). IsCompleteRun pair.target setting scripts fuel r.events s) (sym same) complete

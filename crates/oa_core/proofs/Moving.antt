@@ -7,6 +7,7 @@ use Rattle.target_code.specs.declared.target.Target.{Target}
 use Rattle.phase_pools.specs.Accesses.{WordAccess}
 use Rattle.caller_parts.specs.declared.call.Call.{Call}
 use Rattle.caller_parts.specs.Settings.{Setting}
+use Rattle.caller_parts.specs.declared.setting.Reclamation.{Reclamation}
 use Rattle.caller_steps.specs.Entries.{Entry, RoomyEntry, is_idle}
 use Rattle.caller_parts.specs.Calls.{is_call}
 use Rattle.caller_steps.specs.Wants.{wants}
@@ -63,11 +64,11 @@ step_event : (target : Target) (setting : Setting) (state : CoreState) (c : ℕ)
 step_event target setting state c e a at want = ap (event_by target setting state (Steps c)) at ∙ ap (stepped target setting state c e) want
 
 take_event : (target : Target) (setting : Setting) (state : CoreState) (c : ℕ) (call : Call) (e : Entry) → slice_get state.entries c ≡ Some e → is_idle e.routine ≡ true → is_call target call ≡ true
-    → core_event target setting state (Takes c call) ≡ Some (record state { entries = slice_set state.entries c (taken call e) })
+    → core_event target setting state (Takes c call) ≡ Some (record state { entries = slice_set state.entries c (taken setting.reclamation call e) })
 take_event target setting state c call e at idle is =
     ap (event_by target setting state (Takes c call)) at
-    ∙ (ap (λ (b : Bool). if b && is_call target call then Some (record state { entries = slice_set state.entries c (taken call e) }) else None) idle
-    ∙ ap (λ (b : Bool). if b then Some (record state { entries = slice_set state.entries c (taken call e) }) else None) is)
+    ∙ (ap (λ (b : Bool). if b && is_call target call then Some (record state { entries = slice_set state.entries c (taken setting.reclamation call e) }) else None) idle
+    ∙ ap (λ (b : Bool). if b then Some (record state { entries = slice_set state.entries c (taken setting.reclamation call e) }) else None) is)
 
 core_at : (entries : List RoomyEntry) (c : ℕ) (e : RoomyEntry) → slice_get entries c ≡ Some e → slice_get (map core_part entries) c ≡ Some e.core
 core_at entries c e at = slice_get-map core_part entries c ∙ ap (option_map core_part) at
@@ -90,13 +91,13 @@ set_core : (entries : List RoomyEntry) (c : ℕ) (e : RoomyEntry) → slice_set 
 set_core entries c e = sym (map-set core_part entries c e)
 
 move_run : (target : Target) (setting : Setting) (words later : List ℕ) (next : Move) (c : ℕ) (entries : List RoomyEntry) (e moved : RoomyEntry) → slice_get entries c ≡ Some e → CanMove target next e
-    → StepIs target setting words later (begun next e) moved → core_run target setting (events_of c next) (state_of words entries) ≡ Some (state_of later (slice_set entries c moved))
+    → StepIs target setting words later (begun setting.reclamation next e) moved → core_run target setting (events_of c next) (state_of words entries) ≡ Some (state_of later (slice_set entries c moved))
 move_run target setting words later (moves.Takes call) c entries e moved at can step =
     let cores : List Entry = map core_part entries in
-    let taker : RoomyEntry = begun (moves.Takes call) e in
+    let taker : RoomyEntry = begun setting.reclamation (moves.Takes call) e in
     ap (λ (o : Option CoreState). run_on o (core_run target setting (Steps c ∷ []))) (take_event target setting (state_of words entries) c call e.core (core_at entries c e at) can.0 can.2)
-    ∙ step_run target setting words later c (slice_set cores c (taken call e.core)) entries taker moved (got_same cores c (taken call e.core) e.core (core_at entries c e at)) step
-    (set-set cores c (taken call e.core) moved.core ∙ set_core entries c moved)
+    ∙ step_run target setting words later c (slice_set cores c (taken setting.reclamation call e.core)) entries taker moved (got_same cores c (taken setting.reclamation call e.core) e.core (core_at entries c e at)) step
+    (set-set cores c (taken setting.reclamation call e.core) moved.core ∙ set_core entries c moved)
 move_run target setting words later moves.GoesOn c entries e moved at can step =
     step_run target setting words later c (map core_part entries) entries e moved (core_at entries c e at) step (set_core entries c moved)
 
@@ -111,9 +112,9 @@ moves_run target setting words later next c entries others can moves = of (slice
 
 -- ---- what holds all the while
 
-begun_room : (next : Move) (e : RoomyEntry) → (begun next e).room ≡ e.room
-begun_room (moves.Takes call) e = refl
-begun_room moves.GoesOn e = refl
+begun_room : (by : Reclamation) (next : Move) (e : RoomyEntry) → (begun by next e).room ≡ e.room
+begun_room by (moves.Takes call) e = refl
+begun_room by moves.GoesOn e = refl
 
 moves_rooms : (target : Target) (setting : Setting) (scripts : List (List Call)) (words later : List ℕ) (next : Move) (c : ℕ) (entries others : List RoomyEntry) → HasRooms scripts entries
     → MovesAt target setting words later next c entries others (slice_get entries c) → HasRooms scripts others
@@ -122,7 +123,7 @@ moves_rooms target setting scripts words later next c entries others rooms moves
   of None at moves = absurd moves
   of (Some e) at moves = λ k f is. ⊎_elim
       (λ (t : (k ≡ c) × (f ≡ moves.moved)).
-      let room : f.room ≡ e.room = ap (λ (x : RoomyEntry). x.room) (t.1 ∙ moves.step.entry) ∙ begun_room next e in
+      let room : f.room ≡ e.room = ap (λ (x : RoomyEntry). x.room) (t.1 ∙ moves.step.entry) ∙ begun_room setting.reclamation next e in
       let exact : e.room ≡ length (script_of scripts c) = rooms c e at in
       let same : length (script_of scripts k) ≡ length (script_of scripts c) = ap (λ (d : ℕ). length (script_of scripts d)) t.0 in
       omega (arith, room, exact, same))

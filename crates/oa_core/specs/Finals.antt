@@ -6,6 +6,7 @@ use Rattle.target_code.specs.declared.target.Target.{Target}
 use Rattle.source_machine.specs.Proper.{IsProper}
 use Rattle.caller_parts.specs.declared.call.Call.{Call}
 use Rattle.caller_parts.specs.Settings.{Setting}
+use Rattle.caller_parts.specs.declared.setting.Reclamation.TheVariants.{Optimistic}
 use Rattle.caller_steps.specs.Entries.{Entry, RoomyEntry}
 use Rattle.core_runs.specs.Machine.{CoreState}
 use Rattle.core_runs.specs.Scripts.{script_of, IsCompleteRun}
@@ -76,7 +77,7 @@ Answers (Err (errors.LongReplay steps)) fuel given = IsRefused (LongReplay steps
 -- ---- runs of scripts
 
 -- the turns give a complete run of the scripts, which ends so: each caller's entry belongs, each word is lawful, and nothing leads out of
--- the row. Where the text is proper, the run is one of the text on memory that is never recycled
+-- the row. Where the text is proper, under optimistic access, the run is one of the text on memory that is never recycled
 pub record EndsRun (target : Target) (text : Text) (setting : Setting) (scripts : List (List Call)) (fuel : ℕ) (schedule : List Turn) (final : Final) : Type 0 where
   pub replaying : Replaying
   pub given : replayed (replay_of target setting scripts fuel) schedule ≡ Ok replaying
@@ -84,4 +85,4 @@ pub record EndsRun (target : Target) (text : Text) (setting : Setting) (scripts 
   pub complete : IsCompleteRun target setting scripts fuel replaying.events (core_of final)
   pub sound : IsSound target setting (core_of final)
   pub stays : StaysInRow target setting (core_of final)
-  pub source : IsProper text → FollowsSource target text setting scripts replaying.events (core_of final)
+  pub source : setting.reclamation ≡ Optimistic → IsProper text → FollowsSource target text setting scripts replaying.events (core_of final)

@@ -4,6 +4,7 @@ use Rattle.schedule_turns.specs.declared.turn.Turn.{Turn}
 use Rattle.target_code.specs.declared.target.Target.{Target}
 use Rattle.caller_parts.specs.declared.call.Call.{Call}
 use Rattle.caller_parts.specs.Settings.{Setting, Fits}
+use Rattle.caller_parts.specs.declared.setting.Reclamation.{Reclamation}
 use Rattle.caller_steps.specs.Entries.{Entry, RoomyEntry, idle_entry, is_idle}
 use Rattle.caller_parts.specs.Calls.{is_call, AreCalls}
 use Rattle.caller_steps.specs.After.{taken}
@@ -78,9 +79,9 @@ events_of c (moves.Takes call) = Takes c call ∷ Steps c ∷ []
 events_of c moves.GoesOn = Steps c ∷ []
 
 -- the entry before the step
-abbrev pub begun : Move → RoomyEntry → RoomyEntry
-begun (moves.Takes call) e = record e { core = taken call e.core }
-begun moves.GoesOn e = e
+abbrev pub begun : Reclamation → Move → RoomyEntry → RoomyEntry
+begun by (moves.Takes call) e = record e { core = taken by call e.core }
+begun by moves.GoesOn e = e
 
 -- an idle entry with room takes a call of the target; one that runs goes on
 abbrev pub CanMove : Target → Move → RoomyEntry → Type 0
@@ -94,7 +95,7 @@ CanMoveAt target next (Some e) = CanMove target next e
 -- one entry made a step, and all others stay
 pub record EntryMoves (target : Target) (setting : Setting) (words later : List ℕ) (next : Move) (c : ℕ) (entries others : List RoomyEntry) (e : RoomyEntry) : Type 0 where
   pub moved : RoomyEntry
-  pub step : StepIs target setting words later (begun next e) moved
+  pub step : StepIs target setting words later (begun setting.reclamation next e) moved
   pub left : others ≡ slice_set entries c moved
 
 abbrev pub MovesAt : Target → Setting → List ℕ → List ℕ → Move → ℕ → List RoomyEntry → List RoomyEntry → Option RoomyEntry → Type 0

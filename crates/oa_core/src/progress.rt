@@ -11,7 +11,7 @@ ghost use Rattle.oa_core.specs.Shown.{replay_by, shown, bared, told, next_of, ne
 use crate::replaying::CallList;
 use caller_steps::{Call, Program, Setting};
 use core_entries::step::step_on;
-use core_entries::{Entry, PlainWords, Prepared};
+use core_entries::{Entry, PlainWords, Prepared, Runs};
 use std::marker::Model;
 
 /// What a caller does next.
@@ -128,11 +128,13 @@ impl<'a> Terms<'a> {
     fn begin_entry(&self, entry: &mut Entry, next: Move)
         requires belongs { BelongsTo self.now.pair self.now.setting entry.old.core }
         requires can { CanMove self.now.pair.target next entry.old }
-        ensures begun { entry.new ≡ begun next entry.old }
+        ensures begun { entry.new ≡ begun self.now.setting.reclamation next entry.old }
         ensures belongs { BelongsTo self.now.pair self.now.setting entry.new.core }
     {
         if let Move::Takes(call) = next {
-            entry.begin(self.prepared.barred(), call.op, call.args);
+            let by = self.setting.reclamation();
+            let runs = Runs::Barred(self.prepared.barred());
+            entry.begin_by(by, runs, call.op, call.args);
         }
     }
 
@@ -142,7 +144,7 @@ impl<'a> Terms<'a> {
         requires belongs { BelongsTo self.now.pair self.now.setting entry.old.core }
         requires can { CanMove self.now.pair.target next entry.old }
         requires lawful { WordsSound self.now.pair.target self.now.setting words.old }
-        ensures step { StepIs self.now.pair.target self.now.setting words.old words.new (begun next entry.old) entry.new }
+        ensures step { StepIs self.now.pair.target self.now.setting words.old words.new (begun self.now.setting.reclamation next entry.old) entry.new }
         ensures belongs { BelongsTo self.now.pair self.now.setting entry.new.core }
         ensures lawful { WordsSound self.now.pair.target self.now.setting words.new }
     {

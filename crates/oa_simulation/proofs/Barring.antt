@@ -12,6 +12,7 @@ use Rattle.target_laws.specs.target_runs.Runnable.{IsRunnable}
 use Rattle.oa_simulation.specs.Relation.{QuietIsKept, RunsAreSimulated}
 use Rattle.oa_simulation.proofs.QuietSteps.{keeps_quiet}
 use Rattle.oa_simulation.proofs.Refining.{simulates}
+use Rattle.caller_parts.specs.declared.setting.Reclamation.TheVariants.{Optimistic}
 
 pub is_sound : (pair : Paired) (target : Target) (source : Text) → target ≡ pair.target → source ≡ pair.source → IsWithinLimits source → IsNormal source
     → IsTargetWithinLimits target → IsBarred target pair.source → IsSound pair
@@ -26,8 +27,8 @@ is_sound pair target source one other small normal within barred = record {
 runnable : (pair : Paired) → IsSound pair → IsRunnable pair.target pair.source
 runnable pair s = record { small = s.small; normal = s.normal; within = s.within; erases = s.barred.erases }
 
-pub quiet_steps_keep : (pair : Paired) (setting : Setting) → IsSound pair → IsSetting setting → Fits pair.target setting → QuietIsKept pair.target pair.source setting
-quiet_steps_keep pair setting sound own fits = keeps_quiet pair.target pair.source setting (runnable pair sound) sound.barred own fits
+pub quiet_steps_keep : (pair : Paired) (setting : Setting) → IsSound pair → IsSetting setting → Fits pair.target setting → setting.reclamation ≡ Optimistic → QuietIsKept pair.target pair.source setting
+quiet_steps_keep pair setting sound own fits optimistic = keeps_quiet pair.target pair.source setting (runnable pair sound) sound.barred own fits optimistic
 
-pub refines : (pair : Paired) (setting : Setting) → IsSound pair → IsSetting setting → Fits pair.target setting → RunsAreSimulated pair.target pair.source setting
-refines pair setting sound own fits = simulates pair.target pair.source setting (runnable pair sound) sound.barred own fits
+pub refines : (pair : Paired) (setting : Setting) → IsSound pair → IsSetting setting → Fits pair.target setting → setting.reclamation ≡ Optimistic → RunsAreSimulated pair.target pair.source setting
+refines pair setting sound own fits optimistic = simulates pair.target pair.source setting (runnable pair sound) sound.barred own fits optimistic

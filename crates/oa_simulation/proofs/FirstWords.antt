@@ -30,7 +30,9 @@ use Rattle.source_machine.specs.State.{first_value, root_value, named_from, firs
 use Rattle.source_machine.specs.Memory.{value_at, fields_named}
 use Rattle.source_machine.specs.Proper.{field_of}
 use Rattle.caller_parts.specs.KindCounts.{node_counts}
-use Rattle.caller_parts.specs.Settings.{Fits, IsSetting}
+use Rattle.caller_parts.specs.declared.setting.Reclamation.{Reclamation}
+use Rattle.caller_parts.specs.declared.setting.Reclamation.TheVariants.{Optimistic, Epochs}
+use Rattle.caller_parts.specs.Settings.{Fits, IsSetting, first_warning}
 use Rattle.core_runs.specs.Machine.{node_home, value_word, node_words, root_word, beginning_of, core_start}
 use Rattle.core_runs.specs.Views.{view}
 use Rattle.core_runs.proofs.Starting.{start_is_seen}
@@ -45,6 +47,11 @@ use Rattle.oa_simulation.specs.FirstNames.{first_home}
 use Rattle.oa_simulation.specs.Present.{first_present}
 use Rattle.oa_simulation.proofs.FirstSlots.{NodesHaveKinds, Named, home_is as slot_home, node_present, node_within, slot_named, number_there, number_past, first_below, past_index}
 use Rattle.oa_simulation.proofs.Starting.{IsFirst, is_node, node_some}
+
+-- no caller starts with a warning past the first phase
+warned_first : (by : Reclamation) (first : ℕ) → first_warning by first ≤ first
+warned_first Optimistic first = omega arith
+warned_first Epochs first = omega arith
 
 -- ---- lists of first values
 
@@ -331,7 +338,11 @@ module _ (t : Plan) (runs : IsRunnable t.target t.text) (own : IsSetting t.setti
     past = λ n le. beyond n le;
   } where
     warning : (c : ℕ) (b : Bool) → in_row t.setting.sizes (Warning c) ≡ b → memory (Warning c) ≤ memory Phase
-    warning c true row = let a = in_it (Warning c) row in let p = in_it Phase refl in omega (arith, a, p)
+    warning c true row =
+        let a : memory (Warning c) ≡ first_warning t.setting.reclamation t.setting.first = in_it (Warning c) row in
+        let p = in_it Phase refl in
+        let le = warned_first t.setting.reclamation t.setting.first in
+        omega (arith, a, p, le)
     warning c false out = let a = out_of_it (Warning c) out in omega (arith, a)
 
     is_named : (n : ℕ) → n ≢ 0 → n ≤ together t.setting.nodes → is_node t n ≡ true

@@ -11,7 +11,7 @@ use Rattle.source_machine.specs.Proper.{IsProper}
 use Rattle.source_machine.proofs.Places.{each_put, put_same}
 use Rattle.caller_parts.specs.declared.call.Call.{Call}
 use Rattle.caller_parts.specs.declared.routine.Routine.{Routine}
-use Rattle.caller_parts.specs.declared.routine.Routine.TheVariants.{Idle, LoadSeen, At, InList, Retires, Restarts, Clears, Claims, Zeroes}
+use Rattle.caller_parts.specs.declared.routine.Routine.TheVariants.{Idle, LoadSeen, At, InList, Retires, Restarts, Clears, Claims, Zeroes, Announces}
 use Rattle.caller_parts.specs.Settings.{Setting}
 use Rattle.caller_steps.specs.Asking.{NewsFit}
 use Rattle.caller_steps.specs.Entries.{Entry, idle_entry, is_idle}
@@ -49,8 +49,10 @@ use Rattle.oa_simulation.proofs.Pools.{pool_goes, takes_ready}
 use Rattle.oa_simulation.proofs.Homes.{home_before, run_append, draws_home}
 use Rattle.norm_lang.specs.NormalForm.{IsNormal}
 use Rattle.norm_lang.specs.Limits.{IsWithinLimits}
+use Rattle.caller_parts.specs.declared.setting.Reclamation.TheVariants.{Optimistic}
+use Rattle.oa_simulation.proofs.sim_relation.Schemes.{after_is, signs_are, taken_is}
 
-idle_is : (r : Routine) → is_idle r ≡ true → r ≡ Idle
+pub idle_is : (r : Routine) → is_idle r ≡ true → r ≡ Idle
 idle_is Idle is = refl
 idle_is (LoadSeen why) is = absurd (let z : false ≡ true = is in cc)
 idle_is At is = absurd (let z : false ≡ true = is in cc)
@@ -60,6 +62,7 @@ idle_is Restarts is = absurd (let z : false ≡ true = is in cc)
 idle_is (Clears next) is = absurd (let z : false ≡ true = is in cc)
 idle_is (Claims claim) is = absurd (let z : false ≡ true = is in cc)
 idle_is (Zeroes k field) is = absurd (let z : false ≡ true = is in cc)
+idle_is (Announces announcing) is = absurd (let z : false ≡ true = is in cc)
 
 -- and each slot has the name that is given
 abbrev pub NamedBeside : (t : Plan) (state : CoreState) (z : Shadow) → (ℕ → ℕ) → Type 0
@@ -71,7 +74,7 @@ take_kept t s c x call told idle =
     let spot : HoldsAt t s c x Idle = subst (λ (r : Routine). HoldsAt t s c x r) (idle_is x.entry.routine idle) told.spot in
     let b = told.base in
     record {
-      x' = record x { entry = taken call x.entry };
+      x' = record x { entry = taken Optimistic call x.entry };
       entry = refl;
       names = refl;
       was_set = refl;
@@ -83,7 +86,7 @@ take_kept t s c x call told idle =
       };
     }
 
-busy : (target : Target) (e : Entry) (a : WordAccess) (b : Bool) → is_idle e.routine ≡ b → wants target e ≡ Some a → is_idle e.routine ≡ false
+pub busy : (target : Target) (e : Entry) (a : WordAccess) (b : Bool) → is_idle e.routine ≡ b → wants target e ≡ Some a → is_idle e.routine ≡ false
 busy target e a true is want = absurd (idle_wants target e a is want)
 busy target e a false is want = is
 
@@ -93,17 +96,8 @@ belongs_seen target setting state c s lt = of (slice_get state.entries c) refl w
   of None is = absurd (let callers = s.callers in let there = there_is state.entries c (omega (arith, lt, callers)) in let z : None ≡ Some there.0 = sym is ∙ there.1 in cc)
   of (Some e) is = (s.belong c e is).0
 
--- the entry after a step, and its signs
-after_is : (target : Target) (setting : Setting) (e : Entry) (word : ℕ) → after target setting e word ≡ (after_moves target setting e word).entry
-unfolding after
-after_is target setting e word = refl
-
-pub signs_are : (target : Target) (setting : Setting) (e : Entry) (word : ℕ) → signs target setting e word ≡ (after_moves target setting e word).signs
-unfolding signs
-signs_are target setting e word = refl
-
 -- the call stays
-call_stays : (before later : Entry) → EndsOrRuns before later → later.running.call ≡ before.running.call
+pub call_stays : (before later : Entry) → EndsOrRuns before later → later.running.call ≡ before.running.call
 call_stays before later turns = ap (λ running. running.call) (⊎_elim (λ (r : RunsOn before later). r.2) (λ (r : Ends before later). r.3) turns)
 
 -- a caller that takes a call
@@ -119,7 +113,7 @@ pub record Went (t : Plan) (state behind : CoreState) (z z' : Shadow) (c : ℕ) 
   pub access : WordAccess
   pub at : wants t.target ((view t.setting state).who c) ≡ Some access
   pub there : in_row t.setting.sizes (word_of access) ≡ true
-  pub stepped : Stepped t c b.w.shared (b.w.who c) (NamesAfter t b.w.shared c (b.w.who c) (b.w.who c).entry.routine) (set_after_access t.target (b.w.who c).entry (b.w.who c).entry.routine (b.w.shared.memory (word_of access)) (b.w.who c).was_set) (after_access b.w.shared.memory access) (after_moves t.target t.setting (b.w.who c).entry (b.w.shared.memory (word_of access))) (present_at t.target b.w.shared.memory b.w.shared.unused (b.w.who c).entry (b.w.who c).entry.routine b.w.shared.present)
+  pub stepped : Stepped t c b.w.shared (b.w.who c) (NamesAfter t b.w.shared c (b.w.who c) (b.w.who c).entry.routine) (set_after_access t.target (b.w.who c).entry (b.w.who c).entry.routine (b.w.shared.memory (word_of access)) (b.w.who c).was_set) (after_access b.w.shared.memory access) (after_moves Optimistic t.target t.setting (b.w.who c).entry (b.w.shared.memory (word_of access))) (present_at t.target b.w.shared.memory b.w.shared.unused (b.w.who c).entry (b.w.who c).entry.routine b.w.shared.present)
   pub world : beside.w ≡ record { shared = stepped.kept.s'; who = put b.w.who c stepped.kept.x' }
   pub present : beside.w.shared.present ≡ present_after t.target t.setting (view t.setting state) (Steps c) z.unused b.w.shared.present
 
@@ -167,7 +161,7 @@ pub record PooledBeside (t : Plan) (state : CoreState) (z : Shadow) (present : �
   pub named : NamedBeside t state z present
   pub pooled : Pooled t.target t.setting state
 
-module _ (t : Plan) (normal : IsNormal t.text) (within : IsWithinLimits t.text) (null_home : t.home 0 ≡ 0) (test : Entry → Bool) (keeps : StepsKeep t test) (proper : IsProper t.text) (events_seen : EventsAreSeen t.target t.setting) where
+module _ (t : Plan) (normal : IsNormal t.text) (within : IsWithinLimits t.text) (null_home : t.home 0 ≡ 0) (optimistic : t.setting.reclamation ≡ Optimistic) (test : Entry → Bool) (keeps : StepsKeep t test) (proper : IsProper t.text) (events_seen : EventsAreSeen t.target t.setting) where
   abbrev seen : CoreState → CoreView
   seen state = view t.setting state
 
@@ -195,6 +189,7 @@ module _ (t : Plan) (normal : IsNormal t.text) (within : IsWithinLimits t.text) 
   take_went state behind z c call b m =
       let lt = m.0 in
       let e = b.entry c lt in
+      let who : (seen behind).who ≡ put (seen state).who c (taken Optimistic call ((seen state).who c)) = m.4 ∙ ap (put (seen state).who c) (taken_is t.setting call ((seen state).who c) optimistic) in
       let k = take_kept t b.w.shared c (b.w.who c) call (b.holds.caller_holds c lt) (ap (λ (e : Entry). is_idle e.routine) e ∙ m.1) in
       record {
         kept = k;
@@ -207,13 +202,13 @@ module _ (t : Plan) (normal : IsNormal t.text) (within : IsWithinLimits t.text) 
             caller_holds = each_put (λ d (x : Caller). d < n → CallerHolds t b.w.shared d x) b.w.who c k.x' (λ lt. k.caller_holds) (λ d ne lt. b.holds.caller_holds d lt);
           };
           memory = b.memory ∙ sym m.3;
-          entry = entry_put b.w (seen state) c k.x' (taken call ((seen state).who c)) b.entry (k.entry ∙ ap (taken call) e) (seen behind).who m.4;
+          entry = entry_put b.w (seen state) c k.x' (taken Optimistic call ((seen state).who c)) b.entry (k.entry ∙ ap (taken Optimistic call) e) (seen behind).who who;
           sourced = b.sourced;
           source = b.source;
           caller = each_put (λ d (x : Caller). d < n → slice_get b.v.machine.callers d ≡ Some x.source) b.w.who c k.x' (λ lt. b.caller c lt ∙ ap Some (sym k.source)) (λ d ne lt. b.caller d lt);
           run = each_put (λ d (x : Caller). d < n → b.v.runs d ≡ x.watch) b.w.who c k.x' (λ lt. b.run c lt ∙ sym k.watch) (λ d ne lt. b.run d lt);
           unused = b.unused;
-          called = called_put (seen state) c (taken call ((seen state).who c)) b.called (λ run. m.2) (seen behind).who m.4;
+          called = called_put (seen state) c (taken Optimistic call ((seen state).who c)) b.called (λ run. m.2) (seen behind).who who;
         };
       }
 
@@ -229,13 +224,13 @@ module _ (t : Plan) (normal : IsNormal t.text) (within : IsWithinLimits t.text) 
       let x : Caller = b.w.who c in
       let e : x.entry ≡ (seen state).who c = b.entry c lt in
       let want : wants t.target ((seen state).who c) ≡ Some a = m.2 in
-      let made : Moved = after_moves t.target t.setting x.entry (s.memory (word_of a)) in
-      let same_move : made ≡ after_moves t.target t.setting ((seen state).who c) ((seen state).memory (word_of a)) =
-      ap (λ (e : Entry). after_moves t.target t.setting e (s.memory (word_of a))) e
-      ∙ ap (λ (k : Word → ℕ). after_moves t.target t.setting ((seen state).who c) (k (word_of a))) b.memory in
+      let made : Moved = after_moves Optimistic t.target t.setting x.entry (s.memory (word_of a)) in
+      let same_move : made ≡ after_moves Optimistic t.target t.setting ((seen state).who c) ((seen state).memory (word_of a)) =
+      ap (λ (e : Entry). after_moves Optimistic t.target t.setting e (s.memory (word_of a))) e
+      ∙ ap (λ (k : Word → ℕ). after_moves Optimistic t.target t.setting ((seen state).who c) (k (word_of a))) b.memory in
       let same : signed c made.signs ≡ event_signs t.target t.setting state (Steps c) =
       ap (λ (k : Moved). signed c k.signs) same_move
-      ∙ (ap (signed c) (sym (signs_are t.target t.setting ((seen state).who c) ((seen state).memory (word_of a)))) ∙ sym (events_seen.signs state c a shaped lt want)) in
+      ∙ (ap (signed c) (sym (signs_are t.target t.setting ((seen state).who c) ((seen state).memory (word_of a)) optimistic)) ∙ sym (events_seen.signs state c a shaped lt want)) in
       let placed : Placed b.v z c (point s x) = record { caller = b.caller c lt; memory = b.source; run = b.run c lt; unused = b.unused } in
       let draws : DrawsHome t.home made.signs s.unused =
       subst (λ (u : ℕ). DrawsHome t.home made.signs u) b.unused
@@ -268,7 +263,7 @@ module _ (t : Plan) (normal : IsNormal t.text) (within : IsWithinLimits t.text) 
           holds = holds_on t b.w c stepped.row (set_after_access t.target x.entry x.entry.routine (s.memory (word_of a)) x.was_set) (after_access s.memory a) made (present_at t.target s.memory s.unused x.entry x.entry.routine s.present) null_home b.holds k;
           memory = k.memory ∙ (ap (λ (i : Word → ℕ). after_access i a) b.memory ∙ sym m.4);
           entry = entry_put b.w (seen state) c k.x' next b.entry
-              (k.entry ∙ (ap (λ (i : Moved). i.entry) same_move ∙ sym (after_is t.target t.setting ((seen state).who c) ((seen state).memory (word_of a)))))
+              (k.entry ∙ (ap (λ (i : Moved). i.entry) same_move ∙ sym (after_is t.target t.setting ((seen state).who c) ((seen state).memory (word_of a)) optimistic)))
               (seen behind).who m.5;
           sourced = l.sourced;
           source = l.placed.memory;

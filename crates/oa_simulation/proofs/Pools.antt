@@ -12,7 +12,7 @@ use Rattle.chain_laws.specs.Machine.{Elsewhere}
 use Rattle.chain_laws.specs.Machine as pool
 use Rattle.caller_parts.specs.declared.routine.AfterRetire.{AfterRetire}
 use Rattle.caller_parts.specs.declared.routine.Routine.{Routine}
-use Rattle.caller_parts.specs.declared.routine.Routine.TheVariants.{Idle, LoadSeen, At, InList, Retires, Restarts, Clears, Claims, Zeroes}
+use Rattle.caller_parts.specs.declared.routine.Routine.TheVariants.{Idle, LoadSeen, At, InList, Retires, Restarts, Clears, Claims, Zeroes, Announces}
 use Rattle.caller_parts.specs.Settings.{Setting}
 use Rattle.caller_steps.specs.Asking.{NewsFit}
 use Rattle.caller_steps.specs.Entries.{Entry}
@@ -30,7 +30,7 @@ use Rattle.oa_simulation.specs.Shadow.{Shadow}
 use Rattle.oa_simulation.specs.Beside.{Beside}
 
 -- who stands in a retirement is in that routine
-retires_at : (routine : Routine) (own : Retirement) → standing_of routine ≡ pool.Retires own → (go : AfterRetire) × (routine ≡ Retires own go)
+pub retires_at : (routine : Routine) (own : Retirement) → standing_of routine ≡ pool.Retires own → (go : AfterRetire) × (routine ≡ Retires own go)
 retires_at Idle own is = absurd (let z : Elsewhere ≡ pool.Retires own = is in cc)
 retires_at (LoadSeen why) own is = absurd (let z : Elsewhere ≡ pool.Retires own = is in cc)
 retires_at At own is = absurd (let z : Elsewhere ≡ pool.Retires own = is in cc)
@@ -40,6 +40,7 @@ retires_at Restarts own is = absurd (let z : Elsewhere ≡ pool.Retires own = is
 retires_at (Clears next) own is = absurd (let z : Elsewhere ≡ pool.Retires own = is in cc)
 retires_at (Claims claim) own is = absurd (let z : pool.Claims claim ≡ pool.Retires own = is in cc)
 retires_at (Zeroes k field) own is = absurd (let z : Elsewhere ≡ pool.Retires own = is in cc)
+retires_at (Announces announcing) own is = absurd (let z : Elsewhere ≡ pool.Retires own = is in cc)
 
 module _ (t : Plan) (state : CoreState) (z : Shadow) (b : Beside t state z) where
   retiring : (c : ℕ) (own : Retirement) → c < t.setting.sizes.callers → standings (view t.setting state).who c ≡ pool.Retires own → b.w.shared.owner own.slot ≡ Retiring c
@@ -85,3 +86,4 @@ takes_ready target setting state c are few suits pooled = of ((view setting stat
   of (Clears next) is = tt
   of (Claims claim) is = in_claim claim (ap standing_of is) claim.stage refl
   of (Zeroes k field) is = tt
+  of (Announces announcing) is = tt

@@ -41,23 +41,26 @@ use Rattle.oa_simulation.specs.FirstNames.{first_home}
 use Rattle.oa_simulation.specs.Beside.{Beside}
 use Rattle.oa_simulation.specs.Relation.{HomeIs, StartIsRelated, QuietStepsKeep, RunsBeginUnwarned, SweepsSpareGuards, QuietIsKept}
 use Rattle.oa_simulation.proofs.Homes.{undrawn}
-use Rattle.oa_simulation.proofs.Induction.{step_beside, signs_are}
+use Rattle.oa_simulation.proofs.Induction.{step_beside, belongs_seen}
+use Rattle.oa_simulation.proofs.sim_relation.Schemes.{NeverAnnounces, signs_are, never_belongs}
 use Rattle.oa_simulation.proofs.FirstWords.{first_words}
 use Rattle.oa_simulation.proofs.FirstSlots.{first_null}
 use Rattle.oa_simulation.proofs.Refining.{start_beside, stands}
 use Rattle.oa_simulation.proofs.Pools.{takes_ready}
 use Rattle.core_runs.proofs.caller_laws.Methods.{setting_sane}
+use Rattle.caller_parts.specs.declared.setting.Reclamation.TheVariants.{Optimistic}
 
 -- slots of the names make a plan
 abbrev pub planned : Target → Text → Setting → (ℕ → ℕ) → Plan
 planned target text setting home = record { target = target; text = text; setting = setting; home = home }
 
-pub is_plan : (target : Target) (text : Text) (setting : Setting) (home : ℕ → ℕ) → IsRunnable target text → IsBarred target text → IsSetting setting → Fits target setting → home 0 ≡ 0 → IsPlan (planned target text setting home)
-is_plan target text setting home runs barred own fits null = record {
+pub is_plan : (target : Target) (text : Text) (setting : Setting) (home : ℕ → ℕ) → IsRunnable target text → IsBarred target text → IsSetting setting → Fits target setting → setting.reclamation ≡ Optimistic → home 0 ≡ 0 → IsPlan (planned target text setting home)
+is_plan target text setting home runs barred own fits optimistic null = record {
   compiled = record { normal = runs.normal; within = runs.small; barred = barred };
   sane = runnable_is_sane target text runs;
   some = own;
   fits = fits;
+  optimistic = optimistic;
   callers = own.sizes.0;
   null = null;
 }
@@ -75,8 +78,8 @@ start_related target text setting runs own fits =
           (first_words t runs own fits (λ n lt. refl))).0;
     }
 
-pub quiet_kept : (target : Target) (text : Text) (setting : Setting) → IsRunnable target text → IsBarred target text → IsSetting setting → Fits target setting → IsProper text → QuietStepsKeep target text setting
-quiet_kept target text setting runs barred own fits proper state later z c reached related quiet is =
+pub quiet_kept : (target : Target) (text : Text) (setting : Setting) → IsRunnable target text → IsBarred target text → IsSetting setting → Fits target setting → setting.reclamation ≡ Optimistic → IsProper text → QuietStepsKeep target text setting
+quiet_kept target text setting runs barred own fits optimistic proper state later z c reached related quiet is =
     let home : ℕ → ℕ = related.home in
     let t : Plan = planned target text setting home in
     let sound = states_are_sound target text setting state runs own fits reached in
@@ -84,22 +87,23 @@ quiet_kept target text setting runs barred own fits proper state later z c reach
     let seen = events_are_seen target setting in
     let m : Moves target setting (view setting state) (Steps c) (view setting later) = seen.moves state later (Steps c) shaped is in
     let word : ℕ = (view setting state).memory (word_of m.0) in
-    let same : event_signs target setting state (Steps c) ≡ signed c (after_moves target setting ((view setting state).who c) word).signs =
-    seen.signs state c m.0 shaped m.1 m.2 ∙ ap (signed c) (signs_are target setting ((view setting state).who c) word) in
+    let same : event_signs target setting state (Steps c) ≡ signed c (after_moves Optimistic target setting ((view setting state).who c) word).signs =
+    seen.signs state c m.0 shaped m.1 m.2 ∙ ap (signed c) (signs_are target setting ((view setting state).who c) word optimistic) in
+    let never : NeverAnnounces ((view setting state).who c).routine = never_belongs target setting ((view setting state).who c) optimistic (belongs_seen target setting state c sound m.1) in
     let homes : HomeIs home (shadow_run text (event_signs target setting state (Steps c)) z) =
     subst (λ (xs : List Signed). HomeIs home (shadow_run text xs z)) (sym same)
-    (undrawn text home c (after_moves target setting ((view setting state).who c) word).signs z (quiet_draws_none target setting ((view setting state).who c) word quiet) related.homes) in
+    (undrawn text home c (after_moves Optimistic target setting ((view setting state).who c) word).signs z (quiet_draws_none target setting ((view setting state).who c) word never quiet) related.homes) in
     record {
       home = home;
       null = related.null;
       homes = homes;
-      beside = (step_beside t runs.normal runs.small related.null (is_quiet target setting) (quiet_steps t (is_plan target text setting home runs barred own fits related.null)) proper seen
+      beside = (step_beside t runs.normal runs.small related.null optimistic (is_quiet target setting) (quiet_steps t (is_plan target text setting home runs barred own fits optimistic related.null)) proper seen
           state later z c quiet sound shaped related.beside
-          (takes_ready target setting state c (setting_sane setting own).kinds (setting_sane setting own).few (start_suits target text setting runs own fits).suits (stands target text setting reached.events state runs barred own fits proper reached.runs).pooled) m homes).0;
+          (takes_ready target setting state c (setting_sane setting own).kinds (setting_sane setting own).few (start_suits target text setting runs own fits).suits (stands target text setting reached.events state runs barred own fits optimistic proper reached.runs).pooled) m homes).0;
     }
 
-pub runs_begin_unwarned : (target : Target) (text : Text) (setting : Setting) → IsRunnable target text → IsSetting setting → Fits target setting → RunsBeginUnwarned target text setting
-runs_begin_unwarned target text setting runs own fits state later z c reached related renew is =
+pub runs_begin_unwarned : (target : Target) (text : Text) (setting : Setting) → IsRunnable target text → IsSetting setting → Fits target setting → setting.reclamation ≡ Optimistic → RunsBeginUnwarned target text setting
+runs_begin_unwarned target text setting runs own fits optimistic state later z c reached related renew is =
     let shaped = states_are_shaped target text setting state runs own fits reached in
     let v : CoreView = view setting state in
     let e : Entry = v.who c in
@@ -112,7 +116,7 @@ runs_begin_unwarned target text setting runs own fits state later z c reached re
     let entry : (view setting later).who c ≡ after_step target setting e (v.memory (word_of m.0)) = ap (λ (who : ℕ → Entry). who c) m.5 ∙ put_same v.who c (after_step target setting e (v.memory (word_of m.0))) in
     let word : v.memory (word_of m.0) ≡ v.memory (Warning c) = ap (λ (a : WordAccess). v.memory (word_of a)) access in
     let stays : (view setting later).memory (Warning c) ≡ v.memory (Warning c) = ap (λ (k : Word → ℕ). k (Warning c)) (m.4 ∙ (ap (λ (a : WordAccess). after_access v.memory a) access ∙ sym (store_idle v.memory (Warning c)))) in
-    ap (λ (e : Entry). e.hand.seen) (entry ∙ ap (after_step target setting e) word) ∙ (after_seen target setting (v.memory (Warning c)) e renew ∙ sym stays)
+    ap (λ (e : Entry). e.hand.seen) (entry ∙ ap (after_step target setting e) word) ∙ (after_seen target setting (v.memory (Warning c)) e optimistic renew ∙ sym stays)
 
 pub sweeps_spare : (target : Target) (text : Text) (setting : Setting) → SweepsSpareGuards target text setting
 sweeps_spare target text setting state z related c j below frees d r some named =
@@ -130,10 +134,10 @@ sweeps_spare target text setting state z related c j below frees d r some named 
     unguarded t s frees.claim.sweep.bound j frees.phase frees.claim.sweep.gathered b.holds.shared_holds freed d r some
     (sym (b.holds.shared_holds.guard d r some).word ∙ (ap (λ (k : Word → ℕ). k (Hazard d r)) b.memory ∙ named))
 
-pub keeps_quiet : (target : Target) (text : Text) (setting : Setting) → IsRunnable target text → IsBarred target text → IsSetting setting → Fits target setting → QuietIsKept target text setting
-keeps_quiet target text setting runs barred own fits proper = record {
+pub keeps_quiet : (target : Target) (text : Text) (setting : Setting) → IsRunnable target text → IsBarred target text → IsSetting setting → Fits target setting → setting.reclamation ≡ Optimistic → QuietIsKept target text setting
+keeps_quiet target text setting runs barred own fits optimistic proper = record {
   start = start_related target text setting runs own fits;
-  steps = quiet_kept target text setting runs barred own fits proper;
+  steps = quiet_kept target text setting runs barred own fits optimistic proper;
   guards = sweeps_spare target text setting;
-  unwarned = runs_begin_unwarned target text setting runs own fits;
+  unwarned = runs_begin_unwarned target text setting runs own fits optimistic;
 }

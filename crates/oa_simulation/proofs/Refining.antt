@@ -51,9 +51,10 @@ use Rattle.oa_simulation.specs.sim_relation.Points.{point}
 use Rattle.oa_simulation.specs.sim_relation.WasSet.{none_set}
 use Rattle.std.proofs.lemmas.Option.{slice_get_within}
 use Rattle.source_machine.specs.declared.event.SourceReply.{SourceReply}
+use Rattle.caller_parts.specs.declared.setting.Reclamation.TheVariants.{Optimistic}
 
 -- an idle caller's replies, and a running one's
-agrees_with : (b : Bool) (own : List SourceReply) (caller : SourceCaller) → (b ≡ true → caller.replies ≡ own) → HasAbout own caller → AgreesWith b own caller.replies
+pub agrees_with : (b : Bool) (own : List SourceReply) (caller : SourceCaller) → (b ≡ true → caller.replies ≡ own) → HasAbout own caller → AgreesWith b own caller.replies
 agrees_with true own caller idle runs = idle refl
 agrees_with false own caller idle runs = runs
 
@@ -112,7 +113,7 @@ pub record Stood (target : Target) (text : Text) (setting : Setting) (events : L
 
 -- what holds of every core run
 pub stands : ForProper Stood
-stands target text setting events state runs barred own fits proper is =
+stands target text setting events state runs barred own fits optimistic proper is =
     let t : Plan = record { target = target; text = text; setting = setting; home = home_of target text setting events } in
     let z0 : Shadow = shadow_start text setting in
     let signs = run_signs target setting events (core_start target setting) in
@@ -123,22 +124,23 @@ stands target text setting events state runs barred own fits proper is =
       sane = runnable_is_sane target text runs;
       some = own;
       fits = fits;
+      optimistic = optimistic;
       callers = own.sizes.0;
       null = homes 0 (omega arith) ∙ first_null setting;
     } in
     let first = start_beside t own (start_is_seen target setting) suits (first_words t runs own fits homes) in
     let sound0 = start_sound target setting (methods target text runs) runs.within own fits in
     let sound = states_are_sound target text setting state runs own fits (record { events = events; runs = is }) in
-    let b = run_beside t runs.normal runs.small plan.null (λ e. true) (steps_keep t plan) proper (events_are_seen target setting) (setting_sane setting own).kinds (setting_sane setting own).few (news_fit target setting (methods target text runs) (setting_sane setting own) fits) suits (λ e. refl)
+    let b = run_beside t runs.normal runs.small plan.null optimistic (λ e. true) (steps_keep t plan) proper (events_are_seen target setting) (setting_sane setting own).kinds (setting_sane setting own).few (news_fit target setting (methods target text runs) (setting_sane setting own) fits) suits (λ e. refl)
     (λ s sound. sound_is_shaped target setting s (methods target text runs) (setting_sane setting own) fits sound)
     (λ s next event sound at. event_sound target setting s next event (methods target text runs) (setting_sane setting own) fits sound at)
     events (core_start target setting) state z0 (first_present setting) sound0 (record { named = first; pooled = start_pooled target setting (setting_sane setting own).kinds (setting_sane setting own).few suits }) is (λ n lt. refl) in
     record { plan = plan; sound = sound; pooled = b.pooled; beside = b.named.0; present = b.named.1 }
 
-pub simulates : (target : Target) (text : Text) (setting : Setting) → IsRunnable target text → IsBarred target text → IsSetting setting → Fits target setting → RunsAreSimulated target text setting
-simulates target text setting runs barred own fits proper events state is =
+pub simulates : (target : Target) (text : Text) (setting : Setting) → IsRunnable target text → IsBarred target text → IsSetting setting → Fits target setting → setting.reclamation ≡ Optimistic → RunsAreSimulated target text setting
+simulates target text setting runs barred own fits optimistic proper events state is =
     let t : Plan = plan_of target text setting events in
-    let k = stands target text setting events state runs barred own fits proper is in
+    let k = stands target text setting events state runs barred own fits optimistic proper is in
     let shaped = sound_is_shaped target setting state (methods target text runs) (setting_sane setting own) fits k.sound in
     record {
       refined = record {
@@ -154,4 +156,4 @@ simulates target text setting runs barred own fits proper events state is =
     }
 
 pub refines : Refines
-refines target text setting events state runs barred own fits proper is = (simulates target text setting runs barred own fits proper events state is).refined
+refines target text setting events state runs barred own fits optimistic proper is = (simulates target text setting runs barred own fits optimistic proper events state is).refined

@@ -25,7 +25,7 @@ use Rattle.source_machine.specs.Memory.{exchange}
 use Rattle.source_machine.specs.Step.{performed_by, goes_on, generator_stand, wrap_up_stop}
 use Rattle.source_machine.specs.Proper.{IsProper}
 use Rattle.caller_parts.specs.declared.routine.Routine.{Routine}
-use Rattle.caller_parts.specs.declared.routine.Routine.TheVariants.{Idle, LoadSeen, At, Retires, Restarts, Clears, Claims, Zeroes, InList as InCoreList}
+use Rattle.caller_parts.specs.declared.routine.Routine.TheVariants.{Idle, LoadSeen, At, Retires, Restarts, Clears, Claims, Zeroes, Announces, InList as InCoreList}
 use Rattle.caller_steps.specs.Entries.{Entry, idle_entry, instr_in}
 use Rattle.caller_parts.specs.Operands.{list_of, succeeds}
 use Rattle.caller_steps.specs.Belongs.{cas_of}
@@ -61,13 +61,13 @@ makes_at text op memory caller running is there =
     ap (λ (o : Option Running). performed_makes text.fields memory (performed_by text o)) is
     ∙ ap (λ (o : Option Op). performed_makes text.fields memory (option_map (λ op. record { op = op; running = running }) o)) there
 
-list_makes : (text : Text) (op : Op) (at : ℕ) (entries : List CasEntry) (k : ℕ) (mirror : Registers) (call : Call) (entry : CasEntry) (memory : Memory) → slice_get text.ops call.number ≡ Some op → slice_get entries k ≡ Some entry
+pub list_makes : (text : Text) (op : Op) (at : ℕ) (entries : List CasEntry) (k : ℕ) (mirror : Registers) (call : Call) (entry : CasEntry) (memory : Memory) → slice_get text.ops call.number ≡ Some op → slice_get entries k ≡ Some entry
     → caller_makes text memory (Some (stands_in_list at entries k mirror call)) ≡ is_some (exchange text.fields entry mirror memory)
 list_makes text op at entries k mirror call entry memory there one =
     makes_at text op memory (stands_in_list at entries k mirror call) (running_at call mirror (InList at entries k)) refl there
     ∙ ap (λ (o : Option CasEntry). exchange_makes text.fields memory (record { op = op; running = running_at call mirror (InList at entries k) }) o) one
 
-cas_makes : (text : Text) (op : Op) (wrapup : Bool) (started : Registers) (accessed : Bool) (call : Call) (mirror : Registers) (place l : ℕ) (entry : CasEntry) (memory : Memory) → slice_get text.ops call.number ≡ Some op
+pub cas_makes : (text : Text) (op : Op) (wrapup : Bool) (started : Registers) (accessed : Bool) (call : Call) (mirror : Registers) (place l : ℕ) (entry : CasEntry) (memory : Memory) → slice_get text.ops call.number ≡ Some op
     → slice_get (code_of op wrapup) place ≡ Some (instr.Cas entry l)
     → caller_makes text memory (Some (stands_at op wrapup started accessed call (record { at = place; registers = mirror }))) ≡ is_some (exchange text.fields entry mirror memory)
 cas_makes text op false started accessed call mirror place l entry memory there here =
@@ -85,7 +85,7 @@ cas_makes text op true started false call mirror place l entry memory there here
     ∙ (makes_at text op memory (goes_on running (caller_of call)) running refl there
     ∙ ap (λ (o : Option Instr). exchange_makes text.fields memory (record { op = op; running = running }) (exchange_of o)) here)
 
-cas_there : (o : Option TargetInstr) (entry : CasEntry) → cas_of o ≡ Some entry → (l : ℕ) × (o ≡ Some (Plain (instr.Cas entry l)))
+pub cas_there : (o : Option TargetInstr) (entry : CasEntry) → cas_of o ≡ Some entry → (l : ℕ) × (o ≡ Some (Plain (instr.Cas entry l)))
 cas_there (Some (Plain (instr.Cas exchange l))) entry is = (l, (let same : exchange ≡ entry = cc in ap (λ (x : CasEntry). Some (Plain (instr.Cas x l))) same))
 cas_there None entry is = absurd (let z : None ≡ Some entry = is in cc)
 cas_there (Some Check) entry is = absurd (let z : None ≡ Some entry = is in cc)
@@ -167,6 +167,7 @@ module _ (t : Plan) (s : Shared) (c : ℕ) (x : Caller) (plan : IsPlan t) (f : S
   by_routine (Clears next) entry a at is want = absurd (let z : None ≡ Some entry = is in cc)
   by_routine (Claims claim) entry a at is want = absurd (let z : None ≡ Some entry = is in cc)
   by_routine (Zeroes k field) entry a at is want = absurd (let z : None ≡ Some entry = is in cc)
+  by_routine (Announces announcing) entry a at is want = absurd (let z : None ≡ Some entry = is in cc)
 
   pub caller_agrees : (entry : CasEntry) (a : WordAccess) → core_exchange t.target x.entry x.entry.routine ≡ Some entry → wants t.target x.entry ≡ Some a → TestsAgree entry a
   caller_agrees entry a is want = by_routine x.entry.routine entry a refl is (sym (wants_is t.target x.entry x.entry.routine refl) ∙ want)

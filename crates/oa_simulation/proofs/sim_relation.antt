@@ -2,6 +2,7 @@ pub mod Names
 pub mod Words
 pub mod Lists
 pub mod Codes
+pub mod Schemes
 pub mod Stable
 pub mod Moving
 pub mod Playing

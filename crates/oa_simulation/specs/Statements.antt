@@ -30,6 +30,7 @@ use Rattle.core_runs.specs.Machine.{CoreState, CoreEvent, core_run, core_start, 
 use Rattle.target_laws.specs.target_runs.Runnable.{IsRunnable}
 use Rattle.oa_simulation.specs.sim_relation.Callers.{replies_of}
 use Rattle.oa_simulation.specs.Shadow.{shadow, image}
+use Rattle.caller_parts.specs.declared.setting.Reclamation.TheVariants.{Optimistic}
 
 -- a caller's replies against the source's: those of the entry, and where a call runs maybe one more
 abbrev pub AgreesWith : Bool → List SourceReply → List SourceReply → Type 0
@@ -82,9 +83,9 @@ pub record Refined (target : Target) (text : Text) (setting : Setting) (events :
   pub agrees : Agrees state (shadow target text setting events).machine
   pub exchanges : ExchangesAgree target text setting state (shadow target text setting events).machine
 
--- of every core run of a barred target of a proper text, with a setting that fits it
+-- of every core run of a barred target of a proper text, with a setting of optimistic access that fits it
 abbrev pub ForProper : (Target → Text → Setting → List CoreEvent → CoreState → Type 0) → Type 0
-ForProper Holds = (target : Target) (text : Text) (setting : Setting) (events : List CoreEvent) (state : CoreState) → IsRunnable target text → IsBarred target text → IsSetting setting → Fits target setting → IsProper text
+ForProper Holds = (target : Target) (text : Text) (setting : Setting) (events : List CoreEvent) (state : CoreState) → IsRunnable target text → IsBarred target text → IsSetting setting → Fits target setting → setting.reclamation ≡ Optimistic → IsProper text
     → core_run target setting events (core_start target setting) ≡ Some state → Holds target text setting events state
 
 abbrev pub Refines : Type 0

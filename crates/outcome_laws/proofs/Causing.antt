@@ -11,6 +11,7 @@ use Rattle.caller_steps.specs.After.{taken, counted}
 use Rattle.claim_laws.specs.CallSteps.{StepMade}
 use Rattle.claim_laws.specs.Causes.{IsCaused, FoundNeither}
 use Rattle.claim_laws.proofs.Lasts.{never_nil}
+use Rattle.claim_laws.proofs.Onward.{first_before, first_busy}
 use Rattle.claim_laws.proofs.Causing.{Unfinished, GoesOn, GetsReply, step_caused}
 use Rattle.word_runner.specs.table_rule.Seen.{Fixed}
 use Rattle.word_runner.specs.table_rule.Plays.{next, Steps}
@@ -78,8 +79,8 @@ turns key (word ∷ more ∷ words) e later steps u busy made =
 none_found : (key : Fixed) (e : Entry) (steps : List StepMade) → Unfinished key.setting e steps → Unfinished key.setting e []
 none_found key e steps u = record { before = u.before; neither = record { phases = λ p f. never_nil f.before f.step f.later f.among; full = λ f. never_nil f.0 f.1 [] f.2 } }
 
-begins : (key : Fixed) (e : Entry) (call : Call) → Unfinished key.setting (taken call e) []
-begins key e call = record { before = tt; neither = record { phases = λ p f. never_nil f.before f.step f.later f.among; full = λ f. never_nil f.0 f.1 [] f.2 } }
+begins : (key : Fixed) (e : Entry) (call : Call) → Unfinished key.setting (taken key.setting.reclamation call e) []
+begins key e call = record { before = first_before key.setting.reclamation; neither = record { phases = λ p f. never_nil f.before f.step f.later f.among; full = λ f. never_nil f.0 f.1 [] f.2 } }
 
 -- by the reply that the call got
 by_reply : (key : Fixed) (steps : List StepMade) (outcome : Outcome) (reply : Reply) → answer_of outcome ≡ Some reply → IsCaused key.setting reply steps → OutcomeIsCaused key.setting outcome steps
@@ -111,9 +112,9 @@ by_none key steps outcomes.Spent is found = record { phases = λ p. ((λ e. absu
 only : (a b : Replied) → a ∷ [] ≡ b ∷ [] → a ≡ b
 only a b is = cc
 
-first_busy : (key : Fixed) (e later : Entry) (words : List ℕ) → 0 < length words → Steps key e words later → is_idle e.routine ≡ false
-first_busy key e later [] some' made = absurd (omega (arith, some'))
-first_busy key e later (word ∷ words) some' made = made.0
+steps_busy : (key : Fixed) (e later : Entry) (words : List ℕ) → 0 < length words → Steps key e words later → is_idle e.routine ≡ false
+steps_busy key e later [] some' made = absurd (omega (arith, some'))
+steps_busy key e later (word ∷ words) some' made = made.0
 
 concluded : (key : Fixed) (e later : Entry) (call : Call) (steps : List StepMade) (outcome : Outcome) (o : Option Reply) → answer_of outcome ≡ o → Replies e call o later → Turns key e steps later → OutcomeIsCaused key.setting outcome steps
 concluded key e later call steps outcome (Some reply) is told turns' = ⊎_elim
@@ -133,29 +134,29 @@ called : (key : Fixed) (e later : Entry) (call : Call) (budget accesses : ℕ) (
     → OutcomeIsCaused key.setting outcome (steps_from key e made.words)
 called key e later call budget accesses outcome u made told =
     let some' : 0 < length made.words = let a = made.each in let b = made.some in omega arith in
-    let busy = first_busy key e later made.words some' made.advances in
+    let busy = steps_busy key e later made.words some' made.advances in
     concluded key e later call (steps_from key e made.words) outcome (answer_of outcome) refl told (turns key made.words e later [] u busy made.advances)
 
 follow : (key : Fixed) (e mid later : Entry) (words more : List ℕ) → Steps key e words mid → Steps key mid more later → Steps key e (words ++ more) later
 follow key e mid later [] more h k = subst (λ (x : Entry). Steps key x more later) h k
 follow key e mid later (word ∷ words) more h k = (h.0, follow key (next key e word) mid later words more h.1 k)
 
-retaken : (e later : Entry) (call : Call) (o : Option Reply) → Replies e call o later → Replies (taken call e) call o later
-retaken e later call (Some reply) h = h
-retaken e later call None h = h
+retaken : (key : Fixed) (e later : Entry) (call : Call) (o : Option Reply) → Replies e call o later → Replies (taken key.setting.reclamation call e) call o later
+retaken key e later call (Some reply) h = h
+retaken key e later call None h = h
 
 -- a call that was taken, after some of its steps, where it still runs
-so_far : (key : Fixed) (begun e : Entry) (call : Call) (earlier : List ℕ) → is_idle e.routine ≡ false → Steps key (taken call begun) earlier e → Unfinished key.setting e []
+so_far : (key : Fixed) (begun e : Entry) (call : Call) (earlier : List ℕ) → is_idle e.routine ≡ false → Steps key (taken key.setting.reclamation call begun) earlier e → Unfinished key.setting e []
 so_far key begun e call earlier busy made = ⊎_elim
-    (λ (t : Goes key (taken call begun) (steps_from key (taken call begun) earlier) e). none_found key e (steps_from key (taken call begun) earlier) t.unfinished)
-    (λ (t : Gets key (taken call begun) (steps_from key (taken call begun) earlier) e). absurd (never e t.idle busy))
-    (turns key earlier (taken call begun) e [] (begins key begun call) refl made)
+    (λ (t : Goes key (taken key.setting.reclamation call begun) (steps_from key (taken key.setting.reclamation call begun) earlier) e). none_found key e (steps_from key (taken key.setting.reclamation call begun) earlier) t.unfinished)
+    (λ (t : Gets key (taken key.setting.reclamation call begun) (steps_from key (taken key.setting.reclamation call begun) earlier) e). absurd (never e t.idle busy))
+    (turns key earlier (taken key.setting.reclamation call begun) e [] (begins key begun call) (first_busy key.setting.reclamation) made)
 
 pub outcomes_are_caused : (key : Fixed) → OutcomesAreCaused key
 outcomes_are_caused key = record {
-  operates = λ e later call budget accesses outcome made told. called key (taken call e) later call budget accesses outcome (begins key e call) made (retaken e later call (answer_of outcome) told);
+  operates = λ e later call budget accesses outcome made told. called key (taken key.setting.reclamation call e) later call budget accesses outcome (begins key e call) made (retaken key e later call (answer_of outcome) told);
   resumes = λ begun e later call earlier budget accesses outcome steps made told.
       let some' : 0 < length made.words = let a = made.each in let b = made.some in omega arith in
-      called key e later e.running.call budget accesses outcome (so_far key begun e call earlier (first_busy key e later made.words some' made.advances) steps) made told;
+      called key e later e.running.call budget accesses outcome (so_far key begun e call earlier (steps_busy key e later made.words some' made.advances) steps) made told;
   follow = λ e mid later words more h k. follow key e mid later words more h k;
 }

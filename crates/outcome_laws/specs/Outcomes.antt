@@ -28,11 +28,11 @@ pub record OutcomeIsCaused (setting : Setting) (outcome : Outcome) (steps : List
 
 pub record OutcomesAreCaused (key : Fixed) : Type 0 where
   -- of `operate`, which takes the call: by the steps that it made
-  pub operates : (e later : Entry) (call : Call) (budget accesses : ℕ) (outcome : Outcome) → (made : Operated key (taken call e) budget later accesses) → Replies e call (answer_of outcome) later
-      → OutcomeIsCaused key.setting outcome (steps_from key (taken call e) made.words)
+  pub operates : (e later : Entry) (call : Call) (budget accesses : ℕ) (outcome : Outcome) → (made : Operated key (taken key.setting.reclamation call e) budget later accesses) → Replies e call (answer_of outcome) later
+      → OutcomeIsCaused key.setting outcome (steps_from key (taken key.setting.reclamation call e) made.words)
   -- of `resume`, which goes on with a call that was taken, and whose earlier steps found the words `earlier`: by the steps that it
   -- made itself
-  pub resumes : (begun e later : Entry) (call : Call) (earlier : List ℕ) (budget accesses : ℕ) (outcome : Outcome) → Steps key (taken call begun) earlier e → (made : Operated key e budget later accesses) → Replies e e.running.call (answer_of outcome) later
+  pub resumes : (begun e later : Entry) (call : Call) (earlier : List ℕ) (budget accesses : ℕ) (outcome : Outcome) → Steps key (taken key.setting.reclamation call begun) earlier e → (made : Operated key e budget later accesses) → Replies e e.running.call (answer_of outcome) later
       → OutcomeIsCaused key.setting outcome (steps_from key e made.words)
   -- the steps of one after those of another are steps of the first entry
   pub follow : (e mid later : Entry) (words more : List ℕ) → Steps key e words mid → Steps key mid more later → Steps key e (words ++ more) later

@@ -103,6 +103,13 @@ impl ClaimState {
         }
     }
 
+    /// How many of its sweeps have ended.
+    pub fn sweeps(&self) -> u8
+        ensures { result ≡ self.now.sweeps }
+    {
+        self.sweeps
+    }
+
     /// Whether the claim takes a slot where its access found this word. It is counted then; it ends with the store after it.
     pub fn takes(&self, shape: &Shape, word: u64) -> bool
         requires { ClaimInRange shape.now self.now.sweep self.now.stage }

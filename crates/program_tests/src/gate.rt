@@ -58,6 +58,9 @@ impl Gate for Meeting {
 const TWO_CALLERS: &[u8] =
     b"oa 1\nfield pad num\nnodes 0\nroot total num 0\nop add 1\ngen\nroot n1 total\nadd n2 n1 n0\ncommit 1\nwithroot total n1 n2\nwrap\nset n3 0\nifeq n7 n3 3\nreturn n2\nagain\nop nop 0\ngen\ncommit 0\nwrap\nreturnnone\nscript 0\nnop\nnop\nscript 1\nnop\nnop\n";
 
+const FOUR_REPLIES: &[u8] =
+    b"0 0 nop: none\n0 1 nop: none\n1 0 nop: none\n1 1 nop: none\nreplies 4 short 0 phase 1 claims 0 restarts 0\n";
+
 #[test]
 fn callers_meet_at_the_gate(rt: HostRuntime) -> Result<(), Fail> {
     let gate = Meeting::new();
@@ -68,7 +71,24 @@ fn callers_meet_at_the_gate(rt: HostRuntime) -> Result<(), Fail> {
         TWO_CALLERS,
         &gate,
         Status::Done,
-        b"0 0 nop: none\n0 1 nop: none\n1 0 nop: none\n1 1 nop: none\nreplies 4 short 0 phase 1 claims 0 restarts 0\n",
+        FOUR_REPLIES,
+    )?;
+    assert!(rt; gate.passes() == 4);
+    assert!(rt; gate.met.load(Ordering::SeqCst) == 4);
+    Ok(())
+}
+
+#[test]
+fn callers_meet_at_the_gate_under_epochs(rt: HostRuntime) -> Result<(), Fail> {
+    let gate = Meeting::new();
+    says(
+        &rt,
+        rt.alloc(),
+        &["epochs"],
+        TWO_CALLERS,
+        &gate,
+        Status::Done,
+        FOUR_REPLIES,
     )?;
     assert!(rt; gate.passes() == 4);
     assert!(rt; gate.met.load(Ordering::SeqCst) == 4);

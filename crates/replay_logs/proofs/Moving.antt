@@ -7,10 +7,12 @@ use Rattle.target_code.specs.declared.target.Target.{Target}
 use Rattle.phase_pools.specs.Accesses.{WordAccess}
 use Rattle.caller_parts.specs.declared.call.Call.{Call}
 use Rattle.caller_parts.specs.Settings.{Setting}
+use Rattle.caller_parts.specs.declared.setting.Reclamation.{Reclamation}
+use Rattle.caller_parts.specs.declared.setting.Reclamation.TheVariants.{Optimistic, Epochs}
 use Rattle.caller_parts.specs.Calls.{is_call, AreCalls}
 use Rattle.caller_steps.specs.Entries.{Entry, RoomyEntry, is_idle}
 use Rattle.caller_steps.specs.Wants.{wants}
-use Rattle.caller_steps.specs.After.{after, taken}
+use Rattle.caller_steps.specs.After.{after, taken, first_routine}
 use Rattle.core_runs.specs.Machine.{CoreState, CoreEvent, Takes, Steps, core_event, core_run, run_on, event_by, stepped, found_by, made}
 use Rattle.core_runs.specs.RunSigns.{event_signs, signs_on, run_signs}
 use Rattle.core_runs.specs.Scripts.{script_of}
@@ -59,11 +61,11 @@ step_event : (target : Target) (setting : Setting) (state : CoreState) (c : ℕ)
 step_event target setting state c e a at want = ap (event_by target setting state (Steps c)) at ∙ ap (stepped target setting state c e) want
 
 take_event : (target : Target) (setting : Setting) (state : CoreState) (c : ℕ) (call : Call) (e : Entry) → slice_get state.entries c ≡ Some e → is_idle e.routine ≡ true → is_call target call ≡ true
-    → core_event target setting state (Takes c call) ≡ Some (record state { entries = slice_set state.entries c (taken call e) })
+    → core_event target setting state (Takes c call) ≡ Some (record state { entries = slice_set state.entries c (taken setting.reclamation call e) })
 take_event target setting state c call e at idle is =
     ap (event_by target setting state (Takes c call)) at
-    ∙ (ap (λ (b : Bool). if b && is_call target call then Some (record state { entries = slice_set state.entries c (taken call e) }) else None) idle
-    ∙ ap (λ (b : Bool). if b then Some (record state { entries = slice_set state.entries c (taken call e) }) else None) is)
+    ∙ (ap (λ (b : Bool). if b && is_call target call then Some (record state { entries = slice_set state.entries c (taken setting.reclamation call e) }) else None) idle
+    ∙ ap (λ (b : Bool). if b then Some (record state { entries = slice_set state.entries c (taken setting.reclamation call e) }) else None) is)
 
 -- the step of an entry that was begun in its place
 pub step_run : (target : Target) (setting : Setting) (words later : List ℕ) (c : ℕ) (cores : List Entry) (entries : List RoomyEntry) (e moved : RoomyEntry) → slice_get cores c ≡ Some e.core
@@ -100,17 +102,22 @@ pub record Readies (t : Terms) (c : ℕ) (old : Progress) (e e1 : RoomyEntry) : 
 set_core : (entries : List RoomyEntry) (c : ℕ) (e : RoomyEntry) → slice_set (map core_part entries) c e.core ≡ map core_part (slice_set entries c e)
 set_core entries c e = sym (map-set core_part entries c e)
 
+-- a call that was taken runs
+first_busy : (by : Reclamation) → is_idle (first_routine by) ≡ false
+first_busy Optimistic = refl
+first_busy Epochs = refl
+
 takes_first : (t : Terms) (c : ℕ) (old : Progress) (e : RoomyEntry) (call : Call) → slice_get old.entries c ≡ Some e → is_idle e.core.routine ≡ true → is_call t.pair.target call ≡ true
-    → entry_events (replay_by t) c e.core ≡ Some (Takes c call ∷ Steps c ∷ []) → Readies t c old e (record e { core = taken call e.core })
+    → entry_events (replay_by t) c e.core ≡ Some (Takes c call ∷ Steps c ∷ []) → Readies t c old e (record e { core = taken t.setting.reclamation call e.core })
 takes_first t c old e call at idle is next = record {
   events = Takes c call ∷ Steps c ∷ [];
   entries = entries;
   next = next;
-  busy = refl;
+  busy = first_busy t.setting.reclamation;
   number = refl;
   room = refl;
-  at = got_same cores c (taken call e.core) e.core (core_at old.entries c e at);
-  left = λ moved. set-set cores c (taken call e.core) moved.core ∙ set_core old.entries c moved;
+  at = got_same cores c (taken t.setting.reclamation call e.core) e.core (core_at old.entries c e at);
+  left = λ moved. set-set cores c (taken t.setting.reclamation call e.core) moved.core ∙ set_core old.entries c moved;
   runs = ap (λ (o : Option CoreState). run_on o (core_run t.pair.target t.setting (Steps c ∷ []))) take;
   signs = ap (λ (o : Option CoreState). signs_on o (run_signs t.pair.target t.setting (Steps c ∷ []))) take ∙ step_signs t.pair.target t.setting c (record { words = old.words; entries = entries });
 } where
@@ -118,9 +125,9 @@ takes_first t c old e call at idle is next = record {
   cores = cores_of old
 
   entries : List Entry
-  entries = slice_set (cores_of old) c (taken call e.core)
+  entries = slice_set (cores_of old) c (taken t.setting.reclamation call e.core)
 
-  take : core_event t.pair.target t.setting (core_in old) (Takes c call) ≡ Some (record { words = old.words; entries = slice_set (cores_of old) c (taken call e.core) })
+  take : core_event t.pair.target t.setting (core_in old) (Takes c call) ≡ Some (record { words = old.words; entries = slice_set (cores_of old) c (taken t.setting.reclamation call e.core) })
   take = take_event t.pair.target t.setting (core_in old) c call e.core (core_at old.entries c e at) idle is
 
 goes_on : (t : Terms) (c : ℕ) (old : Progress) (e : RoomyEntry) → slice_get old.entries c ≡ Some e → is_idle e.core.routine ≡ false → entry_events (replay_by t) c e.core ≡ Some (Steps c ∷ []) → Readies t c old e e
@@ -139,9 +146,9 @@ goes_on t c old e at busy next = record {
 
 -- an entry that has a step to take is made ready for it
 pub readied : (t : Terms) (c : ℕ) (old : Progress) (e : RoomyEntry) → AreCalls t.pair.target (script_of t.scripts c) → slice_get old.entries c ≡ Some e → has_next t.fuel (script_of t.scripts c) e.core ≡ true
-    → Readies t c old e (begun (script_of t.scripts c) e)
+    → Readies t c old e (begun t.setting.reclamation (script_of t.scripts c) e)
 readied t c old e calls at has = by (is_idle e.core.routine) refl has where
-  idles : is_idle e.core.routine ≡ true → (o : Option Call) → slice_get (script_of t.scripts c) (length e.core.replies) ≡ o → is_some o ≡ true → Readies t c old e (begun_by o e)
+  idles : is_idle e.core.routine ≡ true → (o : Option Call) → slice_get (script_of t.scripts c) (length e.core.replies) ≡ o → is_some o ≡ true → Readies t c old e (begun_by t.setting.reclamation o e)
   idles idle None found is = absurd (let no : false ≡ true = is in cc)
   idles idle (Some call) found is =
       takes_first t c old e call at idle (call_is t.pair.target (script_of t.scripts c) (length e.core.replies) call calls found)
@@ -156,10 +163,10 @@ readied t c old e calls at has = by (is_idle e.core.routine) refl has where
       ∙ ap (λ (b : Bool). if b then None else Some (Steps c ∷ [])) is)
 
   by : (b : Bool) → is_idle e.core.routine ≡ b → (if b then is_some (slice_get (script_of t.scripts c) (length e.core.replies)) else not (is_spent t.fuel e.core)) ≡ true
-      → Readies t c old e (begun (script_of t.scripts c) e)
+      → Readies t c old e (begun t.setting.reclamation (script_of t.scripts c) e)
   by true idle has =
-      subst (Readies t c old e) (sym (ap (λ (b : Bool). if b then begun_by (slice_get (script_of t.scripts c) (length e.core.replies)) e else e) idle))
+      subst (Readies t c old e) (sym (ap (λ (b : Bool). if b then begun_by t.setting.reclamation (slice_get (script_of t.scripts c) (length e.core.replies)) e else e) idle))
       (idles idle (slice_get (script_of t.scripts c) (length e.core.replies)) refl has)
   by false busy has =
-      subst (Readies t c old e) (sym (ap (λ (b : Bool). if b then begun_by (slice_get (script_of t.scripts c) (length e.core.replies)) e else e) busy))
+      subst (Readies t c old e) (sym (ap (λ (b : Bool). if b then begun_by t.setting.reclamation (slice_get (script_of t.scripts c) (length e.core.replies)) e else e) busy))
       (runs_on busy (is_spent t.fuel e.core) refl has)

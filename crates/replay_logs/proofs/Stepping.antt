@@ -83,14 +83,14 @@ next_at t c now r o shows at =
 module _ (t : Terms) (c : ℕ) (old mid : Progress) (u : Unit {0}) (suits : Suits t) (e : RoomyEntry) (at : slice_get old.entries c ≡ Some e)
     (moves : EntryMoves t old.words mid.words old.log mid.log c old.entries mid.entries e) (has : has_next t.fuel (script_of t.scripts c) e.core ≡ true)
     (below : nat_le t.limit old.steps ≡ false) (r : Replaying) (shows : Shows t old r) where
-  ready : Readies t c old e (begun (script_of t.scripts c) e)
+  ready : Readies t c old e (begun t.setting.reclamation (script_of t.scripts c) e)
   ready = readied t c old e (script_calls t.pair.target t.scripts c suits.calls) at has
 
   runs : core_run t.pair.target t.setting ready.events r.state ≡ Some (core_in mid)
   runs =
       ap (core_run t.pair.target t.setting ready.events) (sym shows.state)
       ∙ (ready.runs
-      ∙ (step_run t.pair.target t.setting old.words mid.words c ready.entries old.entries (begun (script_of t.scripts c) e) moves.moved ready.at moves.step (ready.left moves.moved)
+      ∙ (step_run t.pair.target t.setting old.words mid.words c ready.entries old.entries (begun t.setting.reclamation (script_of t.scripts c) e) moves.moved ready.at moves.step (ready.left moves.moved)
       ∙ ap (λ (l : List RoomyEntry). Some (record { words = mid.words; entries = map core_part l })) (sym moves.left)))
 
   pub later : Replaying
@@ -107,12 +107,12 @@ module _ (t : Terms) (c : ℕ) (old mid : Progress) (u : Unit {0}) (suits : Suit
   all_runs : core_run t.pair.target t.setting (r.events ++ ready.events) (core_start t.pair.target t.setting) ≡ Some (core_in mid)
   all_runs = run_both t.pair.target t.setting r.events ready.events (core_start t.pair.target t.setting) r.state shows.runs ∙ runs
 
-  number : (begun (script_of t.scripts c) e).core.number ≡ c
+  number : (begun t.setting.reclamation (script_of t.scripts c) e).core.number ≡ c
   number = ready.number ∙ ((is_sound t old r suits shows).belong c e.core (core_at old c e at)).1
 
   written : mid.log ≡ recording (shadow t.pair.target t.text t.setting (r.events ++ ready.events))
   written =
-      let e1 : Entry = (begun (script_of t.scripts c) e).core in
+      let e1 : Entry = (begun t.setting.reclamation (script_of t.scripts c) e).core in
       let z : Shadow = shadow t.pair.target t.text t.setting r.events in
       let before : CoreState = record { words = old.words; entries = ready.entries } in
       moves.written

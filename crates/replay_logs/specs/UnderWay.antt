@@ -7,6 +7,7 @@ use Rattle.source_machine.specs.Calls.{IsOfSourceRun}
 use Rattle.caller_parts.specs.declared.call.Call.{Call}
 use Rattle.caller_parts.specs.Calls.{AreCalls}
 use Rattle.caller_parts.specs.Settings.{Setting, IsSetting, Fits}
+use Rattle.caller_parts.specs.declared.setting.Reclamation.{Reclamation}
 use Rattle.caller_steps.specs.Entries.{Entry, RoomyEntry, idle_entry, is_idle}
 use Rattle.caller_steps.specs.After.{taken}
 use Rattle.core_runs.specs.Machine.{CoreState, core_start, core_run}
@@ -67,12 +68,12 @@ abbrev pub has_next_in : Terms → ℕ → Progress → Bool
 has_next_in t c now = has_next_for t c (slice_get now.entries c)
 
 -- an idle entry takes the next call of its script before it makes a step
-abbrev pub begun_by : Option Call → RoomyEntry → RoomyEntry
-begun_by None e = e
-begun_by (Some call) e = record e { core = taken call e.core }
+abbrev pub begun_by : Reclamation → Option Call → RoomyEntry → RoomyEntry
+begun_by by None e = e
+begun_by by (Some call) e = record e { core = taken by call e.core }
 
-abbrev pub begun : List Call → RoomyEntry → RoomyEntry
-begun script e = if is_idle e.core.routine then begun_by (slice_get script (length e.core.replies)) e else e
+abbrev pub begun : Reclamation → List Call → RoomyEntry → RoomyEntry
+begun by script e = if is_idle e.core.routine then begun_by by (slice_get script (length e.core.replies)) e else e
 
 -- what is written down after a step of an entry that runs
 abbrev pub log_after : Terms → List ℕ → Entry → Recording → Recording
@@ -92,9 +93,9 @@ CanMoveAt t script (Some e) = CanMove t script e
 -- one entry made a step, which was written down, and all others stay
 pub record EntryMoves (t : Terms) (words later : List ℕ) (log logged : Recording) (c : ℕ) (entries others : List RoomyEntry) (e : RoomyEntry) : Type 0 where
   pub moved : RoomyEntry
-  pub step : StepIs t.pair.target t.setting words later (begun (script_of t.scripts c) e) moved
+  pub step : StepIs t.pair.target t.setting words later (begun t.setting.reclamation (script_of t.scripts c) e) moved
   pub left : others ≡ slice_set entries c moved
-  pub written : logged ≡ log_after t words (begun (script_of t.scripts c) e).core log
+  pub written : logged ≡ log_after t words (begun t.setting.reclamation (script_of t.scripts c) e).core log
 
 abbrev pub MovesAt : Terms → List ℕ → List ℕ → Recording → Recording → ℕ → List RoomyEntry → List RoomyEntry → Option RoomyEntry → Type 0
 MovesAt t words later log logged c entries others None = ⊥

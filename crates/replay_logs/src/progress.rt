@@ -11,7 +11,7 @@ ghost use Rattle.replay_logs.specs.UnderWay.{replay_by, log_after, begun, has_ne
 
 use crate::error::LogError;
 use caller_steps::{Call, Setting};
-use core_entries::{Entry, PlainWords, Prepared};
+use core_entries::{Entry, PlainWords, Prepared, Runs};
 use norm_check::Normal;
 use norm_lang::list::Listed;
 use run_logs::Log;
@@ -102,12 +102,14 @@ impl<'a> Terms<'a> {
         requires belongs { BelongsTo self.now.pair self.now.setting entry.old.core }
         requires room { entry.old.room ≡ length script.now }
         requires calls { AreCalls self.now.pair.target script.now }
-        ensures begun { entry.new ≡ begun script.now entry.old }
+        ensures begun { entry.new ≡ begun self.now.setting.reclamation script.now entry.old }
         ensures belongs { BelongsTo self.now.pair self.now.setting entry.new.core }
     {
         if entry.is_idle() {
             if let Some(call) = call_at(script, entry.replies().len()) {
-                entry.begin(self.prepared.barred(), call.op, call.args);
+                let by = self.setting.reclamation();
+                let runs = Runs::Barred(self.prepared.barred());
+                entry.begin_by(by, runs, call.op, call.args);
             }
         }
     }
@@ -124,9 +126,9 @@ impl<'a> Terms<'a> {
         requires can { CanMove self.now script.now entry.old }
         requires lawful { WordsSound self.now.pair.target self.now.setting words.old }
         requires source { IsOfSourceRun self.now.text log.old.machine }
-        ensures step { StepIs self.now.pair.target self.now.setting words.old words.new (begun script.now entry.old) entry.new }
+        ensures step { StepIs self.now.pair.target self.now.setting words.old words.new (begun self.now.setting.reclamation script.now entry.old) entry.new }
         ensures source { IsOfSourceRun self.now.text log.new.machine }
-        ensures written { OnOk result (log.new ≡ log_after self.now words.old (begun script.now entry.old).core log.old) }
+        ensures written { OnOk result (log.new ≡ log_after self.now words.old (begun self.now.setting.reclamation script.now entry.old).core log.old) }
     {
         self.begin_entry(entry, script);
         let (barred, program) = (self.prepared.barred(), self.prepared.program());

@@ -93,7 +93,7 @@ module _ (document : Document) (run : LoggedRun) (runs : IsRunnable document) (r
         events =
             events_so (target_of document) document.text run.events sound.barred.erases tells.sized
             (ap (list_all (begins_call (target_of document))) tells.events
-            ∙ image_begins (target_of document) document.text (setting_of document) (calls_of document) document.fuel tells.replaying.events tells.replaying.state ready.fuel ready.calls complete
+            ∙ image_begins (target_of document) document.text (setting_of document) (calls_of document) document.fuel tells.replaying.events tells.replaying.state refl ready.fuel ready.calls complete
             (stands (core_start (target_of document) (setting_of document)) (record { events = []; runs = refl }))
             (stands tells.replaying.state (record { events = tells.replaying.events; runs = complete.run.runs })));
         lists = lists;

@@ -18,6 +18,7 @@ use Rattle.source_machine.specs.declared.event.SourceReply.TheVariants as replie
 use Rattle.source_machine.specs.Run.{mover, is_enabled, is_call as is_source_call, is_call_of as is_source_call_of}
 use Rattle.caller_parts.specs.declared.call.Call.{Call}
 use Rattle.caller_parts.specs.Calls.{is_call, is_call_of, AreCalls}
+use Rattle.caller_parts.specs.declared.setting.Reclamation.TheVariants.{Optimistic}
 use Rattle.caller_parts.specs.Settings.{Setting}
 use Rattle.caller_steps.specs.Entries.{Entry, is_idle}
 use Rattle.caller_steps.specs.Signs.{Sign, Begins, Accesses, Draws, Renews, GivesUp}
@@ -170,7 +171,7 @@ scripts_calls target (script ∷ scripts) (suc c) all = scripts_calls target scr
 
 -- ---- the image of a complete run
 
-module _ (target : Target) (text : Text) (setting : Setting) (scripts : List (List Call)) (fuel : ℕ) (run : List CoreEvent) (state : CoreState) (some : 1 ≤ fuel) (calls : All (AreCalls target) scripts)
+module _ (target : Target) (text : Text) (setting : Setting) (scripts : List (List Call)) (fuel : ℕ) (run : List CoreEvent) (state : CoreState) (optimistic : setting.reclamation ≡ Optimistic) (some : 1 ≤ fuel) (calls : All (AreCalls target) scripts)
     (complete : IsCompleteRun target setting scripts fuel run state) (starts : IsSound target setting (core_start target setting)) (sound : IsSound target setting state) where
   start_below : AreBelow setting.sizes.callers (core_start target setting)
   start_below = record {
@@ -208,7 +209,7 @@ module _ (target : Target) (text : Text) (setting : Setting) (scripts : List (Li
     of c i call there None at =
         absurd (let none : None ≡ Some call =
         ap (λ (l : List Call). slice_get l i) (sym (none_begun c setting.sizes.callers (image target text setting run) image_below (none_past c at))) ∙ there in cc)
-    of c i call there (Some e) at = by c i call e (is_idle e.routine) there ((scripts_begin target setting).each text scripts fuel run state some complete c e at)
+    of c i call there (Some e) at = by c i call e (is_idle e.routine) there ((scripts_begin target setting).each optimistic text scripts fuel run state some complete c e at)
 
   pub image_begins : list_all (begins_call target) (image target text setting run) ≡ true
   image_begins = begins_all target (image target text setting run) image_calls

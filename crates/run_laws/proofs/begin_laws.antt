@@ -1,4 +1,5 @@
 pub mod SignsBegun
+pub mod EventsBegun
 pub mod StepsBegun
 pub mod RunsBegun
 pub mod ScriptsBegun

@@ -10,7 +10,7 @@ use Rattle.phase_pools.specs.Accesses.{WordAccess}
 use Rattle.core_runs.specs.Machine.{found_by}
 use Rattle.core_runs.specs.RunSigns.{signed, wanted_signs, entry_signs}
 use Rattle.oa_simulation.specs.Shadow.{Shadow, shadow_step, shadow_run}
-use Rattle.run_laws.proofs.begin_laws.SignsBegun.{begun, waits, after_starts}
+use Rattle.run_laws.proofs.begin_laws.SignsBegun.{begun, begins_at, after_starts}
 use Rattle.core_entries.specs.declared.signs.Sign.TheVariants.{Begin}
 use Rattle.core_entries.specs.StepSigns.{is_of_text, named, all_named}
 use Rattle.run_logs.specs.Logged.{logged, logged_all}
@@ -76,7 +76,7 @@ all_same text c call own (sign ∷ rest) z each =
 
 pub logs_are_shadows : LogsAreShadows
 logs_are_shadows target text setting c e word z busy =
-    all_same text c e.running.call (is_of_text target e e.routine) (signs target setting e word) z (each_by e.running.call (signs target setting e word) (waits e.routine) (after_starts target setting e word busy).0)
+    all_same text c e.running.call (is_of_text target e e.routine) (signs target setting e word) z (each_by e.running.call (signs target setting e word) (begins_at e.routine) (after_starts target setting e word).0)
 
 pub steps_are_shadows : StepsAreShadows
 steps_are_shadows target text setting state c e z at busy =

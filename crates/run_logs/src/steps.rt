@@ -11,7 +11,7 @@ ghost use Rattle.run_logs.specs.Logged.{logged_all};
 use crate::log::Log;
 use barrier_check::Barred;
 use caller_steps::{Program, Setting};
-use core_entries::step::{signs_next, step_on};
+use core_entries::telling::step_told;
 use core_entries::{Entry, PlainWords};
 use norm_check::Normal;
 use std::alloc::{AllocError, Global};
@@ -42,9 +42,8 @@ pub fn step_written(
     ensures source { IsOfSourceRun normal.now log.new.machine }
     ensures written { OnOk result (log.new ≡ logged_all normal.now entry.old.core.number entry.old.core.running.call (signs_told barred.now.target setting.now words.old entry.old.core) log.old) }
 {
-    let signs = signs_next(entry, words, barred, program, setting);
     let caller = entry.number();
     let call = entry.call();
-    step_on(entry, words, barred, program, setting);
+    let signs = step_told(entry, words, barred, program, setting);
     log.write_all(alloc, normal, caller, call, signs.items())
 }

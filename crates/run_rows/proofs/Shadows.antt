@@ -14,6 +14,7 @@ use Rattle.target_code.specs.Erasing.{erased_op}
 use Rattle.source_machine.specs.declared.event.SourceEvent.{SourceEvent}
 use Rattle.source_machine.specs.declared.event.SourceEvent.TheVariants.{Begin, Access, Restart, GiveUp}
 use Rattle.caller_parts.specs.declared.call.Call.{Call}
+use Rattle.caller_parts.specs.declared.setting.Reclamation.TheVariants.{Optimistic}
 use Rattle.caller_parts.specs.Settings.{Setting}
 use Rattle.caller_steps.specs.Entries.{Entry, is_idle}
 use Rattle.caller_steps.specs.Wants.{wants}
@@ -82,7 +83,7 @@ calls : ℕ → ℕ → Call
 calls op argument = record { op = op; args = argument ∷ 0 ∷ 0 ∷ 0 ∷ [] }
 
 small : Setting
-small = record { sizes = record { callers = 1; slots = 3; fields = 1; cells = 1; kinds = 3 ∷ [] }; first = 1; last = 9; nodes = 0 ∷ 0 ∷ 0 ∷ 0 ∷ [] }
+small = record { reclamation = Optimistic; sizes = record { callers = 1; slots = 3; fields = 1; cells = 1; kinds = 3 ∷ [] }; first = 1; last = 9; nodes = 0 ∷ 0 ∷ 0 ∷ 0 ∷ [] }
 
 -- the wrap-up's restart isn't enabled: the source has replied with its exchange
 adds : (alone counter small (calls 0 5 ∷ [])).events ≡ Begin 0 0 (5 ∷ 0 ∷ 0 ∷ 0 ∷ []) ∷ Access 0 0 ∷ Access 0 0 ∷ []
@@ -136,7 +137,7 @@ listed = record {
 }
 
 three : Setting
-three = record { sizes = record { callers = 1; slots = 3; fields = 2; cells = 1; kinds = 3 ∷ [] }; first = 1; last = 9; nodes = 0 ∷ 0 ∷ 0 ∷ 0 ∷ [] }
+three = record { reclamation = Optimistic; sizes = record { callers = 1; slots = 3; fields = 2; cells = 1; kinds = 3 ∷ [] }; first = 1; last = 9; nodes = 0 ∷ 0 ∷ 0 ∷ 0 ∷ [] }
 
 put_in : ℕ → List SourceEvent
 put_in name = Begin 0 0 (7 ∷ 0 ∷ 0 ∷ 0 ∷ []) ∷ Access 0 name ∷ Access 0 0 ∷ Access 0 0 ∷ Access 0 0 ∷ Access 0 0 ∷ []

@@ -2,6 +2,7 @@ mod RunningOut
 mod Runnable
 mod Unanswered
 mod EachLine
+mod Answering
 mod Sourced
 mod UseLines
 mod NeverFull
@@ -9,3 +10,6 @@ mod Naming
 mod Legal
 mod Ordering
 mod Truth
+mod EpochSourced
+mod EpochOrdering
+mod EpochTruth

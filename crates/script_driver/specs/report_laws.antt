@@ -4,4 +4,6 @@ pub mod UseLines
 pub mod Shipped
 pub mod Legal
 pub mod Lines
+pub mod EpochSources
+pub mod EpochLines
 pub mod Runs

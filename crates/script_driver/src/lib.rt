@@ -16,7 +16,7 @@ pub use document_runs::{
 pub use document_spelling::show_document;
 pub use documents::{Document, Numbers, Script, ScriptCall, Scripts, Turns, read_document};
 pub use parts::workload_document;
-pub use running::{replay_document, run_document};
+pub use running::{epoch_document, replay_document, run_document};
 pub use script_plans::{RunFault, ShapeFault};
 pub use tallies::{is_short, show_workload};
 pub use workload::{WorkloadReport, run_workload};

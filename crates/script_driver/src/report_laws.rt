@@ -3,9 +3,13 @@
 ghost use Rattle.core_runs.specs.Machine.{OfAll};
 ghost use Rattle.script_driver.specs.report_laws.Fuel.{SpentCallsRanOut};
 ghost use Rattle.script_driver.specs.report_laws.Lines.{ReportsAreTrue};
+ghost use Rattle.script_driver.specs.report_laws.EpochLines.{EpochReportsAreTrue};
 ghost use Rattle.script_driver.specs.report_laws.UseLines.{UseLinesName};
 
+use bare_targets::laws::bare_texts_are_runnable;
 use barrier_compiler::laws::{second_scheme_is_barred, second_scheme_is_within};
+use core_runs::laws::restarts_are_counted;
+use epoch_runs::laws::runs_follow_source;
 use legal_histories::laws::{queue_runs_are_legal, set_runs_are_legal};
 use queue_source::laws::queue_is_proper;
 use set_source::laws::set_is_proper;
@@ -32,6 +36,23 @@ pub fn reports_are_true()
 {
     second_scheme_is_barred();
     second_scheme_is_within();
+    set_is_proper();
+    queue_is_proper();
+    set_runs_are_legal();
+    queue_runs_are_legal();
+}
+
+/// A report of a complete run of a document under epochs says `phases`, `full`, `spent` and `unreached` exactly where the steps of the run
+/// give cause to, and each caller has counted as many restarts as claims of its own that had made a sweep ended with a slot. Where the
+/// document's text is proper, the run is one of the text on memory that is never recycled, by all callers at once, which begins the calls of
+/// the scripts in order, the base of each load is null or resident, and each line says what that run answers; where a `use` line names the
+/// text, that is so with nothing assumed, and the calls that the lines show have a legal order, as for `run`.
+pub fn epoch_reports_are_true()
+    ensures { EpochReportsAreTrue }
+{
+    bare_texts_are_runnable();
+    restarts_are_counted();
+    runs_follow_source();
     set_is_proper();
     queue_is_proper();
     set_runs_are_legal();

@@ -2,8 +2,9 @@
 
 ghost use Rattle.documents.specs.DocumentLimits.{IsWithinDocumentLimits};
 ghost use Rattle.script_driver.specs.Answers.{IsRunAnswer, IsReplayAnswer};
+ghost use Rattle.script_driver.specs.report_laws.EpochLines.{IsEpochAnswer};
 
-use crate::report_laws::reports_are_true;
+use crate::report_laws::{epoch_reports_are_true, reports_are_true};
 use document_runs::Report;
 use documents::Document;
 use oa_text::Gate;
@@ -57,4 +58,29 @@ pub fn run_document<R: Threads + Sync, G: Gate + Sync>(
 {
     reports_are_true();
     document_runs::run_document(rt, alloc, document, gate)
+}
+
+/// Runs a document as `run_document` does, but under epochs: its callers run the text as it is, without checks and guards, and announce
+/// phases, before which sweeps recycle. The report is that of one state, in which a complete run of the document under epochs ends.
+///
+/// Its text is within the limits of texts, each of its scripts has at most 100,000 calls, and each turn counts at least 1; the
+/// turns aren't used.
+///
+/// The clause says what the report tells: a line says `phases`, `full`, `spent` or `unreached` exactly where the steps of the run give
+/// cause to; if the text is proper, the lines are what it answers on memory that is never recycled; see `EpochsTellOf`.
+///
+/// # Errors
+///
+/// As those of `run_document`.
+pub fn epoch_document<R: Threads + Sync, G: Gate + Sync>(
+    rt: &R,
+    alloc: Global,
+    document: &Document,
+    gate: &G,
+) -> Result<Report, RunFault>
+    requires { IsWithinDocumentLimits document.now }
+    ensures { IsEpochAnswer document.now result }
+{
+    epoch_reports_are_true();
+    document_runs::epoch_document(rt, alloc, document, gate)
 }

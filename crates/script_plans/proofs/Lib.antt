@@ -6,3 +6,4 @@ mod Limits
 mod Accepted
 pub mod Ready
 mod Planned
+mod EpochPlanned

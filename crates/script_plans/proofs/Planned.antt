@@ -17,11 +17,11 @@ use Rattle.script_plans.specs.Told.{fault_told, or_fault}
 use Rattle.script_plans.specs.Plans.{calls_of, AllTakeWords, IsFaultOf, IsPlanned, IsReady}
 use Rattle.script_plans.proofs.Ready.{plan_is_ready}
 
-shapely : (fault : Option ShapeFault) (asked setting : Setting) → Ok setting ≡ or_fault fault asked → (fault ≡ None) × (setting ≡ asked)
+pub shapely : (fault : Option ShapeFault) (asked setting : Setting) → Ok setting ≡ or_fault fault asked → (fault ≡ None) × (setting ≡ asked)
 shapely None asked setting is = (refl, cc)
 shapely (Some fault) asked setting is = cc
 
-shapeless : (told : Option ShapeFault) (asked : Setting) (fault : ShapeFault) → Err fault ≡ or_fault told asked → told ≡ Some fault
+pub shapeless : (told : Option ShapeFault) (asked : Setting) (fault : ShapeFault) → Err fault ≡ or_fault told asked → told ≡ Some fault
 shapeless None asked fault is = cc
 shapeless (Some told) asked fault is = let same : told ≡ fault = cc in ap (λ (f : ShapeFault). Some f) same
 

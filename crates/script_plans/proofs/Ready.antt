@@ -9,6 +9,7 @@ use Rattle.std.specs.Prelude.{not, nat_le, nat_lt, ◌==◌, if◌then◌else◌
 use Rattle.std.specs.List.{All, list_all}
 use Rattle.std.specs.Option.{option_or, option_map}
 use Rattle.norm_lang.specs.declared.text.Op.{Op}
+use Rattle.target_code.specs.declared.target.TargetOp.{TargetOp}
 use Rattle.target_code.specs.Blocks.{scheme_op}
 use Rattle.target_code.specs.SecondScheme.{second_marks}
 use Rattle.oa_words.specs.Within.{is_count}
@@ -20,7 +21,9 @@ use Rattle.documents.specs.declared.document.Document.{Document}
 use Rattle.documents.specs.DocumentLimits.{AreShort, IsWithinDocumentLimits}
 use Rattle.script_plans.specs.declared.fault.ShapeFault.{ShapeFault}
 use Rattle.script_plans.specs.Shapes.{first_of, most_fuel, padded, kind_slots, kind_nodes, sizes_of, sizes_fault, nodes_fault, rest_fault, fault_unless, op_number, call_fault_at, args_fault, call_fault, script_fault, scripts_fault, setting_fault}
+use Rattle.bare_targets.specs.Bare.{bare_op}
 use Rattle.script_plans.specs.Plans.{call_of, calls_of, TakeWords, AllTakeWords, plan_for, IsRunnable, IsReady}
+use Rattle.script_plans.specs.EpochPlans.{epoch_plan_for, IsEpochReady}
 use Rattle.script_plans.proofs.Limits.{few_kinds}
 
 both : (one other : Option ShapeFault) → option_or one other ≡ None → (one ≡ None) × (other ≡ None)
@@ -46,41 +49,43 @@ four_words a b c d fits_a fits_b fits_c fits_d = rw (lt-ltb a (2 ^ 64) fits_a, l
 abbrev unless_counted : ScriptCall → Bool → Option ShapeFault
 unless_counted call test = if test then None else Some (call_fault_at 9 call)
 
-counted : (call : ScriptCall) (op : Option Op) → are_words (padded call.args) ≡ true → args_fault call op ≡ None → is_call_of (option_map (scheme_op second_marks) op) (padded call.args) ≡ true
-counted call None words none = cc
-counted call (Some op) words none = and_from (are_words (padded call.args)) (list_all (λ word. word == 0) (drop op.args (padded call.args))) words (go (length call.args == op.args) refl none)
-  where
-    go : (test : Bool) → (length call.args == op.args) ≡ test → unless_counted call test ≡ None
-        → list_all (λ word. word == 0) (drop op.args (padded call.args)) ≡ true
-    go true same none = rw (← eqb-true (length call.args) op.args same) (zeros call.args)
-    go false same none = cc
+-- an operation of the text as it is coded, with as many arguments
+module _ (coded : Op → TargetOp) (same : (op : Op) → (coded op).args ≡ op.args) where
+  counted : (call : ScriptCall) (op : Option Op) → are_words (padded call.args) ≡ true → args_fault call op ≡ None → is_call_of (option_map coded op) (padded call.args) ≡ true
+  counted call None words none = cc
+  counted call (Some op) words none = rw (same op) (and_from (are_words (padded call.args)) (list_all (λ word. word == 0) (drop op.args (padded call.args))) words (go (length call.args == op.args) refl none))
+    where
+      go : (test : Bool) → (length call.args == op.args) ≡ test → unless_counted call test ≡ None
+          → list_all (λ word. word == 0) (drop op.args (padded call.args)) ≡ true
+      go true test none = rw (← eqb-true (length call.args) op.args test) (zeros call.args)
+      go false test none = cc
 
-abbrev IsIn : List Op → Call → Type 0
-IsIn ops call = is_call_of (slice_get (map (scheme_op second_marks) ops) call.op) call.args ≡ true
+  abbrev IsIn : List Op → Call → Type 0
+  IsIn ops call = is_call_of (slice_get (map coded ops) call.op) call.args ≡ true
 
-call_is : (ops : List Op) (call : ScriptCall) → are_words (padded call.args) ≡ true → call_fault ops call ≡ None → IsIn ops (call_of ops call)
-call_is ops call words none =
-    rw (slice_get-map (scheme_op second_marks) ops (op_number ops call.name)) (counted call (slice_get ops (op_number ops call.name)) words none)
+  call_is : (ops : List Op) (call : ScriptCall) → are_words (padded call.args) ≡ true → call_fault ops call ≡ None → IsIn ops (call_of ops call)
+  call_is ops call words none =
+      rw (slice_get-map coded ops (op_number ops call.name)) (counted call (slice_get ops (op_number ops call.name)) words none)
 
-script_is : (ops : List Op) (script : List ScriptCall) → TakeWords (map (call_of ops) script) → script_fault ops script ≡ None → All (IsIn ops) (map (call_of ops) script)
-script_is ops [] words none = All-nil (IsIn ops)
-script_is ops (call ∷ script) words none =
-    let parts = both (call_fault ops call) (script_fault ops script) none in
-    let first = All-head (λ (c : Call). are_words c.args ≡ true) (call_of ops call) (map (call_of ops) script) words in
-    let others = All-tail (λ (c : Call). are_words c.args ≡ true) (call_of ops call) (map (call_of ops) script) words in
-    All-cons (IsIn ops) (call_of ops call) (map (call_of ops) script) (call_is ops call first parts.0) (script_is ops script others parts.1)
+  script_is : (ops : List Op) (script : List ScriptCall) → TakeWords (map (call_of ops) script) → script_fault ops script ≡ None → All (IsIn ops) (map (call_of ops) script)
+  script_is ops [] words none = All-nil (IsIn ops)
+  script_is ops (call ∷ script) words none =
+      let parts = both (call_fault ops call) (script_fault ops script) none in
+      let first = All-head (λ (c : Call). are_words c.args ≡ true) (call_of ops call) (map (call_of ops) script) words in
+      let others = All-tail (λ (c : Call). are_words c.args ≡ true) (call_of ops call) (map (call_of ops) script) words in
+      All-cons (IsIn ops) (call_of ops call) (map (call_of ops) script) (call_is ops call first parts.0) (script_is ops script others parts.1)
 
-abbrev AreIn : List Op → List Call → Type 0
-AreIn ops calls = All (IsIn ops) calls
+  abbrev AreIn : List Op → List Call → Type 0
+  AreIn ops calls = All (IsIn ops) calls
 
-scripts_are : (ops : List Op) (scripts : List (List ScriptCall)) → AllTakeWords (map (map (call_of ops)) scripts) → scripts_fault ops scripts ≡ None
-    → All (AreIn ops) (map (map (call_of ops)) scripts)
-scripts_are ops [] words none = All-nil (AreIn ops)
-scripts_are ops (script ∷ scripts) words none =
-    let parts = both (script_fault ops script) (scripts_fault ops scripts) none in
-    let first = All-head TakeWords (map (call_of ops) script) (map (map (call_of ops)) scripts) words in
-    let others = All-tail TakeWords (map (call_of ops) script) (map (map (call_of ops)) scripts) words in
-    All-cons (AreIn ops) (map (call_of ops) script) (map (map (call_of ops)) scripts) (script_is ops script first parts.0) (scripts_are ops scripts others parts.1)
+  scripts_are : (ops : List Op) (scripts : List (List ScriptCall)) → AllTakeWords (map (map (call_of ops)) scripts) → scripts_fault ops scripts ≡ None
+      → All (AreIn ops) (map (map (call_of ops)) scripts)
+  scripts_are ops [] words none = All-nil (AreIn ops)
+  scripts_are ops (script ∷ scripts) words none =
+      let parts = both (script_fault ops script) (scripts_fault ops scripts) none in
+      let first = All-head TakeWords (map (call_of ops) script) (map (map (call_of ops)) scripts) words in
+      let others = All-tail TakeWords (map (call_of ops) script) (map (map (call_of ops)) scripts) words in
+      All-cons (AreIn ops) (map (call_of ops) script) (map (map (call_of ops)) scripts) (script_is ops script first parts.0) (scripts_are ops scripts others parts.1)
 
 -- ---- the rest
 
@@ -132,7 +137,20 @@ plan_is_ready document within runs words =
     record {
       fits = record { kinds = all_kinds document (few_kinds document.text within.text); fields = refl; cells = refl; nodes = refl };
       count = length-map document.scripts (map (call_of document.text.ops));
-      calls = scripts_are document.text.ops document.scripts words calls.0;
+      calls = scripts_are (scheme_op second_marks) (λ op. refl) document.text.ops document.scripts words calls.0;
+      short = short_are document.text.ops document.scripts within.scripts;
+      fuel = fuelled document parts.0;
+    }
+
+pub epoch_plan_is_ready : (document : Document) → IsWithinDocumentLimits document → IsRunnable document → AllTakeWords (calls_of document) → IsEpochReady (epoch_plan_for document)
+epoch_plan_is_ready document within runs words =
+    let parts = both (setting_fault document) (first_of (scripts_fault document.text.ops document.scripts ∷ [])) runs.shape in
+    let calls = both (scripts_fault document.text.ops document.scripts) None parts.1 in
+    record {
+      fits = record { kinds = all_kinds document (few_kinds document.text within.text); fields = refl; cells = refl; nodes = refl };
+      epochs = refl;
+      count = length-map document.scripts (map (call_of document.text.ops));
+      calls = scripts_are bare_op (λ op. refl) document.text.ops document.scripts words calls.0;
       short = short_are document.text.ops document.scripts within.scripts;
       fuel = fuelled document parts.0;
     }

@@ -9,9 +9,10 @@ use Rattle.oa_words.specs.Within.{is_count, are_slots, sizes_of_kinds, sizes_or_
 use Rattle.caller_parts.specs.declared.setting.SettingFault.{SettingFault}
 use Rattle.caller_parts.specs.declared.setting.SettingFault.TheVariants as settings
 use Rattle.caller_parts.specs.Settings.{Setting, are_phases, have_slots, setting_or_fault}
+use Rattle.caller_parts.specs.declared.setting.Reclamation.{Reclamation}
 use Rattle.documents.specs.declared.document.Document.{Document}
 use Rattle.script_plans.specs.declared.fault.ShapeFault.{ShapeFault}
-use Rattle.script_plans.specs.Shapes.{first_of, most_fuel, whole_fault, fault_unless, padded, kind_slots, kind_nodes, sizes_of, setting_with, setting_of, sizes_fault, nodes_fault, rest_fault, setting_fault}
+use Rattle.script_plans.specs.Shapes.{first_of, most_fuel, whole_fault, fault_unless, padded, kind_slots, kind_nodes, sizes_of, setting_with, setting_under, sizes_fault, nodes_fault, rest_fault, setting_fault}
 use Rattle.script_plans.specs.Told.{sizes_number, or_fault}
 use Rattle.script_plans.proofs.Counting.{are_roomy}
 
@@ -60,9 +61,9 @@ refused : (setting : Setting) (fault : SettingFault) (phases fuel : Bool) → Er
 refused setting fault true fuel is = cc
 refused setting fault false fuel is = refl
 
-module _ (document : Document) (shape : Sizes) (nodes : List ℕ) (roomy : have_slots shape nodes (length shape.kinds) ≡ true) where
+module _ (by : Reclamation) (document : Document) (shape : Sizes) (nodes : List ℕ) (roomy : have_slots shape nodes (length shape.kinds) ≡ true) where
   abbrev asked : Setting
-  asked = setting_with document shape nodes
+  asked = setting_with by document shape nodes
 
   judged_so : setting_or_fault asked ≡ tried asked true (are_phases document.first document.last)
   judged_so = ap (λ (b : Bool). tried asked b (are_phases document.first document.last)) roomy
@@ -97,12 +98,12 @@ module _ (document : Document) where
       subst (λ (n : Sizes). have_slots n (kind_nodes document.text.nodes) (length n.kinds) ≡ true) (sym (same_shape by_sizes (sizes_of document) shape made).0)
       (are_roomy (sizes_of document) (kind_nodes document.text.nodes) (sym none))
 
-  pub setting_fine : (shape : Sizes) (result : Result Setting ShapeFault) → Ok shape ≡ or_fault by_sizes (sizes_of document) → None ≡ by_nodes
-      → result ≡ or_fault (rest_fault document) (setting_with document shape (kind_nodes document.text.nodes)) → result ≡ or_fault (setting_fault document) (setting_of document)
-  setting_fine shape result made none is =
+  pub setting_fine : (by : Reclamation) (shape : Sizes) (result : Result Setting ShapeFault) → Ok shape ≡ or_fault by_sizes (sizes_of document) → None ≡ by_nodes
+      → result ≡ or_fault (rest_fault document) (setting_with by document shape (kind_nodes document.text.nodes)) → result ≡ or_fault (setting_fault document) (setting_under by document)
+  setting_fine by shape result made none is =
       let same = same_shape by_sizes (sizes_of document) shape made in
-      is ∙ ap (λ (n : Sizes). or_fault (rest_fault document) (setting_with document n (kind_nodes document.text.nodes))) same.0
-      ∙ ap (λ (o : Option ShapeFault). or_fault o (setting_of document)) (whole by_sizes by_nodes (rest_fault document) same.1 (sym none))
+      is ∙ ap (λ (n : Sizes). or_fault (rest_fault document) (setting_with by document n (kind_nodes document.text.nodes))) same.0
+      ∙ ap (λ (o : Option ShapeFault). or_fault o (setting_under by document)) (whole by_sizes by_nodes (rest_fault document) same.1 (sym none))
     where
       whole : (one two three : Option ShapeFault) → one ≡ None → two ≡ None → three ≡ first_of (one ∷ two ∷ three ∷ [])
       whole None None None never none = refl
@@ -110,18 +111,18 @@ module _ (document : Document) where
       whole None (Some fault) three never none = cc
       whole (Some fault) two three never none = cc
 
-  pub setting_crowded : (shape : Sizes) (fault : ShapeFault) → Ok shape ≡ or_fault by_sizes (sizes_of document) → Some fault ≡ by_nodes
-      → Err fault ≡ or_fault (setting_fault document) (setting_of document)
-  setting_crowded shape fault made some = go by_sizes by_nodes (same_shape by_sizes (sizes_of document) shape made).1 some
+  pub setting_crowded : (by : Reclamation) (shape : Sizes) (fault : ShapeFault) → Ok shape ≡ or_fault by_sizes (sizes_of document) → Some fault ≡ by_nodes
+      → Err fault ≡ or_fault (setting_fault document) (setting_under by document)
+  setting_crowded by shape fault made some = go by_sizes by_nodes (same_shape by_sizes (sizes_of document) shape made).1 some
     where
-      go : (one two : Option ShapeFault) → one ≡ None → Some fault ≡ two → Err fault ≡ or_fault (first_of (one ∷ two ∷ rest_fault document ∷ [])) (setting_of document)
+      go : (one two : Option ShapeFault) → one ≡ None → Some fault ≡ two → Err fault ≡ or_fault (first_of (one ∷ two ∷ rest_fault document ∷ [])) (setting_under by document)
       go None None never some = cc
       go None (Some other) never some = let same : fault ≡ other = cc in ap (λ (f : ShapeFault). Err f) same
       go (Some other) two never some = cc
 
-  pub setting_shapeless : (fault : ShapeFault) → Err fault ≡ or_fault by_sizes (sizes_of document) → Err fault ≡ or_fault (setting_fault document) (setting_of document)
-  setting_shapeless fault is = go by_sizes is
+  pub setting_shapeless : (by : Reclamation) (fault : ShapeFault) → Err fault ≡ or_fault by_sizes (sizes_of document) → Err fault ≡ or_fault (setting_fault document) (setting_under by document)
+  setting_shapeless by fault is = go by_sizes is
     where
-      go : (one : Option ShapeFault) → Err fault ≡ or_fault one (sizes_of document) → Err fault ≡ or_fault (first_of (one ∷ by_nodes ∷ rest_fault document ∷ [])) (setting_of document)
+      go : (one : Option ShapeFault) → Err fault ≡ or_fault one (sizes_of document) → Err fault ≡ or_fault (first_of (one ∷ by_nodes ∷ rest_fault document ∷ [])) (setting_under by document)
       go None is = cc
       go (Some other) is = let same : fault ≡ other = cc in ap (λ (f : ShapeFault). Err f) same

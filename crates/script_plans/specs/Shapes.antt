@@ -10,6 +10,8 @@ use Rattle.oa_words.specs.Words.{Sizes}
 use Rattle.oa_words.specs.Within.{is_count, are_slots, sizes_of_kinds}
 use Rattle.caller_parts.specs.KindCounts.{greatest_of, node_count}
 use Rattle.caller_parts.specs.Settings.{Setting, are_phases}
+use Rattle.caller_parts.specs.declared.setting.Reclamation.{Reclamation}
+use Rattle.caller_parts.specs.declared.setting.Reclamation.TheVariants.{Optimistic, Epochs}
 use Rattle.documents.specs.declared.document.ScriptCall.{ScriptCall}
 use Rattle.documents.specs.declared.document.Document.{Document}
 use Rattle.script_plans.specs.declared.fault.ShapeFault.{ShapeFault}
@@ -61,11 +63,18 @@ sizes_of document = sizes_of_kinds (length document.scripts) (kind_slots documen
 abbrev pub kind_nodes : List NodeDecl → List ℕ
 kind_nodes nodes = node_count nodes 0 ∷ node_count nodes 1 ∷ node_count nodes 2 ∷ node_count nodes 3 ∷ []
 
-abbrev pub setting_with : Document → Sizes → List ℕ → Setting
-setting_with document sizes nodes = record { sizes = sizes; first = document.first; last = document.last; nodes = nodes }
+abbrev pub setting_with : Reclamation → Document → Sizes → List ℕ → Setting
+setting_with by document sizes nodes = record { reclamation = by; sizes = sizes; first = document.first; last = document.last; nodes = nodes }
+
+-- under a scheme
+abbrev pub setting_under : Reclamation → Document → Setting
+setting_under by document = setting_with by document (sizes_of document) (kind_nodes document.text.nodes)
 
 abbrev pub setting_of : Document → Setting
-setting_of document = setting_with document (sizes_of document) (kind_nodes document.text.nodes)
+setting_of document = setting_under Optimistic document
+
+abbrev pub epoch_setting_of : Document → Setting
+epoch_setting_of document = setting_under Epochs document
 
 -- 1 the scripts, 2 the slots of a kind or of all kinds, 3 the fields, 4 the roots. A text within the limits has neither 3 nor 4, and
 -- never too many kinds

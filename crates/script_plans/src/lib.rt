@@ -3,10 +3,12 @@
 #![tactic(auto)]
 
 mod calls;
+mod epoch_plan;
 mod fault;
 mod plan;
 mod setting;
 mod shape;
 
+pub use epoch_plan::{EpochPlan, epoch_plan_of};
 pub use fault::{RunFault, ShapeFault};
 pub use plan::{CallList, CallLists, Plan, plan_of};

@@ -5,7 +5,7 @@ ghost use Rattle.norm_lang.specs.NormalForm.{IsNormal};
 ghost use Rattle.target_code.specs.SecondScheme.{second_scheme};
 ghost use Rattle.documents.specs.DocumentLimits.{IsWithinDocumentLimits};
 ghost use Rattle.script_plans.specs.declared.fault.RunFault.TheVariants as told;
-ghost use Rattle.script_plans.specs.Shapes.{setting_of, shape_fault};
+ghost use Rattle.script_plans.specs.Shapes.{setting_under, shape_fault};
 ghost use Rattle.script_plans.specs.Told.{or_fault};
 ghost use Rattle.script_plans.specs.Plans.{AllTakeWords, IsPlanned, IsReady};
 
@@ -16,7 +16,7 @@ use crate::shape::scripts_fault;
 use barrier_check::laws::flawed_is_not_barred;
 use barrier_check::{Barred, VerifyError, verify};
 use barrier_compiler::compile;
-use caller_parts::{Call, Setting};
+use caller_parts::{Call, Reclamation, Setting};
 use documents::Document;
 use norm_check::{Normal, check};
 use norm_lang::list::Listed;
@@ -54,13 +54,13 @@ fn barred_of(alloc: Global, normal: &Normal) -> Result<Barred, RunFault>
     }
 }
 
-/// The setting of a document, or what is wrong with its shape.
-fn shaped(document: &Document) -> Result<Setting, ShapeFault>
+/// The setting of a document under a scheme, or what is wrong with its shape.
+pub(crate) fn shaped(by: Reclamation, document: &Document) -> Result<Setting, ShapeFault>
     requires kinds { length document.now.text.kinds ≤ 4 }
     requires nodes { length document.now.text.nodes < 2 ^ 32 }
-    ensures { result ≡ or_fault (shape_fault document.now) (setting_of document.now) }
+    ensures { result ≡ or_fault (shape_fault document.now) (setting_under by document.now) }
 {
-    let setting = setting_of(document)?;
+    let setting = setting_of(by, document)?;
     match scripts_fault(document.text.ops.items(), document.scripts.items()) {
         None => Ok(setting),
         Some(fault) => Err(fault),
@@ -76,7 +76,7 @@ fn plan_of_normal(alloc: Global, document: &Document, normal: &Normal) -> Result
     ensures exact { IsPlanned document.now result }
     ensures words { IfOk result (λ plan. AllTakeWords plan.scripts) }
 {
-    let setting = shaped(document)?;
+    let setting = shaped(Reclamation::Optimistic, document)?;
     let scripts = calls_of(alloc, document)?;
     let barred = barred_of(alloc, normal)?;
     Ok(Plan {

@@ -4,12 +4,12 @@ ghost use Rattle.std.specs.Prelude.{◌≡◌, ◌≤◌, ◌<◌, ◌^◌, leng
 ghost use Rattle.oa_words.specs.Within.{is_count};
 ghost use Rattle.caller_parts.specs.KindCounts.{greatest_of, node_count};
 ghost use Rattle.caller_parts.specs.Settings.{have_slots};
-ghost use Rattle.script_plans.specs.Shapes.{most_fuel, whole_fault, kind_nodes, sizes_of, sizes_fault, first_crowded, nodes_fault, setting_with, setting_of, rest_fault, setting_fault};
+ghost use Rattle.script_plans.specs.Shapes.{most_fuel, whole_fault, kind_nodes, sizes_of, sizes_fault, first_crowded, nodes_fault, setting_with, setting_under, rest_fault, setting_fault};
 ghost use Rattle.script_plans.specs.Told.{sizes_number, or_fault};
 
 use crate::calls::padded;
 use crate::fault::ShapeFault;
-use caller_parts::Setting;
+use caller_parts::{Reclamation, Setting};
 use documents::Document;
 use norm_lang::fields::count_of;
 use norm_lang::text::{FieldDecl, NodeDecl};
@@ -123,11 +123,16 @@ fn fuel_fits(fuel: u64) -> bool
 
 /// The setting of a document over a row in which each kind has slots for its initial nodes, or what is wrong with the rest of it.
 #[tactic(auto, using(crate::proofs::Settings::over_fine, crate::proofs::Settings::over_unfuelled, crate::proofs::Settings::over_refused))]
-fn setting_over(document: &Document, shape: Shape, nodes: [u32; 4]) -> Result<Setting, ShapeFault>
+fn setting_over(
+    by: Reclamation,
+    document: &Document,
+    shape: Shape,
+    nodes: [u32; 4],
+) -> Result<Setting, ShapeFault>
     requires { have_slots shape nodes (length shape.kinds) ≡ true }
-    ensures { result ≡ or_fault (rest_fault document.now) (setting_with document.now shape nodes) }
+    ensures { result ≡ or_fault (rest_fault document.now) (setting_with by document.now shape nodes) }
 {
-    match Setting::new(shape, document.first, document.last, nodes) {
+    match Setting::of(by, shape, document.first, document.last, nodes) {
         Ok(setting) => {
             if fuel_fits(document.fuel) {
                 Ok(setting)
@@ -139,18 +144,18 @@ fn setting_over(document: &Document, shape: Shape, nodes: [u32; 4]) -> Result<Se
     }
 }
 
-/// The setting of a document, or the first of its settings that is out of its range.
+/// The setting of a document under a scheme, or the first of its settings that is out of its range.
 #[tactic(auto, using(crate::proofs::Settings::setting_roomy, crate::proofs::Settings::setting_fine, crate::proofs::Settings::setting_crowded, crate::proofs::Settings::setting_shapeless))]
-pub(crate) fn setting_of(document: &Document) -> Result<Setting, ShapeFault>
+pub(crate) fn setting_of(by: Reclamation, document: &Document) -> Result<Setting, ShapeFault>
     requires kinds { length document.now.text.kinds ≤ 4 }
     requires nodes { length document.now.text.nodes < 2 ^ 32 }
-    ensures { result ≡ or_fault (setting_fault document.now) (setting_of document.now) }
+    ensures { result ≡ or_fault (setting_fault document.now) (setting_under by document.now) }
 {
     let shape = shape_of(document)?;
     let slots = padded(document.slots.items());
     let nodes = kind_nodes(document.text.nodes.items());
     match nodes_fault(&slots[..document.text.kinds.items().len()], &nodes) {
-        None => setting_over(document, shape, nodes),
+        None => setting_over(by, document, shape, nodes),
         Some(fault) => Err(fault),
     }
 }

@@ -21,6 +21,10 @@ use Rattle.oa_words.specs.Words.{Sizes}
 use Rattle.phase_pools.specs.Pools.{Retirement, retire_accepts}
 use Rattle.caller_parts.specs.declared.call.Reply.TheVariants as replies
 use Rattle.caller_steps.specs.declared.entry.Hand.{Hand}
+use Rattle.caller_parts.specs.declared.routine.Announcing.{Announcing}
+use Rattle.caller_parts.specs.declared.routine.Announcing.TheVariants as announces
+use Rattle.caller_parts.specs.declared.setting.Reclamation.{Reclamation}
+use Rattle.caller_parts.specs.declared.setting.Reclamation.TheVariants.{Optimistic, Epochs}
 use Rattle.caller_parts.specs.declared.routine.MethodStart.{MethodStart}
 use Rattle.caller_parts.specs.declared.routine.MethodStart.TheVariants as starts
 use Rattle.caller_parts.specs.declared.routine.AfterClear.{AfterClear}
@@ -28,14 +32,14 @@ use Rattle.caller_parts.specs.declared.routine.AfterClear.TheVariants as clears
 use Rattle.caller_parts.specs.declared.routine.AfterRetire.{AfterRetire}
 use Rattle.caller_parts.specs.declared.routine.AfterRetire.TheVariants as retires
 use Rattle.caller_parts.specs.declared.routine.Routine.{Routine}
-use Rattle.caller_parts.specs.declared.routine.Routine.TheVariants.{Idle, LoadSeen, At, InList, Retires, Restarts, Clears, Claims, Zeroes}
+use Rattle.caller_parts.specs.declared.routine.Routine.TheVariants.{Idle, LoadSeen, At, InList, Retires, Restarts, Clears, Claims, Zeroes, Announces}
 use Rattle.caller_parts.specs.Settings.{Setting}
 use Rattle.caller_steps.specs.Entries.{Entry, code_in, instr_in}
 use Rattle.caller_parts.specs.Operands.{with_word, slot_in, register_number, code_at, instr_at, list_of, succeeds, to_retire}
 use Rattle.caller_steps.specs.Clearing.{restart_next, clear_next, unguarded}
 use Rattle.caller_steps.specs.Signs.{quiet}
-use Rattle.caller_steps.specs.After.{with_routine, with_hand, hand_at, then_goes, clear_on, cleared, wrap_up_hand, list_ended, plain_stop, stops, stopped, settles, goes_on, first_spot, method_begun, seen_loaded, restart_on, restarted, check_passed, check_failed, checked, with_restart, with_access, list_on, onward_goes, retires_then, cas_failed, cas_ended, plain_accepted, instr_accepted, with_published, entry_ended, list_accepted, retired_on, accepted, counted, after}
-use Rattle.claim_laws.proofs.Onward.{ended_moves}
+use Rattle.caller_steps.specs.After.{with_routine, with_hand, run_to, then_goes, clear_on, cleared, wrap_up_hand, list_ended, plain_stop, wrap_up_stop, wrap_up_stops, wrap_up_begun, announced_stop, stop_at, stops, stopped, settles, goes_on, first_spot, method_begun, seen_loaded, restart_on, restarted, check_passed, check_failed, checked, checked_by, guarded_by, with_restart, with_access, list_on, list_goes, list_failed, onward_goes, retires_then, cas_failed, cas_ended, plain_accepted, instr_accepted, with_published, entry_ended, list_accepted, retired_on, accepted, counted, after, announced}
+use Rattle.claim_laws.proofs.Onward.{failed_moves}
 
 -- ---- a sentence about places and registers of a wrap-up
 
@@ -86,6 +90,12 @@ StartSettles hand starts.Begin = ⊥
 StartSettles hand starts.WrapUp = InWrapUp hand
 StartSettles hand starts.Again = ⊥
 
+-- before it withdraws its announcement, its reply given
+abbrev pub LeaveSettles : Announcing → Type 0
+LeaveSettles (announces.Loads why) = ⊥
+LeaveSettles (announces.Stores why phase) = ⊥
+LeaveSettles (announces.Leaves reply) = Unit {0}
+
 abbrev pub SettledAt : (ℕ → Registers → Type 0) → Hand → Routine → Type 0
 SettledAt Holds hand Idle = Unit {0}
 SettledAt Holds hand (LoadSeen why) = StartSettles hand why
@@ -96,6 +106,7 @@ SettledAt Holds hand Restarts = InWrapUp hand
 SettledAt Holds hand (Clears next) = ClearSettles hand next
 SettledAt Holds hand (Claims claim) = ⊥
 SettledAt Holds hand (Zeroes k field) = ⊥
+SettledAt Holds hand (Announces announcing) = LeaveSettles announcing
 
 abbrev HasEight : Entry → Type 0
 HasEight e = length e.hand.registers.numbers ≡ 8
@@ -209,27 +220,104 @@ module _ (target : Target) (sizes : Sizes) (Holds : ℕ → ℕ → Registers �
   plain_settles (instr.Put a f b) e wraps holds carried = (wraps, holds)
   plain_settles (instr.Cas exchange l) e wraps holds carried = (wraps, holds)
 
+  -- ---- under epochs
+
+  stop_settles : (i : Instr) (e : Entry) → InWrapUp e.hand → HoldsIn e e.hand.at e.hand.registers → PlainCarries (HoldsIn e) e.hand.at e.hand.registers i → Settled (wrap_up_stop i e).entry
+  stop_settles (instr.Return a) e wraps holds carried = tt
+  stop_settles instr.ReturnNone e wraps holds carried = tt
+  stop_settles instr.Again e wraps holds carried = absurd carried
+  stop_settles (instr.New d kind) e wraps holds carried = (wraps, holds)
+  stop_settles (instr.Commit exchanges) e wraps holds carried = (wraps, holds)
+  stop_settles (instr.Set d n) e wraps holds carried = (wraps, holds)
+  stop_settles (instr.Mov d a) e wraps holds carried = (wraps, holds)
+  stop_settles (instr.Add d a b) e wraps holds carried = (wraps, holds)
+  stop_settles (instr.Sub d a b) e wraps holds carried = (wraps, holds)
+  stop_settles (instr.Rem d a n) e wraps holds carried = (wraps, holds)
+  stop_settles (instr.Mark d a) e wraps holds carried = (wraps, holds)
+  stop_settles (instr.Unmark d a) e wraps holds carried = (wraps, holds)
+  stop_settles (instr.Null d) e wraps holds carried = (wraps, holds)
+  stop_settles (instr.Jump l) e wraps holds carried = (wraps, holds)
+  stop_settles (instr.IfEq a b l) e wraps holds carried = (wraps, holds)
+  stop_settles (instr.IfLess a b l) e wraps holds carried = (wraps, holds)
+  stop_settles (instr.IfMarked a l) e wraps holds carried = (wraps, holds)
+  stop_settles (instr.LoadRoot d x) e wraps holds carried = (wraps, holds)
+  stop_settles (instr.LoadPick d x n a) e wraps holds carried = (wraps, holds)
+  stop_settles (instr.LoadField d a f) e wraps holds carried = (wraps, holds)
+  stop_settles (instr.Put a f b) e wraps holds carried = (wraps, holds)
+  stop_settles (instr.Cas exchange l) e wraps holds carried = (wraps, holds)
+
+  announced_settles : (i : Instr) (e : Entry) → InWrapUp e.hand → HoldsIn e e.hand.at e.hand.registers → PlainCarries (HoldsIn e) e.hand.at e.hand.registers i → Settled (announced_stop target sizes i e).entry
+  announced_settles (instr.New d kind) e wraps holds carried = absurd carried
+  announced_settles (instr.Commit exchanges) e wraps holds carried = absurd carried
+  announced_settles (instr.Return a) e wraps holds carried = tt
+  announced_settles instr.ReturnNone e wraps holds carried = tt
+  announced_settles instr.Again e wraps holds carried = absurd carried
+  announced_settles (instr.Set d n) e wraps holds carried = (wraps, holds)
+  announced_settles (instr.Mov d a) e wraps holds carried = (wraps, holds)
+  announced_settles (instr.Add d a b) e wraps holds carried = (wraps, holds)
+  announced_settles (instr.Sub d a b) e wraps holds carried = (wraps, holds)
+  announced_settles (instr.Rem d a n) e wraps holds carried = (wraps, holds)
+  announced_settles (instr.Mark d a) e wraps holds carried = (wraps, holds)
+  announced_settles (instr.Unmark d a) e wraps holds carried = (wraps, holds)
+  announced_settles (instr.Null d) e wraps holds carried = (wraps, holds)
+  announced_settles (instr.Jump l) e wraps holds carried = (wraps, holds)
+  announced_settles (instr.IfEq a b l) e wraps holds carried = (wraps, holds)
+  announced_settles (instr.IfLess a b l) e wraps holds carried = (wraps, holds)
+  announced_settles (instr.IfMarked a l) e wraps holds carried = (wraps, holds)
+  announced_settles (instr.LoadRoot d x) e wraps holds carried = (wraps, holds)
+  announced_settles (instr.LoadPick d x n a) e wraps holds carried = (wraps, holds)
+  announced_settles (instr.LoadField d a f) e wraps holds carried = (wraps, holds)
+  announced_settles (instr.Put a f b) e wraps holds carried = (wraps, holds)
+  announced_settles (instr.Cas exchange l) e wraps holds carried = (wraps, holds)
+
+  -- ---- where local code stops
+
+  stop_at_settles : (by : Reclamation) (i : Instr) (e : Entry) → InWrapUp e.hand → HoldsIn e e.hand.at e.hand.registers → PlainCarries (HoldsIn e) e.hand.at e.hand.registers i → Settled (stop_at by target sizes i e).entry
+  stop_at_settles Optimistic i e wraps holds carried = plain_settles i e wraps holds carried
+  stop_at_settles Epochs i e wraps holds carried = announced_settles i e wraps holds carried
+
   -- what the instruction at which a wrap-up stands does
   carried_here : (e : Entry) → InWrapUp e.hand → HoldsIn e e.hand.at e.hand.registers → InstrCarries (HoldsIn e) e.hand.at e.hand.registers (instr_in target e)
   carried_here e wraps holds =
       subst (λ (w : Bool). InstrCarries (HoldsIn e) e.hand.at e.hand.registers (instr_at target e.running.call.op w e.hand.at)) (sym wraps.0) (carries e.running.call.op e.hand.at e.hand.registers holds)
 
-  stopped_settles : (e : Entry) → InWrapUp e.hand → HoldsIn e e.hand.at e.hand.registers → Settled (stopped target sizes e).entry
-  stopped_settles e wraps holds = of (instr_in target e) (carried_here e wraps holds) where
-    of : (o : Option TargetInstr) → InstrCarries (HoldsIn e) e.hand.at e.hand.registers o → Settled (stops target sizes o e).entry
+  stopped_settles : (by : Reclamation) (e : Entry) → InWrapUp e.hand → HoldsIn e e.hand.at e.hand.registers → Settled (stopped by target sizes e).entry
+  stopped_settles by e wraps holds = of (instr_in target e) (carried_here e wraps holds) where
+    of : (o : Option TargetInstr) → InstrCarries (HoldsIn e) e.hand.at e.hand.registers o → Settled (stops by target sizes o e).entry
     of None carried = (wraps, holds)
     of (Some Check) carried = (wraps, holds)
     of (Some (Guard r)) carried = (wraps, holds)
-    of (Some (Plain i)) carried = plain_settles i e wraps holds carried
+    of (Some (Plain i)) carried = stop_at_settles by i e wraps holds carried
 
-  settles_on : (spot : Spot) (e : Entry) → InWrapUp e.hand → HoldsIn e spot.at spot.registers → Settled (settles target sizes spot e).entry
-  settles_on spot e wraps holds = stopped_settles (with_hand e (hand_at e.hand (target_run (code_in target e) (length (code_in target e)) spot))) wraps
-      (subst (λ (w : Bool). let code = code_at target e.running.call.op w in let end = target_run code (length code) spot in HoldsIn e end.at end.registers) (sym wraps.0)
-      (run_carries (HoldsIn e) (code_at target e.running.call.op true) (carries e.running.call.op) (length (code_at target e.running.call.op true)) spot holds))
+  -- local code carries it on
+  run_holds : (spot : Spot) (e : Entry) → InWrapUp e.hand → HoldsIn e spot.at spot.registers → (let end = target_run (code_in target e) (length (code_in target e)) spot in HoldsIn e end.at end.registers)
+  run_holds spot e wraps holds =
+      subst (λ (w : Bool). let code = code_at target e.running.call.op w in let end = target_run code (length code) spot in HoldsIn e end.at end.registers) (sym wraps.0)
+      (run_carries (HoldsIn e) (code_at target e.running.call.op true) (carries e.running.call.op) (length (code_at target e.running.call.op true)) spot holds)
+
+  settles_on : (by : Reclamation) (spot : Spot) (e : Entry) → InWrapUp e.hand → HoldsIn e spot.at spot.registers → Settled (settles by target sizes spot e).entry
+  settles_on by spot e wraps holds = stopped_settles by (run_to target spot e) wraps (run_holds spot e wraps holds)
+
+  -- a wrap-up that starts without an access
+  wrap_up_settles : (made : ℕ) (e : Entry) → HasEight e → 1 ≤ made → Settled (wrap_up_begun target made e).entry
+  wrap_up_settles made e eight some =
+      let wrapped : Entry = with_hand e (wrap_up_hand made e.hand) in
+      let spot : Spot = record { at = 0; registers = with_count e.hand.registers made } in
+      let begun : Entry = run_to target spot wrapped in
+      let some_made : 1 ≤ number_in (with_count e.hand.registers made) (Num 7) = count_in e.hand.registers made eight some in
+      let wraps : InWrapUp begun.hand = (refl, some_made) in
+      let holds : HoldsIn begun begun.hand.at begun.hand.registers = run_holds spot wrapped (refl, some_made) (begins e.running.call.op (with_count e.hand.registers made) some_made) in
+      of begun (instr_in target begun) wraps holds (carried_here begun wraps holds)
+    where
+      of : (e : Entry) (o : Option TargetInstr) → InWrapUp e.hand → HoldsIn e e.hand.at e.hand.registers → InstrCarries (HoldsIn e) e.hand.at e.hand.registers o → Settled (wrap_up_stops o e).entry
+      of e None wraps holds carried = (wraps, holds)
+      of e (Some Check) wraps holds carried = (wraps, holds)
+      of e (Some (Guard r)) wraps holds carried = (wraps, holds)
+      of e (Some (Plain i)) wraps holds carried = stop_settles i e wraps holds carried
 
   begun_settles : (e : Entry) → 1 ≤ number_in e.hand.started (Num 7) → Settled (method_begun target sizes true e).entry
   begun_settles e some =
-      settles_on (first_spot true e.running.call.args e.hand.started) (with_hand e (record e.hand { wrapup = true; accessed = false })) (refl, some) (begins e.running.call.op e.hand.started some)
+      settles_on Optimistic (first_spot true e.running.call.args e.hand.started) (with_hand e (record e.hand { wrapup = true; accessed = false })) (refl, some) (begins e.running.call.op e.hand.started some)
 
   restarted_settles : (e : Entry) → InWrapUp e.hand → Settled (restarted target sizes e).entry
   restarted_settles e wraps = of (restart_next target e) where
@@ -237,8 +325,8 @@ module _ (target : Target) (sizes : Sizes) (Holds : ℕ → ℕ → Registers �
     of None = subst (λ (w : Bool). Settled (method_begun target sizes w e).entry) (sym wraps.0) (begun_settles e wraps.1)
     of (Some r) = wraps
 
-  on_settles : (registers : Registers) (e : Entry) → InWrapUp e.hand → HoldsIn e (e.hand.at + 1) registers → Settled (goes_on target sizes registers e).entry
-  on_settles registers e wraps holds = settles_on (record { at = e.hand.at + 1; registers = registers }) e wraps holds
+  on_settles : (by : Reclamation) (registers : Registers) (e : Entry) → InWrapUp e.hand → HoldsIn e (e.hand.at + 1) registers → Settled (goes_on by target sizes registers e).entry
+  on_settles by registers e wraps holds = settles_on by (record { at = e.hand.at + 1; registers = registers }) e wraps holds
 
   list_settles : (k : ℕ) (e : Entry) → HasEight e → Settled (list_on target sizes k e)
   list_settles k e eight = of (nat_lt (k + 1) (length (list_of (instr_in target e)))) where
@@ -246,88 +334,114 @@ module _ (target : Target) (sizes : Sizes) (Holds : ℕ → ℕ → Registers �
     of true = omega arith
     of false = ended_settles (k + 1) e eight (omega arith)
 
-  onward_settles : (go : AfterRetire) (e : Entry) → HasEight e → RetireSettles (HoldsIn e) e.hand go → Settled (onward_goes target sizes go e).entry
-  onward_settles retires.Next e eight settled = on_settles e.hand.registers e settled.0 settled.1
-  onward_settles (retires.List k) e eight settled = list_settles k e eight
+  list_goes_settles : (by : Reclamation) (k : ℕ) (e : Entry) → HasEight e → Settled (list_goes by target sizes k e).entry
+  list_goes_settles Optimistic k e eight = list_settles k e eight
+  list_goes_settles Epochs k e eight = of (nat_lt (k + 1) (length (list_of (instr_in target e)))) where
+    of : (b : Bool) → Settled (if b then quiet (with_routine e (InList (k + 1))) else wrap_up_begun target (k + 1) e).entry
+    of true = omega arith
+    of false = wrap_up_settles (k + 1) e eight (omega arith)
 
-  retires_settles : (go : AfterRetire) (slot : ℕ) (e : Entry) → HasEight e → RetireSettles (HoldsIn e) e.hand go → Settled (retires_then target sizes go slot e).entry
-  retires_settles go zero e eight settled = onward_settles go e eight settled
-  retires_settles go (suc j) e eight settled = settled
+  failed_settles : (by : Reclamation) (k : ℕ) (e : Entry) → HasEight e → 1 ≤ k → Settled (list_failed by target sizes k e).entry
+  failed_settles Optimistic k e eight some = ended_settles k e eight some
+  failed_settles Epochs k e eight some = wrap_up_settles k e eight some
 
-  cas_settles : (exchange : CasEntry) (l word : ℕ) (e : Entry) → HasEight e → InWrapUp e.hand → HoldsIn e (e.hand.at + 1) e.hand.registers × HoldsIn e l e.hand.registers → Settled (cas_ended target sizes exchange l word e).entry
-  cas_settles exchange l word e eight wraps both = of (succeeds exchange e.hand.registers word) where
-    of : (b : Bool) → Settled (if b then retires_then target sizes retires.Next (to_retire exchange.retire e.hand.registers) e else cas_failed target sizes l e).entry
-    of true = retires_settles retires.Next (to_retire exchange.retire e.hand.registers) e eight (wraps, both.0)
-    of false = settles_on (record { at = l; registers = e.hand.registers }) e wraps both.1
+  onward_settles : (by : Reclamation) (go : AfterRetire) (e : Entry) → HasEight e → RetireSettles (HoldsIn e) e.hand go → Settled (onward_goes by target sizes go e).entry
+  onward_settles by retires.Next e eight settled = on_settles by e.hand.registers e settled.0 settled.1
+  onward_settles by (retires.List k) e eight settled = list_goes_settles by k e eight
+
+  retires_settles : (by : Reclamation) (go : AfterRetire) (slot : ℕ) (e : Entry) → HasEight e → RetireSettles (HoldsIn e) e.hand go → Settled (retires_then by target sizes go slot e).entry
+  retires_settles by go zero e eight settled = onward_settles by go e eight settled
+  retires_settles by go (suc j) e eight settled = settled
+
+  cas_settles : (by : Reclamation) (exchange : CasEntry) (l word : ℕ) (e : Entry) → HasEight e → InWrapUp e.hand → HoldsIn e (e.hand.at + 1) e.hand.registers × HoldsIn e l e.hand.registers → Settled (cas_ended by target sizes exchange l word e).entry
+  cas_settles by exchange l word e eight wraps both = of (succeeds exchange e.hand.registers word) where
+    of : (b : Bool) → Settled (if b then retires_then by target sizes retires.Next (to_retire exchange.retire e.hand.registers) e else cas_failed by target sizes l e).entry
+    of true = retires_settles by retires.Next (to_retire exchange.retire e.hand.registers) e eight (wraps, both.0)
+    of false = settles_on by (record { at = l; registers = e.hand.registers }) e wraps both.1
 
   checked_settles : (word : ℕ) (e : Entry) → InWrapUp e.hand → HoldsIn e (e.hand.at + 1) e.hand.registers → Settled (checked target sizes word e).entry
   checked_settles word e wraps holds = of (word == e.hand.seen) where
     of : (b : Bool) → Settled (if b then check_passed target sizes e else check_failed target sizes word e).entry
-    of true = on_settles e.hand.registers (with_hand e (record e.hand { guards = pass_check e.hand.guards })) wraps holds
+    of true = on_settles Optimistic e.hand.registers (with_hand e (record e.hand { guards = pass_check e.hand.guards })) wraps holds
     of false = restarted_settles (with_hand (with_restart e) (record e.hand { seen = word; accessed = false })) wraps
 
-  accepted_plain : (i : Instr) (word : ℕ) (e : Entry) → HasEight e → e.routine ≡ At → InWrapUp e.hand → HoldsIn e e.hand.at e.hand.registers → PlainCarries (HoldsIn e) e.hand.at e.hand.registers i
-      → Settled (plain_accepted target sizes i word e).entry
-  accepted_plain (instr.LoadRoot d x) word e eight is wraps holds carried = on_settles (with_word e.hand.registers d word) (with_access e) wraps (carried word)
-  accepted_plain (instr.LoadPick d x n a) word e eight is wraps holds carried = on_settles (with_word e.hand.registers d word) (with_access e) wraps (carried word)
-  accepted_plain (instr.LoadField d a f) word e eight is wraps holds carried = on_settles (with_word e.hand.registers d word) (with_access e) wraps (carried word)
-  accepted_plain (instr.Put a f b) word e eight is wraps holds carried = on_settles e.hand.registers e wraps carried
-  accepted_plain (instr.Cas exchange l) word e eight is wraps holds carried = cas_settles exchange l word (with_access e) eight wraps carried
-  accepted_plain (instr.Set d n) word e eight is wraps holds carried = same e At is (wraps, holds)
-  accepted_plain (instr.Mov d a) word e eight is wraps holds carried = same e At is (wraps, holds)
-  accepted_plain (instr.Add d a b) word e eight is wraps holds carried = same e At is (wraps, holds)
-  accepted_plain (instr.Sub d a b) word e eight is wraps holds carried = same e At is (wraps, holds)
-  accepted_plain (instr.Rem d a n) word e eight is wraps holds carried = same e At is (wraps, holds)
-  accepted_plain (instr.Mark d a) word e eight is wraps holds carried = same e At is (wraps, holds)
-  accepted_plain (instr.Unmark d a) word e eight is wraps holds carried = same e At is (wraps, holds)
-  accepted_plain (instr.Null d) word e eight is wraps holds carried = same e At is (wraps, holds)
-  accepted_plain (instr.Jump l) word e eight is wraps holds carried = same e At is (wraps, holds)
-  accepted_plain (instr.IfEq a b l) word e eight is wraps holds carried = same e At is (wraps, holds)
-  accepted_plain (instr.IfLess a b l) word e eight is wraps holds carried = same e At is (wraps, holds)
-  accepted_plain (instr.IfMarked a l) word e eight is wraps holds carried = same e At is (wraps, holds)
-  accepted_plain (instr.New d kind) word e eight is wraps holds carried = same e At is (wraps, holds)
-  accepted_plain (instr.Commit exchanges) word e eight is wraps holds carried = same e At is (wraps, holds)
-  accepted_plain (instr.Return a) word e eight is wraps holds carried = same e At is (wraps, holds)
-  accepted_plain instr.ReturnNone word e eight is wraps holds carried = same e At is (wraps, holds)
-  accepted_plain instr.Again word e eight is wraps holds carried = same e At is (wraps, holds)
+  checked_by_settles : (by : Reclamation) (word : ℕ) (e : Entry) → e.routine ≡ At → InWrapUp e.hand → HoldsIn e e.hand.at e.hand.registers → HoldsIn e (e.hand.at + 1) e.hand.registers → Settled (checked_by by target sizes word e).entry
+  checked_by_settles Optimistic word e is wraps holds carried = checked_settles word e wraps carried
+  checked_by_settles Epochs word e is wraps holds carried = same e At is (wraps, holds)
 
-  accepted_instr : (o : Option TargetInstr) (word : ℕ) (e : Entry) → HasEight e → e.routine ≡ At → InWrapUp e.hand → HoldsIn e e.hand.at e.hand.registers → InstrCarries (HoldsIn e) e.hand.at e.hand.registers o
-      → Settled (instr_accepted target sizes o word e).entry
-  accepted_instr None word e eight is wraps holds carried = same e At is (wraps, holds)
-  accepted_instr (Some (Plain i)) word e eight is wraps holds carried = accepted_plain i word e eight is wraps holds carried
-  accepted_instr (Some Check) word e eight is wraps holds carried = checked_settles word e wraps carried
-  accepted_instr (Some (Guard r)) word e eight is wraps holds carried =
-      on_settles e.hand.registers (with_hand e (record e.hand { guards = with_guard e.hand.guards (register_number r) (slot_in e.hand.registers r) })) wraps carried
+  guarded_by_settles : (by : Reclamation) (r : Reg) (e : Entry) → e.routine ≡ At → InWrapUp e.hand → HoldsIn e e.hand.at e.hand.registers → HoldsIn e (e.hand.at + 1) e.hand.registers → Settled (guarded_by by target sizes r e).entry
+  guarded_by_settles Optimistic r e is wraps holds carried =
+      on_settles Optimistic e.hand.registers (with_hand e (record e.hand { guards = with_guard e.hand.guards (register_number r) (slot_in e.hand.registers r) })) wraps carried
+  guarded_by_settles Epochs r e is wraps holds carried = same e At is (wraps, holds)
+
+  accepted_plain : (by : Reclamation) (i : Instr) (word : ℕ) (e : Entry) → HasEight e → e.routine ≡ At → InWrapUp e.hand → HoldsIn e e.hand.at e.hand.registers → PlainCarries (HoldsIn e) e.hand.at e.hand.registers i
+      → Settled (plain_accepted by target sizes i word e).entry
+  accepted_plain by (instr.LoadRoot d x) word e eight is wraps holds carried = on_settles by (with_word e.hand.registers d word) (with_access e) wraps (carried word)
+  accepted_plain by (instr.LoadPick d x n a) word e eight is wraps holds carried = on_settles by (with_word e.hand.registers d word) (with_access e) wraps (carried word)
+  accepted_plain by (instr.LoadField d a f) word e eight is wraps holds carried = on_settles by (with_word e.hand.registers d word) (with_access e) wraps (carried word)
+  accepted_plain by (instr.Put a f b) word e eight is wraps holds carried = on_settles by e.hand.registers e wraps carried
+  accepted_plain by (instr.Cas exchange l) word e eight is wraps holds carried = cas_settles by exchange l word (with_access e) eight wraps carried
+  accepted_plain by (instr.Set d n) word e eight is wraps holds carried = same e At is (wraps, holds)
+  accepted_plain by (instr.Mov d a) word e eight is wraps holds carried = same e At is (wraps, holds)
+  accepted_plain by (instr.Add d a b) word e eight is wraps holds carried = same e At is (wraps, holds)
+  accepted_plain by (instr.Sub d a b) word e eight is wraps holds carried = same e At is (wraps, holds)
+  accepted_plain by (instr.Rem d a n) word e eight is wraps holds carried = same e At is (wraps, holds)
+  accepted_plain by (instr.Mark d a) word e eight is wraps holds carried = same e At is (wraps, holds)
+  accepted_plain by (instr.Unmark d a) word e eight is wraps holds carried = same e At is (wraps, holds)
+  accepted_plain by (instr.Null d) word e eight is wraps holds carried = same e At is (wraps, holds)
+  accepted_plain by (instr.Jump l) word e eight is wraps holds carried = same e At is (wraps, holds)
+  accepted_plain by (instr.IfEq a b l) word e eight is wraps holds carried = same e At is (wraps, holds)
+  accepted_plain by (instr.IfLess a b l) word e eight is wraps holds carried = same e At is (wraps, holds)
+  accepted_plain by (instr.IfMarked a l) word e eight is wraps holds carried = same e At is (wraps, holds)
+  accepted_plain by (instr.New d kind) word e eight is wraps holds carried = same e At is (wraps, holds)
+  accepted_plain by (instr.Commit exchanges) word e eight is wraps holds carried = same e At is (wraps, holds)
+  accepted_plain by (instr.Return a) word e eight is wraps holds carried = same e At is (wraps, holds)
+  accepted_plain by instr.ReturnNone word e eight is wraps holds carried = same e At is (wraps, holds)
+  accepted_plain by instr.Again word e eight is wraps holds carried = same e At is (wraps, holds)
+
+  accepted_instr : (by : Reclamation) (o : Option TargetInstr) (word : ℕ) (e : Entry) → HasEight e → e.routine ≡ At → InWrapUp e.hand → HoldsIn e e.hand.at e.hand.registers → InstrCarries (HoldsIn e) e.hand.at e.hand.registers o
+      → Settled (instr_accepted by target sizes o word e).entry
+  accepted_instr by None word e eight is wraps holds carried = same e At is (wraps, holds)
+  accepted_instr by (Some (Plain i)) word e eight is wraps holds carried = accepted_plain by i word e eight is wraps holds carried
+  accepted_instr by (Some Check) word e eight is wraps holds carried = checked_by_settles by word e is wraps holds carried
+  accepted_instr by (Some (Guard r)) word e eight is wraps holds carried = guarded_by_settles by r e is wraps holds carried
 
   published_eight : (r : Reg) (e : Entry) → HasEight e → HasEight (with_published r e)
   published_eight (Num r) e eight = eight
   published_eight (Ref r) e eight = eight
 
   -- an exchange of a list leaves it so where it succeeds, and else leaves the cradles
-  entry_settles : (k : ℕ) (exchange : CasEntry) (word : ℕ) (e : Entry) → HasEight e → Settled (entry_ended target sizes k exchange word e).entry ⊎ ((entry_ended target sizes k exchange word e).entry ≡ list_ended target sizes k e)
-  entry_settles k exchange word e eight = of (succeeds exchange e.hand.registers word) where
-    of : (b : Bool) → (let later = (if b then retires_then target sizes (retires.List k) (to_retire exchange.retire e.hand.registers) (with_published exchange.replacement e) else quiet (list_ended target sizes k e)).entry in
-        Settled later ⊎ (later ≡ list_ended target sizes k e))
-    of true = inl (retires_settles (retires.List k) (to_retire exchange.retire e.hand.registers) (with_published exchange.replacement e) (published_eight exchange.replacement e eight) tt)
+  entry_settles : (by : Reclamation) (k : ℕ) (exchange : CasEntry) (word : ℕ) (e : Entry) → HasEight e
+      → Settled (entry_ended by target sizes k exchange word e).entry ⊎ ((entry_ended by target sizes k exchange word e).entry ≡ (list_failed by target sizes k e).entry)
+  entry_settles by k exchange word e eight = of (succeeds exchange e.hand.registers word) where
+    of : (b : Bool) → (let later = (if b then retires_then by target sizes (retires.List k) (to_retire exchange.retire e.hand.registers) (with_published exchange.replacement e) else list_failed by target sizes k e).entry in
+        Settled later ⊎ (later ≡ (list_failed by target sizes k e).entry))
+    of true = inl (retires_settles by (retires.List k) (to_retire exchange.retire e.hand.registers) (with_published exchange.replacement e) (published_eight exchange.replacement e eight) tt)
     of false = inr refl
 
-  list_goes : (k : ℕ) (o : Option CasEntry) (word : ℕ) (e : Entry) → HasEight e → e.routine ≡ InList k → 1 ≤ k → Settled (list_accepted target sizes k o word e).entry
-  list_goes k None word e eight is some = same e (InList k) is some
-  list_goes k (Some exchange) word e eight is some = ⊎_elim
-      (λ (t : Settled (entry_ended target sizes k exchange word e).entry). t)
-      (λ (t : (entry_ended target sizes k exchange word e).entry ≡ list_ended target sizes k e). subst Settled (sym t) (ended_settles k e eight some))
-      (entry_settles k exchange word e eight)
+  list_stays : (by : Reclamation) (k : ℕ) (o : Option CasEntry) (word : ℕ) (e : Entry) → HasEight e → e.routine ≡ InList k → 1 ≤ k → Settled (list_accepted by target sizes k o word e).entry
+  list_stays by k None word e eight is some = same e (InList k) is some
+  list_stays by k (Some exchange) word e eight is some = ⊎_elim
+      (λ (t : Settled (entry_ended by target sizes k exchange word e).entry). t)
+      (λ (t : (entry_ended by target sizes k exchange word e).entry ≡ (list_failed by target sizes k e).entry). subst Settled (sym t) (failed_settles by k e eight some))
+      (entry_settles by k exchange word e eight)
 
-  list_publishes : (k : ℕ) (o : Option CasEntry) (word : ℕ) (e : Entry) → HasEight e → Settled (list_accepted target sizes k o word e).entry ⊎ ((list_accepted target sizes k o word e).entry.cradles ≡ e.cradles)
-  list_publishes k None word e eight = inr refl
-  list_publishes k (Some exchange) word e eight = ⊎_elim
-      (λ (t : Settled (entry_ended target sizes k exchange word e).entry). inl t)
-      (λ (t : (entry_ended target sizes k exchange word e).entry ≡ list_ended target sizes k e). inr (ap (λ (x : Entry). x.cradles) t ∙ (ended_moves target sizes k e).0.0))
-      (entry_settles k exchange word e eight)
+  list_publishes : (by : Reclamation) (k : ℕ) (o : Option CasEntry) (word : ℕ) (e : Entry) → HasEight e → Settled (list_accepted by target sizes k o word e).entry ⊎ ((list_accepted by target sizes k o word e).entry.cradles ≡ e.cradles)
+  list_publishes by k None word e eight = inr refl
+  list_publishes by k (Some exchange) word e eight = ⊎_elim
+      (λ (t : Settled (entry_ended by target sizes k exchange word e).entry). inl t)
+      (λ (t : (entry_ended by target sizes k exchange word e).entry ≡ (list_failed by target sizes k e).entry). inr (ap (λ (x : Entry). x.cradles) t ∙ (failed_moves target sizes by k e).0.0))
+      (entry_settles by k exchange word e eight)
 
-  retired_settles : (go : AfterRetire) (o : Option Retirement) (e : Entry) → HasEight e → RetireSettles (HoldsIn e) e.hand go → Settled (retired_on target sizes go o e).entry
-  retired_settles go None e eight settled = onward_settles go (with_routine e At) eight settled
-  retired_settles go (Some retirement) e eight settled = settled
+  retired_settles : (by : Reclamation) (go : AfterRetire) (o : Option Retirement) (e : Entry) → HasEight e → RetireSettles (HoldsIn e) e.hand go → Settled (retired_on by target sizes go o e).entry
+  retired_settles by go None e eight settled = onward_settles by go (with_routine e At) eight settled
+  retired_settles by go (Some retirement) e eight settled = settled
+
+  -- it leaves, and announces no more
+  leaving_settles : (announcing : Announcing) (word : ℕ) (e : Entry) → LeaveSettles announcing → Settled (announced target sizes announcing word e).entry
+  leaving_settles (announces.Loads why) word e settled = absurd settled
+  leaving_settles (announces.Stores why phase) word e settled = absurd settled
+  leaving_settles (announces.Leaves reply) word e settled = tt
 
   start_settles : (why : MethodStart) (word : ℕ) (e : Entry) → StartSettles e.hand why → Settled (seen_loaded target sizes why word e).entry
   start_settles starts.Begin word e settled = absurd settled
@@ -340,28 +454,29 @@ module _ (target : Target) (setting : Setting) (Holds : ℕ → ℕ → Register
   abbrev Stays : Entry → Type 0
   Stays e = Settled target setting.sizes Holds begins carries e
 
-  step_settles : (word : ℕ) (e : Entry) (routine : Routine) → HasEight e → e.routine ≡ routine → SettledAt (Holds e.running.call.op) e.hand routine → Stays (accepted target setting word e routine).entry
-  step_settles word e Idle eight is settled = same target setting.sizes Holds begins carries e Idle is tt
-  step_settles word e (LoadSeen why) eight is settled = start_settles target setting.sizes Holds begins carries why word e settled
-  step_settles word e At eight is settled = accepted_instr target setting.sizes Holds begins carries (instr_in target e) word e eight is settled.0 settled.1 (carried_here target setting.sizes Holds begins carries e settled.0 settled.1)
-  step_settles word e (InList k) eight is settled = list_goes target setting.sizes Holds begins carries k (slice_get (list_of (instr_in target e)) k) word e eight is settled
-  step_settles word e (Retires retirement go) eight is settled = retired_settles target setting.sizes Holds begins carries go (retire_accepts retirement word) e eight settled
-  step_settles word e Restarts eight is settled =
+  step_settles : (by : Reclamation) (word : ℕ) (e : Entry) (routine : Routine) → HasEight e → e.routine ≡ routine → SettledAt (Holds e.running.call.op) e.hand routine → Stays (accepted by target setting word e routine).entry
+  step_settles by word e Idle eight is settled = same target setting.sizes Holds begins carries e Idle is tt
+  step_settles by word e (LoadSeen why) eight is settled = start_settles target setting.sizes Holds begins carries why word e settled
+  step_settles by word e At eight is settled = accepted_instr target setting.sizes Holds begins carries by (instr_in target e) word e eight is settled.0 settled.1 (carried_here target setting.sizes Holds begins carries e settled.0 settled.1)
+  step_settles by word e (InList k) eight is settled = list_stays target setting.sizes Holds begins carries by k (slice_get (list_of (instr_in target e)) k) word e eight is settled
+  step_settles by word e (Retires retirement go) eight is settled = retired_settles target setting.sizes Holds begins carries by go (retire_accepts retirement word) e eight settled
+  step_settles by word e Restarts eight is settled =
       restarted_settles target setting.sizes Holds begins carries (with_hand e (unguarded (restart_next target e) e.hand)) (unguarded_wraps (restart_next target e) e.hand settled)
-  step_settles word e (Clears next) eight is settled =
+  step_settles by word e (Clears next) eight is settled =
       cleared_settles target setting.sizes Holds begins carries next (with_hand e (unguarded (clear_next target next e) e.hand)) (unguarded_clears (clear_next target next e) e.hand next settled)
-  step_settles word e (Claims claim) eight is settled = absurd settled
-  step_settles word e (Zeroes k field) eight is settled = absurd settled
+  step_settles by word e (Claims claim) eight is settled = absurd settled
+  step_settles by word e (Zeroes k field) eight is settled = absurd settled
+  step_settles by word e (Announces announcing) eight is settled = leaving_settles target setting.sizes Holds begins carries announcing word e settled
 
   -- such a caller stays one
   pub after_settles : (e : Entry) (word : ℕ) → length e.hand.registers.numbers ≡ 8 → Stays e → Stays (after target setting e word)
   unfolding after
-  after_settles e word eight settled = step_settles word (counted e) e.routine eight refl settled
+  after_settles e word eight settled = step_settles setting.reclamation word (counted e) e.routine eight refl settled
 
   -- and a list's step makes one, or leaves the cradles
   pub after_publishes : (e : Entry) (word k : ℕ) → length e.hand.registers.numbers ≡ 8 → e.routine ≡ InList k → Stays (after target setting e word) ⊎ ((after target setting e word).cradles ≡ e.cradles)
   unfolding after
   after_publishes e word k eight is = of e.routine is where
-    of : (routine : Routine) → routine ≡ InList k → Stays (accepted target setting word (counted e) routine).entry ⊎ ((accepted target setting word (counted e) routine).entry.cradles ≡ e.cradles)
-    of routine same = subst (λ (r : Routine). Stays (accepted target setting word (counted e) r).entry ⊎ ((accepted target setting word (counted e) r).entry.cradles ≡ e.cradles)) (sym same)
-        (list_publishes target setting.sizes Holds begins carries k (slice_get (list_of (instr_in target (counted e))) k) word (counted e) eight)
+    of : (routine : Routine) → routine ≡ InList k → Stays (accepted setting.reclamation target setting word (counted e) routine).entry ⊎ ((accepted setting.reclamation target setting word (counted e) routine).entry.cradles ≡ e.cradles)
+    of routine same = subst (λ (r : Routine). Stays (accepted setting.reclamation target setting word (counted e) r).entry ⊎ ((accepted setting.reclamation target setting word (counted e) r).entry.cradles ≡ e.cradles)) (sym same)
+        (list_publishes target setting.sizes Holds begins carries setting.reclamation k (slice_get (list_of (instr_in target (counted e))) k) word (counted e) eight)

@@ -112,7 +112,7 @@ rejection_sentence number at =
 abbrev pub explanation : Status → List ℕ
 explanation Done = []
 explanation Partial = codes "oa: at least one call has no answer: full (two sweeps freed no slot for its new node), phases (the last phase is over), spent (it used up its fuel, the steps that one call may make) or unreached (an earlier call of its caller was spent). More slots, phases or fuel may answer it: see 'The answers' in docs/language.md.\n"
-explanation Usage = codes "oa: usage: oa COMMAND < DOCUMENT, oa judge check < CERTIFICATE, or oa workload N C\n  run          make the document's calls on threads, and print their answers\n  replay       make them step by step, in the order of the document's schedule\n  check        say whether its text is in normal form\n  show         print its text in the canonical spelling\n  upgrade      print the whole document in the canonical spelling\n  compile      print its text with checks and guards\n  judge make   replay the calls, and print a certificate of that run\n  judge check  say whether a certificate tells of a run of its document, with its replies\n  workload     make N calls on a hash set (1 to 100000), after up to 2000 by each of C callers (1 to 8)\nSee docs/language.md for documents.\n"
+explanation Usage = codes "oa: usage: oa COMMAND < DOCUMENT, oa judge check < CERTIFICATE, or oa workload N C\n  run          make the document's calls on threads, and print their answers\n  replay       make them step by step, in the order of the document's schedule\n  epochs       make them on threads as run does, on the text as it is\n  check        say whether its text is in normal form\n  show         print its text in the canonical spelling\n  upgrade      print the whole document in the canonical spelling\n  compile      print its text with checks and guards\n  judge make   replay the calls, and print a certificate of that run\n  judge check  say whether a certificate tells of a run of its document, with its replies\n  workload     make N calls on a hash set (1 to 100000), after up to 2000 by each of C callers (1 to 8)\nSee docs/language.md for documents.\n"
 explanation ReadFault = codes "oa: standard input could not be read to its end, so nothing was judged. Check the file or the pipe, and try again.\n"
 explanation LongInput = codes "oa: the input is longer than 1048576 bytes, the most that a document may have, or than 268435456, the most that a certificate may have. Make two documents of it, or a certificate of fewer calls.\n"
 explanation (BadDocument line fault) = fault_sentence line fault

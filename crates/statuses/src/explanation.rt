@@ -14,7 +14,7 @@ const SHORT: &[u8] =
     b"oa: at least one call has no answer: full (two sweeps freed no slot for its new node), phases (the last phase is over), spent (it used up its fuel, the steps that one call may make) or unreached (an earlier call of its caller was spent). More slots, phases or fuel may answer it: see 'The answers' in docs/language.md.\n";
 
 const USAGE: &[u8] =
-    b"oa: usage: oa COMMAND < DOCUMENT, oa judge check < CERTIFICATE, or oa workload N C\n  run          make the document's calls on threads, and print their answers\n  replay       make them step by step, in the order of the document's schedule\n  check        say whether its text is in normal form\n  show         print its text in the canonical spelling\n  upgrade      print the whole document in the canonical spelling\n  compile      print its text with checks and guards\n  judge make   replay the calls, and print a certificate of that run\n  judge check  say whether a certificate tells of a run of its document, with its replies\n  workload     make N calls on a hash set (1 to 100000), after up to 2000 by each of C callers (1 to 8)\nSee docs/language.md for documents.\n";
+    b"oa: usage: oa COMMAND < DOCUMENT, oa judge check < CERTIFICATE, or oa workload N C\n  run          make the document's calls on threads, and print their answers\n  replay       make them step by step, in the order of the document's schedule\n  epochs       make them on threads as run does, on the text as it is\n  check        say whether its text is in normal form\n  show         print its text in the canonical spelling\n  upgrade      print the whole document in the canonical spelling\n  compile      print its text with checks and guards\n  judge make   replay the calls, and print a certificate of that run\n  judge check  say whether a certificate tells of a run of its document, with its replies\n  workload     make N calls on a hash set (1 to 100000), after up to 2000 by each of C callers (1 to 8)\nSee docs/language.md for documents.\n";
 
 const READ_FAULT: &[u8] =
     b"oa: standard input could not be read to its end, so nothing was judged. Check the file or the pipe, and try again.\n";
@@ -30,7 +30,7 @@ const MEMORY: &[u8] =
 
 /// What is wrong with a line, by the number of its fault.
 #[tactic(auto, unfolding(crate::specs::Explanations::fault_words))]
-fn fault_words(fault: u8) -> &'static [u8]
+pub fn fault_words(fault: u8) -> &'static [u8]
     ensures { result.now ≡ fault_words fault }
 {
     if fault == 1 {
@@ -56,7 +56,7 @@ fn fault_words(fault: u8) -> &'static [u8]
 
 /// A rule of the normal form, by its number.
 #[tactic(auto, unfolding(crate::specs::Explanations::rule_words))]
-fn rule_words(rule: u8) -> &'static [u8]
+pub fn rule_words(rule: u8) -> &'static [u8]
     ensures { result.now ≡ rule_words rule }
 {
     if rule == 1 {
@@ -96,7 +96,7 @@ fn rule_words(rule: u8) -> &'static [u8]
 
 /// What is wrong with a document's shape, by its number.
 #[tactic(auto, unfolding(crate::specs::Explanations::shape_words))]
-fn shape_words(number: u8) -> &'static [u8]
+pub fn shape_words(number: u8) -> &'static [u8]
     ensures { result.now ≡ shape_words number }
 {
     if number == 1 {
@@ -126,7 +126,8 @@ fn shape_words(number: u8) -> &'static [u8]
     }
 }
 
-fn method_words(wrapup: bool) -> &'static [u8]
+/// A method of an operation, as it stands after the number of its instruction.
+pub fn method_words(wrapup: bool) -> &'static [u8]
     ensures { result.now ≡ method_words wrapup }
 {
     if wrapup {

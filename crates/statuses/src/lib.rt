@@ -4,6 +4,6 @@
 mod explanation;
 mod status;
 
-pub use explanation::explain;
+pub use explanation::{explain, fault_words, method_words, rule_words, shape_words};
 pub use norm_check::Refusal;
 pub use status::{Status, status_number};

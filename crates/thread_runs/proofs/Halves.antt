@@ -13,7 +13,7 @@ use Rattle.thread_runs.specs.Scripts.{Fresh, RanScript, Finished, Took, Ended}
 took_number : (key : Fixed) (calls : List Call) (n : ℕ) (e e' : Entry) → Took key calls n e e' → e'.number ≡ e.number
 took_number key [] n e e' h = ap (λ (x : Entry). x.number) h
 took_number key (call ∷ calls) n e e' h =
-    let mid : h.0.number ≡ e.number = advances_number key.target.target key.setting (taken call e) h.0 h.2.words h.2.advances in
+    let mid : h.0.number ≡ e.number = advances_number key.target.target key.setting (taken key.setting.reclamation call e) h.0 h.2.words h.2.advances in
     ⊎_elim
     (λ (t : (is_idle h.0.routine ≡ false) × (e' ≡ h.0)). ap (λ (x : Entry). x.number) t.1 ∙ mid)
     (λ (t : (is_idle h.0.routine ≡ true) × Took key calls n h.0 e'). took_number key calls n h.0 e' t.1 ∙ mid)

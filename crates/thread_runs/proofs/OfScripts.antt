@@ -6,7 +6,9 @@ use Rattle.caller_parts.specs.declared.call.Call.{Call}
 use Rattle.caller_parts.specs.declared.call.Running.{Running}
 use Rattle.caller_parts.specs.Pairing.{run_of, replied_by}
 use Rattle.caller_steps.specs.Entries.{Entry, RoomyEntry, idle_entry, one_more, is_idle}
-use Rattle.caller_steps.specs.After.{taken}
+use Rattle.caller_parts.specs.declared.setting.Reclamation.{Reclamation}
+use Rattle.caller_parts.specs.declared.setting.Reclamation.TheVariants.{Optimistic, Epochs}
+use Rattle.caller_steps.specs.After.{first_routine, taken}
 use Rattle.core_runs.specs.Machine.{CoreState}
 use Rattle.core_runs.specs.Advances.{Stays, Stops, counted_on}
 use Rattle.core_runs.specs.Histories.{running_of, calls_of, calls_in}
@@ -31,18 +33,23 @@ counted_exact n (w ∷ ws) lt =
 abbrev one_of : Call → ℕ → List Running
 one_of call steps = record { call = call; steps = steps } ∷ []
 
+-- by either scheme a caller that has taken a call isn't idle
+first_busy : (by : Reclamation) → is_idle (first_routine by) ≡ false
+first_busy Optimistic = refl
+first_busy Epochs = refl
+
 -- one call
-one_call : (key : Fixed) (e mid : Entry) (call : Call) (fuel accesses : ℕ) → is_idle e.routine ≡ true → (o : Operated key (taken call e) fuel mid accesses) → calls_of mid ≡ calls_of e ++ one_of call (counted_on 0 o.words)
+one_call : (key : Fixed) (e mid : Entry) (call : Call) (fuel accesses : ℕ) → is_idle e.routine ≡ true → (o : Operated key (taken key.setting.reclamation call e) fuel mid accesses) → calls_of mid ≡ calls_of e ++ one_of call (counted_on 0 o.words)
 one_call key e mid call fuel accesses idle o =
     let kept : List Running = map run_of e.replies in
     let one : List Running = one_of call (counted_on 0 o.words) in
     let before : calls_of e ++ one ≡ kept ++ one = ap (λ (b : Bool). (kept ++ running_of b e) ++ one) idle ∙ ap (λ (l : List Running). l ++ one) (append-nil kept) in
     ⊎_elim
-    (λ (t : Stays (taken call e) o.words mid). (λ i. map run_of (t.replies i) ++ running_of (t.busy i) mid) ∙ ((λ i. kept ++ t.running i ∷ []) ∙ sym before))
-    (λ (t : Stops (taken call e) o.words mid). (λ i. map run_of (t.replies i) ++ running_of (t.idle i) mid)
+    (λ (t : Stays (taken key.setting.reclamation call e) o.words mid). (λ i. map run_of (t.replies i) ++ running_of (t.busy i) mid) ∙ ((λ i. kept ++ t.running i ∷ []) ∙ sym before))
+    (λ (t : Stops (taken key.setting.reclamation call e) o.words mid). (λ i. map run_of (t.replies i) ++ running_of (t.idle i) mid)
     ∙ (append-nil (map run_of (e.replies ++ replied_by t.reply mid.running ∷ []))
     ∙ (map-append run_of e.replies (replied_by t.reply mid.running ∷ []) ∙ ((λ i. kept ++ t.running i ∷ []) ∙ sym before))))
-    ((runs_end key.target.target key.setting).all (taken call e) mid o.words refl o.advances)
+    ((runs_end key.target.target key.setting).all (taken key.setting.reclamation call e) mid o.words (first_busy key.setting.reclamation) o.advances)
 
 -- the calls that were added
 record Added (fuel : ℕ) (script : List Call) (e e' : Entry) : Type 0 where
@@ -66,7 +73,7 @@ added key fuel [] e e' some lt idle took = record {
 }
 added key fuel (call ∷ script) e e' some lt idle took =
     let mid : Entry = took.0 in
-    let o : Operated key (taken call e) fuel mid took.1 = took.2 in
+    let o : Operated key (taken key.setting.reclamation call e) fuel mid took.1 = took.2 in
     let few : length o.words ≤ fuel = let each = o.each in let most = o.few in omega arith in
     let exact : counted_on 0 o.words ≡ 0 + length o.words = counted_exact 0 o.words (omega (arith, few, lt)) in
     let bound : counted_on 0 o.words ≤ fuel = omega (arith, exact, few) in

@@ -12,7 +12,7 @@ use Rattle.word_runner.specs.Shown.{ArenaShown, CallerShown, CameFrom, Operated}
 abbrev pub Took : Fixed → List Call → ℕ → Entry → Entry → Type 0
 Took key [] fuel e e' = e' ≡ e
 Took key (call ∷ calls) fuel e e' =
-    (mid : Entry) × (accesses : ℕ) × Operated key (taken call e) fuel mid accesses
+    (mid : Entry) × (accesses : ℕ) × Operated key (taken key.setting.reclamation call e) fuel mid accesses
     × (((is_idle mid.routine ≡ false) × (e' ≡ mid)) ⊎ ((is_idle mid.routine ≡ true) × Took key calls fuel mid e'))
 
 -- a caller ran the script

@@ -1,7 +1,10 @@
-//! A whole run: from the target to the final state.
+//! A whole run: from what callers run to the final state.
 
 ghost use Rattle.std.specs.Prelude.{◌≡◌, ◌<◌, ◌+◌, length, IfOk};
 ghost use Rattle.caller_parts.specs.Settings.{Fits};
+ghost use Rattle.caller_parts.specs.declared.setting.Reclamation.TheVariants.{Epochs};
+ghost use Rattle.bare_targets.specs.Bare.{bare};
+ghost use Rattle.core_entries.specs.Running.{bare_pair};
 ghost use Rattle.core_runs.specs.Scripts.{SuitScripts};
 ghost use Rattle.word_runner.specs.Shown.{CameFrom};
 ghost use Rattle.thread_runs.specs.Scripts.{AllFresh, Finished, AllFinished};
@@ -10,6 +13,7 @@ ghost use Rattle.thread_runs.specs.Whole.{IsBlank, AllBlank, AllEnded, HasRooms,
 use crate::scripts::{CallList, run_all};
 use barrier_check::Barred;
 use caller_steps::Setting;
+use norm_check::Normal;
 use oa_text::Gate;
 use std::alloc::{AllocError, Global};
 use std::thread::Threads;
@@ -151,6 +155,34 @@ fn run_callers<R: Threads + Sync, G: Gate + Sync>(
     }
 }
 
+/// Runs the scripts on an arena that was made for them, and closes it.
+fn run_on<R: Threads + Sync, G: Gate + Sync>(
+    rt: &R,
+    alloc: Global,
+    arena: Arena,
+    first: Blank,
+    room: u32,
+    scripts: &[CallList],
+    fuel: u64,
+    gate: &G,
+) -> Result<Final, AllocError>
+    requires first { IsBlank arena room first }
+    requires suit { SuitScripts arena.fixed.target.target arena.fixed.setting scripts.now }
+    requires some { 0 < length scripts.now }
+    requires rooms { HasRooms scripts.now room }
+    requires short { AreShort scripts.now }
+    requires fuel { 0 < fuel }
+    ensures { IfOk result (λ f. IsFinalOf arena.fixed scripts.now fuel f.phase f.entries) }
+{
+    match run_callers(rt, alloc, &arena, first, room, scripts, fuel, gate) {
+        Ok(rest) => Ok(arena.close(rest)),
+        Err(error) => {
+            drop(arena);
+            Err(error)
+        }
+    }
+}
+
 /// Runs the scripts by as many callers on threads, half of them in a thread of their own and so on, where threads can be made, and
 /// closes their table: the final state is that of a complete core run of the scripts. Each call gets at most `fuel` steps, and
 /// after one that has used them up its caller makes no further call. Before each call its caller passes the gate with its number
@@ -178,11 +210,31 @@ pub fn run_scripts<R: Threads + Sync, G: Gate + Sync>(
     setting.kept();
     let room = longest(scripts);
     let (arena, first) = Arena::make(alloc, barred, setting, room)?;
-    match run_callers(rt, alloc, &arena, first, room, scripts, fuel, gate) {
-        Ok(rest) => Ok(arena.close(rest)),
-        Err(error) => {
-            drop(arena);
-            Err(error)
-        }
-    }
+    run_on(rt, alloc, arena, first, room, scripts, fuel, gate)
+}
+
+/// Runs the scripts as `run_scripts` does, on a text that is run as it is, under epochs.
+///
+/// # Errors
+/// As those of `run_scripts`.
+pub fn run_bare<R: Threads + Sync, G: Gate + Sync>(
+    rt: &R,
+    alloc: Global,
+    normal: Normal,
+    setting: Setting,
+    scripts: &[CallList],
+    fuel: u64,
+    gate: &G,
+) -> Result<Final, AllocError>
+    requires fits { Fits (bare normal) setting }
+    requires epochs { setting.reclamation ≡ Epochs }
+    requires suit { SuitScripts (bare normal) setting scripts.now }
+    requires short { AreShort scripts.now }
+    requires fuel { 0 < fuel }
+    ensures { IfOk result (λ f. IsFinalOf (record { target = bare_pair normal; setting = setting }) scripts.now fuel f.phase f.entries) }
+{
+    setting.kept();
+    let room = longest(scripts);
+    let (arena, first) = Arena::make_bare(alloc, normal, setting, room)?;
+    run_on(rt, alloc, arena, first, room, scripts, fuel, gate)
 }

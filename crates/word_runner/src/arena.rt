@@ -7,7 +7,7 @@ ghost use Rattle.caller_steps.specs.After.{taken};
 ghost use Rattle.oa_words.specs.Words.{word_count};
 ghost use Rattle.word_runner.specs.table_rule.Seen.{IsGround};
 ghost use Rattle.word_runner.specs.table_rule.Rule.{callers_of};
-ghost use Rattle.word_runner.specs.table_rule.Plays.{CanGo, Belonging, parted, cut_off, joined, Looked, with_accesses, with_entry, with_found};
+ghost use Rattle.word_runner.specs.table_rule.Plays.{CanGo, Belonging, NewcomersBelong, parted, cut_off, joined, Looked, with_accesses, with_entry, with_found};
 ghost use Rattle.word_runner.specs.table_rule.Drives.{Went, Ran};
 ghost use Rattle.word_runner.specs.table_rule.Closing.{Shut};
 
@@ -82,9 +82,10 @@ impl Arena {
         self.ground.setting.shape().callers()
     }
 
-    /// A target that is barred, and a setting that fits it.
+    /// A target that callers may run, and a setting that fits it: so each caller's empty entry belongs.
     pub(crate) fn kept(&self)
-        ensures { IsGround self.now.fixed }
+        ensures ground { IsGround self.now.fixed }
+        ensures idle { NewcomersBelong self.now.fixed }
     {
         let _ = &self.ground;
     }
@@ -136,10 +137,11 @@ impl Arena {
         requires idle { is_idle entry.old.core.routine ≡ true }
         requires spare { length entry.old.core.replies < entry.old.room }
         requires call { is_call self.now.fixed.target.target (record { op = op; args = args }) ≡ true }
-        ensures taken { entry.new ≡ record entry.old { core = taken (record { op = op; args = args }) entry.old.core } }
+        ensures taken { entry.new ≡ record entry.old { core = taken self.now.fixed.setting.reclamation (record { op = op; args = args }) entry.old.core } }
         ensures belongs { Belonging self.now.fixed entry.new.core }
     {
-        entry.begin(self.ground.target.barred(), op, args);
+        let by = self.ground.setting.reclamation();
+        entry.begin_by(by, self.ground.target.runs(), op, args);
     }
 
     /// One step of the entry.

@@ -105,7 +105,7 @@ impl Caller {
         requires call { is_call self.old.fixed.target.target (record { op = op; args = args }) ≡ true }
         requires budget { 0 < budget }
         ensures same { (self.new.table ≡ self.old.table) × (self.new.fixed ≡ self.old.fixed) × (self.new.entry.room ≡ self.old.entry.room) }
-        ensures steps { (accesses : ℕ) × (self.new.accesses ≡ self.old.accesses + accesses) × Operated self.old.fixed (taken (record { op = op; args = args }) self.old.entry.core) budget self.new.entry.core accesses }
+        ensures steps { (accesses : ℕ) × (self.new.accesses ≡ self.old.accesses + accesses) × Operated self.old.fixed (taken self.old.fixed.setting.reclamation (record { op = op; args = args }) self.old.entry.core) budget self.new.entry.core accesses }
         ensures seat { self.new.parts ≡ self.old.parts }
         ensures belongs { Belonging self.old.fixed self.new.entry.core }
         ensures outcome { Replies self.old.entry.core (record { op = op; args = args }) (answer_of result) self.new.entry.core }

@@ -10,10 +10,12 @@ use Rattle.target_code.specs.declared.target.Target.{Target}
 use Rattle.caller_parts.specs.declared.call.Call.{Call}
 use Rattle.caller_parts.specs.Operands.{cradle_count}
 use Rattle.caller_parts.specs.Calls.{is_call, is_call_of}
+use Rattle.caller_parts.specs.declared.setting.Reclamation.{Reclamation}
+use Rattle.caller_parts.specs.declared.setting.Reclamation.TheVariants.{Optimistic, Epochs}
 use Rattle.caller_parts.specs.Settings.{Setting}
 use Rattle.caller_steps.specs.Entries.{Entry, idle_entry, code_in}
 use Rattle.caller_steps.specs.After.{taken}
-use Rattle.caller_steps.specs.Belongs.{Belongs}
+use Rattle.caller_steps.specs.Belongs.{Belongs, HandBelongs, HaveKinds, Reaches}
 use Rattle.core_runs.proofs.caller_laws.Methods.{Methods}
 use Rattle.core_runs.proofs.caller_laws.Reaching.{start_reached}
 use Rattle.core_runs.proofs.caller_laws.Stopping.{first_names}
@@ -56,21 +58,35 @@ called target call is = of (slice_get target.ops call.op) refl is
     of None at wrong = absurd (let z : false ≡ true = wrong in cc)
     of (Some op) at right = slice_get_within target.ops call.op op at
 
-pub taken_belongs : (target : Target) (setting : Setting) (call : Call) (e : Entry) → Methods target → is_call target call ≡ true → Belongs target setting e → Belongs target setting (taken call e)
-taken_belongs target setting call e methods is b = record {
-  number = b.number;
-  op = called target call is;
-  hand = record {
-    registers = first_names setting.sizes.slots call.args;
-    started = first_names setting.sizes.slots [];
-    guards = b.hand.guards;
-    seen = b.hand.seen;
-  };
-  cradles = b.cradles;
-  reaches = start_reached (code_in target (taken call e)) (first_registers call.args) (methods.some call.op false (called target call is));
-  kinds = record {
-    now = first_typed target setting false (slice_get target.ops call.op) 0 call.args;
-    started = λ wrapup. absurd (let no : false ≡ true = wrapup in cc);
-  };
-  stands = (refl, refl);
-}
+-- by either scheme: it stands at the start of the call's generator, before the first access of the call
+pub taken_belongs : (target : Target) (setting : Setting) (by : Reclamation) (call : Call) (e : Entry) → Methods target → setting.reclamation ≡ by → is_call target call ≡ true → Belongs target setting e
+    → Belongs target setting (taken by call e)
+taken_belongs target setting by call e methods scheme is b = of by scheme where
+  hand : HandBelongs setting (record e.hand { wrapup = false; at = 0; registers = first_registers call.args; started = first_registers [] })
+  hand = record { registers = first_names setting.sizes.slots call.args; started = first_names setting.sizes.slots []; guards = b.hand.guards; seen = b.hand.seen }
+
+  reached : Reaches (code_in target (taken by call e)) 0 (first_registers call.args)
+  reached = start_reached (code_in target (taken by call e)) (first_registers call.args) (methods.some call.op false (called target call is))
+
+  now : HaveKinds target setting (slice_get target.ops call.op) false 0 (first_registers call.args)
+  now = first_typed target setting false (slice_get target.ops call.op) 0 call.args
+
+  of : (by : Reclamation) → setting.reclamation ≡ by → Belongs target setting (taken by call e)
+  of Optimistic scheme = record {
+    number = b.number;
+    op = called target call is;
+    hand = hand;
+    cradles = b.cradles;
+    reaches = reached;
+    kinds = record { now = now; started = λ wrapup. absurd (let no : false ≡ true = wrapup in cc) };
+    stands = (scheme, (refl, refl));
+  }
+  of Epochs scheme = record {
+    number = b.number;
+    op = called target call is;
+    hand = hand;
+    cradles = b.cradles;
+    reaches = reached;
+    kinds = record { now = now; started = λ wrapup. absurd (let no : false ≡ true = wrapup in cc) };
+    stands = (scheme, (refl, refl));
+  }

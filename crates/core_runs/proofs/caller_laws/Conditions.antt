@@ -1,5 +1,5 @@
 -- An entry that belongs has what its code needs: what is asked of an entry that asks, and of one that is told a lawful word.
-use Rattle.std.proofs.Common.{◌≡◌, ℕ, zero, suc, ◌+◌, ◌≤◌, ◌<◌, ◌^◌, true, false, length, Option, Some, None, refl, sym, subst, ap, arith}
+use Rattle.std.proofs.Common.{◌≡◌, ℕ, zero, suc, ◌+◌, ◌≤◌, ◌<◌, ◌^◌, true, false, length, Option, Some, None, refl, subst, ap, arith}
 use Rattle.std.specs.Prelude.{slice_get, nat_lt, nat_le}
 use Rattle.std.specs.List.{list_all}
 use Rattle.std.proofs.lemmas.Bool.{and_parts, leb-true}
@@ -18,29 +18,28 @@ use Rattle.norm_lang.specs.Local.{remainder}
 use Rattle.target_code.specs.declared.target.TargetInstr.{TargetInstr}
 use Rattle.target_code.specs.declared.target.TargetInstr.TheVariants.{Plain, Check, Guard}
 use Rattle.target_code.specs.declared.target.Target.{Target}
-use Rattle.oa_words.specs.Words.{FieldOf, Sizes, in_row}
-use Rattle.phase_pools.specs.declared.stages.Scheme.{Scheme}
-use Rattle.phase_pools.specs.declared.stages.Scheme.TheVariants.{Warned}
+use Rattle.oa_words.specs.Words.{FieldOf, in_row}
 use Rattle.phase_pools.specs.declared.stages.ClaimStage.{ClaimStage}
 use Rattle.phase_pools.specs.declared.stages.ClaimStage.TheVariants as claims
 use Rattle.phase_pools.specs.declared.stages.RetireStage.{RetireStage}
 use Rattle.phase_pools.specs.declared.stages.RetireStage.TheVariants as retires
-use Rattle.phase_pools.specs.Pools.{Sweep, retire_wants_at}
+use Rattle.phase_pools.specs.Pools.{Sweep, Claim, retire_wants_at}
 use Rattle.phase_pools.specs.Ranges.{HasOwn, ClaimInRange, RetireTold}
 use Rattle.caller_parts.specs.declared.routine.AfterRetire.{AfterRetire}
 use Rattle.caller_parts.specs.declared.routine.AfterRetire.TheVariants as onwards
 use Rattle.caller_parts.specs.declared.routine.Routine.{Routine}
-use Rattle.caller_parts.specs.declared.routine.Routine.TheVariants.{Idle, LoadSeen, At, InList, Retires, Restarts, Clears, Claims, Zeroes}
+use Rattle.caller_parts.specs.declared.routine.Routine.TheVariants.{Idle, LoadSeen, At, InList, Retires, Restarts, Clears, Claims, Zeroes, Announces}
 use Rattle.caller_parts.specs.Settings.{Fits, IsSetting, Setting}
 use Rattle.caller_steps.specs.Entries.{Entry, is_idle, code_in, instr_in, op_of, zero_count}
 use Rattle.caller_parts.specs.Operands.{list_of, slot_in, word_in, is_new_at, AreSlots}
 use Rattle.caller_parts.specs.Spared.{restart_spares, then_spares}
 use Rattle.caller_steps.specs.Wants.{exchange_wanted, instr_wanted, list_wanted, object_exchange, place_exchange, plain_wanted, wanted, wants}
 use Rattle.caller_steps.specs.Lawful.{Accepts, AsksSafely, IsSafe, MayBeTold}
-use Rattle.caller_steps.specs.Belongs.{Belongs, NamesSlots, ClaimStands, Reaches, RetireFits, RunsAt, Stands, SweepBelongs}
+use Rattle.caller_steps.specs.Belongs.{Belongs, ClaimBelongs, NamesSlots, ClaimStands, Reaches, RetireFits, RunsAt, Stands, SweepBelongs}
 use Rattle.caller_steps.specs.Asking.{CanAccept, CanAsk, CanAskInstr, CanAskList, CanAskPlain, CanExchange, HasField, InstrAccepts, IsNear}
 use Rattle.core_runs.proofs.caller_laws.OfKinds.{of_row}
 use Rattle.core_runs.proofs.caller_laws.Methods.{Methods, SettingSane, setting_sane, zero_count_fits}
+use Rattle.core_runs.proofs.caller_laws.Schemes.{has_own}
 use Rattle.core_runs.proofs.caller_laws.Stopping.{site_of}
 use Rattle.core_runs.proofs.caller_laws.Named.{named}
 use Rattle.core_runs.proofs.caller_laws.Safety.{below, list_there, wants_safe}
@@ -100,17 +99,17 @@ ask_list : (target : Target) (setting : Setting) (o : Option CasEntry) (register
 ask_list target setting None registers safe = tt
 ask_list target setting (Some exchange) registers safe = can_exchange target setting exchange registers safe
 
-claim_ranges : (setting : Setting) (k : ℕ) (sweep : Sweep) (stage : ClaimStage) → SettingSane setting → ClaimStands setting k stage → SweepBelongs setting sweep → ClaimInRange setting.sizes sweep stage
-claim_ranges setting k sweep claims.ReadHead some s own = tt
-claim_ranges setting k sweep (claims.ReadLink q t) some s own = s.1
-claim_ranges setting k sweep (claims.Take q t next) some s own = (s.1, of_row setting.sizes k next s.3)
-claim_ranges setting k sweep (claims.StoreUsed q t) some s own = s.1
-claim_ranges setting k sweep (claims.Withdraw c) some s own = absurd s
-claim_ranges setting k sweep claims.Sweeps some s own = sweep_ranges setting sweep.bound sweep.stage some own.stands
+claim_ranges : (setting : Setting) (k : ℕ) (sweep : Sweep) (stage : ClaimStage) → SettingSane setting → HasOwn setting.sizes sweep.scheme → ClaimStands setting sweep.scheme k stage → SweepBelongs setting sweep → ClaimInRange setting.sizes sweep stage
+claim_ranges setting k sweep claims.ReadHead some has s own = tt
+claim_ranges setting k sweep (claims.ReadLink q t) some has s own = s.1
+claim_ranges setting k sweep (claims.Take q t next) some has s own = (s.1, of_row setting.sizes k next s.3)
+claim_ranges setting k sweep (claims.StoreUsed q t) some has s own = s.1
+claim_ranges setting k sweep (claims.Withdraw announced) some has s own = subst (HasOwn setting.sizes) s has
+claim_ranges setting k sweep claims.Sweeps some has s own = sweep_ranges setting sweep.bound sweep.stage some own.stands
 
--- a claim whose sweeps warn the callers has no announcement of its own
-has_own : (n : Sizes) (scheme : Scheme) → scheme ≡ Warned → HasOwn n scheme
-has_own n scheme is = subst (HasOwn n) (sym is) tt
+-- the caller whose claim it is is one of the row's
+claim_own : (target : Target) (setting : Setting) (e : Entry) (claim : Claim) → Belongs target setting e → ClaimBelongs setting e.number claim → HasOwn setting.sizes claim.sweep.scheme
+claim_own target setting e claim b own = has_own setting.sizes setting.reclamation e.number claim.sweep.scheme own.scheme b.number
 
 -- a field to which a `new` stores 0 is in the row
 zeroes_within : (target : Target) (setting : Setting) (e : Entry) (field : ℕ) → Methods target → Fits target setting → is_new_at (instr_in target e) ≡ true → field < zero_count target (instr_in target e) → field < setting.sizes.fields
@@ -125,8 +124,10 @@ ask_step target setting e (InList k) sane own fits b reaches stands safe = ask_l
 ask_step target setting e (Retires retirement go) sane own fits b reaches stands safe = stands.0.1
 ask_step target setting e Restarts sane own fits b reaches stands safe = clears_register e.hand.guards (restart_spares e.hand.wrapup (op_of target e)) b.hand.guards.row.slots
 ask_step target setting e (Clears next) sane own fits b reaches stands safe = clears_register e.hand.guards (then_spares next (op_of target e)) b.hand.guards.row.slots
-ask_step target setting e (Claims claim) sane own fits b reaches stands safe = (stands.1.kind, claim_ranges setting claim.kind claim.sweep claim.stage (setting_sane setting own) stands.1.stands stands.1.sweep)
+ask_step target setting e (Claims claim) sane own fits b reaches stands safe =
+    (stands.1.kind, claim_ranges setting claim.kind claim.sweep claim.stage (setting_sane setting own) (claim_own target setting e claim b stands.1) stands.1.stands stands.1.sweep)
 ask_step target setting e (Zeroes k field) sane own fits b reaches stands safe = (b.cradles.within k, zeroes_within target setting e field sane fits stands.0 stands.3)
+ask_step target setting e (Announces announcing) sane own fits b reaches stands safe = tt
 
 -- what `pending` needs
 pub can_ask : (target : Target) (setting : Setting) (e : Entry) → Methods target → IsSetting setting → Fits target setting → Belongs target setting e → CanAsk target setting e e.routine
@@ -173,11 +174,12 @@ accept_step target setting e word Restarts sane own fits b reaches stands told =
 accept_step target setting e word (Clears next) sane own fits b reaches stands told = clears_register e.hand.guards (then_spares next (op_of target e)) b.hand.guards.row.slots
 accept_step target setting e word (Claims claim) sane own fits b reaches stands told = (
   stands.1.kind,
-  has_own setting.sizes claim.sweep.scheme stands.1.scheme,
-  claim_ranges setting claim.kind claim.sweep claim.stage (setting_sane setting own) stands.1.stands stands.1.sweep,
+  claim_own target setting e claim b stands.1,
+  claim_ranges setting claim.kind claim.sweep claim.stage (setting_sane setting own) (claim_own target setting e claim b stands.1) stands.1.stands stands.1.sweep,
   claim_told target setting claim.kind claim.sweep word claim.stage told,
 )
 accept_step target setting e word (Zeroes k field) sane own fits b reaches stands told = zeroes_within target setting e field sane fits stands.0 stands.3
+accept_step target setting e word (Announces announcing) sane own fits b reaches stands told = tt
 
 -- what `accept` needs
 pub can_accept : (target : Target) (setting : Setting) (e : Entry) (word : ℕ) → Methods target → IsSetting setting → Fits target setting → Belongs target setting e
@@ -201,3 +203,4 @@ is_near target setting e sane b = of e.routine b.reaches where
   of (Clears next) reaches = let lt = reaches.inside in omega (arith, short, lt)
   of (Claims claim) reaches = let lt = reaches.inside in omega (arith, short, lt)
   of (Zeroes k field) reaches = let lt = reaches.inside in omega (arith, short, lt)
+  of (Announces announcing) reaches = let lt = reaches.inside in omega (arith, short, lt)

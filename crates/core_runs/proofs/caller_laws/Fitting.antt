@@ -18,6 +18,7 @@ use Rattle.caller_steps.specs.Lawful.{Accepts, LawfulHead}
 use Rattle.caller_steps.specs.Belongs.{SweepStands}
 use Rattle.caller_steps.specs.Asking.{IsRegister}
 use Rattle.core_runs.proofs.caller_laws.Methods.{SettingSane}
+use Rattle.core_runs.proofs.caller_laws.Schemes.{warning_within}
 use Rattle.core_runs.proofs.caller_laws.OfKinds.{of_row, kind_known}
 use Rattle.core_runs.proofs.caller_laws.Safety.{least_below}
 
@@ -44,8 +45,8 @@ head_told : (setting : Setting) (k word : ℕ) → LawfulHead setting k word →
 head_told setting k word lawful = (lawful.0, of_row setting.sizes k (head_parts word).top lawful.1)
 
 warned_told : (target : Target) (setting : Setting) (scheme : Scheme) (c s word : ℕ) → Accepts target setting (warn_wanted scheme c s) word → word ≤ setting.last
-warned_told target setting Warned c s word l = l.1
-warned_told target setting (Announced own) c s word l = l.1
+warned_told target setting Warned c s word l = warning_within setting.reclamation setting word l
+warned_told target setting (Announced own) c s word l = warning_within setting.reclamation setting word l
 
 sweep_told : (target : Target) (setting : Setting) (scheme : Scheme) (bound word : ℕ) (stage : SweepStage) → Accepts target setting (sweep_wants_at scheme stage bound) word → SweepTold setting.sizes setting.last stage word
 sweep_told target setting scheme bound word sweeps.ReadPhase l = l.1

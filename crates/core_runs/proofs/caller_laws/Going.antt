@@ -21,6 +21,7 @@ use Rattle.guard_words.specs.Guards.{Guards, with_guard}
 use Rattle.guard_words.proofs.Rows.{guards_follow}
 use Rattle.oa_words.specs.Words.{Sizes}
 use Rattle.oa_words.specs.SlotKinds.{IsNullOrOf}
+use Rattle.caller_parts.specs.declared.setting.Reclamation.{Reclamation}
 use Rattle.caller_parts.specs.Settings.{Setting, Fits}
 use Rattle.caller_steps.specs.Entries.{Entry, op_of, code_in, instr_in}
 use Rattle.caller_parts.specs.Operands.{unpacked, with_word, emptied}
@@ -42,12 +43,12 @@ pub leaves_all : (i : TargetInstr) (registers : Registers) → is_target_new i �
 leaves_all i registers fresh = record { made = λ r wrote new. absurd (let e : false ≡ true = sym fresh ∙ new in cc); kept = λ r isnt. refl }
 
 -- on to a successor, where registers name slots of kinds that they may have there
-pub goes_belongs : (target : Target) (setting : Setting) (e : Entry) (i : TargetInstr) (to : ℕ) (after : Registers) → Methods target → SettingSane setting → Fits target setting
-    → Holds target setting e → Here target setting e → instr_in target e ≡ Some i → target_goes_from (Some i) e.hand.at to ≡ true
+pub goes_belongs : (target : Target) (setting : Setting) (by : Reclamation) (e : Entry) (i : TargetInstr) (to : ℕ) (after : Registers) → Methods target → SettingSane setting → Fits target setting
+    → Holds target setting e → Here target setting e → setting.reclamation ≡ by → instr_in target e ≡ Some i → target_goes_from (Some i) e.hand.at to ≡ true
     → Leaves i e.hand.registers after → NamesSlots setting.sizes.slots after → (IsTargetSuccessor (code_in target e) e.hand.at to → HaveKinds target setting (op_of target e) e.hand.wrapup to after)
-    → BelongsIn target setting (settles target setting.sizes (record { at = to; registers = after }) e)
-goes_belongs target setting e i to after sane some fits h c is goes leaves names typed =
-    settles_belongs target setting (record { at = to; registers = after }) e sane some fits h (record {
+    → BelongsIn target setting (settles by target setting.sizes (record { at = to; registers = after }) e)
+goes_belongs target setting by e i to after sane some fits h c scheme is goes leaves names typed =
+    settles_belongs target setting by (record { at = to; registers = after }) e sane some fits h scheme (record {
       reached = next_reached (code_in target e) e.hand.at to i e.hand.registers after is goes (site.goes to goes) c.reached leaves;
       names = names;
       kinds = typed (rw is goes, site.goes to goes);

@@ -22,10 +22,10 @@ use Rattle.phase_pools.specs.declared.stages.Scheme.{Scheme}
 use Rattle.phase_pools.specs.declared.stages.Scheme.TheVariants.{Warned, Announced}
 use Rattle.phase_pools.proofs.Lowering.{lower_less}
 use Rattle.phase_pools.proofs.Keeping.{sweep_keeps as schemes_stay}
-use Rattle.phase_pools.specs.Pools.{Sweep, SweepTurn, has_lower, sweep_wants_at, low_after, warned_all, sweep_follows, sweep_goes, sweep_ends, sweep_on, sweep_accepts, sweep_accepts_at, freeing, status_read, Claim, ClaimTurn, claim_wants_at, claim_accepts_at, claim_goes, claim_ends, look_begun, look_ended, sweep_ended, Retirement, sweep_begun}
+use Rattle.phase_pools.specs.Pools.{Sweep, SweepTurn, has_lower, sweep_wants_at, low_after, warned_all, sweep_follows, sweep_started, sweep_goes, sweep_ends, sweep_on, sweep_accepts, sweep_accepts_at, freeing, status_read, Claim, ClaimTurn, claim_wants_at, claim_accepts_at, claim_goes, claim_ends, look_begun, look_ended, sweep_ended, Retirement, sweep_begun}
 use Rattle.caller_parts.specs.Settings.{Setting}
 use Rattle.caller_steps.specs.Lawful.{Accepts}
-use Rattle.caller_steps.specs.Belongs.{ClaimBelongs, ClaimStands, HasBound, HasLow, RetireBelongs, SweepBelongs, SweepStands, last_slot}
+use Rattle.caller_steps.specs.Belongs.{ClaimBelongs, ClaimStands, HasBound, HasLow, RetireBelongs, SweepBelongs, SweepStands, last_slot, scheme_of}
 use Rattle.core_runs.proofs.caller_laws.Methods.{SettingSane}
 use Rattle.core_runs.proofs.caller_laws.OfKinds.{of_same_kind, slot_of_kind}
 
@@ -127,63 +127,72 @@ sweep_keeps target setting sweep word (sweeps.PushTop k j q t) some callers own 
   of true = on_keeps setting sweep j stands.1 own bound gathers
   of false = record { stands = (stands.0, stands.1, refl); bound = bound; low = own.low; gathered = gathers }
 
--- a claim goes on as one that belongs, or has ended, maybe with a slot of its kind
-abbrev pub ClaimOn : Setting → Option ClaimEnd → Claim → Type 0
-ClaimOn setting None claim = ClaimBelongs setting claim
-ClaimOn setting (Some (ends.Claimed j)) claim = (1 ≤ j) × (j ≤ setting.sizes.slots) × (kind_of setting.sizes j ≡ claim.kind)
-ClaimOn setting (Some ends.Full) claim = Unit {0}
-ClaimOn setting (Some (ends.PhasesOver p)) claim = Unit {0}
+-- the claim of a caller goes on as one that belongs, or has ended, maybe with a slot of its kind
+abbrev pub ClaimOn : Setting → ℕ → Option ClaimEnd → Claim → Type 0
+ClaimOn setting c None claim = ClaimBelongs setting c claim
+ClaimOn setting c (Some (ends.Claimed j)) claim = (1 ≤ j) × (j ≤ setting.sizes.slots) × (kind_of setting.sizes j ≡ claim.kind)
+ClaimOn setting c (Some ends.Full) claim = Unit {0}
+ClaimOn setting c (Some (ends.PhasesOver p)) claim = Unit {0}
 
-abbrev pub ClaimKeeps : Setting → ClaimTurn → Type 0
-ClaimKeeps setting turn = ClaimOn setting turn.ended turn.claim
+abbrev pub ClaimKeeps : Setting → ℕ → ClaimTurn → Type 0
+ClaimKeeps setting c turn = ClaimOn setting c turn.ended turn.claim
 
--- a sweep that follows a look warns the callers
-started_keeps : (setting : Setting) (claim : Claim) (scheme : Scheme) → claim.kind < length setting.sizes.kinds → claim.sweep.scheme ≡ Warned → scheme ≡ Warned
-    → ClaimKeeps setting (sweep_follows scheme claim.sweeps claim)
-started_keeps setting claim Warned known warns is = record { kind = known; scheme = warns; stands = tt; sweep = fresh_sweep setting claim.sweep.scheme }
-started_keeps setting claim (Announced own) known warns is = absurd cc
+-- its sweeps go by the scheme of the setting
+abbrev Follows : Setting → ℕ → Claim → Type 0
+Follows setting c claim = claim.sweep.scheme ≡ scheme_of setting.reclamation c
 
-ended_keeps : (setting : Setting) (claim : Claim) → claim.kind < length setting.sizes.kinds → claim.sweep.scheme ≡ Warned → ClaimKeeps setting (look_ended claim)
-ended_keeps setting claim known warns = of (claim.sweeps == 2) where
-  of : (b : Bool) → ClaimKeeps setting (if b then claim_ends claim ends.Full else sweep_follows claim.sweep.scheme claim.sweeps claim)
+started_keeps : (setting : Setting) (c : ℕ) (claim : Claim) → claim.kind < length setting.sizes.kinds → Follows setting c claim → ClaimKeeps setting c (sweep_started claim)
+started_keeps setting c claim known follows = record { kind = known; scheme = follows; stands = tt; sweep = fresh_sweep setting claim.sweep.scheme }
+
+-- a sweep follows a look, or first the withdrawal of the own announcement
+follows_keeps : (setting : Setting) (c : ℕ) (claim : Claim) (scheme : Scheme) (made : ℕ) → claim.kind < length setting.sizes.kinds → Follows setting c claim → claim.sweep.scheme ≡ scheme → SweepBelongs setting claim.sweep
+    → ClaimKeeps setting c (sweep_follows scheme made claim)
+follows_keeps setting c claim Warned made known follows is own = started_keeps setting c claim known follows
+follows_keeps setting c claim (Announced announced) zero known follows is own = record { kind = known; scheme = follows; stands = is; sweep = own }
+follows_keeps setting c claim (Announced announced) (suc made) known follows is own = started_keeps setting c claim known follows
+
+ended_keeps : (setting : Setting) (c : ℕ) (claim : Claim) → claim.kind < length setting.sizes.kinds → Follows setting c claim → SweepBelongs setting claim.sweep → ClaimKeeps setting c (look_ended claim)
+ended_keeps setting c claim known follows own = of (claim.sweeps == 2) where
+  of : (b : Bool) → ClaimKeeps setting c (if b then claim_ends claim ends.Full else sweep_follows claim.sweep.scheme claim.sweeps claim)
   of true = tt
-  of false = started_keeps setting claim claim.sweep.scheme known warns warns
+  of false = follows_keeps setting c claim claim.sweep.scheme claim.sweeps known follows refl own
 
 -- a look that found a head
-begun_keeps : (setting : Setting) (claim : Claim) (head : HeadParts) → (head.phase ≤ setting.last) × IsNullOrOf setting.sizes claim.kind head.top
-    → claim.kind < length setting.sizes.kinds → claim.sweep.scheme ≡ Warned → SweepBelongs setting claim.sweep → ClaimKeeps setting (look_begun claim head)
-begun_keeps setting claim head within known warns own = of (head.top == 0) refl where
-  of : (b : Bool) → (head.top == 0) ≡ b → ClaimKeeps setting (if b then look_ended claim else claim_goes claim (claims.ReadLink head.phase head.top))
-  of true is = ended_keeps setting claim known warns
+begun_keeps : (setting : Setting) (c : ℕ) (claim : Claim) (head : HeadParts) → (head.phase ≤ setting.last) × IsNullOrOf setting.sizes claim.kind head.top
+    → claim.kind < length setting.sizes.kinds → Follows setting c claim → SweepBelongs setting claim.sweep → ClaimKeeps setting c (look_begun claim head)
+begun_keeps setting c claim head within known follows own = of (head.top == 0) refl where
+  of : (b : Bool) → (head.top == 0) ≡ b → ClaimKeeps setting c (if b then look_ended claim else claim_goes claim (claims.ReadLink head.phase head.top))
+  of true is = ended_keeps setting c claim known follows own
   of false is =
       let one = slot_of_kind setting.sizes claim.kind head.top (grind (arith, nat_tests)) within.1 in
-      record { kind = known; scheme = warns; stands = (one.0, one.1, within.0, one.2); sweep = own }
+      record { kind = known; scheme = follows; stands = (one.0, one.1, within.0, one.2); sweep = own }
 
-swept_keeps : (setting : Setting) (claim : Claim) (sweep : Sweep) (end : Option SweepEnd) → claim.stage ≡ claims.Sweeps → claim.kind < length setting.sizes.kinds → sweep.scheme ≡ Warned
-    → SweepBelongs setting sweep → ClaimKeeps setting (sweep_ended claim sweep end)
-swept_keeps setting claim sweep None is known warns own = record { kind = known; scheme = warns; stands = subst (λ (stage : ClaimStage). ClaimStands setting claim.kind stage) (sym is) tt; sweep = own }
-swept_keeps setting claim sweep (Some swept.Swept) is known warns own = record { kind = known; scheme = warns; stands = tt; sweep = own }
-swept_keeps setting claim sweep (Some (swept.PhasesOver p)) is known warns own = tt
+swept_keeps : (setting : Setting) (c : ℕ) (claim : Claim) (sweep : Sweep) (end : Option SweepEnd) → claim.stage ≡ claims.Sweeps → claim.kind < length setting.sizes.kinds → sweep.scheme ≡ scheme_of setting.reclamation c
+    → SweepBelongs setting sweep → ClaimKeeps setting c (sweep_ended claim sweep end)
+swept_keeps setting c claim sweep None is known follows own =
+    record { kind = known; scheme = follows; stands = subst (λ (stage : ClaimStage). ClaimStands setting sweep.scheme claim.kind stage) (sym is) tt; sweep = own }
+swept_keeps setting c claim sweep (Some swept.Swept) is known follows own = record { kind = known; scheme = follows; stands = tt; sweep = own }
+swept_keeps setting c claim sweep (Some (swept.PhasesOver p)) is known follows own = tt
 
-pub claim_keeps : (target : Target) (setting : Setting) (claim : Claim) (word : ℕ) (stage : ClaimStage) → claim.stage ≡ stage → SettingSane setting → 0 < setting.sizes.callers
-    → claim.kind < length setting.sizes.kinds → claim.sweep.scheme ≡ Warned → ClaimStands setting claim.kind stage → SweepBelongs setting claim.sweep
-    → Accepts target setting (claim_wants_at claim.kind claim.sweep stage) word → ClaimKeeps setting (claim_accepts_at setting.sizes setting.last claim word stage)
-claim_keeps target setting claim word claims.ReadHead is some callers known warns stands own lawful = begun_keeps setting claim (head_parts word) lawful known warns own
-claim_keeps target setting claim word (claims.ReadLink q t) is some callers known warns stands own lawful = record {
+pub claim_keeps : (target : Target) (setting : Setting) (c : ℕ) (claim : Claim) (word : ℕ) (stage : ClaimStage) → claim.stage ≡ stage → SettingSane setting → 0 < setting.sizes.callers
+    → claim.kind < length setting.sizes.kinds → Follows setting c claim → ClaimStands setting claim.sweep.scheme claim.kind stage → SweepBelongs setting claim.sweep
+    → Accepts target setting (claim_wants_at claim.kind claim.sweep stage) word → ClaimKeeps setting c (claim_accepts_at setting.sizes setting.last claim word stage)
+claim_keeps target setting c claim word claims.ReadHead is some callers known follows stands own lawful = begun_keeps setting c claim (head_parts word) lawful known follows own
+claim_keeps target setting c claim word (claims.ReadLink q t) is some callers known follows stands own lawful = record {
   kind = known;
-  scheme = warns;
+  scheme = follows;
   stands = (stands.0, stands.1, stands.2, of_same_kind setting.sizes (kind_of setting.sizes t) claim.kind word stands.3 lawful, stands.3);
   sweep = own;
 }
-claim_keeps target setting claim word (claims.Take q t next) is some callers known warns stands own lawful = of (word == head_word q t) where
-  of : (b : Bool) → ClaimKeeps setting (if b then claim_goes claim (claims.StoreUsed q t) else claim_goes claim claims.ReadHead)
-  of true = record { kind = known; scheme = warns; stands = (stands.0, stands.1, stands.2, stands.4); sweep = own }
-  of false = record { kind = known; scheme = warns; stands = tt; sweep = own }
-claim_keeps target setting claim word (claims.StoreUsed q t) is some callers known warns stands own lawful = (stands.0, stands.1, stands.3)
-claim_keeps target setting claim word (claims.Withdraw c) is some callers known warns stands own lawful = absurd stands
-claim_keeps target setting claim word claims.Sweeps is some callers known warns stands own lawful =
+claim_keeps target setting c claim word (claims.Take q t next) is some callers known follows stands own lawful = of (word == head_word q t) where
+  of : (b : Bool) → ClaimKeeps setting c (if b then claim_goes claim (claims.StoreUsed q t) else claim_goes claim claims.ReadHead)
+  of true = record { kind = known; scheme = follows; stands = (stands.0, stands.1, stands.2, stands.4); sweep = own }
+  of false = record { kind = known; scheme = follows; stands = tt; sweep = own }
+claim_keeps target setting c claim word (claims.StoreUsed q t) is some callers known follows stands own lawful = (stands.0, stands.1, stands.3)
+claim_keeps target setting c claim word (claims.Withdraw announced) is some callers known follows stands own lawful = started_keeps setting c claim known follows
+claim_keeps target setting c claim word claims.Sweeps is some callers known follows stands own lawful =
     let turn = sweep_accepts setting.sizes setting.last claim.sweep word in
-    swept_keeps setting claim turn.sweep turn.ended is known ((schemes_stay setting.sizes setting.last claim.sweep word).scheme ∙ warns)
+    swept_keeps setting c claim turn.sweep turn.ended is known ((schemes_stay setting.sizes setting.last claim.sweep word).scheme ∙ follows)
     (sweep_keeps target setting claim.sweep word claim.sweep.stage some callers own own.stands own.bound own.gathered lawful)
 
 -- a retirement goes on as one that belongs

@@ -26,9 +26,9 @@ use Rattle.caller_parts.specs.Settings.{Fits, Setting}
 use Rattle.caller_steps.specs.Entries.{Entry, is_idle, code_in, cradle_of, instr_in, op_of}
 use Rattle.caller_parts.specs.Operands.{list_of, register_number, slot_in, word_in}
 use Rattle.caller_parts.specs.Spared.{restart_spares, then_spares}
-use Rattle.caller_steps.specs.Wants.{clear_wanted, exchange_wanted, instr_wanted, list_wanted, object_exchange, place_exchange, plain_wanted, wanted, wants}
+use Rattle.caller_steps.specs.Wants.{announcing_wanted, clear_wanted, exchange_wanted, instr_wanted, list_wanted, object_exchange, place_exchange, plain_wanted, wanted, wants}
 use Rattle.caller_steps.specs.Lawful.{AsksSafely, IsLawful, IsSafe, LawfulHead, LawfulStatus, LawfulValue, is_place as is_place_word}
-use Rattle.caller_steps.specs.Belongs.{Belongs, ClaimStands, HasBound, IsSomeOf, Reaches, RetireStands, RunsAt, RunsWithKinds, Stands, SweepBelongs, SweepStands, has_access}
+use Rattle.caller_steps.specs.Belongs.{AnnouncingStands, Belongs, ClaimStands, HasBound, IsSomeOf, Reaches, RetireStands, RunsAt, RunsWithKinds, Stands, SweepBelongs, SweepStands, has_access, scheme_of}
 use Rattle.std.proofs.lemmas.Option.{slice_get-get_or}
 use Rattle.oa_words.specs.declared.packed.Kind.{Kind}
 use Rattle.oa_words.specs.declared.packed.Kind.TheVariants as statuses
@@ -46,10 +46,14 @@ use Rattle.phase_pools.specs.declared.stages.Scheme.TheVariants.{Warned, Announc
 use Rattle.oa_words.specs.SlotKinds.{IsNullOrOf}
 use Rattle.phase_pools.specs.Pools.{Sweep, warn_wanted, sweep_wants_at, claim_wants_at, retire_wants_at}
 use Rattle.caller_parts.specs.declared.routine.Routine.{Routine}
-use Rattle.caller_parts.specs.declared.routine.Routine.TheVariants.{Idle, LoadSeen, At, InList, Retires, Restarts, Clears, Claims, Zeroes}
+use Rattle.caller_parts.specs.declared.routine.Routine.TheVariants.{Idle, LoadSeen, At, InList, Retires, Restarts, Clears, Claims, Zeroes, Announces}
+use Rattle.caller_parts.specs.declared.routine.Announcing.{Announcing}
+use Rattle.caller_parts.specs.declared.routine.Announcing.TheVariants as announces
+use Rattle.caller_parts.specs.declared.setting.Reclamation.TheVariants.{Epochs}
 use Rattle.target_laws.specs.target_runs.Sane.{SaneAt}
 use Rattle.core_runs.proofs.caller_laws.Methods.{Methods, SettingSane, zero_count_fits}
 use Rattle.core_runs.proofs.caller_laws.OfKinds.{of_row, of_own_kind, kind_known}
+use Rattle.core_runs.proofs.caller_laws.Schemes.{none_lawful, own_announced, phase_lawful, raised_lawful}
 use Rattle.core_runs.proofs.caller_laws.Named.{named}
 use Rattle.core_runs.proofs.caller_laws.Fields.{HasField, place_fits, value_lawful, zero_lawful}
 use Rattle.core_runs.proofs.caller_laws.Lists as lists
@@ -102,7 +106,7 @@ exchanges_safe target setting w expected x row place lawful = record { row = row
   of found was false = was
 
 raises_safe : (target : Target) (setting : Setting) (c x : ℕ) → c < setting.sizes.callers → setting.first ≤ x → x ≤ setting.last → IsSafe target setting (Raises (Warning c) x)
-raises_safe target setting c x lt low high = record { row = less c setting.sizes.callers lt; place = refl; lawful = λ found was. (omega (arith, was.0, low), omega (arith, was.1, high)) }
+raises_safe target setting c x lt low high = record { row = less c setting.sizes.callers lt; place = refl; lawful = λ found was. raised_lawful setting.reclamation setting found x was low high }
 
 field_row : (setting : Setting) (j g : ℕ) → j ≤ setting.sizes.slots → g < setting.sizes.fields → in_row setting.sizes (FieldOf j g) ≡ true
 field_row setting j g a b = both (nat_lt j (setting.sizes.slots + 1)) (nat_lt g setting.sizes.fields) (less j (setting.sizes.slots + 1) (omega (arith, a))) (less g setting.sizes.fields b)
@@ -139,16 +143,18 @@ sweep_safe target setting scheme bound (sweeps.PushTop k j q t) some stands s =
     exchanges_safe target setting (Head k) (head_word q t) (head_word (max q bound) j) (head_row setting k (kind_known setting.sizes k j some.kinds stands.4)) refl
     (head_lawful setting (max q bound) k j some (omega (arith, stands.2, s.1)) (of_own_kind setting.sizes k j stands.0 stands.1 (sym stands.4)))
 
-claim_safe : (target : Target) (setting : Setting) (k : ℕ) (sweep : Sweep) (stage : ClaimStage) → SettingSane setting → k < length setting.sizes.kinds → ClaimStands setting k stage → SweepBelongs setting sweep
-    → IsSafe target setting (claim_wants_at k sweep stage)
-claim_safe target setting k sweep claims.ReadHead some known stands own = loads_safe target setting (Head k) (head_row setting k known) refl
-claim_safe target setting k sweep (claims.ReadLink q t) some known stands own = loads_safe target setting (Link t) (link_row setting t stands.1) refl
-claim_safe target setting k sweep (claims.Take q t next) some known stands own =
+claim_safe : (target : Target) (setting : Setting) (c k : ℕ) (sweep : Sweep) (stage : ClaimStage) → SettingSane setting → c < setting.sizes.callers → k < length setting.sizes.kinds → sweep.scheme ≡ scheme_of setting.reclamation c
+    → ClaimStands setting sweep.scheme k stage → SweepBelongs setting sweep → IsSafe target setting (claim_wants_at k sweep stage)
+claim_safe target setting c k sweep claims.ReadHead some lt known follows stands own = loads_safe target setting (Head k) (head_row setting k known) refl
+claim_safe target setting c k sweep (claims.ReadLink q t) some lt known follows stands own = loads_safe target setting (Link t) (link_row setting t stands.1) refl
+claim_safe target setting c k sweep (claims.Take q t next) some lt known follows stands own =
     exchanges_safe target setting (Head k) (head_word q t) (head_word q next) (head_row setting k known) refl (head_lawful setting q k next some stands.2 stands.3)
-claim_safe target setting k sweep (claims.StoreUsed q t) some known stands own =
+claim_safe target setting c k sweep (claims.StoreUsed q t) some lt known follows stands own =
     stores_safe target setting (Status t) (status_word q statuses.Used) (status_row setting t stands.1) refl (status_lawful setting.last q statuses.Used stands.2)
-claim_safe target setting k sweep (claims.Withdraw c) some known stands own = absurd stands
-claim_safe target setting k sweep claims.Sweeps some known stands own = sweep_safe target setting sweep.scheme sweep.bound sweep.stage some own.stands own.bound
+claim_safe target setting c k sweep (claims.Withdraw announced) some lt known follows stands own =
+    let is = own_announced setting.reclamation c announced (sym stands ∙ follows) in
+    stores_safe target setting (Warning announced) 0 (less announced setting.sizes.callers (let same = is.1 in omega (arith, lt, same))) refl (none_lawful setting is.0)
+claim_safe target setting c k sweep claims.Sweeps some lt known follows stands own = sweep_safe target setting sweep.scheme sweep.bound sweep.stage some own.stands own.bound
 
 retire_safe : (target : Target) (setting : Setting) (slot : ℕ) (stage : RetireStage) → slot ≤ setting.sizes.slots → RetireStands setting stage → IsSafe target setting (retire_wants_at slot stage)
 retire_safe target setting slot retires.ReadPhase le stands = loads_safe target setting Phase refl refl
@@ -316,6 +322,14 @@ cleared_safe target setting c guards spared lt eight some = of (next_to_clear gu
   of None below some = absurd some
   of (Some r) below some = stores_safe target setting (Hazard c r) 0 (hazard_row setting c r lt (omega (arith, below, eight))) refl (omega arith)
 
+-- a phase of the run is announced, or the announcement is withdrawn
+announcing_safe : (target : Target) (setting : Setting) (e : Entry) (announcing : Announcing) → e.number < setting.sizes.callers → setting.reclamation ≡ Epochs → AnnouncingStands setting (instr_in target e) e.hand announcing
+    → IsSafe target setting (announcing_wanted e.number announcing)
+announcing_safe target setting e (announces.Loads why) lt is stands = loads_safe target setting Phase refl refl
+announcing_safe target setting e (announces.Stores why phase) lt is stands =
+    stores_safe target setting (Warning e.number) phase (less e.number setting.sizes.callers lt) refl (phase_lawful setting.reclamation setting phase stands.1 stands.2)
+announcing_safe target setting e (announces.Leaves reply) lt is stands = stores_safe target setting (Warning e.number) 0 (less e.number setting.sizes.callers lt) refl (none_lawful setting is)
+
 step_safe : (target : Target) (setting : Setting) (e : Entry) (routine : Routine) → Methods target → SettingSane setting → Fits target setting → Belongs target setting e → is_idle routine ≡ false
     → RunsAt target e routine → RunsWithKinds target setting e routine → Stands target setting e routine → AsksSafely target setting (wanted target e routine)
 step_safe target setting e Idle sane some fits b busy reaches kinds stands = absurd (let z : true ≡ false = busy in cc)
@@ -323,12 +337,14 @@ step_safe target setting e (LoadSeen why) sane some fits b busy reaches kinds st
 step_safe target setting e At sane some fits b busy reaches kinds stands = instr_safe target setting e (instr_in target e) sane some fits b.number (record { reached = reaches; names = b.hand.registers; kinds = kinds.now }) refl stands
 step_safe target setting e (InList k) sane some fits b busy reaches kinds stands = list_safe target setting e k sane fits (record { reached = reaches; names = b.hand.registers; kinds = kinds.now }) stands
 step_safe target setting e (Retires retirement go) sane some fits b busy reaches kinds stands = retire_safe target setting retirement.slot retirement.stage stands.0.1 stands.0.2
-step_safe target setting e Restarts sane some fits b busy reaches kinds stands = cleared_safe target setting e.number e.hand.guards (restart_spares e.hand.wrapup (op_of target e)) b.number b.hand.guards.row.slots stands.1
-step_safe target setting e (Clears next) sane some fits b busy reaches kinds stands = cleared_safe target setting e.number e.hand.guards (then_spares next (op_of target e)) b.number b.hand.guards.row.slots stands.1
-step_safe target setting e (Claims claim) sane some fits b busy reaches kinds stands = claim_safe target setting claim.kind claim.sweep claim.stage some stands.1.kind stands.1.stands stands.1.sweep
+step_safe target setting e Restarts sane some fits b busy reaches kinds stands = cleared_safe target setting e.number e.hand.guards (restart_spares e.hand.wrapup (op_of target e)) b.number b.hand.guards.row.slots stands.2
+step_safe target setting e (Clears next) sane some fits b busy reaches kinds stands = cleared_safe target setting e.number e.hand.guards (then_spares next (op_of target e)) b.number b.hand.guards.row.slots stands.2
+step_safe target setting e (Claims claim) sane some fits b busy reaches kinds stands =
+    claim_safe target setting e.number claim.kind claim.sweep claim.stage some b.number stands.1.kind stands.1.scheme stands.1.stands stands.1.sweep
 step_safe target setting e (Zeroes k field) sane some fits b busy reaches kinds stands =
     stores_safe target setting (FieldOf (cradle_of e k) field) 0
     (field_row setting (cradle_of e k) field (b.cradles.within k) (let below = stands.3 in let room = (zero_count_fits target setting e.running.call.op e.hand.wrapup e.hand.at sane fits stands.0).1 in omega (arith, below, room))) refl (zero_lawful target setting (cradle_of e k) field)
+step_safe target setting e (Announces announcing) sane some fits b busy reaches kinds stands = announcing_safe target setting e announcing b.number stands.0 stands.1
 
 -- what an entry that belongs wants is one safe access, unless it is idle
 pub wants_safe : (target : Target) (setting : Setting) (e : Entry) → Methods target → SettingSane setting → Fits target setting → Belongs target setting e → is_idle e.routine ≡ false → AsksSafely target setting (wants target e)

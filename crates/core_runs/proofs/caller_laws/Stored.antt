@@ -24,7 +24,9 @@ use Rattle.phase_pools.specs.declared.stages.Scheme.{Scheme}
 use Rattle.phase_pools.specs.declared.stages.Scheme.TheVariants.{Warned, Announced}
 use Rattle.phase_pools.specs.Pools.{Sweep, warn_wanted, sweep_wants_at, sweep_accepts_at, Claim, ClaimTurn, claim_wants_at, claim_accepts, claim_accepts_at, claim_sweeps, claim_takes, takes_at, Retirement, retire_wants_at, retire_accepts_at}
 use Rattle.caller_parts.specs.declared.routine.Routine.{Routine}
-use Rattle.caller_parts.specs.declared.routine.Routine.TheVariants.{Idle, LoadSeen, At, InList, Retires, Restarts, Clears, Claims, Zeroes}
+use Rattle.caller_parts.specs.declared.routine.Routine.TheVariants.{Idle, LoadSeen, At, InList, Retires, Restarts, Clears, Claims, Zeroes, Announces}
+use Rattle.caller_parts.specs.declared.routine.Announcing.TheVariants as announces
+use Rattle.caller_parts.specs.declared.setting.Reclamation.{Reclamation}
 use Rattle.caller_parts.specs.Settings.{Setting}
 use Rattle.caller_steps.specs.Entries.{Entry, instr_in}
 use Rattle.caller_parts.specs.Operands.{list_of, slot_in, word_in}
@@ -82,19 +84,19 @@ claim_store n last claim (claims.StoreUsed q t) w x a b is = (refl, refl)
 claim_store n last claim (claims.Withdraw own) w x a b is = (refl, refl)
 claim_store n last claim claims.Sweeps w x a b is = (ap (claim_sweeps claim) (sweep_store n last claim.sweep claim.sweep.stage w x a b is), refl)
 
-plain_store : (target : Target) (sizes : Sizes) (i : Instr) (registers : Registers) (w : Word) (x a b : ℕ) (e : Entry) → plain_wanted target.fields i registers ≡ Some (Stores w x) → plain_accepted target sizes i a e ≡ plain_accepted target sizes i b e
-plain_store target sizes (instr.LoadRoot d y) registers w x a b e is = absurd cc
-plain_store target sizes (instr.LoadPick d y n r) registers w x a b e is = absurd cc
-plain_store target sizes (instr.LoadField d r f) registers w x a b e is = absurd cc
-plain_store target sizes (instr.Cas exchange l) registers w x a b e is = absurd (exchange_no_store target.fields exchange registers w x (let same : exchange_wanted target.fields exchange registers ≡ Stores w x = cc in same))
-plain_store target sizes (instr.Put r f v) registers w x a b e is = refl
-plain_store target sizes _ registers w x a b e is = refl
+plain_store : (by : Reclamation) (target : Target) (sizes : Sizes) (i : Instr) (registers : Registers) (w : Word) (x a b : ℕ) (e : Entry) → plain_wanted target.fields i registers ≡ Some (Stores w x) → plain_accepted by target sizes i a e ≡ plain_accepted by target sizes i b e
+plain_store by target sizes (instr.LoadRoot d y) registers w x a b e is = absurd cc
+plain_store by target sizes (instr.LoadPick d y n r) registers w x a b e is = absurd cc
+plain_store by target sizes (instr.LoadField d r f) registers w x a b e is = absurd cc
+plain_store by target sizes (instr.Cas exchange l) registers w x a b e is = absurd (exchange_no_store target.fields exchange registers w x (let same : exchange_wanted target.fields exchange registers ≡ Stores w x = cc in same))
+plain_store by target sizes (instr.Put r f v) registers w x a b e is = refl
+plain_store by target sizes _ registers w x a b e is = refl
 
-instr_store : (target : Target) (sizes : Sizes) (c : ℕ) (o : Option TargetInstr) (registers : Registers) (w : Word) (x a b : ℕ) (e : Entry) → instr_wanted target.fields c o registers ≡ Some (Stores w x) → instr_accepted target sizes o a e ≡ instr_accepted target sizes o b e
-instr_store target sizes c None registers w x a b e is = refl
-instr_store target sizes c (Some (Plain i)) registers w x a b e is = plain_store target sizes i registers w x a b e is
-instr_store target sizes c (Some Check) registers w x a b e is = absurd cc
-instr_store target sizes c (Some (Guard r)) registers w x a b e is = refl
+instr_store : (by : Reclamation) (target : Target) (sizes : Sizes) (c : ℕ) (o : Option TargetInstr) (registers : Registers) (w : Word) (x a b : ℕ) (e : Entry) → instr_wanted target.fields c o registers ≡ Some (Stores w x) → instr_accepted by target sizes o a e ≡ instr_accepted by target sizes o b e
+instr_store by target sizes c None registers w x a b e is = refl
+instr_store by target sizes c (Some (Plain i)) registers w x a b e is = plain_store by target sizes i registers w x a b e is
+instr_store by target sizes c (Some Check) registers w x a b e is = absurd cc
+instr_store by target sizes c (Some (Guard r)) registers w x a b e is = refl
 
 list_no_store : (fields : List FieldDecl) (o : Option CasEntry) (registers : Registers) (w : Word) (x : ℕ) → list_wanted fields o registers ≡ Some (Stores w x) → ⊥
 list_no_store fields None registers w x is = cc
@@ -107,27 +109,30 @@ retire_store slot (retires.StoreStatus p) w x a b is = refl
 some_same : (a b : WordAccess) → Some a ≡ Some b → a ≡ b
 some_same a b is = cc
 
-step_store : (target : Target) (setting : Setting) (e : Entry) (routine : Routine) (w : Word) (x a b : ℕ) → wanted target e routine ≡ Some (Stores w x)
-    → accepted target setting a (counted e) routine ≡ accepted target setting b (counted e) routine
-step_store target setting e Idle w x a b is = refl
-step_store target setting e (LoadSeen why) w x a b is = absurd cc
-step_store target setting e At w x a b is = instr_store target setting.sizes e.number (instr_in target e) e.hand.registers w x a b (counted e) is
-step_store target setting e (InList k) w x a b is = absurd (list_no_store target.fields (slice_get (list_of (instr_in target e)) k) e.hand.registers w x is)
-step_store target setting e (Retires retirement go) w x a b is =
-    ap (λ (o : Option Retirement). retired_on target setting.sizes go o (counted e)) (retire_store retirement.slot retirement.stage w x a b (some_same (retire_wants_at retirement.slot retirement.stage) (Stores w x) is))
-step_store target setting e Restarts w x a b is = refl
-step_store target setting e (Clears next) w x a b is = refl
-step_store target setting e (Claims claim) w x a b is =
+step_store : (by : Reclamation) (target : Target) (setting : Setting) (e : Entry) (routine : Routine) (w : Word) (x a b : ℕ) → wanted target e routine ≡ Some (Stores w x)
+    → accepted by target setting a (counted e) routine ≡ accepted by target setting b (counted e) routine
+step_store by target setting e Idle w x a b is = refl
+step_store by target setting e (LoadSeen why) w x a b is = absurd cc
+step_store by target setting e At w x a b is = instr_store by target setting.sizes e.number (instr_in target e) e.hand.registers w x a b (counted e) is
+step_store by target setting e (InList k) w x a b is = absurd (list_no_store target.fields (slice_get (list_of (instr_in target e)) k) e.hand.registers w x is)
+step_store by target setting e (Retires retirement go) w x a b is =
+    ap (λ (o : Option Retirement). retired_on by target setting.sizes go o (counted e)) (retire_store retirement.slot retirement.stage w x a b (some_same (retire_wants_at retirement.slot retirement.stage) (Stores w x) is))
+step_store by target setting e Restarts w x a b is = refl
+step_store by target setting e (Clears next) w x a b is = refl
+step_store by target setting e (Claims claim) w x a b is =
     let same = claim_store setting.sizes setting.last claim claim.stage w x a b (some_same (claim_wants_at claim.kind claim.sweep claim.stage) (Stores w x) is) in
-    ap (λ (turn : ClaimTurn). claimed target turn (claim_counted (claim_takes claim a) (counted e))) same.0
-    ∙ ap (λ (takes : Bool). claimed target (claim_accepts setting.sizes setting.last claim b) (claim_counted takes (counted e))) same.1
-step_store target setting e (Zeroes k field) w x a b is = refl
+    ap (λ (turn : ClaimTurn). claimed by target turn (claim_counted (claim_takes claim a) (counted e))) same.0
+    ∙ ap (λ (takes : Bool). claimed by target (claim_accepts setting.sizes setting.last claim b) (claim_counted takes (counted e))) same.1
+step_store by target setting e (Zeroes k field) w x a b is = refl
+step_store by target setting e (Announces (announces.Loads why)) w x a b is = absurd cc
+step_store by target setting e (Announces (announces.Stores why phase)) w x a b is = refl
+step_store by target setting e (Announces (announces.Leaves reply)) w x a b is = refl
 
-pub moved_store : (target : Target) (setting : Setting) (e : Entry) (w : Word) (x a b : ℕ) → wants target e ≡ Some (Stores w x) → moved target setting e a ≡ moved target setting e b
+pub moved_store : (by : Reclamation) (target : Target) (setting : Setting) (e : Entry) (w : Word) (x a b : ℕ) → wants target e ≡ Some (Stores w x) → moved by target setting e a ≡ moved by target setting e b
 unfolding wants
-moved_store target setting e w x a b is = step_store target setting e e.routine w x a b is
+moved_store by target setting e w x a b is = step_store by target setting e e.routine w x a b is
 
 pub after_store : (target : Target) (setting : Setting) (e : Entry) (w : Word) (x a b : ℕ) → wants target e ≡ Some (Stores w x)
     → (after target setting e a ≡ after target setting e b) × (signs target setting e a ≡ signs target setting e b)
 unfolding after signs
-after_store target setting e w x a b is = let same = moved_store target setting e w x a b is in (ap (λ (m : Moved). m.entry) same, ap (λ (m : Moved). m.signs) same)
+after_store target setting e w x a b is = let same = moved_store setting.reclamation target setting e w x a b is in (ap (λ (m : Moved). m.entry) same, ap (λ (m : Moved). m.signs) same)

@@ -4,7 +4,7 @@ use Rattle.norm_lang.specs.declared.text.Text.{Text}
 use Rattle.target_code.specs.declared.target.Target.{Target}
 use Rattle.target_laws.specs.target_runs.Runnable.{IsRunnable}
 use Rattle.caller_parts.specs.declared.routine.Routine.{Routine}
-use Rattle.caller_parts.specs.declared.routine.Routine.TheVariants.{Idle, LoadSeen, At, InList, Retires, Restarts, Clears, Claims, Zeroes}
+use Rattle.caller_parts.specs.declared.routine.Routine.TheVariants.{Idle, LoadSeen, At, InList, Retires, Restarts, Clears, Claims, Zeroes, Announces}
 use Rattle.caller_steps.specs.Entries.{Entry, is_idle}
 use Rattle.caller_parts.specs.Operands.{code_at}
 use Rattle.caller_steps.specs.Wants.{wanted, wants}
@@ -24,7 +24,7 @@ methods target text runs = methods_of target text runs
 pub belong : ForRuns EntriesBelong
 belong target text setting runs own fits = record {
   new = λ c lt. idle_belongs target setting c (methods target text runs) lt;
-  takes = λ e call is b. taken_belongs target setting call e (methods target text runs) is b;
+  takes = λ e call is b. taken_belongs target setting setting.reclamation call e (methods target text runs) refl is b;
   steps = λ e word b told. after_belongs target setting e word (methods target text runs) (setting_sane setting own) fits b told;
 }
 
@@ -48,6 +48,7 @@ idle_by target e Restarts is = absurd (let z : false ≡ true = is in cc)
 idle_by target e (Clears next) is = absurd (let z : false ≡ true = is in cc)
 idle_by target e (Claims claim) is = absurd (let z : false ≡ true = is in cc)
 idle_by target e (Zeroes k field) is = absurd (let z : false ≡ true = is in cc)
+idle_by target e (Announces announcing) is = absurd (let z : false ≡ true = is in cc)
 
 pub idle_wants : (target : Target) (e : Entry) → is_idle e.routine ≡ true → wants target e ≡ None
 unfolding wants

@@ -1,6 +1,6 @@
 -- The pool's run goes on with each event of a core run, from whichever state of the pool it has come to: each event of the core is at most
 -- two of the pool, the access and the routine that begins after it.
-use Rattle.std.proofs.Common.{ℕ, ◌≡◌, ◌≢◌, ◌+◌, ◌≤◌, ◌<◌, ◌∙◌, ◌++◌, ◌==◌, true, false, [], Option, Some, None, arith, ⊎_elim, sym, ap, subst, refl}
+use Rattle.std.proofs.Common.{ℕ, zero, suc, ◌≡◌, ◌≢◌, ◌+◌, ◌≤◌, ◌<◌, ◌∙◌, ◌++◌, ◌==◌, true, false, [], Option, Some, None, arith, ⊎_elim, sym, ap, subst, refl}
 use Rattle.std.specs.Prelude.{slice_get, unwrap_or}
 use Rattle.std.proofs.lemmas.Bool.{cases_lt}
 use Rattle.std.proofs.lemmas.Bool.Decides.{nat_tests, eqb_tells}
@@ -11,8 +11,7 @@ use Rattle.oa_words.specs.Words.{Word, Status, in_row}
 use Rattle.oa_words.specs.Within.{AreKinds}
 use Rattle.phase_pools.specs.declared.access.ClaimEnd.{ClaimEnd}
 use Rattle.phase_pools.specs.declared.access.ClaimEnd.TheVariants as ends
-use Rattle.phase_pools.specs.declared.stages.Scheme.TheVariants.{Warned}
-use Rattle.phase_pools.specs.Accesses.{WordAccess, word_of, word_after}
+use Rattle.phase_pools.specs.Accesses.{WordAccess, word_of}
 use Rattle.phase_pools.specs.Pools.{Claim, claim_wants, claim_accepts, claim_takes, Retirement, retire_wants, retire_accepts}
 use Rattle.chain_laws.specs.Memories.{after_access, put}
 use Rattle.chain_laws.specs.Chains.{Hands, IsOf}
@@ -27,11 +26,14 @@ use Rattle.caller_parts.specs.declared.call.Call.{Call}
 use Rattle.caller_parts.specs.declared.routine.AfterRetire.{AfterRetire}
 use Rattle.caller_parts.specs.declared.routine.Routine.{Routine}
 use Rattle.caller_parts.specs.declared.routine.Routine.TheVariants as routines
+use Rattle.caller_parts.specs.declared.routine.Routine.TheVariants.{At}
+use Rattle.caller_parts.specs.declared.setting.Reclamation.{Reclamation}
+use Rattle.caller_parts.specs.declared.setting.Reclamation.TheVariants.{Optimistic, Epochs}
 use Rattle.caller_parts.specs.Settings.{Setting}
 use Rattle.caller_steps.specs.Entries.{Entry, idle_entry, is_idle, new_kind}
 use Rattle.caller_steps.specs.Wants.{wants}
 use Rattle.caller_steps.specs.Asking.{NewsFit}
-use Rattle.caller_steps.specs.After.{after, taken, accepted, counted, claim_counted, claim_on, retired_on}
+use Rattle.caller_steps.specs.After.{after, taken, accepted, counted, claim_counted, claim_on, first_routine, retired_on, slot_gained, with_routine}
 use Rattle.core_runs.specs.Machine.{CoreState, CoreEvent, Takes, Steps}
 use Rattle.core_runs.specs.Views.{CoreView, IsShaped, Moves, view}
 use Rattle.core_runs.proofs.caller_laws.Equations.{wants_claims, wants_retires}
@@ -39,7 +41,7 @@ use Rattle.core_runs.proofs.caller_laws.Routed.{HoldsAtBegins, after_routed}
 use Rattle.core_runs.specs.core_sound.Standing.{standing_of}
 use Rattle.core_runs.proofs.core_sound.Stamping.{elsewhere_wants}
 use Rattle.core_runs.specs.core_pools.Pooled.{standings, pool_of, RetiresUsed}
-use Rattle.core_runs.proofs.core_pools.Leading.{RunsTo, run_more, Begun, in_none, in_claim, in_retirement, MayRetire, put_again, comes, caller_steps, other_written}
+use Rattle.core_runs.proofs.core_pools.Leading.{RunsTo, run_more, Begun, in_none, in_claim, in_retirement, MayRetire, put_again, comes, caller_steps, pool_left}
 
 some_same : (a b : WordAccess) → Some a ≡ Some b → a ≡ b
 some_same a b is = cc
@@ -54,6 +56,12 @@ elsewhere_idle routines.Restarts is = refl
 elsewhere_idle (routines.Clears next) is = refl
 elsewhere_idle (routines.Claims claim) is = absurd (let z : false ≡ true = is in cc)
 elsewhere_idle (routines.Zeroes k field) is = refl
+elsewhere_idle (routines.Announces announcing) is = refl
+
+-- so does one before the first access of a call
+elsewhere_first : (by : Reclamation) → standing_of (first_routine by) ≡ Elsewhere
+elsewhere_first Optimistic = refl
+elsewhere_first Epochs = refl
 
 -- an entry that changes, and where the callers stand
 put_entry : (W : ℕ → Standing) (who : ℕ → Entry) (c : ℕ) (e : Entry) → ((d : ℕ) → d ≢ c → W d ≡ standings who d) → put W c (standing_of e.routine) ≡ standings (put who c e)
@@ -99,8 +107,9 @@ module _ (target : Target) (setting : Setting) (are : AreKinds setting.sizes) (f
     retires = λ j go. in_retirement j;
     restarts = in_none;
     clears = λ next. in_none;
-    claims = λ e. in_claim (new_kind target e) Warned (news e.running.call.op e.hand.wrapup e.hand.at);
+    claims = λ e scheme. in_claim (new_kind target e) scheme (news e.running.call.op e.hand.wrapup e.hand.at);
     zeroes = λ k field. in_none;
+    announces = λ announcing. in_none;
   }
 
   elsewhere_begins : (e : Entry) (word : ℕ) → standing_of e.routine ≡ Elsewhere → Begun setting.sizes (standing_of (after target setting e word).routine)
@@ -123,25 +132,30 @@ module _ (target : Target) (setting : Setting) (are : AreKinds setting.sizes) (f
   unfolding after
   claims_stand e word own is =
       let turn = claim_accepts setting.sizes setting.last own word in
-      ap (λ (r : Routine). standing_of (accepted target setting word (counted e) r).entry.routine) is ∙ of turn.claim turn.ended (claim_counted (claim_takes own word) (counted e)) where
-        of : (next : Claim) (end : Option ClaimEnd) (e : Entry) → standing_of (claim_on target next end e).entry.routine ≡ claim_left next end
-        of next None e = refl
-        of next (Some (ends.Claimed j)) e = refl
-        of next (Some ends.Full) e = refl
-        of next (Some (ends.PhasesOver p)) e = refl
+      ap (λ (r : Routine). standing_of (accepted setting.reclamation target setting word (counted e) r).entry.routine) is ∙ of setting.reclamation turn.claim turn.ended (claim_counted (claim_takes own word) (counted e)) where
+        gained : (by : Reclamation) (made j : ℕ) (e : Entry) → standing_of (slot_gained by target made j e).routine ≡ Elsewhere
+        gained Optimistic made j e = refl
+        gained Epochs zero j e = refl
+        gained Epochs (suc made) j e = refl
+
+        of : (by : Reclamation) (next : Claim) (end : Option ClaimEnd) (e : Entry) → standing_of (claim_on by target next end e).entry.routine ≡ claim_left next end
+        of by next None e = refl
+        of by next (Some (ends.Claimed j)) e = gained by next.sweeps j (with_routine e At)
+        of by next (Some ends.Full) e = refl
+        of by next (Some (ends.PhasesOver p)) e = refl
 
   retires_stand : (e : Entry) (word : ℕ) (own left : Retirement) (go : AfterRetire) → e.routine ≡ routines.Retires own go → retire_accepts own word ≡ Some left → standing_of (after target setting e word).routine ≡ Retires left
   unfolding after
   retires_stand e word own left go is goes =
-      ap (λ (r : Routine). standing_of (accepted target setting word (counted e) r).entry.routine) is
-      ∙ ap (λ (o : Option Retirement). standing_of (retired_on target setting.sizes go o (counted e)).entry.routine) goes
+      ap (λ (r : Routine). standing_of (accepted setting.reclamation target setting word (counted e) r).entry.routine) is
+      ∙ ap (λ (o : Option Retirement). standing_of (retired_on setting.reclamation target setting.sizes go o (counted e)).entry.routine) goes
 
   -- ---- a routine begins
 
   begins_on : (c : ℕ) (pool : PoolState) (who : ℕ → Entry) (e : Entry) → c < setting.sizes.callers → From pool → pool.who c ≡ Elsewhere → ((d : ℕ) → d ≢ c → pool.who d ≡ standings who d) → Begun setting.sizes (standing_of e.routine)
       → RetiresUsed setting pool.memory (standings (put who c e)) → ((d : ℕ) → setting.sizes.callers ≤ d → standings who d ≡ Elsewhere) → ((w : Word) → in_row setting.sizes w ≡ false → pool.memory w ≡ 0)
       → FromTo pool.memory (standings (put who c e))
-  begins_on c pool who e lt leads at others begun used past zero =
+  begins_on c pool who e lt leads at others begun used past blank =
       let k = comes setting.sizes setting.last c pool (standing_of e.routine) at begun (may (standing_of e.routine) refl) in
       (k.hands, subst (λ (w : ℕ → Standing). From (record { memory = pool.memory; hands = k.hands; who = w })) (put_entry pool.who who c e others) (from_more pool _ leads k.runs)) where
         in_range : (j : ℕ) → IsOf kinds.Used (pool.memory (Status j)) → j ≤ setting.sizes.slots
@@ -149,7 +163,7 @@ module _ (target : Target) (setting : Setting) (are : AreKinds setting.sizes) (f
             (λ (below : j < setting.sizes.slots + 1). omega (arith, below))
             (λ (above : setting.sizes.slots + 1 ≤ j).
             let out : in_row setting.sizes (Status j) ≡ false = grind (arith, nat_tests) in
-            kinds_apart _ word.0 0 kinds.Used kinds.Ready (pool.memory (Status j)) (λ e. cc) word.1 (zero (Status j) out))
+            kinds_apart _ word.0 0 kinds.Used kinds.Ready (pool.memory (Status j)) (λ e. cc) word.1 (blank (Status j) out))
             (cases_lt j (setting.sizes.slots + 1))
 
         nobody : (own : Retirement) → standing_of e.routine ≡ Retires own → (d : ℕ) (other : Retirement) → pool.who d ≡ Retires other → other.slot ≢ own.slot
@@ -181,7 +195,7 @@ module _ (target : Target) (setting : Setting) (are : AreKinds setting.sizes) (f
       → FromTo (after_access v.memory a) (standings (put v.who c (after target setting (v.who c) (v.memory (word_of a)))))
 
   claims_go : (v : CoreView) (hands : Hands) (c : ℕ) (own : Claim) → (v.who c).routine ≡ routines.Claims own → From (record { memory = v.memory; hands = hands; who = standings v.who }) → Goes v c (claim_wants own)
-  claims_go v hands c own is leads used zero =
+  claims_go v hands c own is leads used blank =
       let pool : PoolState = record { memory = v.memory; hands = hands; who = standings v.who } in
       let word = v.memory (word_of (claim_wants own)) in
       let turn = claim_accepts setting.sizes setting.last own word in
@@ -197,7 +211,7 @@ module _ (target : Target) (setting : Setting) (are : AreKinds setting.sizes) (f
 
   retires_go : (v : CoreView) (hands : Hands) (c : ℕ) (own : Retirement) (go : AfterRetire) → (v.who c).routine ≡ routines.Retires own go → c < setting.sizes.callers → ((d : ℕ) → setting.sizes.callers ≤ d → standings v.who d ≡ Elsewhere)
       → From (record { memory = v.memory; hands = hands; who = standings v.who }) → Goes v c (retire_wants own)
-  retires_go v hands c own go is lt past leads used zero =
+  retires_go v hands c own go is lt past leads used blank =
       let pool : PoolState = record { memory = v.memory; hands = hands; who = standings v.who } in
       let left = retire_accepts own (v.memory (word_of (retire_wants own))) in
       of left refl
@@ -214,16 +228,16 @@ module _ (target : Target) (setting : Setting) (are : AreKinds setting.sizes) (f
         of None none goes =
             let word = v.memory (word_of (retire_wants own)) in
             begins_on c (retired_pool v hands c own None) v.who (after target setting (v.who c) word) lt (subst (λ (o : Option Retirement). From (retired_pool v hands c own o)) none goes)
-            (put_same (standings v.who) c Elsewhere) (λ d ne. put_other (standings v.who) c d Elsewhere ne) (ended_begins (v.who c) word own go is none) used past zero
+            (put_same (standings v.who) c Elsewhere) (λ d ne. put_other (standings v.who) c d Elsewhere ne) (ended_begins (v.who c) word own go is none) used past blank
 
   elsewhere_go : (v : CoreView) (hands : Hands) (c : ℕ) (a : WordAccess) → standing_of (v.who c).routine ≡ Elsewhere → wants target (v.who c) ≡ Some a → c < setting.sizes.callers → ((d : ℕ) → setting.sizes.callers ≤ d → standings v.who d ≡ Elsewhere)
       → From (record { memory = v.memory; hands = hands; who = standings v.who }) → Goes v c a
-  elsewhere_go v hands c a at want lt past leads used zero =
+  elsewhere_go v hands c a at want lt past leads used blank =
       let pool : PoolState = record { memory = v.memory; hands = hands; who = standings v.who } in
       let word = v.memory (word_of a) in
       let later : PoolState = record pool { memory = after_access v.memory a } in
       begins_on c later v.who (after target setting (v.who c) word) lt
-      (from_more pool later leads (other_written setting.sizes setting.last (word_of a) (word_after a word) pool (elsewhere_wants target (v.who c) a at want))) at (λ d ne. refl) (elsewhere_begins (v.who c) word at) used past zero
+      (from_more pool later leads (pool_left setting.sizes setting.last a pool (elsewhere_wants target (v.who c) a at want))) at (λ d ne. refl) (elsewhere_begins (v.who c) word at) used past blank
 
   step_goes : (v : CoreView) (hands : Hands) (c : ℕ) (a : WordAccess) → wants target (v.who c) ≡ Some a → c < setting.sizes.callers → ((d : ℕ) → setting.sizes.callers ≤ d → standings v.who d ≡ Elsewhere)
       → From (record { memory = v.memory; hands = hands; who = standings v.who }) → Goes v c a
@@ -238,12 +252,14 @@ module _ (target : Target) (setting : Setting) (are : AreKinds setting.sizes) (f
     of routines.Restarts is = elsewhere_go v hands c a (ap standing_of is) want lt past leads
     of (routines.Clears next) is = elsewhere_go v hands c a (ap standing_of is) want lt past leads
     of (routines.Zeroes k field) is = elsewhere_go v hands c a (ap standing_of is) want lt past leads
+    of (routines.Announces announcing) is = elsewhere_go v hands c a (ap standing_of is) want lt past leads
 
   -- ---- events
 
-  taken_goes : (v : CoreView) (c : ℕ) (call : Call) → is_idle (v.who c).routine ≡ true → FromTo v.memory (standings v.who) → FromTo v.memory (standings (put v.who c (taken call (v.who c))))
+  taken_goes : (v : CoreView) (c : ℕ) (call : Call) → is_idle (v.who c).routine ≡ true → FromTo v.memory (standings v.who) → FromTo v.memory (standings (put v.who c (taken setting.reclamation call (v.who c))))
   taken_goes v c call idle l = subst (FromTo v.memory)
-      (put_again (standings v.who) c Elsewhere (elsewhere_idle (v.who c).routine idle) ∙ put_entry (standings v.who) v.who c (taken call (v.who c)) (λ d ne. refl)) l
+      (put_again (standings v.who) c Elsewhere (elsewhere_idle (v.who c).routine idle)
+      ∙ (ap (put (standings v.who) c) (sym (elsewhere_first setting.reclamation)) ∙ put_entry (standings v.who) v.who c (taken setting.reclamation call (v.who c)) (λ d ne. refl))) l
 
   -- the state after an event, where what is retired then is used and nobody else's
   pub event_goes : (state later : CoreState) (event : CoreEvent) → IsShaped target setting state → Moves target setting (view setting state) event (view setting later) → FromTo (view setting state).memory (standings (view setting state).who)
@@ -251,7 +267,7 @@ module _ (target : Target) (setting : Setting) (are : AreKinds setting.sizes) (f
   event_goes state later (Takes c call) shaped m pooled used =
       let v = view setting state in
       subst (λ (who : ℕ → Entry). FromTo (view setting later).memory (standings who)) (sym m.4)
-      (subst (λ (memory : Word → ℕ). FromTo memory (standings (put v.who c (taken call (v.who c))))) (sym m.3) (taken_goes v c call m.1 pooled))
+      (subst (λ (memory : Word → ℕ). FromTo memory (standings (put v.who c (taken setting.reclamation call (v.who c))))) (sym m.3) (taken_goes v c call m.1 pooled))
   event_goes state later (Steps c) shaped m pooled used =
       let v = view setting state in
       let a : WordAccess = m.0 in

@@ -1,14 +1,16 @@
 -- Runs of the pool one after another, and how a caller that stands elsewhere begins.
-use Rattle.std.proofs.Common.{ℕ, suc, ◌≡◌, ◌≢◌, ◌≤◌, ◌<◌, ◌∙◌, ◌++◌, ◌&&◌, ◌==◌, Bool, true, false, List, [], ◌∷◌, length, Option, Some, None, arith, ⊎_elim, ap, refl, if◌then◌else◌}
+use Rattle.std.proofs.Common.{sym, subst, ℕ, suc, ◌≡◌, ◌≢◌, ◌≤◌, ◌<◌, ◌∙◌, ◌++◌, ◌&&◌, ◌==◌, Bool, true, false, List, [], ◌∷◌, length, Option, Some, None, arith, ⊎_elim, ap, refl, if◌then◌else◌}
 use Rattle.std.specs.Prelude.{nat_le, nat_lt}
 use Rattle.std.proofs.lemmas.Bool.Decides.{nat_tests, eqb_tells}
-use Rattle.oa_words.specs.Words.{Word, Sizes, slot_range}
+use Rattle.oa_words.specs.Words.{Word, Phase, Place, Warning, Hazard, Status, FieldOf, Cell, Head, Link, Sizes, slot_range}
 use Rattle.phase_pools.specs.declared.stages.Scheme.{Scheme}
+use Rattle.phase_pools.specs.Accesses.{WordAccess, Loads, word_of, word_after}
 use Rattle.phase_pools.specs.Pools.{claim_begun, retire_begun}
 use Rattle.oa_words.specs.Memories.{store}
-use Rattle.chain_laws.specs.Memories.{put}
+use Rattle.chain_laws.specs.Memories.{after_access, put}
 use Rattle.chain_laws.specs.Chains.{Hands, Outside, Retiring, handed}
 use Rattle.chain_laws.specs.Machine.{Standing, Elsewhere, Claims, Retires, PoolState, PoolEvent, BeginsClaim, BeginsRetirement, Steps, Writes, is_other, is_outside, is_slot, begins, stepped, pool_event, pool_run, run_on}
+use Rattle.core_runs.proofs.core_sound.Stamping.{IsOther, LeavesPool}
 
 pub run_more : (n : Sizes) (last : ℕ) (events more : List PoolEvent) (pool later : PoolState) → pool_run n last events pool ≡ Some later → pool_run n last (events ++ more) pool ≡ pool_run n last more later
 run_more n last [] more pool later is = let same : pool ≡ later = (let z : Some pool ≡ Some later = is in cc) in ap (pool_run n last more) same
@@ -31,6 +33,29 @@ pub other_written : (n : Sizes) (last : ℕ) (w : Word) (x : ℕ) (pool : PoolSt
 other_written n last w x pool is =
     let later : PoolState = record pool { memory = store pool.memory w x } in
     (Writes w x ∷ [], run_one n last (Writes w x) pool later (ap (λ (b : Bool). if b then Some later else None) is))
+
+-- a load changes nothing
+load_again : (m : Word → ℕ) → m ≡ store m Phase (m Phase)
+load_again m = λ i w. at w i where
+  at : (w : Word) → m w ≡ store m Phase (m Phase) w
+  at Phase = refl
+  at (Place c) = refl
+  at (Warning c) = refl
+  at (Hazard c r) = refl
+  at (Status j) = refl
+  at (FieldOf j g) = refl
+  at (Cell x) = refl
+  at (Head t) = refl
+  at (Link j) = refl
+
+-- so an access of the rest is one event of the pool, or none
+pub pool_left : (n : Sizes) (last : ℕ) (a : WordAccess) (pool : PoolState) → LeavesPool a → RunsTo n last pool (record pool { memory = after_access pool.memory a })
+pool_left n last a pool leaves = ⊎_elim
+    (λ (other : IsOther a). other_written n last (word_of a) (word_after a (pool.memory (word_of a))) pool other)
+    (λ (loads : a ≡ Loads Phase).
+    subst (λ (x : WordAccess). RunsTo n last pool (record pool { memory = after_access pool.memory x })) (sym loads)
+    ([], ap (λ (m : Word → ℕ). Some (record pool { memory = m })) (load_again pool.memory)))
+    leaves
 
 -- where a routine of the pool may begin, or none does
 pub data Begun (n : Sizes) : Standing → Type 0 where

@@ -80,12 +80,12 @@ some_is a b e = cc
 
 -- a Take
 pub take_sound : (target : Target) (setting : Setting) (state : CoreState) (c : ℕ) (call : Call) (e : Entry) → Methods target → IsSound target setting state
-    → slice_get state.entries c ≡ Some e → is_call target call ≡ true → IsSound target setting (record state { entries = set state.entries c (taken call e) })
+    → slice_get state.entries c ≡ Some e → is_call target call ≡ true → IsSound target setting (record state { entries = set state.entries c (taken setting.reclamation call e) })
 take_sound target setting state c call e sane s there is = record {
   count = s.count;
-  callers = length-set state.entries c (taken call e) ∙ s.callers;
+  callers = length-set state.entries c (taken setting.reclamation call e) ∙ s.callers;
   lawful = s.lawful;
-  belong = set_belong target setting state.entries c (taken call e) (taken_belongs target setting call e sane is own.0) own.1 s.belong;
+  belong = set_belong target setting state.entries c (taken setting.reclamation call e) (taken_belongs target setting setting.reclamation call e sane refl is own.0) own.1 s.belong;
 } where
   own : Belongs target setting e × (e.number ≡ c)
   own = s.belong c e there
@@ -95,8 +95,8 @@ pub event_sound : (target : Target) (setting : Setting) (state later : CoreState
     → core_event target setting state event ≡ Some later → IsSound target setting later
 event_sound target setting state later (Takes c call) sane some fits s is = of (slice_get state.entries c) refl is where
   by : (e : Entry) → slice_get state.entries c ≡ Some e → (i : Bool) → is_idle e.routine ≡ i → (k : Bool) → is_call target call ≡ k
-      → (if i && k then Some (record state { entries = set state.entries c (taken call e) }) else None) ≡ Some later → IsSound target setting later
-  by e at true idle true call_is became = subst (λ (x : CoreState). IsSound target setting x) (some_is (record state { entries = set state.entries c (taken call e) }) later became) (take_sound target setting state c call e sane s at call_is)
+      → (if i && k then Some (record state { entries = set state.entries c (taken setting.reclamation call e) }) else None) ≡ Some later → IsSound target setting later
+  by e at true idle true call_is became = subst (λ (x : CoreState). IsSound target setting x) (some_is (record state { entries = set state.entries c (taken setting.reclamation call e) }) later became) (take_sound target setting state c call e sane s at call_is)
   by e at true idle false call_is became = absurd cc
   by e at false idle k call_is became = absurd cc
 

@@ -12,11 +12,16 @@ use Rattle.oa_words.specs.Words.{Sizes, Phase, Warning, Hazard, Status, FieldOf,
 use Rattle.oa_words.specs.SlotKinds.{kind_of}
 use Rattle.oa_words.specs.Packed.{head_parts}
 use Rattle.phase_pools.specs.Accesses.{WordAccess, word_of}
+use Rattle.phase_pools.specs.Pools.{Claim}
+use Rattle.caller_parts.specs.declared.routine.Routine.{Routine}
+use Rattle.caller_parts.specs.declared.routine.Routine.TheVariants.{Claims}
 use Rattle.caller_parts.specs.Settings.{Fits, IsSetting, Setting}
 use Rattle.caller_steps.specs.Entries.{Entry, is_idle}
 use Rattle.caller_steps.specs.Wants.{wants}
 use Rattle.caller_steps.specs.Lawful.{AsksSafely, IsLawful, IsSafe, LawfulValue, held_at, is_place}
+use Rattle.caller_steps.specs.Belongs.{Belongs, Stands, scheme_of}
 use Rattle.core_runs.specs.Machine.{CoreState, Reachable, word_at}
+use Rattle.core_runs.specs.Swept.{ClaimsFollowSetting}
 use Rattle.core_runs.proofs.Reaching.{induct, induct_reached}
 use Rattle.core_runs.proofs.caller_laws.Methods.{Methods, SettingSane, setting_sane}
 use Rattle.core_runs.proofs.caller_laws.Together.{idle_wants, methods}
@@ -83,6 +88,19 @@ sound_is_shaped target setting state sane some fits s = record { words = s.count
 pub states_are_shaped : Always IsShaped
 states_are_shaped target text setting state runs own fits reached =
     sound_is_shaped target setting state (methods target text runs) (setting_sane setting own) fits (states_are_sound target text setting state runs own fits reached)
+
+-- ---- schemes
+
+-- what an entry that belongs claims goes by the setting's scheme
+claim_follows : (target : Target) (setting : Setting) (e : Entry) (claim : Claim) → Belongs target setting e → e.routine ≡ Claims claim → claim.sweep.scheme ≡ scheme_of setting.reclamation e.number
+claim_follows target setting e claim b is = (subst (λ (routine : Routine). Stands target setting e routine) is b.stands).1.scheme
+
+pub claims_follow : Always ClaimsFollowSetting
+claims_follow target text setting state runs own fits reached = record {
+  each = λ c e claim there is.
+      let belongs = (states_are_sound target text setting state runs own fits reached).belong c e there in
+      claim_follows target setting e claim belongs.0 is ∙ ap (scheme_of setting.reclamation) belongs.1;
+}
 
 -- ---- the heads' phases
 

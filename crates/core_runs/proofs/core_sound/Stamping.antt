@@ -1,5 +1,5 @@
 -- Each head's phase is at most the phase word: a sweep announces a phase that the phase word has come to, and a head was loaded before.
-use Rattle.std.proofs.Common.{List, ◌≡◌, ℕ, zero, suc, ◌+◌, ◌≤◌, true, Option, Some, None, refl, sym, ◌∙◌, ap, subst}
+use Rattle.std.proofs.Common.{inl, inr, ⊎_elim, ◌⊎◌, List, ◌≡◌, ℕ, zero, suc, ◌+◌, ◌≤◌, true, Option, Some, None, refl, sym, ◌∙◌, ap, subst}
 use Rattle.std.specs.Prelude.{slice_get}
 use Rattle.norm_lang.specs.declared.text.Place.{Place}
 use Rattle.norm_lang.specs.declared.text.Place.TheVariants as places
@@ -26,18 +26,23 @@ use Rattle.phase_pools.specs.Pools.{Claim, claim_wants, claim_accepts, Retiremen
 use Rattle.chain_laws.specs.Memories.{after_access}
 use Rattle.chain_laws.specs.Machine.{Elsewhere, is_other}
 use Rattle.chain_laws.proofs.Lists.{each_put}
-use Rattle.chain_laws.proofs.Same.{same_written}
+use Rattle.chain_laws.proofs.Changes.{Same}
+use Rattle.chain_laws.proofs.Same.{same_loaded, same_written}
 use Rattle.chain_laws.specs.claim_order.Stamps.{Below, WordsWithin}
 use Rattle.chain_laws.proofs.claim_order.Stamps.{ClaimOn, ClaimStores, SweepStores, below_up, claim_within, retire_within, start_within, words_same}
 use Rattle.caller_parts.specs.declared.routine.AfterRetire.{AfterRetire}
 use Rattle.caller_parts.specs.declared.routine.Routine.{Routine}
-use Rattle.caller_parts.specs.declared.routine.Routine.TheVariants.{Idle, LoadSeen, At, InList, Retires, Restarts, Clears, Claims, Zeroes}
+use Rattle.caller_parts.specs.declared.routine.Routine.TheVariants.{Idle, LoadSeen, At, InList, Retires, Restarts, Clears, Claims, Zeroes, Announces}
+use Rattle.caller_parts.specs.declared.routine.Announcing.{Announcing}
+use Rattle.caller_parts.specs.declared.routine.Announcing.TheVariants as announces
 use Rattle.caller_parts.specs.Operands.{list_of, register_number, slot_in, word_in}
+use Rattle.caller_parts.specs.declared.setting.Reclamation.{Reclamation}
+use Rattle.caller_parts.specs.declared.setting.Reclamation.TheVariants.{Optimistic, Epochs}
 use Rattle.caller_parts.specs.Settings.{Setting}
 use Rattle.caller_steps.specs.Entries.{Entry, cradle_of, instr_in}
 use Rattle.caller_steps.specs.Clearing.{clear_next, restart_next}
-use Rattle.caller_steps.specs.Wants.{clear_wanted, exchange_wanted, instr_wanted, list_wanted, object_exchange, place_exchange, plain_wanted, wanted, wants}
-use Rattle.caller_steps.specs.After.{after, taken}
+use Rattle.caller_steps.specs.Wants.{announcing_wanted, clear_wanted, exchange_wanted, instr_wanted, list_wanted, object_exchange, place_exchange, plain_wanted, wanted, wants}
+use Rattle.caller_steps.specs.After.{after, first_routine, taken}
 use Rattle.caller_steps.specs.Belongs.{ClaimBelongs, ClaimStands, SweepStands, Stands}
 use Rattle.core_runs.specs.Machine.{CoreEvent, CoreState, Steps, Takes, core_event, core_start, beginning_of}
 use Rattle.core_runs.specs.Views.{CoreView, IsShaped, Moves, put, view}
@@ -54,6 +59,16 @@ use Rattle.core_runs.specs.core_sound.Standing.{standing_of}
 -- an access of a word that isn't the pool's
 abbrev pub IsOther : WordAccess → Type 0
 IsOther a = is_other (word_of a) ≡ true
+
+-- or a load of the phase, which is the pool's too
+abbrev pub LeavesPool : WordAccess → Type 0
+LeavesPool a = IsOther a ⊎ (a ≡ Loads Phase)
+
+pub leaves_same : (m : Word → ℕ) (a : WordAccess) → LeavesPool a → Same m (after_access m a)
+leaves_same m a leaves = ⊎_elim
+    (λ (other : IsOther a). same_written m (word_of a) (word_after a (m (word_of a))) other)
+    (λ (loads : a ≡ Loads Phase). subst (λ (x : WordAccess). Same m (after_access m x)) (sym loads) (same_loaded m Phase))
+    leaves
 
 some_same : (a b : WordAccess) → Some a ≡ Some b → a ≡ b
 some_same a b is = cc
@@ -93,19 +108,25 @@ other_clear : (c : ℕ) (o : Option ℕ) (a : WordAccess) → clear_wanted c o �
 other_clear c None a is = absurd (let no : None ≡ Some a = is in cc)
 other_clear c (Some r) a is = other_by (Stores (Hazard c r) 0) a is refl
 
-other_wanted : (target : Target) (e : Entry) (routine : Routine) (a : WordAccess) → standing_of routine ≡ Elsewhere → wanted target e routine ≡ Some a → IsOther a
-other_wanted target e Idle a at is = absurd (let no : None ≡ Some a = is in cc)
-other_wanted target e (LoadSeen why) a at is = other_by (Loads (Warning e.number)) a is refl
-other_wanted target e At a at is = other_instr target.fields e.number (instr_in target e) e.hand.registers a is
-other_wanted target e (InList k) a at is = other_list target.fields (slice_get (list_of (instr_in target e)) k) e.hand.registers a is
-other_wanted target e (Retires retirement go) a at is = absurd cc
-other_wanted target e Restarts a at is = other_clear e.number (restart_next target e) a is
-other_wanted target e (Clears next) a at is = other_clear e.number (clear_next target next e) a is
-other_wanted target e (Claims claim) a at is = absurd cc
-other_wanted target e (Zeroes k field) a at is = other_by (Stores (FieldOf (cradle_of e k) field) 0) a is refl
+other_announcing : (c : ℕ) (announcing : Announcing) (a : WordAccess) → Some (announcing_wanted c announcing) ≡ Some a → LeavesPool a
+other_announcing c (announces.Loads why) a is = inr (some_same a (Loads Phase) (sym is))
+other_announcing c (announces.Stores why phase) a is = inl (other_by (Stores (Warning c) phase) a is refl)
+other_announcing c (announces.Leaves reply) a is = inl (other_by (Stores (Warning c) 0) a is refl)
 
--- a caller that stands elsewhere accesses a word that isn't the pool's
-pub elsewhere_wants : (target : Target) (e : Entry) (a : WordAccess) → standing_of e.routine ≡ Elsewhere → wants target e ≡ Some a → IsOther a
+other_wanted : (target : Target) (e : Entry) (routine : Routine) (a : WordAccess) → standing_of routine ≡ Elsewhere → wanted target e routine ≡ Some a → LeavesPool a
+other_wanted target e Idle a at is = absurd (let no : None ≡ Some a = is in cc)
+other_wanted target e (LoadSeen why) a at is = inl (other_by (Loads (Warning e.number)) a is refl)
+other_wanted target e At a at is = inl (other_instr target.fields e.number (instr_in target e) e.hand.registers a is)
+other_wanted target e (InList k) a at is = inl (other_list target.fields (slice_get (list_of (instr_in target e)) k) e.hand.registers a is)
+other_wanted target e (Retires retirement go) a at is = absurd cc
+other_wanted target e Restarts a at is = inl (other_clear e.number (restart_next target e) a is)
+other_wanted target e (Clears next) a at is = inl (other_clear e.number (clear_next target next e) a is)
+other_wanted target e (Claims claim) a at is = absurd cc
+other_wanted target e (Zeroes k field) a at is = inl (other_by (Stores (FieldOf (cradle_of e k) field) 0) a is refl)
+other_wanted target e (Announces announcing) a at is = other_announcing e.number announcing a is
+
+-- a caller that stands elsewhere accesses a word that isn't the pool's, or loads the phase
+pub elsewhere_wants : (target : Target) (e : Entry) (a : WordAccess) → standing_of e.routine ≡ Elsewhere → wants target e ≡ Some a → LeavesPool a
 unfolding wants
 elsewhere_wants target e a at is = other_wanted target e e.routine a at is
 
@@ -122,9 +143,9 @@ sweep_stores setting bound (sweeps.PushHead k j) s = s.2
 sweep_stores setting bound (sweeps.PushLink j q t) s = s.3
 sweep_stores setting bound (sweeps.PushTop k j q t) s = (s.4, (s.0, s.1))
 
-claim_stores : (setting : Setting) (claim : Claim) → ClaimBelongs setting claim → ClaimStores setting.sizes claim.kind claim.sweep.stage claim.stage
-claim_stores setting claim b = of claim.stage b.stands where
-  of : (stage : ClaimStage) → ClaimStands setting claim.kind stage → ClaimStores setting.sizes claim.kind claim.sweep.stage stage
+claim_stores : (setting : Setting) (c : ℕ) (claim : Claim) → ClaimBelongs setting c claim → ClaimStores setting.sizes claim.kind claim.sweep.stage claim.stage
+claim_stores setting c claim b = of claim.stage b.stands where
+  of : (stage : ClaimStage) → ClaimStands setting claim.sweep.scheme claim.kind stage → ClaimStores setting.sizes claim.kind claim.sweep.stage stage
   of claims.ReadHead s = tt
   of (claims.ReadLink q t) s = tt
   of (claims.Take q t next) s = s.3
@@ -139,6 +160,11 @@ pub record IsStamped (setting : Setting) (memory : Word → ℕ) (who : ℕ → 
   pub words : WordsWithin setting.sizes memory
   pub below : (c : ℕ) → Below (memory Phase) (standing_of (who c).routine)
 
+-- before the first access of a call a caller stands elsewhere
+first_below : (phase : ℕ) (by : Reclamation) → Below phase (standing_of (first_routine by))
+first_below phase Optimistic = tt
+first_below phase Epochs = tt
+
 begins_below : (target : Target) (setting : Setting) (phase : ℕ) → HoldsAtBegins target setting.sizes (λ (routine : Routine). Below phase (standing_of routine))
 begins_below target setting phase = record {
   idle = tt;
@@ -148,8 +174,9 @@ begins_below target setting phase = record {
   retires = λ j go. tt;
   restarts = tt;
   clears = λ next. tt;
-  claims = λ e. tt;
+  claims = λ e scheme. tt;
   zeroes = λ k field. tt;
+  announces = λ announcing. tt;
 }
 
 -- words, and where the caller stands after its access
@@ -159,13 +186,13 @@ record AfterStep (setting : Setting) (m m' : Word → ℕ) (later : Entry) : Typ
   below : Below (m' Phase) (standing_of later.routine)
 
 module _ (target : Target) (setting : Setting) (some : SettingSane setting) where
-  claims_step : (m : Word → ℕ) (e : Entry) (claim : Claim) → e.routine ≡ Claims claim → ClaimBelongs setting claim → WordsWithin setting.sizes m → Below (m Phase) (standing_of (Claims claim))
+  claims_step : (m : Word → ℕ) (e : Entry) (claim : Claim) → e.routine ≡ Claims claim → ClaimBelongs setting e.number claim → WordsWithin setting.sizes m → Below (m Phase) (standing_of (Claims claim))
       → AfterStep setting m (after_access m (claim_wants claim)) (after target setting e (m (word_of (claim_wants claim))))
   claims_step m e claim is b words below =
       let found = m (word_of (claim_wants claim)) in
       let turn = claim_accepts setting.sizes setting.last claim found in
       let m' : Word → ℕ = after_access m (claim_wants claim) in
-      let k = claim_within setting.sizes setting.last m claim claim.stage refl some.kinds some.few b.kind words (claim_stores setting claim b) below in
+      let k = claim_within setting.sizes setting.last m claim claim.stage refl some.kinds some.few b.kind words (claim_stores setting e.number claim b) below in
       record {
         words = k.words;
         up = k.up;
@@ -202,7 +229,7 @@ module _ (target : Target) (setting : Setting) (some : SettingSane setting) wher
   elsewhere_step m e a at want words =
       let found = m (word_of a) in
       let m' : Word → ℕ = after_access m a in
-      let same = same_written m (word_of a) (word_after a found) (elsewhere_wants target e a at want) in
+      let same = leaves_same m a (elsewhere_wants target e a at want) in
       record {
         words = words_same setting.sizes m m' same words;
         up = same.phase;
@@ -229,17 +256,18 @@ module _ (target : Target) (setting : Setting) (some : SettingSane setting) wher
     of Restarts is stands below = elsewhere_step m e a (ap standing_of is) want words
     of (Clears next) is stands below = elsewhere_step m e a (ap standing_of is) want words
     of (Zeroes k field) is stands below = elsewhere_step m e a (ap standing_of is) want words
+    of (Announces announcing) is stands below = elsewhere_step m e a (ap standing_of is) want words
 
   -- events
   moves_stamped : (state : CoreState) (event : CoreEvent) (later : CoreView) → IsShaped target setting state → IsSound target setting state
       → IsStamped setting (view setting state).memory (view setting state).who → Moves target setting (view setting state) event later → IsStamped setting later.memory later.who
   moves_stamped state (Takes c call) later shaped sound w goes =
       let v = view setting state in
-      let who : ℕ → Entry = put v.who c (taken call (v.who c)) in
+      let who : ℕ → Entry = put v.who c (taken setting.reclamation call (v.who c)) in
       subst (λ (m : Word → ℕ). IsStamped setting m later.who) (sym goes.3)
       (subst (λ (f : ℕ → Entry). IsStamped setting v.memory f) (sym goes.4) (record {
         words = w.words;
-        below = each_put (λ d (x : Entry). Below (v.memory Phase) (standing_of x.routine)) v.who c (taken call (v.who c)) tt (λ d ne. w.below d);
+        below = each_put (λ d (x : Entry). Below (v.memory Phase) (standing_of x.routine)) v.who c (taken setting.reclamation call (v.who c)) (first_below (v.memory Phase) setting.reclamation) (λ d ne. w.below d);
       }))
   moves_stamped state (Steps c) later shaped sound w goes =
       let v = view setting state in

@@ -40,6 +40,7 @@ use Rattle.core_runs.proofs.caller_laws.Beginning.{idle_belongs}
 use Rattle.core_runs.proofs.caller_laws.Fields.{fields_fit}
 use Rattle.core_runs.proofs.caller_laws.OfKinds.{of_row}
 use Rattle.core_runs.proofs.caller_laws.Safety.{below}
+use Rattle.core_runs.proofs.caller_laws.Schemes.{first_lawful}
 use Rattle.chain_laws.proofs.claim_order.Stamps.{link_within, top_within}
 use Rattle.core_runs.specs.core_sound.Sound.{AreLawful, IsSound}
 use Rattle.core_runs.proofs.core_sound.Grouped.{NodesStand, nodes_stand, node_is, node_at, node_of_part}
@@ -192,7 +193,7 @@ module _ {target : Target} {setting : Setting} (within : IsTargetWithinLimits ta
   start_is_lawful : (w : Word) → in_row setting.sizes w ≡ true → IsLawful target setting w (start_word setting.sizes (beginning_of target setting) w)
   start_is_lawful Phase row = (omega arith, own.phases)
   start_is_lawful (Place c) row = tt
-  start_is_lawful (Warning c) row = (omega arith, own.phases)
+  start_is_lawful (Warning c) row = first_lawful setting.reclamation setting own.phases
   start_is_lawful (Hazard c r) row = omega arith
   start_is_lawful (Status j) row =
       subst (λ (o : Option StatusParts). IsSomeAnd o (λ (parts : StatusParts). parts.phase ≤ setting.last))

@@ -27,7 +27,7 @@ ForRuns Holds = (target : Target) (text : Text) (setting : Setting) → IsRunnab
 -- an idle entry belongs, and one that belongs goes on to: where it takes a call, and where what it wants finds a lawful word
 pub record EntriesBelong (target : Target) (setting : Setting) : Type 0 where
   pub new : (c : ℕ) → c < setting.sizes.callers → Belongs target setting (idle_entry c)
-  pub takes : (e : Entry) (call : Call) → is_call target call ≡ true → Belongs target setting e → Belongs target setting (taken call e)
+  pub takes : (e : Entry) (call : Call) → is_call target call ≡ true → Belongs target setting e → Belongs target setting (taken setting.reclamation call e)
   pub steps : (e : Entry) (word : ℕ) → Belongs target setting e → MayBeTold target setting (wants target e) word → Belongs target setting (after target setting e word)
 
 -- what it wants while a call runs is one access, to a word of the row that isn't a place word, which leaves a lawful word

@@ -15,7 +15,7 @@ use Rattle.phase_pools.specs.Accesses.{WordAccess, word_of}
 use Rattle.caller_parts.specs.Settings.{Setting, Fits, IsSetting}
 use Rattle.caller_steps.specs.Entries.{Entry}
 use Rattle.caller_steps.specs.Wants.{wants}
-use Rattle.caller_steps.specs.Lawful.{IsLawful, LawfulPhase, LawfulStatus, held_at, is_place}
+use Rattle.caller_steps.specs.Lawful.{IsLawful, LawfulPhase, LawfulWarning, LawfulStatus, held_at, is_place}
 use Rattle.caller_steps.specs.Belongs.{Belongs, RunsWithKinds}
 use Rattle.core_runs.specs.Machine.{CoreState, Reachable, beginning_of, word_at}
 
@@ -58,7 +58,7 @@ pub record StaysInRow (target : Target) (setting : Setting) (state : CoreState) 
   pub wanted : (c : ℕ) (e : Entry) (a : WordAccess) → slice_get state.entries c ≡ Some e → wants target e ≡ Some a
       → (address_of setting.sizes (word_of a) < word_count setting.sizes) × (is_place (word_of a) ≡ false) × IsLawful target setting (word_of a) (word_at setting state (word_of a))
   pub phase : LawfulPhase setting (word_at setting state Phase)
-  pub warnings : (c : ℕ) → in_row setting.sizes (Warning c) ≡ true → LawfulPhase setting (word_at setting state (Warning c))
+  pub warnings : (c : ℕ) → in_row setting.sizes (Warning c) ≡ true → LawfulWarning setting.reclamation setting (word_at setting state (Warning c))
   pub statuses : (j : ℕ) → in_row setting.sizes (Status j) ≡ true → LawfulStatus setting.last (word_at setting state (Status j))
   pub stamped : (t : ℕ) → t < length setting.sizes.kinds → (head_parts (word_at setting state (Head t))).phase ≤ word_at setting state Phase
 

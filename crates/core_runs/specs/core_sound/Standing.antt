@@ -14,3 +14,4 @@ standing_of routines.Restarts = Elsewhere
 standing_of (routines.Clears next) = Elsewhere
 standing_of (routines.Claims claim) = Claims claim
 standing_of (routines.Zeroes k field) = Elsewhere
+standing_of (routines.Announces announcing) = Elsewhere

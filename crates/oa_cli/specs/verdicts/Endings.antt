@@ -3,7 +3,7 @@ use Rattle.std.specs.Prelude.{◌≡◌, ℕ, List, Bool, true, false, Option, I
 use Rattle.std.specs.Io.KnownBytes.{Appends}
 use Rattle.oa_text.specs.Causes.{Rose}
 use Rattle.oa_text.specs.Written.{AppendsPrefix}
-use Rattle.statuses.specs.Explanations.{explanation}
+use Rattle.messages.specs.Messages.{message_for}
 use Rattle.statuses.specs.declared.status.Status.{Status}
 use Rattle.statuses.specs.declared.status.Status.TheVariants.{Done, Partial, Usage, ReadFault, LongInput, BadDocument, Refused, BadShape, WriteFault, Memory, Rejected}
 
@@ -27,7 +27,7 @@ abbrev pub IsFinished : ℕ → ℕ → Status → Status → Type 0
 IsFinished before now status result =
     ((result ≡ status) × (now ≡ before)) ⊎ (IsFalse (is_write_fault status) × (result ≡ WriteFault) × Rose before now)
 
--- the whole sentence on the status was written, or writing failed after a prefix of it
-abbrev pub IsExplained : Option (List ℕ) → Option (List ℕ) → ℕ → ℕ → Status → Type 0
-IsExplained old new before now status =
-    Appends old new (explanation status) ⊎ (Rose before now × AppendsPrefix old new (explanation status))
+-- the whole message on the status was written, where this is remembered of what was read, or writing failed after a prefix of it
+abbrev pub IsExplained : Option (List ℕ) → Option (List ℕ) → ℕ → ℕ → Option (List ℕ) → Status → Type 0
+IsExplained old new before now read status =
+    Appends old new (message_for read status) ⊎ (Rose before now × AppendsPrefix old new (message_for read status))

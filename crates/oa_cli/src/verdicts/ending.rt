@@ -1,12 +1,14 @@
-//! How the program ends, and a sentence for a person.
+//! How the program ends, and a message for a person.
 
 ghost use Rattle.std.specs.Prelude.{◌≡◌};
 ghost use Rattle.std.specs.Io.KnownBytes.{Keeps};
+ghost use Rattle.messages.specs.Remembered.{remembered};
 ghost use Rattle.statuses.specs.Statuses.{number_of};
 ghost use Rattle.oa_cli.specs.verdicts.Endings.{is_write_fault, IsFinished, IsExplained};
 
-use oa_text::StdSink;
-use statuses::{Status, explain, status_number};
+use messages::{RememberingSource, explain_read};
+use oa_text::{Source, StdSink};
+use statuses::{Status, status_number};
 use std::io::Write;
 
 fn is_write_fault(status: Status) -> bool
@@ -30,13 +32,17 @@ pub fn finish<W: Write>(out: &mut StdSink<W>, status: Status) -> Status
     }
 }
 
-/// Writes the sentence on a status to `errors`, for a person, and answers the number with which to end. A fault of `errors`
-/// changes nothing: a prefix of the sentence was written then.
-pub fn conclude<E: Write>(errors: &mut StdSink<E>, status: Status) -> u8
+/// Writes the message on a status to `errors`, for a person, where a source remembers what was read, and answers the number with
+/// which to end. A fault of `errors` changes nothing: a prefix of the message was written then.
+pub fn conclude<E: Write, S: Source>(
+    errors: &mut StdSink<E>,
+    input: &RememberingSource<S>,
+    status: Status,
+) -> u8
     ensures number { result ≡ number_of status }
-    ensures explained { IsExplained errors.old.written errors.new.written errors.old.faults errors.new.faults status }
+    ensures explained { IsExplained errors.old.written errors.new.written errors.old.faults errors.new.faults (remembered input.now) status }
 {
-    match explain(errors, status) {
+    match explain_read(errors, input, status) {
         Ok(()) => status_number(status),
         Err(_) => status_number(status),
     }

@@ -19,7 +19,7 @@ use Rattle.caller_parts.specs.declared.routine.AfterClear.TheVariants as clears
 use Rattle.caller_parts.specs.declared.routine.AfterRetire.{AfterRetire}
 use Rattle.caller_parts.specs.declared.routine.AfterRetire.TheVariants as onward
 use Rattle.caller_parts.specs.declared.routine.Routine.{Routine}
-use Rattle.caller_parts.specs.declared.routine.Routine.TheVariants.{Idle, LoadSeen, At, InList, Retires, Restarts, Clears, Claims, Zeroes}
+use Rattle.caller_parts.specs.declared.routine.Routine.TheVariants.{Idle, LoadSeen, At, InList, Retires, Restarts, Clears, Claims, Zeroes, Announces}
 use Rattle.caller_steps.specs.Entries.{cradle_of, instr_in}
 use Rattle.caller_parts.specs.Operands.{list_of}
 use Rattle.run_ahead.specs.Agreeing.{node_in}
@@ -217,6 +217,7 @@ stable_spot t c d s s' x (Claims claim) null_home g f' ne b w =
     (stable_claim t c s s' claim.sweep claim.stage g f' w.0, stable_new t c d s s' x (spot_of x.entry.hand) null_home g f' ne b w.1, w.2)
 stable_spot t c d s s' x (Zeroes k field) null_home g f' ne b w =
     (w.0, stable_zeroed t c d k s s' (cradle_of x.entry k) field g ne (b.cradle k w.0) w.1, stable_new t c d s s' x (spot_of x.entry.hand) null_home g f' ne b w.2, w.3)
+stable_spot t c d s s' x (Announces announcing) null_home g f' ne b w = absurd w
 
 -- all that is known of another caller stays
 pub stable : (t : Plan) (c d : ℕ) (s s' : Shared) (x : Caller) → t.home 0 ≡ 0 → MayChange t c s s' → SharedHolds t s → SharedHolds t s' → d ≢ c → CallerHolds t s d x → CallerHolds t s' d x

@@ -16,7 +16,7 @@ use Rattle.caller_parts.specs.declared.routine.MethodStart.TheVariants as starts
 use Rattle.caller_parts.specs.declared.routine.AfterClear.TheVariants as clears
 use Rattle.caller_parts.specs.declared.routine.AfterRetire.TheVariants as onward
 use Rattle.caller_parts.specs.declared.routine.Routine.{Routine}
-use Rattle.caller_parts.specs.declared.routine.Routine.TheVariants.{Idle, LoadSeen, At, InList, Retires, Restarts, Clears, Claims, Zeroes}
+use Rattle.caller_parts.specs.declared.routine.Routine.TheVariants.{Idle, LoadSeen, At, InList, Retires, Restarts, Clears, Claims, Zeroes, Announces}
 use Rattle.caller_steps.specs.Entries.{is_idle, instr_in}
 use Rattle.caller_parts.specs.Operands.{list_of}
 use Rattle.run_ahead.specs.Standing.{Call, stands_at}
@@ -56,15 +56,15 @@ at_stop : (accessed : Bool) (op : Op) (i : Option Instr) (running : Running) (ca
 at_stop true op i running caller = inl refl
 at_stop false op i running caller = at_end op i running caller
 
-at_stand : (op : Op) (wrapup : Bool) (started : Registers) (accessed : Bool) (call : Call) (there : Spot) → HasAbout call.replies (stands_at op wrapup started accessed call there)
+pub at_stand : (op : Op) (wrapup : Bool) (started : Registers) (accessed : Bool) (call : Call) (there : Spot) → HasAbout call.replies (stands_at op wrapup started accessed call there)
 at_stand op false started accessed call there = inl refl
 at_stand op true started accessed call there =
     at_stop accessed op (slice_get op.wrapup there.at) (record { op = call.number; args = call.args; registers = there.registers; stand = _ }) (record { replies = call.replies; running = None })
 
-about : (own : List SourceReply) (call : Call) (source caller : SourceCaller) → call.replies ≡ own → source ≡ caller → HasAbout call.replies caller → HasAbout own source
+pub about : (own : List SourceReply) (call : Call) (source caller : SourceCaller) → call.replies ≡ own → source ≡ caller → HasAbout call.replies caller → HasAbout own source
 about own call source caller is same h = subst (λ (k : SourceCaller). HasAbout own k) (sym same) (subst (λ (k : List SourceReply). HasAbout k caller) is h)
 
-replies_are : (a b : Call) → a ≡ b → a.replies ≡ b.replies
+pub replies_are : (a b : Call) → a ≡ b → a.replies ≡ b.replies
 replies_are a b e = ap (λ (k : Call). k.replies) e
 
 module _ (t : Plan) (s : Shared) (d : ℕ) (x : Caller) where
@@ -99,6 +99,7 @@ module _ (t : Plan) (s : Shared) (d : ℕ) (x : Caller) where
   by_routine (Clears clears.Again) told = beginning told.0 told.1
   by_routine (Claims claim) told = walking (spot_of x.entry.hand) told.1.0 told.1.1 told.1.2
   by_routine (Zeroes k field) told = walking (spot_of x.entry.hand) told.2.0 told.2.1 told.2.2
+  by_routine (Announces announcing) told = absurd told
 
   pub running_agrees : CallerHolds t s d x → HasAbout (replies_of x.entry) x.source
   running_agrees told = by_routine x.entry.routine told.spot
@@ -116,3 +117,4 @@ module _ (t : Plan) (s : Shared) (d : ℕ) (x : Caller) where
     of (Clears next) idle spot = absurd (let z : false ≡ true = idle in cc)
     of (Claims claim) idle spot = absurd (let z : false ≡ true = idle in cc)
     of (Zeroes k field) idle spot = absurd (let z : false ≡ true = idle in cc)
+    of (Announces announcing) idle spot = absurd spot

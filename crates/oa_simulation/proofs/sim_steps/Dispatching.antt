@@ -24,7 +24,7 @@ use Rattle.caller_parts.specs.declared.routine.AfterClear.TheVariants as clears
 use Rattle.caller_parts.specs.declared.routine.AfterRetire.{AfterRetire}
 use Rattle.caller_parts.specs.declared.routine.AfterRetire.TheVariants as onward
 use Rattle.caller_parts.specs.declared.routine.Routine.{Routine}
-use Rattle.caller_parts.specs.declared.routine.Routine.TheVariants.{Idle, LoadSeen, At, InList, Retires, Restarts, Clears, Claims, Zeroes}
+use Rattle.caller_parts.specs.declared.routine.Routine.TheVariants.{Idle, LoadSeen, At, InList, Retires, Restarts, Clears, Claims, Zeroes, Announces}
 use Rattle.caller_steps.specs.Entries.{code_in, instr_in, new_number}
 use Rattle.caller_parts.specs.Operands.{is_new_at, list_of}
 use Rattle.caller_steps.specs.Clearing.{restart_next, clear_next}
@@ -62,6 +62,7 @@ use Rattle.oa_simulation.proofs.sim_steps.Accesses.Entries.{entry_step}
 use Rattle.oa_simulation.proofs.sim_steps.Accesses.Zeroed.{zero_step}
 use Rattle.oa_simulation.specs.sim_steps.Quiet.{is_quiet_instr, is_quiet_at, is_quiet}
 use Rattle.oa_simulation.proofs.sim_steps.Calling.{begin_kept}
+use Rattle.caller_parts.specs.declared.setting.Reclamation.TheVariants.{Optimistic}
 
 -- what a step of a caller stands on
 pub record Stepping (t : Plan) (c : ℕ) (s : Shared) (x : Caller) : Type 0 where
@@ -102,22 +103,22 @@ abbrev pub sets_at : Plan → Caller → Routine → ℕ → ℕ → Bool
 sets_at t x r word = set_after_access t.target x.entry r word x.was_set
 
 abbrev pub KeptAt : (t : Plan) → ℕ → Shared → Caller → Routine → Type 0
-KeptAt t c s x r = KeptNamingAs t c s x (wanted t.target x.entry r) (sets_at t x r) (λ word. accepted t.target t.setting word (counted x.entry) r) (present_at t.target s.memory s.unused x.entry r s.present)
+KeptAt t c s x r = KeptNamingAs t c s x (wanted t.target x.entry r) (sets_at t x r) (λ word. accepted Optimistic t.target t.setting word (counted x.entry) r) (present_at t.target s.memory s.unused x.entry r s.present)
 
 abbrev pub SteppedAt : (t : Plan) → ℕ → Shared → Caller → Routine → Type 0
-SteppedAt t c s x r = SteppedAs t c s x (NamesAfter t s c x r) (wanted t.target x.entry r) (sets_at t x r) (λ word. accepted t.target t.setting word (counted x.entry) r) (present_at t.target s.memory s.unused x.entry r s.present)
+SteppedAt t c s x r = SteppedAs t c s x (NamesAfter t s c x r) (wanted t.target x.entry r) (sets_at t x r) (λ word. accepted Optimistic t.target t.setting word (counted x.entry) r) (present_at t.target s.memory s.unused x.entry r s.present)
 
 at_routine : (t : Plan) (c : ℕ) (s : Shared) (x : Caller) (r : Routine) → NamesAfter t s c x r x.names → KeptAt t c s x r → SteppedAt t c s x r
-at_routine t c s x r same kept = same_row t c s x (NamesAfter t s c x r) (wanted t.target x.entry r) (sets_at t x r) (λ word. accepted t.target t.setting word (counted x.entry) r) (present_at t.target s.memory s.unused x.entry r s.present) same kept
+at_routine t c s x r same kept = same_row t c s x (NamesAfter t s c x r) (wanted t.target x.entry r) (sets_at t x r) (λ word. accepted Optimistic t.target t.setting word (counted x.entry) r) (present_at t.target s.memory s.unused x.entry r s.present) same kept
 
 -- the accesses of the text: of an instruction of a method, and the exchanges of a list
 abbrev pub PlainKeeps : (t : Plan) → ℕ → Shared → Caller → Type 0
 PlainKeeps t c s x = (i : Instr) → x.entry.routine ≡ At → instr_in t.target x.entry ≡ Some (Plain i)
-    → KeptAs t c s x (plain_wanted t.target.fields i x.entry.hand.registers) (λ word. set_plain t.target i word x.entry x.was_set) (λ word. instr_accepted t.target t.setting.sizes (Some (Plain i)) word (counted x.entry))
+    → KeptAs t c s x (plain_wanted t.target.fields i x.entry.hand.registers) (λ word. set_plain t.target i word x.entry x.was_set) (λ word. instr_accepted Optimistic t.target t.setting.sizes (Some (Plain i)) word (counted x.entry))
 
 abbrev pub EntryKeeps : (t : Plan) → ℕ → Shared → Caller → Type 0
 EntryKeeps t c s x = (k : ℕ) (exchange : CasEntry) → x.entry.routine ≡ InList k → slice_get (list_of (instr_in t.target x.entry)) k ≡ Some exchange
-    → KeptAs t c s x (list_wanted t.target.fields (Some exchange) x.entry.hand.registers) (λ word. x.was_set) (λ word. list_accepted t.target t.setting.sizes k (Some exchange) word (counted x.entry))
+    → KeptAs t c s x (list_wanted t.target.fields (Some exchange) x.entry.hand.registers) (λ word. x.was_set) (λ word. list_accepted Optimistic t.target t.setting.sizes k (Some exchange) word (counted x.entry))
 
 both_true : (a b : Bool) → (a && b) ≡ true → b ≡ true
 both_true true b is = is
@@ -140,8 +141,8 @@ module _ (t : Plan) (c : ℕ) (s : Shared) (x : Caller) (w : Stepping t c s x) w
 
   -- the own warning is loaded
   by_start : (why : MethodStart) → x.entry.routine ≡ LoadSeen why → KeptAt t c s x (LoadSeen why)
-  by_start why is = subst (λ (n : ℕ). KeptAs t c s x (Some (Loads (Warning n))) (sets_at t x (LoadSeen why)) (λ word. accepted t.target t.setting word (counted x.entry) (LoadSeen why))) (sym number) (λ row draws. of why (spot_at (LoadSeen why) is)) where
-    of : (why : MethodStart) → HoldsAt t s c x (LoadSeen why) → KeptSetting t c s x (set_begun t.target (is_wrap_up why) x.entry) (after_access s.memory (Loads (Warning c))) (accepted t.target t.setting (s.memory (Warning c)) (counted x.entry) (LoadSeen why))
+  by_start why is = subst (λ (n : ℕ). KeptAs t c s x (Some (Loads (Warning n))) (sets_at t x (LoadSeen why)) (λ word. accepted Optimistic t.target t.setting word (counted x.entry) (LoadSeen why))) (sym number) (λ row draws. of why (spot_at (LoadSeen why) is)) where
+    of : (why : MethodStart) → HoldsAt t s c x (LoadSeen why) → KeptSetting t c s x (set_begun t.target (is_wrap_up why) x.entry) (after_access s.memory (Loads (Warning c))) (accepted Optimistic t.target t.setting (s.memory (Warning c)) (counted x.entry) (LoadSeen why))
     of starts.Begin spot = begin_kept t c s x w.plan w.shared_holds w.caller_holds.base spot.0 spot.1 spot.2 w.called
     of starts.WrapUp spot = seen_kept t s c x spot.0 starts.WrapUp w.plan w.shared_holds w.caller_holds.base spot.1 spot.2 spot.3 refl (begins_restart t s c x spot.0 (erasing w.plan.compiled) spot.1)
     of starts.Again spot = seen_kept t s c x spot.0 starts.Again w.plan w.shared_holds w.caller_holds.base spot.1 spot.2 spot.3 refl (begins_restart t s c x spot.0 (erasing w.plan.compiled) spot.1)
@@ -157,7 +158,7 @@ module _ (t : Plan) (c : ℕ) (s : Shared) (x : Caller) (w : Stepping t c s x) w
 
     -- what a guard, a check or an instruction of the text makes of the names
     Steps : Option TargetInstr → ℕ → Type 0
-    Steps o n = SteppedAs t c s x (NamesAt t s c x o) (instr_wanted t.target.fields n o x.entry.hand.registers) (λ word. set_at t.target o word x.entry x.was_set) (λ word. instr_accepted t.target t.setting.sizes o word (counted x.entry)) s.present
+    Steps o n = SteppedAs t c s x (NamesAt t s c x o) (instr_wanted t.target.fields n o x.entry.hand.registers) (λ word. set_at t.target o word x.entry x.was_set) (λ word. instr_accepted Optimistic t.target t.setting.sizes o word (counted x.entry)) s.present
 
     guards : (r : Reg) → instr_in t.target x.entry ≡ Some (Guard r) → (k : ℕ) × (r ≡ Ref k) → Steps (Some (Guard r)) c
     guards r there (k, same) = subst (λ (r : Reg). Steps (Some (Guard r)) c) (sym same)
@@ -170,7 +171,7 @@ module _ (t : Plan) (c : ℕ) (s : Shared) (x : Caller) (w : Stepping t c s x) w
 
     of : (o : Option TargetInstr) → instr_in t.target x.entry ≡ o → Steps o x.entry.number
     of None there = tt
-    of (Some (Plain i)) there = same_row t c s x (NamesAt t s c x (Some (Plain i))) (plain_wanted t.target.fields i x.entry.hand.registers) (λ word. set_plain t.target i word x.entry x.was_set) (λ word. instr_accepted t.target t.setting.sizes (Some (Plain i)) word (counted x.entry)) s.present refl (plain i is there)
+    of (Some (Plain i)) there = same_row t c s x (NamesAt t s c x (Some (Plain i))) (plain_wanted t.target.fields i x.entry.hand.registers) (λ word. set_plain t.target i word x.entry x.was_set) (λ word. instr_accepted Optimistic t.target t.setting.sizes (Some (Plain i)) word (counted x.entry)) s.present refl (plain i is there)
     of (Some Check) there = subst (Steps (Some Check)) (sym number)
         (λ row draws. record {
           row = checked_names (s.memory (Warning c) == x.entry.hand.seen) x.names;
@@ -183,7 +184,7 @@ module _ (t : Plan) (c : ℕ) (s : Shared) (x : Caller) (w : Stepping t c s x) w
   -- an exchange of the list
   by_entry : EntryKeeps t c s x → (k : ℕ) → x.entry.routine ≡ InList k → KeptAt t c s x (InList k)
   by_entry entry k is = of (slice_get (list_of (instr_in t.target x.entry)) k) refl where
-    of : (o : Option CasEntry) → slice_get (list_of (instr_in t.target x.entry)) k ≡ o → KeptAs t c s x (list_wanted t.target.fields o x.entry.hand.registers) (λ word. x.was_set) (λ word. list_accepted t.target t.setting.sizes k o word (counted x.entry))
+    of : (o : Option CasEntry) → slice_get (list_of (instr_in t.target x.entry)) k ≡ o → KeptAs t c s x (list_wanted t.target.fields o x.entry.hand.registers) (λ word. x.was_set) (λ word. list_accepted Optimistic t.target t.setting.sizes k o word (counted x.entry))
     of None there = tt
     of (Some exchange) there = entry k exchange is there
 
@@ -203,11 +204,11 @@ module _ (t : Plan) (c : ℕ) (s : Shared) (x : Caller) (w : Stepping t c s x) w
 
   -- a clear after a failed check
   by_restart : x.entry.routine ≡ Restarts → SteppedAt t c s x Restarts
-  by_restart is = subst (λ (n : ℕ). SteppedAs t c s x (NamesCleared x (restart_next t.target x.entry)) (clear_wanted n (restart_next t.target x.entry)) (sets_at t x Restarts) (λ word. accepted t.target t.setting word (counted x.entry) Restarts) s.present) (sym number) (of (restart_next t.target x.entry) refl) where
+  by_restart is = subst (λ (n : ℕ). SteppedAs t c s x (NamesCleared x (restart_next t.target x.entry)) (clear_wanted n (restart_next t.target x.entry)) (sets_at t x Restarts) (λ word. accepted Optimistic t.target t.setting word (counted x.entry) Restarts) s.present) (sym number) (of (restart_next t.target x.entry) refl) where
     spot : HoldsAt t s c x Restarts
     spot = spot_at Restarts is
 
-    of : (o : Option ℕ) → restart_next t.target x.entry ≡ o → SteppedAs t c s x (NamesCleared x o) (clear_wanted c o) (sets_at t x Restarts) (λ word. accepted t.target t.setting word (counted x.entry) Restarts) s.present
+    of : (o : Option ℕ) → restart_next t.target x.entry ≡ o → SteppedAs t c s x (NamesCleared x o) (clear_wanted c o) (sets_at t x Restarts) (λ word. accepted Optimistic t.target t.setting word (counted x.entry) Restarts) s.present
     of None none = tt
     of (Some r) next = λ row draws. record { row = with_names x.names r 0; names = refl; kept = restart_clears t c s x r w.plan w.shared_holds w.caller_holds.base w.belongs.hand.guards.row.slots next spot.0 spot.1 spot.2 }
 
@@ -220,16 +221,16 @@ module _ (t : Plan) (c : ℕ) (s : Shared) (x : Caller) (w : Stepping t c s x) w
 
   -- a clear at another moment
   by_clear : (next : AfterClear) → x.entry.routine ≡ Clears next → SteppedAt t c s x (Clears next)
-  by_clear next is = subst (λ (n : ℕ). SteppedAs t c s x (NamesCleared x (clear_next t.target next x.entry)) (clear_wanted n (clear_next t.target next x.entry)) (λ word. x.was_set) (λ word. accepted t.target t.setting word (counted x.entry) (Clears next)) s.present) (sym number) (of (clear_next t.target next x.entry) refl) where
-    clear : (next : AfterClear) (r : ℕ) → x.entry.routine ≡ Clears next → clear_next t.target next x.entry ≡ Some r → KeptBy t c s x (with_names x.names r 0) x.was_set (after_access s.memory (Stores (Hazard c r) 0)) (accepted t.target t.setting (s.memory (Hazard c r)) (counted x.entry) (Clears next))
+  by_clear next is = subst (λ (n : ℕ). SteppedAs t c s x (NamesCleared x (clear_next t.target next x.entry)) (clear_wanted n (clear_next t.target next x.entry)) (λ word. x.was_set) (λ word. accepted Optimistic t.target t.setting word (counted x.entry) (Clears next)) s.present) (sym number) (of (clear_next t.target next x.entry) refl) where
+    clear : (next : AfterClear) (r : ℕ) → x.entry.routine ≡ Clears next → clear_next t.target next x.entry ≡ Some r → KeptBy t c s x (with_names x.names r 0) x.was_set (after_access s.memory (Stores (Hazard c r) 0)) (accepted Optimistic t.target t.setting (s.memory (Hazard c r)) (counted x.entry) (Clears next))
     clear clears.New r is some =
         let spot = spot_at (Clears clears.New) is in
-        new_clears t c s x r w.shared_holds w.caller_holds.base some spot (new_in_generator spot.0 spot.1 (stands_at (Clears clears.New) is).0)
+        new_clears t c s x r w.shared_holds w.caller_holds.base some spot (new_in_generator spot.0 spot.1 (stands_at (Clears clears.New) is).1)
     clear clears.WrapUp r is some = then_clears t c s x r clears.WrapUp (λ e. cc) w.plan w.shared_holds w.caller_holds.base w.belongs.hand.guards.row.slots some (spot_at (Clears clears.WrapUp) is)
     clear (clears.Reply reply) r is some = then_clears t c s x r (clears.Reply reply) (λ e. cc) w.plan w.shared_holds w.caller_holds.base w.belongs.hand.guards.row.slots some (spot_at (Clears (clears.Reply reply)) is)
     clear clears.Again r is some = then_clears t c s x r clears.Again (λ e. cc) w.plan w.shared_holds w.caller_holds.base w.belongs.hand.guards.row.slots some (spot_at (Clears clears.Again) is)
 
-    of : (o : Option ℕ) → clear_next t.target next x.entry ≡ o → SteppedAs t c s x (NamesCleared x o) (clear_wanted c o) (λ word. x.was_set) (λ word. accepted t.target t.setting word (counted x.entry) (Clears next)) s.present
+    of : (o : Option ℕ) → clear_next t.target next x.entry ≡ o → SteppedAs t c s x (NamesCleared x o) (clear_wanted c o) (λ word. x.was_set) (λ word. accepted Optimistic t.target t.setting word (counted x.entry) (Clears next)) s.present
     of None none = tt
     of (Some r) some = λ row draws. record { row = with_names x.names r 0; names = refl; kept = clear next r is some }
 
@@ -246,7 +247,7 @@ module _ (t : Plan) (c : ℕ) (s : Shared) (x : Caller) (w : Stepping t c s x) w
       let four = w.plan.some.sizes.8.few in
       let small = cradle_number_small t.target x.entry.hand.wrapup (code_in t.target x.entry) x.entry.hand.at (sane_code t.target w.plan.sane x.entry.running.call.op x.entry.hand.wrapup) at_new (omega (arith, known, same, four)) in
       let count = w.belongs.cradles.count in omega (arith, small, count)) in
-      λ row draws. claims_keep t c s x claim claim.stage refl (erasing w.plan.compiled) w.plan.null w.plan.callers w.shared_holds (record { base = w.caller_holds.base; running = spot.1; empty = spot.2; at_new = at_new; generator = gen }) few (subst (λ (r : Routine). TakesReady s.memory r) is w.ready) stands.1 spot.0
+      λ row draws. claims_keep t c s x claim claim.stage refl (erasing w.plan.compiled) w.plan.null w.plan.callers w.shared_holds (record { base = w.caller_holds.base; running = spot.1; empty = spot.2; at_new = at_new; generator = gen }) few (subst (λ (r : Routine). TakesReady s.memory r) is w.ready) w.plan.optimistic stands.1 spot.0
 
   -- a store of 0 at a `new`
   by_zero : (k field : ℕ) → x.entry.routine ≡ Zeroes k field → KeptAt t c s x (Zeroes k field)
@@ -262,6 +263,7 @@ module _ (t : Plan) (c : ℕ) (s : Shared) (x : Caller) (w : Stepping t c s x) w
   by_routine plain entry (Clears next) is = by_clear next is
   by_routine plain entry (Claims claim) is = at_routine t c s x (Claims claim) refl (by_claim claim is)
   by_routine plain entry (Zeroes k field) is = at_routine t c s x (Zeroes k field) refl (by_zero k field is)
+  by_routine plain entry (Announces announcing) is = absurd (spot_at (Announces announcing) is)
 
   -- none of them is quiet
   no_plain : is_quiet t.target t.setting x.entry ≡ true → PlainKeeps t c s x
@@ -276,12 +278,12 @@ unfolding wants
 quiet_steps t plan = record {
   step = λ c s x a quiet below f told ready belongs called proper want row draws.
       (let w : Stepping t c s x = record { plan = plan; below = below; shared_holds = f; caller_holds = told; ready = ready; belongs = belongs; called = called; proper = proper } in
-      subst (λ (o : Option WordAccess). SteppedAs t c s x (NamesAfter t s c x x.entry.routine) o (sets_at t x x.entry.routine) (λ word. after_moves t.target t.setting x.entry word) (present_at t.target s.memory s.unused x.entry x.entry.routine s.present)) want
+      subst (λ (o : Option WordAccess). SteppedAs t c s x (NamesAfter t s c x x.entry.routine) o (sets_at t x x.entry.routine) (λ word. after_moves Optimistic t.target t.setting x.entry word) (present_at t.target s.memory s.unused x.entry x.entry.routine s.present)) want
       (by_routine t c s x w (no_plain t c s x w quiet) (no_entry t c s x w quiet) x.entry.routine refl) row draws);
 }
 
 -- the accesses of the text
-with_row : (t : Plan) (c : ℕ) (s : Shared) (x : Caller) (i : Instr) (o : Option WordAccess) → PlainKept t c s x i o → KeptAs t c s x o (λ word. set_plain t.target i word x.entry x.was_set) (λ word. instr_accepted t.target t.setting.sizes (Some (Plain i)) word (counted x.entry))
+with_row : (t : Plan) (c : ℕ) (s : Shared) (x : Caller) (i : Instr) (o : Option WordAccess) → PlainKept t c s x i o → KeptAs t c s x o (λ word. set_plain t.target i word x.entry x.was_set) (λ word. instr_accepted Optimistic t.target t.setting.sizes (Some (Plain i)) word (counted x.entry))
 with_row t c s x i None kept = tt
 with_row t c s x i (Some a) kept = λ row draws. kept
 
@@ -298,6 +300,6 @@ unfolding wants
 steps_keep t plan = record {
   step = λ c s x a all below f told ready belongs called proper want row draws.
       (let w : Stepping t c s x = record { plan = plan; below = below; shared_holds = f; caller_holds = told; ready = ready; belongs = belongs; called = called; proper = proper } in
-      subst (λ (o : Option WordAccess). SteppedAs t c s x (NamesAfter t s c x x.entry.routine) o (sets_at t x x.entry.routine) (λ word. after_moves t.target t.setting x.entry word) (present_at t.target s.memory s.unused x.entry x.entry.routine s.present)) want
+      subst (λ (o : Option WordAccess). SteppedAs t c s x (NamesAfter t s c x x.entry.routine) o (sets_at t x x.entry.routine) (λ word. after_moves Optimistic t.target t.setting x.entry word) (present_at t.target s.memory s.unused x.entry x.entry.routine s.present)) want
       (by_routine t c s x w (plain_keeps t c s x w) (entry_keeps t c s x w) x.entry.routine refl) row draws);
 }

@@ -32,7 +32,7 @@ use Rattle.caller_parts.specs.declared.routine.AfterRetire.{AfterRetire}
 use Rattle.caller_parts.specs.declared.routine.AfterRetire.TheVariants as onward
 use Rattle.caller_steps.specs.declared.entry.Hand.{Hand}
 use Rattle.caller_parts.specs.declared.routine.Routine.{Routine}
-use Rattle.caller_parts.specs.declared.routine.Routine.TheVariants.{Idle, LoadSeen, At, InList, Retires, Restarts, Clears, Claims, Zeroes}
+use Rattle.caller_parts.specs.declared.routine.Routine.TheVariants.{Idle, LoadSeen, At, InList, Retires, Restarts, Clears, Claims, Zeroes, Announces}
 use Rattle.caller_steps.specs.Entries.{Entry, cradle_of, instr_in}
 use Rattle.caller_parts.specs.Operands.{list_of, is_new_at, cradle_number}
 use Rattle.run_ahead.specs.Agreeing.{node_in}
@@ -303,7 +303,7 @@ ClearsAt t s d x clears.WrapUp = (walk : Walk t.target t.text) × Begins t s d x
 ClearsAt t s d x (clears.Reply reply) = HasReplied x (source_reply reply) × Settled x
 ClearsAt t s d x clears.Again = (walk : Walk t.target t.text) × Begins t s d x walk × (walk.method.wrapup ≡ false)
 
--- where the caller stands
+-- where the caller stands. Under optimistic access none stands at an announcement
 abbrev pub HoldsAt : (t : Plan) (s : Shared) (d : ℕ) (x : Caller) → Routine → Type 0
 HoldsAt t s d x Idle = Empty x × Settled x × IsIdle x
 HoldsAt t s d x (LoadSeen why) = BeginsAt t s d x why
@@ -314,6 +314,7 @@ HoldsAt t s d x Restarts = (walk : Walk t.target t.text) × Begins t s d x walk 
 HoldsAt t s d x (Clears next) = ClearsAt t s d x next
 HoldsAt t s d x (Claims claim) = ClaimAt t s claim.sweep claim.stage × AtNew t s d x (spot_of x.entry.hand) × Empty x
 HoldsAt t s d x (Zeroes k field) = (cradle_of x.entry k ≢ 0) × Zeroed s (cradle_of x.entry k) field × AtNew t s d x (spot_of x.entry.hand) × Empty x
+HoldsAt t s d x (Announces announcing) = ⊥
 
 pub record CallerHolds (t : Plan) (s : Shared) (d : ℕ) (x : Caller) : Type 0 where
   pub base : Base t s d x

@@ -10,7 +10,7 @@ use Rattle.phase_pools.specs.declared.stages.ClaimStage.{ClaimStage}
 use Rattle.phase_pools.specs.declared.stages.ClaimStage.TheVariants as claims
 use Rattle.source_machine.specs.MethodRuns.{put}
 use Rattle.caller_parts.specs.declared.routine.Routine.{Routine}
-use Rattle.caller_parts.specs.declared.routine.Routine.TheVariants.{Idle, LoadSeen, At, InList, Retires, Restarts, Clears, Claims, Zeroes}
+use Rattle.caller_parts.specs.declared.routine.Routine.TheVariants.{Idle, LoadSeen, At, InList, Retires, Restarts, Clears, Claims, Zeroes, Announces}
 use Rattle.caller_steps.specs.Entries.{Entry, instr_in, zero_count, cradle_of}
 
 -- the exchange of a sweep that makes a slot ready takes the slot's name away, where it finds the word that it expects
@@ -54,3 +54,4 @@ present_at target memory drawn e Restarts present = present
 present_at target memory drawn e (Clears next) present = present
 present_at target memory drawn e (Claims claim) present = freed_in claim.stage claim.sweep.stage memory present
 present_at target memory drawn e (Zeroes k field) present = named_at (nat_lt (field + 1) (zero_count target (instr_in target e))) (cradle_of e k) drawn (emptied_at field (cradle_of e k) present)
+present_at target memory drawn e (Announces announcing) present = present

@@ -21,7 +21,7 @@ use Rattle.caller_steps.specs.declared.entry.Counts.{Counts}
 use Rattle.caller_parts.specs.declared.routine.AfterClear.{AfterClear}
 use Rattle.caller_parts.specs.declared.routine.AfterClear.TheVariants as clears
 use Rattle.caller_parts.specs.declared.routine.Routine.{Routine}
-use Rattle.caller_parts.specs.declared.routine.Routine.TheVariants.{Idle, LoadSeen, At, InList, Retires, Restarts, Clears, Claims, Zeroes}
+use Rattle.caller_parts.specs.declared.routine.Routine.TheVariants.{Idle, LoadSeen, At, InList, Retires, Restarts, Clears, Claims, Zeroes, Announces}
 use Rattle.caller_steps.specs.Clearing.{restart_next, clear_next}
 use Rattle.caller_steps.specs.Entries.{instr_in, Entry}
 use Rattle.caller_steps.specs.Signs.{Moved}
@@ -40,6 +40,7 @@ use Rattle.oa_simulation.specs.sim_relation.MayChange.{MayChange}
 use Rattle.oa_simulation.specs.sim_relation.Naming.{present_at}
 use Rattle.oa_simulation.specs.sim_relation.WasSet.{set_after_access}
 use Rattle.oa_simulation.specs.sim_relation.Points.{Plays, point}
+use Rattle.caller_parts.specs.declared.setting.Reclamation.TheVariants.{Optimistic}
 
 -- the words after an access
 abbrev pub after_access : (Word → ℕ) → WordAccess → Word → ℕ
@@ -63,6 +64,7 @@ is_between Restarts = false
 is_between (Clears next) = is_over next
 is_between (Claims claim) = false
 is_between (Zeroes k field) = false
+is_between (Announces announcing) = true
 
 -- what is under a validated guard stays so, and while a method run goes on each guard that has a name keeps one
 pub record NamesStay (row row' : GuardRow) (between : Bool) : Type 0 where
@@ -173,6 +175,7 @@ NamesAfter t s c x Restarts row = NamesCleared x (restart_next t.target x.entry)
 NamesAfter t s c x (Clears next) row = NamesCleared x (clear_next t.target next x.entry) row
 NamesAfter t s c x (Claims claim) row = row ≡ x.names
 NamesAfter t s c x (Zeroes k field) row = row ≡ x.names
+NamesAfter t s c x (Announces announcing) row = row ≡ x.names
 
 -- a step that is kept, and what its access has made of the names of the guards
 pub record Stepped (t : Plan) (c : ℕ) (s : Shared) (x : Caller) (Names : GuardRow → Type 0) (were : ℕ → Bool) (memory' : Word → ℕ) (m : Moved) (present' : ℕ → ℕ) : Type 0 where
@@ -183,7 +186,7 @@ pub record Stepped (t : Plan) (c : ℕ) (s : Shared) (x : Caller) (Names : Guard
 -- a caller that takes a call stands at its generator's start, and the source doesn't move
 pub record TakeKept (t : Plan) (c : ℕ) (s : Shared) (x : Caller) (call : Call) : Type 0 where
   pub x' : Caller
-  pub entry : x'.entry ≡ taken call x.entry
+  pub entry : x'.entry ≡ taken Optimistic call x.entry
   pub names : x'.names ≡ x.names
   pub was_set : x'.was_set ≡ x.was_set
   pub source : x'.source ≡ x.source
@@ -209,14 +212,15 @@ TakesReady memory Restarts = Unit {0}
 TakesReady memory (Clears next) = Unit {0}
 TakesReady memory (Claims claim) = TakenIsReady memory claim.stage
 TakesReady memory (Zeroes k field) = Unit {0}
+TakesReady memory (Announces announcing) = Unit {0}
 
 -- each step of each caller whose entry passes a test is kept, where its source's text owes what a proper one does at each point to
 -- which the step leads
 pub record StepsKeep (t : Plan) (test : Entry → Bool) : Type 0 where
   pub step : (c : ℕ) (s : Shared) (x : Caller) (a : WordAccess) → test x.entry ≡ true → c < t.setting.sizes.callers → SharedHolds t s → CallerHolds t s c x → TakesReady s.memory x.entry.routine → Belongs t.target t.setting x.entry
       → is_call t.target x.entry.running.call ≡ true → StaysProper t.text c (point s x) → wants t.target x.entry ≡ Some a → in_row t.setting.sizes (word_of a) ≡ true
-      → DrawsHome t.home (after_moves t.target t.setting x.entry (s.memory (word_of a))).signs s.unused
-      → Stepped t c s x (NamesAfter t s c x x.entry.routine) (set_after_access t.target x.entry x.entry.routine (s.memory (word_of a)) x.was_set) (after_access s.memory a) (after_moves t.target t.setting x.entry (s.memory (word_of a))) (present_at t.target s.memory s.unused x.entry x.entry.routine s.present)
+      → DrawsHome t.home (after_moves Optimistic t.target t.setting x.entry (s.memory (word_of a))).signs s.unused
+      → Stepped t c s x (NamesAfter t s c x x.entry.routine) (set_after_access t.target x.entry x.entry.routine (s.memory (word_of a)) x.was_set) (after_access s.memory a) (after_moves Optimistic t.target t.setting x.entry (s.memory (word_of a))) (present_at t.target s.memory s.unused x.entry x.entry.routine s.present)
 
 -- every step of each caller is kept
 abbrev pub StepKeeps : Plan → Type 0

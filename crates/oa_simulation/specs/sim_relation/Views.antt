@@ -12,6 +12,7 @@ use Rattle.source_machine.specs.MethodRuns.{MethodRun}
 use Rattle.source_machine.specs.Proper.{field_of}
 use Rattle.source_machine.specs.Memory.{value_at, fields_named}
 use Rattle.caller_parts.specs.Settings.{Setting, Fits, IsSetting}
+use Rattle.caller_parts.specs.declared.setting.Reclamation.TheVariants.{Optimistic}
 use Rattle.target_laws.specs.target_runs.Sane.{Sane}
 use Rattle.caller_steps.specs.Entries.{Entry}
 use Rattle.run_ahead.specs.Ahead.{IsCompiled}
@@ -29,6 +30,8 @@ pub record IsPlan (t : Plan) : Type 0 where
   pub sane : Sane t.target
   pub some : IsSetting t.setting
   pub fits : Fits t.target t.setting
+  -- slots are recycled by optimistic access
+  pub optimistic : t.setting.reclamation ≡ Optimistic
   pub callers : 1 ≤ t.setting.sizes.callers
   -- null is in slot 0
   pub null : t.home 0 ≡ 0

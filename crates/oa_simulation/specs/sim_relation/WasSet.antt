@@ -17,7 +17,7 @@ use Rattle.phase_pools.specs.Pools.{Retirement, retire_accepts}
 use Rattle.caller_parts.specs.declared.routine.AfterRetire.{AfterRetire}
 use Rattle.caller_parts.specs.declared.routine.AfterRetire.TheVariants as onward
 use Rattle.caller_parts.specs.declared.routine.Routine.{Routine}
-use Rattle.caller_parts.specs.declared.routine.Routine.TheVariants.{Idle, LoadSeen, At, InList, Retires, Restarts, Clears, Claims, Zeroes}
+use Rattle.caller_parts.specs.declared.routine.Routine.TheVariants.{Idle, LoadSeen, At, InList, Retires, Restarts, Clears, Claims, Zeroes, Announces}
 use Rattle.caller_steps.specs.Entries.{Entry, code_in, cradle_of, instr_in, zero_count}
 use Rattle.caller_parts.specs.Operands.{code_at, with_word, succeeds, to_retire, with_new}
 use Rattle.caller_steps.specs.Clearing.{restart_next, unguarded}
@@ -113,3 +113,4 @@ set_after_access target e Restarts word were = set_cleared target (with_hand e (
 set_after_access target e (Clears next) word were = were
 set_after_access target e (Claims claim) word were = were
 set_after_access target e (Zeroes k field) word were = set_zeroed target e were k (nat_lt (field + 1) (zero_count target (instr_in target e)))
+set_after_access target e (Announces announcing) word were = were

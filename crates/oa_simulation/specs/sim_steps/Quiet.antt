@@ -5,7 +5,7 @@ use Rattle.target_code.specs.declared.target.TargetInstr.{TargetInstr}
 use Rattle.target_code.specs.declared.target.TargetInstr.TheVariants.{Plain, Check, Guard}
 use Rattle.target_code.specs.declared.target.Target.{Target}
 use Rattle.caller_parts.specs.declared.routine.Routine.{Routine}
-use Rattle.caller_parts.specs.declared.routine.Routine.TheVariants.{Idle, LoadSeen, At, InList, Retires, Restarts, Clears, Claims, Zeroes}
+use Rattle.caller_parts.specs.declared.routine.Routine.TheVariants.{Idle, LoadSeen, At, InList, Retires, Restarts, Clears, Claims, Zeroes, Announces}
 use Rattle.caller_parts.specs.Settings.{Setting}
 use Rattle.caller_steps.specs.Entries.{Entry, instr_in, zero_count}
 
@@ -28,6 +28,7 @@ is_quiet_at target setting e Restarts = true
 is_quiet_at target setting e (Clears next) = true
 is_quiet_at target setting e (Claims claim) = true
 is_quiet_at target setting e (Zeroes k field) = nat_lt (field + 1) (zero_count target (instr_in target e))
+is_quiet_at target setting e (Announces announcing) = true
 
 -- the entry's next step
 abbrev pub is_quiet : Target → Setting → Entry → Bool

@@ -4,7 +4,7 @@ use Rattle.target_code.specs.declared.target.TargetInstr.{TargetInstr}
 use Rattle.target_code.specs.declared.target.TargetInstr.TheVariants.{Plain, Check, Guard}
 use Rattle.target_code.specs.declared.target.Target.{Target}
 use Rattle.caller_parts.specs.declared.routine.Routine.{Routine}
-use Rattle.caller_parts.specs.declared.routine.Routine.TheVariants.{Idle, LoadSeen, At, InList, Retires, Restarts, Clears, Claims, Zeroes}
+use Rattle.caller_parts.specs.declared.routine.Routine.TheVariants.{Idle, LoadSeen, At, InList, Retires, Restarts, Clears, Claims, Zeroes, Announces}
 use Rattle.caller_steps.specs.Entries.{Entry, instr_in}
 
 -- a check that finds another warning than was seen
@@ -25,6 +25,7 @@ renews_at target e Restarts warning = false
 renews_at target e (Clears next) warning = false
 renews_at target e (Claims claim) warning = false
 renews_at target e (Zeroes k field) warning = false
+renews_at target e (Announces announcing) warning = false
 
 -- the entry's next step, by its warning word
 abbrev pub renews : Target → Entry → ℕ → Bool

@@ -27,6 +27,7 @@ use Rattle.caller_steps.specs.Wants.{wants}
 use Rattle.caller_steps.specs.After.{after, signs}
 use Rattle.core_runs.specs.Machine.{CoreState, CoreEvent, Takes, Steps, core_run, core_start}
 use Rattle.oa_simulation.specs.Shadow.{shadow, image}
+use Rattle.caller_parts.specs.declared.setting.Reclamation.TheVariants.{Optimistic}
 
 -- the root's node is put in its own place, and its number is loaded in the wrap-up, which keeps it, guard and all
 touch : TargetOp
@@ -57,7 +58,7 @@ unfolding target touch
 text = record { kinds = item_kind ∷ []; fields = target.fields; roots = target.roots; nodes = target.nodes; ops = map erased_op target.ops }
 
 setting : Setting
-setting = record { sizes = record { callers = 1; slots = 1; fields = 1; cells = 1; kinds = 1 ∷ [] }; first = 1; last = 9; nodes = 1 ∷ 0 ∷ 0 ∷ 0 ∷ [] }
+setting = record { reclamation = Optimistic; sizes = record { callers = 1; slots = 1; fields = 1; cells = 1; kinds = 1 ∷ [] }; first = 1; last = 9; nodes = 1 ∷ 0 ∷ 0 ∷ 0 ∷ [] }
 
 -- the call, with so many steps
 with_steps : ℕ → List CoreEvent

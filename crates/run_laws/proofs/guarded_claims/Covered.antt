@@ -15,7 +15,7 @@ use Rattle.source_machine.specs.MethodRuns.{put}
 use Rattle.source_machine.specs.Proper.{has}
 use Rattle.source_machine.proofs.Places.{each_put}
 use Rattle.caller_parts.specs.declared.routine.Routine.{Routine}
-use Rattle.caller_parts.specs.declared.routine.Routine.TheVariants.{Idle, LoadSeen, At, InList, Retires, Restarts, Clears, Claims, Zeroes}
+use Rattle.caller_parts.specs.declared.routine.Routine.TheVariants.{Idle, LoadSeen, At, InList, Retires, Restarts, Clears, Claims, Zeroes, Announces}
 use Rattle.caller_steps.specs.Entries.{cradle_of}
 use Rattle.oa_simulation.specs.sim_relation.Views.{Plan, Held, Shared, Caller}
 use Rattle.oa_simulation.specs.sim_relation.Shared.{SharedHolds}
@@ -92,6 +92,7 @@ module _ (t : Plan) (w : World) (h : Holds t w) (d r : ℕ) (some : w.shared.pro
   known_where e x (Clears next) k = tt
   known_where e x (Claims claim) k = known_in claim.sweep claim.stage k.0
   known_where e x (Zeroes i field) k = tt
+  known_where e x (Announces announcing) k = tt
 
   pub covered_of : Covered t w d r
   covered_of =

@@ -24,7 +24,7 @@ use Rattle.source_machine.specs.MethodRuns.{put}
 use Rattle.source_machine.specs.Proper.{has}
 use Rattle.source_machine.proofs.Places.{each_put, put_other}
 use Rattle.caller_parts.specs.declared.routine.Routine.{Routine}
-use Rattle.caller_parts.specs.declared.routine.Routine.TheVariants.{Idle, LoadSeen, At, InList, Retires, Restarts, Clears, Claims, Zeroes}
+use Rattle.caller_parts.specs.declared.routine.Routine.TheVariants.{Idle, LoadSeen, At, InList, Retires, Restarts, Clears, Claims, Zeroes, Announces}
 use Rattle.caller_steps.specs.Entries.{Entry, cradle_of, instr_in, new_number, zero_count}
 use Rattle.caller_steps.specs.Belongs.{Belongs, Stands}
 use Rattle.caller_steps.specs.Wants.{wants}
@@ -43,6 +43,8 @@ use Rattle.oa_simulation.proofs.sim_steps.Pools.Slots.{in_pool, is_dead}
 use Rattle.run_laws.proofs.guarded_claims.Passing.{KnowsAt, KnowsIn, KnowsWhere, ClaimKnows, FindsAt, FindsIn, stays_in, claim_knows}
 use Rattle.run_laws.proofs.guarded_claims.Walking.{Away, accepted_keeps, is_claiming}
 use Rattle.run_laws.proofs.guarded_claims.Covered.{Covered, covered_named}
+use Rattle.caller_parts.specs.declared.setting.Reclamation.TheVariants.{Optimistic}
+use Rattle.oa_simulation.proofs.sim_relation.Schemes.{claim_warned, never_holds}
 
 -- a cradle that has a slot after it was filled has that one
 filled : (xs : List ℕ) (k slot : ℕ) → slice_index (set xs k slot) k ≢ 0 → slice_index (set xs k slot) k ≡ slot
@@ -114,6 +116,7 @@ module _ (t : Plan) (w : World) (h : Holds t w) (c : ℕ) (mover : c < t.setting
   present_stays (Clears next) at k = refl
   present_stays (Claims claim) at k = claimed_stays claim.sweep claim.stage at.0 k
   present_stays (Zeroes i field) at k = zeroed_stays (nat_lt (field + 1) (zero_count t.target (instr_in t.target x.entry))) i field at.3
+  present_stays (Announces announcing) at k = refl
 
   -- what others know of it stays known
   stays_where : (s' : Shared) (e : ℕ) (y : Caller) (routine : Routine) → ((sweep : Sweep) (stage : ClaimStage) → ClaimAt t s sweep stage → KnowsIn s d r v.slot sweep stage → KnowsIn s' d r v.slot sweep stage)
@@ -127,6 +130,7 @@ module _ (t : Plan) (w : World) (h : Holds t w) (c : ℕ) (mover : c < t.setting
   stays_where s' e y (Clears next) stays at k = tt
   stays_where s' e y (Claims claim) stays at k = stays claim.sweep claim.stage at.0 k
   stays_where s' e y (Zeroes i field) stays at k = tt
+  stays_where s' e y (Announces announcing) stays at k = tt
 
   -- ---- the mover's entry
 
@@ -154,7 +158,7 @@ module _ (t : Plan) (w : World) (h : Holds t w) (c : ℕ) (mover : c < t.setting
   abbrev Takes : Option ClaimEnd → Type 0
   Takes o = (i : ℕ) → o ≡ Some (ends.Claimed i) → v.slot ≢ i
 
-  claim_away : (counts : Bool) (claim : Claim) (o : Option ClaimEnd) → Takes o → Away v.slot x.entry → Away v.slot (claim_on t.target claim o (claim_counted counts (counted x.entry))).entry
+  claim_away : (counts : Bool) (claim : Claim) (o : Option ClaimEnd) → Takes o → Away v.slot x.entry → Away v.slot (claim_on Optimistic t.target claim o (claim_counted counts (counted x.entry))).entry
   claim_away counts claim None takes a = a
   claim_away counts claim (Some (ends.Claimed i)) takes a = λ k is.
       ⊎_elim
@@ -214,14 +218,14 @@ module _ (t : Plan) (w : World) (h : Holds t w) (c : ℕ) (mover : c < t.setting
   abbrev Moves : Shared → Moved → Type 0
   Moves s' m = (c ≢ d → Away v.slot m.entry) × KnowsWhere s' d r v.slot m.entry.routine
 
-  claim_where : (s' : Shared) (counts : Bool) (claim : Claim) (o : Option ClaimEnd) → ClaimKnows s' d r v.slot claim o → KnowsWhere s' d r v.slot (claim_on t.target claim o (claim_counted counts (counted x.entry))).entry.routine
+  claim_where : (s' : Shared) (counts : Bool) (claim : Claim) (o : Option ClaimEnd) → ClaimKnows s' d r v.slot claim o → KnowsWhere s' d r v.slot (claim_on Optimistic t.target claim o (claim_counted counts (counted x.entry))).entry.routine
   claim_where s' counts claim None k = k
   claim_where s' counts claim (Some (ends.Claimed i)) k = tt
   claim_where s' counts claim (Some ends.Full) k = tt
   claim_where s' counts claim (Some (ends.PhasesOver p)) k = tt
 
   claim_moves : (s' : Shared) (claim : Claim) → claim.sweep.scheme ≡ Warned → TakenIsReady s.memory claim.stage → ClaimAt t s claim.sweep claim.stage → KnowsIn s' d r v.slot claim.sweep claim.stage
-      → Moves s' (accepted t.target t.setting (s.memory (word_of (claim_wants claim))) (counted x.entry) (Claims claim))
+      → Moves s' (accepted Optimistic t.target t.setting (s.memory (word_of (claim_wants claim))) (counted x.entry) (Claims claim))
   claim_moves s' claim warns ready at k =
       let word : ℕ = s.memory (word_of (claim_wants claim)) in
       let turn = claim_accepts t.setting.sizes t.setting.last claim word in (
@@ -229,38 +233,40 @@ module _ (t : Plan) (w : World) (h : Holds t w) (c : ℕ) (mover : c < t.setting
         claim_where s' (claim_takes claim word) turn.claim turn.ended (claim_knows t.setting.sizes t.setting.last s' d r v.slot v.register some claim word claim.stage refl warns v.caller (finds_in claim.kind claim.sweep claim.stage at) k),
       )
 
-  other_moves : (s' : Shared) (word : ℕ) (routine : Routine) → is_claiming routine ≡ false → KnowsWhere s' d r v.slot x.entry.routine → Moves s' (accepted t.target t.setting word (counted x.entry) routine)
-  other_moves s' word routine other k = let keeps = accepted_keeps t.target t.setting s' d r v.slot some word x.entry routine other in (λ ne. keeps.0 (v.away c mover ne), keeps.1 k)
+  other_moves : (s' : Shared) (word : ℕ) (routine : Routine) → x.entry.routine ≡ routine → is_claiming routine ≡ false → KnowsWhere s' d r v.slot x.entry.routine → Moves s' (accepted Optimistic t.target t.setting word (counted x.entry) routine)
+  other_moves s' word routine is other k =
+      let keeps = accepted_keeps t.target t.setting s' d r v.slot some word x.entry routine (λ announcing same. never_holds t s c x (h.caller_holds c mover) announcing (is ∙ same)) other in (λ ne. keeps.0 (v.away c mover ne), keeps.1 k)
 
-  moves : (s' : Shared) (a : WordAccess) → Belongs t.target t.setting x.entry → TakesReady s.memory x.entry.routine → wants t.target x.entry ≡ Some a → KnowsWhere s' d r v.slot x.entry.routine → Moves s' (after_moves t.target t.setting x.entry (s.memory (word_of a)))
-  moves s' a belongs ready want k = of x.entry.routine refl where
-    on : (routine : Routine) → x.entry.routine ≡ routine → Moves s' (accepted t.target t.setting (s.memory (word_of a)) (counted x.entry) routine)
+  moves : (s' : Shared) (a : WordAccess) → t.setting.reclamation ≡ Optimistic → Belongs t.target t.setting x.entry → TakesReady s.memory x.entry.routine → wants t.target x.entry ≡ Some a → KnowsWhere s' d r v.slot x.entry.routine → Moves s' (after_moves Optimistic t.target t.setting x.entry (s.memory (word_of a)))
+  moves s' a optimistic belongs ready want k = of x.entry.routine refl where
+    on : (routine : Routine) → x.entry.routine ≡ routine → Moves s' (accepted Optimistic t.target t.setting (s.memory (word_of a)) (counted x.entry) routine)
     on (Claims claim) is =
         let spot : HoldsAt t s c x (Claims claim) = subst (λ (routine : Routine). HoldsAt t s c x routine) is (h.caller_holds c mover).spot in
         let wanted : Some (claim_wants claim) ≡ Some a = sym (wants_is t.target x.entry (Claims claim) is) ∙ want in
         let same : claim_wants claim ≡ a = cc in
-        subst (λ (a : WordAccess). Moves s' (accepted t.target t.setting (s.memory (word_of a)) (counted x.entry) (Claims claim))) same
-        (claim_moves s' claim (subst (λ (routine : Routine). Stands t.target t.setting x.entry routine) is belongs.stands).1.scheme (subst (λ (routine : Routine). TakesReady s.memory routine) is ready) spot.0 (subst (λ (routine : Routine). KnowsWhere s' d r v.slot routine) is k))
-    on Idle is = other_moves s' (s.memory (word_of a)) Idle refl k
-    on (LoadSeen why) is = other_moves s' (s.memory (word_of a)) (LoadSeen why) refl k
-    on At is = other_moves s' (s.memory (word_of a)) At refl k
-    on (InList i) is = other_moves s' (s.memory (word_of a)) (InList i) refl k
-    on (Retires retirement go) is = other_moves s' (s.memory (word_of a)) (Retires retirement go) refl k
-    on Restarts is = other_moves s' (s.memory (word_of a)) Restarts refl k
-    on (Clears next) is = other_moves s' (s.memory (word_of a)) (Clears next) refl k
-    on (Zeroes i field) is = other_moves s' (s.memory (word_of a)) (Zeroes i field) refl k
+        subst (λ (a : WordAccess). Moves s' (accepted Optimistic t.target t.setting (s.memory (word_of a)) (counted x.entry) (Claims claim))) same
+        (claim_moves s' claim (claim_warned t.setting x.entry.number claim optimistic (subst (λ (routine : Routine). Stands t.target t.setting x.entry routine) is belongs.stands).1) (subst (λ (routine : Routine). TakesReady s.memory routine) is ready) spot.0 (subst (λ (routine : Routine). KnowsWhere s' d r v.slot routine) is k))
+    on Idle is = other_moves s' (s.memory (word_of a)) Idle is refl k
+    on (LoadSeen why) is = other_moves s' (s.memory (word_of a)) (LoadSeen why) is refl k
+    on At is = other_moves s' (s.memory (word_of a)) At is refl k
+    on (InList i) is = other_moves s' (s.memory (word_of a)) (InList i) is refl k
+    on (Retires retirement go) is = other_moves s' (s.memory (word_of a)) (Retires retirement go) is refl k
+    on Restarts is = other_moves s' (s.memory (word_of a)) Restarts is refl k
+    on (Clears next) is = other_moves s' (s.memory (word_of a)) (Clears next) is refl k
+    on (Zeroes i field) is = other_moves s' (s.memory (word_of a)) (Zeroes i field) is refl k
+    on (Announces announcing) is = absurd (never_holds t s c x (h.caller_holds c mover) announcing is)
 
-    of : (routine : Routine) → x.entry.routine ≡ routine → Moves s' (after_moves t.target t.setting x.entry (s.memory (word_of a)))
+    of : (routine : Routine) → x.entry.routine ≡ routine → Moves s' (after_moves Optimistic t.target t.setting x.entry (s.memory (word_of a)))
     of routine is = subst (Moves s') (sym (after_is t.target t.setting x.entry (s.memory (word_of a)) routine is)) (on routine is)
 
-  pub covered_on : (a : WordAccess) (row : GuardRow) (were : ℕ → Bool) → Belongs t.target t.setting x.entry → TakesReady s.memory x.entry.routine → wants t.target x.entry ≡ Some a
-      → (k : KeptWith t c s x row were (after_access s.memory a) (after_moves t.target t.setting x.entry (s.memory (word_of a))) (present_at t.target s.memory s.unused x.entry x.entry.routine s.present))
+  pub covered_on : (a : WordAccess) (row : GuardRow) (were : ℕ → Bool) → t.setting.reclamation ≡ Optimistic → Belongs t.target t.setting x.entry → TakesReady s.memory x.entry.routine → wants t.target x.entry ≡ Some a
+      → (k : KeptWith t c s x row were (after_access s.memory a) (after_moves Optimistic t.target t.setting x.entry (s.memory (word_of a))) (present_at t.target s.memory s.unused x.entry x.entry.routine s.present))
       → k.s'.memory (Hazard d r) ≡ s.memory (Hazard d r) → Covered t (record { shared = k.s'; who = put w.who c k.x' }) d r
-  covered_on a row were belongs ready want k same =
+  covered_on a row were optimistic belongs ready want k same =
       let name : k.s'.present v.slot ≡ s.present v.slot = ap (λ (present : ℕ → ℕ). present v.slot) k.present ∙ present_stays x.entry.routine (h.caller_holds c mover).spot (v.known c mover) in
       let stays : (e : ℕ) → e < t.setting.sizes.callers → KnowsWhere k.s' d r v.slot (w.who e).entry.routine =
       λ e lt. stays_where k.s' e (w.who e) (w.who e).entry.routine (stays_in t c s k.s' k.goes d r v.slot name) (h.caller_holds e lt).spot (v.known e lt) in
-      let own = moves k.s' a belongs ready want (stays c mover) in
+      let own = moves k.s' a optimistic belongs ready want (stays c mover) in
       record {
         slot = v.slot;
         word = same ∙ v.word;

@@ -26,13 +26,15 @@ use Rattle.phase_pools.specs.declared.stages.RetireStage.TheVariants as retires
 use Rattle.phase_pools.specs.Accesses.{WordAccess, Stores}
 use Rattle.phase_pools.specs.Pools.{Sweep, claim_wants_at, warn_wanted, sweep_wants_at, retire_wants_at}
 use Rattle.caller_parts.specs.declared.routine.Routine.{Routine}
-use Rattle.caller_parts.specs.declared.routine.Routine.TheVariants.{Idle, LoadSeen, At, InList, Retires, Restarts, Clears, Claims, Zeroes}
+use Rattle.caller_parts.specs.declared.routine.Routine.TheVariants.{Idle, LoadSeen, At, InList, Retires, Restarts, Clears, Claims, Zeroes, Announces}
 use Rattle.caller_parts.specs.Operands.{list_of, slot_in, word_in, register_number}
 use Rattle.caller_steps.specs.Entries.{Entry, instr_in}
 use Rattle.caller_steps.specs.Clearing.{restart_next, clear_next}
-use Rattle.caller_steps.specs.Wants.{wanted, exchange_wanted, instr_wanted, list_wanted, clear_wanted, object_exchange, place_exchange, plain_wanted}
+use Rattle.caller_steps.specs.Wants.{wanted, announcing_wanted, exchange_wanted, instr_wanted, list_wanted, clear_wanted, object_exchange, place_exchange, plain_wanted}
 use Rattle.oa_simulation.specs.sim_relation.Steps.{after_access}
 use Rattle.oa_simulation.proofs.sim_relation.Words.{store_again}
+use Rattle.caller_parts.specs.declared.routine.Announcing.{Announcing}
+use Rattle.caller_parts.specs.declared.routine.Announcing.TheVariants as announces
 
 abbrev pub Leaves : (Word → ℕ) → ℕ → ℕ → Option WordAccess → Type 0
 Leaves m c r None = Unit {0}
@@ -55,6 +57,7 @@ stored target e Restarts = restart_next target e
 stored target e (Clears next) = clear_next target next e
 stored target e (Claims claim) = None
 stored target e (Zeroes k field) = None
+stored target e (Announces announcing) = None
 
 module _ (m : Word → ℕ) (c r : ℕ) where
   -- a store in another hazard word of the caller
@@ -140,6 +143,11 @@ module _ (m : Word → ℕ) (c r : ℕ) where
   claim_leaves kind sweep (claims.Withdraw own) = refl
   claim_leaves kind sweep claims.Sweeps = sweep_leaves sweep.scheme sweep.stage sweep.bound
 
+  announcing_leaves : (i : ℕ) (announcing : Announcing) → Leaves m c r (Some (announcing_wanted i announcing))
+  announcing_leaves i (announces.Loads why) = refl
+  announcing_leaves i (announces.Stores why phase) = refl
+  announcing_leaves i (announces.Leaves reply) = refl
+
   pub leaves : (target : Target) (e : Entry) (routine : Routine) → (stored target e routine ≡ Some r → ⊥) → Leaves m c r (wanted target e routine)
   leaves target e Idle ne = tt
   leaves target e (LoadSeen why) ne = refl
@@ -150,6 +158,7 @@ module _ (m : Word → ℕ) (c r : ℕ) where
   leaves target e (Clears next) ne = clear_leaves e.number (clear_next target next e) ne
   leaves target e (Claims claim) ne = claim_leaves claim.kind claim.sweep claim.stage
   leaves target e (Zeroes k field) ne = refl
+  leaves target e (Announces announcing) ne = announcing_leaves e.number announcing
 
   -- a store of what stands there
   pub again_leaves : (slot : ℕ) → slot ≡ m (Hazard c r) → Leaves m c r (Some (Stores (Hazard c r) slot))

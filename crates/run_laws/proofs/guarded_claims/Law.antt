@@ -37,11 +37,12 @@ use Rattle.run_laws.specs.guarded_claims.Marks.{IsValidated, Absent, Published, 
 use Rattle.run_laws.specs.guarded_claims.Guarded.{TakesSlot, GuardsAreSpared}
 use Rattle.run_laws.proofs.guarded_claims.Covered.{covered_spares}
 use Rattle.run_laws.proofs.guarded_claims.Runs.{MarkedWithPool, run_marked}
+use Rattle.caller_parts.specs.declared.setting.Reclamation.TheVariants.{Optimistic}
 
 -- every state that a run comes to, with the run's marks
-marked : (target : Target) (text : Text) (setting : Setting) → IsRunnable target text → IsBarred target text → IsSetting setting → Fits target setting → IsProper text → (events : List CoreEvent) (state : CoreState) → core_run target setting events (core_start target setting) ≡ Some state
+marked : (target : Target) (text : Text) (setting : Setting) → IsRunnable target text → IsBarred target text → IsSetting setting → Fits target setting → setting.reclamation ≡ Optimistic → IsProper text → (events : List CoreEvent) (state : CoreState) → core_run target setting events (core_start target setting) ≡ Some state
     → MarkedWithPool (plan_of target text setting events) state (shadow_run text (run_signs target setting events (core_start target setting)) (shadow_start text setting)) (run_marks target setting events (core_start target setting) no_marks)
-marked target text setting runs barred own fits proper events state is =
+marked target text setting runs barred own fits optimistic proper events state is =
     let t : Plan = plan_of target text setting events in
     let z0 : Shadow = shadow_start text setting in
     let homes : HomeIs t.home z0 = λ n lt. home_stays text (run_signs target setting events (core_start target setting)) z0 n lt in
@@ -50,6 +51,7 @@ marked target text setting runs barred own fits proper events state is =
       sane = runnable_is_sane target text runs;
       some = own;
       fits = fits;
+      optimistic = optimistic;
       callers = own.sizes.0;
       null = homes 0 (omega arith) ∙ first_null setting;
     } in
@@ -72,10 +74,10 @@ marked target text setting runs barred own fits proper events state is =
       };
     }) is (λ n lt. refl)
 
-spares : (target : Target) (text : Text) (setting : Setting) → IsRunnable target text → IsBarred target text → IsSetting setting → Fits target setting → GuardsAreSpared target text setting
-spares target text setting runs barred own fits proper events state is =
+spares : (target : Target) (text : Text) (setting : Setting) → IsRunnable target text → IsBarred target text → IsSetting setting → Fits target setting → setting.reclamation ≡ Optimistic → GuardsAreSpared target text setting
+spares target text setting runs barred own fits optimistic proper events state is =
     let t : Plan = plan_of target text setting events in
-    let k = marked target text setting runs barred own fits proper events state is in
+    let k = marked target text setting runs barred own fits optimistic proper events state is in
     let b = k.marked.beside in
     let holds = leads_hold target setting (setting_sane setting own).kinds (setting_sane setting own).few (start_suits target text setting runs own fits).suits _ k.pooled.1 in
     let told = leads_tell target setting (setting_sane setting own).kinds (setting_sane setting own).few (start_suits target text setting runs own fits).suits _ k.pooled.1 in
@@ -99,5 +101,5 @@ spares target text setting runs barred own fits proper events state is =
           not_ready c r slot.2.0 lt valid (ap (λ (j : ℕ). (view setting state).memory (Status j)) named ∙ slot.2.1));
     }
 
-pub no_guarded_claim : (pair : Paired) (setting : Setting) → IsSound pair → IsSetting setting → Fits pair.target setting → GuardsAreSpared pair.target pair.source setting
-no_guarded_claim pair setting sound own fits = spares pair.target pair.source setting (record { small = sound.small; normal = sound.normal; within = sound.within; erases = sound.barred.erases }) sound.barred own fits
+pub no_guarded_claim : (pair : Paired) (setting : Setting) → IsSound pair → IsSetting setting → Fits pair.target setting → setting.reclamation ≡ Optimistic → GuardsAreSpared pair.target pair.source setting
+no_guarded_claim pair setting sound own fits optimistic = spares pair.target pair.source setting (record { small = sound.small; normal = sound.normal; within = sound.within; erases = sound.barred.erases }) sound.barred own fits optimistic

@@ -10,7 +10,7 @@ use Rattle.phase_pools.specs.Accesses.{WordAccess, Loads, Stores, word_of}
 use Rattle.source_machine.specs.MethodRuns.{put}
 use Rattle.caller_parts.specs.declared.routine.AfterClear.{AfterClear}
 use Rattle.caller_parts.specs.declared.routine.Routine.{Routine}
-use Rattle.caller_parts.specs.declared.routine.Routine.TheVariants.{Idle, LoadSeen, At, InList, Retires, Restarts, Clears, Claims, Zeroes}
+use Rattle.caller_parts.specs.declared.routine.Routine.TheVariants.{Idle, LoadSeen, At, InList, Retires, Restarts, Clears, Claims, Zeroes, Announces}
 use Rattle.caller_steps.specs.Entries.{Entry, is_idle, instr_in}
 use Rattle.caller_parts.specs.Operands.{slot_in}
 use Rattle.caller_steps.specs.Clearing.{restart_next, clear_next, unguarded}
@@ -30,6 +30,8 @@ use Rattle.oa_simulation.proofs.sim_steps.Pools.Core.{after_is, wants_is}
 use Rattle.run_laws.specs.guarded_claims.Marks.{Mark, Marks, Absent, Published, Validated, passed, begun, published, restored, checked, cleared, instr_marks, hazard_marks, step_marks}
 use Rattle.run_laws.proofs.guarded_claims.Hazards.{Leaves, leaves, again_leaves, stored, stored_at}
 use Rattle.oa_simulation.proofs.sim_steps.Seen.{is_check, loads_seen, seen_stays}
+use Rattle.caller_parts.specs.declared.setting.Reclamation.TheVariants.{Optimistic}
+use Rattle.oa_simulation.proofs.sim_relation.Schemes.{NeverAnnounces}
 
 -- what a caller's marks say of the names of its guards that no check has validated yet, and of what its run has set
 pub record Marked (t : Plan) (s : Shared) (c : ℕ) (x : Caller) (marks : Marks) : Type 0 where
@@ -153,11 +155,11 @@ module _ (t : Plan) (s : Shared) (c : ℕ) (x : Caller) (marks : Marks) (m : Mar
 -- ---- a whole step
 
 module _ (t : Plan) (s : Shared) (c : ℕ) (x : Caller) (marks : Marks) (a : WordAccess) (row : GuardRow) (present' : ℕ → ℕ)
-    (m : Marked t s c x marks) (base : Base t s c x) (want : wants t.target x.entry ≡ Some a) (busy : is_idle x.entry.routine ≡ false)
-    (k : KeptWith t c s x row (set_after_access t.target x.entry x.entry.routine (s.memory (word_of a)) x.was_set) (after_access s.memory a) (after_moves t.target t.setting x.entry (s.memory (word_of a))) present') where
+    (m : Marked t s c x marks) (base : Base t s c x) (want : wants t.target x.entry ≡ Some a) (busy : is_idle x.entry.routine ≡ false) (never : NeverAnnounces x.entry.routine)
+    (k : KeptWith t c s x row (set_after_access t.target x.entry x.entry.routine (s.memory (word_of a)) x.was_set) (after_access s.memory a) (after_moves Optimistic t.target t.setting x.entry (s.memory (word_of a))) present') where
   -- the method run goes on, and the caller isn't warned
   abbrev On : Type 0
-  On = (is_between (after_moves t.target t.setting x.entry (s.memory (word_of a))).entry.routine ≡ false) × Calm k.s' c k.x'
+  On = (is_between (after_moves Optimistic t.target t.setting x.entry (s.memory (word_of a))).entry.routine ≡ false) × Calm k.s' c k.x'
 
   -- a hazard word is unchanged
   abbrev Left : ℕ → Type 0
@@ -172,7 +174,7 @@ module _ (t : Plan) (s : Shared) (c : ℕ) (x : Caller) (marks : Marks) (a : Wor
   calm_at : (r : Routine) → x.entry.routine ≡ r → loads_seen t.target x.entry r ≡ false → On → Calm s c x
   calm_at r is other o =
       let seen : k.x'.entry.hand.seen ≡ x.entry.hand.seen =
-      ap (λ (e : Entry). e.hand.seen) k.entry ∙ (ap (λ (m : Moved). m.entry.hand.seen) (after_is t.target t.setting x.entry (s.memory (word_of a)) r is) ∙ seen_stays t.target t.setting (s.memory (word_of a)) x.entry r other) in
+      ap (λ (e : Entry). e.hand.seen) k.entry ∙ (ap (λ (m : Moved). m.entry.hand.seen) (after_is t.target t.setting x.entry (s.memory (word_of a)) r is) ∙ seen_stays t.target t.setting (s.memory (word_of a)) x.entry r (λ announcing same. never announcing (is ∙ same)) other) in
       let now : k.x'.entry.hand.seen ≡ k.s'.memory (Warning c) = o.1 in
       let grows = k.goes.warning c in
       let most = base.seen in
@@ -186,7 +188,7 @@ module _ (t : Plan) (s : Shared) (c : ℕ) (x : Caller) (marks : Marks) (a : Wor
     of : (b : Bool) → is_over next ≡ b → is_between x.entry.routine ≡ false
     of false on = going (Clears next) is on
     of true over =
-        let later : is_between (after_moves t.target t.setting x.entry (s.memory (word_of a))).entry.routine ≡ true =
+        let later : is_between (after_moves Optimistic t.target t.setting x.entry (s.memory (word_of a))).entry.routine ≡ true =
         ap (λ (m : Moved). is_between m.entry.routine) (after_is t.target t.setting x.entry (s.memory (word_of a)) (Clears next) is)
         ∙ over_after t.target t.setting.sizes next (with_hand (counted x.entry) (unguarded (clear_next t.target next x.entry) x.entry.hand)) over in
         absurd (let z : true ≡ false = sym later ∙ o.0 in cc)
@@ -247,6 +249,7 @@ module _ (t : Plan) (s : Shared) (c : ℕ) (x : Caller) (marks : Marks) (a : Wor
   by_routine (Clears next) is names = by_cleared (clear_next t.target next x.entry) (by_clear next is) (calm_at (Clears next) is refl) (left_at (Clears next) is) names
   by_routine (Claims claim) is names = same_row t s c x marks m On Left row names (λ o. going (Claims claim) is refl) (calm_at (Claims claim) is refl) (left_all (Claims claim) is refl)
   by_routine (Zeroes i field) is names = same_row t s c x marks m On Left row names (λ o. going (Zeroes i field) is refl) (calm_at (Zeroes i field) is refl) (left_all (Zeroes i field) is refl)
+  by_routine (Announces announcing) is names = absurd (never announcing is)
 
   -- the mover's marks after its step
   pub step_marked : NamesAfter t s c x x.entry.routine row → Marked t k.s' c k.x' (step_marks t.target t.setting x.entry (s.memory (word_of a)) marks)
@@ -255,7 +258,7 @@ module _ (t : Plan) (s : Shared) (c : ℕ) (x : Caller) (marks : Marks) (a : Wor
       record {
         was_set = k.was_set ∙ ap (λ (were : ℕ → Bool). set_after_access t.target x.entry x.entry.routine (s.memory (word_of a)) were) m.was_set;
         published = λ i is between calm.
-            (let on : is_between (after_moves t.target t.setting x.entry (s.memory (word_of a))).entry.routine ≡ false = ap (λ (e : Entry). is_between e.routine) (sym k.entry) ∙ between in
+            (let on : is_between (after_moves Optimistic t.target t.setting x.entry (s.memory (word_of a))).entry.routine ≡ false = ap (λ (e : Entry). is_between e.routine) (sym k.entry) ∙ between in
             k.names.named on i (r.published i is (on, calm)));
       }
 

@@ -21,7 +21,7 @@ use Rattle.phase_pools.specs.declared.stages.ClaimStage.{ClaimStage}
 use Rattle.phase_pools.specs.declared.stages.ClaimStage.TheVariants as claims
 use Rattle.phase_pools.specs.Pools.{Claim, Sweep, sweep_accepts_at, sweep_goes, sweep_ends, sweep_on, has_lower, freeing, status_read, made_ready, pushed, claim_accepts_at, claim_goes, claim_ends, look_ended, look_begun, look_took, sweep_follows, sweep_ended}
 use Rattle.caller_parts.specs.declared.routine.Routine.{Routine}
-use Rattle.caller_parts.specs.declared.routine.Routine.TheVariants.{Idle, LoadSeen, At, InList, Retires, Restarts, Clears, Claims, Zeroes}
+use Rattle.caller_parts.specs.declared.routine.Routine.TheVariants.{Idle, LoadSeen, At, InList, Retires, Restarts, Clears, Claims, Zeroes, Announces}
 use Rattle.oa_simulation.specs.sim_relation.Views.{Plan, Shared}
 use Rattle.oa_simulation.specs.sim_relation.Callers.{SweepAt, ClaimAt}
 use Rattle.oa_simulation.specs.sim_relation.MayChange.{MayChange}
@@ -60,6 +60,7 @@ KnowsWhere s d r j Restarts = Unit {0}
 KnowsWhere s d r j (Clears next) = Unit {0}
 KnowsWhere s d r j (Claims claim) = KnowsIn s d r j claim.sweep claim.stage
 KnowsWhere s d r j (Zeroes k field) = Unit {0}
+KnowsWhere s d r j (Announces announcing) = Unit {0}
 
 -- ---- what a step leaves of it, of which the slot keeps its name: a new tag is at least the phase, which is at least each sweep's
 

@@ -40,6 +40,8 @@ use Rattle.run_laws.proofs.guarded_claims.Passing.{KnowsWhere}
 use Rattle.run_laws.proofs.guarded_claims.Covered.{Covered, covered_of, covered_took}
 use Rattle.run_laws.proofs.guarded_claims.Covering.{covered_on}
 use Rattle.run_laws.proofs.guarded_claims.Marked.{Marked, step_marked, step_validated, others_marked}
+use Rattle.caller_parts.specs.declared.setting.Reclamation.TheVariants.{Optimistic}
+use Rattle.oa_simulation.proofs.sim_relation.Schemes.{never_holds}
 
 -- of one caller: its marks, and the slots under its validated guards
 pub record MarkedAt (t : Plan) (w : World) (c : ℕ) (marks : Marks) : Type 0 where
@@ -97,7 +99,7 @@ module _ (t : Plan) (plan : IsPlan t) (proper : IsProper t.text) (events_seen : 
   -- a step, in the worlds before and after it
   step_all : (w : World) (h : Holds t w) (c : ℕ) (a : WordAccess) (marks : ℕ → Marks) → c < t.setting.sizes.callers → AllMarked t w marks → Belongs t.target t.setting (w.who c).entry → TakesReady w.shared.memory (w.who c).entry.routine → wants t.target (w.who c).entry ≡ Some a
       → (k : Stepped t c w.shared (w.who c) (NamesAfter t w.shared c (w.who c) (w.who c).entry.routine) (set_after_access t.target (w.who c).entry (w.who c).entry.routine (w.shared.memory (word_of a)) (w.who c).was_set)
-      (after_access w.shared.memory a) (after_moves t.target t.setting (w.who c).entry (w.shared.memory (word_of a))) (present_at t.target w.shared.memory w.shared.unused (w.who c).entry (w.who c).entry.routine w.shared.present))
+      (after_access w.shared.memory a) (after_moves Optimistic t.target t.setting (w.who c).entry (w.shared.memory (word_of a))) (present_at t.target w.shared.memory w.shared.unused (w.who c).entry (w.who c).entry.routine w.shared.present))
       → Holds t (record { shared = k.kept.s'; who = put w.who c k.kept.x' })
       → AllMarked t (record { shared = k.kept.s'; who = put w.who c k.kept.x' }) (put marks c (step_marks t.target t.setting (w.who c).entry (w.shared.memory (word_of a)) (marks c)))
   step_all w h c a marks lt all belongs ready want k h' d below = record { own = own d below; covered = λ r. covered r (cases_eq d c) } where
@@ -107,19 +109,19 @@ module _ (t : Plan) (plan : IsPlan t) (proper : IsProper t.text) (events_seen : 
     own : (d : ℕ) → d < t.setting.sizes.callers → Marked t k.kept.s' d (put w.who c k.kept.x' d) (put marks c (step_marks t.target t.setting (w.who c).entry (w.shared.memory (word_of a)) (marks c)) d)
     own = each_put (λ d (x : Caller). d < t.setting.sizes.callers → Marked t k.kept.s' d x (put marks c (step_marks t.target t.setting (w.who c).entry (w.shared.memory (word_of a)) (marks c)) d)) w.who c k.kept.x'
         (λ lt. subst (λ (own : Marks). Marked t k.kept.s' c k.kept.x' own) (sym (put_same marks c (step_marks t.target t.setting (w.who c).entry (w.shared.memory (word_of a)) (marks c))))
-        (step_marked t w.shared c (w.who c) (marks c) a k.row _ (all c lt).own (h.caller_holds c lt).base want is_busy k.kept k.names))
+        (step_marked t w.shared c (w.who c) (marks c) a k.row _ (all c lt).own (h.caller_holds c lt).base want is_busy (never_holds t w.shared c (w.who c) (h.caller_holds c lt)) k.kept k.names))
         (λ d ne lt. subst (λ (theirs : Marks). Marked t k.kept.s' d (w.who d) theirs) (sym (put_other marks c d (step_marks t.target t.setting (w.who c).entry (w.shared.memory (word_of a)) (marks c)) ne))
         (others_marked t w.shared k.kept.s' c d (w.who d) (marks d) k.kept.goes (h.caller_holds d lt).base (all d lt).own))
 
     stays : (d r : ℕ) → Covered t w d r → k.kept.s'.memory (Hazard d r) ≡ w.shared.memory (Hazard d r) → Covered t (record { shared = k.kept.s'; who = put w.who c k.kept.x' }) d r
-    stays d r v same = covered_on t w h c lt d r v a k.row _ belongs ready want k.kept same
+    stays d r v same = covered_on t w h c lt d r v a k.row _ plan.optimistic belongs ready want k.kept same
 
     covered : (r : ℕ) → (d ≡ c) ⊎ (d ≢ c) → (put marks c (step_marks t.target t.setting (w.who c).entry (w.shared.memory (word_of a)) (marks c)) d).hazards r ≡ Validated
         → Covered t (record { shared = k.kept.s'; who = put w.who c k.kept.x' }) d r
     covered r (inl same) is = subst (λ (d : ℕ). Covered t (record { shared = k.kept.s'; who = put w.who c k.kept.x' }) d r) (sym same) (⊎_elim
         (λ (old : ((marks c).hazards r ≡ Validated) × (k.kept.s'.memory (Hazard c r) ≡ w.shared.memory (Hazard c r))). stays c r ((all c lt).covered r old.0) old.1)
         (λ (now : k.kept.s'.protects c r ≢ 0). covered_of t (record { shared = k.kept.s'; who = put w.who c k.kept.x' }) h' c r now)
-        (step_validated t w.shared c (w.who c) (marks c) a k.row _ (all c lt).own (h.caller_holds c lt).base want is_busy k.kept k.names r
+        (step_validated t w.shared c (w.who c) (marks c) a k.row _ (all c lt).own (h.caller_holds c lt).base want is_busy (never_holds t w.shared c (w.who c) (h.caller_holds c lt)) k.kept k.names r
         (sym (ap (λ (m : Marks). m.hazards r) (put_same marks c (step_marks t.target t.setting (w.who c).entry (w.shared.memory (word_of a)) (marks c))))
         ∙ (ap (λ (i : ℕ). (put marks c (step_marks t.target t.setting (w.who c).entry (w.shared.memory (word_of a)) (marks c)) i).hazards r) (sym same) ∙ is))))
     covered r (inr ne) is =
@@ -148,13 +150,13 @@ module _ (t : Plan) (plan : IsPlan t) (proper : IsProper t.text) (events_seen : 
   event_marked : (event : CoreEvent) (state behind : CoreState) (z : Shadow) (marks : ℕ → Marks) → IsSound t.target t.setting state → IsShaped t.target t.setting state → MarkedWithPool t state z marks → Moves t.target t.setting (view t.setting state) event (view t.setting behind)
       → HomeIs t.home (shadow_run t.text (event_signs t.target t.setting state event) z) → MarkedBeside t behind (shadow_run t.text (event_signs t.target t.setting state event) z) (event_marks t.target t.setting state event marks)
   event_marked (Takes c call) state behind z marks sound shaped b m homes =
-      took_marked state behind z c call b.marked.beside marks m.0 b.marked.marked (take_went t plan.compiled.normal plan.compiled.within plan.null (λ e. true) (steps_keep t plan) proper events_seen state behind z c call b.marked.beside m)
+      took_marked state behind z c call b.marked.beside marks m.0 b.marked.marked (take_went t plan.compiled.normal plan.compiled.within plan.null plan.optimistic (λ e. true) (steps_keep t plan) proper events_seen state behind z c call b.marked.beside m)
   event_marked (Steps c) state behind z marks sound shaped b m homes =
       let lt = m.1 in
       let callers = shaped.callers in
       let ready = takes_ready t.target t.setting state c are few suits b.pooled in
       went_marked state behind z (shadow_run t.text (event_signs t.target t.setting state (Steps c)) z) c b.marked.beside marks lt (omega (arith, lt, callers)) b.marked.marked (belongs_seen t.target t.setting state c sound lt) ready
-      (step_went t plan.compiled.normal plan.compiled.within plan.null (λ e. true) (steps_keep t plan) proper events_seen state behind z c refl sound shaped b.marked.beside ready m homes)
+      (step_went t plan.compiled.normal plan.compiled.within plan.null plan.optimistic (λ e. true) (steps_keep t plan) proper events_seen state behind z c refl sound shaped b.marked.beside ready m homes)
 
   -- the induction, over what stays sound
   pub run_marked : ((state : CoreState) → IsSound t.target t.setting state → IsShaped t.target t.setting state)

@@ -22,7 +22,7 @@ use Rattle.caller_parts.specs.declared.routine.AfterClear.TheVariants as clears
 use Rattle.caller_parts.specs.declared.routine.AfterRetire.{AfterRetire}
 use Rattle.caller_parts.specs.declared.routine.AfterRetire.TheVariants as retires
 use Rattle.caller_parts.specs.declared.routine.Routine.{Routine}
-use Rattle.caller_parts.specs.declared.routine.Routine.TheVariants.{Idle, LoadSeen, At, InList, Retires, Restarts, Clears, Claims, Zeroes}
+use Rattle.caller_parts.specs.declared.routine.Routine.TheVariants.{Idle, LoadSeen, At, InList, Retires, Restarts, Clears, Claims, Zeroes, Announces}
 use Rattle.caller_parts.specs.Settings.{Setting}
 use Rattle.caller_steps.specs.Entries.{Entry, code_in, instr_in, new_kind, new_number, zero_count, cradle_of}
 use Rattle.caller_parts.specs.Operands.{with_word, slot_in, register_number, list_of, succeeds, to_retire, emptied, with_new}
@@ -31,6 +31,9 @@ use Rattle.caller_steps.specs.Signs.{quiet}
 use Rattle.caller_steps.specs.After.{check_failed, check_passed, is_wrap_up, with_restart, with_routine, with_hand, hand_at, new_on, then_goes, clear_on, cleared, wrap_up_hand, list_ended, list_begun, plain_stop, stops, stopped, settles, goes_on, first_spot, method_begun, restart_on, restarted, with_access, list_on, onward_goes, retires_then, cas_failed, cas_ended, plain_accepted, instr_accepted, with_published, entry_ended, list_accepted, retired_on, node_made, zeroed, accepted, counted}
 use Rattle.oa_simulation.specs.sim_relation.Views.{Shared}
 use Rattle.run_laws.proofs.guarded_claims.Passing.{KnowsWhere}
+use Rattle.caller_parts.specs.declared.setting.Reclamation.TheVariants.{Optimistic}
+use Rattle.phase_pools.specs.declared.stages.Scheme.TheVariants.{Warned}
+use Rattle.oa_simulation.proofs.sim_relation.Schemes.{NeverAnnounces}
 
 -- no cradle has the slot
 abbrev pub Away : ℕ → Entry → Type 0
@@ -50,7 +53,7 @@ emptied_is slot (x ∷ xs) (suc i) = emptied_is slot xs i
 module _ (target : Target) (sizes : Sizes) (s : Shared) (d r j : ℕ) (some : j ≢ 0) where
   then_keeps : (next : AfterClear) (e : Entry) → Keeps s d r j e (then_goes target sizes next e)
   then_keeps clears.New e = of (cradle_of e (new_number target e)) where
-    of : (slot : ℕ) → Keeps s d r j e (new_on sizes (new_kind target e) (new_number target e) slot e)
+    of : (slot : ℕ) → Keeps s d r j e (new_on Warned sizes (new_kind target e) (new_number target e) slot e)
     of zero = (λ a. a, λ k. tt)
     of (suc slot) = (λ a. a, λ k. tt)
   then_keeps clears.WrapUp e = (λ a. a, λ k. tt)
@@ -94,15 +97,15 @@ module _ (target : Target) (sizes : Sizes) (s : Shared) (d r j : ℕ) (some : j 
   plain_keeps (instr.Put a f b) e = (λ a. a, λ k. tt)
   plain_keeps (instr.Cas exchange l) e = (λ a. a, λ k. tt)
 
-  stopped_keeps : (e : Entry) → Keeps s d r j e (stopped target sizes e).entry
+  stopped_keeps : (e : Entry) → Keeps s d r j e (stopped Optimistic target sizes e).entry
   stopped_keeps e = of (instr_in target e) where
-    of : (o : Option TargetInstr) → Keeps s d r j e (stops target sizes o e).entry
+    of : (o : Option TargetInstr) → Keeps s d r j e (stops Optimistic target sizes o e).entry
     of None = (λ a. a, λ k. tt)
     of (Some Check) = (λ a. a, λ k. tt)
     of (Some (Guard r)) = (λ a. a, λ k. tt)
     of (Some (Plain i)) = plain_keeps i e
 
-  settles_keeps : (spot : Spot) (e : Entry) → Keeps s d r j e (settles target sizes spot e).entry
+  settles_keeps : (spot : Spot) (e : Entry) → Keeps s d r j e (settles Optimistic target sizes spot e).entry
   settles_keeps spot e = stopped_keeps (with_hand e (hand_at e.hand (target_run (code_in target e) (length (code_in target e)) spot)))
 
   begun_keeps : (wrapup : Bool) (e : Entry) → Keeps s d r j e (method_begun target sizes wrapup e).entry
@@ -114,7 +117,7 @@ module _ (target : Target) (sizes : Sizes) (s : Shared) (d r j : ℕ) (some : j 
     of None = begun_keeps e.hand.wrapup e
     of (Some r) = (λ a. a, λ k. tt)
 
-  on_keeps : (registers : Registers) (e : Entry) → Keeps s d r j e (goes_on target sizes registers e).entry
+  on_keeps : (registers : Registers) (e : Entry) → Keeps s d r j e (goes_on Optimistic target sizes registers e).entry
   on_keeps registers e = settles_keeps (record { at = e.hand.at + 1; registers = registers }) e
 
   list_keeps : (k : ℕ) (e : Entry) → Keeps s d r j e (list_on target sizes k e)
@@ -123,21 +126,21 @@ module _ (target : Target) (sizes : Sizes) (s : Shared) (d r j : ℕ) (some : j 
     of true = (λ a. a, λ k. tt)
     of false = ended_keeps (k + 1) e
 
-  onward_keeps : (go : AfterRetire) (e : Entry) → Keeps s d r j e (onward_goes target sizes go e).entry
+  onward_keeps : (go : AfterRetire) (e : Entry) → Keeps s d r j e (onward_goes Optimistic target sizes go e).entry
   onward_keeps retires.Next e = on_keeps e.hand.registers e
   onward_keeps (retires.List k) e = list_keeps k e
 
-  retires_keeps : (go : AfterRetire) (slot : ℕ) (e : Entry) → Keeps s d r j e (retires_then target sizes go slot e).entry
+  retires_keeps : (go : AfterRetire) (slot : ℕ) (e : Entry) → Keeps s d r j e (retires_then Optimistic target sizes go slot e).entry
   retires_keeps go zero e = onward_keeps go e
   retires_keeps go (suc i) e = (λ a. a, λ k. tt)
 
-  cas_keeps : (exchange : CasEntry) (l word : ℕ) (e : Entry) → Keeps s d r j e (cas_ended target sizes exchange l word e).entry
+  cas_keeps : (exchange : CasEntry) (l word : ℕ) (e : Entry) → Keeps s d r j e (cas_ended Optimistic target sizes exchange l word e).entry
   cas_keeps exchange l word e = of (succeeds exchange e.hand.registers word) where
-    of : (b : Bool) → Keeps s d r j e (if b then retires_then target sizes retires.Next (to_retire exchange.retire e.hand.registers) e else cas_failed target sizes l e).entry
+    of : (b : Bool) → Keeps s d r j e (if b then retires_then Optimistic target sizes retires.Next (to_retire exchange.retire e.hand.registers) e else cas_failed Optimistic target sizes l e).entry
     of true = retires_keeps retires.Next (to_retire exchange.retire e.hand.registers) e
     of false = settles_keeps (record { at = l; registers = e.hand.registers }) e
 
-  accepted_plain : (i : Instr) (word : ℕ) (e : Entry) → Keeps s d r j e (plain_accepted target sizes i word e).entry
+  accepted_plain : (i : Instr) (word : ℕ) (e : Entry) → Keeps s d r j e (plain_accepted Optimistic target sizes i word e).entry
   accepted_plain (instr.LoadRoot d x) word e = on_keeps (with_word e.hand.registers d word) (with_access e)
   accepted_plain (instr.LoadPick d x n a) word e = on_keeps (with_word e.hand.registers d word) (with_access e)
   accepted_plain (instr.LoadField d a f) word e = on_keeps (with_word e.hand.registers d word) (with_access e)
@@ -161,7 +164,7 @@ module _ (target : Target) (sizes : Sizes) (s : Shared) (d r j : ℕ) (some : j 
   accepted_plain instr.ReturnNone word e = (λ a. a, λ k. k)
   accepted_plain instr.Again word e = (λ a. a, λ k. k)
 
-  accepted_instr : (o : Option TargetInstr) (word : ℕ) (e : Entry) → Keeps s d r j e (instr_accepted target sizes o word e).entry
+  accepted_instr : (o : Option TargetInstr) (word : ℕ) (e : Entry) → Keeps s d r j e (instr_accepted Optimistic target sizes o word e).entry
   accepted_instr None word e = (λ a. a, λ k. k)
   accepted_instr (Some (Plain i)) word e = accepted_plain i word e
   accepted_instr (Some Check) word e = of (word == e.hand.seen) where
@@ -181,26 +184,26 @@ module _ (target : Target) (sizes : Sizes) (s : Shared) (d r j : ℕ) (some : j 
     turns.1,
   )
 
-  entry_keeps : (k : ℕ) (exchange : CasEntry) (word : ℕ) (e : Entry) → Keeps s d r j e (entry_ended target sizes k exchange word e).entry
+  entry_keeps : (k : ℕ) (exchange : CasEntry) (word : ℕ) (e : Entry) → Keeps s d r j e (entry_ended Optimistic target sizes k exchange word e).entry
   entry_keeps k exchange word e = of (succeeds exchange e.hand.registers word) where
-    of : (b : Bool) → Keeps s d r j e (if b then retires_then target sizes (retires.List k) (to_retire exchange.retire e.hand.registers) (with_published exchange.replacement e) else quiet (list_ended target sizes k e)).entry
+    of : (b : Bool) → Keeps s d r j e (if b then retires_then Optimistic target sizes (retires.List k) (to_retire exchange.retire e.hand.registers) (with_published exchange.replacement e) else quiet (list_ended target sizes k e)).entry
     of true =
         let published = with_published exchange.replacement e in
-        published_keeps exchange.replacement e (retires_then target sizes (retires.List k) (to_retire exchange.retire e.hand.registers) published).entry
+        published_keeps exchange.replacement e (retires_then Optimistic target sizes (retires.List k) (to_retire exchange.retire e.hand.registers) published).entry
         (retires_keeps (retires.List k) (to_retire exchange.retire e.hand.registers) published)
     of false = ended_keeps k e
 
-  list_accepted_keeps : (k : ℕ) (o : Option CasEntry) (word : ℕ) (e : Entry) → Keeps s d r j e (list_accepted target sizes k o word e).entry
+  list_accepted_keeps : (k : ℕ) (o : Option CasEntry) (word : ℕ) (e : Entry) → Keeps s d r j e (list_accepted Optimistic target sizes k o word e).entry
   list_accepted_keeps k None word e = (λ a. a, λ k. k)
   list_accepted_keeps k (Some exchange) word e = entry_keeps k exchange word e
 
-  retired_keeps : (go : AfterRetire) (o : Option Retirement) (e : Entry) → Keeps s d r j e (retired_on target sizes go o e).entry
+  retired_keeps : (go : AfterRetire) (o : Option Retirement) (e : Entry) → Keeps s d r j e (retired_on Optimistic target sizes go o e).entry
   retired_keeps go None e = let on = onward_keeps go (with_routine e At) in (on.0, λ k. on.1 tt)
   retired_keeps go (Some retirement) e = (λ a. a, λ k. tt)
 
-  zeroed_keeps : (k field : ℕ) (e : Entry) → Keeps s d r j e (zeroed target sizes k field e).entry
+  zeroed_keeps : (k field : ℕ) (e : Entry) → Keeps s d r j e (zeroed Optimistic target sizes k field e).entry
   zeroed_keeps k field e = of (nat_lt (field + 1) (zero_count target (instr_in target e))) where
-    of : (b : Bool) → Keeps s d r j e (if b then quiet (with_routine e (Zeroes k (field + 1))) else node_made target sizes (cradle_of e k) e).entry
+    of : (b : Bool) → Keeps s d r j e (if b then quiet (with_routine e (Zeroes k (field + 1))) else node_made Optimistic target sizes (cradle_of e k) e).entry
     of true = (λ a. a, λ k. tt)
     of false = on_keeps (with_new (instr_in target e) (cradle_of e k) e.hand.registers) e
 
@@ -214,14 +217,16 @@ is_claiming Restarts = false
 is_claiming (Clears next) = false
 is_claiming (Claims claim) = true
 is_claiming (Zeroes k field) = false
+is_claiming (Announces announcing) = false
 
-pub accepted_keeps : (target : Target) (setting : Setting) (s : Shared) (d r j : ℕ) → j ≢ 0 → (word : ℕ) (e : Entry) (routine : Routine) → is_claiming routine ≡ false → Keeps s d r j e (accepted target setting word (counted e) routine).entry
-accepted_keeps target setting s d r j some word e Idle other = (λ a. a, λ k. k)
-accepted_keeps target setting s d r j some word e (LoadSeen why) other = begun_keeps target setting.sizes s d r j some (is_wrap_up why) (with_hand (counted e) (record e.hand { seen = word }))
-accepted_keeps target setting s d r j some word e At other = accepted_instr target setting.sizes s d r j some (instr_in target e) word (counted e)
-accepted_keeps target setting s d r j some word e (InList k) other = list_accepted_keeps target setting.sizes s d r j some k (slice_get (list_of (instr_in target e)) k) word (counted e)
-accepted_keeps target setting s d r j some word e (Retires retirement go) other = retired_keeps target setting.sizes s d r j some go (retire_accepts retirement word) (counted e)
-accepted_keeps target setting s d r j some word e Restarts other = restarted_keeps target setting.sizes s d r j some (with_hand (counted e) (unguarded (restart_next target e) e.hand))
-accepted_keeps target setting s d r j some word e (Clears next) other = cleared_keeps target setting.sizes s d r j some next (with_hand (counted e) (unguarded (clear_next target next e) e.hand))
-accepted_keeps target setting s d r j some word e (Claims claim) other = absurd (let z : true ≡ false = other in cc)
-accepted_keeps target setting s d r j some word e (Zeroes k field) other = zeroed_keeps target setting.sizes s d r j some k field (counted e)
+pub accepted_keeps : (target : Target) (setting : Setting) (s : Shared) (d r j : ℕ) → j ≢ 0 → (word : ℕ) (e : Entry) (routine : Routine) → NeverAnnounces routine → is_claiming routine ≡ false → Keeps s d r j e (accepted Optimistic target setting word (counted e) routine).entry
+accepted_keeps target setting s d r j some word e Idle never other = (λ a. a, λ k. k)
+accepted_keeps target setting s d r j some word e (LoadSeen why) never other = begun_keeps target setting.sizes s d r j some (is_wrap_up why) (with_hand (counted e) (record e.hand { seen = word }))
+accepted_keeps target setting s d r j some word e At never other = accepted_instr target setting.sizes s d r j some (instr_in target e) word (counted e)
+accepted_keeps target setting s d r j some word e (InList k) never other = list_accepted_keeps target setting.sizes s d r j some k (slice_get (list_of (instr_in target e)) k) word (counted e)
+accepted_keeps target setting s d r j some word e (Retires retirement go) never other = retired_keeps target setting.sizes s d r j some go (retire_accepts retirement word) (counted e)
+accepted_keeps target setting s d r j some word e Restarts never other = restarted_keeps target setting.sizes s d r j some (with_hand (counted e) (unguarded (restart_next target e) e.hand))
+accepted_keeps target setting s d r j some word e (Clears next) never other = cleared_keeps target setting.sizes s d r j some next (with_hand (counted e) (unguarded (clear_next target next e) e.hand))
+accepted_keeps target setting s d r j some word e (Claims claim) never other = absurd (let z : true ≡ false = other in cc)
+accepted_keeps target setting s d r j some word e (Zeroes k field) never other = zeroed_keeps target setting.sizes s d r j some k field (counted e)
+accepted_keeps target setting s d r j some word e (Announces announcing) never other = absurd (never announcing refl)

@@ -1,5 +1,5 @@
 -- The steps of a lone caller in a claim are those of the claim.
-use Rattle.std.proofs.Common.{ℕ, ◌≡◌, ◌∙◌, ◌&&◌, Bool, true, false, List, [], ◌∷◌, Option, Some, None, arith, sym, ap, subst, refl}
+use Rattle.std.proofs.Common.{ℕ, zero, suc, ◌≡◌, ◌∙◌, ◌&&◌, Bool, true, false, List, [], ◌∷◌, Option, Some, None, arith, sym, ap, subst, refl}
 use Rattle.target_code.specs.declared.target.Target.{Target}
 use Rattle.oa_words.specs.Words.{Word}
 use Rattle.phase_pools.specs.declared.access.ClaimEnd.{ClaimEnd}
@@ -8,17 +8,19 @@ use Rattle.phase_pools.specs.Accesses.{WordAccess, word_of}
 use Rattle.phase_pools.specs.Pools.{Claim, ClaimTurn, claim_wants, claim_accepts, claim_takes}
 use Rattle.source_machine.proofs.Places.{each_put}
 use Rattle.caller_parts.specs.declared.routine.Routine.{Routine}
-use Rattle.caller_parts.specs.declared.routine.Routine.TheVariants.{Idle, LoadSeen, At, InList, Retires, Restarts, Clears, Claims, Zeroes}
+use Rattle.caller_parts.specs.declared.routine.Routine.TheVariants.{Idle, LoadSeen, At, InList, Retires, Restarts, Clears, Claims, Zeroes, Announces}
 use Rattle.caller_parts.specs.Settings.{Setting}
 use Rattle.caller_steps.specs.Entries.{Entry, is_idle}
 use Rattle.caller_steps.specs.Wants.{wants, wanted}
-use Rattle.caller_steps.specs.After.{after, accepted, counted, claim_counted, claim_on}
+use Rattle.caller_steps.specs.After.{after, accepted, counted, claim_counted, claim_on, slot_gained, with_routine}
 use Rattle.core_runs.specs.Machine.{CoreState, CoreEvent, Takes, Steps, core_event, core_run, run_on}
 use Rattle.core_runs.specs.Views.{CoreView, view, Moves, IsShaped, EventsAreSeen}
 use Rattle.core_runs.specs.core_sound.Sound.{IsSound}
 use Rattle.oa_simulation.specs.Throughout.{on_state}
 use Rattle.run_laws.specs.lone_claims.Lone.{is_claiming, stays_in_claim}
 use Rattle.run_laws.proofs.lone_claims.Pools.{made}
+use Rattle.caller_parts.specs.declared.setting.Reclamation.{Reclamation}
+use Rattle.caller_parts.specs.declared.setting.Reclamation.TheVariants.{Optimistic, Epochs}
 
 -- what an entry in a claim wants, and what becomes of it
 claim_wanted : (target : Target) (e : Entry) (claim : Claim) (a : WordAccess) → e.routine ≡ Claims claim → wants target e ≡ Some a → claim_wants claim ≡ a
@@ -29,16 +31,22 @@ abbrev turn_of : Setting → Claim → (Word → ℕ) → ClaimTurn
 turn_of setting claim m = claim_accepts setting.sizes setting.last claim (m (word_of (claim_wants claim)))
 
 claim_after : (target : Target) (setting : Setting) (e : Entry) (claim : Claim) (m : Word → ℕ) → e.routine ≡ Claims claim
-    → after target setting e (m (word_of (claim_wants claim))) ≡ (claim_on target (turn_of setting claim m).claim (turn_of setting claim m).ended (claim_counted (claim_takes claim (m (word_of (claim_wants claim)))) (counted e))).entry
+    → after target setting e (m (word_of (claim_wants claim))) ≡ (claim_on setting.reclamation target (turn_of setting claim m).claim (turn_of setting claim m).ended (claim_counted (claim_takes claim (m (word_of (claim_wants claim)))) (counted e))).entry
 unfolding after
-claim_after target setting e claim m at = ap (λ (r : Routine). (accepted target setting (m (word_of (claim_wants claim))) (counted e) r).entry) at
+claim_after target setting e claim m at = ap (λ (r : Routine). (accepted setting.reclamation target setting (m (word_of (claim_wants claim))) (counted e) r).entry) at
+
+-- a slot that was gained ends the claim
+gains : (by : Reclamation) (target : Target) (claim : Claim) (sweeps j : ℕ) (e : Entry) → (slot_gained by target sweeps j e).routine ≡ Claims claim → ⊥
+gains Optimistic target claim sweeps j e is = let no : Zeroes _ _ ≡ Claims claim = is in cc
+gains Epochs target claim zero j e is = let no : Zeroes _ _ ≡ Claims claim = is in cc
+gains Epochs target claim (suc swept) j e is = let no : Announces _ ≡ Claims claim = is in cc
 
 -- a claim that hasn't ended
-goes : (target : Target) (claim claim' : Claim) (end : Option ClaimEnd) (e : Entry) → (claim_on target claim end e).entry.routine ≡ Claims claim' → (end ≡ None) × (claim ≡ claim')
-goes target claim claim' None e is = (refl, let same : Claims claim ≡ Claims claim' = is in cc)
-goes target claim claim' (Some (ends.Claimed j)) e is = absurd (let no : Zeroes _ _ ≡ Claims claim' = is in cc)
-goes target claim claim' (Some ends.Full) e is = absurd (let no : Idle ≡ Claims claim' = is in cc)
-goes target claim claim' (Some (ends.PhasesOver p)) e is = absurd (let no : Idle ≡ Claims claim' = is in cc)
+goes : (by : Reclamation) (target : Target) (claim claim' : Claim) (end : Option ClaimEnd) (e : Entry) → (claim_on by target claim end e).entry.routine ≡ Claims claim' → (end ≡ None) × (claim ≡ claim')
+goes by target claim claim' None e is = (refl, let same : Claims claim ≡ Claims claim' = is in cc)
+goes by target claim claim' (Some (ends.Claimed j)) e is = absurd (gains by target claim' claim.sweeps j (with_routine e At) is)
+goes by target claim claim' (Some ends.Full) e is = absurd (let no : Idle ≡ Claims claim' = is in cc)
+goes by target claim claim' (Some (ends.PhasesOver p)) e is = absurd (let no : Idle ≡ Claims claim' = is in cc)
 
 busy : (r : Routine) (claim : Claim) → r ≡ Claims claim → is_idle r ≡ true → ⊥
 busy r claim at idle = let no : false ≡ true = sym (ap is_idle at) ∙ idle in cc
@@ -57,9 +65,9 @@ claim_moves target setting before later (Steps d) claim claim' lone m at on =
     let own : later.who 0 ≡ after target setting (before.who 0) (before.memory (word_of m.0)) =
     subst (λ (who : ℕ → Entry). who 0 ≡ after target setting (before.who 0) (before.memory (word_of m.0))) (sym m.5)
     (each_put (λ i (e : Entry). i ≡ d → e ≡ after target setting (before.who i) (before.memory (word_of m.0))) before.who d (after target setting (before.who d) (before.memory (word_of m.0))) (λ is. refl) (λ i ne is. absurd (ne is)) 0 (sym first)) in
-    let goes_on : after target setting (before.who 0) (before.memory (word_of m.0)) ≡ (claim_on target (turn_of setting claim before.memory).claim (turn_of setting claim before.memory).ended (claim_counted (claim_takes claim (before.memory (word_of (claim_wants claim)))) (counted (before.who 0)))).entry =
+    let goes_on : after target setting (before.who 0) (before.memory (word_of m.0)) ≡ (claim_on setting.reclamation target (turn_of setting claim before.memory).claim (turn_of setting claim before.memory).ended (claim_counted (claim_takes claim (before.memory (word_of (claim_wants claim)))) (counted (before.who 0)))).entry =
     ap (λ (a : WordAccess). after target setting (before.who 0) (before.memory (word_of a))) (sym wanted_is) ∙ claim_after target setting (before.who 0) claim before.memory at in
-    let end = goes target (turn_of setting claim before.memory).claim claim' (turn_of setting claim before.memory).ended (claim_counted (claim_takes claim (before.memory (word_of (claim_wants claim)))) (counted (before.who 0))) (sym (ap (λ (e : Entry). e.routine) (own ∙ goes_on)) ∙ on) in
+    let end = goes setting.reclamation target (turn_of setting claim before.memory).claim claim' (turn_of setting claim before.memory).ended (claim_counted (claim_takes claim (before.memory (word_of (claim_wants claim)))) (counted (before.who 0))) (sym (ap (λ (e : Entry). e.routine) (own ∙ goes_on)) ∙ on) in
     (m.4 ∙ ap (made before.memory) (sym wanted_is), end.0, end.1)
 
 both : (a b : Bool) → (a && b) ≡ true → (a ≡ true) × (b ≡ true)
@@ -76,6 +84,7 @@ claiming (Retires retirement go) is = absurd (let no : false ≡ true = is in cc
 claiming Restarts is = absurd (let no : false ≡ true = is in cc)
 claiming (Clears next) is = absurd (let no : false ≡ true = is in cc)
 claiming (Zeroes k field) is = absurd (let no : false ≡ true = is in cc)
+claiming (Announces announcing) is = absurd (let no : false ≡ true = is in cc)
 
 -- what each step of a claim keeps, holds along it
 module _ (target : Target) (setting : Setting) (lone : setting.sizes.callers ≡ 1) (seen : EventsAreSeen target setting) (shaped : (state : CoreState) → IsSound target setting state → IsShaped target setting state)

@@ -34,12 +34,12 @@ use Rattle.source_machine.specs.Proper.{has}
 use Rattle.source_machine.proofs.Places.{put_same, put_other}
 use Rattle.caller_parts.specs.declared.routine.AfterRetire.{AfterRetire}
 use Rattle.caller_parts.specs.declared.routine.Routine.{Routine}
-use Rattle.caller_parts.specs.declared.routine.Routine.TheVariants.{Idle, LoadSeen, At, InList, Retires, Restarts, Clears, Claims, Zeroes}
+use Rattle.caller_parts.specs.declared.routine.Routine.TheVariants.{Idle, LoadSeen, At, InList, Retires, Restarts, Clears, Claims, Zeroes, Announces}
 use Rattle.caller_steps.specs.Entries.{Entry, instr_in, cradle_of, new_number, zero_count}
 use Rattle.caller_parts.specs.Operands.{list_of, slot_in, word_in}
 use Rattle.caller_steps.specs.Clearing.{restart_next, clear_next}
 use Rattle.caller_steps.specs.Signs.{Moved, quiet}
-use Rattle.caller_steps.specs.Wants.{clear_wanted, exchange_wanted, instr_wanted, list_wanted, object_exchange, place_exchange, plain_wanted, wanted}
+use Rattle.caller_steps.specs.Wants.{announcing_wanted, clear_wanted, exchange_wanted, instr_wanted, list_wanted, object_exchange, place_exchange, plain_wanted, wanted}
 use Rattle.caller_steps.specs.After.{accepted, counted, claim_counted, claimed, node_made, retired_on, slot_claimed, with_routine}
 use Rattle.oa_simulation.specs.sim_relation.Views.{Plan, Shared, Caller}
 use Rattle.oa_simulation.specs.sim_relation.Shared.{IsOf, SharedHolds}
@@ -48,6 +48,9 @@ use Rattle.oa_simulation.specs.sim_relation.Naming.{emptied_at, freed_in, named_
 use Rattle.oa_simulation.specs.sim_relation.Steps.{GoesToRetire, after_access}
 use Rattle.oa_simulation.proofs.sim_relation.Words.{store_again}
 use Rattle.oa_simulation.proofs.sim_steps.Pools.Slots.{status_tells}
+use Rattle.caller_parts.specs.declared.setting.Reclamation.TheVariants.{Optimistic}
+use Rattle.caller_parts.specs.declared.routine.Announcing.{Announcing}
+use Rattle.caller_parts.specs.declared.routine.Announcing.TheVariants as announces
 
 -- a slot holds a name that isn't retired
 abbrev pub IsNamed : Shared → ℕ → Type 0
@@ -64,6 +67,7 @@ WorksAt e Restarts j = ⊥
 WorksAt e (Clears next) j = ⊥
 WorksAt e (Claims claim) j = ⊥
 WorksAt e (Zeroes k field) j = cradle_of e k ≡ j
+WorksAt e (Announces announcing) j = ⊥
 
 abbrev pub Works : Entry → ℕ → Type 0
 Works e j = WorksAt e e.routine j
@@ -122,6 +126,11 @@ module _ (m : Word → ℕ) (j : ℕ) where
   clear_leaves : (c : ℕ) (o : Option ℕ) → Leaves m j (clear_wanted c o)
   clear_leaves c None = tt
   clear_leaves c (Some r) = refl
+
+  announcing_leaves : (c : ℕ) (announcing : Announcing) → Leaves m j (Some (announcing_wanted c announcing))
+  announcing_leaves c (announces.Loads why) = refl
+  announcing_leaves c (announces.Stores why phase) = refl
+  announcing_leaves c (announces.Leaves reply) = refl
 
   -- a store in the status of another slot
   other_leaves : (i word : ℕ) → j ≢ i → store m (Status i) word (Status j) ≡ m (Status j)
@@ -226,7 +235,7 @@ module _ (t : Plan) (c : ℕ) (s : Shared) (x : Caller) (memory' : Word → ℕ)
       let full : slice_index (set x.entry.cradles number i) number ≢ 0 = λ z. spot.0 (ap (λ (e : Entry). cradle_of e number) (k.entry ∙ made) ∙ z) in
       works_on t c s x memory' m present' k Other j (subst (λ (e : Entry). Works e j) (sym made) (filled x.entry.cradles number i full ∙ sym same))
 
-  by_used : (claim : Claim) (i q : ℕ) → memory' ≡ store s.memory (Status i) (status_word q kinds.Used) → m ≡ claimed t.target (claim_ends claim (ends.Claimed i)) (claim_counted false (counted x.entry)) → present' ≡ s.present → Before ⊥ → After
+  by_used : (claim : Claim) (i q : ℕ) → memory' ≡ store s.memory (Status i) (status_word q kinds.Used) → m ≡ claimed Optimistic t.target (claim_ends claim (ends.Claimed i)) (claim_counted false (counted x.entry)) → present' ≡ s.present → Before ⊥ → After
   by_used claim i q makes moves names before = ⊎_elim
       (λ (same : ((j == i) ≡ true) × (j ≡ i)). taken i (ap (λ (moved : Moved). moved.entry) moves) same.1)
       (λ (away : ((j == i) ≡ false) × (j ≢ i)). quietly (other_store i (status_word q kinds.Used) away.1 makes) names before)
@@ -261,7 +270,7 @@ module _ (t : Plan) (c : ℕ) (s : Shared) (x : Caller) (memory' : Word → ℕ)
       quietly (left (Some (sweep_wants_at scheme (sweeps.PushTop h i q top) bound)) (sweep_wants_at scheme (sweeps.PushTop h i q top) bound) refl refl makes) names before
 
   by_claim : (claim : Claim) (stage : ClaimStage) → claim.stage ≡ stage → memory' ≡ after_access s.memory (claim_wants_at claim.kind claim.sweep stage)
-      → m ≡ claimed t.target (claim_accepts_at t.setting.sizes t.setting.last claim (s.memory (word_of (claim_wants_at claim.kind claim.sweep stage))) stage) (claim_counted (takes_at stage (s.memory (word_of (claim_wants_at claim.kind claim.sweep stage)))) (counted x.entry))
+      → m ≡ claimed Optimistic t.target (claim_accepts_at t.setting.sizes t.setting.last claim (s.memory (word_of (claim_wants_at claim.kind claim.sweep stage))) stage) (claim_counted (takes_at stage (s.memory (word_of (claim_wants_at claim.kind claim.sweep stage)))) (counted x.entry))
       → present' ≡ freed_in stage claim.sweep.stage s.memory s.present → Before ⊥ → After
   by_claim claim claims.ReadHead at makes moves names before = quietly (left (Some (Loads (Head claim.kind))) (Loads (Head claim.kind)) refl refl makes) names before
   by_claim claim (claims.ReadLink q i) at makes moves names before = quietly (left (Some (Loads (Link i))) (Loads (Link i)) refl refl makes) names before
@@ -272,7 +281,7 @@ module _ (t : Plan) (c : ℕ) (s : Shared) (x : Caller) (memory' : Word → ℕ)
 
   -- a retirement: the slot is the caller's until its status is retired
   by_retirement : (slot : ℕ) (stage : RetireStage) (go : AfterRetire) → memory' ≡ after_access s.memory (retire_wants_at slot stage)
-      → m ≡ retired_on t.target t.setting.sizes go (retire_accepts_at slot (s.memory (word_of (retire_wants_at slot stage))) stage) (counted x.entry) → present' ≡ s.present → Before (slot ≡ j) → After
+      → m ≡ retired_on Optimistic t.target t.setting.sizes go (retire_accepts_at slot (s.memory (word_of (retire_wants_at slot stage))) stage) (counted x.entry) → present' ≡ s.present → Before (slot ≡ j) → After
   by_retirement slot retires.ReadPhase go makes moves names before used = ⊎_elim
       (λ (named : IsNamed s j). same_named t c s x memory' m present' k Other j (named_as names) named)
       (λ (works : (slot ≡ j) ⊎ Other). ⊎_elim (λ (same : slot ≡ j). works_on t c s x memory' m present' k Other j (subst (λ (moved : Moved). Works moved.entry j) (sym moves) same)) (λ (other : Other). inr (inr other)) works)
@@ -289,7 +298,7 @@ module _ (t : Plan) (c : ℕ) (s : Shared) (x : Caller) (memory' : Word → ℕ)
   emptied_other (suc field) slot away = refl
 
   by_zero : (i field : ℕ) → memory' ≡ after_access s.memory (Stores (FieldOf (cradle_of x.entry i) field) 0)
-      → m ≡ (if nat_lt (field + 1) (zero_count t.target (instr_in t.target x.entry)) then quiet (with_routine (counted x.entry) (Zeroes i (field + 1))) else node_made t.target t.setting.sizes (cradle_of x.entry i) (counted x.entry))
+      → m ≡ (if nat_lt (field + 1) (zero_count t.target (instr_in t.target x.entry)) then quiet (with_routine (counted x.entry) (Zeroes i (field + 1))) else node_made Optimistic t.target t.setting.sizes (cradle_of x.entry i) (counted x.entry))
       → present' ≡ named_at (nat_lt (field + 1) (zero_count t.target (instr_in t.target x.entry))) (cradle_of x.entry i) s.unused (emptied_at field (cradle_of x.entry i) s.present) → Before (cradle_of x.entry i ≡ j) → After
   by_zero i field makes moves names before used = ⊎_elim
       (λ (same : ((j == cradle_of x.entry i) ≡ true) × (j ≡ cradle_of x.entry i)). here (nat_lt (field + 1) (zero_count t.target (instr_in t.target x.entry))) same.1 moves names)
@@ -303,7 +312,7 @@ module _ (t : Plan) (c : ℕ) (s : Shared) (x : Caller) (memory' : Word → ℕ)
         elsewhere away true names = ap (λ (present : ℕ → ℕ). present j) names ∙ emptied_other field (cradle_of x.entry i) away
         elsewhere away false names = ap (λ (present : ℕ → ℕ). present j) names ∙ (put_other (emptied_at field (cradle_of x.entry i) s.present) (cradle_of x.entry i) j s.unused away ∙ emptied_other field (cradle_of x.entry i) away)
 
-        here : (b : Bool) → j ≡ cradle_of x.entry i → m ≡ (if b then quiet (with_routine (counted x.entry) (Zeroes i (field + 1))) else node_made t.target t.setting.sizes (cradle_of x.entry i) (counted x.entry))
+        here : (b : Bool) → j ≡ cradle_of x.entry i → m ≡ (if b then quiet (with_routine (counted x.entry) (Zeroes i (field + 1))) else node_made Optimistic t.target t.setting.sizes (cradle_of x.entry i) (counted x.entry))
             → present' ≡ named_at b (cradle_of x.entry i) s.unused (emptied_at field (cradle_of x.entry i) s.present) → IsNamed k.s' j ⊎ (Works k.x'.entry j ⊎ Other)
         here true same moves names = works_on t c s x memory' m present' k Other j (subst (λ (moved : Moved). Works moved.entry j) (sym moves) (sym same))
         here false same moves names =
@@ -314,7 +323,7 @@ module _ (t : Plan) (c : ℕ) (s : Shared) (x : Caller) (memory' : Word → ℕ)
             (ap (λ (n : ℕ). has n s.source.retired) drawn ∙ (holds.unused s.unused (omega arith)).1)
 
   -- each step
-  by_routine : (r : Routine) (a : WordAccess) → wanted t.target x.entry r ≡ Some a → memory' ≡ after_access s.memory a → m ≡ accepted t.target t.setting (s.memory (word_of a)) (counted x.entry) r
+  by_routine : (r : Routine) (a : WordAccess) → wanted t.target x.entry r ≡ Some a → memory' ≡ after_access s.memory a → m ≡ accepted Optimistic t.target t.setting (s.memory (word_of a)) (counted x.entry) r
       → present' ≡ present_at t.target s.memory s.unused x.entry r s.present → Before (WorksAt x.entry r j) → After
   by_routine Idle a want makes moves names before = absurd (let no : None ≡ Some a = want in cc)
   by_routine (LoadSeen why) a want makes moves names before = quietly (left (Some (Loads (Warning x.entry.number))) a want refl makes) names before
@@ -324,21 +333,23 @@ module _ (t : Plan) (c : ℕ) (s : Shared) (x : Caller) (memory' : Word → ℕ)
   by_routine (Retires retirement go) a want makes moves names before =
       let same : retire_wants_at retirement.slot retirement.stage ≡ a = (let both : Some (retire_wants_at retirement.slot retirement.stage) ≡ Some a = want in cc) in
       by_retirement retirement.slot retirement.stage go (makes ∙ ap (after_access s.memory) (sym same))
-      (moves ∙ ap (λ (a : WordAccess). retired_on t.target t.setting.sizes go (retire_accepts_at retirement.slot (s.memory (word_of a)) retirement.stage) (counted x.entry)) (sym same)) names before
+      (moves ∙ ap (λ (a : WordAccess). retired_on Optimistic t.target t.setting.sizes go (retire_accepts_at retirement.slot (s.memory (word_of a)) retirement.stage) (counted x.entry)) (sym same)) names before
   by_routine Restarts a want makes moves names before = quietly (left (clear_wanted x.entry.number (restart_next t.target x.entry)) a want (clear_leaves s.memory j x.entry.number (restart_next t.target x.entry)) makes) names before
   by_routine (Clears next) a want makes moves names before = quietly (left (clear_wanted x.entry.number (clear_next t.target next x.entry)) a want (clear_leaves s.memory j x.entry.number (clear_next t.target next x.entry)) makes) names before
   by_routine (Claims claim) a want makes moves names before =
       let same : claim_wants_at claim.kind claim.sweep claim.stage ≡ a = (let both : Some (claim_wants_at claim.kind claim.sweep claim.stage) ≡ Some a = want in cc) in
       by_claim claim claim.stage refl (makes ∙ ap (after_access s.memory) (sym same))
-      (moves ∙ ap (λ (a : WordAccess). claimed t.target (claim_accepts_at t.setting.sizes t.setting.last claim (s.memory (word_of a)) claim.stage) (claim_counted (takes_at claim.stage (s.memory (word_of a))) (counted x.entry))) (sym same)) names before
+      (moves ∙ ap (λ (a : WordAccess). claimed Optimistic t.target (claim_accepts_at t.setting.sizes t.setting.last claim (s.memory (word_of a)) claim.stage) (claim_counted (takes_at claim.stage (s.memory (word_of a))) (counted x.entry))) (sym same)) names before
   by_routine (Zeroes i field) a want makes moves names before =
       let same : Stores (FieldOf (cradle_of x.entry i) field) 0 ≡ a = (let both : Some (Stores (FieldOf (cradle_of x.entry i) field) 0) ≡ Some a = want in cc) in
       by_zero i field (makes ∙ ap (after_access s.memory) (sym same)) moves names before
+  by_routine (Announces announcing) a want makes moves names before =
+      quietly (left (Some (announcing_wanted x.entry.number announcing)) a want (announcing_leaves s.memory j x.entry.number announcing) makes) names before
 
 -- what a step makes of it, as the simulation keeps the step
 pub step_settles : (t : Plan) (c : ℕ) (s : Shared) (x : Caller) (a : WordAccess) → SharedHolds t s → wanted t.target x.entry x.entry.routine ≡ Some a
-    → (k : Kept t c s (after_access s.memory a) (accepted t.target t.setting (s.memory (word_of a)) (counted x.entry) x.entry.routine) (present_at t.target s.memory s.unused x.entry x.entry.routine s.present))
+    → (k : Kept t c s (after_access s.memory a) (accepted Optimistic t.target t.setting (s.memory (word_of a)) (counted x.entry) x.entry.routine) (present_at t.target s.memory s.unused x.entry x.entry.routine s.present))
     → (Other : Type 0) (j : ℕ) → (IsOf kinds.Used (s.memory (Status j)) → IsNamed s j ⊎ (Works x.entry j ⊎ Other)) → IsOf kinds.Used (k.s'.memory (Status j)) → IsNamed k.s' j ⊎ (Works k.x'.entry j ⊎ Other)
 step_settles t c s x a holds want k Other j before =
-    by_routine t c s x (after_access s.memory a) (accepted t.target t.setting (s.memory (word_of a)) (counted x.entry) x.entry.routine) (present_at t.target s.memory s.unused x.entry x.entry.routine s.present) k holds Other j
+    by_routine t c s x (after_access s.memory a) (accepted Optimistic t.target t.setting (s.memory (word_of a)) (counted x.entry) x.entry.routine) (present_at t.target s.memory s.unused x.entry x.entry.routine s.present) k holds Other j
     x.entry.routine a want refl refl refl before

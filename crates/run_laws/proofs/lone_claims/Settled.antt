@@ -15,7 +15,7 @@ use Rattle.source_machine.specs.Proper.{IsProper, has}
 use Rattle.source_machine.proofs.Places.{put_same, put_other}
 use Rattle.caller_parts.specs.declared.call.Call.{Call}
 use Rattle.caller_parts.specs.declared.routine.Routine.{Routine}
-use Rattle.caller_parts.specs.declared.routine.Routine.TheVariants.{Idle, LoadSeen, At, InList, Retires, Restarts, Clears, Claims, Zeroes}
+use Rattle.caller_parts.specs.declared.routine.Routine.TheVariants.{Idle, LoadSeen, At, InList, Retires, Restarts, Clears, Claims, Zeroes, Announces}
 use Rattle.caller_parts.specs.Settings.{Setting, Fits, IsSetting}
 use Rattle.caller_steps.specs.Entries.{Entry, is_idle}
 use Rattle.caller_steps.specs.Wants.{wants}
@@ -54,6 +54,7 @@ use Rattle.oa_simulation.proofs.Pools.{pool_goes, takes_ready}
 use Rattle.oa_simulation.proofs.FirstSlots.{first_null}
 use Rattle.oa_simulation.proofs.Refining.{plan_of, start_beside}
 use Rattle.run_laws.proofs.lone_claims.InUse.{IsNamed, Works, WorksAt, step_settles}
+use Rattle.caller_parts.specs.declared.setting.Reclamation.TheVariants.{Optimistic}
 
 -- a caller works on the slot
 abbrev pub SomeWorks : ℕ → (ℕ → Caller) → ℕ → Type 0
@@ -79,6 +80,7 @@ idle_rests e Restarts j is works = works
 idle_rests e (Clears next) j is works = works
 idle_rests e (Claims claim) j is works = works
 idle_rests e (Zeroes k field) j is works = let no : false ≡ true = is in absurd (let bad : ⊥ = cc in bad)
+idle_rests e (Announces announcing) j is works = works
 
 module _ (callers c : ℕ) (who : ℕ → Caller) (x' : Caller) (j : ℕ) where
   -- another caller works on it
@@ -141,14 +143,14 @@ module _ (t : Plan) (plan : IsPlan t) (proper : IsProper t.text) (events_seen : 
       → HomeIs t.home (shadow_run t.text (event_signs t.target t.setting state event) z)
       → SettledBeside t behind (shadow_run t.text (event_signs t.target t.setting state event) z) (present_after t.target t.setting (view t.setting state) event z.unused present)
   event_settled (Takes c call) state behind z present sound shaped b pooled m homes =
-      let k = take_went t plan.compiled.normal plan.compiled.within plan.null (λ e. true) (steps_keep t plan) proper events_seen state behind z c call b.beside m in
+      let k = take_went t plan.compiled.normal plan.compiled.within plan.null plan.optimistic (λ e. true) (steps_keep t plan) proper events_seen state behind z c call b.beside m in
       record {
         beside = k.beside;
         names = ap (λ (w : World). w.shared.present) k.world ∙ b.names;
         settled = took_settled state behind z c call b.beside (ap (λ (e : Entry). is_idle e.routine) (b.beside.entry c m.0) ∙ m.1) b.settled k;
       }
   event_settled (Steps c) state behind z present sound shaped b pooled m homes =
-      let k = step_went t plan.compiled.normal plan.compiled.within plan.null (λ e. true) (steps_keep t plan) proper events_seen state behind z c refl sound shaped b.beside (takes_ready t.target t.setting state c are few suits pooled) m homes in
+      let k = step_went t plan.compiled.normal plan.compiled.within plan.null plan.optimistic (λ e. true) (steps_keep t plan) proper events_seen state behind z c refl sound shaped b.beside (takes_ready t.target t.setting state c are few suits pooled) m homes in
       record {
         beside = k.beside;
         names = k.present ∙ ap (present_after t.target t.setting (view t.setting state) (Steps c) z.unused) b.names;
@@ -183,9 +185,9 @@ start_settled t state callers b names first j le used = ⊎_elim not_first first
       absurd (let no : kinds.Used ≡ kinds.Ready = (status_tells used.0 other.0 kinds.Used kinds.Ready (sym used.1 ∙ (ap (λ (memory : Word → ℕ). memory (Status j)) b.memory ∙ other.1))).1 in cc)
 
 -- every state that a run comes to
-pub settles : (target : Target) (text : Text) (setting : Setting) → IsRunnable target text → IsBarred target text → IsSetting setting → Fits target setting → IsProper text → (events : List CoreEvent) (state : CoreState) → core_run target setting events (core_start target setting) ≡ Some state
+pub settles : (target : Target) (text : Text) (setting : Setting) → IsRunnable target text → IsBarred target text → IsSetting setting → Fits target setting → setting.reclamation ≡ Optimistic → IsProper text → (events : List CoreEvent) (state : CoreState) → core_run target setting events (core_start target setting) ≡ Some state
     → SettledBeside (plan_of target text setting events) state (shadow target text setting events) (present_in target text setting events)
-settles target text setting runs barred own fits proper events state is =
+settles target text setting runs barred own fits optimistic proper events state is =
     let t : Plan = plan_of target text setting events in
     let z0 : Shadow = shadow_start text setting in
     let homes : HomeIs t.home z0 = λ n lt. home_stays text (run_signs target setting events (core_start target setting)) z0 n lt in
@@ -194,6 +196,7 @@ settles target text setting runs barred own fits proper events state is =
       sane = runnable_is_sane target text runs;
       some = own;
       fits = fits;
+      optimistic = optimistic;
       callers = own.sizes.0;
       null = homes 0 (omega arith) ∙ first_null setting;
     } in

@@ -62,6 +62,7 @@ use Rattle.run_laws.proofs.lone_claims.Freeing.{IsFree, IsOld, HasTop, Frees, fr
 use Rattle.run_laws.proofs.lone_claims.Claims.{along}
 use Rattle.run_laws.proofs.lone_claims.InUse.{IsNamed, Works, WorksAt}
 use Rattle.run_laws.proofs.lone_claims.Settled.{SomeWorks, SettledBeside, settles}
+use Rattle.caller_parts.specs.declared.setting.Reclamation.TheVariants.{Optimistic}
 
 -- a slot's status by its owner: used, ready, or retired with its name's tag
 kind_of : (o : Owner) (word n : ℕ) (tag : Option ℕ) (rt pb : Bool) → Slot o word n tag rt pb → IsOf kinds.Used word ⊎ IsOf kinds.Ready word ⊎ ((p : ℕ) × (word ≡ status_word p kinds.Retired) × (tag ≡ Some p))
@@ -260,13 +261,13 @@ module _ (target : Target) (text : Text) (setting : Setting) (runs : IsRunnable 
         let own : Works (q.beside.w.who 0).entry j = subst (λ (d : ℕ). Works (q.beside.w.who d).entry j) first works.2 in
         subst (λ (r : Routine). WorksAt (q.beside.w.who 0).entry r j) (ap (λ (e : Entry). e.routine) (q.beside.entry 0 one) ∙ begun) own
 
-pub lone_claims : (pair : Paired) (setting : Setting) → IsPairSound pair → IsSetting setting → Fits pair.target setting → LoneClaimsAreFull pair.target pair.source setting
-lone_claims pair setting sound own fits proper lone events state is =
+pub lone_claims : (pair : Paired) (setting : Setting) → IsPairSound pair → IsSetting setting → Fits pair.target setting → setting.reclamation ≡ Optimistic → LoneClaimsAreFull pair.target pair.source setting
+lone_claims pair setting sound own fits optimistic proper lone events state is =
     let runs : IsRunnable pair.target pair.source = record { small = sound.small; normal = sound.normal; within = sound.within; erases = sound.barred.erases } in
-    let k = stands pair.target pair.source setting events state runs sound.barred own fits proper is in
+    let k = stands pair.target pair.source setting events state runs sound.barred own fits optimistic proper is in
     let used = full_here pair.target pair.source setting runs own fits lone events state k in
     let names : (j : ℕ) → HoldsName pair.target pair.source setting events j → IsUsed (view setting state).memory j = λ j held. named pair.target pair.source setting runs own fits lone events state k j held.0 held.1 in
-    let back = holds pair.target pair.source setting runs own fits lone events state k (settles pair.target pair.source setting runs sound.barred own fits proper events state is) in
+    let back = holds pair.target pair.source setting runs own fits lone events state k (settles pair.target pair.source setting runs sound.barred own fits optimistic proper events state is) in
     record {
       full = λ kind end e never. (
         (λ full j low high. (let some : 1 ≤ j = omega (arith, low) in back kind e.begun j some ((used kind end e never).0 full j low high))),

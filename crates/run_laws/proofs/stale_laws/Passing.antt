@@ -28,6 +28,7 @@ use Rattle.oa_simulation.proofs.Refining.{Stood, plan_of, stands}
 use Rattle.run_laws.specs.stale_laws.Stale.{register_name, caller_name, LoadsFrom, IsStaleLoad, StaleLoadsAreWarned, NoStalePass}
 use Rattle.run_laws.proofs.stale_laws.Loading.{Based, based}
 use Rattle.run_laws.proofs.stale_laws.Warnings.{Stays, stays_on, warned_fails}
+use Rattle.caller_parts.specs.declared.setting.Reclamation.TheVariants.{Optimistic}
 
 module _ (target : Target) (text : Text) (setting : Setting) (runs : IsRunnable target text) (own : IsSetting setting) (fits : Fits target setting) (proper : IsProper text) (events : List CoreEvent) (state : CoreState) (k : Stood target text setting events state) where
   abbrev t : Plan
@@ -80,14 +81,14 @@ module _ (target : Target) (text : Text) (setting : Setting) (runs : IsRunnable 
   stale_loads : StaleLoadsAreWarned target text setting events state
   stale_loads = record {
     named = named_here;
-    warned = λ c base more later lt stale leads none. warned_fails target setting later c lt
-        (stays_on target setting (events_are_seen target setting)
+    warned = λ c base more later lt stale leads none. warned_fails target setting later c k.plan.optimistic lt
+        (stays_on target setting k.plan.optimistic (events_are_seen target setting)
         (λ s sound. sound_is_shaped target setting s (methods target text runs) (setting_sane setting own) fits sound)
         (λ s next event sound at. event_sound target setting s next event (methods target text runs) (setting_sane setting own) fits sound at)
         c more state later (warned_here c base lt stale) leads none);
   }
 
-pub no_stale_pass : (pair : Paired) (setting : Setting) → IsPairSound pair → IsSetting setting → Fits pair.target setting → NoStalePass pair.target pair.source setting
-no_stale_pass pair setting sound own fits proper events state is =
+pub no_stale_pass : (pair : Paired) (setting : Setting) → IsPairSound pair → IsSetting setting → Fits pair.target setting → setting.reclamation ≡ Optimistic → NoStalePass pair.target pair.source setting
+no_stale_pass pair setting sound own fits optimistic proper events state is =
     let runs : IsRunnable pair.target pair.source = record { small = sound.small; normal = sound.normal; within = sound.within; erases = sound.barred.erases } in
-    stale_loads pair.target pair.source setting runs own fits proper events state (stands pair.target pair.source setting events state runs sound.barred own fits proper is)
+    stale_loads pair.target pair.source setting runs own fits proper events state (stands pair.target pair.source setting events state runs sound.barred own fits optimistic proper is)

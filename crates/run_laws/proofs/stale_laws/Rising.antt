@@ -1,5 +1,5 @@
 -- No access of an entry that belongs lowers a warning word.
-use Rattle.std.proofs.Common.{List, ℕ, zero, suc, ◌≡◌, ◌≤◌, ◌+◌, max, Option, Some, None, arith, subst}
+use Rattle.std.proofs.Common.{List, ℕ, zero, suc, ◌≡◌, ◌≤◌, ◌+◌, ◌∙◌, max, Option, Some, None, arith, sym, subst, refl}
 use Rattle.std.specs.Prelude.{slice_get}
 use Rattle.norm_lang.specs.declared.text.Place.{Place}
 use Rattle.norm_lang.specs.declared.text.Place.TheVariants as places
@@ -27,7 +27,7 @@ use Rattle.phase_pools.specs.declared.stages.RetireStage.TheVariants as retires
 use Rattle.phase_pools.specs.Accesses.{WordAccess, Loads, word_of, word_after}
 use Rattle.phase_pools.specs.Pools.{Sweep, warn_wanted, sweep_wants_at, claim_wants_at, retire_wants_at}
 use Rattle.caller_parts.specs.declared.routine.Routine.{Routine}
-use Rattle.caller_parts.specs.declared.routine.Routine.TheVariants.{Idle, LoadSeen, At, InList, Retires, Restarts, Clears, Claims, Zeroes}
+use Rattle.caller_parts.specs.declared.routine.Routine.TheVariants.{Idle, LoadSeen, At, InList, Retires, Restarts, Clears, Claims, Zeroes, Announces}
 use Rattle.caller_steps.specs.Entries.{Entry, instr_in}
 use Rattle.caller_parts.specs.Operands.{list_of, slot_in, word_in}
 use Rattle.caller_parts.specs.Settings.{Setting}
@@ -35,6 +35,8 @@ use Rattle.caller_steps.specs.Belongs.{Belongs, ClaimStands, Stands}
 use Rattle.caller_steps.specs.Clearing.{restart_next, clear_next}
 use Rattle.caller_steps.specs.Wants.{wants, wanted, instr_wanted, plain_wanted, list_wanted, clear_wanted, exchange_wanted, place_exchange, object_exchange}
 use Rattle.oa_simulation.proofs.sim_relation.Words.{store_idle, each_warning}
+use Rattle.caller_parts.specs.declared.setting.Reclamation.TheVariants.{Optimistic}
+use Rattle.oa_simulation.proofs.sim_relation.Schemes.{claim_warned, never_stands}
 
 abbrev Rises : WordAccess → Type 0
 Rises a = (m : Word → ℕ) (d : ℕ) → m (Warning d) ≤ store m (word_of a) (word_after a (m (word_of a))) (Warning d)
@@ -110,29 +112,30 @@ by_sweep scheme (sweeps.PushHead k j) bound = loads (Head k)
 by_sweep scheme (sweeps.PushLink j q t) bound = λ m d. omega arith
 by_sweep scheme (sweeps.PushTop k j q t) bound = λ m d. omega arith
 
-by_claim : (setting : Setting) (k : ℕ) (sweep : Sweep) (stage : ClaimStage) → ClaimStands setting k stage → Rises (claim_wants_at k sweep stage)
-by_claim setting k sweep claims.ReadHead stands = loads (Head k)
-by_claim setting k sweep (claims.ReadLink q t) stands = loads (Link t)
-by_claim setting k sweep (claims.Take q t next) stands = λ m d. omega arith
-by_claim setting k sweep (claims.StoreUsed q t) stands = λ m d. omega arith
-by_claim setting k sweep (claims.Withdraw own) stands = absurd stands
-by_claim setting k sweep claims.Sweeps stands = by_sweep sweep.scheme sweep.stage sweep.bound
+by_claim : (setting : Setting) (k : ℕ) (sweep : Sweep) (stage : ClaimStage) → sweep.scheme ≡ Warned → ClaimStands setting sweep.scheme k stage → Rises (claim_wants_at k sweep stage)
+by_claim setting k sweep claims.ReadHead warns stands = loads (Head k)
+by_claim setting k sweep (claims.ReadLink q t) warns stands = loads (Link t)
+by_claim setting k sweep (claims.Take q t next) warns stands = λ m d. omega arith
+by_claim setting k sweep (claims.StoreUsed q t) warns stands = λ m d. omega arith
+by_claim setting k sweep (claims.Withdraw own) warns stands = absurd (let no : Warned ≡ Announced own = sym warns ∙ stands in cc)
+by_claim setting k sweep claims.Sweeps warns stands = by_sweep sweep.scheme sweep.stage sweep.bound
 
 by_retirement : (slot : ℕ) (stage : RetireStage) → Rises (retire_wants_at slot stage)
 by_retirement slot retires.ReadPhase = loads Phase
 by_retirement slot (retires.StoreStatus p) = λ m d. omega arith
 
-by_routine : (target : Target) (setting : Setting) (e : Entry) (r : Routine) → Stands target setting e r → AllRise (wanted target e r)
-by_routine target setting e Idle stands = tt
-by_routine target setting e (LoadSeen why) stands = loads (Warning e.number)
-by_routine target setting e At stands = by_instr target.fields e.number (instr_in target e) e.hand.registers
-by_routine target setting e (InList k) stands = by_entry target.fields (slice_get (list_of (instr_in target e)) k) e.hand.registers
-by_routine target setting e (Retires retirement go) stands = by_retirement retirement.slot retirement.stage
-by_routine target setting e Restarts stands = clears e.number (restart_next target e)
-by_routine target setting e (Clears next) stands = clears e.number (clear_next target next e)
-by_routine target setting e (Claims claim) stands = by_claim setting claim.kind claim.sweep claim.stage stands.1.stands
-by_routine target setting e (Zeroes k field) stands = λ m d. omega arith
+by_routine : (target : Target) (setting : Setting) (e : Entry) (r : Routine) → setting.reclamation ≡ Optimistic → Stands target setting e r → AllRise (wanted target e r)
+by_routine target setting e Idle optimistic stands = tt
+by_routine target setting e (LoadSeen why) optimistic stands = loads (Warning e.number)
+by_routine target setting e At optimistic stands = by_instr target.fields e.number (instr_in target e) e.hand.registers
+by_routine target setting e (InList k) optimistic stands = by_entry target.fields (slice_get (list_of (instr_in target e)) k) e.hand.registers
+by_routine target setting e (Retires retirement go) optimistic stands = by_retirement retirement.slot retirement.stage
+by_routine target setting e Restarts optimistic stands = clears e.number (restart_next target e)
+by_routine target setting e (Clears next) optimistic stands = clears e.number (clear_next target next e)
+by_routine target setting e (Claims claim) optimistic stands = by_claim setting claim.kind claim.sweep claim.stage (claim_warned setting e.number claim optimistic stands.1) stands.1.stands
+by_routine target setting e (Zeroes k field) optimistic stands = λ m d. omega arith
+by_routine target setting e (Announces announcing) optimistic stands = absurd (never_stands target setting e (Announces announcing) optimistic stands announcing refl)
 
-pub warnings_rise : (target : Target) (setting : Setting) (e : Entry) (a : WordAccess) → Belongs target setting e → wants target e ≡ Some a → (m : Word → ℕ) (d : ℕ) → m (Warning d) ≤ store m (word_of a) (word_after a (m (word_of a))) (Warning d)
+pub warnings_rise : (target : Target) (setting : Setting) (e : Entry) (a : WordAccess) → setting.reclamation ≡ Optimistic → Belongs target setting e → wants target e ≡ Some a → (m : Word → ℕ) (d : ℕ) → m (Warning d) ≤ store m (word_of a) (word_after a (m (word_of a))) (Warning d)
 unfolding wants
-warnings_rise target setting e a belongs is = subst AllRise is (by_routine target setting e e.routine belongs.stands)
+warnings_rise target setting e a optimistic belongs is = subst AllRise is (by_routine target setting e e.routine optimistic belongs.stands)

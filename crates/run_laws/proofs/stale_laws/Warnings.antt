@@ -11,7 +11,7 @@ use Rattle.oa_words.specs.Words.{Word, Warning}
 use Rattle.phase_pools.specs.Accesses.{WordAccess, Loads, word_of}
 use Rattle.source_machine.proofs.Places.{each_put}
 use Rattle.caller_parts.specs.declared.routine.Routine.{Routine}
-use Rattle.caller_parts.specs.declared.routine.Routine.TheVariants.{Idle, LoadSeen, At, InList, Retires, Restarts, Clears, Claims, Zeroes}
+use Rattle.caller_parts.specs.declared.routine.Routine.TheVariants.{Idle, LoadSeen, At, InList, Retires, Restarts, Clears, Claims, Zeroes, Announces}
 use Rattle.caller_parts.specs.Settings.{Setting}
 use Rattle.caller_steps.specs.Entries.{Entry, idle_entry, instr_in}
 use Rattle.caller_steps.specs.Belongs.{Belongs}
@@ -26,6 +26,8 @@ use Rattle.oa_simulation.specs.sim_steps.Renewing.{fails_at, renews_at}
 use Rattle.run_laws.specs.stale_laws.Stale.{begins_run, begins_none, IsWarned}
 use Rattle.run_laws.proofs.stale_laws.Rising.{warnings_rise}
 use Rattle.oa_simulation.proofs.sim_steps.Seen.{after_stays}
+use Rattle.caller_parts.specs.declared.setting.Reclamation.TheVariants.{Optimistic}
+use Rattle.oa_simulation.proofs.sim_relation.Schemes.{after_is, never_belongs}
 
 -- ---- the word that a check finds
 
@@ -46,6 +48,7 @@ by_routine target e Restarts memory a want goes = goes
 by_routine target e (Clears next) memory a want goes = goes
 by_routine target e (Claims claim) memory a want goes = goes
 by_routine target e (Zeroes k field) memory a want goes = goes
+by_routine target e (Announces announcing) memory a want goes = goes
 
 found_begins : (target : Target) (e : Entry) (memory : Word → ℕ) (a : WordAccess) → wants target e ≡ Some a → renews_at target e e.routine (memory (Warning e.number)) ≡ false → renews_at target e e.routine (memory (word_of a)) ≡ false
 unfolding wants
@@ -61,16 +64,16 @@ second : (a b : Bool) → a ≡ true → (a && b) ≡ false → b ≡ false
 second true b is goes = goes
 second false b is goes = absurd (let no : false ≡ true = is in cc)
 
-below_on : (target : Target) (setting : Setting) (before later : CoreView) (c : ℕ) (event : CoreEvent) → ((d : ℕ) → d < setting.sizes.callers → Belongs target setting (before.who d)) → Moves target setting before event later → begins_run target before c event ≡ false → IsBelow before c → IsBelow later c
-below_on target setting before later c (Takes d call) belongs m goes below =
+below_on : (target : Target) (setting : Setting) → setting.reclamation ≡ Optimistic → (before later : CoreView) (c : ℕ) (event : CoreEvent) → ((d : ℕ) → d < setting.sizes.callers → Belongs target setting (before.who d)) → Moves target setting before event later → begins_run target before c event ≡ false → IsBelow before c → IsBelow later c
+below_on target setting optimistic before later c (Takes d call) belongs m goes below =
     let seen : (later.who c).hand.seen ≡ (before.who c).hand.seen =
-    subst (λ (who : ℕ → Entry). (who c).hand.seen ≡ (before.who c).hand.seen) (sym m.4) (each_put (λ i (e : Entry). e.hand.seen ≡ (before.who i).hand.seen) before.who d (taken call (before.who d)) refl (λ i ne. refl) c) in
+    subst (λ (who : ℕ → Entry). (who c).hand.seen ≡ (before.who c).hand.seen) (sym m.4) (each_put (λ i (e : Entry). e.hand.seen ≡ (before.who i).hand.seen) before.who d (taken setting.reclamation call (before.who d)) refl (λ i ne. refl) c) in
     let word : later.memory (Warning c) ≡ before.memory (Warning c) = ap (λ (memory : Word → ℕ). memory (Warning c)) m.3 in
     omega (arith, below, seen, word)
-below_on target setting before later c (Steps d) belongs m goes below =
+below_on target setting optimistic before later c (Steps d) belongs m goes below =
     let a : WordAccess = m.0 in
     let rises : before.memory (Warning c) ≤ later.memory (Warning c) =
-    subst (λ (memory : Word → ℕ). before.memory (Warning c) ≤ memory (Warning c)) (sym m.4) (warnings_rise target setting (before.who d) a (belongs d m.1) m.2 before.memory c) in
+    subst (λ (memory : Word → ℕ). before.memory (Warning c) ≤ memory (Warning c)) (sym m.4) (warnings_rise target setting (before.who d) a optimistic (belongs d m.1) m.2 before.memory c) in
     let seen : (later.who c).hand.seen ≡ (before.who c).hand.seen =
     subst (λ (who : ℕ → Entry). (who c).hand.seen ≡ (before.who c).hand.seen) (sym m.5)
     (each_put (λ i (e : Entry). i ≡ c → e.hand.seen ≡ (before.who i).hand.seen) before.who d (after target setting (before.who d) (before.memory (word_of a))) (own a m.2) (λ i ne is. refl) c refl) in
@@ -81,7 +84,7 @@ below_on target setting before later c (Steps d) belongs m goes below =
         let none : renews_at target (before.who c) (before.who c).routine (before.memory (Warning (before.who c).number)) ≡ false = second (d == c) _ (grind (arith, nat_tests, is)) goes in
         let here : renews_at target (before.who d) (before.who d).routine (before.memory (Warning (before.who d).number)) ≡ false =
         subst (λ (i : ℕ). renews_at target (before.who i) (before.who i).routine (before.memory (Warning (before.who i).number)) ≡ false) (sym is) none in
-        after_stays target setting (before.memory (word_of a)) (before.who d) (found_begins target (before.who d) before.memory a want here)
+        after_stays target setting (before.memory (word_of a)) (before.who d) optimistic (never_belongs target setting (before.who d) optimistic (belongs d m.1)) (found_begins target (before.who d) before.memory a want here)
 
 -- ---- a run
 
@@ -94,7 +97,7 @@ both : (a b : Bool) → (not a && b) ≡ true → (a ≡ false) × (b ≡ true)
 both true b is = absurd (let no : false ≡ true = is in cc)
 both false b is = (refl, is)
 
-module _ (target : Target) (setting : Setting) (seen : EventsAreSeen target setting) (shaped : (state : CoreState) → IsSound target setting state → IsShaped target setting state)
+module _ (target : Target) (setting : Setting) (optimistic : setting.reclamation ≡ Optimistic) (seen : EventsAreSeen target setting) (shaped : (state : CoreState) → IsSound target setting state → IsShaped target setting state)
     (keeps : (state later : CoreState) (event : CoreEvent) → IsSound target setting state → core_event target setting state event ≡ Some later → IsSound target setting later) (c : ℕ) where
   pub stays_on : (events : List CoreEvent) (state later : CoreState) → Stays target setting state c → core_run target setting events state ≡ Some later → begins_none target setting c events state ≡ true → Stays target setting later c
   stays_on [] state later s runs none = subst (λ (i : CoreState). Stays target setting i c) (let same : state ≡ later = cc in same) s
@@ -107,31 +110,31 @@ module _ (target : Target) (setting : Setting) (seen : EventsAreSeen target sett
         of more None at goes runs rest = absurd (let no : None ≡ Some later = runs in cc)
         of more (Some next) at goes runs rest = more next later (record {
           sound = keeps state next event s.sound at;
-          below = below_on target setting (view setting state) (view setting next) c event (λ d lt. belongs_seen target setting state d s.sound lt) (seen.moves state next event (shaped state s.sound) at) goes s.below;
+          below = below_on target setting optimistic (view setting state) (view setting next) c event (λ d lt. belongs_seen target setting state d s.sound lt) (seen.moves state next event (shaped state s.sound) at) goes s.below;
         }) runs rest
 
 -- ---- checks
 
-fails_below : (target : Target) (setting : Setting) (e : Entry) (word : ℕ) → e.routine ≡ At → instr_in target e ≡ Some Check → word ≢ e.hand.seen → after target setting e word ≡ (check_failed target setting.sizes word (counted e)).entry
-unfolding after
-fails_below target setting e word at is ne =
-    ap (λ (r : Routine). (accepted target setting word (counted e) r).entry) at
-    ∙ (ap (λ (o : Option TargetInstr). (instr_accepted target setting.sizes o word (counted e)).entry) is
-    ∙ ap (λ (b : Bool). (if b then check_passed target setting.sizes (counted e) else check_failed target setting.sizes word (counted e)).entry) (let test : (word == e.hand.seen) ≡ false = grind (arith, nat_tests, ne) in test))
+fails_below : (target : Target) (setting : Setting) (e : Entry) (word : ℕ) → setting.reclamation ≡ Optimistic → e.routine ≡ At → instr_in target e ≡ Some Check → word ≢ e.hand.seen → after target setting e word ≡ (check_failed target setting.sizes word (counted e)).entry
+fails_below target setting e word optimistic at is ne =
+    after_is target setting e word optimistic
+    ∙ (ap (λ (r : Routine). (accepted Optimistic target setting word (counted e) r).entry) at
+    ∙ (ap (λ (o : Option TargetInstr). (instr_accepted Optimistic target setting.sizes o word (counted e)).entry) is
+    ∙ ap (λ (b : Bool). (if b then check_passed target setting.sizes (counted e) else check_failed target setting.sizes word (counted e)).entry) (let test : (word == e.hand.seen) ≡ false = grind (arith, nat_tests, ne) in test)))
 
 finds_warning : (target : Target) (e : Entry) (a : WordAccess) → e.routine ≡ At → instr_in target e ≡ Some Check → wants target e ≡ Some a → Loads (Warning e.number) ≡ a
 unfolding wants
 finds_warning target e a at is want =
     let wanted_is : Some (Loads (Warning e.number)) ≡ Some a = sym (ap (λ (r : Routine). wanted target e r) at ∙ ap (λ (o : Option TargetInstr). instr_wanted target.fields e.number o e.hand.registers) is) ∙ want in cc
 
-pub warned_fails : (target : Target) (setting : Setting) (state : CoreState) (c : ℕ) → c < setting.sizes.callers → Stays target setting state c → IsWarned target setting (view setting state) c
-warned_fails target setting state c lt s = record {
+pub warned_fails : (target : Target) (setting : Setting) (state : CoreState) (c : ℕ) → setting.reclamation ≡ Optimistic → c < setting.sizes.callers → Stays target setting state c → IsWarned target setting (view setting state) c
+warned_fails target setting state c optimistic lt s = record {
   differs = differs;
   fails = λ a at is want.
       (let loads : Loads (Warning ((view setting state).who c).number) ≡ a = finds_warning target ((view setting state).who c) a at is want in
       let word : (view setting state).memory (word_of a) ≡ (view setting state).memory (Warning c) =
       ap (λ (b : WordAccess). (view setting state).memory (word_of b)) (sym loads) ∙ ap (λ (i : ℕ). (view setting state).memory (Warning i)) number in
-      fails_below target setting ((view setting state).who c) ((view setting state).memory (word_of a)) at is (λ z. differs (sym word ∙ z)));
+      fails_below target setting ((view setting state).who c) ((view setting state).memory (word_of a)) optimistic at is (λ z. differs (sym word ∙ z)));
 } where
   differs : (view setting state).memory (Warning c) ≢ ((view setting state).who c).hand.seen
   differs z = let below = s.below in let no : ⊥ = omega (arith, below, z) in no

@@ -12,6 +12,7 @@ use Rattle.caller_steps.specs.Entries.{Entry, is_idle}
 use Rattle.core_runs.specs.Machine.{CoreState, CoreEvent, core_run, core_start}
 use Rattle.core_runs.specs.Scripts.{IsCompleteRun, script_of}
 use Rattle.oa_simulation.specs.Shadow.{image}
+use Rattle.caller_parts.specs.declared.setting.Reclamation.TheVariants.{Optimistic}
 
 -- the calls that events begin for a caller, in order
 abbrev pub begun_by : ℕ → SourceEvent → List Call
@@ -36,9 +37,9 @@ started_of false running = if running.steps == 0 then [] else running.call ∷ [
 abbrev pub started : Entry → List Call
 started e = map call_replied e.replies ++ started_of (is_idle e.routine) e.running
 
--- in the image of a run each caller begins these
+-- in the image of a run of optimistic access each caller begins these: its first step for a call begins it
 pub record CallsBegin (target : Target) (setting : Setting) : Type 0 where
-  pub each : (text : Text) (events : List CoreEvent) (state : CoreState) (c : ℕ) (e : Entry) → core_run target setting events (core_start target setting) ≡ Some state
+  pub each : setting.reclamation ≡ Optimistic → (text : Text) (events : List CoreEvent) (state : CoreState) (c : ℕ) (e : Entry) → core_run target setting events (core_start target setting) ≡ Some state
       → slice_get state.entries c ≡ Some e → begun_in c (image target text setting events) ≡ started e
 
 -- ---- complete runs
@@ -53,7 +54,7 @@ abbrev pub BeginsOfScripts : Target → Text → Setting → List (List Call) �
 BeginsOfScripts target text setting scripts events state = (c : ℕ) (e : Entry) → slice_get state.entries c ≡ Some e
     → BeginsScript (is_idle e.routine) (script_of scripts c) e (begun_in c (image target text setting events))
 
--- in the image of a complete run, with fuel for a step at least
+-- in the image of a complete run of optimistic access, with fuel for a step at least
 pub record ScriptsBegin (target : Target) (setting : Setting) : Type 0 where
-  pub each : (text : Text) (scripts : List (List Call)) (fuel : ℕ) (events : List CoreEvent) (state : CoreState) → 1 ≤ fuel
+  pub each : setting.reclamation ≡ Optimistic → (text : Text) (scripts : List (List Call)) (fuel : ℕ) (events : List CoreEvent) (state : CoreState) → 1 ≤ fuel
       → IsCompleteRun target setting scripts fuel events state → BeginsOfScripts target text setting scripts events state

@@ -9,7 +9,7 @@ use Rattle.target_code.specs.declared.target.TargetInstr.TheVariants.{Plain, Che
 use Rattle.phase_pools.specs.Accesses.{WordAccess}
 use Rattle.source_machine.specs.MethodRuns.{put}
 use Rattle.caller_parts.specs.declared.routine.Routine.{Routine}
-use Rattle.caller_parts.specs.declared.routine.Routine.TheVariants.{Idle, LoadSeen, At, InList, Retires, Restarts, Clears, Claims, Zeroes}
+use Rattle.caller_parts.specs.declared.routine.Routine.TheVariants.{Idle, LoadSeen, At, InList, Retires, Restarts, Clears, Claims, Zeroes, Announces}
 use Rattle.caller_parts.specs.Settings.{Setting}
 use Rattle.caller_steps.specs.Entries.{Entry, instr_in}
 use Rattle.caller_parts.specs.Operands.{register_number, slot_in}
@@ -88,6 +88,7 @@ hazard_marks target e Restarts word were hazards = cleared (restart_next target 
 hazard_marks target e (Clears next) word were hazards = cleared (clear_next target next e) hazards
 hazard_marks target e (Claims claim) word were hazards = hazards
 hazard_marks target e (Zeroes k field) word were hazards = hazards
+hazard_marks target e (Announces announcing) word were hazards = hazards
 
 -- and the local code after it
 abbrev pub step_marks : Target → Setting → Entry → ℕ → Marks → Marks

@@ -16,7 +16,7 @@ use Rattle.phase_pools.specs.Accesses.{word_of}
 use Rattle.phase_pools.specs.Pools.{Claim, claim_begun, claim_wants, claim_accepts}
 use Rattle.source_machine.specs.Proper.{IsProper, has}
 use Rattle.caller_parts.specs.declared.routine.Routine.{Routine}
-use Rattle.caller_parts.specs.declared.routine.Routine.TheVariants.{Idle, LoadSeen, At, InList, Retires, Restarts, Clears, Claims, Zeroes}
+use Rattle.caller_parts.specs.declared.routine.Routine.TheVariants.{Idle, LoadSeen, At, InList, Retires, Restarts, Clears, Claims, Zeroes, Announces}
 use Rattle.caller_parts.specs.Settings.{Setting}
 use Rattle.caller_steps.specs.Entries.{instr_in}
 use Rattle.core_runs.specs.Machine.{CoreState, CoreEvent, core_run, core_start}
@@ -35,6 +35,7 @@ is_claiming (Retires retirement go) = false
 is_claiming Restarts = false
 is_claiming (Clears next) = false
 is_claiming (Zeroes k field) = false
+is_claiming (Announces announcing) = false
 
 -- caller 0 is in a claim before each of the events
 abbrev pub stays_in_claim : Target → Setting → List CoreEvent → CoreState → Bool

@@ -1,23 +1,20 @@
 -- The lines of a document's report, where its text is a shipped one, show calls that have a legal order.
-use Rattle.std.proofs.Common.{◌≡◌, ◌≢◌, ◌≤◌, ◌<◌, ℕ, zero, suc, ◌+◌, ◌==◌, Bool, true, false, List, [], ◌∷◌, ◌++◌, length, map, take, drop, Option, Some, None, inl, inr, ⊎_elim, refl, sym, ap, ◌∙◌, subst, arith}
-use Rattle.std.proofs.lemmas.List.{length-map, length-append, length-take-le}
-use Rattle.std.proofs.lemmas.Bool.{cases_lt}
+use Rattle.std.proofs.Common.{◌≡◌, ◌≢◌, ◌≤◌, ◌<◌, ℕ, zero, suc, ◌+◌, ◌==◌, Bool, true, false, List, [], ◌∷◌, ◌++◌, length, map, take, drop, Some, None, inl, inr, refl, sym, ap, ◌∙◌, subst, arith}
+use Rattle.std.proofs.lemmas.List.{length-map, length-append}
 use Rattle.std.proofs.lemmas.Bool.Decides.{nat_tests}
-use Rattle.std.specs.Prelude.{slice_get, slice_index, slice_index_or, if◌then◌else◌}
+use Rattle.std.specs.Prelude.{slice_get, slice_index, if◌then◌else◌}
 use Rattle.norm_lang.specs.declared.text.Op.{Op}
 use Rattle.source_machine.specs.declared.event.SourceReply.{SourceReply}
 use Rattle.source_machine.specs.declared.event.SourceReply.TheVariants as source_replies
-use Rattle.source_machine.specs.Run.{source_replies as replies_in}
 use Rattle.caller_parts.specs.declared.call.Call.{Call}
 use Rattle.caller_parts.specs.declared.call.Reply.{Reply}
 use Rattle.caller_parts.specs.declared.call.Reply.TheVariants as replies
 use Rattle.caller_parts.specs.declared.call.Running.{Running}
 use Rattle.caller_parts.specs.Pairing.{run_of}
-use Rattle.caller_steps.specs.Entries.{Entry, is_idle}
-use Rattle.core_runs.specs.Histories.{running_of, calls_in}
-use Rattle.core_runs.specs.Scripts.{script_of, AreOfScript, HasEnded}
-use Rattle.oa_simulation.specs.sim_relation.Callers.{source_reply, replies_of}
-use Rattle.oa_simulation.specs.Statements.{AgreesWith}
+use Rattle.caller_steps.specs.Entries.{Entry}
+use Rattle.core_runs.specs.Histories.{running_of}
+use Rattle.core_runs.specs.Scripts.{script_of, HasEnded}
+use Rattle.oa_simulation.specs.sim_relation.Callers.{source_reply}
 use Rattle.run_laws.specs.begin_laws.Begins.{BeginsScript}
 use Rattle.documents.specs.declared.document.ScriptCall.{ScriptCall}
 use Rattle.script_plans.specs.Shapes.{op_number}
@@ -27,11 +24,10 @@ use Rattle.document_runs.specs.declared.report.Answer.TheVariants as answers
 use Rattle.document_runs.specs.Reports.{lines_from, all_lines}
 use Rattle.histories.specs.declared.call.Call as told
 use Rattle.histories.specs.declared.call.Action.{Action}
-use Rattle.histories.specs.declared.call.Answer as shown
-use Rattle.histories.specs.declared.call.Answer.TheVariants.{NoEffect, Spent}
+use Rattle.histories.specs.declared.call.Answer.TheVariants.{Spent}
 use Rattle.histories.specs.Histories.{calls_of}
-use Rattle.legal_histories.specs.Told.{AnswerTold, IsAsked, AreTold}
-use Rattle.script_driver.specs.report_laws.Legal.{answer_shown, Shows, AreShown}
+use Rattle.legal_histories.specs.Told.{AnswerTold, AreTold, NeverBegun}
+use Rattle.script_driver.specs.report_laws.Legal.{answer_shown, AreShown}
 use Rattle.script_driver.proofs.report_laws.Naming.{AllAsk, EachAsks}
 
 -- ---- the calls that lines show
@@ -117,9 +113,7 @@ Front (x ∷ begun) (y ∷ calls) = (x ≡ y) × Front begun calls
 -- from the call at an index on, by the calls from there on that were begun, and their replies
 pub record Answered (answer : ℕ → Answer) (i : ℕ) (begun : List Call) (got : List SourceReply) : Type 0 where
   pub replied : (k j : ℕ) (reply : Reply) → k ≡ i + j → answer k ≡ answers.Replied reply → slice_get got j ≡ Some (source_reply reply)
-  pub spent : (k j : ℕ) → k ≡ i + j → answer k ≡ answers.Spent → j < length begun
   pub unreached : (k j : ℕ) → k ≡ i + j → answer k ≡ answers.Unreached → length begun ≤ j
-  pub few : length got ≤ length begun
 
 next_got : (got : List SourceReply) (j : ℕ) → slice_get (drop 1 got) j ≡ slice_get got (suc j)
 next_got [] j = refl
@@ -128,28 +122,21 @@ next_got (x ∷ got) j = refl
 later : (answer : ℕ → Answer) (i : ℕ) (x : Call) (begun : List Call) (got : List SourceReply) → Answered answer i (x ∷ begun) got → Answered answer (i + 1) begun (drop 1 got)
 later answer i x begun got h = record {
   replied = λ k j reply is a. next_got got j ∙ h.replied k (suc j) reply (omega (arith, is)) a;
-  spent = λ k j is a. let lt = h.spent k (suc j) (omega (arith, is)) a in omega (arith, lt);
   unreached = λ k j is a. let le = h.unreached k (suc j) (omega (arith, is)) a in omega (arith, le);
-  few = fewer got h.few;
-} where
-  fewer : (rs : List SourceReply) → length rs ≤ length (x ∷ begun) → length (drop 1 rs) ≤ length begun
-  fewer [] le = omega arith
-  fewer (r ∷ rs) le = omega (arith, le)
+}
 
 none_later : (answer : ℕ → Answer) (i : ℕ) → Answered answer i [] [] → Answered answer (i + 1) [] []
 none_later answer i h = record {
   replied = λ k j reply is a. h.replied k (suc j) reply (omega (arith, is)) a;
-  spent = λ k j is a. let lt = h.spent k (suc j) (omega (arith, is)) a in let no : ⊥ = omega (arith, lt) in absurd no;
   unreached = λ k j is a. omega arith;
-  few = omega arith;
 }
 
 -- ---- one call
 
-no_effect : (answer : ℕ → Answer) (i : ℕ) → Answered answer i [] [] → (a : Answer) → answer i ≡ a → answer_shown a ≡ NoEffect
-no_effect answer i h (answers.Replied reply) is = absurd (let z : None ≡ Some (source_reply reply) = h.replied i 0 reply (omega arith) is in cc)
-no_effect answer i h answers.Spent is = let lt = h.spent i 0 (omega arith) is in let no : ⊥ = omega (arith, lt) in absurd no
-no_effect answer i h answers.Unreached is = refl
+never_begun : (answer : ℕ → Answer) (i : ℕ) → Answered answer i [] [] → (a : Answer) → answer i ≡ a → NeverBegun (answer_shown a)
+never_begun answer i h (answers.Replied reply) is = absurd (let z : None ≡ Some (source_reply reply) = h.replied i 0 reply (omega arith) is in cc)
+never_begun answer i h answers.Spent is = inr refl
+never_begun answer i h answers.Unreached is = inl refl
 
 is_spent : (answer : ℕ → Answer) (i : ℕ) (x : Call) (begun : List Call) → Answered answer i (x ∷ begun) [] → (a : Answer) → answer i ≡ a → answer_shown a ≡ Spent
 is_spent answer i x begun h (answers.Replied reply) is = absurd (let z : None ≡ Some (source_reply reply) = h.replied i 0 reply (omega arith) is in cc)
@@ -183,63 +170,56 @@ module _ (action : ℕ → ℕ → Action) (ops : List Op) (c : ℕ) (answer : �
 
   pub are_told : (script : List ScriptCall) (i : ℕ) (begun : List Call) (got : List SourceReply) → Front begun (map (call_of ops) script) → Answered answer i begun got → AreTold action begun got (told_from action ops answer c i script)
   are_told [] i [] [] front h = tt
-  are_told [] i [] (r ∷ got) front h = let few = h.few in let no : ⊥ = omega (arith, few) in absurd no
+  are_told [] i [] (r ∷ got) front h = tt
   are_told [] i (x ∷ begun) got front h = absurd front
-  are_told (call ∷ script) i [] [] front h = (no_effect answer i h (answer i) refl, are_told script (i + 1) [] [] tt (none_later answer i h))
-  are_told (call ∷ script) i [] (r ∷ got) front h = let few = h.few in let no : ⊥ = omega (arith, few) in absurd no
+  are_told (call ∷ script) i [] [] front h = (never_begun answer i h (answer i) refl, are_told script (i + 1) [] [] tt (none_later answer i h))
+  are_told (call ∷ script) i [] (r ∷ got) front h = tt
   are_told (call ∷ script) i (x ∷ begun) [] front h = (asked x call front.0, is_spent answer i x begun h (answer i) refl, are_told script (i + 1) begun [] front.1 (later answer i x begun [] h))
   are_told (call ∷ script) i (x ∷ begun) (r ∷ got) front h = (asked x call front.0, answer_told answer i x begun r got h (answer i) refl, are_told script (i + 1) begun got front.1 (later answer i x begun (r ∷ got) h))
 
 -- ---- begun calls, and their count
 
-all_front : (calls : List Call) → Front calls calls
+pub all_front : (calls : List Call) → Front calls calls
 all_front [] = tt
 all_front (x ∷ calls) = (refl, all_front calls)
 
-take_front : (n : ℕ) (calls : List Call) → Front (take n calls) calls
+pub take_front : (n : ℕ) (calls : List Call) → Front (take n calls) calls
 take_front zero calls = tt
 take_front (suc n) [] = tt
 take_front (suc n) (x ∷ calls) = (refl, take_front n calls)
 
-few_taken : (fuel : ℕ) (script : List Call) (taken : List Running) → AreOfScript fuel script taken → length taken ≤ length script
-few_taken fuel script [] of = omega arith
-few_taken fuel [] (x ∷ taken) of = absurd of
-few_taken fuel (call ∷ script) (x ∷ taken) of = let more = few_taken fuel script taken of.2 in omega (arith, more)
+few_in : (n : ℕ) (calls : List Call) → length (take n calls) ≤ n
+few_in zero calls = omega arith
+few_in (suc n) [] = omega arith
+few_in (suc n) (x ∷ calls) = let more = few_in n calls in omega (arith, more)
 
--- what is begun of a script, by the calls that were taken
+-- what is begun of a script are its first calls, no more than were taken
 pub record Begun (script : List Call) (begun : List Call) (count : ℕ) : Type 0 where
   pub front : Front begun script
-  pub length : length begun ≡ count
+  pub few : length begun ≤ count
 
-pub begun_is : (fuel : ℕ) (e : Entry) (idle : Bool) (script : List Call) (taken : List Running) (begun : List Call) → map run_of e.replies ++ running_of idle e ≡ taken → AreOfScript fuel script taken
-    → HasEnded fuel script taken idle → BeginsScript idle script e begun → Begun script begun (length taken)
-begun_is fuel e true script taken begun kept of ended begins = record { front = subst (λ b. Front b script) (sym begins) (all_front script); length = ap length begins ∙ sym ended }
-begun_is fuel e false script taken begun kept of ended begins =
-    let few = few_taken fuel script taken of in
-    let count : length e.replies + 1 ≡ length taken = sym (length-append (map run_of e.replies) (e.running ∷ []) ∙ ap (λ n. n + 1) (length-map e.replies run_of)) ∙ ap length kept in
-    record {
-      front = subst (λ b. Front b script) (sym begins) (take_front (length e.replies + 1) script);
-      length = ap length begins ∙ (length-take-le (length e.replies + 1) script (omega (arith, few, count)) ∙ count);
-    }
+-- as many calls were taken as got a reply, and one that runs
+pub taken_is : (e : Entry) (idle : Bool) (taken : List Running) → map run_of e.replies ++ running_of idle e ≡ taken → length e.replies + length (running_of idle e) ≡ length taken
+taken_is e idle taken kept = sym (length-append (map run_of e.replies) (running_of idle e) ∙ ap (λ n. n + length (running_of idle e)) (length-map e.replies run_of)) ∙ ap length kept
 
-one_longer : (xs : List SourceReply) (x : SourceReply) → length (xs ++ x ∷ []) ≡ length xs + 1
-one_longer [] x = refl
-one_longer (y ∷ xs) x = let more = one_longer xs x in omega (arith, more)
+-- all of a script were begun
+pub begun_all : (fuel : ℕ) (script : List Call) (taken : List Running) (begun : List Call) → HasEnded fuel script taken true → begun ≡ script → Begun script begun (length taken)
+begun_all fuel script taken begun ended begins =
+    let same : length begun ≡ length taken = ap length begins ∙ sym ended in
+    record { front = subst (λ b. Front b script) (sym begins) (all_front script); few = omega (arith, same) }
 
--- no more replies than calls
-pub few_replies : (e : Entry) (idle : Bool) (taken : List Running) (got : List SourceReply) → map run_of e.replies ++ running_of idle e ≡ taken → AgreesWith idle (replies_of e) got → length got ≤ length taken
-few_replies e idle taken got kept agrees = by idle kept agrees
-  where
-    own : length (replies_of e) ≡ length e.replies
-    own = length-map e.replies (λ replied. source_reply replied.reply)
+-- so many of them, but one more than got a reply at most
+pub begun_some : (e : Entry) (script : List Call) (taken : List Running) (begun : List Call) (n : ℕ) → map run_of e.replies ++ running_of false e ≡ taken → begun ≡ take n script → n ≤ length e.replies + 1 → Begun script begun (length taken)
+begun_some e script taken begun n kept begins le =
+    let count = taken_is e false taken kept in
+    let few = few_in n script in
+    let same : length begun ≡ length (take n script) = ap length begins in
+    record { front = subst (λ b. Front b script) (sym begins) (take_front n script); few = omega (arith, count, few, same, le) }
 
-    taken_is : (b : Bool) → map run_of e.replies ++ running_of b e ≡ taken → length e.replies + length (running_of b e) ≡ length taken
-    taken_is b same = sym (length-append (map run_of e.replies) (running_of b e) ∙ ap (λ n. n + length (running_of b e)) (length-map e.replies run_of)) ∙ ap length same
-
-    by : (b : Bool) → map run_of e.replies ++ running_of b e ≡ taken → AgreesWith b (replies_of e) got → length got ≤ length taken
-    by true same is = let a = ap length is in let n = taken_is true same in let o = own in omega (arith, a, n, o)
-    by false same (inl is) = let a = ap length is in let n = taken_is false same in let o = own in omega (arith, a, n, o)
-    by false same (inr more) = let a = ap length more.1 in let l = one_longer (replies_of e) more.0 in let n = taken_is false same in let o = own in omega (arith, a, l, n, o)
+pub begun_is : (fuel : ℕ) (e : Entry) (idle : Bool) (script : List Call) (taken : List Running) (begun : List Call) → map run_of e.replies ++ running_of idle e ≡ taken → HasEnded fuel script taken idle → BeginsScript idle script e begun
+    → Begun script begun (length taken)
+begun_is fuel e true script taken begun kept ended begins = begun_all fuel script taken begun ended begins
+begun_is fuel e false script taken begun kept ended begins = begun_some e script taken begun (length e.replies + 1) kept begins (omega arith)
 
 pub script_there : (ops : List Op) (scripts : List (List ScriptCall)) (c : ℕ) (script : List ScriptCall) → slice_get scripts c ≡ Some script → script_of (map (map (call_of ops)) scripts) c ≡ map (call_of ops) script
 script_there ops [] c script there = absurd (let z : None ≡ Some script = there in cc)

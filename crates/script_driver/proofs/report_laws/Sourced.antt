@@ -110,7 +110,7 @@ pub has_source_run : (document : Document) (events : List CoreEvent) (state : Co
 has_source_run document events state may barred own fits some count complete proper =
     let pair : Paired = record { target = target_of document; source = document.text } in
     let sound : IsSound pair = record { small = may.small; normal = may.normal; within = may.within; barred = barred } in
-    let run = follows pair (setting_of document) sound own fits proper (calls_of document) document.fuel events state some complete in
+    let run = follows pair (setting_of document) sound own fits refl proper (calls_of document) document.fuel events state some complete in
     record {
       run = run;
       lines = every_line state (IsSourceLine (source_of document events)) (λ c i call e there. source_answer (source_of document events) state c e there (run.refined.agrees c e there) i) 0 document.scripts count;

@@ -2,10 +2,12 @@
 use Rattle.std.specs.Prelude.{◌≡◌, ◌↔◌, ℕ, List, None, slice_get}
 use Rattle.std.specs.List.{All}
 use Rattle.source_machine.specs.Proper.{IsProper}
+use Rattle.target_code.specs.declared.target.Target.{Target}
+use Rattle.caller_parts.specs.Settings.{Setting}
 use Rattle.caller_parts.specs.declared.call.Reply.TheVariants as replies
 use Rattle.core_runs.specs.Machine.{CoreState, CoreEvent}
 use Rattle.core_runs.specs.Histories.{calls_in}
-use Rattle.claim_laws.specs.CallSteps.{StepMade, steps_of_call}
+use Rattle.claim_laws.specs.CallSteps.{steps_of_call}
 use Rattle.claim_laws.specs.Causes.{FoundLastPhase, EndsInFailedLook}
 use Rattle.claim_laws.specs.Full.{FillAKind}
 use Rattle.documents.specs.declared.document.Document.{Document}
@@ -23,21 +25,20 @@ use Rattle.script_driver.specs.report_laws.Sources.{HasSourceRun, IsNamed}
 use Rattle.script_driver.specs.report_laws.Legal.{HasLegalHistory}
 use Rattle.script_driver.specs.report_laws.Shipped.{ShippedIsNeverFull}
 
--- the steps that were made in a run of a document for a caller's call
-abbrev pub steps_for : Document → List CoreEvent → ℕ → ℕ → List StepMade
-steps_for document events caller index = steps_of_call (target_of document) (setting_of document) events caller index
-
 -- the caller took fewer calls
 abbrev pub WasNeverTaken : List CoreEvent → ℕ → ℕ → Type 0
 WasNeverTaken events caller index = slice_get (calls_in caller events) index ≡ None
 
 -- why a call has no result, each exactly where this is so: a sweep of the call found the last phase; its claim made two sweeps, and then
 -- found no slot of its kind on top; all the steps that it may make were made, and it hasn't ended; or its caller never took it
-pub record IsTrueAnswer (document : Document) (events : List CoreEvent) (state : CoreState) (caller index : ℕ) (answer : Answer) : Type 0 where
-  pub phases : (p : ℕ) → (answer ≡ answers.Replied (replies.Phases p)) ↔ FoundLastPhase (setting_of document) p (steps_for document events caller index)
-  pub full : (answer ≡ answers.Replied replies.Full) ↔ EndsInFailedLook (steps_for document events caller index)
-  pub spent : (answer ≡ answers.Spent) ↔ IsOutOfFuel document.fuel events state caller index
+pub record IsCausedAnswer (target : Target) (setting : Setting) (fuel : ℕ) (events : List CoreEvent) (state : CoreState) (caller index : ℕ) (answer : Answer) : Type 0 where
+  pub phases : (p : ℕ) → (answer ≡ answers.Replied (replies.Phases p)) ↔ FoundLastPhase setting p (steps_of_call target setting events caller index)
+  pub full : (answer ≡ answers.Replied replies.Full) ↔ EndsInFailedLook (steps_of_call target setting events caller index)
+  pub spent : (answer ≡ answers.Spent) ↔ IsOutOfFuel fuel events state caller index
   pub unreached : (answer ≡ answers.Unreached) ↔ WasNeverTaken events caller index
+
+abbrev pub IsTrueAnswer : Document → List CoreEvent → CoreState → ℕ → ℕ → Answer → Type 0
+IsTrueAnswer document events state caller index answer = IsCausedAnswer (target_of document) (setting_of document) document.fuel events state caller index answer
 
 abbrev pub IsTrueLine : Document → List CoreEvent → CoreState → ReportLine → Type 0
 IsTrueLine document events state line = IsTrueAnswer document events state line.caller line.index line.answer

@@ -23,7 +23,6 @@ use Rattle.core_runs.proofs.Reaching.{reaches}
 use Rattle.word_runner.proofs.table_rule.Rows.{taking, stepping}
 use Rattle.core_runs.proofs.caller_laws.Stored.{after_store}
 use Rattle.word_runner.proofs.table_rule.Rows.{no_place, told_lawful}
-use Rattle.core_entries.proofs.Calling.{runnable}
 use Rattle.word_runner.specs.table_rule.Seen.{Fixed, IsGround, SeatView}
 use Rattle.word_runner.specs.table_rule.Rule.{IsReached, callers_of, IsPlace, times, held, AllHere, IsSeen, Shows, Holds}
 use Rattle.word_runner.specs.table_rule.Plays.{wish, next, IsTold, Belonging, with_accesses, with_entry, Made, InHand, CanGo}
@@ -35,7 +34,7 @@ abbrev pub place_of : Fixed → WordAccess → ℕ
 place_of key a = address_of key.setting.sizes (word_of a)
 
 pub sound : (key : Fixed) (core : CoreState) → IsGround key → IsReached key core → IsSound key.target.target key.setting core
-sound key core good reachable = states_are_sound key.target.target key.target.source key.setting core (runnable key.target good.sound) good.own good.fits reachable
+sound key core good reachable = states_are_sound key.target.target key.target.source key.setting core good.runs good.own good.fits reachable
 
 -- the machine with the entry in hand
 abbrev with_hand : CoreState → ℕ → Entry → CoreState
@@ -46,13 +45,13 @@ hand_reachable key core base e c r is hand =
     ⊎_elim
     (λ (h : e ≡ base). let k : set core.entries c e ≡ core.entries = ap (λ (x : Entry). set core.entries c x) h ∙ set_again core.entries c base is in
     subst (λ (es : List Entry). IsReached key (record { words = core.words; entries = es })) (sym k) r)
-    (λ (h : (is_idle base.routine ≡ true) × ((call : Call) × (is_call key.target.target call ≡ true) × (e ≡ taken call base))).
+    (λ (h : (is_idle base.routine ≡ true) × ((call : Call) × (is_call key.target.target call ≡ true) × (e ≡ taken key.setting.reclamation call base))).
     subst (λ (x : Entry). IsReached key (with_hand core c x)) (sym h.1.2)
-    (reaches key.target.target key.setting core (with_hand core c (taken h.1.0 base)) (Takes c h.1.0) r (taking key.target.target key.setting core c h.1.0 base is h.0 h.1.1)))
+    (reaches key.target.target key.setting core (with_hand core c (taken key.setting.reclamation h.1.0 base)) (Takes c h.1.0) r (taking key.target.target key.setting core c h.1.0 base is h.0 h.1.1)))
     hand
 
 hand_number : (key : Fixed) (base e : Entry) → InHand key base e → e.number ≡ base.number
-hand_number key base e hand = ⊎_elim (λ (h : e ≡ base). ap (λ (x : Entry). x.number) h) (λ (h : (is_idle base.routine ≡ true) × ((call : Call) × (is_call key.target.target call ≡ true) × (e ≡ taken call base))). ap (λ (x : Entry). x.number) h.1.2) hand
+hand_number key base e hand = ⊎_elim (λ (h : e ≡ base). ap (λ (x : Entry). x.number) h) (λ (h : (is_idle base.routine ≡ true) × ((call : Call) × (is_call key.target.target call ≡ true) × (e ≡ taken key.setting.reclamation call base))). ap (λ (x : Entry). x.number) h.1.2) hand
 
 -- the machine after the step of the entry in hand
 abbrev next_core : Fixed → CoreState → ℕ → Entry → WordAccess → CoreState
@@ -70,7 +69,7 @@ next_reachable key core base e c a r is hand want =
 -- what is wanted is safe: in the row, and at no place
 pub safe : (key : Fixed) (e : Entry) (a : WordAccess) → IsGround key → Belonging key e → is_idle e.routine ≡ false → wish key e ≡ Some a → IsSafe key.target.target key.setting a
 safe key e a good b busy want = subst (λ (o : Option WordAccess). AsksSafely key.target.target key.setting o) want
-    ((asks_safe key.target.target key.target.source key.setting (runnable key.target good.sound) good.own good.fits).busy e b.belongs busy)
+    ((asks_safe key.target.target key.target.source key.setting good.runs good.own good.fits).busy e b.belongs busy)
 
 not_place : (key : Fixed) (a : WordAccess) → IsSafe key.target.target key.setting a → ¬ IsPlace (callers_of key) (place_of key a)
 not_place key a s p = of (place_of key a) refl p where

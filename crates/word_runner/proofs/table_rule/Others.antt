@@ -19,7 +19,6 @@ use Rattle.core_runs.specs.core_sound.Sound.{IsSound}
 use Rattle.core_runs.proofs.Reaching.{starts}
 use Rattle.core_runs.proofs.Keeping.{idle_there}
 use Rattle.word_runner.proofs.table_rule.Rows.{place_free}
-use Rattle.core_entries.proofs.Calling.{runnable}
 use Rattle.word_runner.specs.table_rule.Seen.{Fixed, IsGround, SeatView, nobody, newcomer}
 use Rattle.word_runner.specs.table_rule.Rule.{IsReached, callers_of, IsPlace, times, held, AllHere, IsSeen, Shows, Holds}
 use Rattle.word_runner.specs.table_rule.Parts.{doubled, IsPart}
@@ -159,7 +158,7 @@ opens key words good is =
         count = (sound key first good begun).count;
         seen = λ by v e. subst (IsSeen key first.words first.entries) (first_view key by v e) (record { fixed = λ _. refl; within = omega arith; places = λ k lt. absurd (omega arith); here = tt });
         same = λ i no'. refl;
-        placed = λ i lt. place_free key.target.target key.target.source key.setting i (runnable key.target good.sound) good.own good.fits lt;
+        placed = λ i lt. place_free key.target.target key.target.source key.setting i good.runs good.own good.fits lt;
         once = λ i lt. omega arith;
         absent = λ i lt none'. idle_there 0 (callers_of key) i lt ∙ ap (λ (j : ℕ). Some (idle_entry j)) (omega arith);
       };

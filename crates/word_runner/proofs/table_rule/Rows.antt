@@ -45,9 +45,9 @@ place_free target text setting c runs own fits lt =
 -- ---- events
 
 pub taking : (target : Target) (setting : Setting) (state : CoreState) (c : ℕ) (call : Call) (e : Entry) → slice_get state.entries c ≡ Some e → is_idle e.routine ≡ true → is_call target call ≡ true
-    → core_event target setting state (Takes c call) ≡ Some (record state { entries = slice_set state.entries c (taken call e) })
+    → core_event target setting state (Takes c call) ≡ Some (record state { entries = slice_set state.entries c (taken setting.reclamation call e) })
 taking target setting state c call e there idle is =
-    let later : Option CoreState = Some (record state { entries = slice_set state.entries c (taken call e) }) in
+    let later : Option CoreState = Some (record state { entries = slice_set state.entries c (taken setting.reclamation call e) }) in
     ap (event_by target setting state (Takes c call)) there
     ∙ (ap (λ (b : Bool). if b && is_call target call then later else None) idle ∙ ap (λ (b : Bool). if true && b then later else None) is)
 

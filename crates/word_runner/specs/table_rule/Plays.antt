@@ -42,9 +42,13 @@ Steps key e words e' = Advances key.target.target key.setting e words e'
 abbrev pub Belonging : Fixed → Entry → Type 0
 Belonging key e = BelongsTo key.target key.setting e
 
+-- the empty entry of each caller does
+pub record NewcomersBelong (key : Fixed) : Type 0 where
+  pub each : (c : ℕ) → c < callers_of key → Belonging key (idle_entry c)
+
 -- the entry itself, or with a call that it takes
 abbrev pub InHand : Fixed → Entry → Entry → Type 0
-InHand key base e = (e ≡ base) ⊎ ((is_idle base.routine ≡ true) × ((call : Call) × (is_call key.target.target call ≡ true) × (e ≡ taken call base)))
+InHand key base e = (e ≡ base) ⊎ ((is_idle base.routine ≡ true) × ((call : Call) × (is_call key.target.target call ≡ true) × (e ≡ taken key.setting.reclamation call base)))
 
 -- ---- counting: each kind of step is one access more that was made through its seat
 

@@ -1,8 +1,10 @@
 -- What a seat at the table knows.
-use Rattle.std.specs.Prelude.{ℕ, Bool, true, false, List, [], ◌∷◌}
+use Rattle.std.specs.Prelude.{◌≡◌, ℕ, Bool, true, false, List, [], ◌∷◌}
 use Rattle.barrier_check.specs.Paired.{Paired, IsSound}
 use Rattle.caller_parts.specs.Settings.{Setting, Fits, IsSetting}
+use Rattle.caller_parts.specs.declared.setting.Reclamation.TheVariants.{Optimistic}
 use Rattle.caller_steps.specs.Entries.{Entry}
+use Rattle.core_entries.specs.Running.{MayRun}
 use Rattle.norm_lang.specs.LineWords.{item_kind}
 
 -- what a table is told once: the target with its source, and the setting
@@ -10,9 +12,10 @@ pub record Fixed : Type 0 where
   pub target : Paired
   pub setting : Setting
 
--- the target is barred for its source, and the setting fits it
+-- callers may run the target, which is barred for its source where access is optimistic, and the setting fits it
 pub record IsGround (key : Fixed) : Type 0 where
-  pub sound : IsSound key.target
+  pub runs : MayRun key.target
+  pub sound : key.setting.reclamation ≡ Optimistic → IsSound key.target
   pub own : IsSetting key.setting
   pub fits : Fits key.target.target key.setting
 
@@ -36,7 +39,7 @@ newcomer key = record { live = true; fixed = key; entries = []; found = 0; acces
 abbrev pub no_fixed : Fixed
 no_fixed = record {
   target = record { target = record { kinds = item_kind ∷ []; fields = []; roots = []; nodes = []; ops = [] }; source = record { kinds = item_kind ∷ []; fields = []; roots = []; nodes = []; ops = [] } };
-  setting = record { sizes = record { callers = 0; slots = 0; fields = 0; cells = 0; kinds = [] }; first = 0; last = 0; nodes = [] };
+  setting = record { reclamation = Optimistic; sizes = record { callers = 0; slots = 0; fields = 0; cells = 0; kinds = [] }; first = 0; last = 0; nodes = [] };
 }
 
 -- what is left of a seat that was joined away

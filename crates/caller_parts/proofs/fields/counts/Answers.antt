@@ -1,4 +1,4 @@
-use Rattle.std.proofs.Common.{ℕ, ◌<◌, ◌≡◌, length, set, arith, length-set, ◌∙◌}
+use Rattle.std.proofs.Common.{◌<◌, length, arith, length-set, ◌∙◌}
 use Rattle.caller_parts.specs.KindCounts.{field_count}
 use Rattle.caller_parts.proofs.Tables.{one_more}
 use Rattle.caller_parts.proofs.fields.counts.Goals as goal

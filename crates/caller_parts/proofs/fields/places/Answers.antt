@@ -1,4 +1,4 @@
-use Rattle.std.proofs.Common.{ℕ, ◌<◌, ◌≡◌, length, set, arith, length-set, ◌∙◌}
+use Rattle.std.proofs.Common.{◌<◌, length, arith, length-set, ◌∙◌}
 use Rattle.norm_lang.specs.KindFields.{place_of}
 use Rattle.caller_parts.proofs.Tables.{one_more}
 use Rattle.caller_parts.proofs.fields.places.Goals as goal

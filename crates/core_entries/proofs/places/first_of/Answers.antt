@@ -1,4 +1,4 @@
-use Rattle.std.proofs.Common.{◌≡◌, ◌≤◌, min, length, ap, ◌∙◌, arith}
+use Rattle.std.proofs.Common.{◌≡◌, min, length, ap, ◌∙◌, arith}
 use Rattle.oa_words.specs.Words.{Sizes}
 use Rattle.oa_words.specs.SlotKinds.{slots_of, first_of}
 use Rattle.core_entries.proofs.Placing.{first_none, first_more, first_few, first_whole}

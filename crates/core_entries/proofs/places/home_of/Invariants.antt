@@ -1,4 +1,4 @@
-use Rattle.std.proofs.Common.{◌≡◌, ◌≤◌, ◌<◌, ◌-◌}
+use Rattle.std.proofs.Common.{◌≤◌, ◌<◌, ◌-◌}
 use Rattle.core_entries.proofs.Placing.{Searched}
 use Rattle.core_entries.proofs.places.home_of.Given as goal
 

@@ -1,6 +1,6 @@
 use Rattle.std.proofs.Common.{true, sym, ap, ◌∙◌}
 use Rattle.std.specs.Prelude.{slice_set}
-use Rattle.guard_words.specs.Guards.{Guards, next_to_clear}
+use Rattle.guard_words.specs.Guards.{next_to_clear}
 use Rattle.caller_steps.specs.Entries.{RoomyEntry}
 use Rattle.core_entries.proofs.SecondClear.{second}
 use Rattle.core_entries.proofs.signs.restart_after.Goals as goal

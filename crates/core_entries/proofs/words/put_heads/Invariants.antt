@@ -1,4 +1,4 @@
-use Rattle.std.proofs.Common.{◌≡◌, ◌++◌, ◌+◌, ◌-◌}
+use Rattle.std.proofs.Common.{◌≡◌, ◌++◌, ◌-◌}
 use Rattle.oa_words.specs.Starts.{start_heads}
 use Rattle.core_entries.specs.Starts.{bare_start}
 use Rattle.core_entries.proofs.words.put_heads.Given as goal

@@ -7,6 +7,9 @@ returns-in-Run g c = search rules
 pub returns-in-Replay : goal.returns-in-Replay
 returns-in-Replay g c = search rules
 
+pub returns-in-Epochs : goal.returns-in-Epochs
+returns-in-Epochs g c = search rules
+
 pub returns-in-Check : goal.returns-in-Check
 returns-in-Check g c = search rules
 

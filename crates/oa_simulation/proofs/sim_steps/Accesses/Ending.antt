@@ -29,11 +29,12 @@ use Rattle.oa_simulation.proofs.sim_relation.Moving.{goes_same}
 use Rattle.oa_simulation.proofs.sim_steps.Exchanges.Exchanging.{Offers, tests_agree}
 use Rattle.oa_simulation.proofs.sim_steps.Walks.Committing.{list_ends}
 use Rattle.oa_simulation.proofs.sim_steps.Accesses.Failing.{fails_stay}
+use Rattle.caller_parts.specs.declared.setting.Reclamation.TheVariants.{Optimistic}
 
 pub entry_fails : (t : Plan) (c : ℕ) (s : Shared) (x : Caller) (k : ℕ) (entry : CasEntry) (entries : List CasEntry) → IsPlan t → SharedHolds t s → Base t s c x → (w : InExecutor t s c x k)
     → slice_get (code_in w.0.walk.method) x.entry.hand.at ≡ Some (Plain (instr.Commit entries)) → slice_get (list_of (instr_in t.target x.entry)) k ≡ Some entry
     → Offers t s c x.entry.hand.registers w.0.mirror entry → exchange t.text.fields entry w.0.mirror s.source ≡ None
-    → Kept t c s x (after_access s.memory (exchange_wanted t.target.fields entry x.entry.hand.registers)) (entry_made t.target t.setting.sizes k entry (s.memory (word_of (exchange_wanted t.target.fields entry x.entry.hand.registers))) (counted x.entry))
+    → Kept t c s x (after_access s.memory (exchange_wanted t.target.fields entry x.entry.hand.registers)) (entry_made Optimistic t.target t.setting.sizes k entry (s.memory (word_of (exchange_wanted t.target.fields entry x.entry.hand.registers))) (counted x.entry))
 entry_fails t c s x k entry entries plan f b w here there offers none =
     let m = w.0 in
     let list : List CasEntry = list_of (instr_in t.target x.entry) in
@@ -57,7 +58,7 @@ entry_fails t c s x k entry entries plan f b w here there offers none =
     let ended = list_ends t s c y k entries plan base committed here in
     let fails : succeeds entry x.entry.hand.registers (s.memory (word_of (exchange_wanted t.target.fields entry x.entry.hand.registers))) ≡ false = tests_agree t s c x.entry.hand.registers m.mirror entry plan.null f offers ∙ ap is_some none in
     subst (λ (z : Bool). Kept t c s x (after_access s.memory (exchange_wanted t.target.fields entry x.entry.hand.registers))
-    (told (Accesses ∷ []) (if z then retires_then t.target t.setting.sizes (onward.List k) (to_retire entry.retire x.entry.hand.registers) (with_published entry.replacement (counted x.entry)) else quiet (list_ended t.target t.setting.sizes k (counted x.entry))))) (sym fails) (record {
+    (told (Accesses ∷ []) (if z then retires_then Optimistic t.target t.setting.sizes (onward.List k) (to_retire entry.retire x.entry.hand.registers) (with_published entry.replacement (counted x.entry)) else quiet (list_ended t.target t.setting.sizes k (counted x.entry))))) (sym fails) (record {
       s' = s;
       x' = ended.x';
       memory = fails_stay t.target.fields s.memory entry x.entry.hand.registers fails;

@@ -67,6 +67,7 @@ use Rattle.oa_simulation.proofs.sim_steps.Exchanges.Dropping.{Drops, drops, unta
 use Rattle.oa_simulation.proofs.sim_steps.Accesses.Ending.{entry_fails}
 use Rattle.oa_simulation.proofs.sim_steps.Accesses.Objects.{object_openly}
 use Rattle.oa_simulation.proofs.sim_relation.Moving.{same_names}
+use Rattle.caller_parts.specs.declared.setting.Reclamation.TheVariants.{Optimistic}
 
 -- the source's caller is before the exchange, and what the exchange asks of its registers holds
 pub list_asked : (t : Plan) (s : Shared) (c : ℕ) (x : Caller) (m : Trail t) (k : ℕ) (entry : CasEntry) → IsNormal t.text → Walks t s c x (spot_of x.entry.hand) m
@@ -266,16 +267,16 @@ enters_at t c s s' x m k entry entries w passes after = record {
 abbrev pub EntryKept : (t : Plan) (c : ℕ) (s : Shared) (x : Caller) (k : ℕ) (entry : CasEntry) → ℕ → Type 0
 EntryKept t c s x k entry j =
     Kept t c s x (after_access s.memory (exchange_wanted t.target.fields entry x.entry.hand.registers))
-    (told (Accesses ∷ []) (retires_then t.target t.setting.sizes (onward.List k) j (record (counted x.entry) { cradles = cradles_after entry.replacement x.entry.hand.registers x.entry.cradles })))
+    (told (Accesses ∷ []) (retires_then Optimistic t.target t.setting.sizes (onward.List k) j (record (counted x.entry) { cradles = cradles_after entry.replacement x.entry.hand.registers x.entry.cradles })))
 
 by_retirement : (t : Plan) (c : ℕ) (s : Shared) (x : Caller) (m : Trail t) (k : ℕ) (entry : CasEntry) (entries : List CasEntry) (after : Memory) (j : ℕ) → Tries t c s x m k entry entries → exchange t.text.fields entry m.mirror s.source ≡ Some after
     → to_retire entry.retire x.entry.hand.registers ≡ j → EntryKept t c s x k entry j
-    → Kept t c s x (after_access s.memory (exchange_wanted t.target.fields entry x.entry.hand.registers)) (entry_made t.target t.setting.sizes k entry (s.memory (word_of (exchange_wanted t.target.fields entry x.entry.hand.registers))) (counted x.entry))
+    → Kept t c s x (after_access s.memory (exchange_wanted t.target.fields entry x.entry.hand.registers)) (entry_made Optimistic t.target t.setting.sizes k entry (s.memory (word_of (exchange_wanted t.target.fields entry x.entry.hand.registers))) (counted x.entry))
 by_retirement t c s x m k entry entries after j w some slot kept =
     let succeeded : succeeds entry x.entry.hand.registers (s.memory (word_of (exchange_wanted t.target.fields entry x.entry.hand.registers))) ≡ true = tests_agree t s c x.entry.hand.registers m.mirror entry w.before.plan.null w.before.shared_holds w.offers ∙ ap is_some some in
     subst (λ (z : Bool). Kept t c s x (after_access s.memory (exchange_wanted t.target.fields entry x.entry.hand.registers))
-    (told (Accesses ∷ []) (if z then retires_then t.target t.setting.sizes (onward.List k) (to_retire entry.retire x.entry.hand.registers) (with_published entry.replacement (counted x.entry)) else quiet (list_ended t.target t.setting.sizes k (counted x.entry))))) (sym succeeded)
-    (subst (λ (e : Entry). Kept t c s x (after_access s.memory (exchange_wanted t.target.fields entry x.entry.hand.registers)) (told (Accesses ∷ []) (retires_then t.target t.setting.sizes (onward.List k) (to_retire entry.retire x.entry.hand.registers) e))) (sym (published_entry entry.replacement (counted x.entry)))
+    (told (Accesses ∷ []) (if z then retires_then Optimistic t.target t.setting.sizes (onward.List k) (to_retire entry.retire x.entry.hand.registers) (with_published entry.replacement (counted x.entry)) else quiet (list_ended t.target t.setting.sizes k (counted x.entry))))) (sym succeeded)
+    (subst (λ (e : Entry). Kept t c s x (after_access s.memory (exchange_wanted t.target.fields entry x.entry.hand.registers)) (told (Accesses ∷ []) (retires_then Optimistic t.target t.setting.sizes (onward.List k) (to_retire entry.retire x.entry.hand.registers) e))) (sym (published_entry entry.replacement (counted x.entry)))
     (subst (λ (i : ℕ). EntryKept t c s x k entry i) (sym slot) kept))
 
 -- where nothing is retired the next entry follows, or the wrap-up's start
@@ -402,10 +403,10 @@ retired_kept t c s s1 x m k entry entries after n d is j home =
         (λ i new. ⊎_elim (λ (was : has i s1.source.retired ≡ true). inl (subst (λ (ns : List ℕ). has i ns ≡ true) d.retired was)) (λ (now : i ≡ suc n). inr (ap t.home now ∙ home)) (has_last i (suc n) s1.source.retired new))
 
 made_kept : (t : Plan) (c : ℕ) (s s1 : Shared) (x : Caller) (m : Trail t) (k : ℕ) (entry : CasEntry) (entries : List CasEntry) (after : Memory) → Done t c s x m k entry entries (name_of (value_in m.mirror entry.replacement)) s1 after
-    → Kept t c s x (after_access s.memory (exchange_wanted t.target.fields entry x.entry.hand.registers)) (entry_made t.target t.setting.sizes k entry (s.memory (word_of (exchange_wanted t.target.fields entry x.entry.hand.registers))) (counted x.entry))
+    → Kept t c s x (after_access s.memory (exchange_wanted t.target.fields entry x.entry.hand.registers)) (entry_made Optimistic t.target t.setting.sizes k entry (s.memory (word_of (exchange_wanted t.target.fields entry x.entry.hand.registers))) (counted x.entry))
 made_kept t c s s1 x m k entry entries after d = by_drop (to_drop entry.retire m.mirror) refl where
   by_drop : (n : ℕ) → to_drop entry.retire m.mirror ≡ n
-      → Kept t c s x (after_access s.memory (exchange_wanted t.target.fields entry x.entry.hand.registers)) (entry_made t.target t.setting.sizes k entry (s.memory (word_of (exchange_wanted t.target.fields entry x.entry.hand.registers))) (counted x.entry))
+      → Kept t c s x (after_access s.memory (exchange_wanted t.target.fields entry x.entry.hand.registers)) (entry_made Optimistic t.target t.setting.sizes k entry (s.memory (word_of (exchange_wanted t.target.fields entry x.entry.hand.registers))) (counted x.entry))
   by_drop zero none = by_retirement t c s x m k entry entries after 0 d.tries d.makes (d.drops.slot ∙ (ap t.home none ∙ d.tries.before.plan.null))
       (keeps_on t c s s1 x m k entry entries d.tries d.passes (d.makes ∙ ap Some (d.after_is ∙ ap (λ (n : ℕ). with_name_retired n s1.source) none)) (sym d.memory) d.unused (λ i l. d.present l i) (λ i is. subst (λ (ns : List ℕ). has i ns ≡ true) d.retired is))
   by_drop (suc n) is =
@@ -414,10 +415,10 @@ made_kept t c s s1 x m k entry entries after d = by_drop (to_drop entry.retire m
 
 -- an exchange of a list, whether it fails or succeeds, and whatever it retires
 pub entry_step : (t : Plan) (c : ℕ) (s : Shared) (x : Caller) (k : ℕ) (entry : CasEntry) → AtEntry t c s x k entry
-    → Kept t c s x (after_access s.memory (exchange_wanted t.target.fields entry x.entry.hand.registers)) (entry_made t.target t.setting.sizes k entry (s.memory (word_of (exchange_wanted t.target.fields entry x.entry.hand.registers))) (counted x.entry))
+    → Kept t c s x (after_access s.memory (exchange_wanted t.target.fields entry x.entry.hand.registers)) (entry_made Optimistic t.target t.setting.sizes k entry (s.memory (word_of (exchange_wanted t.target.fields entry x.entry.hand.registers))) (counted x.entry))
 entry_step t c s x k entry w = by_spot (subst (λ (r : Routine). HoldsAt t s c x r) w.at w.caller_holds.spot) (commit_there (instr_in t.target x.entry) k entry w.here) where
   by_spot : InExecutor t s c x k → (entries : List CasEntry) × (instr_in t.target x.entry ≡ Some (Plain (instr.Commit entries)))
-      → Kept t c s x (after_access s.memory (exchange_wanted t.target.fields entry x.entry.hand.registers)) (entry_made t.target t.setting.sizes k entry (s.memory (word_of (exchange_wanted t.target.fields entry x.entry.hand.registers))) (counted x.entry))
+      → Kept t c s x (after_access s.memory (exchange_wanted t.target.fields entry x.entry.hand.registers)) (entry_made Optimistic t.target t.setting.sizes k entry (s.memory (word_of (exchange_wanted t.target.fields entry x.entry.hand.registers))) (counted x.entry))
   by_spot spot commit =
       let m = spot.0 in
       let here = sym (instr_is t s c x (spot_of x.entry.hand) spot.0 spot.1) ∙ commit.1 in
@@ -439,7 +440,7 @@ entry_step t c s x k entry w = by_spot (subst (λ (r : Routine). HoldsAt t s c x
       by_result spot commit.0 tries (exchange t.text.fields entry spot.0.mirror s.source) refl
     where
       by_result : (spot : InExecutor t s c x k) (entries : List CasEntry) → Tries t c s x spot.0 k entry entries → (o : Option Memory) → exchange t.text.fields entry spot.0.mirror s.source ≡ o
-          → Kept t c s x (after_access s.memory (exchange_wanted t.target.fields entry x.entry.hand.registers)) (entry_made t.target t.setting.sizes k entry (s.memory (word_of (exchange_wanted t.target.fields entry x.entry.hand.registers))) (counted x.entry))
+          → Kept t c s x (after_access s.memory (exchange_wanted t.target.fields entry x.entry.hand.registers)) (entry_made Optimistic t.target t.setting.sizes k entry (s.memory (word_of (exchange_wanted t.target.fields entry x.entry.hand.registers))) (counted x.entry))
       by_result spot entries tries None none = entry_fails t c s x k entry entries w.plan w.shared_holds w.caller_holds.base spot tries.here w.here tries.offers none
       by_result spot entries tries (Some after) some =
           made_kept t c s (placed t (published_if t s (name_of (value_in spot.0.mirror entry.replacement))) spot.0.mirror entry.place (value_in spot.0.mirror entry.replacement)) x spot.0 k entry entries after (is_done t c s x spot.0 k entry entries after tries some)

@@ -46,6 +46,7 @@ use Rattle.oa_simulation.proofs.sim_steps.Guards.Unguarding.{counted_caller}
 use Rattle.oa_simulation.proofs.sim_steps.Walks.Accessing.{Makes, turns, turned, took, base_turned, walks_turned, stands_took}
 use Rattle.oa_simulation.proofs.sim_steps.Accesses.Loads.{made_by}
 use Rattle.oa_simulation.proofs.sim_steps.Accesses.Puts.{Reads}
+use Rattle.caller_parts.specs.declared.setting.Reclamation.TheVariants.{Optimistic}
 
 -- where it fails the words stay
 stays : (m : Word → ℕ) (w : Word) (e r : ℕ) (b : Bool) → (m w == e) ≡ b → b ≡ false → m ≡ store m w (if m w == e then r else m w)
@@ -108,7 +109,7 @@ failure_takes t s c x m entry l accessed w st guards none marked =
 -- a failed auxiliary exchange, and the local code after it
 pub failure_kept : (t : Plan) (c : ℕ) (s : Shared) (x : Caller) (entry : CasEntry) (l : ℕ) → IsPlan t → SharedHolds t s → Base t s c x → (walk : Running t s c x (spot_of x.entry.hand))
     → slice_get (code_in walk.0.walk.method) x.entry.hand.at ≡ Some (Plain (instr.Cas entry l)) → Offers t s c x.entry.hand.registers walk.0.mirror entry → exchange t.text.fields entry walk.0.mirror s.source ≡ None
-    → KeptSetting t c s x (set_plain t.target (instr.Cas entry l) (s.memory (word_of (exchange_wanted t.target.fields entry x.entry.hand.registers))) x.entry x.was_set) (after_access s.memory (exchange_wanted t.target.fields entry x.entry.hand.registers)) (plain_accepted t.target t.setting.sizes (instr.Cas entry l) (s.memory (word_of (exchange_wanted t.target.fields entry x.entry.hand.registers))) (counted x.entry))
+    → KeptSetting t c s x (set_plain t.target (instr.Cas entry l) (s.memory (word_of (exchange_wanted t.target.fields entry x.entry.hand.registers))) x.entry x.was_set) (after_access s.memory (exchange_wanted t.target.fields entry x.entry.hand.registers)) (plain_accepted Optimistic t.target t.setting.sizes (instr.Cas entry l) (s.memory (word_of (exchange_wanted t.target.fields entry x.entry.hand.registers))) (counted x.entry))
 failure_kept t c s x entry l plan f base walk here offers none =
     let y = counted_caller x in
     let moves = running_moved t s c x (spot_of x.entry.hand) (one_more x.entry.running.steps) x.entry.counts x.entry.routine walk in
@@ -121,7 +122,7 @@ failure_kept t c s x entry l plan f base walk here offers none =
     let ended = settles_ends t s c (made_by x z.source z.watch z.held x.was_set) next plan f taken.1.0 taken.1.1 in
     let e = with_access (counted x.entry) in
     subst (λ (b : Bool). KeptSetting t c s x (set_exchanged t.target entry l x.entry x.was_set b) (after_access s.memory (exchange_wanted t.target.fields entry x.entry.hand.registers))
-    (told (Accesses ∷ []) (if b then retires_then t.target t.setting.sizes onward.Next (to_retire entry.retire x.entry.hand.registers) e else cas_failed t.target t.setting.sizes l e))) (sym fails) (record {
+    (told (Accesses ∷ []) (if b then retires_then Optimistic t.target t.setting.sizes onward.Next (to_retire entry.retire x.entry.hand.registers) e else cas_failed Optimistic t.target t.setting.sizes l e))) (sym fails) (record {
       s' = s;
       x' = ended.x';
       memory = fails_stay t.target.fields s.memory entry x.entry.hand.registers fails;

@@ -77,6 +77,7 @@ use Rattle.oa_simulation.proofs.sim_steps.Guards.Residents.{hoped_resident}
 use Rattle.oa_simulation.proofs.sim_steps.Walks.Stopping.{settles_ends}
 use Rattle.oa_simulation.proofs.sim_steps.Guards.Unguarding.{counted_caller}
 use Rattle.oa_simulation.proofs.sim_steps.Walks.Accessing.{Makes, turns, turned, took, base_turned, walks_turned, stands_took}
+use Rattle.caller_parts.specs.declared.setting.Reclamation.TheVariants.{Optimistic}
 
 -- ---- a word as a register sees it
 
@@ -271,10 +272,10 @@ load_got text (instr.LoadPick e z n a) d place mirror memory is = (same_name (lo
 load_got text (instr.LoadField e a f) d place mirror memory is = (same_name (loaded text (instr.LoadField e a f) mirror memory)).1
 load_got text _ d place mirror memory is = absurd (let never : None ≡ Some d = is in cc)
 
-load_accepted : (t : Plan) (i : Instr) (d : Reg) (word : ℕ) (x : Caller) → loads_into i ≡ Some d → core_loaded t.target t.setting.sizes d word (counted x.entry) ≡ plain_accepted t.target t.setting.sizes i word (counted x.entry)
-load_accepted t (instr.LoadRoot e z) d word x is = let same : d ≡ e = cc in ap (λ (r : Reg). core_loaded t.target t.setting.sizes r word (counted x.entry)) same
-load_accepted t (instr.LoadPick e z n a) d word x is = let same : d ≡ e = cc in ap (λ (r : Reg). core_loaded t.target t.setting.sizes r word (counted x.entry)) same
-load_accepted t (instr.LoadField e a f) d word x is = let same : d ≡ e = cc in ap (λ (r : Reg). core_loaded t.target t.setting.sizes r word (counted x.entry)) same
+load_accepted : (t : Plan) (i : Instr) (d : Reg) (word : ℕ) (x : Caller) → loads_into i ≡ Some d → core_loaded Optimistic t.target t.setting.sizes d word (counted x.entry) ≡ plain_accepted Optimistic t.target t.setting.sizes i word (counted x.entry)
+load_accepted t (instr.LoadRoot e z) d word x is = let same : d ≡ e = cc in ap (λ (r : Reg). core_loaded Optimistic t.target t.setting.sizes r word (counted x.entry)) same
+load_accepted t (instr.LoadPick e z n a) d word x is = let same : d ≡ e = cc in ap (λ (r : Reg). core_loaded Optimistic t.target t.setting.sizes r word (counted x.entry)) same
+load_accepted t (instr.LoadField e a f) d word x is = let same : d ≡ e = cc in ap (λ (r : Reg). core_loaded Optimistic t.target t.setting.sizes r word (counted x.entry)) same
 load_accepted t _ d word x is = absurd (let never : None ≡ Some d = is in cc)
 
 -- the registers that the run has set after it
@@ -358,7 +359,7 @@ made_by x source watch held were = record x { source = source; watch = watch; he
 -- a load, and the local code after it
 pub load_kept : (t : Plan) (c : ℕ) (s : Shared) (x : Caller) (i : Instr) (d : Reg) (w : Word) → IsPlan t → SharedHolds t s → Base t s c x → (walk : Running t s c x (spot_of x.entry.hand)) → c < t.setting.sizes.callers → IsProperFor s x
     → slice_get (code_in walk.0.walk.method) x.entry.hand.at ≡ Some (Plain i) → AreAsked t.text i s.source.nodes walk.0.mirror → loads_into i ≡ Some d → LooksAt t.target.fields i x.entry.hand.registers w
-    → KeptSetting t c s x (set_plain t.target i (s.memory w) x.entry x.was_set) (store s.memory w (s.memory w)) (plain_accepted t.target t.setting.sizes i (s.memory w) (counted x.entry))
+    → KeptSetting t c s x (set_plain t.target i (s.memory w) x.entry x.was_set) (store s.memory w (s.memory w)) (plain_accepted Optimistic t.target t.setting.sizes i (s.memory w) (counted x.entry))
 load_kept t c s x i d w plan f b walk below proper here asked loads looks =
     let y = counted_caller x in
     let moves = running_moved t s c x (spot_of x.entry.hand) (one_more x.entry.running.steps) x.entry.counts x.entry.routine walk in
@@ -366,7 +367,7 @@ load_kept t c s x i d w plan f b walk below proper here asked loads looks =
     let taken = load_takes t s c y walk.0 i d w x.entry.hand.wrapup rd moves.2 moves.4 loads (finds t s c y walk.0 i d w rd asked loads looks) (λ e. walk.1.wrapup ∙ e) in
     let z = took t s c 0 y (behind_load x d (s.memory w)) x.entry.hand.wrapup (name_of (loaded t.text i walk.0.mirror s.source)) (set_by (Some (Plain i)) x.was_set) in
     let ended = settles_ends t s c (made_by x z.source z.watch z.held z.was_set) (behind_load x d (s.memory w)) plan f taken.1.0 taken.1.1 in
-    subst (λ (were : ℕ → Bool). KeptSetting t c s x were (store s.memory w (s.memory w)) (plain_accepted t.target t.setting.sizes i (s.memory w) (counted x.entry))) (load_sets t i d (s.memory w) x loads)
+    subst (λ (were : ℕ → Bool). KeptSetting t c s x were (store s.memory w (s.memory w)) (plain_accepted Optimistic t.target t.setting.sizes i (s.memory w) (counted x.entry))) (load_sets t i d (s.memory w) x loads)
     (subst (λ (m : Moved). KeptSetting t c s x (set_onward t.target x.entry (set_by (Some (Plain i)) x.was_set) (with_word x.entry.hand.registers d (s.memory w))) (store s.memory w (s.memory w)) m) (load_accepted t i d (s.memory w) x loads) (record {
       s' = s;
       x' = ended.x';

@@ -49,6 +49,7 @@ use Rattle.oa_simulation.proofs.sim_relation.Names.{residents_apart, KeepsNames,
 use Rattle.oa_simulation.proofs.sim_steps.Walks.Along.{walks_along, guards_along, gets_along}
 use Rattle.oa_simulation.proofs.sim_steps.Walks.Accessing.{Makes, turns, turned, took, base_turned, walks_turned, stands_took}
 use Rattle.oa_simulation.proofs.sim_steps.Accesses.Puts.{Reads}
+use Rattle.caller_parts.specs.declared.setting.Reclamation.TheVariants.{Optimistic}
 
 -- what a caller's own exchange leaves of what it knows
 pub record Keeps (t : Plan) (c : ℕ) (s s' : Shared) : Type 0 where
@@ -179,15 +180,15 @@ pub record Succeeds (t : Plan) (s s' : Shared) (c : ℕ) (x : Caller) (m : Trail
 
 -- how the core goes on where the exchange was made, by the slot to retire
 goes_by_slot : (t : Plan) (s s' : Shared) (c : ℕ) (x : Caller) (m : Trail t) (entry : CasEntry) (l j : ℕ) → Succeeds t s s' c x m entry l → to_retire entry.retire x.entry.hand.registers ≡ j
-    → KeptSetting t c s x (set_unless_retiring t.target x.entry x.was_set j) (after_access s.memory (exchange_wanted t.target.fields entry x.entry.hand.registers)) (told (Accesses ∷ []) (retires_then t.target t.setting.sizes onward.Next j (with_access (counted x.entry))))
-    → KeptSetting t c s x (set_plain t.target (instr.Cas entry l) (s.memory (word_of (exchange_wanted t.target.fields entry x.entry.hand.registers))) x.entry x.was_set) (after_access s.memory (exchange_wanted t.target.fields entry x.entry.hand.registers)) (plain_accepted t.target t.setting.sizes (instr.Cas entry l) (s.memory (word_of (exchange_wanted t.target.fields entry x.entry.hand.registers))) (counted x.entry))
+    → KeptSetting t c s x (set_unless_retiring t.target x.entry x.was_set j) (after_access s.memory (exchange_wanted t.target.fields entry x.entry.hand.registers)) (told (Accesses ∷ []) (retires_then Optimistic t.target t.setting.sizes onward.Next j (with_access (counted x.entry))))
+    → KeptSetting t c s x (set_plain t.target (instr.Cas entry l) (s.memory (word_of (exchange_wanted t.target.fields entry x.entry.hand.registers))) x.entry x.was_set) (after_access s.memory (exchange_wanted t.target.fields entry x.entry.hand.registers)) (plain_accepted Optimistic t.target t.setting.sizes (instr.Cas entry l) (s.memory (word_of (exchange_wanted t.target.fields entry x.entry.hand.registers))) (counted x.entry))
 goes_by_slot t s s' c x m entry l j w slot k =
     let e = with_access (counted x.entry) in
     let succeeded : succeeds entry x.entry.hand.registers (s.memory (word_of (exchange_wanted t.target.fields entry x.entry.hand.registers))) ≡ true =
     tests_agree t s c x.entry.hand.registers m.mirror entry w.reads.plan.null w.reads.shared_holds w.offers ∙ ap is_some w.makes in
     subst (λ (b : Bool). KeptSetting t c s x (set_exchanged t.target entry l x.entry x.was_set b) (after_access s.memory (exchange_wanted t.target.fields entry x.entry.hand.registers))
-    (told (Accesses ∷ []) (if b then retires_then t.target t.setting.sizes onward.Next (to_retire entry.retire x.entry.hand.registers) e else cas_failed t.target t.setting.sizes l e))) (sym succeeded)
-    (subst (λ (i : ℕ). KeptSetting t c s x (set_unless_retiring t.target x.entry x.was_set i) (after_access s.memory (exchange_wanted t.target.fields entry x.entry.hand.registers)) (told (Accesses ∷ []) (retires_then t.target t.setting.sizes onward.Next i e))) (sym slot) k)
+    (told (Accesses ∷ []) (if b then retires_then Optimistic t.target t.setting.sizes onward.Next (to_retire entry.retire x.entry.hand.registers) e else cas_failed Optimistic t.target t.setting.sizes l e))) (sym succeeded)
+    (subst (λ (i : ℕ). KeptSetting t c s x (set_unless_retiring t.target x.entry x.was_set i) (after_access s.memory (exchange_wanted t.target.fields entry x.entry.hand.registers)) (told (Accesses ∷ []) (retires_then Optimistic t.target t.setting.sizes onward.Next i e))) (sym slot) k)
 
 reads_counted : (t : Plan) (s : Shared) (c : ℕ) (x : Caller) (m : Trail t) (i : Instr) → Reads t s c x m i → Reads t s c (counted_caller x) m i
 reads_counted t s c x m i w = record {
@@ -200,7 +201,7 @@ reads_counted t s c x m i w = record {
 }
 
 pub success_kept : (t : Plan) (c : ℕ) (s s' : Shared) (x : Caller) (m : Trail t) (entry : CasEntry) (l : ℕ) → Succeeds t s s' c x m entry l → to_retire entry.retire x.entry.hand.registers ≡ 0
-    → KeptSetting t c s x (set_plain t.target (instr.Cas entry l) (s.memory (word_of (exchange_wanted t.target.fields entry x.entry.hand.registers))) x.entry x.was_set) (after_access s.memory (exchange_wanted t.target.fields entry x.entry.hand.registers)) (plain_accepted t.target t.setting.sizes (instr.Cas entry l) (s.memory (word_of (exchange_wanted t.target.fields entry x.entry.hand.registers))) (counted x.entry))
+    → KeptSetting t c s x (set_plain t.target (instr.Cas entry l) (s.memory (word_of (exchange_wanted t.target.fields entry x.entry.hand.registers))) x.entry x.was_set) (after_access s.memory (exchange_wanted t.target.fields entry x.entry.hand.registers)) (plain_accepted Optimistic t.target t.setting.sizes (instr.Cas entry l) (s.memory (word_of (exchange_wanted t.target.fields entry x.entry.hand.registers))) (counted x.entry))
 success_kept t c s s' x m entry l w none =
     let y = counted_caller x in
     let next : Spot = record { at = x.entry.hand.at + 1; registers = x.entry.hand.registers } in
@@ -225,7 +226,7 @@ success_kept t c s s' x m entry l w none =
 
 -- the slot to retire goes into the retire routine, after which the next instruction stands
 pub success_retires : (t : Plan) (c : ℕ) (s s' : Shared) (x : Caller) (m : Trail t) (entry : CasEntry) (l j n : ℕ) → Succeeds t s s' c x m entry l → to_retire entry.retire x.entry.hand.registers ≡ suc j → IsRetiring s' c (suc j) n None
-    → KeptSetting t c s x (set_plain t.target (instr.Cas entry l) (s.memory (word_of (exchange_wanted t.target.fields entry x.entry.hand.registers))) x.entry x.was_set) (after_access s.memory (exchange_wanted t.target.fields entry x.entry.hand.registers)) (plain_accepted t.target t.setting.sizes (instr.Cas entry l) (s.memory (word_of (exchange_wanted t.target.fields entry x.entry.hand.registers))) (counted x.entry))
+    → KeptSetting t c s x (set_plain t.target (instr.Cas entry l) (s.memory (word_of (exchange_wanted t.target.fields entry x.entry.hand.registers))) x.entry x.was_set) (after_access s.memory (exchange_wanted t.target.fields entry x.entry.hand.registers)) (plain_accepted Optimistic t.target t.setting.sizes (instr.Cas entry l) (s.memory (word_of (exchange_wanted t.target.fields entry x.entry.hand.registers))) (counted x.entry))
 success_retires t c s s' x m entry l j n w some retiring =
     let y = counted_caller x in
     let next : Spot = record { at = x.entry.hand.at + 1; registers = x.entry.hand.registers } in

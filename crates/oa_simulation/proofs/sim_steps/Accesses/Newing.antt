@@ -38,6 +38,7 @@ use Rattle.oa_simulation.proofs.sim_relation.Clearing.{clear_some}
 use Rattle.oa_simulation.proofs.sim_steps.Guards.Unguarding.{counted_caller, kept_ends}
 use Rattle.oa_simulation.proofs.sim_steps.Walks.Accessing.{turned, took}
 use Rattle.oa_simulation.proofs.sim_steps.Accesses.News.{Zeroing, zero_kept, Drawing, draws, behind_new, new_takes}
+use Rattle.caller_parts.specs.declared.setting.Reclamation.TheVariants.{Optimistic}
 
 -- a word that is stored twice
 twice_at : (b : Bool) (x y : ℕ) → (if b then x else (if b then x else y)) ≡ (if b then x else y)
@@ -96,9 +97,9 @@ goes_new t s c kind j g one two = record {
 -- a store of 0 at a `new`: the next field's, or the draw and the local code after it
 pub new_stores : (t : Plan) (c : ℕ) (s : Shared) (x : Caller) (m : Trail t) (r k g : ℕ) → (w : Zeroing t s c x m r k g) → Stands t x m → instr_in t.target x.entry ≡ Some (Plain (instr.New (Ref r) w.kind))
     → (nat_lt (g + 1) (zero_count t.target (instr_in t.target x.entry)) ≡ false → Drawing t (zeroed s (cradle_of x.entry k) g) c (counted_caller x) m r k g)
-    → KeptWith t c s x x.names (set_zeroed t.target x.entry x.was_set k (nat_lt (g + 1) (zero_count t.target (instr_in t.target x.entry)))) (store s.memory (FieldOf (cradle_of x.entry k) g) 0) (core_zeroed t.target t.setting.sizes k g (counted x.entry)) (named_at (nat_lt (g + 1) (zero_count t.target (instr_in t.target x.entry))) (cradle_of x.entry k) s.unused (put s.present (cradle_of x.entry k) 0))
+    → KeptWith t c s x x.names (set_zeroed t.target x.entry x.was_set k (nat_lt (g + 1) (zero_count t.target (instr_in t.target x.entry)))) (store s.memory (FieldOf (cradle_of x.entry k) g) 0) (core_zeroed Optimistic t.target t.setting.sizes k g (counted x.entry)) (named_at (nat_lt (g + 1) (zero_count t.target (instr_in t.target x.entry))) (cradle_of x.entry k) s.unused (put s.present (cradle_of x.entry k) 0))
 new_stores t c s x m r k g w st is draw = of (nat_lt (g + 1) (zero_count t.target (instr_in t.target x.entry))) refl where
-  last : nat_lt (g + 1) (zero_count t.target (instr_in t.target x.entry)) ≡ false → KeptWith t c s x x.names (set_onward t.target x.entry (set_by (Some (Plain (instr.New (Ref r) w.kind))) x.was_set) (with_new (Some (Plain (instr.New (Ref r) w.kind))) (cradle_of x.entry k) x.entry.hand.registers)) (store s.memory (FieldOf (cradle_of x.entry k) g) 0) (told (Draws (cradle_of x.entry k) ∷ []) (goes_on t.target t.setting.sizes (with_new (Some (Plain (instr.New (Ref r) w.kind))) (cradle_of x.entry k) x.entry.hand.registers) (counted x.entry))) (put (put s.present (cradle_of x.entry k) 0) (cradle_of x.entry k) s.unused)
+  last : nat_lt (g + 1) (zero_count t.target (instr_in t.target x.entry)) ≡ false → KeptWith t c s x x.names (set_onward t.target x.entry (set_by (Some (Plain (instr.New (Ref r) w.kind))) x.was_set) (with_new (Some (Plain (instr.New (Ref r) w.kind))) (cradle_of x.entry k) x.entry.hand.registers)) (store s.memory (FieldOf (cradle_of x.entry k) g) 0) (told (Draws (cradle_of x.entry k) ∷ []) (goes_on Optimistic t.target t.setting.sizes (with_new (Some (Plain (instr.New (Ref r) w.kind))) (cradle_of x.entry k) x.entry.hand.registers) (counted x.entry))) (put (put s.present (cradle_of x.entry k) 0) (cradle_of x.entry k) s.unused)
   last ends =
       let d = draw ends in
       let j = cradle_of x.entry k in
@@ -125,9 +126,9 @@ new_stores t c s x m r k g w st is draw = of (nat_lt (g + 1) (zero_count t.targe
       }
 
   of : (b : Bool) → nat_lt (g + 1) (zero_count t.target (instr_in t.target x.entry)) ≡ b → KeptWith t c s x x.names (set_zeroed t.target x.entry x.was_set k b) (store s.memory (FieldOf (cradle_of x.entry k) g) 0)
-      (if b then quiet (record (counted x.entry) { routine = Zeroes k (g + 1) }) else told (Draws (cradle_of x.entry k) ∷ []) (goes_on t.target t.setting.sizes (with_new (instr_in t.target (counted x.entry)) (cradle_of x.entry k) x.entry.hand.registers) (counted x.entry))) (named_at b (cradle_of x.entry k) s.unused (put s.present (cradle_of x.entry k) 0))
+      (if b then quiet (record (counted x.entry) { routine = Zeroes k (g + 1) }) else told (Draws (cradle_of x.entry k) ∷ []) (goes_on Optimistic t.target t.setting.sizes (with_new (instr_in t.target (counted x.entry)) (cradle_of x.entry k) x.entry.hand.registers) (counted x.entry))) (named_at b (cradle_of x.entry k) s.unused (put s.present (cradle_of x.entry k) 0))
   of true more = zero_kept t c s x m r k g w st
-  of false ends = subst (λ (o : Option TargetInstr). KeptWith t c s x x.names (set_onward t.target x.entry (set_by o x.was_set) (with_new o (cradle_of x.entry k) x.entry.hand.registers)) (store s.memory (FieldOf (cradle_of x.entry k) g) 0) (told (Draws (cradle_of x.entry k) ∷ []) (goes_on t.target t.setting.sizes (with_new o (cradle_of x.entry k) x.entry.hand.registers) (counted x.entry))) (put (put s.present (cradle_of x.entry k) 0) (cradle_of x.entry k) s.unused)) (sym is) (last ends)
+  of false ends = subst (λ (o : Option TargetInstr). KeptWith t c s x x.names (set_onward t.target x.entry (set_by o x.was_set) (with_new o (cradle_of x.entry k) x.entry.hand.registers)) (store s.memory (FieldOf (cradle_of x.entry k) g) 0) (told (Draws (cradle_of x.entry k) ∷ []) (goes_on Optimistic t.target t.setting.sizes (with_new o (cradle_of x.entry k) x.entry.hand.registers) (counted x.entry))) (put (put s.present (cradle_of x.entry k) 0) (cradle_of x.entry k) s.unused)) (sym is) (last ends)
 
 -- ---- the clear before a `new`
 

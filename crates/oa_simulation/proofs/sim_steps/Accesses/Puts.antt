@@ -58,6 +58,7 @@ use Rattle.oa_simulation.proofs.sim_steps.Exchanges.Fresh.{goes_put}
 use Rattle.oa_simulation.proofs.sim_steps.Walks.Stopping.{settles_ends}
 use Rattle.oa_simulation.proofs.sim_steps.Guards.Unguarding.{counted_caller}
 use Rattle.oa_simulation.proofs.sim_steps.Walks.Accessing.{Makes, turns, turned, took, walks_turned, stands_took}
+use Rattle.caller_parts.specs.declared.setting.Reclamation.TheVariants.{Optimistic}
 
 -- ---- a field of a node that is there
 
@@ -189,7 +190,7 @@ put_takes t s c x m r f b w asked st guards =
 -- a put, and the local code after it
 pub put_kept : (t : Plan) (c : ℕ) (s : Shared) (x : Caller) (a : Reg) (f : ℕ) (b : Reg) → IsPlan t → SharedHolds t s → Base t s c x → (walk : Running t s c x (spot_of x.entry.hand))
     → slice_get (code_in walk.0.walk.method) x.entry.hand.at ≡ Some (Plain (instr.Put a f b)) → AreAsked t.text (instr.Put a f b) s.source.nodes walk.0.mirror
-    → KeptSetting t c s x (set_onward t.target x.entry x.was_set x.entry.hand.registers) (store s.memory (FieldOf (slot_in x.entry.hand.registers a) (place_of t.target.fields f)) (word_in x.entry.hand.registers b)) (plain_accepted t.target t.setting.sizes (instr.Put a f b) (s.memory (FieldOf (slot_in x.entry.hand.registers a) (place_of t.target.fields f))) (counted x.entry))
+    → KeptSetting t c s x (set_onward t.target x.entry x.was_set x.entry.hand.registers) (store s.memory (FieldOf (slot_in x.entry.hand.registers a) (place_of t.target.fields f)) (word_in x.entry.hand.registers b)) (plain_accepted Optimistic t.target t.setting.sizes (instr.Put a f b) (s.memory (FieldOf (slot_in x.entry.hand.registers a) (place_of t.target.fields f))) (counted x.entry))
 put_kept t c s x (Num r) f b plan fine base walk here asked = absurd (let z : true ≡ false = (or_parts true (is_unlike (field_kind t.text.fields f) b) (kind_right walk.0.walk.method (erasing plan.compiled) x.entry.hand.at (instr.Put (Num r) f b) here)).0 in cc)
 put_kept t c s x (Ref r) f b plan fine base walk here asked =
     let y = counted_caller x in

@@ -30,6 +30,7 @@ use Rattle.oa_simulation.proofs.sim_relation.Codes.{instr_is}
 use Rattle.oa_simulation.proofs.sim_steps.Accesses.Loads.{LooksAt, load_kept}
 use Rattle.oa_simulation.proofs.sim_steps.Accesses.Puts.{put_kept}
 use Rattle.oa_simulation.proofs.sim_steps.Walks.Accessing.{source_stands}
+use Rattle.caller_parts.specs.declared.setting.Reclamation.TheVariants.{Optimistic}
 
 -- what a proper text owes where it stands is what a check and a load ask for
 pub proper_here : (t : Plan) (c : ℕ) (s : Shared) (x : Caller) → StaysProper t.text c (point s x) → Tied x → IsProperFor s x
@@ -73,7 +74,7 @@ load_is_access _ d is = absurd (let never : None ≡ Some d = is in cc)
 -- the step of the core at a plain instruction, by the access that it makes
 abbrev pub PlainKept : (t : Plan) (c : ℕ) (s : Shared) (x : Caller) → Instr → Option WordAccess → Type 0
 PlainKept t c s x i None = Unit {0}
-PlainKept t c s x i (Some a) = KeptSetting t c s x (set_plain t.target i (s.memory (word_of a)) x.entry x.was_set) (after_access s.memory a) (plain_accepted t.target t.setting.sizes i (s.memory (word_of a)) (counted x.entry))
+PlainKept t c s x i (Some a) = KeptSetting t c s x (set_plain t.target i (s.memory (word_of a)) x.entry x.was_set) (after_access s.memory a) (plain_accepted Optimistic t.target t.setting.sizes i (s.memory (word_of a)) (counted x.entry))
 
 pub put_step : (t : Plan) (c : ℕ) (s : Shared) (x : Caller) (a b : Reg) (f : ℕ) → AtPlain t c s x (instr.Put a f b) → PlainKept t c s x (instr.Put a f b) (plain_wanted t.target.fields (instr.Put a f b) x.entry.hand.registers)
 put_step t c s x a b f w = put_kept t c s x a f b w.plan w.shared_holds w.caller_holds.base (running_at t c s x (instr.Put a f b) w) (code_at t c s x (instr.Put a f b) w) (asked_at t c s x (instr.Put a f b) w refl)

@@ -43,6 +43,7 @@ use Rattle.oa_simulation.proofs.sim_steps.Walks.Quieting.{sane_here}
 use Rattle.oa_simulation.proofs.sim_steps.Guards.Unguarding.{counted_caller}
 use Rattle.oa_simulation.proofs.sim_steps.Accesses.News.{Zeroing, zeroing_on, zeroing_kind}
 use Rattle.oa_simulation.proofs.sim_steps.Accesses.Newing.{zeroing_moved, moved_kind, new_stores}
+use Rattle.caller_parts.specs.declared.setting.Reclamation.TheVariants.{Optimistic}
 
 -- the caller stores 0 to a field of a cradle's slot
 pub record AtZeroes (t : Plan) (c : ℕ) (s : Shared) (x : Caller) (k field : ℕ) : Type 0 where
@@ -51,7 +52,7 @@ pub record AtZeroes (t : Plan) (c : ℕ) (s : Shared) (x : Caller) (k field : �
   pub caller_holds : CallerHolds t s c x
   pub belongs : Belongs t.target t.setting x.entry
   pub at : x.entry.routine ≡ Zeroes k field
-  pub home : DrawsHome t.home (core_zeroed t.target t.setting.sizes k field (counted x.entry)).signs s.unused
+  pub home : DrawsHome t.home (core_zeroed Optimistic t.target t.setting.sizes k field (counted x.entry)).signs s.unused
 
 -- a reference that is put into a register is there
 put_there : (mirror : Registers) (r n : ℕ) → r < length mirror.references → node_in (with_reference mirror (Ref r) (record { node = n; marked = false })) r ≡ n
@@ -73,21 +74,21 @@ none_before present j (suc field) none = λ i l. at l (eqb_tells l j) i where
   at l (inr e) = rw e.0 refl
 
 pub zero_step : (t : Plan) (c : ℕ) (s : Shared) (x : Caller) (k field : ℕ) → AtZeroes t c s x k field
-    → KeptWith t c s x x.names (set_zeroed t.target x.entry x.was_set k (nat_lt (field + 1) (zero_count t.target (instr_in t.target x.entry)))) (store s.memory (FieldOf (cradle_of x.entry k) field) 0) (core_zeroed t.target t.setting.sizes k field (counted x.entry))
+    → KeptWith t c s x x.names (set_zeroed t.target x.entry x.was_set k (nat_lt (field + 1) (zero_count t.target (instr_in t.target x.entry)))) (store s.memory (FieldOf (cradle_of x.entry k) field) 0) (core_zeroed Optimistic t.target t.setting.sizes k field (counted x.entry))
     (named_at (nat_lt (field + 1) (zero_count t.target (instr_in t.target x.entry))) (cradle_of x.entry k) s.unused (emptied_at field (cradle_of x.entry k) s.present))
 zero_step t c s x k field w =
     let spot : HoldsAt t s c x (Zeroes k field) = subst (λ (r : Routine). HoldsAt t s c x r) w.at w.caller_holds.spot in
     let stands : CoreStands t.target t.setting x.entry (Zeroes k field) = subst (λ (r : Routine). CoreStands t.target t.setting x.entry r) w.at w.belongs.stands in
     let there = new_there (instr_in t.target x.entry) stands.0 in
-    subst (λ (present : ℕ → ℕ). KeptWith t c s x x.names (set_zeroed t.target x.entry x.was_set k (nat_lt (field + 1) (zero_count t.target (instr_in t.target x.entry)))) (store s.memory (FieldOf (cradle_of x.entry k) field) 0) (core_zeroed t.target t.setting.sizes k field (counted x.entry)) (named_at (nat_lt (field + 1) (zero_count t.target (instr_in t.target x.entry))) (cradle_of x.entry k) s.unused present))
+    subst (λ (present : ℕ → ℕ). KeptWith t c s x x.names (set_zeroed t.target x.entry x.was_set k (nat_lt (field + 1) (zero_count t.target (instr_in t.target x.entry)))) (store s.memory (FieldOf (cradle_of x.entry k) field) 0) (core_zeroed Optimistic t.target t.setting.sizes k field (counted x.entry)) (named_at (nat_lt (field + 1) (zero_count t.target (instr_in t.target x.entry))) (cradle_of x.entry k) s.unused present))
     (none_before s.present (cradle_of x.entry k) field spot.1.0) (by_register there.0 there.1 there.2 spot stands)
   where
-    draws_home : (b : Bool) → b ≡ false → DrawsHome t.home (if b then quiet (record (counted x.entry) { routine = Zeroes k (field + 1) }) else node_made t.target t.setting.sizes (cradle_of x.entry k) (counted x.entry)).signs s.unused → t.home s.unused ≡ cradle_of x.entry k
+    draws_home : (b : Bool) → b ≡ false → DrawsHome t.home (if b then quiet (record (counted x.entry) { routine = Zeroes k (field + 1) }) else node_made Optimistic t.target t.setting.sizes (cradle_of x.entry k) (counted x.entry)).signs s.unused → t.home s.unused ≡ cradle_of x.entry k
     draws_home true is home = absurd (let z : true ≡ false = is in cc)
     draws_home false is home = home.0
 
     by_register : (d : Reg) (kind : ℕ) → instr_in t.target x.entry ≡ Some (Plain (instr.New d kind)) → HoldsAt t s c x (Zeroes k field) → CoreStands t.target t.setting x.entry (Zeroes k field)
-        → KeptWith t c s x x.names (set_zeroed t.target x.entry x.was_set k (nat_lt (field + 1) (zero_count t.target (instr_in t.target x.entry)))) (store s.memory (FieldOf (cradle_of x.entry k) field) 0) (core_zeroed t.target t.setting.sizes k field (counted x.entry))
+        → KeptWith t c s x x.names (set_zeroed t.target x.entry x.was_set k (nat_lt (field + 1) (zero_count t.target (instr_in t.target x.entry)))) (store s.memory (FieldOf (cradle_of x.entry k) field) 0) (core_zeroed Optimistic t.target t.setting.sizes k field (counted x.entry))
         (named_at (nat_lt (field + 1) (zero_count t.target (instr_in t.target x.entry))) (cradle_of x.entry k) s.unused (put s.present (cradle_of x.entry k) 0))
     by_register (Num r) kind is spot stands =
         let at = spot.2 in

@@ -39,6 +39,7 @@ use Rattle.oa_simulation.proofs.sim_steps.Walks.Quieting.{ends_quiet}
 use Rattle.oa_simulation.proofs.sim_steps.Guards.Unguarding.{kept_ends}
 use Rattle.oa_simulation.proofs.sim_relation.Codes.{instr_is}
 use Rattle.oa_simulation.proofs.sim_steps.Walks.Committing.{list_ends}
+use Rattle.caller_parts.specs.declared.setting.Reclamation.TheVariants.{Optimistic}
 
 -- ---- the load
 
@@ -74,7 +75,7 @@ base_tagged t s c n x f b = record {
 }
 
 pub retire_loads : (t : Plan) (c : ℕ) (s : Shared) (x : Caller) (slot n : ℕ) (go : AfterRetire) → SharedHolds t s → Base t s c x → IsRetiring s c slot n None → GoesOn t s c x go
-    → Kept t c s x (store s.memory Phase (s.memory Phase)) (retired_on t.target t.setting.sizes go (Some (record { slot = slot; stage = retires.StoreStatus (s.memory Phase) })) (counted x.entry))
+    → Kept t c s x (store s.memory Phase (s.memory Phase)) (retired_on Optimistic t.target t.setting.sizes go (Some (record { slot = slot; stage = retires.StoreStatus (s.memory Phase) })) (counted x.entry))
 retire_loads t c s x slot n go f b r w =
     let step = tagged t s c slot n f r in
     let next : Routine = Retires (record { slot = slot; stage = retires.StoreStatus (s.memory Phase) }) go in
@@ -149,11 +150,11 @@ behind_status t s c j word x made false w = (w.0, walks_status t s c j word x (s
 -- the store, and the list's next exchange, or the wrap-up's start
 pub retire_stores_in_list : (t : Plan) (c : ℕ) (s : Shared) (x : Caller) (slot n p k : ℕ) (entries : List CasEntry) → IsPlan t → SharedHolds t s → Base t s c x → IsRetiring s c slot n (Some p) → GoesOn t s c x (onward.List k)
     → instr_in t.target x.entry ≡ Some (Plain (instr.Commit entries))
-    → Kept t c s x (store s.memory (Status slot) (status_word p kinds.Retired)) (retired_on t.target t.setting.sizes (onward.List k) None (counted x.entry))
+    → Kept t c s x (store s.memory (Status slot) (status_word p kinds.Retired)) (retired_on Optimistic t.target t.setting.sizes (onward.List k) None (counted x.entry))
 unfolding behind_moved behind_status
 retire_stores_in_list t c s x slot n p k entries plan f b r w commit =
     let step = marked t s c slot n p f r in
-    kept_ends t c s (with_status s slot Dead (status_word p kinds.Retired)) x y (retired_on t.target t.setting.sizes (onward.List k) None (counted x.entry)) _ step.0 step.1 refl refl refl
+    kept_ends t c s (with_status s slot Dead (status_word p kinds.Retired)) x y (retired_on Optimistic t.target t.setting.sizes (onward.List k) None (counted x.entry)) _ step.0 step.1 refl refl refl
     (ends (nat_lt (k + 1) (length (list_of (instr_in t.target x.entry)))) w)
   where
     y : Caller
@@ -176,7 +177,7 @@ retire_stores_in_list t c s x slot n p k entries plan f b r w commit =
 
 -- the store after an auxiliary exchange, and the local code after it
 pub retire_stores_next : (t : Plan) (c : ℕ) (s : Shared) (x : Caller) (slot n p : ℕ) → IsPlan t → SharedHolds t s → Base t s c x → IsRetiring s c slot n (Some p) → GoesOn t s c x onward.Next
-    → KeptSetting t c s x (set_onward t.target x.entry x.was_set x.entry.hand.registers) (store s.memory (Status slot) (status_word p kinds.Retired)) (retired_on t.target t.setting.sizes onward.Next None (counted x.entry))
+    → KeptSetting t c s x (set_onward t.target x.entry x.was_set x.entry.hand.registers) (store s.memory (Status slot) (status_word p kinds.Retired)) (retired_on Optimistic t.target t.setting.sizes onward.Next None (counted x.entry))
 retire_stores_next t c s x slot n p plan f b r w =
     let step = marked t s c slot n p f r in
     let s' = with_status s slot Dead (status_word p kinds.Retired) in
@@ -187,7 +188,7 @@ retire_stores_next t c s x slot n p plan f b r w =
     let b' = base_moved t s' c x (one_more x.entry.running.steps) x.entry.counts At (base_status t s c slot (status_word p kinds.Retired) x r.owner b) in
     let ended = settles_ends t s' c y next plan step.0 (record { number = b'.number; seen = b'.seen; old = b'.old; hazard = b'.hazard; protects = b'.protects; known = b'.known; cradle = b'.cradle })
     (there.0, walks_at t s' c y next there.0 there.1, there.2, there.3, there.4) in
-    kept_ends t c s s' x _ (retired_on t.target t.setting.sizes onward.Next None (counted x.entry)) _ step.0 step.1 refl refl refl ended
+    kept_ends t c s s' x _ (retired_on Optimistic t.target t.setting.sizes onward.Next None (counted x.entry)) _ step.0 step.1 refl refl refl ended
   where
     walks_at : (t : Plan) (s : Shared) (c : ℕ) (y : Caller) (next : Spot) (m : Trail t) → Walks t s c y next m → Walks t s c (at_spot y next) next m
     walks_at t s c y next m w = record { call = w.call; wrapup = w.wrapup; was_set = w.was_set; first = w.first; number = w.number; start = w.start; generator = w.generator; ahead = w.ahead; kept = w.kept; shown = w.shown; sound = w.sound }

@@ -32,7 +32,8 @@ use Rattle.caller_parts.specs.declared.routine.Routine.TheVariants.{At, Claims, 
 use Rattle.caller_steps.specs.Entries.{one_more, instr_in, new_number}
 use Rattle.caller_parts.specs.Operands.{is_new_at}
 use Rattle.caller_parts.specs.Settings.{Setting}
-use Rattle.caller_steps.specs.Belongs.{ClaimBelongs, ClaimStands, HasLow}
+use Rattle.caller_steps.specs.Belongs.{ClaimBelongs, HasLow}
+use Rattle.oa_simulation.proofs.sim_relation.Schemes.{claim_warned, never_withdraws}
 use Rattle.caller_steps.specs.After.{counted, claimed, claim_counted, claim_on, claim_ended, with_routine, replied as entry_replied}
 use Rattle.target_laws.specs.Methods.{code_in}
 use Rattle.run_ahead.specs.Standing.{Call, caller_of}
@@ -58,6 +59,7 @@ use Rattle.oa_simulation.proofs.sim_relation.Lists.{index_set, index_set_other}
 use Rattle.oa_simulation.proofs.sim_steps.Pools.Phases.{with_chain, head_stored, fine_chain, goes_chain}
 use Rattle.oa_simulation.proofs.sim_steps.Pools.Sweeping.{Warns, SweepNext, sweep_step}
 use Rattle.oa_simulation.proofs.sim_relation.Codes.{instr_is}
+use Rattle.caller_parts.specs.declared.setting.Reclamation.TheVariants.{Optimistic}
 
 -- a caller in a claim, but for what the claim itself knows
 pub record Claiming (t : Plan) (s : Shared) (c : ℕ) (x : Caller) : Type 0 where
@@ -136,7 +138,7 @@ ClaimGoes t s claim (Some ends.Full) = Unit {0}
 ClaimGoes t s claim (Some (ends.PhasesOver p)) = Unit {0}
 
 pub claim_kept : (t : Plan) (c : ℕ) (s s' : Shared) (x : Caller) (claim : Claim) (end : Option ClaimEnd) (takes : Bool) (memory' : Word → ℕ) (present' : ℕ → ℕ) → IsErased t.target t.text → t.home 0 ≡ 0 → SharedHolds t s → SharedHolds t s' → GoesForAll t s s' → s'.source ≡ s.source → s'.unused ≡ s.unused → s'.memory ≡ memory' → s'.present ≡ present' → Claiming t s c x
-    → ClaimGoes t s' claim end → KeptNaming t c s x memory' (claim_on t.target claim end (claim_counted takes (counted x.entry))) present'
+    → ClaimGoes t s' claim end → KeptNaming t c s x memory' (claim_on Optimistic t.target claim end (claim_counted takes (counted x.entry))) present'
 claim_kept t c s s' x claim None takes memory' present' erased null_home f f' g source unused memory present w goes =
     let w' = own_claiming t c s s' x null_home g f f' w in
     record {
@@ -186,7 +188,7 @@ sweep_goes_on t s claim sweep (Some (swept.PhasesOver p)) is next = tt
 -- ---- a slot that was taken is used
 
 took : (t : Plan) (c : ℕ) (s : Shared) (x : Caller) (claim : Claim) (j p q : ℕ) → t.home 0 ≡ 0 → SharedHolds t s → Claiming t s c x → 1 ≤ j → new_number t.target x.entry < length x.entry.cradles → s.memory (Status j) ≡ status_word p kinds.Ready
-    → Kept t c s x (store s.memory (Status j) (status_word q kinds.Used)) (claim_ended t.target (ends.Claimed j) (with_routine (claim_counted false (counted x.entry)) At))
+    → Kept t c s x (store s.memory (Status j) (status_word q kinds.Used)) (claim_ended Optimistic t.target claim.sweeps (ends.Claimed j) (with_routine (claim_counted false (counted x.entry)) At))
 took t c s x claim j p q null_home f w some lt is =
     let k : ℕ = new_number t.target x.entry in
     let take = taken t s c k j p q null_home f is in
@@ -232,32 +234,34 @@ took t c s x claim j p q null_home f w some lt is =
 -- ---- a slot is taken from the chain
 
 takes : (t : Plan) (c : ℕ) (s : Shared) (x : Caller) (claim : Claim) (j q next : ℕ) → IsErased t.target t.text → t.home 0 ≡ 0 → SharedHolds t s → Claiming t s c x → 1 ≤ j
-    → Kept t c s x (after_access s.memory (claim_wants_at claim.kind claim.sweep (claims.Take q j next))) (claimed t.target (look_took claim q j (s.memory (Head claim.kind))) (claim_counted (takes_at (claims.Take q j next) (s.memory (Head claim.kind))) (counted x.entry)))
+    → Kept t c s x (after_access s.memory (claim_wants_at claim.kind claim.sweep (claims.Take q j next))) (claimed Optimistic t.target (look_took claim q j (s.memory (Head claim.kind))) (claim_counted (takes_at (claims.Take q j next) (s.memory (Head claim.kind))) (counted x.entry)))
 takes t c s x claim j q next erased null_home f w some = of (s.memory (Head claim.kind) == head_word q j) where
   of : (b : Bool) → Kept t c s x (store s.memory (Head claim.kind) (if b then head_word q next else s.memory (Head claim.kind)))
-      (claimed t.target (if b then claim_goes claim (claims.StoreUsed q j) else claim_goes claim claims.ReadHead) (claim_counted b (counted x.entry)))
+      (claimed Optimistic t.target (if b then claim_goes claim (claims.StoreUsed q j) else claim_goes claim claims.ReadHead) (claim_counted b (counted x.entry)))
   of true =
       let memory' : Word → ℕ = store s.memory (Head claim.kind) (head_word q next) in
       claim_kept t c s (with_chain s memory') x (record claim { stage = claims.StoreUsed q j }) None true memory' s.present erased null_home f (fine_chain t s memory' f) (goes_chain t s memory') refl refl (head_stored s.memory claim.kind (head_word q next)) refl w some
   of false = claim_kept t c s s x (record claim { stage = claims.ReadHead }) None false _ s.present erased null_home f f (goes_same t s) refl refl (store_idle s.memory (Head claim.kind)) refl w tt
 
 -- its sweeps warn the callers
-claim_warns : (setting : Setting) (claim : Claim) → ClaimBelongs setting claim → Warns claim.sweep
-claim_warns setting claim own = record { scheme = own.scheme; low = subst (λ (scheme : Scheme). HasLow scheme claim.sweep.bound claim.sweep.low) own.scheme own.sweep.low }
+claim_warns : (setting : Setting) (c : ℕ) (claim : Claim) → setting.reclamation ≡ Optimistic → ClaimBelongs setting c claim → Warns claim.sweep
+claim_warns setting c claim optimistic own =
+    let warned = claim_warned setting c claim optimistic own in
+    record { scheme = warned; low = subst (λ (scheme : Scheme). HasLow scheme claim.sweep.bound claim.sweep.low) warned own.sweep.low }
 
 -- each step of a claim
-pub claims_keep : (t : Plan) (c : ℕ) (s : Shared) (x : Caller) (claim : Claim) (stage : ClaimStage) → claim.stage ≡ stage → IsErased t.target t.text → t.home 0 ≡ 0 → 1 ≤ t.setting.sizes.callers → SharedHolds t s → Claiming t s c x → new_number t.target x.entry < length x.entry.cradles → TakenIsReady s.memory stage → ClaimBelongs t.setting claim → ClaimAt t s claim.sweep stage
-    → KeptNaming t c s x (after_access s.memory (claim_wants_at claim.kind claim.sweep stage)) (claimed t.target (claim_accepts_at t.setting.sizes t.setting.last claim (s.memory (word_of (claim_wants_at claim.kind claim.sweep stage))) stage) (claim_counted (takes_at stage (s.memory (word_of (claim_wants_at claim.kind claim.sweep stage)))) (counted x.entry))) (freed_in stage claim.sweep.stage s.memory s.present)
-claims_keep t c s x claim claims.ReadHead is erased null_home some f w lt ready own at =
+pub claims_keep : (t : Plan) (c : ℕ) (s : Shared) (x : Caller) (claim : Claim) (stage : ClaimStage) → claim.stage ≡ stage → IsErased t.target t.text → t.home 0 ≡ 0 → 1 ≤ t.setting.sizes.callers → SharedHolds t s → Claiming t s c x → new_number t.target x.entry < length x.entry.cradles → TakenIsReady s.memory stage → t.setting.reclamation ≡ Optimistic → ClaimBelongs t.setting x.entry.number claim → ClaimAt t s claim.sweep stage
+    → KeptNaming t c s x (after_access s.memory (claim_wants_at claim.kind claim.sweep stage)) (claimed Optimistic t.target (claim_accepts_at t.setting.sizes t.setting.last claim (s.memory (word_of (claim_wants_at claim.kind claim.sweep stage))) stage) (claim_counted (takes_at stage (s.memory (word_of (claim_wants_at claim.kind claim.sweep stage)))) (counted x.entry))) (freed_in stage claim.sweep.stage s.memory s.present)
+claims_keep t c s x claim claims.ReadHead is erased null_home some f w lt ready optimistic own at =
     let turn = look_begun claim (head_parts (s.memory (Head claim.kind))) in
     claim_kept t c s s x turn.claim turn.ended false _ s.present erased null_home f f (goes_same t s) refl refl (store_idle s.memory (Head claim.kind)) refl w (head_next t s claim (head_parts (s.memory (Head claim.kind))))
-claims_keep t c s x claim (claims.ReadLink q j) is erased null_home some f w lt ready own at =
+claims_keep t c s x claim (claims.ReadLink q j) is erased null_home some f w lt ready optimistic own at =
     claim_kept t c s s x (record claim { stage = claims.Take q j (s.memory (Link j)) }) None false _ s.present erased null_home f f (goes_same t s) refl refl (store_idle s.memory (Link j)) refl w at
-claims_keep t c s x claim (claims.Take q j next) is erased null_home some f w lt ready own at = takes t c s x claim j q next erased null_home f w at
-claims_keep t c s x claim (claims.StoreUsed q j) is erased null_home some f w lt ready own at = took t c s x claim j ready.0 q null_home f w at lt ready.1
-claims_keep t c s x claim (claims.Withdraw number) is erased null_home some f w lt ready own at = absurd (subst (λ (stage : ClaimStage). ClaimStands t.setting claim.kind stage) is own.stands)
-claims_keep t c s x claim claims.Sweeps is erased null_home some f w lt ready own at =
+claims_keep t c s x claim (claims.Take q j next) is erased null_home some f w lt ready optimistic own at = takes t c s x claim j q next erased null_home f w at
+claims_keep t c s x claim (claims.StoreUsed q j) is erased null_home some f w lt ready optimistic own at = took t c s x claim j ready.0 q null_home f w at lt ready.1
+claims_keep t c s x claim (claims.Withdraw number) is erased null_home some f w lt ready optimistic own at = absurd (never_withdraws t.setting x.entry.number number claim optimistic own is)
+claims_keep t c s x claim claims.Sweeps is erased null_home some f w lt ready optimistic own at =
     let turn = sweep_accepts_at t.setting.sizes t.setting.last claim.sweep (s.memory (word_of (sweep_wants_at claim.sweep.scheme claim.sweep.stage claim.sweep.bound))) claim.sweep.stage in
-    let swept = sweep_step t s claim.sweep claim.sweep.stage some f (claim_warns t.setting claim own) at in
+    let swept = sweep_step t s claim.sweep claim.sweep.stage some f (claim_warns t.setting x.entry.number claim optimistic own) at in
     claim_kept t c s swept.s' x (sweep_ended claim turn.sweep turn.ended).claim (sweep_ended claim turn.sweep turn.ended).ended false _ _ erased null_home f swept.shared_holds swept.goes swept.source swept.unused swept.memory swept.present w
     (sweep_goes_on t swept.s' claim turn.sweep turn.ended is swept.next)

@@ -19,9 +19,10 @@ use Rattle.oa_simulation.specs.sim_relation.Callers.{CallerHolds, HoldsAt}
 use Rattle.oa_simulation.specs.sim_relation.Naming.{freed_in}
 use Rattle.oa_simulation.specs.sim_relation.Steps.{KeptNaming, TakesReady, after_access}
 use Rattle.oa_simulation.proofs.sim_steps.Pools.Claiming.{claims_keep}
+use Rattle.caller_parts.specs.declared.setting.Reclamation.TheVariants.{Optimistic}
 
-pub after_is : (target : Target) (setting : Setting) (e : Entry) (word : ℕ) (r : Routine) → e.routine ≡ r → moved target setting e word ≡ accepted target setting word (counted e) r
-after_is target setting e word r is = ap (λ routine. accepted target setting word (counted e) routine) is
+pub after_is : (target : Target) (setting : Setting) (e : Entry) (word : ℕ) (r : Routine) → e.routine ≡ r → moved Optimistic target setting e word ≡ accepted Optimistic target setting word (counted e) r
+after_is target setting e word r is = ap (λ routine. accepted Optimistic target setting word (counted e) routine) is
 
 pub wants_is : (target : Target) (e : Entry) (r : Routine) → e.routine ≡ r → wants target e ≡ wanted target e r
 unfolding wants
@@ -30,14 +31,14 @@ wants_is target e r is = ap (λ routine. wanted target e routine) is
 -- a step of the core from an entry that wants this access
 abbrev pub StepKept : Plan → ℕ → Shared → Caller → (ℕ → ℕ) → Option WordAccess → Type 0
 StepKept t c s x present' None = Unit {0}
-StepKept t c s x present' (Some a) = KeptNaming t c s x (after_access s.memory a) (moved t.target t.setting x.entry (s.memory (word_of a))) present'
+StepKept t c s x present' (Some a) = KeptNaming t c s x (after_access s.memory a) (moved Optimistic t.target t.setting x.entry (s.memory (word_of a))) present'
 
 -- each step of a claim, of the core as it is
 pub claim_step : (t : Plan) (c : ℕ) (s : Shared) (x : Caller) (claim : Claim) → x.entry.routine ≡ Claims claim → IsPlan t → SharedHolds t s → CallerHolds t s c x → TakesReady s.memory x.entry.routine
-    → is_new_at (instr_in t.target x.entry) ≡ true → x.entry.hand.wrapup ≡ false → new_number t.target x.entry < length x.entry.cradles → ClaimBelongs t.setting claim
+    → is_new_at (instr_in t.target x.entry) ≡ true → x.entry.hand.wrapup ≡ false → new_number t.target x.entry < length x.entry.cradles → ClaimBelongs t.setting x.entry.number claim
     → StepKept t c s x (freed_in claim.stage claim.sweep.stage s.memory s.present) (wants t.target x.entry)
 claim_step t c s x claim is plan f told ready at_new gen lt own =
     let spot : HoldsAt t s c x (Claims claim) = subst (λ (r : Routine). HoldsAt t s c x r) is told.spot in
     subst (λ (o : Option WordAccess). StepKept t c s x (freed_in claim.stage claim.sweep.stage s.memory s.present) o) (sym (wants_is t.target x.entry (Claims claim) is))
     (subst (λ (m : Moved). KeptNaming t c s x (after_access s.memory (claim_wants claim)) m (freed_in claim.stage claim.sweep.stage s.memory s.present)) (sym (after_is t.target t.setting x.entry (s.memory (word_of (claim_wants claim))) (Claims claim) is))
-    (claims_keep t c s x claim claim.stage refl (erasing plan.compiled) plan.null plan.callers f (record { base = told.base; running = spot.1; empty = spot.2; at_new = at_new; generator = gen }) lt (subst (λ (r : Routine). TakesReady s.memory r) is ready) own spot.0))
+    (claims_keep t c s x claim claim.stage refl (erasing plan.compiled) plan.null plan.callers f (record { base = told.base; running = spot.1; empty = spot.2; at_new = at_new; generator = gen }) lt (subst (λ (r : Routine). TakesReady s.memory r) is ready) plan.optimistic own spot.0))

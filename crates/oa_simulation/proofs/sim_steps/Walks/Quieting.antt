@@ -50,7 +50,7 @@ new_routed t s c x core r w = new_moved t s c x core x.entry.running.steps x.ent
 -- at a `new`: guards are cleared, then the claim, or the fields of the slot that the cradle has
 pub cleared_new : (t : Plan) (s : Shared) (c : ℕ) (x : Caller) → Base t s c x → AtNew t s c x (spot_of x.entry.hand) → Ends t s c x (quiet (cleared t.target t.setting.sizes clears.New x.entry))
 cleared_new t s c x b w = by_next (clear_next t.target clears.New x.entry) refl where
-  by_cradle : Empty x → (j : ℕ) → cradle_of x.entry (new_number t.target x.entry) ≡ j → Ends t s c x (quiet (new_on t.setting.sizes (new_kind t.target x.entry) (new_number t.target x.entry) j x.entry))
+  by_cradle : Empty x → (j : ℕ) → cradle_of x.entry (new_number t.target x.entry) ≡ j → Ends t s c x (quiet (new_on Warned t.setting.sizes (new_kind t.target x.entry) (new_number t.target x.entry) j x.entry))
   by_cradle empty zero is = ends_quiet t s c x (Claims (claim_begun t.setting.sizes (new_kind t.target x.entry) Warned)) b (omega arith, new_routed t s c x (spot_of x.entry.hand) (Claims (claim_begun t.setting.sizes (new_kind t.target x.entry) Warned)) w, empty)
   by_cradle empty (suc j) is = ends_quiet t s c x (Zeroes (new_number t.target x.entry) 0) b (
     (λ z. let e : suc j ≡ 0 = sym is ∙ z in omega (arith, e)),

@@ -35,10 +35,11 @@ use Rattle.caller_steps.specs.Signs.{quiet}
 use Rattle.oa_simulation.proofs.sim_relation.Moving.{walks_moved, running_moved}
 use Rattle.oa_simulation.proofs.sim_steps.Walks.Local.{at_spot, having_set, local_runs}
 use Rattle.oa_simulation.proofs.sim_relation.Codes.{instr_is}
+use Rattle.caller_parts.specs.declared.setting.Reclamation.TheVariants.{Optimistic}
 
 -- at an instruction that isn't local
 pub stopped_ends : (t : Plan) (s : Shared) (c : ℕ) (x : Caller) → IsPlan t → SharedHolds t s → Base t s c x → Running t s c x (spot_of x.entry.hand)
-    → Ends t s c x (stopped t.target t.setting.sizes x.entry)
+    → Ends t s c x (stopped Optimistic t.target t.setting.sizes x.entry)
 stopped_ends t s c x plan f b walk = by_instr (instr_in t.target x.entry) refl where
   here : Ends t s c x (quiet (with_routine x.entry At))
   here = ends_quiet t s c x At b (running_moved t s c x (spot_of x.entry.hand) x.entry.running.steps x.entry.counts At walk)
@@ -64,7 +65,7 @@ stopped_ends t s c x plan f b walk = by_instr (instr_in t.target x.entry) refl w
   by_plain instr.Again is = again_ends t s c x walk.0 plan f b walk.1 walk.2 (sym (instr_is t s c x (spot_of x.entry.hand) walk.0 walk.1) ∙ is)
   by_plain _ is = here
 
-  by_instr : (o : Option TargetInstr) → instr_in t.target x.entry ≡ o → Ends t s c x (stops t.target t.setting.sizes o x.entry)
+  by_instr : (o : Option TargetInstr) → instr_in t.target x.entry ≡ o → Ends t s c x (stops Optimistic t.target t.setting.sizes o x.entry)
   by_instr None is = here
   by_instr (Some Check) is = here
   by_instr (Some (Guard r)) is = here
@@ -72,7 +73,7 @@ stopped_ends t s c x plan f b walk = by_instr (instr_in t.target x.entry) refl w
 
 -- local code from a spot, to where it stops
 pub settles_ends : (t : Plan) (s : Shared) (c : ℕ) (x : Caller) (spot : Spot) → IsPlan t → SharedHolds t s → Base t s c (at_spot x spot) → Running t s c (at_spot x spot) spot
-    → Ends t s c (at_spot (having_set x (set_from t.target x.entry x.was_set spot)) (target_run (core_code t.target x.entry) (length (core_code t.target x.entry)) spot)) (settles t.target t.setting.sizes spot x.entry)
+    → Ends t s c (at_spot (having_set x (set_from t.target x.entry x.was_set spot)) (target_run (core_code t.target x.entry) (length (core_code t.target x.entry)) spot)) (settles Optimistic t.target t.setting.sizes spot x.entry)
 settles_ends t s c x spot plan f b walk =
     let there = target_run (core_code t.target x.entry) (length (core_code t.target x.entry)) spot in
     stopped_ends t s c (at_spot (having_set x (set_from t.target x.entry x.was_set spot)) there) plan f (record { number = b.number; seen = b.seen; old = b.old; hazard = b.hazard; protects = b.protects; known = b.known; cradle = b.cradle })

@@ -1,7 +1,11 @@
-use Rattle.std.proofs.Common.{sym, subst}
+use Rattle.std.proofs.Common.{ap, sym, subst}
+use Rattle.script_plans.specs.declared.plan.Plan.{Plan}
 use Rattle.run_judge.specs.Made.{IsMakingFaultOf}
 use Rattle.run_judge.proofs.Made.{is_certificate, is_not_logged}
 use Rattle.run_judge.proofs.making.make_from.Goals as goal
+
+pub images_are_accepted-requires-clause-optimistic : goal.images_are_accepted-requires-clause-optimistic
+images_are_accepted-requires-clause-optimistic c = ap (λ (plan : Plan). plan.setting.reclamation) c.requires.planned.0
 
 pub returns-in_ok-certificate_of-in-Ok : goal.returns-in_ok-certificate_of-in-Ok
 returns-in_ok-certificate_of-in-Ok c =

@@ -10,13 +10,13 @@ pub of_words-requires : goal.of_words-requires
 of_words-requires c =
     let begins : c.words-2.result.now ≡ (core_start c.args.ground.now.target.target c.args.ground.now.setting).words =
     c.words-2.ensures ∙ c.in_ok-words.ensures
-    ∙ ap (λ (p : Paired). (core_start p.target c.ground.inside.setting).words) c.barred.ensures.same ∙ ap (λ (f : Fixed). (core_start f.target.target f.setting).words) c.ground.view_is in
+    ∙ ap (λ (p : Paired). (core_start p.target c.ground.inside.setting).words) c.runs.ensures ∙ ap (λ (f : Fixed). (core_start f.target.target f.setting).words) c.ground.view_is in
     opens c.args.ground.now c.words-2.result.now c.requires begins
 
 pub returns-clause-table : goal.returns-clause-table
 returns-clause-table c =
     let begins : c.words-2.result.now ≡ (core_start c.args.ground.now.target.target c.args.ground.now.setting).words =
     c.words-2.ensures ∙ c.in_ok-words.ensures
-    ∙ ap (λ (p : Paired). (core_start p.target c.ground.inside.setting).words) c.barred.ensures.same ∙ ap (λ (f : Fixed). (core_start f.target.target f.setting).words) c.ground.view_is in
+    ∙ ap (λ (p : Paired). (core_start p.target c.ground.inside.setting).words) c.runs.ensures ∙ ap (λ (f : Fixed). (core_start f.target.target f.setting).words) c.ground.view_is in
     let count : length c.words-2.result.now ≡ word_count c.args.ground.now.setting.sizes = opening_count c.args.ground.now c.words-2.result.now c.requires begins in
     search (rules, count)

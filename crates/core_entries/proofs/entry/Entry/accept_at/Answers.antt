@@ -5,36 +5,36 @@ use Rattle.caller_steps.specs.Wants.{wants}
 use Rattle.caller_steps.specs.After.{after}
 use Rattle.caller_steps.specs.Lawful.{MayBeTold}
 use Rattle.core_entries.specs.Callers.{BelongsTo, HasRoom}
-use Rattle.core_entries.proofs.Calling.{told, near, news, keeps, runs, room_kept}
+use Rattle.core_entries.proofs.Calling.{runnable, told, near, news, keeps, runs, room_kept}
 use Rattle.core_entries.proofs.entry.Entry.accept_at.Goals as goal
 
 pub accept_at-requires-clause-spare : goal.accept_at-requires-clause-spare
 accept_at-requires-clause-spare c =
     c.self.invariant.0
-    (runs c.args.barred.now c.args.setting.now c.self.inside.state.core c.kept-2.ensures c.kept.ensures
+    (runs c.args.barred.now c.args.setting.now c.self.inside.state.core (runnable c.args.barred.now c.kept-2.ensures) c.kept.ensures
     (subst (λ (e : RoomyEntry). BelongsTo c.args.barred.now c.args.setting.now e.core) (sym c.self.view_is) c.requires.belongs)
     (subst (λ (e : RoomyEntry). wants c.args.barred.now.target e.core ≢ None) (sym c.self.view_is) c.requires.wanted))
 
 pub accept_at-requires-clause-near : goal.accept_at-requires-clause-near
 accept_at-requires-clause-near c =
-    near c.args.barred.now c.args.setting.now c.self.inside.state.core c.kept-2.ensures c.kept.ensures
+    near c.args.barred.now c.args.setting.now c.self.inside.state.core (runnable c.args.barred.now c.kept-2.ensures) c.kept.ensures
     (subst (λ (e : RoomyEntry). BelongsTo c.args.barred.now c.args.setting.now e.core) (sym c.self.view_is) c.requires.belongs)
 
 pub accept_at-requires-clause-kinds : goal.accept_at-requires-clause-kinds
 accept_at-requires-clause-kinds c =
-    news c.args.barred.now c.args.program.now c.args.setting.now c.self.inside.state.core c.requires.program c.kept-2.ensures c.kept.ensures
+    news c.args.barred.now c.args.program.now c.args.setting.now c.self.inside.state.core c.requires.program (runnable c.args.barred.now c.kept-2.ensures) c.kept.ensures
     (subst (λ (e : RoomyEntry). BelongsTo c.args.barred.now c.args.setting.now e.core) (sym c.self.view_is) c.requires.belongs)
 
 pub accept_at-requires-clause-can : goal.accept_at-requires-clause-can
 accept_at-requires-clause-can c =
-    told c.args.barred.now c.args.program.now c.args.setting.now c.self.inside.state.core c.args.word c.requires.program c.kept-2.ensures c.kept.ensures
+    told c.args.barred.now c.args.program.now c.args.setting.now c.self.inside.state.core c.args.word c.requires.program (runnable c.args.barred.now c.kept-2.ensures) c.kept.ensures
     (subst (λ (e : RoomyEntry). BelongsTo c.args.barred.now c.args.setting.now e.core) (sym c.self.view_is) c.requires.belongs)
     (subst (λ (e : RoomyEntry). MayBeTold c.args.barred.now.target c.args.setting.now (wants c.args.barred.now.target e.core) c.args.word) (sym c.self.view_is) c.requires.lawful)
 
 pub invariant_of-self : goal.invariant_of-self
 invariant_of-self c =
     let busy : is_idle c.self.inside.state.core.routine ≡ false =
-    runs c.args.barred.now c.args.setting.now c.self.inside.state.core c.kept-2.ensures c.kept.ensures
+    runs c.args.barred.now c.args.setting.now c.self.inside.state.core (runnable c.args.barred.now c.kept-2.ensures) c.kept.ensures
     (subst (λ (e : RoomyEntry). BelongsTo c.args.barred.now c.args.setting.now e.core) (sym c.self.view_is) c.requires.belongs)
     (subst (λ (e : RoomyEntry). wants c.args.barred.now.target e.core ≢ None) (sym c.self.view_is) c.requires.wanted) in (
       subst (λ (e : RoomyEntry). HasRoom e) (sym c.accept_at.ensures)
@@ -47,6 +47,6 @@ returns-clause-belongs c =
     subst (λ (e : Entry). BelongsTo c.args.barred.now c.args.setting.now e)
     (sym (ap (λ (e : RoomyEntry). e.core) c.accept_at.ensures
     ∙ ap (λ (t : Target). after t c.args.setting.now c.self.inside.state.core c.args.word) c.requires.program))
-    (keeps c.args.barred.now c.args.setting.now c.self.inside.state.core c.args.word c.kept-2.ensures c.kept.ensures
+    (keeps c.args.barred.now c.args.setting.now c.self.inside.state.core c.args.word (runnable c.args.barred.now c.kept-2.ensures) c.kept.ensures
     (subst (λ (e : RoomyEntry). BelongsTo c.args.barred.now c.args.setting.now e.core) (sym c.self.view_is) c.requires.belongs)
     (subst (λ (e : RoomyEntry). MayBeTold c.args.barred.now.target c.args.setting.now (wants c.args.barred.now.target e.core) c.args.word) (sym c.self.view_is) c.requires.lawful))

@@ -5,12 +5,12 @@ use Rattle.caller_steps.specs.Entries.{RoomyEntry}
 use Rattle.caller_steps.specs.Wants.{wants}
 use Rattle.caller_steps.specs.Asking.{located_option}
 use Rattle.core_entries.specs.Callers.{BelongsTo}
-use Rattle.core_entries.proofs.Calling.{asks, wanted}
+use Rattle.core_entries.proofs.Calling.{runnable, asks, wanted}
 use Rattle.core_entries.proofs.entry.Entry.pending_at.Goals as goal
 
 pub pending_at-requires-clause-can : goal.pending_at-requires-clause-can
 pending_at-requires-clause-can c =
-    asks c.args.barred.now c.args.program.now c.args.setting.now c.self.inside.state.core c.requires.program c.kept-2.ensures c.kept.ensures
+    asks c.args.barred.now c.args.program.now c.args.setting.now c.self.inside.state.core c.requires.program (runnable c.args.barred.now c.kept-2.ensures) c.kept.ensures
     (subst (λ (e : RoomyEntry). BelongsTo c.args.barred.now c.args.setting.now e.core) (sym c.self.view_is) c.requires.belongs)
 
 pub returns-clause-idle : goal.returns-clause-idle
@@ -18,4 +18,4 @@ returns-clause-idle c =
     ap is_some (c.pending_at.ensures
     ∙ ap (λ (t : Target). located_option c.args.setting.now.sizes (wants t c.self.inside.state.core)) c.requires.program
     ∙ ap (λ (e : RoomyEntry). located_option c.args.setting.now.sizes (wants c.args.barred.now.target e.core)) c.self.view_is)
-    ∙ wanted c.args.barred.now c.args.setting.now c.args.self.now.core c.kept-2.ensures c.kept.ensures c.requires.belongs
+    ∙ wanted c.args.barred.now c.args.setting.now c.args.self.now.core (runnable c.args.barred.now c.kept-2.ensures) c.kept.ensures c.requires.belongs

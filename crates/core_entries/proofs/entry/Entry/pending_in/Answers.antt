@@ -6,12 +6,12 @@ use Rattle.caller_steps.specs.Entries.{RoomyEntry}
 use Rattle.caller_steps.specs.Wants.{wants}
 use Rattle.caller_steps.specs.Asking.{located_option}
 use Rattle.core_entries.specs.Callers.{BelongsTo, IsInRow}
-use Rattle.core_entries.proofs.Calling.{asks, wanted, row}
+use Rattle.core_entries.proofs.Calling.{runnable, asks, wanted, row}
 use Rattle.core_entries.proofs.entry.Entry.pending_in.Goals as goal
 
 pub pending-requires-clause-can : goal.pending-requires-clause-can
 pending-requires-clause-can c =
-    asks c.args.barred.now c.args.program.now c.args.setting.now c.self.inside.state.core c.requires.program c.kept-2.ensures c.kept.ensures
+    asks c.args.barred.now c.args.program.now c.args.setting.now c.self.inside.state.core c.requires.program (runnable c.args.barred.now c.kept-2.ensures) c.kept.ensures
     (subst (λ (e : RoomyEntry). BelongsTo c.args.barred.now c.args.setting.now e.core) (sym c.self.view_is) c.requires.belongs)
 
 pub returns-clause-idle : goal.returns-clause-idle
@@ -19,7 +19,7 @@ returns-clause-idle c =
     ap is_some (c.pending.ensures
     ∙ ap (λ (t : Target). located_option c.args.setting.now.sizes (wants t c.self.inside.state.core)) c.requires.program
     ∙ ap (λ (e : RoomyEntry). located_option c.args.setting.now.sizes (wants c.args.barred.now.target e.core)) c.self.view_is)
-    ∙ wanted c.args.barred.now c.args.setting.now c.args.self.now.core c.kept-2.ensures c.kept.ensures c.requires.belongs
+    ∙ wanted c.args.barred.now c.args.setting.now c.args.self.now.core (runnable c.args.barred.now c.kept-2.ensures) c.kept.ensures c.requires.belongs
 
 pub returns-clause-row : goal.returns-clause-row
 returns-clause-row c =
@@ -27,4 +27,4 @@ returns-clause-row c =
     (sym (c.pending.ensures
     ∙ ap (λ (t : Target). located_option c.args.setting.now.sizes (wants t c.self.inside.state.core)) c.requires.program
     ∙ ap (λ (e : RoomyEntry). located_option c.args.setting.now.sizes (wants c.args.barred.now.target e.core)) c.self.view_is))
-    (row c.args.barred.now c.args.setting.now c.args.self.now.core c.kept-2.ensures c.kept.ensures c.requires.belongs)
+    (row c.args.barred.now c.args.setting.now c.args.self.now.core (runnable c.args.barred.now c.kept-2.ensures) c.kept.ensures c.requires.belongs)

@@ -27,6 +27,6 @@ pub returns-clause-outcome : goal.returns-clause-outcome
 returns-clause-outcome c =
     let call : Call = record { op = c.args.op; args = c.args.args } in
     replies_taken c.args.arena.now.fixed c.args.self.now.entry.core c.begin.new.entry.core c.drive.new.entry.core call c.drive.ensures.ran.drove.words (answer_of c.answer.result)
-    (ap (λ (r : RoomyEntry). r.core) c.begin.ensures.taken ∙ ap (λ (x : CallerShown). taken call x.entry.core) c.self.view_is)
+    (ap (λ (r : RoomyEntry). r.core) c.begin.ensures.taken ∙ ap (λ (x : CallerShown). taken c.args.arena.now.fixed.setting.reclamation call x.entry.core) c.self.view_is)
     c.drive.ensures.ran.drove.advances
     c.answer.ensures

@@ -1,0 +1,4 @@
+pub mod PlainCode
+mod Erasing
+mod Limited
+pub mod Runnable

@@ -1,0 +1,54 @@
+use Rattle.std.proofs.Common.{◌≡◌, ◌≢◌, false, None, sym, ap, subst, ◌∙◌}
+use Rattle.target_code.specs.declared.target.Target.{Target}
+use Rattle.barrier_check.specs.Paired.{Paired}
+use Rattle.caller_steps.specs.Entries.{Entry, RoomyEntry, is_idle}
+use Rattle.caller_steps.specs.Wants.{wants}
+use Rattle.caller_steps.specs.After.{after}
+use Rattle.caller_steps.specs.Lawful.{MayBeTold}
+use Rattle.core_entries.specs.Callers.{BelongsTo, HasRoom}
+use Rattle.core_entries.specs.Running.{pair_of}
+use Rattle.core_entries.proofs.Calling.{told, near, news, keeps, runs, room_kept}
+use Rattle.core_entries.proofs.entry.Entry.accept_by.Goals as goal
+
+pub accept-requires-clause-spare : goal.accept-requires-clause-spare
+accept-requires-clause-spare c =
+    c.self.invariant.0
+    (runs (pair_of c.args.runs) c.args.setting.now c.self.inside.state.core c.kept-2.ensures c.kept.ensures
+    (subst (λ (e : RoomyEntry). BelongsTo (pair_of c.args.runs) c.args.setting.now e.core) (sym c.self.view_is) c.requires.belongs)
+    (subst (λ (e : RoomyEntry). wants (pair_of c.args.runs).target e.core ≢ None) (sym c.self.view_is) c.requires.wanted))
+
+pub accept-requires-clause-near : goal.accept-requires-clause-near
+accept-requires-clause-near c =
+    near (pair_of c.args.runs) c.args.setting.now c.self.inside.state.core c.kept-2.ensures c.kept.ensures
+    (subst (λ (e : RoomyEntry). BelongsTo (pair_of c.args.runs) c.args.setting.now e.core) (sym c.self.view_is) c.requires.belongs)
+
+pub accept-requires-clause-kinds : goal.accept-requires-clause-kinds
+accept-requires-clause-kinds c =
+    news (pair_of c.args.runs) c.program.result c.args.setting.now c.self.inside.state.core (c.program.ensures ∙ ap (λ (p : Paired). p.target) c.new-ready.ensures) c.kept-2.ensures c.kept.ensures
+    (subst (λ (e : RoomyEntry). BelongsTo (pair_of c.args.runs) c.args.setting.now e.core) (sym c.self.view_is) c.requires.belongs)
+
+pub accept-requires-clause-can : goal.accept-requires-clause-can
+accept-requires-clause-can c =
+    told (pair_of c.args.runs) c.program.result c.args.setting.now c.self.inside.state.core c.args.word (c.program.ensures ∙ ap (λ (p : Paired). p.target) c.new-ready.ensures) c.kept-2.ensures c.kept.ensures
+    (subst (λ (e : RoomyEntry). BelongsTo (pair_of c.args.runs) c.args.setting.now e.core) (sym c.self.view_is) c.requires.belongs)
+    (subst (λ (e : RoomyEntry). MayBeTold (pair_of c.args.runs).target c.args.setting.now (wants (pair_of c.args.runs).target e.core) c.args.word) (sym c.self.view_is) c.requires.lawful)
+
+pub invariant_of-self : goal.invariant_of-self
+invariant_of-self c =
+    let busy : is_idle c.self.inside.state.core.routine ≡ false =
+    runs (pair_of c.args.runs) c.args.setting.now c.self.inside.state.core c.kept-2.ensures c.kept.ensures
+    (subst (λ (e : RoomyEntry). BelongsTo (pair_of c.args.runs) c.args.setting.now e.core) (sym c.self.view_is) c.requires.belongs)
+    (subst (λ (e : RoomyEntry). wants (pair_of c.args.runs).target e.core ≢ None) (sym c.self.view_is) c.requires.wanted) in (
+      subst (λ (e : RoomyEntry). HasRoom e) (sym c.accept.ensures)
+          (room_kept c.program.result c.args.setting.now c.self.inside.state.core c.self.inside.state.room c.args.word busy (c.self.invariant.0 busy)),
+      c.self.invariant.1 ∙ ap (λ (e : RoomyEntry). e.room) (sym c.accept.ensures),
+    )
+
+pub returns-clause-belongs : goal.returns-clause-belongs
+returns-clause-belongs c =
+    subst (λ (e : Entry). BelongsTo (pair_of c.args.runs) c.args.setting.now e)
+    (sym (ap (λ (e : RoomyEntry). e.core) c.accept.ensures
+    ∙ ap (λ (t : Target). after t c.args.setting.now c.self.inside.state.core c.args.word) (c.program.ensures ∙ ap (λ (p : Paired). p.target) c.new-ready.ensures)))
+    (keeps (pair_of c.args.runs) c.args.setting.now c.self.inside.state.core c.args.word c.kept-2.ensures c.kept.ensures
+    (subst (λ (e : RoomyEntry). BelongsTo (pair_of c.args.runs) c.args.setting.now e.core) (sym c.self.view_is) c.requires.belongs)
+    (subst (λ (e : RoomyEntry). MayBeTold (pair_of c.args.runs).target c.args.setting.now (wants (pair_of c.args.runs).target e.core) c.args.word) (sym c.self.view_is) c.requires.lawful))

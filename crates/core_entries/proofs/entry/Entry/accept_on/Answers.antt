@@ -1,0 +1,52 @@
+use Rattle.std.proofs.Common.{◌≡◌, ◌≢◌, false, None, sym, ap, subst, ◌∙◌}
+use Rattle.target_code.specs.declared.target.Target.{Target}
+use Rattle.caller_steps.specs.Entries.{Entry, RoomyEntry, is_idle}
+use Rattle.caller_steps.specs.Wants.{wants}
+use Rattle.caller_steps.specs.After.{after}
+use Rattle.caller_steps.specs.Lawful.{MayBeTold}
+use Rattle.core_entries.specs.Callers.{BelongsTo, HasRoom}
+use Rattle.core_entries.proofs.Calling.{told, near, news, keeps, runs, room_kept}
+use Rattle.core_entries.proofs.entry.Entry.accept_on.Goals as goal
+
+pub accept-requires-clause-spare : goal.accept-requires-clause-spare
+accept-requires-clause-spare c =
+    c.self.invariant.0
+    (runs c.args.loaded.now c.args.setting.now c.self.inside.state.core c.kept-2.ensures c.kept.ensures
+    (subst (λ (e : RoomyEntry). BelongsTo c.args.loaded.now c.args.setting.now e.core) (sym c.self.view_is) c.requires.belongs)
+    (subst (λ (e : RoomyEntry). wants c.args.loaded.now.target e.core ≢ None) (sym c.self.view_is) c.requires.wanted))
+
+pub accept-requires-clause-near : goal.accept-requires-clause-near
+accept-requires-clause-near c =
+    near c.args.loaded.now c.args.setting.now c.self.inside.state.core c.kept-2.ensures c.kept.ensures
+    (subst (λ (e : RoomyEntry). BelongsTo c.args.loaded.now c.args.setting.now e.core) (sym c.self.view_is) c.requires.belongs)
+
+pub accept-requires-clause-kinds : goal.accept-requires-clause-kinds
+accept-requires-clause-kinds c =
+    news c.args.loaded.now c.program.result c.args.setting.now c.self.inside.state.core c.program.ensures c.kept-2.ensures c.kept.ensures
+    (subst (λ (e : RoomyEntry). BelongsTo c.args.loaded.now c.args.setting.now e.core) (sym c.self.view_is) c.requires.belongs)
+
+pub accept-requires-clause-can : goal.accept-requires-clause-can
+accept-requires-clause-can c =
+    told c.args.loaded.now c.program.result c.args.setting.now c.self.inside.state.core c.args.word c.program.ensures c.kept-2.ensures c.kept.ensures
+    (subst (λ (e : RoomyEntry). BelongsTo c.args.loaded.now c.args.setting.now e.core) (sym c.self.view_is) c.requires.belongs)
+    (subst (λ (e : RoomyEntry). MayBeTold c.args.loaded.now.target c.args.setting.now (wants c.args.loaded.now.target e.core) c.args.word) (sym c.self.view_is) c.requires.lawful)
+
+pub invariant_of-self : goal.invariant_of-self
+invariant_of-self c =
+    let busy : is_idle c.self.inside.state.core.routine ≡ false =
+    runs c.args.loaded.now c.args.setting.now c.self.inside.state.core c.kept-2.ensures c.kept.ensures
+    (subst (λ (e : RoomyEntry). BelongsTo c.args.loaded.now c.args.setting.now e.core) (sym c.self.view_is) c.requires.belongs)
+    (subst (λ (e : RoomyEntry). wants c.args.loaded.now.target e.core ≢ None) (sym c.self.view_is) c.requires.wanted) in (
+      subst (λ (e : RoomyEntry). HasRoom e) (sym c.accept.ensures)
+          (room_kept c.program.result c.args.setting.now c.self.inside.state.core c.self.inside.state.room c.args.word busy (c.self.invariant.0 busy)),
+      c.self.invariant.1 ∙ ap (λ (e : RoomyEntry). e.room) (sym c.accept.ensures),
+    )
+
+pub returns-clause-belongs : goal.returns-clause-belongs
+returns-clause-belongs c =
+    subst (λ (e : Entry). BelongsTo c.args.loaded.now c.args.setting.now e)
+    (sym (ap (λ (e : RoomyEntry). e.core) c.accept.ensures
+    ∙ ap (λ (t : Target). after t c.args.setting.now c.self.inside.state.core c.args.word) c.program.ensures))
+    (keeps c.args.loaded.now c.args.setting.now c.self.inside.state.core c.args.word c.kept-2.ensures c.kept.ensures
+    (subst (λ (e : RoomyEntry). BelongsTo c.args.loaded.now c.args.setting.now e.core) (sym c.self.view_is) c.requires.belongs)
+    (subst (λ (e : RoomyEntry). MayBeTold c.args.loaded.now.target c.args.setting.now (wants c.args.loaded.now.target e.core) c.args.word) (sym c.self.view_is) c.requires.lawful))

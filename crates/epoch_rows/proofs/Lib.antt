@@ -1,0 +1,4 @@
+pub mod Lone
+pub mod Held
+pub mod Window
+pub mod Whole

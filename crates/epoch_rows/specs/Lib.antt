@@ -1,0 +1,5 @@
+pub mod EpochStories
+pub mod LoneRows
+pub mod HeldRows
+pub mod WindowRows
+pub mod WholeRows

@@ -1,0 +1,3 @@
+pub mod StepsBegun
+pub mod ScriptsBegun
+pub mod Following

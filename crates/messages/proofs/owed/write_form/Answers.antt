@@ -1,0 +1,4 @@
+use Rattle.messages.proofs.owed.write_form.Goals as goal
+
+pub returns-clause-bytes : goal.returns-clause-bytes
+returns-clause-bytes g c = rw (← c.trimmed.ensures, ← c.number.ensures) c.write_pieces.ensures.bytes

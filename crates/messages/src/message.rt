@@ -1,0 +1,201 @@
+//! The message on a status, for a person who reads it beside what was read.
+
+ghost use Rattle.std.specs.Prelude.{◌≡◌, ◌+◌, ◌<◌, ◌≤◌, ◌^◌, length};
+ghost use Rattle.oa_text.specs.Causes.{HasCause};
+ghost use Rattle.oa_text.specs.Lines.{lines_of};
+ghost use Rattle.oa_text.specs.Shown.{line_shown};
+ghost use Rattle.oa_text.specs.Written.{Writes};
+ghost use Rattle.messages.specs.Faults.{odd_byte};
+ghost use Rattle.messages.specs.Messages.{byte_message, unknown_message, fault_at_message, fault_message, refusal_message, shape_at_message, shape_message, message_of, message_for};
+ghost use Rattle.messages.specs.Remembered.{most_remembered, remembered};
+
+use crate::faults::{NamedWord, named_word, odd_byte, write_byte, write_repeated, write_unknown};
+use crate::lines::{numbered_line, op_line};
+use crate::owed::{explain_end, explain_misplaced, owed_at};
+use crate::refused::{refused_lines, write_refused};
+use crate::remembering::RememberingSource;
+use crate::shapes::{shape_line, write_arguments, write_shape_at};
+use crate::words::word_at;
+use oa_text::{Failed, Line, Sink, Source};
+use statuses::{Refusal, Status, explain};
+
+/// Writes what a line names that isn't declared.
+fn explain_unknown<K: Sink>(
+    errors: &mut K,
+    line: Line,
+    named: NamedWord,
+    number: u32,
+) -> Result<(), Failed>
+    ensures bytes { Writes (K.written errors.old) (K.written errors.new) (unknown_message (line_shown line.entry) named number) result }
+    ensures cause { HasCause (K.faults errors.old) (K.faults errors.new) result }
+{
+    match named {
+        NamedWord::Field(at) => write_unknown(errors, line, b"field", at),
+        NamedWord::Root(at) => write_unknown(errors, line, b"root", at),
+        NamedWord::Kind(at) => write_unknown(errors, line, b"kind", at),
+        NamedWord::Node(at) => write_unknown(errors, line, b"initial node", at),
+        NamedWord::Operation(at) => write_unknown(errors, line, b"operation", at),
+        NamedWord::Unknown => explain(
+            errors,
+            Status::BadDocument {
+                line: number,
+                fault: 5,
+            },
+        ),
+    }
+}
+
+/// Writes which byte of a line may not stand there, or else the sentence on its fault alone.
+fn explain_byte<K: Sink>(errors: &mut K, line: Line, number: u32) -> Result<(), Failed>
+    ensures bytes { Writes (K.written errors.old) (K.written errors.new) (byte_message (odd_byte (line_shown line.entry)) (line_shown line.entry) number) result }
+    ensures cause { HasCause (K.faults errors.old) (K.faults errors.new) result }
+{
+    match odd_byte(line) {
+        Some(odd) => write_byte(errors, line, odd),
+        None => explain(
+            errors,
+            Status::BadDocument {
+                line: number,
+                fault: 1,
+            },
+        ),
+    }
+}
+
+/// Writes what is wrong with a line that was read.
+fn explain_fault_at<K: Sink>(
+    errors: &mut K,
+    bytes: &[u8],
+    line: Line,
+    number: u32,
+    fault: u8,
+) -> Result<(), Failed>
+    requires { length (lines_of bytes.now) + 1 < 2 ^ 32 }
+    ensures bytes { Writes (K.written errors.old) (K.written errors.new) (fault_at_message bytes.now (line_shown line.entry) number fault) result }
+    ensures cause { HasCause (K.faults errors.old) (K.faults errors.new) result }
+{
+    if fault == 1 {
+        explain_byte(errors, line, number)
+    } else if fault == 4 {
+        explain_misplaced(errors, bytes, line)
+    } else if fault == 5 {
+        explain_unknown(errors, line, named_word(bytes, line), number)
+    } else if fault == 6 {
+        write_repeated(errors, line)
+    } else {
+        explain(
+            errors,
+            Status::BadDocument {
+                line: number,
+                fault,
+            },
+        )
+    }
+}
+
+/// Writes what is wrong with a document.
+fn explain_fault<K: Sink>(
+    errors: &mut K,
+    bytes: &[u8],
+    number: u32,
+    fault: u8,
+) -> Result<(), Failed>
+    requires { length (lines_of bytes.now) + 1 < 2 ^ 32 }
+    ensures bytes { Writes (K.written errors.old) (K.written errors.new) (fault_message bytes.now number fault) result }
+    ensures cause { HasCause (K.faults errors.old) (K.faults errors.new) result }
+{
+    match numbered_line(bytes, number as u64) {
+        Some(line) => explain_fault_at(errors, bytes, line, number, fault),
+        None if fault == 4 => explain_end(errors, number, owed_at(bytes, number)),
+        None => explain(
+            errors,
+            Status::BadDocument {
+                line: number,
+                fault,
+            },
+        ),
+    }
+}
+
+/// Writes which rule is broken, and where.
+fn explain_refusal<K: Sink>(errors: &mut K, bytes: &[u8], refusal: Refusal) -> Result<(), Failed>
+    requires { length (lines_of bytes.now) + 1 < 2 ^ 32 }
+    ensures bytes { Writes (K.written errors.old) (K.written errors.new) (refusal_message bytes.now refusal) result }
+    ensures cause { HasCause (K.faults errors.old) (K.faults errors.new) result }
+{
+    match refused_lines(bytes, refusal) {
+        Some(found) => write_refused(errors, found, refusal),
+        None => explain(errors, Status::Refused { refusal }),
+    }
+}
+
+/// Writes with which line a document can't be run.
+fn explain_shape_at<K: Sink>(
+    errors: &mut K,
+    bytes: &[u8],
+    line: Line,
+    number: u8,
+) -> Result<(), Failed>
+    requires { length (lines_of bytes.now) + 1 < 2 ^ 32 }
+    ensures bytes { Writes (K.written errors.old) (K.written errors.new) (shape_at_message bytes.now (line_shown line.entry) number) result }
+    ensures cause { HasCause (K.faults errors.old) (K.faults errors.new) result }
+{
+    if number == 9 {
+        match op_line(bytes, word_at(line, 0)) {
+            Some(op) => write_arguments(errors, line, op),
+            None => write_shape_at(errors, line, number),
+        }
+    } else {
+        write_shape_at(errors, line, number)
+    }
+}
+
+/// Writes why a document can't be run.
+fn explain_shape<K: Sink>(errors: &mut K, bytes: &[u8], number: u8, at: u64) -> Result<(), Failed>
+    requires { length (lines_of bytes.now) + 1 < 2 ^ 32 }
+    ensures bytes { Writes (K.written errors.old) (K.written errors.new) (shape_message bytes.now number at) result }
+    ensures cause { HasCause (K.faults errors.old) (K.faults errors.new) result }
+{
+    match shape_line(bytes, number, at) {
+        Some(line) => explain_shape_at(errors, bytes, line, number),
+        None => explain(errors, Status::BadShape { number, at }),
+    }
+}
+
+/// Writes the message on a status, where these bytes were read.
+fn explain_of<K: Sink>(errors: &mut K, bytes: &[u8], status: Status) -> Result<(), Failed>
+    requires { length bytes.now ≤ most_remembered }
+    ensures bytes { Writes (K.written errors.old) (K.written errors.new) (message_of bytes.now status) result }
+    ensures cause { HasCause (K.faults errors.old) (K.faults errors.new) result }
+{
+    match status {
+        Status::BadDocument { line, fault } => explain_fault(errors, bytes, line, fault),
+        Status::Refused { refusal } => explain_refusal(errors, bytes, refusal),
+        Status::BadShape { number, at } => explain_shape(errors, bytes, number, at),
+        Status::Done
+        | Status::Partial
+        | Status::Usage
+        | Status::ReadFault
+        | Status::LongInput
+        | Status::WriteFault
+        | Status::Memory
+        | Status::Rejected { .. } => explain(errors, status),
+    }
+}
+
+/// Writes the message on a status, where a source remembers what was read: what it means, which line is at fault, and how to mend
+/// it; where that is forgotten, the sentence on the status alone. Where all went well there is none. At `Failed` a prefix of it
+/// was written.
+pub fn explain_read<K: Sink, S: Source>(
+    errors: &mut K,
+    input: &RememberingSource<S>,
+    status: Status,
+) -> Result<(), Failed>
+    ensures bytes { Writes (K.written errors.old) (K.written errors.new) (message_for (remembered input.now) status) result }
+    ensures cause { HasCause (K.faults errors.old) (K.faults errors.new) result }
+{
+    match input.bytes() {
+        Some(bytes) => explain_of(errors, bytes, status),
+        None => explain(errors, status),
+    }
+}

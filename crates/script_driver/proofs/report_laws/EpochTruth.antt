@@ -1,0 +1,83 @@
+-- The lines of a report under epochs are true of the run in whose end it was made.
+use Rattle.std.proofs.Common.{◌≡◌, ◌≤◌, ℕ, ◌+◌, length, Some, refl, sym, arith}
+use Rattle.std.specs.Prelude.{slice_get}
+use Rattle.std.specs.List.{sum_by}
+use Rattle.norm_lang.specs.Shipped.{queue_text}
+use Rattle.source_machine.specs.Proper.{IsProper}
+use Rattle.target_laws.specs.target_runs.Runnable.{IsRunnable as MayRun}
+use Rattle.bare_targets.specs.Bare.{bare}
+use Rattle.bare_targets.specs.BareLaws.{BareTextsAreRunnable}
+use Rattle.caller_parts.specs.declared.call.Reply.TheVariants as replies
+use Rattle.caller_parts.specs.declared.call.Replied.{Replied}
+use Rattle.caller_parts.specs.Settings.{Fits, IsSetting}
+use Rattle.caller_steps.specs.Entries.{Entry}
+use Rattle.core_runs.specs.Machine.{OfAll, Reachable}
+use Rattle.core_runs.specs.Swept.{RestartsAreCounted}
+use Rattle.core_runs.proofs.core_sound.Reached.{states_are_sound}
+use Rattle.claim_laws.specs.Causes.{RepliesAreCaused}
+use Rattle.claim_laws.specs.Full.{claims_in, FillAKind}
+use Rattle.oa_words.proofs.KindRanges.{part_within}
+use Rattle.claim_laws.proofs.Following.{replies_caused}
+use Rattle.claim_laws.proofs.Filling.{full_takes}
+use Rattle.epoch_runs.specs.Source.{RunsFollowSource}
+use Rattle.script_plans.specs.Shapes.{sizes_of, setting_of, epoch_setting_of}
+use Rattle.script_plans.specs.Plans.{calls_of as scripts_of}
+use Rattle.document_runs.specs.Reports.{claims_of, capped, report_of}
+use Rattle.script_driver.specs.report_laws.Lines.{TakesClaims}
+use Rattle.legal_histories.specs.Told.{SetRunsAreLegal, QueueRunsAreLegal}
+use Rattle.script_driver.specs.report_laws.EpochSources.{epoch_source_of, HasEpochSourceRun}
+use Rattle.script_driver.specs.report_laws.EpochLines.{IsTrueEpochLine, EpochReportsAreTrue}
+use Rattle.script_driver.proofs.report_laws.EachLine.{told_reply, every_line}
+use Rattle.script_driver.proofs.report_laws.Runnable.{kinds_are_all, setting_is}
+use Rattle.script_driver.proofs.report_laws.Answering.{true_answer}
+use Rattle.script_driver.proofs.report_laws.Sourced.{SetsAreProper, named_is_proper, source_answer}
+use Rattle.script_driver.proofs.report_laws.EpochOrdering.{epochs_have_legal_history}
+use Rattle.script_driver.proofs.report_laws.EpochSourced.{has_epoch_source_run}
+use Rattle.script_driver.proofs.report_laws.Truth.{summed}
+
+pub reports_true : BareTextsAreRunnable → OfAll RestartsAreCounted → RunsFollowSource → SetsAreProper → IsProper queue_text → SetRunsAreLegal → QueueRunsAreLegal → EpochReportsAreTrue
+reports_true runnable counted follow sets queue set_runs queue_runs document events state within can complete = record {
+  complete = complete;
+  of = refl;
+  lines = every_line state (IsTrueEpochLine document events state) (λ c i call e there. true_answer (bare document.text) (epoch_setting_of document) (scripts_of document) document.fuel events state complete caused c e there i) 0 document.scripts count;
+  full = every_line state (TakesClaims document (capped (sum_by claims_of state.entries))) (λ c i call e there full. enough c i e there (told_reply state c e there i replies.Full full)) 0 document.scripts count;
+  restarts = λ c e there. (counted (bare document.text) (epoch_setting_of document)).run refl events state c e complete.run.runs there;
+  proper = sourced;
+  named = λ words named. sourced (named_is_proper sets queue words document.text named);
+  legal = λ words named.
+      let from_source = sourced (named_is_proper sets queue words document.text named) in
+      epochs_have_legal_history document events state complete from_source.run (omega (arith, count))
+      (λ c e there i. true_answer (bare document.text) (epoch_setting_of document) (scripts_of document) document.fuel events state complete caused c e there i)
+      (λ c e there i. source_answer (epoch_source_of document events) state c e there (from_source.run.simulated.refined.agrees c e there) i)
+      set_runs queue_runs can words named;
+} where
+  own : IsSetting (epoch_setting_of document)
+  own = let same = setting_is document can in record { sizes = same.sizes; first = same.first; phases = same.phases; last = same.last; nodes = same.nodes }
+
+  may : MayRun (bare document.text) document.text
+  may = runnable document.text within.text can.normal
+
+  fits : Fits (bare document.text) (epoch_setting_of document)
+  fits = record { kinds = kinds_are_all document can; fields = refl; cells = refl; nodes = refl }
+
+  caused : RepliesAreCaused (bare document.text) (epoch_setting_of document)
+  caused = replies_caused (bare document.text) document.text (epoch_setting_of document) may own fits
+
+  reached : Reachable (bare document.text) (epoch_setting_of document) state
+  reached = record { events = events; runs = complete.run.runs }
+
+  count : 0 + length document.scripts ≡ length state.entries
+  count = let same : length document.scripts ≡ length state.entries = sym (states_are_sound (bare document.text) document.text (epoch_setting_of document) state may own fits reached).callers in omega (arith, same)
+
+  sourced : IsProper document.text → HasEpochSourceRun document events state (report_of document state)
+  sourced proper = has_epoch_source_run follow document events state may own fits count complete proper
+
+  enough : (c i : ℕ) (e : Entry) → slice_get state.entries c ≡ Some e → (replied : Replied) × (slice_get e.replies i ≡ Some replied) × (replied.reply ≡ replies.Full)
+      → FillAKind (setting_of document) (capped (sum_by claims_of state.entries))
+  enough c i e there found =
+      let all : FillAKind (epoch_setting_of document) (claims_in state.entries) = (full_takes (bare document.text) document.text (epoch_setting_of document) may own fits).each state c i e found.0 reached there found.1 found.2 in
+      let enough = all.2 in
+      let sum = summed state.entries in
+      let part = part_within (sizes_of document).kinds all.0 in
+      let few : (sizes_of document).slots ≤ 4096 = own.sizes.3 in
+      (all.0, all.1, omega (arith, enough, sum, part, few))
