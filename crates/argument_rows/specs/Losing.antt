@@ -8,7 +8,7 @@ use Rattle.norm_lang.specs.LineWords.{item_kind}
 use Rattle.norm_lang.specs.Shipped.{number_field, reference_root, root_entry, retiring}
 use Rattle.source_machine.specs.declared.event.SourceEvent.{SourceEvent}
 use Rattle.source_machine.specs.declared.event.SourceEvent.TheVariants.{Begin, Access}
-use Rattle.source_machine.specs.declared.event.SourceReply.TheVariants as replies
+use Rattle.norm_lang.specs.declared.reply.SourceReply.TheVariants as replies
 use Rattle.source_machine.specs.declared.state.Value.TheVariants.{Node}
 use Rattle.source_machine.specs.declared.state.SourceMachine.{SourceMachine}
 use Rattle.source_machine.specs.State.{source_start}

@@ -31,23 +31,7 @@ stays place roots (instr.Jump l) count same right = ap instr.Jump (same l (withi
 stays place roots (instr.IfEq a b l) count same right = ap (instr.IfEq a b) (same l (within count l right))
 stays place roots (instr.IfLess a b l) count same right = ap (instr.IfLess a b) (same l (within count l right))
 stays place roots (instr.IfMarked a l) count same right = ap (instr.IfMarked a) (same l (within count l right))
-stays place roots (instr.Set d n) count same right = refl
-stays place roots (instr.Mov d a) count same right = refl
-stays place roots (instr.Add d a b) count same right = refl
-stays place roots (instr.Sub d a b) count same right = refl
-stays place roots (instr.Rem d a n) count same right = refl
-stays place roots (instr.Null d) count same right = refl
-stays place roots (instr.Mark d a) count same right = refl
-stays place roots (instr.Unmark d a) count same right = refl
-stays place roots (instr.LoadRoot d x) count same right = refl
-stays place roots (instr.LoadPick d x n a) count same right = refl
-stays place roots (instr.LoadField d a f) count same right = refl
-stays place roots (instr.New d kind) count same right = refl
-stays place roots (instr.Put a f b) count same right = refl
-stays place roots (instr.Commit entries) count same right = refl
-stays place roots (instr.Return a) count same right = refl
-stays place roots instr.ReturnNone count same right = refl
-stays place roots instr.Again count same right = refl
+stays place roots _ count same right = refl
 
 all_stay : (place : ℕ → ℕ) (xs : List Instr) → ((at : ℕ) (i : Instr) → slice_get xs at ≡ Some i → redirected place i ≡ i) → plain_code place (map Plain xs) ≡ xs
 all_stay place [] same = refl

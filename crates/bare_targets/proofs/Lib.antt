@@ -1,4 +1,4 @@
 pub mod PlainCode
-mod Erasing
+pub mod Erasing
 mod Limited
 pub mod Runnable

@@ -2,7 +2,7 @@
 use Rattle.std.proofs.Common.{◌≡◌, ℕ, Bool, List, [], ◌∷◌, refl, ap, subst}
 use Rattle.std.specs.Bool.{Decides}
 use Rattle.norm_lang.specs.declared.text.Instr.{Instr}
-use Rattle.norm_lang.specs.declared.text.Instr.TheVariants.{Set, Mov, Add, Sub, Rem, Mark, Unmark, Null, LoadRoot, LoadPick, LoadField, New, Put, Cas, Jump, IfEq, IfLess, IfMarked, Commit, Return, ReturnNone, Again}
+use Rattle.norm_lang.specs.declared.text.Instr.TheVariants.{Cas, Jump, IfEq, IfLess, IfMarked}
 use Rattle.target_code.specs.declared.target.TargetInstr.{TargetInstr}
 use Rattle.target_code.specs.declared.target.TargetInstr.TheVariants.{Plain, Check, Guard}
 use Rattle.target_code.specs.Erasing.{redirected, plain_code, erased_code, source_place}
@@ -15,23 +15,7 @@ redirected_same one other same (Jump l) = ap Jump (same l)
 redirected_same one other same (IfEq a b l) = ap (IfEq a b) (same l)
 redirected_same one other same (IfLess a b l) = ap (IfLess a b) (same l)
 redirected_same one other same (IfMarked a l) = ap (IfMarked a) (same l)
-redirected_same one other same (Set d n) = refl
-redirected_same one other same (Mov d a) = refl
-redirected_same one other same (Add d a b) = refl
-redirected_same one other same (Sub d a b) = refl
-redirected_same one other same (Rem d a n) = refl
-redirected_same one other same (Mark d a) = refl
-redirected_same one other same (Unmark d a) = refl
-redirected_same one other same (Null d) = refl
-redirected_same one other same (LoadRoot d x) = refl
-redirected_same one other same (LoadPick d x n a) = refl
-redirected_same one other same (LoadField d a f) = refl
-redirected_same one other same (New d kind) = refl
-redirected_same one other same (Put a f b) = refl
-redirected_same one other same (Commit entries) = refl
-redirected_same one other same (Return a) = refl
-redirected_same one other same ReturnNone = refl
-redirected_same one other same Again = refl
+redirected_same one other same _ = refl
 
 -- jumps that lead to the same places leave the same code
 pub code_same : (one other : ℕ → ℕ) → ((at : ℕ) → one at ≡ other at) → (code : List TargetInstr) → plain_code one code ≡ plain_code other code

@@ -42,52 +42,12 @@ made_of other (Some c) = instr_of c.kind c
 
 made_again : (i : Instr) → made_of i (content_of i) ≡ i
 made_again (instr.Set d n) = refl
-made_again (instr.Mov d a) = refl
-made_again (instr.Add d a b) = refl
-made_again (instr.Sub d a b) = refl
-made_again (instr.Rem d a n) = refl
-made_again (instr.Mark d a) = refl
-made_again (instr.Unmark d a) = refl
-made_again (instr.Null d) = refl
-made_again (instr.LoadRoot d x) = refl
-made_again (instr.LoadPick d x n a) = refl
-made_again (instr.LoadField d a x) = refl
-made_again (instr.New d kind) = refl
-made_again (instr.Put a x b) = refl
-made_again (instr.Cas entry l) = refl
-made_again (instr.Jump l) = refl
-made_again (instr.IfEq a b l) = refl
-made_again (instr.IfLess a b l) = refl
-made_again (instr.IfMarked a l) = refl
-made_again (instr.Commit entries) = refl
-made_again (instr.Return a) = refl
-made_again instr.ReturnNone = refl
-made_again instr.Again = refl
+made_again _ = refl
 
 -- what says something doesn't jump
 stays : (place : ℕ → ℕ) (i : Instr) (c : Content) → content_of i ≡ Some c → redirected place i ≡ i
-stays place (instr.Set d n) c says = refl
-stays place (instr.Mov d a) c says = refl
-stays place (instr.Add d a b) c says = refl
-stays place (instr.Sub d a b) c says = refl
-stays place (instr.Rem d a n) c says = refl
-stays place (instr.Mark d a) c says = refl
-stays place (instr.Unmark d a) c says = refl
-stays place (instr.Null d) c says = refl
-stays place (instr.LoadRoot d x) c says = refl
-stays place (instr.LoadPick d x n a) c says = refl
-stays place (instr.LoadField d a x) c says = refl
-stays place (instr.New d kind) c says = refl
-stays place (instr.Put a x b) c says = refl
 stays place (instr.Cas entry l) c says = cc
-stays place (instr.Jump l) c says = cc
-stays place (instr.IfEq a b l) c says = cc
-stays place (instr.IfLess a b l) c says = cc
-stays place (instr.IfMarked a l) c says = cc
-stays place (instr.Commit entries) c says = cc
-stays place (instr.Return a) c says = refl
-stays place instr.ReturnNone c says = refl
-stays place instr.Again c says = refl
+stays place _ c says = cc
 
 made_from : (i : Instr) (c : Content) → content_of i ≡ Some c → i ≡ instr_of c.kind c
 made_from i c says = sym (made_again i) ∙ ap (made_of i) says

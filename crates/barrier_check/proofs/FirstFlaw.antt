@@ -19,10 +19,7 @@ kind_numbered n = slice_index_or (ErasesDifferently ∷ ErasesDifferently ∷ Un
 
 numbered : (kind : FlawKind) → kind_numbered (kind_number kind) ≡ kind
 numbered ErasesDifferently = refl
-numbered UncheckedUse = refl
-numbered Unguarded = refl
-numbered GuardAfterCheck = refl
-numbered GuardDropped = refl
+numbered _ = refl
 
 same_kind : (one other : FlawKind) → kind_number one ≡ kind_number other → one ≡ other
 same_kind one other is = sym (numbered one) ∙ ap kind_numbered is ∙ numbered other

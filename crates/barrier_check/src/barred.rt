@@ -8,6 +8,7 @@ ghost use Rattle.norm_lang.specs.NormalForm.{IsNormal};
 ghost use Rattle.norm_check.specs.KeptTable.{AreKeptOf, keeps_by};
 ghost use Rattle.target_code.specs.Barred.{IsBarred};
 ghost use Rattle.target_code.specs.TargetLimits.{IsTargetWithinLimits};
+ghost use Rattle.barrier_check.specs.Paired.{IsSound};
 ghost use Rattle.barrier_check.specs.Verified.{IsVerified};
 
 use crate::erasing::compare;
@@ -80,6 +81,13 @@ pub fn verify(alloc: Global, target: Target, normal: &Normal) -> Result<Barred, 
 }
 
 impl Barred {
+    /// What every barred target keeps: a law for those who hold one. To read a field tells it.
+    pub fn kept(&self)
+        ensures { IsSound self.now }
+    {
+        let _ = &self.target;
+    }
+
     /// The target.
     pub fn target(&self) -> &Target
         ensures same { result.now ≡ self.now.target }

@@ -142,19 +142,6 @@ forks : (place : ℕ → ℕ) (l last to : ℕ) → IsTrue (((last + 1) == to) |
 forks place l last to is = elim (two_ways (last + 1) (place l) to is) [ inl next ↦ inl next | inr jump ↦ inr (l, jump) ]
 
 plain_goes : (place : ℕ → ℕ) (i : Instr) (last to : ℕ) → IsTrue (goes_to (redirected place i) last to) → Goes place i last to
-plain_goes place (instr.Set d n) last to is = inl (refl, one_way (last + 1) to is)
-plain_goes place (instr.Mov d a) last to is = inl (refl, one_way (last + 1) to is)
-plain_goes place (instr.Add d a b) last to is = inl (refl, one_way (last + 1) to is)
-plain_goes place (instr.Sub d a b) last to is = inl (refl, one_way (last + 1) to is)
-plain_goes place (instr.Rem d a n) last to is = inl (refl, one_way (last + 1) to is)
-plain_goes place (instr.Mark d a) last to is = inl (refl, one_way (last + 1) to is)
-plain_goes place (instr.Unmark d a) last to is = inl (refl, one_way (last + 1) to is)
-plain_goes place (instr.Null d) last to is = inl (refl, one_way (last + 1) to is)
-plain_goes place (instr.LoadRoot d x) last to is = inl (refl, one_way (last + 1) to is)
-plain_goes place (instr.LoadPick d x n a) last to is = inl (refl, one_way (last + 1) to is)
-plain_goes place (instr.LoadField d a f) last to is = inl (refl, one_way (last + 1) to is)
-plain_goes place (instr.New d kind) last to is = inl (refl, one_way (last + 1) to is)
-plain_goes place (instr.Put a f b) last to is = inl (refl, one_way (last + 1) to is)
 plain_goes place (instr.Cas entry l) last to is = inr (refl, forks place l last to is)
 plain_goes place (instr.Jump l) last to is = inr (refl, inr (l, one_way (place l) to is))
 plain_goes place (instr.IfEq a b l) last to is = inr (refl, forks place l last to is)
@@ -164,6 +151,7 @@ plain_goes place (instr.Commit entries) last to is = cc
 plain_goes place (instr.Return a) last to is = cc
 plain_goes place instr.ReturnNone last to is = cc
 plain_goes place instr.Again last to is = cc
+plain_goes place _ last to is = inl (refl, one_way (last + 1) to is)
 
 bar_goes : (j : TargetInstr) (last to : ℕ) → IsTrue (is_barrier j) → IsTrue (list_any (λ next. next == to) (target_successors j last)) → to ≡ last + 1
 bar_goes (Plain i) last to bars is = cc
@@ -171,11 +159,7 @@ bar_goes Check last to bars is = one_way (last + 1) to is
 bar_goes (Guard r) last to bars is = one_way (last + 1) to is
 
 pub jumps_not_on : (i : Instr) → IsTrue (jumps i) → leads_on i ≡ false
-jumps_not_on (instr.Cas entry l) is = refl
-jumps_not_on (instr.Jump l) is = refl
-jumps_not_on (instr.IfEq a b l) is = refl
-jumps_not_on (instr.IfLess a b l) is = refl
-jumps_not_on (instr.IfMarked a l) is = refl
+jumps_not_on (instr.Cas entry l) is = cc
 jumps_not_on _ is = cc
 
 -- a check stands only after what goes on

@@ -73,20 +73,12 @@ all_marked code n due (i ∷ rest) = ap (λ z. i ∷ z) (all_marked code (n + 1)
 -- ---- forms of instructions
 
 jumps_fetch_none : (i : Instr) → IsTrue (jumps i) → fetches i ≡ false
-jumps_fetch_none (instr.Cas entry l) is = refl
-jumps_fetch_none (instr.Jump l) is = refl
-jumps_fetch_none (instr.IfEq a b l) is = refl
-jumps_fetch_none (instr.IfLess a b l) is = refl
-jumps_fetch_none (instr.IfMarked a l) is = refl
+jumps_fetch_none (instr.Cas entry l) is = cc
 jumps_fetch_none _ is = cc
 
 jumps_break : (i : Instr) → IsTrue (jumps i) → (breaks i ≡ true) × (ends i ≡ false)
-jumps_break (instr.Cas entry l) is = (refl, refl)
-jumps_break (instr.Jump l) is = (refl, refl)
-jumps_break (instr.IfEq a b l) is = (refl, refl)
-jumps_break (instr.IfLess a b l) is = (refl, refl)
-jumps_break (instr.IfMarked a l) is = (refl, refl)
-jumps_break _ is = cc
+jumps_break (instr.Cas entry l) is = (cc, cc)
+jumps_break _ is = (cc, cc)
 
 commit_breaks : (i : Instr) → IsTrue (is_commit i) → (breaks i ≡ true) × (ends i ≡ false)
 commit_breaks (instr.Commit entries) is = (refl, refl)

@@ -44,10 +44,6 @@ none_of_barrier place wanted (r ∷ rs) = none_of_guards place rs
 
 redirected_twice : (place other : ℕ → ℕ) (i : Instr) → redirected place (redirected other i) ≡ redirected (λ l. place (other l)) i
 redirected_twice place other (instr.Cas entry l) = refl
-redirected_twice place other (instr.Jump l) = refl
-redirected_twice place other (instr.IfEq a b l) = refl
-redirected_twice place other (instr.IfLess a b l) = refl
-redirected_twice place other (instr.IfMarked a l) = refl
 redirected_twice place other _ = refl
 
 -- of a block its instruction is left, with its jump taken elsewhere twice

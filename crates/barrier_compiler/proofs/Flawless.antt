@@ -121,28 +121,9 @@ validated_not_dropped is = cc
 
 -- an instruction that exchanges something is an auxiliary exchange of it or a commit
 exchanged_how : (r : Reg) (i : Instr) → IsAmong r (exchanged i) → IsTrue (exchanges r i) ⊎ IsTrue (is_commit i)
-exchanged_how r (instr.Set d n) is = cc
-exchanged_how r (instr.Mov d a) is = cc
-exchanged_how r (instr.Add d a b) is = cc
-exchanged_how r (instr.Sub d a b) is = cc
-exchanged_how r (instr.Rem d a n) is = cc
-exchanged_how r (instr.Mark d a) is = cc
-exchanged_how r (instr.Unmark d a) is = cc
-exchanged_how r (instr.Null d) is = cc
-exchanged_how r (instr.LoadRoot d x) is = cc
-exchanged_how r (instr.LoadPick d x n a) is = cc
-exchanged_how r (instr.LoadField d a f) is = cc
-exchanged_how r (instr.New d kind) is = cc
-exchanged_how r (instr.Put a f b) is = cc
 exchanged_how r (instr.Cas entry l) is = inl is
-exchanged_how r (instr.Jump l) is = cc
-exchanged_how r (instr.IfEq a b l) is = cc
-exchanged_how r (instr.IfLess a b l) is = cc
-exchanged_how r (instr.IfMarked a l) is = cc
 exchanged_how r (instr.Commit entries) is = inr refl
-exchanged_how r (instr.Return a) is = cc
-exchanged_how r instr.ReturnNone is = cc
-exchanged_how r instr.Again is = cc
+exchanged_how r _ is = cc
 
 guarded_how : (op : Op) (r : Reg) (i : Instr) → IsAmong r (to_guard op i) → IsTrue (exchanges r i) ⊎ IsTrue (is_commit i)
 guarded_how op r i is =
@@ -197,28 +178,8 @@ none_broken text normal number op wrapup at i rule one two breaks =
     (and_some (slice_get (code_of op wrapup) at) i (λ j. BreaksRule rule text op wrapup at j) two breaks))
 
 commit_ends : (i : Instr) (at count : ℕ) → IsTrue (is_commit i) → IsTrue (has_wrong_end true i at count)
-commit_ends (instr.Set d n) at count is = cc
-commit_ends (instr.Mov d a) at count is = cc
-commit_ends (instr.Add d a b) at count is = cc
-commit_ends (instr.Sub d a b) at count is = cc
-commit_ends (instr.Rem d a n) at count is = cc
-commit_ends (instr.Mark d a) at count is = cc
-commit_ends (instr.Unmark d a) at count is = cc
-commit_ends (instr.Null d) at count is = cc
-commit_ends (instr.LoadRoot d x) at count is = cc
-commit_ends (instr.LoadPick d x n a) at count is = cc
-commit_ends (instr.LoadField d a f) at count is = cc
-commit_ends (instr.New d kind) at count is = cc
-commit_ends (instr.Put a f b) at count is = cc
-commit_ends (instr.Cas entry l) at count is = cc
-commit_ends (instr.Jump l) at count is = cc
-commit_ends (instr.IfEq a b l) at count is = cc
-commit_ends (instr.IfLess a b l) at count is = cc
-commit_ends (instr.IfMarked a l) at count is = cc
 commit_ends (instr.Commit entries) at count is = refl
-commit_ends (instr.Return a) at count is = cc
-commit_ends instr.ReturnNone at count is = cc
-commit_ends instr.Again at count is = cc
+commit_ends _ at count is = cc
 
 -- what a scheme owes: it marks the instructions that it is given, in their order; no check stands after what may go elsewhere;
 -- and of each method it is known what may not be clean

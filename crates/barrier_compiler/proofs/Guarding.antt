@@ -103,42 +103,22 @@ once_among r (a ∷ rs) is =
 -- an instruction whose jump is taken elsewhere fetches, reads, sets, exchanges and commits the same
 fetches_same : (place : ℕ → ℕ) (i : Instr) → fetches (redirected place i) ≡ fetches i
 fetches_same place (instr.Cas entry l) = refl
-fetches_same place (instr.Jump l) = refl
-fetches_same place (instr.IfEq a b l) = refl
-fetches_same place (instr.IfLess a b l) = refl
-fetches_same place (instr.IfMarked a l) = refl
 fetches_same place _ = refl
 
 sources_same : (place : ℕ → ℕ) (i : Instr) → sources (redirected place i) ≡ sources i
 sources_same place (instr.Cas entry l) = refl
-sources_same place (instr.Jump l) = refl
-sources_same place (instr.IfEq a b l) = refl
-sources_same place (instr.IfLess a b l) = refl
-sources_same place (instr.IfMarked a l) = refl
 sources_same place _ = refl
 
 destination_same : (place : ℕ → ℕ) (i : Instr) → destination (redirected place i) ≡ destination i
 destination_same place (instr.Cas entry l) = refl
-destination_same place (instr.Jump l) = refl
-destination_same place (instr.IfEq a b l) = refl
-destination_same place (instr.IfLess a b l) = refl
-destination_same place (instr.IfMarked a l) = refl
 destination_same place _ = refl
 
 exchanged_same : (place : ℕ → ℕ) (i : Instr) → exchanged (redirected place i) ≡ exchanged i
 exchanged_same place (instr.Cas entry l) = refl
-exchanged_same place (instr.Jump l) = refl
-exchanged_same place (instr.IfEq a b l) = refl
-exchanged_same place (instr.IfLess a b l) = refl
-exchanged_same place (instr.IfMarked a l) = refl
 exchanged_same place _ = refl
 
 commit_same : (place : ℕ → ℕ) (i : Instr) → is_commit (redirected place i) ≡ is_commit i
 commit_same place (instr.Cas entry l) = refl
-commit_same place (instr.Jump l) = refl
-commit_same place (instr.IfEq a b l) = refl
-commit_same place (instr.IfLess a b l) = refl
-commit_same place (instr.IfMarked a l) = refl
 commit_same place _ = refl
 
 -- what an instruction uses whose jump is taken elsewhere, it uses

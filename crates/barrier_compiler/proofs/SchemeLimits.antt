@@ -181,10 +181,6 @@ counted b n = if b then n + 1 else n
 
 new_same : (place : ℕ → ℕ) (i : Instr) → is_new (redirected place i) ≡ is_new i
 new_same place (instr.Cas entry l) = refl
-new_same place (instr.Jump l) = refl
-new_same place (instr.IfEq a b l) = refl
-new_same place (instr.IfLess a b l) = refl
-new_same place (instr.IfMarked a l) = refl
 new_same place _ = refl
 
 target_news : (code : List TargetInstr) → target_news_in code ≡ news_in (plain_code (λ l. l) code)

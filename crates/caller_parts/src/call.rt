@@ -1,5 +1,9 @@
 //! Calls of operations, and what they get.
 
+/// How a call ended, as in the source. A claim that found no slot gave it up with `Full`, and a sweep that found the last phase
+/// with `Phases`.
+pub use norm_lang::SourceReply as Reply;
+
 /// A call of an operation by its number; the arguments past the operation's count are 0.
 #[derive(Clone, Copy)]
 pub struct Call {
@@ -7,19 +11,6 @@ pub struct Call {
     pub op: u8,
     /// Its arguments, from n0 on.
     pub args: [u64; 4],
-}
-
-/// How a call ended.
-#[derive(Clone, Copy, PartialEq, Eq)]
-pub enum Reply {
-    /// A number was returned.
-    Number(u64),
-    /// It returned, and no number.
-    Nothing,
-    /// The call was given up: its claim found no slot.
-    Full,
-    /// The call was given up: a sweep found this phase, which is the last one.
-    Phases(u64),
 }
 
 /// A call, and how many steps were made for it; the count stays at 2^64 - 1.

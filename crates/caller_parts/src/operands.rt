@@ -133,7 +133,6 @@ fn news_before(kind: u8, code: Code, at: usize) -> usize
 pub fn cradle_number(code: Code, at: usize) -> usize
     ensures { result ≡ cradle_number (code_shown code.entry) at }
 {
-    let _length = code.len();
     let kind = kind_made(code.at(at));
     4 * kind as usize + news_before(kind, code, at)
 }

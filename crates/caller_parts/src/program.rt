@@ -95,7 +95,7 @@ impl<'a> Program<'a> {
     }
 
     /// What an operation's wrap-up keeps.
-    pub fn kept(&self, op: u8) -> [bool; 8]
+    pub fn kept_by(&self, op: u8) -> [bool; 8]
         ensures { result ≡ kept_by (slice_get self.now.ops op) }
     {
         kept_at(self.kept, op)

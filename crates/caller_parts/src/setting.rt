@@ -109,7 +109,7 @@ impl Setting {
         )
     }
 
-    /// What every setting keeps: a law for those who hold one.
+    /// What every setting keeps: a law for those who hold one. To read a field tells it.
     pub fn kept(&self)
         ensures { IsSetting self.now }
     {

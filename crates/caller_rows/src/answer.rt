@@ -4,10 +4,11 @@ ghost use Rattle.std.specs.Prelude.{IfSome};
 ghost use Rattle.word_runner.specs.Shown.{CameFrom};
 
 use crate::accesses::accesses;
+use crate::announced::announced;
 use crate::budgets::budgets;
 use crate::callers::callers;
 use crate::entries::{entry_row, setting_row};
-use crate::hall::{Hall, epoch_planned, open, open_bare, planned};
+use crate::hall::{Hall, open, planned};
 use crate::numbers::{number, numbers};
 use crate::places::places;
 use crate::sharing::sharing;
@@ -81,15 +82,11 @@ fn in_hall(
     }
 }
 
-/// A hall of the document, by the scheme that the row's kind says, and its first blank.
-fn hall_of(alloc: Global, kind: &str, room: u32, bytes: &[u8]) -> Option<(Hall, Blank)>
+/// A hall of the document, and its first blank.
+fn hall_of(alloc: Global, room: u32, bytes: &[u8]) -> Option<(Hall, Blank)>
     ensures { IfSome result (λ p. CameFrom p.0 p.1.table p.1.fixed) }
 {
-    if kind == "announced" {
-        open_bare(alloc, epoch_planned(alloc, bytes)?, room)
-    } else {
-        open(alloc, planned(alloc, bytes)?, room)
-    }
+    open(alloc, planned(alloc, bytes)?, room)
 }
 
 /// The row of the callers of a document, each with room for so many replies.
@@ -97,7 +94,10 @@ fn hall_row(alloc: Global, row: Row<'_>, bytes: &[u8], out: &mut String) -> Resu
     let Ok(room) = u32::try_from(number(row.head).unwrap_or(0)) else {
         return Err(RowError::Wrong);
     };
-    match hall_of(alloc, row.kind, room, bytes) {
+    if row.kind == "announced" {
+        return announced(alloc, room, row.rest, bytes, out);
+    }
+    match hall_of(alloc, room, bytes) {
         Some((hall, blank)) => in_hall(alloc, row, hall, blank, out),
         None => Err(RowError::Wrong),
     }

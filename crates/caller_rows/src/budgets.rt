@@ -117,7 +117,7 @@ fn rest_both(
     }
 }
 
-/// The callers go as the row's kind says, one alone or two together, by either scheme, and then rest.
+/// The callers go as the row's kind says, one alone or two together, and then rest.
 fn rest_of(
     alloc: Global,
     hall: &Hall,
@@ -131,7 +131,7 @@ fn rest_of(
 {
     match kind {
         "alone" => rest_alone(hall, blank, moves, out),
-        "together" | "announced" => rest_both(alloc, hall, blank, moves, out),
+        "together" => rest_both(alloc, hall, blank, moves, out),
         _ => Err(RowError::Wrong),
     }
 }
@@ -175,7 +175,7 @@ fn add_entry(out: &mut String, entry: &Entry) -> Result<(), AllocError> {
     let claims = entry.claims();
     let restarts = entry.restarts();
     write!(out, "claims {claims}, restarts {restarts}, ")?;
-    add_replies(out, entry)
+    add_replies(out, entry.replies())
 }
 
 /// The phase and the entries at the end.

@@ -82,11 +82,11 @@ fn make_move(
 
 /// The replies of the first caller, and of the last if it is another.
 fn add_all_replies(out: &mut String, first: &Entry, last: &Entry) -> Result<(), RowError> {
-    add_replies(out, first)?;
+    add_replies(out, first.replies())?;
     if last.number() == 0 {
         return Ok(());
     }
-    Ok(add_replies(out, last)?)
+    Ok(add_replies(out, last.replies())?)
 }
 
 /// The moves of a row's callers, the first and the last of so many, and then their replies.

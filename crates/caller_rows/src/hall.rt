@@ -4,14 +4,13 @@ ghost use Rattle.std.specs.Prelude.{◌≡◌, true, length, IfSome, IsTrue};
 ghost use Rattle.caller_parts.specs.Calls.{is_call};
 ghost use Rattle.documents.specs.DocumentLimits.{IsWithinDocumentLimits};
 ghost use Rattle.script_plans.specs.Plans.{IsReady};
-ghost use Rattle.script_plans.specs.EpochPlans.{IsEpochReady};
 ghost use Rattle.word_runner.specs.table_rule.Rule.{callers_of};
 ghost use Rattle.word_runner.specs.Shown.{CameFrom};
 
 use caller_steps::Call;
 use documents::{Document, read_document};
 use row_spelling::few;
-use script_plans::{CallLists, EpochPlan, Plan, epoch_plan_of, plan_of};
+use script_plans::{CallLists, Plan, plan_of};
 use std::alloc::Global;
 use std::marker::Model;
 use word_runner::{Arena, Blank, Caller, Final, Outcome, Rest};
@@ -64,34 +63,6 @@ pub(crate) fn planned(alloc: Global, input: &[u8]) -> Option<Plan>
     }
 }
 
-/// The plan of a document under epochs, if it can be run.
-fn epoch_plan_in(alloc: Global, document: &Document) -> Option<EpochPlan>
-    requires { IsWithinDocumentLimits document.now }
-    ensures { IfSome result (λ plan. IsEpochReady plan) }
-{
-    match epoch_plan_of(alloc, document) {
-        Ok(plan) => Some(plan),
-        Err(_) => None,
-    }
-}
-
-/// The plan of a document under epochs.
-pub(crate) fn epoch_planned(alloc: Global, input: &[u8]) -> Option<EpochPlan>
-    ensures { IfSome result (λ plan. IsEpochReady plan) }
-{
-    if !few(input) {
-        return None;
-    }
-    match read_document(alloc, input) {
-        Ok(document) => {
-            let plan = epoch_plan_in(alloc, &document);
-            drop(document);
-            plan
-        }
-        Err(_) => None,
-    }
-}
-
 /// A hall of a plan, and its first blank, with room for so many replies.
 pub(crate) fn open(alloc: Global, plan: Plan, room: u32) -> Option<(Hall, Blank)>
     requires { IsReady plan }
@@ -104,23 +75,6 @@ pub(crate) fn open(alloc: Global, plan: Plan, room: u32) -> Option<(Hall, Blank)
         fuel: _,
     } = plan;
     match Arena::make(alloc, barred, setting, room) {
-        Ok((arena, blank)) => Some((Hall { arena, scripts }, blank)),
-        Err(_) => None,
-    }
-}
-
-/// A hall of a plan under epochs, and its first blank, with room for so many replies.
-pub(crate) fn open_bare(alloc: Global, plan: EpochPlan, room: u32) -> Option<(Hall, Blank)>
-    requires { IsEpochReady plan }
-    ensures { IfSome result (λ p. CameFrom p.0 p.1.table p.1.fixed) }
-{
-    let EpochPlan {
-        normal,
-        setting,
-        scripts,
-        fuel: _,
-    } = plan;
-    match Arena::make_bare(alloc, normal, setting, room) {
         Ok((arena, blank)) => Some((Hall { arena, scripts }, blank)),
         Err(_) => None,
     }

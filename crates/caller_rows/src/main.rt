@@ -11,7 +11,7 @@
 //! - `alone ROOM, MOVE, .. < DOCUMENT` and `together ROOM, MOVE, .. < DOCUMENT`: the caller of a document's one script, or those of its
 //!   two, on the words of a table: `first operates INDEX BUDGET` with the call at this index of its script, by at most so many
 //!   steps, `first resumes BUDGET`, and the same of `second`; how each move ends, and at the end the phase and the entries.
-//! - `announced ROOM, MOVE, .. < DOCUMENT`: the same of two callers that run the document's text as it is, under epochs.
+//! - `announced ROOM, MOVE, .. < DOCUMENT`: the same of two callers that run the document's text as it is, on an epoch arena.
 //! - `places ROOM, COUNT < DOCUMENT`: so many blanks enter, and then one more tries it twice.
 //! - `spent < DOCUMENT`: the phase at the end of a replay of the document's scripts without turns, whether each caller has a call that was
 //!   given its fuel of steps and hasn't ended, and its replies.
@@ -22,6 +22,7 @@
 #![tactic(auto)]
 
 mod accesses;
+mod announced;
 mod answer;
 mod budgets;
 mod callers;

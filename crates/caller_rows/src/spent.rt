@@ -40,7 +40,7 @@ fn add_caller(
     };
     let spent = state.is_spent(caller);
     write!(out, "spent {spent}, ")?;
-    Ok(add_replies(out, entry)?)
+    Ok(add_replies(out, entry.replies())?)
 }
 
 /// How a replay has ended, caller by caller.

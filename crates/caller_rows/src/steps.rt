@@ -11,7 +11,6 @@ ghost use Rattle.core_entries.specs.Steps.{WordsSound};
 
 use barrier_check::Barred;
 use caller_parts::Reclamation;
-use core_entries::prepared::kept;
 use oa_core::laws::runs_in_row;
 use oa_core::{Call, Entry, PlainWords, Port, Setting};
 use phase_pools::access::Access;
@@ -29,6 +28,7 @@ pub(crate) fn words_of(
     ensures sound { IfOk result (λ words. WordsSound barred.now.target setting.now words) }
     ensures count { IfOk result (λ words. length words ≡ word_count setting.now.sizes) }
 {
+    // A law: the words at the start are those of the row, and sound.
     runs_in_row(barred, setting);
     let words = PlainWords::new(alloc, barred, setting)?;
     Ok(words)
@@ -46,7 +46,7 @@ pub(crate) fn entry_of(
     requires number { number < setting.now.sizes.callers }
     ensures { IfOk result (λ e. BelongsTo barred.now setting.now e.core) }
 {
-    kept(barred);
+    barred.kept();
     let entry = Entry::new(alloc, number, room)?;
     Ok(entry)
 }
@@ -113,7 +113,7 @@ pub(crate) fn step(
     ensures belongs { BelongsTo barred.now setting.now entry.new.core }
     ensures lawful { WordsSound barred.now.target setting.now words.new }
 {
-    kept(barred);
+    barred.kept();
     setting.kept();
     match entry.pending(barred, setting) {
         None => None,

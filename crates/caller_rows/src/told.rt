@@ -66,10 +66,10 @@ fn add_reply(out: &mut String, reply: Reply) -> Result<(), AllocError> {
     }
 }
 
-/// The replies of an entry, to the end of a line.
-pub(crate) fn add_replies(out: &mut String, entry: &Entry) -> Result<(), AllocError> {
+/// Replies, to the end of a line.
+pub(crate) fn add_replies(out: &mut String, replies: &[Reply]) -> Result<(), AllocError> {
     out.push_str("replies")?;
-    for reply in entry.replies() {
+    for reply in replies {
         add_reply(out, *reply)?;
     }
     out.push('\n')

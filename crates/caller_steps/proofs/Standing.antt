@@ -4,7 +4,7 @@ use Rattle.std.specs.Prelude.{slice_get}
 use Rattle.norm_lang.specs.declared.registers.Registers.{Registers}
 use Rattle.norm_lang.specs.Local.{Spot}
 use Rattle.target_code.specs.declared.target.TargetInstr.{TargetInstr}
-use Rattle.target_code.specs.declared.target.TargetInstr.TheVariants.{Plain, Check, Guard}
+use Rattle.target_code.specs.declared.target.TargetInstr.TheVariants.{Plain}
 use Rattle.target_code.specs.declared.target.Target.{Target}
 use Rattle.target_code.specs.LocalCode.{target_local_at, target_run}
 use Rattle.oa_words.specs.Words.{Sizes}
@@ -35,20 +35,16 @@ after_at target setting e word is = ap (λ (r : Routine). (accepted setting.recl
 
 -- no local code runs at a check or a guard
 not_local : (o : Option TargetInstr) (at : ℕ) (registers : Registers) → is_stop o ≡ true → target_local_at o at registers ≡ None
-not_local None at registers stop = refl
 not_local (Some (Plain i)) at registers stop = absurd (let no : false ≡ true = stop in cc)
-not_local (Some Check) at registers stop = refl
-not_local (Some (Guard r)) at registers stop = refl
+not_local _ at registers stop = refl
 
 stays : (code : List TargetInstr) (n : ℕ) (spot : Spot) → is_stop (slice_get code spot.at) ≡ true → target_run code n spot ≡ spot
 stays code zero spot stop = refl
 stays code (suc n) spot stop = rw (not_local (slice_get code spot.at) spot.at spot.registers stop) refl
 
 stops_at : (by : Reclamation) (target : Target) (sizes : Sizes) (o : Option TargetInstr) (e : Entry) → is_stop o ≡ true → (stops by target sizes o e).entry ≡ with_routine e At
-stops_at by target sizes None e stop = refl
 stops_at by target sizes (Some (Plain i)) e stop = absurd (let no : false ≡ true = stop in cc)
-stops_at by target sizes (Some Check) e stop = refl
-stops_at by target sizes (Some (Guard r)) e stop = refl
+stops_at by target sizes _ e stop = refl
 
 -- where one comes next, the caller stands there
 pub stop_next : (by : Reclamation) (target : Target) (sizes : Sizes) (e : Entry) → is_stop (slice_get (code_in target e) (e.hand.at + 1)) ≡ true
@@ -65,40 +61,8 @@ stands_there by target sizes (instr.Commit exchanges) e h = absurd (let wrong : 
 stands_there by target sizes (instr.Return a) e h = absurd (let wrong : true ≡ false = h in cc)
 stands_there by target sizes instr.ReturnNone e h = absurd (let wrong : true ≡ false = h in cc)
 stands_there by target sizes instr.Again e h = absurd (let wrong : true ≡ false = h in cc)
-stands_there Optimistic target sizes (instr.Set d n) e h = refl
-stands_there Epochs target sizes (instr.Set d n) e h = refl
-stands_there Optimistic target sizes (instr.Mov d a) e h = refl
-stands_there Epochs target sizes (instr.Mov d a) e h = refl
-stands_there Optimistic target sizes (instr.Add d a b) e h = refl
-stands_there Epochs target sizes (instr.Add d a b) e h = refl
-stands_there Optimistic target sizes (instr.Sub d a b) e h = refl
-stands_there Epochs target sizes (instr.Sub d a b) e h = refl
-stands_there Optimistic target sizes (instr.Rem d a n) e h = refl
-stands_there Epochs target sizes (instr.Rem d a n) e h = refl
-stands_there Optimistic target sizes (instr.Mark d a) e h = refl
-stands_there Epochs target sizes (instr.Mark d a) e h = refl
-stands_there Optimistic target sizes (instr.Unmark d a) e h = refl
-stands_there Epochs target sizes (instr.Unmark d a) e h = refl
-stands_there Optimistic target sizes (instr.Null d) e h = refl
-stands_there Epochs target sizes (instr.Null d) e h = refl
-stands_there Optimistic target sizes (instr.LoadRoot d x) e h = refl
-stands_there Epochs target sizes (instr.LoadRoot d x) e h = refl
-stands_there Optimistic target sizes (instr.LoadPick d x count a) e h = refl
-stands_there Epochs target sizes (instr.LoadPick d x count a) e h = refl
-stands_there Optimistic target sizes (instr.LoadField d a f) e h = refl
-stands_there Epochs target sizes (instr.LoadField d a f) e h = refl
-stands_there Optimistic target sizes (instr.Put a f b) e h = refl
-stands_there Epochs target sizes (instr.Put a f b) e h = refl
-stands_there Optimistic target sizes (instr.Cas exchange l) e h = refl
-stands_there Epochs target sizes (instr.Cas exchange l) e h = refl
-stands_there Optimistic target sizes (instr.Jump l) e h = refl
-stands_there Epochs target sizes (instr.Jump l) e h = refl
-stands_there Optimistic target sizes (instr.IfEq a b l) e h = refl
-stands_there Epochs target sizes (instr.IfEq a b l) e h = refl
-stands_there Optimistic target sizes (instr.IfLess a b l) e h = refl
-stands_there Epochs target sizes (instr.IfLess a b l) e h = refl
-stands_there Optimistic target sizes (instr.IfMarked a l) e h = refl
-stands_there Epochs target sizes (instr.IfMarked a l) e h = refl
+stands_there Optimistic target sizes _ e h = refl
+stands_there Epochs target sizes _ e h = refl
 
 -- the caller's number is one of the row's
 pub own_there : (by : Reclamation) (sizes : Sizes) (c : ℕ) → c < sizes.callers → HasOwn sizes (scheme_of by c)

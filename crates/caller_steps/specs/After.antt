@@ -14,6 +14,8 @@ use Rattle.norm_lang.specs.declared.text.Instr.TheVariants as instr
 use Rattle.norm_lang.specs.declared.registers.Registers.{Registers}
 use Rattle.norm_lang.specs.Registers.{first_registers, with_count, number_in}
 use Rattle.norm_lang.specs.Local.{Spot}
+use Rattle.norm_lang.specs.declared.reply.SourceReply.{SourceReply}
+use Rattle.norm_lang.specs.declared.reply.SourceReply.TheVariants as replies
 use Rattle.target_code.specs.declared.target.TargetInstr.{TargetInstr}
 use Rattle.target_code.specs.declared.target.TargetInstr.TheVariants.{Plain, Check, Guard}
 use Rattle.target_code.specs.declared.target.Target.{Target}
@@ -26,8 +28,6 @@ use Rattle.phase_pools.specs.declared.stages.Scheme.{Scheme}
 use Rattle.phase_pools.specs.declared.stages.Scheme.TheVariants.{Warned, Announced}
 use Rattle.phase_pools.specs.Pools.{Claim, ClaimTurn, claim_begun, claim_takes, claim_accepts, Retirement, retire_begun, retire_accepts}
 use Rattle.caller_parts.specs.declared.call.Call.{Call}
-use Rattle.caller_parts.specs.declared.call.Reply.{Reply}
-use Rattle.caller_parts.specs.declared.call.Reply.TheVariants as replies
 use Rattle.caller_steps.specs.declared.entry.Hand.{Hand}
 use Rattle.caller_parts.specs.declared.routine.MethodStart.{MethodStart}
 use Rattle.caller_parts.specs.declared.routine.MethodStart.TheVariants as starts
@@ -59,7 +59,7 @@ with_hand e hand = record e { hand = hand }
 -- ---- ends and clears
 
 -- the reply is added beside its call and the steps made for it, and the caller is idle
-abbrev pub replied : Reply → Entry → Entry
+abbrev pub replied : SourceReply → Entry → Entry
 replied reply e = record e { routine = Idle; replies = e.replies ++ replied_by reply e.running ∷ [] }
 
 -- at a `new` whose cradle has a slot already the fields come next, else the claim of a slot of the kind

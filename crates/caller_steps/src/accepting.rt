@@ -544,7 +544,7 @@ impl Entry {
         requires field { field < shape.now.fields }
         ensures { self.new ≡ record self.old { core = (zeroed by program.now shape.now k field self.old.core).entry } }
     {
-        let _row = shape.fields();
+        shape.kept();
         let fields = program.field_count(kind_made(self.instr_in(program)));
         if field as usize + 1 < fields {
             self.stand = Stand::Zeroes(k, field + 1);

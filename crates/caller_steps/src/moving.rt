@@ -128,7 +128,7 @@ impl Entry {
         ensures { result ≡ clear_next program.now next self.now.core }
     {
         let spared = match next {
-            AfterClear::WrapUp => program.kept(self.running.call.op),
+            AfterClear::WrapUp => program.kept_by(self.running.call.op),
             AfterClear::New | AfterClear::Reply(_) | AfterClear::Again => [false; 8],
         };
         self.hand.guards.next_to_clear(spared)
@@ -140,7 +140,7 @@ impl Entry {
         ensures { result ≡ restart_next program.now self.now.core }
     {
         let spared = if self.hand.wrapup {
-            program.kept(self.running.call.op)
+            program.kept_by(self.running.call.op)
         } else {
             [false; 8]
         };

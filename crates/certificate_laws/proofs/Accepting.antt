@@ -7,7 +7,7 @@ use Rattle.norm_lang.specs.declared.text.Text.{Text}
 use Rattle.target_code.specs.declared.target.Target.{Target}
 use Rattle.target_laws.specs.target_runs.Runnable.{IsRunnable}
 use Rattle.source_machine.specs.declared.event.SourceEvent.{SourceEvent}
-use Rattle.source_machine.specs.declared.event.SourceReply.{SourceReply}
+use Rattle.norm_lang.specs.declared.reply.SourceReply.{SourceReply}
 use Rattle.source_machine.specs.declared.state.SourceCaller.{SourceCaller}
 use Rattle.source_machine.specs.declared.state.SourceMachine.{SourceMachine}
 use Rattle.source_machine.specs.State.{idle_caller, source_start}
@@ -17,7 +17,7 @@ use Rattle.documents.specs.declared.document.ScriptCall.{ScriptCall}
 use Rattle.caller_parts.specs.declared.call.Call.{Call}
 use Rattle.caller_parts.specs.declared.call.Replied.{Replied}
 use Rattle.caller_parts.specs.declared.routine.Routine.{Routine}
-use Rattle.caller_parts.specs.declared.routine.Routine.TheVariants.{Idle, LoadSeen, At, InList, Retires, Restarts, Clears, Claims, Zeroes, Announces}
+use Rattle.caller_parts.specs.declared.routine.Routine.TheVariants.{Idle}
 use Rattle.caller_parts.specs.Settings.{Setting, Fits, IsSetting}
 use Rattle.caller_steps.specs.Entries.{Entry, idle_entry, is_idle as rests}
 use Rattle.core_runs.specs.Machine.{CoreState, CoreEvent}
@@ -42,15 +42,7 @@ use Rattle.caller_parts.specs.declared.setting.Reclamation.TheVariants.{Optimist
 
 rests_by : (r : Routine) → rests r ≡ true → r ≡ Idle
 rests_by Idle is = refl
-rests_by (LoadSeen why) is = absurd (let no : false ≡ true = is in cc)
-rests_by At is = absurd (let no : false ≡ true = is in cc)
-rests_by (InList k) is = absurd (let no : false ≡ true = is in cc)
-rests_by (Retires retirement go) is = absurd (let no : false ≡ true = is in cc)
-rests_by Restarts is = absurd (let no : false ≡ true = is in cc)
-rests_by (Clears next) is = absurd (let no : false ≡ true = is in cc)
-rests_by (Claims claim) is = absurd (let no : false ≡ true = is in cc)
-rests_by (Zeroes k field) is = absurd (let no : false ≡ true = is in cc)
-rests_by (Announces announcing) is = absurd (let no : false ≡ true = is in cc)
+rests_by _ is = absurd (let no : false ≡ true = is in cc)
 
 -- a caller that rests is idle in the source
 source_rests : (t : Plan) (s : Shared) (d : ℕ) (x : Caller) → CallerHolds t s d x → x.entry.routine ≡ Idle → is_none x.source.running ≡ true

@@ -8,7 +8,6 @@ ghost use Rattle.certificate_laws.specs.Certified.{AcceptsRuns, RunsAreAccepted}
 
 use barrier_check::Barred;
 use caller_steps::Setting;
-use oa_simulation::laws::kept;
 
 /// For a proper text, under optimistic access: the events that a complete run of scripts gives to the source machine, in their order, with
 /// the replies in which it ends, are accepted.
@@ -17,7 +16,7 @@ pub fn images_are_accepted(barred: &Barred, setting: &Setting)
     requires optimistic { setting.now.reclamation ≡ Optimistic }
     ensures { RunsAreAccepted barred.now.target barred.now.source setting.now }
 {
-    kept(barred);
+    barred.kept();
     setting.kept();
 }
 

@@ -13,8 +13,8 @@ use Rattle.norm_lang.specs.declared.text.Op.{Op}
 use Rattle.norm_lang.specs.Limits.{is_number}
 use Rattle.line_words.specs.Lines.{first_word}
 use Rattle.source_machine.specs.declared.event.SourceEvent.{SourceEvent}
-use Rattle.source_machine.specs.declared.event.SourceReply.{SourceReply}
-use Rattle.source_machine.specs.declared.event.SourceReply.TheVariants as replies
+use Rattle.norm_lang.specs.declared.reply.SourceReply.{SourceReply}
+use Rattle.norm_lang.specs.declared.reply.SourceReply.TheVariants as replies
 use Rattle.text_laws.proofs.WordsRead.{number_read}
 use Rattle.certificates.specs.declared.account.Account.{Account}
 use Rattle.certificates.specs.declared.replies.Claim.{Claim}

@@ -55,11 +55,3 @@ fewer_lines (suc n) (b ∷ bytes) = of (b == 10) (fewer_lines n bytes) where
       → length (cond t ([] ∷ lines_of (take n bytes)) (onto b (lines_of (take n bytes)))) ≤ length (cond t ([] ∷ lines_of bytes) (onto b (lines_of bytes)))
   of true more = omega (arith, more)
   of false more = onto_fewer b (lines_of (take n bytes)) (lines_of bytes) more
-
--- lines keep their count as they get numbers
-numbered_stay : (n : ℕ) (lines : List (List ℕ)) → length (numbered n lines) ≡ length lines
-numbered_stay n [] = refl
-numbered_stay n (line ∷ lines) = ap suc (numbered_stay (n + 1) lines)
-
-pub as_many : (lines : List (List ℕ)) (all : List TextLine) → all ≡ numbered 1 lines → 1 + length all ≡ length lines + 1
-as_many lines all same = let e : length all ≡ length lines = ap length same ∙ numbered_stay 1 lines in omega (arith, e)

@@ -14,7 +14,7 @@ use Rattle.norm_lang.specs.Spelling.{joined_words}
 use Rattle.line_words.specs.Lines.{first_word}
 use Rattle.source_machine.specs.declared.event.SourceEvent.{SourceEvent}
 use Rattle.source_machine.specs.declared.event.SourceEvent.TheVariants as events
-use Rattle.source_machine.specs.declared.event.SourceReply.{SourceReply}
+use Rattle.norm_lang.specs.declared.reply.SourceReply.{SourceReply}
 use Rattle.source_machine.specs.Run.{are_words, are_arguments, is_call_of, is_call}
 use Rattle.text_laws.proofs.WordsRead.{number_read, named_at}
 use Rattle.text_laws.proofs.WithinLimits.{OpParts, op_parts_of, parts_of}

@@ -6,7 +6,7 @@ use Rattle.norm_lang.specs.declared.text.Op.{Op}
 use Rattle.norm_lang.specs.Faults.{LineFault, form_fault, ◌>>=◌, at_line}
 use Rattle.norm_lang.specs.LineWords.{end_at}
 use Rattle.line_words.specs.Lines.{words_in, first_word}
-use Rattle.source_machine.specs.declared.event.SourceReply.{SourceReply}
+use Rattle.norm_lang.specs.declared.reply.SourceReply.{SourceReply}
 use Rattle.certificates.specs.declared.account.Account.{Account}
 use Rattle.certificates.specs.declared.replies.Claim.{Claim}
 use Rattle.certificates.specs.EventLines.{event_line, claim_line}

@@ -5,9 +5,10 @@ use Rattle.norm_lang.specs.declared.text.Text.{Text}
 use Rattle.norm_lang.specs.Limits.{is_number}
 use Rattle.source_machine.specs.declared.event.SourceEvent.{SourceEvent}
 use Rattle.source_machine.specs.declared.event.SourceEvent.TheVariants as events
-use Rattle.source_machine.specs.declared.event.SourceReply.{SourceReply}
-use Rattle.source_machine.specs.declared.event.SourceReply.TheVariants as replies
+use Rattle.norm_lang.specs.declared.reply.SourceReply.{SourceReply}
+use Rattle.norm_lang.specs.declared.reply.SourceReply.TheVariants as replies
 use Rattle.source_machine.specs.Run.{is_call}
+use Rattle.documents.specs.DocumentLimits.{most_caller}
 use Rattle.documents.specs.DocumentRead.{IsDocument}
 use Rattle.document_spelling.specs.SpellingLaws.{AreAlike}
 use Rattle.certificates.specs.declared.certificate.Certificate.{Certificate}
@@ -16,7 +17,7 @@ use Rattle.certificates.specs.CertificateSpelling.{certificate_spelling}
 
 -- a number of 32 bits
 abbrev pub is_caller : ℕ → Bool
-is_caller c = nat_le c 4294967295
+is_caller c = nat_le c most_caller
 
 -- an event whose numbers are numbers of their types, and whose call, where it begins one, is a call of an operation of the text
 abbrev pub is_event : Text → SourceEvent → Bool

@@ -8,8 +8,9 @@ use Rattle.norm_lang.specs.Faults.{form_fault, number_fault, unknown_name, ◌>>
 use Rattle.norm_lang.specs.LineWords.{word_at, end_at, name_at, number_in, number_at, value_of, up_to}
 use Rattle.source_machine.specs.declared.event.SourceEvent.{SourceEvent}
 use Rattle.source_machine.specs.declared.event.SourceEvent.TheVariants as events
-use Rattle.source_machine.specs.declared.event.SourceReply.{SourceReply}
-use Rattle.source_machine.specs.declared.event.SourceReply.TheVariants as replies
+use Rattle.norm_lang.specs.declared.reply.SourceReply.{SourceReply}
+use Rattle.norm_lang.specs.declared.reply.SourceReply.TheVariants as replies
+use Rattle.documents.specs.DocumentLimits.{most_caller}
 use Rattle.certificates.specs.declared.numbers.Numbers.{Numbers}
 use Rattle.certificates.specs.declared.replies.Claim.{Claim}
 
@@ -48,7 +49,7 @@ may_take_at ops (Some place) count = may_take count (slice_get ops place)
 
 -- a caller up to 2^32 - 1
 abbrev pub caller_in : ℕ → Result ℕ ℕ
-caller_in number = up_to 4294967295 number
+caller_in number = up_to most_caller number
 
 -- ---- events
 

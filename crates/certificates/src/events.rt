@@ -5,12 +5,11 @@ ghost use Rattle.line_words.specs.Answered.{Reads};
 ghost use Rattle.certificates.specs.EventLines.{op_named, may_take, may_take_at, caller_in, begin_line, access_line, lone_caller, phases_line, event_line};
 
 use crate::numbers::numbers_behind;
+use documents::limits::MOST_CALLER;
 use line_words::fault::Fault;
 use line_words::words::{Words, up_to, value_of};
 use norm_lang::text::Op;
 use source_machine::SourceEvent;
-
-const MOST_CALLER: u64 = 4_294_967_295;
 
 /// The place of the operation so named.
 fn op_named(ops: &[Op], name: &[u8]) -> Option<usize>

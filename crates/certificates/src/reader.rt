@@ -1,13 +1,13 @@
 //! The reader of certificates.
 
 ghost use Rattle.std.specs.Prelude.{◌≡◌, ◌+◌, ◌<◌, ◌≤◌, ◌^◌, length, Some, IfOk};
-ghost use Rattle.oa_text.specs.Lines.{lines_of, numbered};
+ghost use Rattle.oa_text.specs.Lines.{lines_of};
 ghost use Rattle.oa_text.specs.Shown.{line_shown};
 ghost use Rattle.norm_lang.specs.Faults.{at_line};
 ghost use Rattle.line_words.specs.Answered.{Reads, Answers};
 ghost use Rattle.documents.specs.DocumentLimits.{IsWithinDocumentLimits};
 ghost use Rattle.certificates.specs.Accounts.{no_account, after_lines};
-ghost use Rattle.certificates.specs.CertificateRead.{past, ends_early, events_line, certificate_of, whole, read_at, certificate_read};
+ghost use Rattle.certificates.specs.CertificateRead.{ends_early, events_line, certificate_of, whole, read_at, certificate_read};
 ghost use Rattle.certificates.specs.Shown.{cut_shown};
 
 use crate::account::Account;
@@ -17,22 +17,9 @@ use documents::{Document, read_document};
 use line_words::fault::{Fault, ParseError, ParseFault, Stop};
 use line_words::words::Words;
 use norm_lang::text::Op;
+use norm_parser::number_past;
 use oa_text::{Line, Lines, lines};
 use std::alloc::{AllocError, Global};
-
-/// The number of the line that would follow the last.
-#[tactic(auto, using(crate::proofs::Cuts::as_many))]
-fn past(input: &[u8]) -> u32
-    requires { length (lines_of input.now) + 1 < 2 ^ 32 }
-    ensures { result ≡ past input.now }
-{
-    let mut past = 1;
-    for line in lines(input) {
-        let _ = line;
-        past += 1;
-    }
-    past
-}
 
 /// The fault of bytes that end where a further line must follow.
 fn ends_early(input: &[u8]) -> ParseFault
@@ -41,7 +28,7 @@ fn ends_early(input: &[u8]) -> ParseFault
     ensures number { result.number ≡ (ends_early input.now).number }
 {
     ParseFault {
-        line: past(input),
+        line: number_past(input),
         number: Fault::Form.number(),
     }
 }

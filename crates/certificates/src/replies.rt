@@ -99,7 +99,7 @@ pub(crate) struct ReplyTable {
 
 impl Model for ReplyTable {
     ghost use Rattle.std.specs.Prelude.{List};
-    ghost use Rattle.source_machine.specs.declared.event.SourceReply.{SourceReply};
+    ghost use Rattle.norm_lang.specs.declared.reply.SourceReply.{SourceReply};
 
     ghost Value = { List (List SourceReply) };
 

@@ -1,5 +1,5 @@
 -- Each step of a claim, a sweep and a retirement.
-use Rattle.std.proofs.Common.{ℕ, zero, suc, ◌≡◌, ◌≢◌, ◌==◌, ◌+◌, ◌-◌, ◌≤◌, ◌<◌, ◌⊎◌, ◌∙◌, ◌&&◌, not, Bool, true, false, Option, Some, None, arith, inl, inr, sym, ap, subst, refl, max, length, if◌then◌else◌}
+use Rattle.std.proofs.Common.{ℕ, zero, suc, ◌≡◌, ◌≢◌, ◌==◌, ◌+◌, ◌≤◌, ◌<◌, ◌⊎◌, ◌∙◌, Bool, true, false, Option, Some, None, arith, inl, inr, sym, ap, subst, refl, max, length, if◌then◌else◌}
 use Rattle.std.specs.Prelude.{nat_lt}
 use Rattle.std.proofs.lemmas.Bool.Decides.{nat_tests}
 use Rattle.oa_words.specs.declared.packed.Kind.{Kind}
@@ -10,7 +10,6 @@ use Rattle.oa_words.specs.Packed.{StatusParts, status_word, status_parts, head_w
 use Rattle.oa_words.specs.Within.{AreKinds}
 use Rattle.oa_words.proofs.Parts.{status_back}
 use Rattle.oa_words.proofs.KindRanges.{kind_small}
-use Rattle.guard_words.specs.Guards.{has_slot}
 use Rattle.phase_pools.specs.declared.access.ClaimEnd.TheVariants as ends
 use Rattle.phase_pools.specs.declared.access.SweepEnd.{SweepEnd}
 use Rattle.phase_pools.specs.declared.access.SweepEnd.TheVariants as swept
@@ -23,13 +22,14 @@ use Rattle.phase_pools.specs.declared.stages.ClaimStage.TheVariants as claims
 use Rattle.phase_pools.specs.declared.stages.RetireStage.{RetireStage}
 use Rattle.phase_pools.specs.declared.stages.RetireStage.TheVariants as retires
 use Rattle.phase_pools.specs.Accesses.{word_of}
-use Rattle.phase_pools.specs.Pools.{Sweep, warn_wanted, lower, low_after, sweep_wants_at, sweep_accepts_at, sweep_goes, sweep_ends, sweep_on, warned_all, warn_next, hazard_next, freeing, status_read, made_ready, pushed, Claim, claim_wants_at, claim_accepts_at, claim_goes, claim_ends, sweep_follows, look_ended, look_begun, look_took, sweep_ended, retire_wants_at, retire_accepts_at}
+use Rattle.phase_pools.specs.Pools.{Sweep, warn_wanted, lower, low_after, sweep_wants_at, sweep_accepts_at, sweep_goes, sweep_ends, sweep_on, warned_all, warn_next, hazard_next, status_read, made_ready, pushed, Claim, claim_wants_at, claim_accepts_at, claim_goes, claim_ends, sweep_follows, look_ended, look_begun, look_took, sweep_ended, retire_wants_at, retire_accepts_at}
 use Rattle.oa_words.specs.Memories.{store}
 use Rattle.chain_laws.specs.Memories.{put, after_access}
 use Rattle.chain_laws.specs.Chains.{Owner, Chained, Taken, Pushing, Outside, Retiring, Retired, Hands, handed, with_top, without_top, stamp, top, SlotHolds, PoolHolds}
 use Rattle.chain_laws.specs.Standing.{ComesAbove, Gone, SweepStands, ClaimStands, RetireStands, MayMove, PoolKept, SweepNext, ClaimNext, RetireNext}
 use Rattle.chain_laws.specs.Machine.{sweep_hands, claim_hands, retire_hands}
 use Rattle.phase_pools.proofs.Lowering.{lower_less}
+use Rattle.phase_pools.proofs.Statuses.{from_slot, from_status}
 use Rattle.chain_laws.proofs.Lists.{put_same}
 use Rattle.chain_laws.proofs.Changes.{link_here, status_here, status_other, head_here, Near, Same, IsMine, top_chained, fine_same, goes_same, fine_handed, goes_handed, tells, Expected, fine_taken, goes_taken, fine_linked, goes_linked, Pushes, fine_pushed, goes_pushed}
 use Rattle.chain_laws.proofs.Same.{same_loaded, same_raised, same_written}
@@ -50,7 +50,7 @@ kind_in None = kinds.Ready
 kind_in (Some parts) = parts.kind
 
 -- one status word tells one phase and kind
-status_tells : (p q : ℕ) (k l : Kind) → status_word p k ≡ status_word q l → (p ≡ q) × (k ≡ l)
+pub status_tells : (p q : ℕ) (k l : Kind) → status_word p k ≡ status_word q l → (p ≡ q) × (k ≡ l)
 status_tells p q k l e = (
   sym (ap phase_in (status_back p k)) ∙ (ap (λ (w : ℕ). phase_in (status_parts w)) e ∙ ap phase_in (status_back q l)),
   sym (ap kind_in (status_back p k)) ∙ (ap (λ (w : ℕ). kind_in (status_parts w)) e ∙ ap kind_in (status_back q l)),
@@ -71,25 +71,11 @@ is_retired range stamped phase j word q (Retired tag) le is slot = ap Retired (s
 -- ---- a sweep
 
 on_next : (n : Sizes) (m : Word → ℕ) (h : Hands) (c : ℕ) (sweep : Sweep) (j : ℕ) → (sweep.bound ≤ m Phase) × (sweep.low ≤ sweep.bound) → j ≤ n.slots → SweepNext n m h c (sweep_on n sweep j).sweep (sweep_on n sweep j).ended
-on_next n m h c sweep j up le = of (nat_lt 1 j) where
-  of : (b : Bool) → SweepNext n m h c (if b then sweep_goes sweep (sweeps.ReadStatus (j - 1)) else sweep_ends sweep swept.Swept).sweep (if b then sweep_goes sweep (sweeps.ReadStatus (j - 1)) else sweep_ends sweep swept.Swept).ended
-  of true = (up.0, up.1, omega (arith, le))
-  of false = tt
-
-freeing_next : (n : Sizes) (m : Word → ℕ) (h : Hands) (c : ℕ) (sweep : Sweep) (j q : ℕ) (kind : Kind) → (sweep.bound ≤ m Phase) × (sweep.low ≤ sweep.bound) → j ≤ n.slots
-    → SweepNext n m h c (freeing n sweep j q kind).sweep (freeing n sweep j q kind).ended
-freeing_next n m h c sweep j q kinds.Ready up le = on_next n m h c sweep j up le
-freeing_next n m h c sweep j q kinds.Used up le = on_next n m h c sweep j up le
-freeing_next n m h c sweep j q kinds.Retired up le = of (nat_lt q sweep.low && not (has_slot sweep.gathered j)) refl where
-  of : (b : Bool) → (nat_lt q sweep.low && not (has_slot sweep.gathered j)) ≡ b
-      → SweepNext n m h c (if b then sweep_goes sweep (sweeps.MakeReady j q) else sweep_on n sweep j).sweep (if b then sweep_goes sweep (sweeps.MakeReady j q) else sweep_on n sweep j).ended
-  of true is = (up.0, up.1, le, grind (arith, nat_tests))
-  of false is = on_next n m h c sweep j up le
+on_next n m h c sweep j up le = from_slot (λ turn. SweepNext n m h c turn.sweep turn.ended) n sweep j (λ more. (up.0, up.1, omega (arith, le))) tt
 
 status_next : (n : Sizes) (m : Word → ℕ) (h : Hands) (c : ℕ) (sweep : Sweep) (j : ℕ) (parts : Option StatusParts) → (sweep.bound ≤ m Phase) × (sweep.low ≤ sweep.bound) → j ≤ n.slots
     → SweepNext n m h c (status_read n sweep j parts).sweep (status_read n sweep j parts).ended
-status_next n m h c sweep j None up le = on_next n m h c sweep j up le
-status_next n m h c sweep j (Some parts) up le = freeing_next n m h c sweep j parts.phase parts.kind up le
+status_next n m h c sweep j parts up le = from_status (λ turn. SweepNext n m h c turn.sweep turn.ended) n sweep j parts (on_next n m h c sweep j up le) (λ p is below away. (up.0, up.1, le, below))
 
 hazard_on : (n : Sizes) (m : Word → ℕ) (h : Hands) (c s low d r : ℕ) → (s ≤ m Phase) × (low ≤ s) → SweepStands n m h c s low (hazard_next n d r)
 hazard_on n m h c s low d r up = of (nat_lt (r + 1) 8) (nat_lt (d + 1) n.callers) where

@@ -7,7 +7,7 @@ use Rattle.chain_laws.specs.Machine.{is_other}
 use Rattle.chain_laws.proofs.Changes.{Same}
 
 -- to store what stands there changes nothing
-again : (m : Word → ℕ) (f : ℕ → Word) (a i : ℕ) → (if (i == a) && true then m (f a) else m (f i)) ≡ m (f i)
+pub again : (m : Word → ℕ) (f : ℕ → Word) (a i : ℕ) → (if (i == a) && true then m (f a) else m (f i)) ≡ m (f i)
 again m f a i = ⊎_elim
     (λ (e : ((i == a) ≡ true) × (i ≡ a)). rw e.0 (ap (λ j. m (f j)) (sym e.1)))
     (λ (e : ((i == a) ≡ false) × (i ≢ a)). rw e.0 refl)

@@ -26,7 +26,7 @@ use Rattle.chain_laws.proofs.Lists.{put_same}
 use Rattle.chain_laws.proofs.Changes.{tells, head_here, once_here, top_chained}
 use Rattle.chain_laws.proofs.Told.{pool_tells}
 use Rattle.caller_parts.specs.declared.routine.Routine.{Routine}
-use Rattle.caller_parts.specs.declared.routine.Routine.TheVariants.{Idle, LoadSeen, At, InList, Retires, Restarts, Clears, Claims, Zeroes, Announces}
+use Rattle.caller_parts.specs.declared.routine.Routine.TheVariants.{Claims}
 use Rattle.caller_parts.specs.Settings.{Setting}
 use Rattle.caller_steps.specs.Entries.{Entry}
 use Rattle.caller_steps.specs.After.{after, accepted, counted, claim_counted, claim_on}
@@ -43,16 +43,8 @@ use Rattle.caller_parts.specs.declared.setting.Reclamation.{Reclamation}
 
 -- who has a slot in a claim carries it
 carries_by : (setting : Setting) (state : CoreState) (c j : ℕ) (r : Routine) → ((view setting state).who c).routine ≡ r → slot_of (standing_of r) ≡ j → IsClaiming (standing_of r) → Carries setting state c j
-carries_by setting state c j Idle at slot is = absurd is
-carries_by setting state c j (LoadSeen why) at slot is = absurd is
-carries_by setting state c j At at slot is = absurd is
-carries_by setting state c j (InList k) at slot is = absurd is
-carries_by setting state c j (Retires retirement go) at slot is = absurd is
-carries_by setting state c j Restarts at slot is = absurd is
-carries_by setting state c j (Clears next) at slot is = absurd is
 carries_by setting state c j (Claims claim) at slot is = record { claim = claim; at = at; slot = slot }
-carries_by setting state c j (Zeroes k field) at slot is = absurd is
-carries_by setting state c j (Announces announcing) at slot is = absurd is
+carries_by setting state c j _ at slot is = absurd is
 
 carries_slot : (setting : Setting) (state : CoreState) (c j : ℕ) → Carries setting state c j → slot_of (standings (view setting state).who c) ≡ j
 carries_slot setting state c j k = ap (λ (r : Routine). slot_of (standing_of r)) k.at ∙ k.slot

@@ -1,15 +1,13 @@
 -- An exchange on a kind's head word expects what its caller's last load of it found: where a caller stands in a look or a push, its last
 -- load found the phase and the top that it has.
-use Rattle.std.proofs.Common.{ℕ, zero, suc, ◌≡◌, ◌≢◌, ◌+◌, ◌-◌, ◌<◌, ◌∙◌, ◌++◌, ◌==◌, ◌&&◌, not, Bool, true, false, List, [], ◌∷◌, Option, Some, None, arith, ⊎_elim, sym, ap, subst, refl, append_assoc, append-nil, if◌then◌else◌}
+use Rattle.std.proofs.Common.{ℕ, zero, suc, ◌≡◌, ◌≢◌, ◌+◌, ◌-◌, ◌<◌, ◌∙◌, ◌++◌, ◌==◌, Bool, true, false, List, [], ◌∷◌, Option, Some, None, arith, ⊎_elim, sym, ap, subst, refl, append_assoc, append-nil, if◌then◌else◌}
 use Rattle.std.specs.Prelude.{nat_lt}
 use Rattle.std.proofs.Math.Seq.{append_snoc}
 use Rattle.target_code.specs.declared.target.Target.{Target}
-use Rattle.oa_words.specs.declared.packed.Kind.{Kind}
 use Rattle.oa_words.specs.declared.packed.Kind.TheVariants as kinds
 use Rattle.oa_words.specs.Words.{Word, Phase, Status, Head, Sizes, slot_range}
 use Rattle.oa_words.specs.SlotKinds.{kind_of}
-use Rattle.oa_words.specs.Packed.{StatusParts, head_parts, head_word, status_parts, status_word}
-use Rattle.guard_words.specs.Guards.{has_slot}
+use Rattle.oa_words.specs.Packed.{head_parts, head_word, status_parts, status_word}
 use Rattle.phase_pools.specs.declared.access.ClaimEnd.{ClaimEnd}
 use Rattle.phase_pools.specs.declared.access.ClaimEnd.TheVariants as ends
 use Rattle.phase_pools.specs.declared.access.SweepEnd.{SweepEnd}
@@ -23,7 +21,8 @@ use Rattle.phase_pools.specs.declared.stages.ClaimStage.TheVariants as claims
 use Rattle.phase_pools.specs.declared.stages.RetireStage.{RetireStage}
 use Rattle.phase_pools.specs.declared.stages.RetireStage.TheVariants as retires
 use Rattle.phase_pools.specs.Accesses.{WordAccess, Loads, Exchanges, word_of}
-use Rattle.phase_pools.specs.Pools.{Sweep, SweepTurn, sweep_goes, sweep_ends, sweep_on, warn_wanted, sweep_wants_at, sweep_accepts_at, hazard_next, warned_all, warn_next, has_lower, freeing, status_read, Claim, ClaimTurn, claim_goes, claim_ends, claim_wants, claim_wants_at, claim_accepts, claim_accepts_at, look_ended, sweep_follows, sweep_ended, retire_wants_at}
+use Rattle.phase_pools.specs.Pools.{Sweep, SweepTurn, sweep_goes, sweep_ends, sweep_on, warn_wanted, sweep_wants_at, sweep_accepts_at, hazard_next, warned_all, warn_next, Claim, ClaimTurn, claim_goes, claim_ends, claim_wants, claim_wants_at, claim_accepts, claim_accepts_at, look_ended, sweep_follows, sweep_ended, retire_wants_at}
+use Rattle.phase_pools.proofs.Statuses.{from_slot, from_status}
 use Rattle.chain_laws.specs.Machine.{Elsewhere}
 use Rattle.chain_laws.proofs.Lists.{each_put}
 use Rattle.caller_parts.specs.declared.routine.Routine.{Routine}
@@ -143,35 +142,20 @@ module _ (target : Target) (setting : Setting) where
   -- what a caller that doesn't move keeps
   module _ (past more : List CoreEvent) (c : ℕ) (keep : (i q t : ℕ) → Found past c i q t → Found more c i q t) where
     stays_sweep : (stage : SweepStage) → AtSweep past c stage → AtSweep more c stage
-    stays_sweep sweeps.ReadPhase k = tt
-    stays_sweep (sweeps.RaisePhase p) k = tt
-    stays_sweep (sweeps.Warn d) k = tt
-    stays_sweep (sweeps.ReadHazard d r) k = tt
-    stays_sweep (sweeps.ReadStatus j) k = tt
-    stays_sweep (sweeps.MakeReady j q) k = tt
     stays_sweep (sweeps.PushHead i j) k = k
     stays_sweep (sweeps.PushLink j q t) k = keep (kind_of setting.sizes j) q t k
     stays_sweep (sweeps.PushTop i j q t) k = keep i q t k
+    stays_sweep _ k = tt
 
     stays_stage : (i : ℕ) (sweep : Sweep) (stage : ClaimStage) → AtStage past c i sweep stage → AtStage more c i sweep stage
-    stays_stage i sweep claims.ReadHead k = tt
     stays_stage i sweep (claims.ReadLink q t) k = keep i q t k
     stays_stage i sweep (claims.Take q t next) k = keep i q t k
-    stays_stage i sweep (claims.StoreUsed q t) k = tt
-    stays_stage i sweep (claims.Withdraw own) k = tt
     stays_stage i sweep claims.Sweeps k = stays_sweep sweep.stage k
+    stays_stage i sweep _ k = tt
 
     stays_routine : (r : Routine) → AtRoutine past c r → AtRoutine more c r
-    stays_routine Idle k = tt
-    stays_routine (LoadSeen why) k = tt
-    stays_routine At k = tt
-    stays_routine (InList n) k = tt
-    stays_routine (Retires retirement go) k = tt
-    stays_routine Restarts k = tt
-    stays_routine (Clears next) k = tt
     stays_routine (Claims claim) k = stays_stage claim.kind claim.sweep claim.stage k
-    stays_routine (Zeroes n field) k = tt
-    stays_routine (Announces announcing) k = tt
+    stays_routine _ k = tt
 
   -- ---- a step of a claim
 
@@ -208,7 +192,7 @@ module _ (target : Target) (setting : Setting) where
     n = setting.sizes
 
     sweep_onward : (sweep : Sweep) (j : ℕ) → IsSwept (sweep_on n sweep j)
-    sweep_onward sweep j = either_way IsSwept (has_lower n j) (sweep_goes sweep (sweeps.ReadStatus (j - 1))) (sweep_ends sweep swept.Swept) tt tt
+    sweep_onward sweep j = from_slot IsSwept n sweep j (λ more. tt) tt
 
     hazard_onward : (d r : ℕ) → AtSweep now c (hazard_next n d r)
     hazard_onward d r = either_way (AtSweep now c) (nat_lt (r + 1) 8) (sweeps.ReadHazard d (r + 1)) (if nat_lt (d + 1) n.callers then sweeps.ReadHazard (d + 1) 0 else sweeps.ReadStatus (slot_range n).last) tt
@@ -221,22 +205,13 @@ module _ (target : Target) (setting : Setting) where
     warn_onward : (scheme : Scheme) (d : ℕ) → AtSweep now c (warn_next n scheme d)
     warn_onward scheme d = either_way (AtSweep now c) (nat_lt (d + 1) n.callers) (sweeps.Warn (d + 1)) (warned_all n scheme) tt (all_warned scheme)
 
-    freeing_onward : (sweep : Sweep) (j q : ℕ) (kind : Kind) → IsSwept (freeing n sweep j q kind)
-    freeing_onward sweep j q kinds.Ready = sweep_onward sweep j
-    freeing_onward sweep j q kinds.Used = sweep_onward sweep j
-    freeing_onward sweep j q kinds.Retired = either_way IsSwept (nat_lt q sweep.low && not (has_slot sweep.gathered j)) (sweep_goes sweep (sweeps.MakeReady j q)) (sweep_on n sweep j) tt (sweep_onward sweep j)
-
-    status_onward : (sweep : Sweep) (j : ℕ) (o : Option StatusParts) → IsSwept (status_read n sweep j o)
-    status_onward sweep j None = sweep_onward sweep j
-    status_onward sweep j (Some parts) = freeing_onward sweep j parts.phase parts.kind
-
     sweep_onwards : (last : ℕ) (sweep : Sweep) (stage : SweepStage) → Turns past c memory (sweep_wants_at sweep.scheme stage sweep.bound) → AtSweep past c stage
         → IsSwept (sweep_accepts_at n last sweep (memory (word_of (sweep_wants_at sweep.scheme stage sweep.bound))) stage)
     sweep_onwards last sweep sweeps.ReadPhase t k = either_way IsSwept (memory Phase == last) (sweep_ends sweep (swept.PhasesOver (memory Phase))) (sweep_goes sweep (sweeps.RaisePhase (memory Phase))) tt tt
     sweep_onwards last sweep (sweeps.RaisePhase p) t k = tt
     sweep_onwards last sweep (sweeps.Warn d) t k = warn_onward sweep.scheme d
     sweep_onwards last sweep (sweeps.ReadHazard d r) t k = hazard_onward d r
-    sweep_onwards last sweep (sweeps.ReadStatus j) t k = status_onward sweep j (status_parts (memory (Status j)))
+    sweep_onwards last sweep (sweeps.ReadStatus j) t k = from_status IsSwept n sweep j (status_parts (memory (Status j))) (sweep_onward sweep j) (λ p is below away. tt)
     sweep_onwards last sweep (sweeps.MakeReady j q) t k = either_way IsSwept (memory (Status j) == status_word q kinds.Retired) (sweep_goes sweep (sweeps.PushHead (kind_of n j) j)) (sweep_on n sweep j) refl (sweep_onward sweep j)
     sweep_onwards last sweep (sweeps.PushHead i j) t k =
         subst (λ (kind : ℕ). Found now c kind (head_parts (memory (Head i))).phase (head_parts (memory (Head i))).top) k (t.loads i refl)
@@ -363,36 +338,20 @@ module _ (target : Target) (setting : Setting) where
   warning (Announced own) d bound i expected replacement is = cc
 
   sweeping : (events : List CoreEvent) (c i expected replacement : ℕ) (scheme : Scheme) (bound : ℕ) (stage : SweepStage) → AtSweep events c stage → sweep_wants_at scheme stage bound ≡ Exchanges (Head i) expected replacement → LastLoad target setting events c i expected
-  sweeping events c i expected replacement scheme bound sweeps.ReadPhase k is = absurd cc
-  sweeping events c i expected replacement scheme bound (sweeps.RaisePhase p) k is = absurd cc
   sweeping events c i expected replacement scheme bound (sweeps.Warn d) k is = absurd (warning scheme d bound i expected replacement is)
-  sweeping events c i expected replacement scheme bound (sweeps.ReadHazard d r) k is = absurd cc
-  sweeping events c i expected replacement scheme bound (sweeps.ReadStatus j) k is = absurd cc
-  sweeping events c i expected replacement scheme bound (sweeps.MakeReady j q) k is = absurd cc
-  sweeping events c i expected replacement scheme bound (sweeps.PushHead m j) k is = absurd cc
-  sweeping events c i expected replacement scheme bound (sweeps.PushLink j q t) k is = absurd cc
   sweeping events c i expected replacement scheme bound (sweeps.PushTop m j q t) k is = found_is events c m i q t _ expected replacement k is
+  sweeping events c i expected replacement scheme bound _ k is = absurd cc
 
   claiming : (events : List CoreEvent) (c i expected replacement kind : ℕ) (sweep : Sweep) (stage : ClaimStage) → AtStage events c kind sweep stage → claim_wants_at kind sweep stage ≡ Exchanges (Head i) expected replacement → LastLoad target setting events c i expected
-  claiming events c i expected replacement kind sweep claims.ReadHead k is = absurd cc
-  claiming events c i expected replacement kind sweep (claims.ReadLink q t) k is = absurd cc
   claiming events c i expected replacement kind sweep (claims.Take q t next) k is = found_is events c kind i q t _ expected replacement k is
-  claiming events c i expected replacement kind sweep (claims.StoreUsed q t) k is = absurd cc
-  claiming events c i expected replacement kind sweep (claims.Withdraw own) k is = absurd cc
   claiming events c i expected replacement kind sweep claims.Sweeps k is = sweeping events c i expected replacement sweep.scheme sweep.bound sweep.stage k is
+  claiming events c i expected replacement kind sweep _ k is = absurd cc
 
   expects_at : (events : List CoreEvent) (c i expected replacement : ℕ) (e : Entry) (r : Routine) → e.routine ≡ r → AtRoutine events c r → wants target e ≡ Some (Exchanges (Head i) expected replacement) → LastLoad target setting events c i expected
-  expects_at events c i expected replacement e Idle at k want = absurd (elsewhere e i expected replacement (ap standing_of at) want)
-  expects_at events c i expected replacement e (LoadSeen why) at k want = absurd (elsewhere e i expected replacement (ap standing_of at) want)
-  expects_at events c i expected replacement e At at k want = absurd (elsewhere e i expected replacement (ap standing_of at) want)
-  expects_at events c i expected replacement e (InList n) at k want = absurd (elsewhere e i expected replacement (ap standing_of at) want)
   expects_at events c i expected replacement e (Retires retirement go) at k want =
       absurd (retiring retirement.slot retirement.stage i expected replacement (same_access _ _ (sym (wants_retires target e retirement go at) ∙ want)))
-  expects_at events c i expected replacement e Restarts at k want = absurd (elsewhere e i expected replacement (ap standing_of at) want)
-  expects_at events c i expected replacement e (Clears next) at k want = absurd (elsewhere e i expected replacement (ap standing_of at) want)
   expects_at events c i expected replacement e (Claims claim) at k want = claiming events c i expected replacement claim.kind claim.sweep claim.stage k (same_access _ _ (sym (wants_claims target e claim at) ∙ want))
-  expects_at events c i expected replacement e (Zeroes n field) at k want = absurd (elsewhere e i expected replacement (ap standing_of at) want)
-  expects_at events c i expected replacement e (Announces announcing) at k want = absurd (elsewhere e i expected replacement (ap standing_of at) want)
+  expects_at events c i expected replacement e _ at k want = absurd (elsewhere e i expected replacement (ap standing_of at) want)
 
   -- at every state of a run
   pub expects : ((past : List CoreEvent) (state : CoreState) → core_run target setting past (core_start target setting) ≡ Some state → IsShaped target setting state) → (events : List CoreEvent) (state : CoreState) → core_run target setting events (core_start target setting) ≡ Some state

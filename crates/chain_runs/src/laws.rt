@@ -8,7 +8,6 @@ ghost use Rattle.chain_runs.specs.Tops.{TopsHaveStood};
 
 use barrier_check::Barred;
 use caller_steps::Setting;
-use oa_simulation::laws::kept;
 
 /// For a proper text, under optimistic access, in each state of each run: a slot is ready exactly where it stands in the chain of its kind,
 /// or a caller has taken it from there and hasn't stored that it is used, or a caller pushes it; and that is one caller alone. A claim's
@@ -19,7 +18,7 @@ pub fn slots_are_chained(barred: &Barred, setting: &Setting)
     requires optimistic { setting.now.reclamation ≡ Optimistic }
     ensures { SlotsAreChained barred.now.target barred.now.source setting.now }
 {
-    kept(barred);
+    barred.kept();
     setting.kept();
 }
 
@@ -31,6 +30,6 @@ pub fn tops_have_stood(barred: &Barred, setting: &Setting)
     requires optimistic { setting.now.reclamation ≡ Optimistic }
     ensures { TopsHaveStood barred.now.target barred.now.source setting.now }
 {
-    kept(barred);
+    barred.kept();
     setting.kept();
 }

@@ -21,7 +21,6 @@ use Rattle.phase_pools.specs.declared.access.ClaimEnd.TheVariants as ends
 use Rattle.phase_pools.specs.declared.stages.Scheme.{Scheme}
 use Rattle.phase_pools.specs.declared.stages.Scheme.TheVariants.{Warned, Announced}
 use Rattle.phase_pools.specs.Pools.{Claim, claim_begun, claim_takes, claim_accepts, Retirement, retire_begun, retire_accepts, retire_accepts_at}
-use Rattle.caller_parts.specs.declared.call.Reply.TheVariants as replies
 use Rattle.caller_parts.specs.declared.routine.AfterClear.{AfterClear}
 use Rattle.caller_parts.specs.declared.routine.AfterClear.TheVariants as clears
 use Rattle.caller_parts.specs.declared.routine.AfterRetire.{AfterRetire}
@@ -43,6 +42,7 @@ use Rattle.caller_steps.specs.Clearing.{restart_next, clear_next, unguarded}
 use Rattle.caller_steps.specs.Signs.{quiet}
 use Rattle.caller_steps.specs.After.{with_routine, with_hand, run_to, new_on, new_begun, then_goes, clear_on, cleared, wrap_up_hand, list_ended, list_begun, plain_stop, wrap_up_stop, wrap_up_stops, wrap_up_begun, announced_list, announced_stop, announced, stop_at, stops, stopped, settles, goes_on, first_spot, method_begun, restart_on, restarted, is_wrap_up, generator_begun, check_passed, check_failed, checked, checked_by, guarded_by, with_restart, with_access, list_on, list_goes, list_failed, onward_goes, retires_then, cas_failed, cas_ended, plain_accepted, instr_accepted, with_published, entry_ended, list_accepted, retired_on, claim_counted, slot_gained, claim_on, node_made, zeroed, accepted, counted, after}
 use Rattle.std.specs.Prelude.{slice_index, slice_set}
+use Rattle.norm_lang.specs.declared.reply.SourceReply.TheVariants as replies
 use Rattle.claim_laws.specs.Untouched.{RegistersAvoid, RoutineAvoids, EntryAvoids}
 use Rattle.claim_laws.proofs.Naming.{null, referred, names_other, first_avoid, run_avoids, retires_other, guard_put, cradle_put, cradle_emptied}
 
@@ -110,23 +110,7 @@ module _ (target : Target) (sizes : Sizes) (j : ℕ) (some : 1 ≤ j) where
   plain_avoids (instr.Return a) e f = cleared_avoids (clears.Reply (replies.Number (number_in e.hand.registers a))) e f
   plain_avoids instr.ReturnNone e f = cleared_avoids (clears.Reply replies.Nothing) e f
   plain_avoids instr.Again e f = cleared_avoids clears.Again e f
-  plain_avoids (instr.Set d n) e f = to e At f tt
-  plain_avoids (instr.Mov d a) e f = to e At f tt
-  plain_avoids (instr.Add d a b) e f = to e At f tt
-  plain_avoids (instr.Sub d a b) e f = to e At f tt
-  plain_avoids (instr.Rem d a n) e f = to e At f tt
-  plain_avoids (instr.Mark d a) e f = to e At f tt
-  plain_avoids (instr.Unmark d a) e f = to e At f tt
-  plain_avoids (instr.Null d) e f = to e At f tt
-  plain_avoids (instr.Jump l) e f = to e At f tt
-  plain_avoids (instr.IfEq a b l) e f = to e At f tt
-  plain_avoids (instr.IfLess a b l) e f = to e At f tt
-  plain_avoids (instr.IfMarked a l) e f = to e At f tt
-  plain_avoids (instr.LoadRoot d x) e f = to e At f tt
-  plain_avoids (instr.LoadPick d x n a) e f = to e At f tt
-  plain_avoids (instr.LoadField d a g) e f = to e At f tt
-  plain_avoids (instr.Put a g b) e f = to e At f tt
-  plain_avoids (instr.Cas exchange l) e f = to e At f tt
+  plain_avoids _ e f = to e At f tt
 
   -- ---- under epochs
 
@@ -134,31 +118,11 @@ module _ (target : Target) (sizes : Sizes) (j : ℕ) (some : 1 ≤ j) where
   stop_avoids (instr.Return a) e f = to e (Announces (announces.Leaves (replies.Number (number_in e.hand.registers a)))) f tt
   stop_avoids instr.ReturnNone e f = to e (Announces (announces.Leaves replies.Nothing)) f tt
   stop_avoids instr.Again e f = to e (Announces (announces.Loads reasons.Again)) f tt
-  stop_avoids (instr.New d kind) e f = to e At f tt
-  stop_avoids (instr.Commit exchanges) e f = to e At f tt
-  stop_avoids (instr.Set d n) e f = to e At f tt
-  stop_avoids (instr.Mov d a) e f = to e At f tt
-  stop_avoids (instr.Add d a b) e f = to e At f tt
-  stop_avoids (instr.Sub d a b) e f = to e At f tt
-  stop_avoids (instr.Rem d a n) e f = to e At f tt
-  stop_avoids (instr.Mark d a) e f = to e At f tt
-  stop_avoids (instr.Unmark d a) e f = to e At f tt
-  stop_avoids (instr.Null d) e f = to e At f tt
-  stop_avoids (instr.Jump l) e f = to e At f tt
-  stop_avoids (instr.IfEq a b l) e f = to e At f tt
-  stop_avoids (instr.IfLess a b l) e f = to e At f tt
-  stop_avoids (instr.IfMarked a l) e f = to e At f tt
-  stop_avoids (instr.LoadRoot d x) e f = to e At f tt
-  stop_avoids (instr.LoadPick d x n a) e f = to e At f tt
-  stop_avoids (instr.LoadField d a g) e f = to e At f tt
-  stop_avoids (instr.Put a g b) e f = to e At f tt
-  stop_avoids (instr.Cas exchange l) e f = to e At f tt
+  stop_avoids _ e f = to e At f tt
 
   stops_avoids : (o : Option TargetInstr) (e : Entry) → IsFree j e → EntryAvoids j (wrap_up_stops o e).entry
-  stops_avoids None e f = to e At f tt
-  stops_avoids (Some Check) e f = to e At f tt
-  stops_avoids (Some (Guard r)) e f = to e At f tt
   stops_avoids (Some (Plain i)) e f = stop_avoids i e f
+  stops_avoids _ e f = to e At f tt
 
   -- local code names nothing new
   run_free : (spot : Spot) (e : Entry) → IsFree j e → RegistersAvoid j spot.registers → IsFree j (run_to target spot e)
@@ -181,26 +145,7 @@ module _ (target : Target) (sizes : Sizes) (j : ℕ) (some : 1 ≤ j) where
   announced_avoids : (i : Instr) (e : Entry) → IsFree j e → EntryAvoids j (announced_stop target sizes i e).entry
   announced_avoids (instr.New d kind) e f = new_avoids (Announced e.number) e f
   announced_avoids (instr.Commit exchanges) e f = announced_list_avoids exchanges e f
-  announced_avoids (instr.Return a) e f = stop_avoids (instr.Return a) e f
-  announced_avoids instr.ReturnNone e f = stop_avoids instr.ReturnNone e f
-  announced_avoids instr.Again e f = stop_avoids instr.Again e f
-  announced_avoids (instr.Set d n) e f = to e At f tt
-  announced_avoids (instr.Mov d a) e f = to e At f tt
-  announced_avoids (instr.Add d a b) e f = to e At f tt
-  announced_avoids (instr.Sub d a b) e f = to e At f tt
-  announced_avoids (instr.Rem d a n) e f = to e At f tt
-  announced_avoids (instr.Mark d a) e f = to e At f tt
-  announced_avoids (instr.Unmark d a) e f = to e At f tt
-  announced_avoids (instr.Null d) e f = to e At f tt
-  announced_avoids (instr.Jump l) e f = to e At f tt
-  announced_avoids (instr.IfEq a b l) e f = to e At f tt
-  announced_avoids (instr.IfLess a b l) e f = to e At f tt
-  announced_avoids (instr.IfMarked a l) e f = to e At f tt
-  announced_avoids (instr.LoadRoot d x) e f = to e At f tt
-  announced_avoids (instr.LoadPick d x n a) e f = to e At f tt
-  announced_avoids (instr.LoadField d a g) e f = to e At f tt
-  announced_avoids (instr.Put a g b) e f = to e At f tt
-  announced_avoids (instr.Cas exchange l) e f = to e At f tt
+  announced_avoids i e f = stop_avoids i e f
 
   -- ---- where local code stops
 
@@ -307,23 +252,7 @@ module _ (target : Target) (sizes : Sizes) (j : ℕ) (some : 1 ≤ j) where
   accepted_plain by (instr.LoadField d a g) word e is f l = on_avoids by (with_word e.hand.registers d word) (with_access e) (with_access_free e f) l
   accepted_plain by (instr.Put a g b) word e is f l = on_avoids by e.hand.registers e f f.registers
   accepted_plain by (instr.Cas exchange k) word e is f l = cas_avoids by exchange k word (with_access e) (with_access_free e f)
-  accepted_plain by (instr.Set d n) word e is f l = same e At is f tt
-  accepted_plain by (instr.Mov d a) word e is f l = same e At is f tt
-  accepted_plain by (instr.Add d a b) word e is f l = same e At is f tt
-  accepted_plain by (instr.Sub d a b) word e is f l = same e At is f tt
-  accepted_plain by (instr.Rem d a n) word e is f l = same e At is f tt
-  accepted_plain by (instr.Mark d a) word e is f l = same e At is f tt
-  accepted_plain by (instr.Unmark d a) word e is f l = same e At is f tt
-  accepted_plain by (instr.Null d) word e is f l = same e At is f tt
-  accepted_plain by (instr.Jump k) word e is f l = same e At is f tt
-  accepted_plain by (instr.IfEq a b k) word e is f l = same e At is f tt
-  accepted_plain by (instr.IfLess a b k) word e is f l = same e At is f tt
-  accepted_plain by (instr.IfMarked a k) word e is f l = same e At is f tt
-  accepted_plain by (instr.New d kind) word e is f l = same e At is f tt
-  accepted_plain by (instr.Commit exchanges) word e is f l = same e At is f tt
-  accepted_plain by (instr.Return a) word e is f l = same e At is f tt
-  accepted_plain by instr.ReturnNone word e is f l = same e At is f tt
-  accepted_plain by instr.Again word e is f l = same e At is f tt
+  accepted_plain by _ word e is f l = same e At is f tt
 
   accepted_instr : (by : Reclamation) (o : Option TargetInstr) (word : ℕ) (e : Entry) → e.routine ≡ At → IsFree j e → InstrAvoids j o word e.hand.registers → EntryAvoids j (instr_accepted by target sizes o word e).entry
   accepted_instr by None word e is f l = same e At is f tt
@@ -374,31 +303,8 @@ module _ (target : Target) (sizes : Sizes) (j : ℕ) (some : 1 ≤ j) where
   claim_avoids by claim (Some (ends.PhasesOver p)) e f a = record { registers = f.registers; started = f.started; guards = f.guards; cradles = f.cradles; routine = tt }
 
   drawn_avoids : (o : Option TargetInstr) (slot : ℕ) (registers : Registers) → slot ≢ j → RegistersAvoid j registers → RegistersAvoid j (with_new o slot registers)
-  drawn_avoids None slot registers other s = s
-  drawn_avoids (Some Check) slot registers other s = s
-  drawn_avoids (Some (Guard r)) slot registers other s = s
   drawn_avoids (Some (Plain (instr.New d kind))) slot registers other s = referred j some registers d (record { node = slot; marked = false }) s other
-  drawn_avoids (Some (Plain (instr.Set d n))) slot registers other s = s
-  drawn_avoids (Some (Plain (instr.Mov d a))) slot registers other s = s
-  drawn_avoids (Some (Plain (instr.Add d a b))) slot registers other s = s
-  drawn_avoids (Some (Plain (instr.Sub d a b))) slot registers other s = s
-  drawn_avoids (Some (Plain (instr.Rem d a n))) slot registers other s = s
-  drawn_avoids (Some (Plain (instr.Mark d a))) slot registers other s = s
-  drawn_avoids (Some (Plain (instr.Unmark d a))) slot registers other s = s
-  drawn_avoids (Some (Plain (instr.Null d))) slot registers other s = s
-  drawn_avoids (Some (Plain (instr.Jump l))) slot registers other s = s
-  drawn_avoids (Some (Plain (instr.IfEq a b l))) slot registers other s = s
-  drawn_avoids (Some (Plain (instr.IfLess a b l))) slot registers other s = s
-  drawn_avoids (Some (Plain (instr.IfMarked a l))) slot registers other s = s
-  drawn_avoids (Some (Plain (instr.LoadRoot d x))) slot registers other s = s
-  drawn_avoids (Some (Plain (instr.LoadPick d x n a))) slot registers other s = s
-  drawn_avoids (Some (Plain (instr.LoadField d a f))) slot registers other s = s
-  drawn_avoids (Some (Plain (instr.Put a f b))) slot registers other s = s
-  drawn_avoids (Some (Plain (instr.Cas exchange l))) slot registers other s = s
-  drawn_avoids (Some (Plain (instr.Commit exchanges))) slot registers other s = s
-  drawn_avoids (Some (Plain (instr.Return a))) slot registers other s = s
-  drawn_avoids (Some (Plain instr.ReturnNone)) slot registers other s = s
-  drawn_avoids (Some (Plain instr.Again)) slot registers other s = s
+  drawn_avoids _ slot registers other s = s
 
   zeroed_avoids : (by : Reclamation) (k field : ℕ) (e : Entry) → IsFree j e → EntryAvoids j (zeroed by target sizes k field e).entry
   zeroed_avoids by k field e f = of (nat_lt (field + 1) (zero_count target (instr_in target e))) where

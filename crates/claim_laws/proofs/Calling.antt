@@ -6,6 +6,8 @@ use native.Mathlib.Decide.{ℕ_discrete}
 use mathlib.Core.Logic.{dite}
 use Rattle.norm_lang.specs.declared.text.Reg.{Reg}
 use Rattle.norm_lang.specs.declared.text.Instr.TheVariants as instr
+use Rattle.norm_lang.specs.declared.reply.SourceReply.{SourceReply}
+use Rattle.norm_lang.specs.declared.reply.SourceReply.TheVariants as replies
 use Rattle.target_code.specs.declared.target.TargetInstr.{TargetInstr}
 use Rattle.target_code.specs.declared.target.TargetInstr.TheVariants.{Plain}
 use Rattle.target_code.specs.declared.target.TargetOp.{TargetOp}
@@ -19,8 +21,6 @@ use Rattle.oa_words.specs.SlotKinds.{kind_of}
 use Rattle.phase_pools.specs.Pools.{Claim, ClaimTurn, claim_accepts, claim_accepts_at, claim_ends, claim_goes, claim_takes, takes_at}
 use Rattle.oa_words.specs.Packed.{head_word}
 use Rattle.caller_parts.proofs.News.{new_there}
-use Rattle.caller_parts.specs.declared.call.Reply.{Reply}
-use Rattle.caller_parts.specs.declared.call.Reply.TheVariants as replies
 use Rattle.caller_parts.specs.declared.call.Replied.{Replied}
 use Rattle.caller_parts.specs.declared.call.Running.{Running}
 use Rattle.caller_parts.specs.declared.routine.AnnounceReason.{AnnounceReason}
@@ -128,7 +128,7 @@ module _ (target : Target) (setting : Setting) (sane : Methods target) where
 -- ---- credits
 
 -- a call that got an answer may have claimed for each of its `new`
-abbrev pub credit : Target → Replied → Reply → ℕ
+abbrev pub credit : Target → Replied → SourceReply → ℕ
 credit target r (replies.Number n) = news_of_call target r.call
 credit target r replies.Nothing = news_of_call target r.call
 credit target r replies.Full = 0
@@ -142,7 +142,7 @@ credits_more : (target : Target) (given : List Replied) (r : Replied) → credit
 credits_more target [] r = omega arith
 credits_more target (x ∷ given) r = let rest = credits_more target given r in omega (arith, rest)
 
-answer_credit : (target : Target) (run : Running) (reply : Reply) → IsAnswer reply → credit target (replied_by reply run) reply ≡ news_of_call target run.call
+answer_credit : (target : Target) (run : Running) (reply : SourceReply) → IsAnswer reply → credit target (replied_by reply run) reply ≡ news_of_call target run.call
 answer_credit target run (replies.Number n) is = refl
 answer_credit target run replies.Nothing is = refl
 answer_credit target run replies.Full is = absurd is
@@ -185,15 +185,7 @@ Holds target e = (HasSlot target e × NoClaim e.routine) ⊎ Took e.routine
 
 took_claims : (routine : Routine) → Took routine → IsNoClaim routine → ⊥
 took_claims (Claims claim) took none = none
-took_claims Idle took none = took
-took_claims (LoadSeen why) took none = took
-took_claims At took none = took
-took_claims (InList k) took none = took
-took_claims (Retires retirement go) took none = took
-took_claims Restarts took none = took
-took_claims (Clears next) took none = took
-took_claims (Zeroes k field) took none = took
-took_claims (Announces announcing) took none = took
+took_claims _ took none = took
 
 -- it has claimed nothing, or it has claimed once and holds the slot, or it has published the node and is past its generator
 abbrev HasClaimed : Target → Setting → Entry → List StepMade → Type 0
@@ -205,7 +197,7 @@ Standing target setting e steps = (e.counts.claims ≤ credits target e.replies)
 
 -- what a step makes of it
 pub record Ended (target : Target) (e later : Entry) : Type 0 where
-  pub reply : Reply
+  pub reply : SourceReply
   pub idle : is_idle later.routine ≡ true
   pub given : later.replies ≡ e.replies ++ replied_by reply (counted e).running ∷ []
   pub claims : later.counts.claims ≤ credits target later.replies
@@ -265,7 +257,7 @@ module _ (target : Target) (setting : Setting) (sane : Methods target) (row : Se
           claims = within standing;
           full = λ full. absurd (no_full stands.0 stands.1 full);
         } where
-          no_full : (reply : Reply) → IsAnswer reply → reply ≡ replies.Full → ⊥
+          no_full : (reply : SourceReply) → IsAnswer reply → reply ≡ replies.Full → ⊥
           no_full (replies.Number n) answer e = cc
           no_full replies.Nothing answer e = cc
           no_full replies.Full answer e = answer
@@ -277,15 +269,7 @@ module _ (target : Target) (setting : Setting) (sane : Methods target) (row : Se
           within : Standing target setting e steps → later.counts.claims ≤ credits target later.replies
           within (inl le) = let same = answers.0 in omega (arith, le, same, sum)
           within (inr claimed) = let same = answers.0 in let le = claimed.0 in let some = claimed.1 in omega (arith, le, some, same, sum)
-        by (LoadSeen why) is stands = absurd (let z : false ≡ true = sym (ap is_idle is) ∙ idle in cc)
-        by At is stands = absurd (let z : false ≡ true = sym (ap is_idle is) ∙ idle in cc)
-        by (InList k) is stands = absurd (let z : false ≡ true = sym (ap is_idle is) ∙ idle in cc)
-        by (Retires retirement go) is stands = absurd (let z : false ≡ true = sym (ap is_idle is) ∙ idle in cc)
-        by Restarts is stands = absurd (let z : false ≡ true = sym (ap is_idle is) ∙ idle in cc)
-        by (Clears next) is stands = absurd (let z : false ≡ true = sym (ap is_idle is) ∙ idle in cc)
-        by (Claims claim) is stands = absurd (let z : false ≡ true = sym (ap is_idle is) ∙ idle in cc)
-        by (Zeroes k field) is stands = absurd (let z : false ≡ true = sym (ap is_idle is) ∙ idle in cc)
-        by (Announces announcing) is stands = absurd (let z : false ≡ true = sym (ap is_idle is) ∙ idle in cc)
+        by _ is stands = absurd (let z : false ≡ true = sym (ap is_idle is) ∙ idle in cc)
 
       -- it goes on: what is left to say is whether it still holds its slot or is past its generator
       goes_so : RunsOn (counted e) later → (Holds target e → Holds target later ⊎ (HasPublished target setting all × IsPast later)) → (HasPublished target setting steps → IsPast e → IsPast later) → Going target setting e later all
@@ -325,15 +309,7 @@ module _ (target : Target) (setting : Setting) (sane : Methods target) (row : Se
 
         by : (routine : Routine) → later.routine ≡ routine → ClaimStarts target later routine → NoClaim later.routine
         by (Claims claim) is empty = absurd (full.2 (ap (cradle_of later) (sym (only_new later claim b_later is full.0 full.1)) ∙ empty))
-        by Idle is empty = subst NoClaim (sym is) tt
-        by (LoadSeen why) is empty = subst NoClaim (sym is) tt
-        by At is empty = subst NoClaim (sym is) tt
-        by (InList k) is empty = subst NoClaim (sym is) tt
-        by (Retires retirement go) is empty = subst NoClaim (sym is) tt
-        by Restarts is empty = subst NoClaim (sym is) tt
-        by (Clears next) is empty = subst NoClaim (sym is) tt
-        by (Zeroes k field) is empty = subst NoClaim (sym is) tt
-        by (Announces announcing) is empty = subst NoClaim (sym is) tt
+        by _ is empty = subst NoClaim (sym is) tt
 
       past_busy : is_idle later.routine ≡ false → later.hand.wrapup ≡ true → IsNoStore later.routine → IsPast later
       past_busy running w no_store = ⊎_elim (λ (t : IsPast later). t) (λ (t : is_idle later.routine ≡ true). absurd (let z : false ≡ true = sym running ∙ t in cc)) (past_of_wrap target setting sane later b_later w no_store)
@@ -344,15 +320,7 @@ module _ (target : Target) (setting : Setting) (sane : Methods target) (row : Se
 
       no_claim_past : (x : Entry) (routine : Routine) → x.routine ≡ routine → IsPastAt x routine → NoClaim x.routine
       no_claim_past x (Claims claim) is past = absurd past
-      no_claim_past x Idle is past = subst NoClaim (sym is) tt
-      no_claim_past x (LoadSeen why) is past = subst NoClaim (sym is) tt
-      no_claim_past x At is past = subst NoClaim (sym is) tt
-      no_claim_past x (InList k) is past = subst NoClaim (sym is) tt
-      no_claim_past x (Retires retirement go) is past = subst NoClaim (sym is) tt
-      no_claim_past x Restarts is past = subst NoClaim (sym is) tt
-      no_claim_past x (Clears next) is past = subst NoClaim (sym is) tt
-      no_claim_past x (Zeroes k field) is past = subst NoClaim (sym is) tt
-      no_claim_past x (Announces announcing) is past = subst NoClaim (sym is) tt
+      no_claim_past x _ is past = subst NoClaim (sym is) tt
 
       -- a step of a list, which may publish
       list_goes : RunsOn (counted e) later → IsPast later → Going target setting e later all

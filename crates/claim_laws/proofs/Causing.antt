@@ -1,11 +1,11 @@
 -- A step of a call: either it goes on and has found neither cause, or it ends with a reply that its steps caused.
 use Rattle.std.proofs.Common.{◌≡◌, ◌⊎◌, inl, inr, ⊎_elim, ℕ, true, false, List, [], ◌∷◌, ◌++◌, Option, Some, None, refl, sym, ◌∙◌, ap, subst}
+use Rattle.norm_lang.specs.declared.reply.SourceReply.{SourceReply}
+use Rattle.norm_lang.specs.declared.reply.SourceReply.TheVariants as replies
 use Rattle.target_code.specs.declared.target.Target.{Target}
 use Rattle.phase_pools.specs.declared.access.ClaimEnd.{ClaimEnd}
 use Rattle.phase_pools.specs.declared.access.ClaimEnd.TheVariants as ends
 use Rattle.phase_pools.specs.Pools.{Claim, ClaimTurn, claim_takes, claim_accepts}
-use Rattle.caller_parts.specs.declared.call.Reply.{Reply}
-use Rattle.caller_parts.specs.declared.call.Reply.TheVariants as replies
 use Rattle.caller_parts.specs.declared.routine.Routine.{Routine}
 use Rattle.caller_parts.specs.declared.routine.Routine.TheVariants.{Idle, LoadSeen, At, InList, Retires, Restarts, Clears, Claims, Zeroes, Announces}
 use Rattle.caller_parts.specs.Pairing.{replied_by}
@@ -61,7 +61,7 @@ module _ (setting : Setting) (steps : List StepMade) (s : StepMade) where
   still_neither : FoundNeither setting steps → FindsNeither → FoundNeither setting more
   still_neither n f = record { phases = λ p found. f.0 p (over_by_last p (n.phases p) found); full = λ failed. f.1 (full_by_last failed) }
 
-  answer_caused : (reply : Reply) → IsAnswer reply → FoundNeither setting more → IsCaused setting reply more
+  answer_caused : (reply : SourceReply) → IsAnswer reply → FoundNeither setting more → IsCaused setting reply more
   answer_caused (replies.Number n) is f = record { phases = λ p. ((λ e. absurd cc), (λ found. absurd (f.phases p found))); full = ((λ e. absurd cc), (λ failed. absurd (f.full failed))) }
   answer_caused replies.Nothing is f = record { phases = λ p. ((λ e. absurd cc), (λ found. absurd (f.phases p found))); full = ((λ e. absurd cc), (λ failed. absurd (f.full failed))) }
   answer_caused replies.Full is f = absurd is
@@ -73,7 +73,7 @@ GoesOn setting e steps later = (is_idle later.routine ≡ false) × (later.repli
 
 abbrev pub GetsReply : Setting → Entry → List StepMade → Entry → Type 0
 GetsReply setting e steps later =
-    (is_idle later.routine ≡ true) × (reply : Reply) × (later.replies ≡ e.replies ++ replied_by reply (counted e).running ∷ []) × IsCaused setting reply steps
+    (is_idle later.routine ≡ true) × (reply : SourceReply) × (later.replies ≡ e.replies ++ replied_by reply (counted e).running ∷ []) × IsCaused setting reply steps
 
 abbrev pub Outcome : Setting → Entry → List StepMade → Entry → Type 0
 Outcome setting e steps later = GoesOn setting e steps later ⊎ GetsReply setting e steps later

@@ -1,12 +1,9 @@
 -- One step of a claim: how the claim ends, and what the step then found.
-use Rattle.std.proofs.Common.{◌≡◌, ℕ, zero, suc, ◌-◌, ◌==◌, ◌&&◌, not, Bool, true, false, Option, Some, None, refl, ◌∙◌, ap, arith, if◌then◌else◌}
-use Rattle.std.specs.Prelude.{nat_lt}
+use Rattle.std.proofs.Common.{◌≡◌, ℕ, zero, suc, ◌==◌, Bool, true, false, Option, Some, None, refl, ◌∙◌, ap, arith, if◌then◌else◌}
 use Rattle.std.proofs.lemmas.Bool.Decides.{nat_tests}
-use Rattle.oa_words.specs.declared.packed.Kind.{Kind}
 use Rattle.oa_words.specs.declared.packed.Kind.TheVariants as kinds
 use Rattle.oa_words.specs.Words.{Phase}
 use Rattle.oa_words.specs.Packed.{StatusParts, status_parts, status_word, head_parts, head_word}
-use Rattle.guard_words.specs.Guards.{has_slot}
 use Rattle.phase_pools.specs.declared.access.ClaimEnd.{ClaimEnd}
 use Rattle.phase_pools.specs.declared.access.ClaimEnd.TheVariants as ends
 use Rattle.phase_pools.specs.declared.access.SweepEnd.{SweepEnd}
@@ -19,7 +16,8 @@ use Rattle.phase_pools.specs.Accesses.{Loads}
 use Rattle.oa_words.specs.SlotKinds.{kind_of}
 use Rattle.phase_pools.specs.declared.stages.Scheme.{Scheme}
 use Rattle.phase_pools.specs.declared.stages.Scheme.TheVariants.{Warned, Announced}
-use Rattle.phase_pools.specs.Pools.{Sweep, has_lower, warn_wanted, sweep_follows, sweep_wants_at, sweep_goes, sweep_ends, sweep_on, sweep_accepts, sweep_accepts_at, freeing, status_read, Claim, claim_wants, claim_wants_at, claim_accepts, claim_accepts_at, claim_goes, claim_ends, look_ended, look_begun, sweep_ended}
+use Rattle.phase_pools.specs.Pools.{Sweep, warn_wanted, sweep_follows, sweep_wants_at, sweep_goes, sweep_ends, sweep_on, sweep_accepts, sweep_accepts_at, status_read, Claim, claim_wants, claim_wants_at, claim_accepts, claim_accepts_at, claim_goes, claim_ends, look_ended, look_begun, sweep_ended}
+use Rattle.phase_pools.proofs.Statuses.{from_slot, from_status}
 use Rattle.caller_parts.specs.declared.routine.Routine.TheVariants.{Claims}
 use Rattle.caller_parts.specs.Settings.{Setting}
 use Rattle.claim_laws.specs.CallSteps.{StepMade}
@@ -34,22 +32,10 @@ SweepGives setting stage word _ = Unit {0}
 
 module _ (setting : Setting) (sweep : Sweep) where
   on_gives : (stage : SweepStage) (word j : ℕ) → SweepGives setting stage word (sweep_on setting.sizes sweep j).ended
-  on_gives stage word j = of (has_lower setting.sizes j) where
-    of : (b : Bool) → SweepGives setting stage word (if b then sweep_goes sweep (sweeps.ReadStatus (j - 1)) else sweep_ends sweep swept.Swept).ended
-    of true = tt
-    of false = tt
-
-  freeing_gives : (stage : SweepStage) (word j q : ℕ) (kind : Kind) → SweepGives setting stage word (freeing setting.sizes sweep j q kind).ended
-  freeing_gives stage word j q kinds.Ready = on_gives stage word j
-  freeing_gives stage word j q kinds.Used = on_gives stage word j
-  freeing_gives stage word j q kinds.Retired = of (nat_lt q sweep.low && not (has_slot sweep.gathered j)) where
-    of : (b : Bool) → SweepGives setting stage word (if b then sweep_goes sweep (sweeps.MakeReady j q) else sweep_on setting.sizes sweep j).ended
-    of true = tt
-    of false = on_gives stage word j
+  on_gives stage word j = from_slot (λ turn. SweepGives setting stage word turn.ended) setting.sizes sweep j (λ more. tt) tt
 
   status_gives : (stage : SweepStage) (word j : ℕ) (parts : Option StatusParts) → SweepGives setting stage word (status_read setting.sizes sweep j parts).ended
-  status_gives stage word j None = on_gives stage word j
-  status_gives stage word j (Some parts) = freeing_gives stage word j parts.phase parts.kind
+  status_gives stage word j parts = from_status (λ turn. SweepGives setting stage word turn.ended) setting.sizes sweep j parts (on_gives stage word j) (λ p is below away. tt)
 
   sweep_gives : (word : ℕ) (stage : SweepStage) → SweepGives setting stage word (sweep_accepts_at setting.sizes setting.last sweep word stage).ended
   sweep_gives word sweeps.ReadPhase = of (word == setting.last) refl where
@@ -57,20 +43,16 @@ module _ (setting : Setting) (sweep : Sweep) where
         → SweepGives setting sweeps.ReadPhase word (if b then sweep_ends sweep (swept.PhasesOver word) else sweep_goes sweep (sweeps.RaisePhase word)).ended
     of true is = let same : word ≡ setting.last = grind (arith, nat_tests) in (same, refl, refl)
     of false is = tt
-  sweep_gives word (sweeps.RaisePhase p) = tt
-  sweep_gives word (sweeps.Warn c) = tt
-  sweep_gives word (sweeps.ReadHazard c r) = tt
   sweep_gives word (sweeps.ReadStatus j) = status_gives (sweeps.ReadStatus j) word j (status_parts word)
   sweep_gives word (sweeps.MakeReady j q) = of (word == status_word q kinds.Retired) where
     of : (b : Bool) → SweepGives setting (sweeps.MakeReady j q) word (if b then sweep_goes sweep (sweeps.PushHead (kind_of setting.sizes j) j) else sweep_on setting.sizes sweep j).ended
     of true = tt
     of false = on_gives (sweeps.MakeReady j q) word j
-  sweep_gives word (sweeps.PushHead k j) = tt
-  sweep_gives word (sweeps.PushLink j q t) = tt
   sweep_gives word (sweeps.PushTop k j q t) = of (word == head_word q t) where
     of : (b : Bool) → SweepGives setting (sweeps.PushTop k j q t) word (if b then sweep_on setting.sizes sweep j else sweep_goes sweep (sweeps.PushHead (kind_of setting.sizes j) j)).ended
     of true = on_gives (sweeps.PushTop k j q t) word j
     of false = tt
+  sweep_gives word _ = tt
 
 -- ---- claims
 
@@ -103,16 +85,14 @@ module _ (setting : Setting) (s : StepMade) (claim : Claim) (there : s.entry.rou
 
   stage_gives : (stage : ClaimStage) → claim.stage ≡ stage → GivesAt (claim_accepts_at setting.sizes setting.last claim s.found stage).ended
   stage_gives claims.ReadHead is = begun_gives is
-  stage_gives (claims.ReadLink q t) is = tt
   stage_gives (claims.Take q t next) is = of (s.found == head_word q t) where
     of : (b : Bool) → GivesAt (if b then claim_goes claim (claims.StoreUsed q t) else claim_goes claim claims.ReadHead).ended
     of true = tt
     of false = tt
-  stage_gives (claims.StoreUsed q t) is = tt
-  stage_gives (claims.Withdraw own) is = tt
   stage_gives claims.Sweeps is =
       let turn = sweep_accepts setting.sizes setting.last claim.sweep s.found in
       swept_gives turn.sweep turn.ended is (sweep_gives setting claim.sweep s.found claim.sweep.stage)
+  stage_gives _ is = tt
 
   pub claim_gives : GivesAt (claim_accepts setting.sizes setting.last claim s.found).ended
   claim_gives = stage_gives claim.stage refl
@@ -128,14 +108,8 @@ module _ (setting : Setting) (claim : Claim) (word : ℕ) where
       → (sweep_accepts_at setting.sizes setting.last claim.sweep word stage).ended ≡ Some (swept.PhasesOver word)
   phase_ends sweeps.ReadPhase is last = let same : (word == setting.last) ≡ true = grind (arith, nat_tests) in
       ap (λ (b : Bool). (if b then sweep_ends claim.sweep (swept.PhasesOver word) else sweep_goes claim.sweep (sweeps.RaisePhase word)).ended) same
-  phase_ends (sweeps.RaisePhase p) is last = absurd cc
   phase_ends (sweeps.Warn c) is last = absurd (no_phase claim.sweep.scheme c claim.sweep.bound is)
-  phase_ends (sweeps.ReadHazard c r) is last = absurd cc
-  phase_ends (sweeps.ReadStatus j) is last = absurd cc
-  phase_ends (sweeps.MakeReady j q) is last = absurd cc
-  phase_ends (sweeps.PushHead k j) is last = absurd cc
-  phase_ends (sweeps.PushLink j q t) is last = absurd cc
-  phase_ends (sweeps.PushTop k j q t) is last = absurd cc
+  phase_ends _ is last = absurd cc
 
   over_ends : (next : Sweep) (end : Option SweepEnd) → end ≡ Some (swept.PhasesOver word) → (sweep_ended claim next end).ended ≡ Some (ends.PhasesOver word)
   over_ends next end is = rw is refl
@@ -143,12 +117,8 @@ module _ (setting : Setting) (claim : Claim) (word : ℕ) where
   -- a sweep's load that finds the last phase ends the claim
   pub phases_end : (stage : ClaimStage) → claim_wants_at claim.kind claim.sweep stage ≡ Loads Phase → word ≡ setting.last
       → (claim_accepts_at setting.sizes setting.last claim word stage).ended ≡ Some (ends.PhasesOver word)
-  phases_end claims.ReadHead is last = absurd cc
-  phases_end (claims.ReadLink q t) is last = absurd cc
-  phases_end (claims.Take q t next) is last = absurd cc
-  phases_end (claims.StoreUsed q t) is last = absurd cc
-  phases_end (claims.Withdraw own) is last = absurd cc
   phases_end claims.Sweeps is last = let turn = sweep_accepts setting.sizes setting.last claim.sweep word in over_ends turn.sweep turn.ended (phase_ends claim.sweep.stage is last)
+  phases_end _ is last = absurd cc
 
   -- a third look that finds no slot on top ends it too
   pub empty_ends : (stage : ClaimStage) → stage ≡ claims.ReadHead → claim.sweeps ≡ 2 → (head_parts word).top ≡ 0 → (claim_accepts_at setting.sizes setting.last claim word stage).ended ≡ Some ends.Full

@@ -10,10 +10,11 @@ use Rattle.norm_lang.specs.Limits.{are_starts, owners_of}
 use Rattle.target_code.specs.declared.target.Target.{Target}
 use Rattle.target_code.specs.TargetLimits.{IsTargetWithinLimits}
 use Rattle.norm_lang.specs.declared.text.Text.{Text}
+use Rattle.norm_lang.specs.declared.reply.SourceReply.TheVariants as replies
 use Rattle.target_laws.specs.target_runs.Runnable.{IsRunnable}
 use Rattle.target_laws.proofs.target_runs.Limited.{parts, roots_are}
 use Rattle.oa_words.specs.declared.packed.Kind.TheVariants as statuses
-use Rattle.oa_words.specs.Words.{Word, Phase, Place, Warning, Hazard, Status, FieldOf, Cell, Head, Link, IsSlot, in_row}
+use Rattle.oa_words.specs.Words.{Word, Hazard, Status, FieldOf, Cell, IsSlot, in_row}
 use Rattle.oa_words.specs.SlotKinds.{together, kind_in, sum_before, slots_of, first_of, range_of, kind_of, range_at}
 use Rattle.oa_words.specs.Within.{AreKinds}
 use Rattle.oa_words.proofs.KindRanges.{kind_small, in_range_is_of_kind, part_within}
@@ -23,7 +24,6 @@ use Rattle.oa_words.specs.Memories.{seen}
 use Rattle.guard_words.specs.Guards.{guard_at, no_guards, has_slot}
 use Rattle.chain_laws.specs.claim_order.Frontier.{IsOrdered, AreOrdered, Fits as StandingFits}
 use Rattle.chain_laws.proofs.claim_order.Frontier.{start_open}
-use Rattle.caller_parts.specs.declared.call.Reply.TheVariants as replies
 use Rattle.caller_parts.specs.declared.call.Replied.{Replied}
 use Rattle.caller_parts.specs.Settings.{Setting, Fits, IsSetting}
 use Rattle.caller_parts.specs.KindCounts.{node_counts}
@@ -145,16 +145,11 @@ module _ {target : Target} {setting : Setting} (within : IsTargetWithinLimits ta
       of false is = zero_avoids j some (held_at target t g)
 
     start_avoids : (w : Word) → WordAvoids target setting.sizes j w (start_word setting.sizes (beginning_of target setting) w)
-    start_avoids Phase = tt
-    start_avoids (Place c) = tt
-    start_avoids (Warning c) = tt
     start_avoids (Hazard c r) = null j some
-    start_avoids (Status i) = tt
     start_avoids (FieldOf i g) = slot_avoids i g
     start_avoids (Cell x) = roots_avoid j (node_home target setting.sizes) (length target.kinds) (owners_of target.nodes) others target.roots x
         (roots_are (length target.kinds) (owners_of target.nodes) target.roots (parts target within).roots)
-    start_avoids (Head t) = tt
-    start_avoids (Link i) = tt
+    start_avoids _ = tt
 
     ready_there : start_kind (range_at setting.sizes j) (nodes_of (beginning_of target setting) (kind_of setting.sizes j)) j ≡ statuses.Ready
     ready_there =

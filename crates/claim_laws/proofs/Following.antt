@@ -16,12 +16,12 @@ use Rattle.caller_steps.specs.Wants.{wants}
 use Rattle.caller_steps.specs.After.{after, taken, counted}
 use Rattle.core_runs.specs.Machine.{CoreState, CoreEvent, Takes, Steps, core_event, core_run, run_on, core_start, event_by, stepped, found_by, made, idle_from}
 use Rattle.core_runs.proofs.Reaching.{some_is}
-use Rattle.core_runs.proofs.Keeping.{idle_wants, got_same, got_other, run_count}
+use Rattle.core_runs.proofs.Keeping.{idle_wants, got_same, got_other, run_count, first_busy}
 use Rattle.core_runs.specs.caller_laws.Laws.{ForRuns}
 use Rattle.claim_laws.specs.CallSteps.{StepMade, steps_wanted, steps_by, with_steps, event_steps, steps_on, events_steps, call_steps}
 use Rattle.claim_laws.specs.Causes.{IsCaused, FoundNeither, RepliesAreCaused}
 use Rattle.claim_laws.proofs.Lasts.{never_nil}
-use Rattle.claim_laws.proofs.Onward.{first_before, first_busy}
+use Rattle.claim_laws.proofs.Onward.{first_before}
 use Rattle.claim_laws.proofs.Causing.{Unfinished, GoesOn, GetsReply, step_caused}
 
 -- each reply is caused by the steps beside it

@@ -1,5 +1,5 @@
 -- What a caller finds and what it writes, where neither fields, roots nor guards name a slot.
-use Rattle.std.proofs.Common.{◌≡◌, ◌≢◌, ℕ, zero, suc, ◌+◌, ◌-◌, ◌≤◌, ◌<◌, ◌==◌, ◌&&◌, ◌||◌, not, Bool, true, false, List, [], ◌∷◌, length, Option, Some, None, refl, sym, ◌∙◌, subst, ap, arith, ⊎_elim, if◌then◌else◌}
+use Rattle.std.proofs.Common.{◌≡◌, ◌≢◌, ℕ, zero, suc, ◌+◌, ◌≤◌, ◌<◌, ◌==◌, ◌&&◌, ◌||◌, Bool, true, false, List, [], ◌∷◌, length, Option, Some, None, refl, sym, ◌∙◌, subst, ap, arith, ⊎_elim, if◌then◌else◌}
 use Rattle.std.specs.Prelude.{slice_get, nat_le, nat_lt, option_map}
 use Rattle.std.specs.List.{All, list_any, list_all}
 use Rattle.std.proofs.lemmas.Bool.Decides.{nat_tests}
@@ -23,11 +23,9 @@ use Rattle.norm_lang.specs.Local.{remainder}
 use Rattle.target_code.specs.declared.target.TargetInstr.{TargetInstr}
 use Rattle.target_code.specs.declared.target.TargetInstr.TheVariants.{Plain, Check, Guard}
 use Rattle.target_code.specs.declared.target.Target.{Target}
-use Rattle.oa_words.specs.declared.packed.Kind.{Kind}
 use Rattle.oa_words.specs.declared.packed.Kind.TheVariants as statuses
 use Rattle.oa_words.specs.Words.{Sizes, Word, FieldOf, Cell}
 use Rattle.oa_words.specs.Packed.{slot_part, StatusParts, status_parts, status_word, HeadParts, head_parts, head_word}
-use Rattle.guard_words.specs.Guards.{has_slot}
 use Rattle.phase_pools.specs.declared.access.ClaimEnd.TheVariants as ends
 use Rattle.phase_pools.specs.declared.access.SweepEnd.{SweepEnd}
 use Rattle.phase_pools.specs.declared.access.SweepEnd.TheVariants as swept
@@ -41,7 +39,8 @@ use Rattle.phase_pools.specs.Accesses.{WordAccess, word_of, word_after, Exchange
 use Rattle.oa_words.specs.SlotKinds.{kind_of}
 use Rattle.phase_pools.specs.declared.stages.Scheme.{Scheme}
 use Rattle.phase_pools.specs.declared.stages.Scheme.TheVariants.{Warned, Announced}
-use Rattle.phase_pools.specs.Pools.{Sweep, has_lower, warn_wanted, sweep_follows, sweep_goes, sweep_ends, sweep_on, sweep_accepts, sweep_accepts_at, sweep_wants_at, freeing, status_read, Claim, ClaimTurn, claim_accepts_at, claim_goes, claim_ends, claim_wants_at, look_begun, sweep_ended, retire_wants_at}
+use Rattle.phase_pools.specs.Pools.{Sweep, warn_wanted, sweep_follows, sweep_goes, sweep_ends, sweep_on, sweep_accepts, sweep_accepts_at, sweep_wants_at, status_read, Claim, ClaimTurn, claim_accepts_at, claim_goes, claim_ends, claim_wants_at, look_begun, sweep_ended, retire_wants_at}
+use Rattle.phase_pools.proofs.Statuses.{from_slot, from_status}
 use Rattle.caller_parts.specs.declared.routine.Announcing.{Announcing}
 use Rattle.caller_parts.specs.declared.routine.Announcing.TheVariants as announces
 use Rattle.caller_parts.specs.declared.routine.Routine.{Routine}
@@ -164,32 +163,12 @@ module _ (target : Target) (setting : Setting) (sane : Methods target) (j : ℕ)
       let limit = below f (length target.fields) (parts (is_register a) (nat_lt f (length target.fields)) limits.1).1 in
       worded j some e.hand.registers (field_kind target.fields f) d word s (field_found (slot_in e.hand.registers a) f word (limit, object_has target setting e (instr.LoadField d a f) a f sane c is (λ r k asked. asked)) told)
       (neither (holds_number a) (is_unlike (field_kind target.fields f) d) (site_of target e (Plain (instr.LoadField d a f)) sane c.reached is).own.form.kinds).1
-  plain_found e (instr.Set d n) word c is s told = tt
-  plain_found e (instr.Mov d a) word c is s told = tt
-  plain_found e (instr.Add d a b) word c is s told = tt
-  plain_found e (instr.Sub d a b) word c is s told = tt
-  plain_found e (instr.Rem d a n) word c is s told = tt
-  plain_found e (instr.Mark d a) word c is s told = tt
-  plain_found e (instr.Unmark d a) word c is s told = tt
-  plain_found e (instr.Null d) word c is s told = tt
-  plain_found e (instr.Jump l) word c is s told = tt
-  plain_found e (instr.IfEq a b l) word c is s told = tt
-  plain_found e (instr.IfLess a b l) word c is s told = tt
-  plain_found e (instr.IfMarked a l) word c is s told = tt
-  plain_found e (instr.New d kind) word c is s told = tt
-  plain_found e (instr.Put a f b) word c is s told = tt
-  plain_found e (instr.Cas exchange l) word c is s told = tt
-  plain_found e (instr.Commit exchanges) word c is s told = tt
-  plain_found e (instr.Return a) word c is s told = tt
-  plain_found e instr.ReturnNone word c is s told = tt
-  plain_found e instr.Again word c is s told = tt
+  plain_found e _ word c is s told = tt
 
   instr_found : (e : Entry) (o : Option TargetInstr) (word : ℕ) → Here target setting e → instr_in target e ≡ o → RegistersAvoid j e.hand.registers
       → ToldAvoids target setting.sizes j (instr_wanted target.fields e.number o e.hand.registers) word → InstrAvoids j o word e.hand.registers
-  instr_found e None word c is s told = tt
-  instr_found e (Some Check) word c is s told = tt
-  instr_found e (Some (Guard r)) word c is s told = tt
   instr_found e (Some (Plain i)) word c is s told = plain_found e i word c is s told
+  instr_found e _ word c is s told = tt
 
   -- ---- sweeps and claims
 
@@ -197,22 +176,10 @@ module _ (target : Target) (setting : Setting) (sane : Methods target) (j : ℕ)
   Others slots = All (λ (slot : ℕ). slot ≢ j) slots
 
   on_others : (sweep : Sweep) (k : ℕ) → Others sweep.gathered → Others (sweep_on setting.sizes sweep k).sweep.gathered
-  on_others sweep k all = of (has_lower setting.sizes k) where
-    of : (b : Bool) → Others (if b then sweep_goes sweep (sweeps.ReadStatus (k - 1)) else sweep_ends sweep swept.Swept).sweep.gathered
-    of true = all
-    of false = all
-
-  freeing_others : (sweep : Sweep) (k q : ℕ) (kind : Kind) → Others sweep.gathered → Others (freeing setting.sizes sweep k q kind).sweep.gathered
-  freeing_others sweep k q statuses.Ready all = on_others sweep k all
-  freeing_others sweep k q statuses.Used all = on_others sweep k all
-  freeing_others sweep k q statuses.Retired all = of (nat_lt q sweep.low && not (has_slot sweep.gathered k)) where
-    of : (b : Bool) → Others (if b then sweep_goes sweep (sweeps.MakeReady k q) else sweep_on setting.sizes sweep k).sweep.gathered
-    of true = all
-    of false = on_others sweep k all
+  on_others sweep k all = from_slot (λ turn. Others turn.sweep.gathered) setting.sizes sweep k (λ more. all) all
 
   status_others : (sweep : Sweep) (k : ℕ) (o : Option StatusParts) → Others sweep.gathered → Others (status_read setting.sizes sweep k o).sweep.gathered
-  status_others sweep k None all = on_others sweep k all
-  status_others sweep k (Some p) all = freeing_others sweep k p.phase p.kind all
+  status_others sweep k o all = from_status (λ turn. Others turn.sweep.gathered) setting.sizes sweep k o (on_others sweep k all) (λ p is below away. all)
 
   sweep_others : (sweep : Sweep) (word : ℕ) (stage : SweepStage) → Others sweep.gathered → FoundAvoids target setting.sizes j (sweep_wants_at sweep.scheme stage sweep.bound) word
       → Others (sweep_accepts_at setting.sizes setting.last sweep word stage).sweep.gathered
@@ -220,20 +187,17 @@ module _ (target : Target) (setting : Setting) (sane : Methods target) (j : ℕ)
     of : (b : Bool) → Others (if b then sweep_ends sweep (swept.PhasesOver word) else sweep_goes sweep (sweeps.RaisePhase word)).sweep.gathered
     of true = all
     of false = all
-  sweep_others sweep word (sweeps.RaisePhase p) all told = all
-  sweep_others sweep word (sweeps.Warn c) all told = all
   sweep_others sweep word (sweeps.ReadHazard c r) all told = gathered j some sweep.gathered word told all
   sweep_others sweep word (sweeps.ReadStatus k) all told = status_others sweep k (status_parts word) all
   sweep_others sweep word (sweeps.MakeReady k q) all told = of (word == status_word q statuses.Retired) where
     of : (b : Bool) → Others (if b then sweep_goes sweep (sweeps.PushHead (kind_of setting.sizes k) k) else sweep_on setting.sizes sweep k).sweep.gathered
     of true = all
     of false = on_others sweep k all
-  sweep_others sweep word (sweeps.PushHead kind k) all told = all
-  sweep_others sweep word (sweeps.PushLink k q t) all told = all
   sweep_others sweep word (sweeps.PushTop kind k q t) all told = of (word == head_word q t) where
     of : (b : Bool) → Others (if b then sweep_on setting.sizes sweep k else sweep_goes sweep (sweeps.PushHead (kind_of setting.sizes k) k)).sweep.gathered
     of true = on_others sweep k all
     of false = all
+  sweep_others sweep word _ all told = all
 
   none_gathered : Others []
   none_gathered k d lt = let none : k < 0 = lt in omega (arith, none)
@@ -276,16 +240,9 @@ module _ (target : Target) (setting : Setting) (sane : Methods target) (j : ℕ)
 
   found_step : (e : Entry) (word : ℕ) (routine : Routine) → Belongs target setting e → RunsAt target e routine → RunsWithKinds target setting e routine → RegistersAvoid j e.hand.registers → RoutineAvoids j routine
       → ToldAvoids target setting.sizes j (wanted target e routine) word → ClaimsOther j word routine → StepAvoids target setting j e word routine
-  found_step e word Idle b reaches kinds s a told other = tt
-  found_step e word (LoadSeen why) b reaches kinds s a told other = tt
   found_step e word At b reaches kinds s a told other = instr_found e (instr_in target e) word (record { reached = reaches; names = b.hand.registers; kinds = kinds.now }) refl s told
-  found_step e word (InList k) b reaches kinds s a told other = tt
-  found_step e word (Retires retirement go) b reaches kinds s a told other = tt
-  found_step e word Restarts b reaches kinds s a told other = tt
-  found_step e word (Clears next) b reaches kinds s a told other = tt
   found_step e word (Claims claim) b reaches kinds s a told other = claim_goes_on claim word claim.stage refl a.0 a.1 told other
-  found_step e word (Zeroes k field) b reaches kinds s a told other = tt
-  found_step e word (Announces announcing) b reaches kinds s a told other = tt
+  found_step e word _ b reaches kinds s a told other = tt
 
   pub step_found : (e : Entry) (word : ℕ) → Belongs target setting e → EntryAvoids j e → ToldAvoids target setting.sizes j (wants target e) word → ClaimsOther j word e.routine → StepAvoids target setting j e word e.routine
   unfolding wants
@@ -342,23 +299,7 @@ module _ (target : Target) (setting : Setting) (sane : Methods target) (j : ℕ)
       let site = site_of target e (Plain (instr.Cas exchange l)) sane c.reached is in
       text_exchange exchange e.hand.registers s site.own.form.kinds
       (exchange_object e (instr.Cas exchange l) exchange c is (parts (is_entry (length target.fields) (length target.roots) exchange) (nat_le l 65535) site.limits).0 (λ r k asked. entry_asks_object target.fields target.roots exchange r k asked))
-  plain_leaves e (instr.Set d n) c is s = tt
-  plain_leaves e (instr.Mov d a) c is s = tt
-  plain_leaves e (instr.Add d a b) c is s = tt
-  plain_leaves e (instr.Sub d a b) c is s = tt
-  plain_leaves e (instr.Rem d a n) c is s = tt
-  plain_leaves e (instr.Mark d a) c is s = tt
-  plain_leaves e (instr.Unmark d a) c is s = tt
-  plain_leaves e (instr.Null d) c is s = tt
-  plain_leaves e (instr.Jump l) c is s = tt
-  plain_leaves e (instr.IfEq a b l) c is s = tt
-  plain_leaves e (instr.IfLess a b l) c is s = tt
-  plain_leaves e (instr.IfMarked a l) c is s = tt
-  plain_leaves e (instr.New d kind) c is s = tt
-  plain_leaves e (instr.Commit exchanges) c is s = tt
-  plain_leaves e (instr.Return a) c is s = tt
-  plain_leaves e instr.ReturnNone c is s = tt
-  plain_leaves e instr.Again c is s = tt
+  plain_leaves e _ c is s = tt
 
   instr_leaves : (e : Entry) (o : Option TargetInstr) → Here target setting e → instr_in target e ≡ o → RegistersAvoid j e.hand.registers
       → LeavesOther target setting.sizes j (instr_wanted target.fields e.number o e.hand.registers)
@@ -399,23 +340,13 @@ module _ (target : Target) (setting : Setting) (sane : Methods target) (j : ℕ)
   warn_leaves (Announced own) c s = λ found was. tt
 
   sweep_leaves : (scheme : Scheme) (bound : ℕ) (stage : SweepStage) → LeavesOther target setting.sizes j (Some (sweep_wants_at scheme stage bound))
-  sweep_leaves scheme bound sweeps.ReadPhase = λ found was. tt
-  sweep_leaves scheme bound (sweeps.RaisePhase p) = λ found was. tt
   sweep_leaves scheme bound (sweeps.Warn c) = warn_leaves scheme c bound
   sweep_leaves scheme bound (sweeps.ReadHazard c r) = λ found was. was
-  sweep_leaves scheme bound (sweeps.ReadStatus k) = λ found was. tt
-  sweep_leaves scheme bound (sweeps.MakeReady k q) = λ found was. tt
-  sweep_leaves scheme bound (sweeps.PushHead kind k) = λ found was. tt
-  sweep_leaves scheme bound (sweeps.PushLink k q t) = λ found was. tt
-  sweep_leaves scheme bound (sweeps.PushTop kind k q t) = λ found was. tt
+  sweep_leaves scheme bound _ = λ found was. tt
 
   claim_leaves : (k : ℕ) (sweep : Sweep) (stage : ClaimStage) → LeavesOther target setting.sizes j (Some (claim_wants_at k sweep stage))
-  claim_leaves k sweep claims.ReadHead = λ found was. tt
-  claim_leaves k sweep (claims.ReadLink q t) = λ found was. tt
-  claim_leaves k sweep (claims.Take q t next) = λ found was. tt
-  claim_leaves k sweep (claims.StoreUsed q t) = λ found was. tt
-  claim_leaves k sweep (claims.Withdraw own) = λ found was. tt
   claim_leaves k sweep claims.Sweeps = sweep_leaves sweep.scheme sweep.bound sweep.stage
+  claim_leaves k sweep _ = λ found was. tt
 
   announcing_leaves : (c : ℕ) (announcing : Announcing) → LeavesOther target setting.sizes j (Some (announcing_wanted c announcing))
   announcing_leaves c (announces.Loads why) = λ found was. tt

@@ -15,7 +15,7 @@ use Rattle.norm_lang.specs.Registers.{no_reference, first_registers, number_in, 
 use Rattle.norm_lang.specs.InstructionRules.{is_unlike}
 use Rattle.norm_lang.specs.Local.{Spot, local_step, go_on}
 use Rattle.target_code.specs.declared.target.TargetInstr.{TargetInstr}
-use Rattle.target_code.specs.declared.target.TargetInstr.TheVariants.{Plain, Check, Guard}
+use Rattle.target_code.specs.declared.target.TargetInstr.TheVariants.{Plain}
 use Rattle.target_code.specs.LocalCode.{target_local_at, target_run}
 use Rattle.oa_words.specs.Packed.{ref_word, slot_part}
 use Rattle.guard_words.specs.Guards.{Guards, guard_at, with_guard, with_slot}
@@ -81,20 +81,11 @@ module _ (j : ℕ) (some : 1 ≤ j) where
   local_avoids (instr.Mark d a) at registers s = referred registers d (record { node = (reference_in registers a).node; marked = true }) s (names_other registers a s)
   local_avoids (instr.Unmark d a) at registers s = referred registers d (record { node = (reference_in registers a).node; marked = false }) s (names_other registers a s)
   local_avoids (instr.Null d) at registers s = referred registers d no_reference s null
-  local_avoids (instr.LoadRoot d x) at registers s = tt
-  local_avoids (instr.LoadPick d x n a) at registers s = tt
-  local_avoids (instr.LoadField d a f) at registers s = tt
-  local_avoids (instr.New d kind) at registers s = tt
-  local_avoids (instr.Put a f b) at registers s = tt
-  local_avoids (instr.Cas entry l) at registers s = tt
   local_avoids (instr.Jump l) at registers s = s
   local_avoids (instr.IfEq a b l) at registers s = s
   local_avoids (instr.IfLess a b l) at registers s = s
   local_avoids (instr.IfMarked a l) at registers s = s
-  local_avoids (instr.Commit entries) at registers s = tt
-  local_avoids (instr.Return a) at registers s = tt
-  local_avoids instr.ReturnNone at registers s = tt
-  local_avoids instr.Again at registers s = tt
+  local_avoids _ at registers s = tt
 
   abbrev Further : List TargetInstr → ℕ → Type 0
   Further code n = (next : Spot) → RegistersAvoid j next.registers → RegistersAvoid j (target_run code n next).registers
@@ -107,10 +98,8 @@ module _ (j : ℕ) (some : 1 ≤ j) where
     step further i (Some next) steps = further next (subst (λ (o : Option Spot). IfSome o (λ (x : Spot). RegistersAvoid j x.registers)) steps (local_avoids i spot.at spot.registers s))
 
     turn : Further code n → (o : Option TargetInstr) → RegistersAvoid j (go_on (target_local_at o spot.at spot.registers) spot (target_run code n)).registers
-    turn further None = s
-    turn further (Some Check) = s
-    turn further (Some (Guard r)) = s
     turn further (Some (Plain i)) = step further i (local_step i spot.at spot.registers) refl
+    turn further _ = s
 
   -- ---- what a register gives
 

@@ -20,7 +20,6 @@ use Rattle.oa_words.specs.Words.{Sizes}
 use Rattle.phase_pools.specs.declared.stages.Scheme.{Scheme}
 use Rattle.phase_pools.specs.declared.stages.Scheme.TheVariants.{Warned, Announced}
 use Rattle.phase_pools.specs.Pools.{claim_begun, Retirement, retire_accepts}
-use Rattle.caller_parts.specs.declared.call.Reply.{Reply}
 use Rattle.caller_parts.specs.declared.routine.AfterClear.{AfterClear}
 use Rattle.caller_parts.specs.declared.routine.AfterRetire.{AfterRetire}
 use Rattle.caller_parts.specs.declared.routine.Announcing.{Announcing}
@@ -37,12 +36,13 @@ use Rattle.caller_steps.specs.Signs.{quiet}
 use Rattle.caller_steps.specs.After.{with_routine, with_hand, run_to, new_on, new_begun, then_goes, clear_on, cleared, wrap_up_hand, list_ended, list_begun, plain_stop, wrap_up_stop, wrap_up_stops, wrap_up_begun, announced_list, announced_stop, stop_at, stops, stopped, settles, goes_on, first_spot, method_begun, restart_on, restarted, is_wrap_up, generator_begun, check_passed, check_failed, checked, checked_by, guarded_by, with_restart, with_access, list_on, list_goes, list_failed, onward_goes, retires_then, cas_failed, cas_ended, plain_accepted, instr_accepted, with_published, entry_ended, list_accepted, retired_on, node_made, zeroed, accepted, counted, after, slot_gained, first_routine}
 use Rattle.caller_parts.specs.Pairing.{replied_by}
 use Rattle.norm_lang.specs.declared.text.Instr.TheVariants as instr
-use Rattle.caller_parts.specs.declared.call.Reply.TheVariants as replies
+use Rattle.norm_lang.specs.declared.reply.SourceReply.{SourceReply}
+use Rattle.norm_lang.specs.declared.reply.SourceReply.TheVariants as replies
 use Rattle.caller_parts.specs.declared.routine.AfterClear.TheVariants as clears
 use Rattle.caller_parts.specs.declared.routine.AfterRetire.TheVariants as retires
 
 -- an operation's own answer: a number, or nothing
-abbrev pub IsAnswer : Reply → Type 0
+abbrev pub IsAnswer : SourceReply → Type 0
 IsAnswer (replies.Number n) = Unit {0}
 IsAnswer replies.Nothing = Unit {0}
 IsAnswer replies.Full = ⊥
@@ -60,7 +60,7 @@ LeavesWithAnswer (announces.Leaves reply) = IsAnswer reply
 
 -- where it stands after the step
 abbrev pub StandsAfter : Sizes → Entry → Entry → Routine → Type 0
-StandsAfter sizes before later Idle = (reply : Reply) × IsAnswer reply × (later.replies ≡ before.replies ++ replied_by reply before.running ∷ [])
+StandsAfter sizes before later Idle = (reply : SourceReply) × IsAnswer reply × (later.replies ≡ before.replies ++ replied_by reply before.running ∷ [])
 StandsAfter sizes before later (Clears next) = IsOfAnswer next
 StandsAfter sizes before later (Announces announcing) = LeavesWithAnswer announcing
 StandsAfter sizes before later (Claims claim) = (kind : ℕ) × (scheme : Scheme) × (claim ≡ claim_begun sizes kind scheme)
@@ -159,23 +159,7 @@ module _ (target : Target) (sizes : Sizes) where
   plain_moves (instr.Return a) e = cleared_moves (clears.Reply (replies.Number (number_in e.hand.registers a))) e tt
   plain_moves instr.ReturnNone e = cleared_moves (clears.Reply replies.Nothing) e tt
   plain_moves instr.Again e = cleared_moves clears.Again e tt
-  plain_moves (instr.Set d n) e = here e
-  plain_moves (instr.Mov d a) e = here e
-  plain_moves (instr.Add d a b) e = here e
-  plain_moves (instr.Sub d a b) e = here e
-  plain_moves (instr.Rem d a n) e = here e
-  plain_moves (instr.Mark d a) e = here e
-  plain_moves (instr.Unmark d a) e = here e
-  plain_moves (instr.Null d) e = here e
-  plain_moves (instr.Jump l) e = here e
-  plain_moves (instr.IfEq a b l) e = here e
-  plain_moves (instr.IfLess a b l) e = here e
-  plain_moves (instr.IfMarked a l) e = here e
-  plain_moves (instr.LoadRoot d x) e = here e
-  plain_moves (instr.LoadPick d x n a) e = here e
-  plain_moves (instr.LoadField d a f) e = here e
-  plain_moves (instr.Put a f b) e = here e
-  plain_moves (instr.Cas exchange l) e = here e
+  plain_moves _ e = here e
 
   -- ---- under epochs
 
@@ -183,31 +167,11 @@ module _ (target : Target) (sizes : Sizes) where
   stop_moves (instr.Return a) e = ((refl, (λ w. w), tt, tt), (refl, tt))
   stop_moves instr.ReturnNone e = ((refl, (λ w. w), tt, tt), (refl, tt))
   stop_moves instr.Again e = ((refl, (λ w. w), tt, tt), (refl, tt))
-  stop_moves (instr.New d kind) e = here e
-  stop_moves (instr.Commit exchanges) e = here e
-  stop_moves (instr.Set d n) e = here e
-  stop_moves (instr.Mov d a) e = here e
-  stop_moves (instr.Add d a b) e = here e
-  stop_moves (instr.Sub d a b) e = here e
-  stop_moves (instr.Rem d a n) e = here e
-  stop_moves (instr.Mark d a) e = here e
-  stop_moves (instr.Unmark d a) e = here e
-  stop_moves (instr.Null d) e = here e
-  stop_moves (instr.Jump l) e = here e
-  stop_moves (instr.IfEq a b l) e = here e
-  stop_moves (instr.IfLess a b l) e = here e
-  stop_moves (instr.IfMarked a l) e = here e
-  stop_moves (instr.LoadRoot d x) e = here e
-  stop_moves (instr.LoadPick d x n a) e = here e
-  stop_moves (instr.LoadField d a f) e = here e
-  stop_moves (instr.Put a f b) e = here e
-  stop_moves (instr.Cas exchange l) e = here e
+  stop_moves _ e = here e
 
   stops_moves : (o : Option TargetInstr) (e : Entry) → Moves target sizes e (wrap_up_stops o e).entry
-  stops_moves None e = here e
-  stops_moves (Some Check) e = here e
-  stops_moves (Some (Guard r)) e = here e
   stops_moves (Some (Plain i)) e = stop_moves i e
+  stops_moves _ e = here e
 
   -- the wrap-up has run from its start
   abbrev wrapped : ℕ → Entry → Entry
@@ -223,26 +187,7 @@ module _ (target : Target) (sizes : Sizes) where
   announced_moves : (i : Instr) (e : Entry) → Moves target sizes e (announced_stop target sizes i e).entry
   announced_moves (instr.New d kind) e = new_moves (Announced e.number) e
   announced_moves (instr.Commit exchanges) e = announced_list_moves exchanges e
-  announced_moves (instr.Return a) e = stop_moves (instr.Return a) e
-  announced_moves instr.ReturnNone e = stop_moves instr.ReturnNone e
-  announced_moves instr.Again e = stop_moves instr.Again e
-  announced_moves (instr.Set d n) e = here e
-  announced_moves (instr.Mov d a) e = here e
-  announced_moves (instr.Add d a b) e = here e
-  announced_moves (instr.Sub d a b) e = here e
-  announced_moves (instr.Rem d a n) e = here e
-  announced_moves (instr.Mark d a) e = here e
-  announced_moves (instr.Unmark d a) e = here e
-  announced_moves (instr.Null d) e = here e
-  announced_moves (instr.Jump l) e = here e
-  announced_moves (instr.IfEq a b l) e = here e
-  announced_moves (instr.IfLess a b l) e = here e
-  announced_moves (instr.IfMarked a l) e = here e
-  announced_moves (instr.LoadRoot d x) e = here e
-  announced_moves (instr.LoadPick d x n a) e = here e
-  announced_moves (instr.LoadField d a f) e = here e
-  announced_moves (instr.Put a f b) e = here e
-  announced_moves (instr.Cas exchange l) e = here e
+  announced_moves i e = stop_moves i e
 
   -- ---- where local code stops
 
@@ -328,23 +273,7 @@ module _ (target : Target) (sizes : Sizes) where
   accepted_plain by (instr.LoadField d a f) word e is = on_moves by (with_word e.hand.registers d word) (with_access e)
   accepted_plain by (instr.Put a f b) word e is = on_moves by e.hand.registers e
   accepted_plain by (instr.Cas exchange l) word e is = cas_moves by exchange l word (with_access e)
-  accepted_plain by (instr.Set d n) word e is = same e At is tt tt tt
-  accepted_plain by (instr.Mov d a) word e is = same e At is tt tt tt
-  accepted_plain by (instr.Add d a b) word e is = same e At is tt tt tt
-  accepted_plain by (instr.Sub d a b) word e is = same e At is tt tt tt
-  accepted_plain by (instr.Rem d a n) word e is = same e At is tt tt tt
-  accepted_plain by (instr.Mark d a) word e is = same e At is tt tt tt
-  accepted_plain by (instr.Unmark d a) word e is = same e At is tt tt tt
-  accepted_plain by (instr.Null d) word e is = same e At is tt tt tt
-  accepted_plain by (instr.Jump l) word e is = same e At is tt tt tt
-  accepted_plain by (instr.IfEq a b l) word e is = same e At is tt tt tt
-  accepted_plain by (instr.IfLess a b l) word e is = same e At is tt tt tt
-  accepted_plain by (instr.IfMarked a l) word e is = same e At is tt tt tt
-  accepted_plain by (instr.New d kind) word e is = same e At is tt tt tt
-  accepted_plain by (instr.Commit exchanges) word e is = same e At is tt tt tt
-  accepted_plain by (instr.Return a) word e is = same e At is tt tt tt
-  accepted_plain by instr.ReturnNone word e is = same e At is tt tt tt
-  accepted_plain by instr.Again word e is = same e At is tt tt tt
+  accepted_plain by _ word e is = same e At is tt tt tt
 
   accepted_instr : (by : Reclamation) (o : Option TargetInstr) (word : ℕ) (e : Entry) → e.routine ≡ At → Moves target sizes e (instr_accepted by target sizes o word e).entry
   accepted_instr by None word e is = same e At is tt tt tt
@@ -393,33 +322,11 @@ module _ (target : Target) (sizes : Sizes) where
 
   stop_past : (i : Instr) (e : Entry) → e.hand.wrapup ≡ true → IsPast (wrap_up_stop i e).entry
   stop_past (instr.Return a) e w = w
-  stop_past instr.ReturnNone e w = w
-  stop_past instr.Again e w = w
-  stop_past (instr.New d kind) e w = w
-  stop_past (instr.Commit exchanges) e w = w
-  stop_past (instr.Set d n) e w = w
-  stop_past (instr.Mov d a) e w = w
-  stop_past (instr.Add d a b) e w = w
-  stop_past (instr.Sub d a b) e w = w
-  stop_past (instr.Rem d a n) e w = w
-  stop_past (instr.Mark d a) e w = w
-  stop_past (instr.Unmark d a) e w = w
-  stop_past (instr.Null d) e w = w
-  stop_past (instr.Jump l) e w = w
-  stop_past (instr.IfEq a b l) e w = w
-  stop_past (instr.IfLess a b l) e w = w
-  stop_past (instr.IfMarked a l) e w = w
-  stop_past (instr.LoadRoot d x) e w = w
-  stop_past (instr.LoadPick d x n a) e w = w
-  stop_past (instr.LoadField d a f) e w = w
-  stop_past (instr.Put a f b) e w = w
-  stop_past (instr.Cas exchange l) e w = w
+  stop_past _ e w = w
 
   stops_past : (o : Option TargetInstr) (e : Entry) → e.hand.wrapup ≡ true → IsPast (wrap_up_stops o e).entry
-  stops_past None e w = w
-  stops_past (Some Check) e w = w
-  stops_past (Some (Guard r)) e w = w
   stops_past (Some (Plain i)) e w = stop_past i e w
+  stops_past _ e w = w
 
   wrap_up_past : (made : ℕ) (e : Entry) → IsPast (wrap_up_begun target made e).entry
   wrap_up_past made e = stops_past (instr_in target (wrapped made e)) (wrapped made e) refl
@@ -504,10 +411,6 @@ IsBefore _ = Unit {0}
 pub first_before : (by : Reclamation) → IsBefore (first_routine by)
 first_before Optimistic = tt
 first_before Epochs = tt
-
-pub first_busy : (by : Reclamation) → is_idle (first_routine by) ≡ false
-first_busy Optimistic = refl
-first_busy Epochs = refl
 
 -- a step that isn't one of a claim
 abbrev pub IsNoClaim : Routine → Type 0

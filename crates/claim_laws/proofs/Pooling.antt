@@ -4,6 +4,8 @@ use Rattle.std.proofs.Common.{◌≡◌, ◌≢◌, ◌⊎◌, inl, inr, ⊎_eli
 use Rattle.std.specs.Prelude.{slice_get, slice_set, slice_index}
 use Rattle.std.proofs.lemmas.Bool.{cases_lt}
 use Rattle.std.proofs.lemmas.Bool.Decides.{nat_tests, eqb_tells}
+use Rattle.norm_lang.specs.declared.reply.SourceReply.{SourceReply}
+use Rattle.norm_lang.specs.declared.reply.SourceReply.TheVariants as replies
 use Rattle.target_code.specs.declared.target.Target.{Target}
 use Rattle.oa_words.specs.declared.packed.Kind.TheVariants as kinds
 use Rattle.oa_words.specs.SlotKinds.{range_of, kind_of, range_at}
@@ -28,8 +30,6 @@ use Rattle.chain_laws.specs.claim_order.Frontier.{ClaimFits, Fits, IsOrdered, Ar
 use Rattle.chain_laws.proofs.claim_order.Ranges.{near_below, near_inside, near_none}
 use Rattle.chain_laws.proofs.claim_order.Frontier.{ClaimOn, AllMove, Kept, all_stay, claim_open, fits_later, ordered_same, retire_open}
 use Rattle.caller_parts.specs.declared.call.Call.{Call}
-use Rattle.caller_parts.specs.declared.call.Reply.{Reply}
-use Rattle.caller_parts.specs.declared.call.Reply.TheVariants as replies
 use Rattle.caller_parts.specs.declared.call.Replied.{Replied}
 use Rattle.caller_parts.specs.declared.call.Running.{Running}
 use Rattle.caller_parts.specs.declared.routine.AfterRetire.{AfterRetire}
@@ -150,13 +150,13 @@ got_last [] (suc i) r new is = absurd (let z : None ≡ Some r = is in cc)
 got_last (x ∷ given) zero r new is = inl is
 got_last (x ∷ given) (suc i) r new is = got_last given i r new is
 
-not_full : (reply : Reply) → IsAnswer reply → reply ≡ replies.Full → ⊥
+not_full : (reply : SourceReply) → IsAnswer reply → reply ≡ replies.Full → ⊥
 not_full (replies.Number n) is e = cc
 not_full replies.Nothing is e = cc
 not_full replies.Full is e = is
 not_full (replies.Phases p) is e = is
 
-add_reply : (setting : Setting) (slots : List ℕ) (given : List Replied) (reply : Reply) (run : Running) → (reply ≡ replies.Full → KindTouched setting slots) → (reply ≡ replies.Full → ⊥) ⊎ (reply ≡ replies.Full)
+add_reply : (setting : Setting) (slots : List ℕ) (given : List Replied) (reply : SourceReply) (run : Running) → (reply ≡ replies.Full → KindTouched setting slots) → (reply ≡ replies.Full → ⊥) ⊎ (reply ≡ replies.Full)
     → FullOnly setting slots given → FullOnly setting slots (given ++ replied_by reply run ∷ [])
 add_reply setting slots given reply run gives which (inr all) = inr all
 add_reply setting slots given reply run gives (inr is) (inl none) = inr (gives is)
@@ -184,10 +184,8 @@ module _ (target : Target) (setting : Setting) where
         (after_answers target setting e word before (subst IsNoClaim (sym is) other)).0 ∙ ap (λ (b : Bool). count_after b e.counts.claims) (sym (ap (λ (r : Routine). takes_in r word) is ∙ none))
 
     ended : (claim : Claim) (o : Option ClaimEnd) (x : Entry) → (claim_on setting.reclamation target claim o x).entry.counts.claims ≡ x.counts.claims
-    ended claim None x = refl
     ended claim (Some (ends.Claimed k)) x = (slot_gains setting.reclamation target claim.sweeps k (with_routine x At)).claims
-    ended claim (Some ends.Full) x = refl
-    ended claim (Some (ends.PhasesOver p)) x = refl
+    ended claim _ x = refl
 
     of : (routine : Routine) → e.routine ≡ routine → (after target setting e word).counts.claims ≡ count_after (takes_in e.routine word) e.counts.claims
     of Idle is = absurd (let z : true ≡ false = sym (ap is_idle is) ∙ busy in cc)
@@ -307,27 +305,11 @@ module _ (setting : Setting) (some : SettingSane setting) (m : Word → ℕ) (sl
 
     takes_none : (routine : Routine) → standing_of routine ≡ Elsewhere → takes_in routine (m (word_of a)) ≡ false
     takes_none (Claims claim) is = absurd (no_claim claim is)
-    takes_none (Retires retirement go) is = refl
-    takes_none Idle is = refl
-    takes_none (LoadSeen why) is = refl
-    takes_none At is = refl
-    takes_none (InList k) is = refl
-    takes_none Restarts is = refl
-    takes_none (Clears next) is = refl
-    takes_none (Zeroes k field) is = refl
-    takes_none (Announces announcing) is = refl
+    takes_none _ is = refl
 
     other_none : (j : ℕ) (routine : Routine) → standing_of routine ≡ Elsewhere → ClaimsOther j (m (word_of a)) routine
     other_none j (Claims claim) is = absurd (no_claim claim is)
-    other_none j (Retires retirement go) is = tt
-    other_none j Idle is = tt
-    other_none j (LoadSeen why) is = tt
-    other_none j At is = tt
-    other_none j (InList k) is = tt
-    other_none j Restarts is = tt
-    other_none j (Clears next) is = tt
-    other_none j (Zeroes k field) is = tt
-    other_none j (Announces announcing) is = tt
+    other_none j _ is = tt
 
   retires_advances : (retirement : Retirement) (go : AfterRetire) → e.routine ≡ Retires retirement go → retirement.slot < v (kind_of setting.sizes retirement.slot) → AdvancesBy setting m slots v e (retire_wants retirement)
   retires_advances retirement go is lt = inl (
@@ -580,14 +562,7 @@ module _ (target : Target) (setting : Setting) (sane : Methods target) (some : S
             subst (AdvancesBy setting m slots v e) (same_access (claim_wants claim) (wants_claims target e claim is)) (claims_advance setting some m slots v e pool.words pool.past pool.ahead claim is w.0 w.1)
         of (Retires retirement go) is w =
             subst (AdvancesBy setting m slots v e) (same_access (retire_wants retirement) (wants_retires target e retirement go is)) (retires_advances setting some m slots v e pool.words pool.past pool.ahead retirement go is w)
-        of Idle is w = elsewhere_advances setting some m slots v e pool.words pool.past pool.ahead target a (ap standing_of is) want
-        of (LoadSeen why) is w = elsewhere_advances setting some m slots v e pool.words pool.past pool.ahead target a (ap standing_of is) want
-        of At is w = elsewhere_advances setting some m slots v e pool.words pool.past pool.ahead target a (ap standing_of is) want
-        of (InList k) is w = elsewhere_advances setting some m slots v e pool.words pool.past pool.ahead target a (ap standing_of is) want
-        of Restarts is w = elsewhere_advances setting some m slots v e pool.words pool.past pool.ahead target a (ap standing_of is) want
-        of (Clears next) is w = elsewhere_advances setting some m slots v e pool.words pool.past pool.ahead target a (ap standing_of is) want
-        of (Zeroes k field) is w = elsewhere_advances setting some m slots v e pool.words pool.past pool.ahead target a (ap standing_of is) want
-        of (Announces announcing) is w = elsewhere_advances setting some m slots v e pool.words pool.past pool.ahead target a (ap standing_of is) want
+        of _ is w = elsewhere_advances setting some m slots v e pool.words pool.past pool.ahead target a (ap standing_of is) want
 
       -- a third look that found no slot on top
       touches : (claim : Claim) → e.routine ≡ Claims claim → (claim_accepts setting.sizes setting.last claim found).ended ≡ Some ends.Full → KindTouched setting slots
@@ -656,14 +631,7 @@ module _ (target : Target) (setting : Setting) (sane : Methods target) (some : S
           of : (routine : Routine) → later.routine ≡ routine → ClaimsFit setting.sizes (after_access m a) v' routine → Fits setting.sizes (after_access m a) v' (standing_of routine)
           of (Claims claim) is w = w
           of (Retires retirement go) is w = below retirement go is
-          of Idle is w = tt
-          of (LoadSeen why) is w = tt
-          of At is w = tt
-          of (InList k) is w = tt
-          of Restarts is w = tt
-          of (Clears next) is w = tt
-          of (Zeroes k field) is w = tt
-          of (Announces announcing) is w = tt
+          of _ is w = tt
 
         pool_then : IsCounted (length slots') (set state.entries c (after target setting e found)) → Pool target setting (stepped_state state c e a) slots' v'
         pool_then count = record {

@@ -17,12 +17,11 @@ use Rattle.caller_steps.specs.After.{after, taken, counted}
 use Rattle.core_runs.specs.Machine.{CoreState, CoreEvent, Takes, Steps, core_event, core_run, core_start, run_on, event_by, stepped, found_by, made}
 use Rattle.core_runs.specs.Advances.{RunsOn, Ends}
 use Rattle.core_runs.proofs.Reaching.{some_is, run_more}
-use Rattle.core_runs.proofs.Keeping.{idle_wants, got_same, got_other}
+use Rattle.core_runs.proofs.Keeping.{idle_wants, got_same, got_other, first_busy}
 use Rattle.core_runs.proofs.Turning.{after_turns}
 use Rattle.core_runs.proofs.core_sound.StartSound.{idle_at}
 use Rattle.claim_laws.specs.CallSteps.{StepMade, steps_wanted, steps_by, with_steps, event_steps, steps_on, events_steps, call_steps, steps_of_call}
 use Rattle.claim_laws.proofs.Following.{with_last}
-use Rattle.claim_laws.proofs.Onward.{first_busy}
 
 -- ---- lists of steps
 

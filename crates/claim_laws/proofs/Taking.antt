@@ -2,12 +2,12 @@
 use Rattle.std.proofs.Common.{◌≡◌, ◌⊎◌, inl, inr, ⊎_elim, ℕ, zero, suc, ◌+◌, ◌≤◌, Bool, true, false, List, [], ◌∷◌, ◌++◌, map, Option, Some, None, refl, sym, ◌∙◌, ap, subst, arith}
 use Rattle.std.specs.Prelude.{slice_get}
 use Rattle.norm_lang.specs.declared.text.Text.{Text}
+use Rattle.norm_lang.specs.declared.reply.SourceReply.{SourceReply}
+use Rattle.norm_lang.specs.declared.reply.SourceReply.TheVariants as replies
 use Rattle.target_code.specs.declared.target.Target.{Target}
 use Rattle.target_laws.specs.target_runs.Runnable.{IsRunnable}
 use Rattle.phase_pools.specs.Accesses.{WordAccess}
 use Rattle.phase_pools.specs.Pools.{Claim, claim_accepts, claim_wants, claim_wants_at}
-use Rattle.caller_parts.specs.declared.call.Reply.{Reply}
-use Rattle.caller_parts.specs.declared.call.Reply.TheVariants as replies
 use Rattle.caller_parts.specs.declared.call.Replied.{Replied}
 use Rattle.caller_parts.specs.declared.call.Running.{Running}
 use Rattle.caller_parts.specs.declared.routine.Routine.TheVariants.{Claims}
@@ -143,11 +143,9 @@ calls_both : (target : Target) (xs ys : List Running) → new_calls target (xs +
 calls_both target [] ys = omega arith
 calls_both target (x ∷ xs) ys = let rest = calls_both target xs ys in omega (arith, rest)
 
-credit_within : (target : Target) (r : Replied) (reply : Reply) → credit target r reply ≤ news_of_call target r.call
+credit_within : (target : Target) (r : Replied) (reply : SourceReply) → credit target r reply ≤ news_of_call target r.call
 credit_within target r (replies.Number n) = omega arith
-credit_within target r replies.Nothing = omega arith
-credit_within target r replies.Full = omega arith
-credit_within target r (replies.Phases p) = omega arith
+credit_within target r _ = omega arith
 
 credits_within : (target : Target) (given : List Replied) → credits target given ≤ new_calls target (map run_of given)
 credits_within target [] = omega arith

@@ -16,7 +16,7 @@ use Rattle.phase_pools.specs.declared.stages.ClaimStage.TheVariants as claims
 use Rattle.phase_pools.specs.Accesses.{WordAccess}
 use Rattle.phase_pools.specs.Pools.{takes_at}
 use Rattle.caller_parts.specs.declared.routine.Routine.{Routine}
-use Rattle.caller_parts.specs.declared.routine.Routine.TheVariants.{Idle, LoadSeen, At, InList, Retires, Restarts, Clears, Claims, Zeroes, Announces}
+use Rattle.caller_parts.specs.declared.routine.Routine.TheVariants.{Claims}
 use Rattle.caller_parts.specs.Settings.{Setting, Fits, IsSetting}
 use Rattle.caller_steps.specs.Entries.{Entry, is_idle, one_more}
 use Rattle.caller_parts.specs.Calls.{is_call}
@@ -67,15 +67,7 @@ taken_counts (Claims claim) word n le = of claim.stage where
   of (claims.StoreUsed q t) = stays_count n le
   of (claims.Withdraw own) = stays_count n le
   of claims.Sweeps = stays_count n le
-taken_counts Idle word n le = stays_count n le
-taken_counts (LoadSeen why) word n le = stays_count n le
-taken_counts At word n le = stays_count n le
-taken_counts (InList k) word n le = stays_count n le
-taken_counts (Retires retirement go) word n le = stays_count n le
-taken_counts Restarts word n le = stays_count n le
-taken_counts (Clears next) word n le = stays_count n le
-taken_counts (Zeroes k field) word n le = stays_count n le
-taken_counts (Announces announcing) word n le = stays_count n le
+taken_counts _ word n le = stays_count n le
 
 module _ (target : Target) (setting : Setting) where
   -- each step counts the slot that it took
@@ -211,15 +203,7 @@ module _ (target : Target) (text : Text) (setting : Setting) (runs : IsRunnable 
     of (claims.StoreUsed q t) none = tt
     of (claims.Withdraw own) none = tt
     of claims.Sweeps none = tt
-  not_claimed j word Idle none = tt
-  not_claimed j word (LoadSeen why) none = tt
-  not_claimed j word At none = tt
-  not_claimed j word (InList k) none = tt
-  not_claimed j word (Retires retirement go) none = tt
-  not_claimed j word Restarts none = tt
-  not_claimed j word (Clears next) none = tt
-  not_claimed j word (Zeroes k field) none = tt
-  not_claimed j word (Announces announcing) none = tt
+  not_claimed j word _ none = tt
 
   module _ (j : ℕ) (past : HeldNone setting j) (le : j ≤ setting.sizes.slots) where
     some : 1 ≤ j

@@ -70,23 +70,7 @@ module _ (target : Target) (setting : Setting) (j : ℕ) where
   plain_leaves (instr.LoadField d a f) registers = λ is. refl
   plain_leaves (instr.Put a f b) registers = λ is. absurd cc
   plain_leaves (instr.Cas exchange l) registers = exchange_leaves exchange registers
-  plain_leaves (instr.Set d n) registers = tt
-  plain_leaves (instr.Mov d a) registers = tt
-  plain_leaves (instr.Add d a b) registers = tt
-  plain_leaves (instr.Sub d a b) registers = tt
-  plain_leaves (instr.Rem d a n) registers = tt
-  plain_leaves (instr.Mark d a) registers = tt
-  plain_leaves (instr.Unmark d a) registers = tt
-  plain_leaves (instr.Null d) registers = tt
-  plain_leaves (instr.New d kind) registers = tt
-  plain_leaves (instr.Jump l) registers = tt
-  plain_leaves (instr.IfEq a b l) registers = tt
-  plain_leaves (instr.IfLess a b l) registers = tt
-  plain_leaves (instr.IfMarked a l) registers = tt
-  plain_leaves (instr.Commit exchanges) registers = tt
-  plain_leaves (instr.Return a) registers = tt
-  plain_leaves instr.ReturnNone registers = tt
-  plain_leaves instr.Again registers = tt
+  plain_leaves _ registers = tt
 
   instr_leaves : (c : ℕ) (o : Option TargetInstr) (registers : Registers) → Leaves (instr_wanted target.fields c o registers)
   instr_leaves c None registers = tt
@@ -115,17 +99,14 @@ module _ (target : Target) (setting : Setting) (j : ℕ) where
 
   -- no sweep makes ready what isn't retired
   sweep_leaves : (scheme : Scheme) (bound : ℕ) (stage : SweepStage) → Leaves (Some (sweep_wants_at scheme stage bound))
-  sweep_leaves scheme bound sweeps.ReadPhase is = refl
   sweep_leaves scheme bound (sweeps.RaisePhase p) is = absurd cc
   sweep_leaves scheme bound (sweeps.Warn c) is = warn_leaves scheme c bound is
-  sweep_leaves scheme bound (sweeps.ReadHazard c r) is = refl
-  sweep_leaves scheme bound (sweeps.ReadStatus k) is = refl
   sweep_leaves scheme bound (sweeps.MakeReady k q) is =
       let other : (ready == status_word q kinds.Retired) ≡ false = (let ne : 4 * setting.first + 0 ≢ 4 * q + 2 = (λ z. omega (arith, z)) in grind (arith, nat_tests)) in
       ap (λ (b : Bool). if b then status_word bound kinds.Ready else ready) other
-  sweep_leaves scheme bound (sweeps.PushHead kind k) is = refl
   sweep_leaves scheme bound (sweeps.PushLink k q t) is = absurd cc
   sweep_leaves scheme bound (sweeps.PushTop kind k q t) is = absurd cc
+  sweep_leaves scheme bound _ is = refl
 
   -- a claim stores in the status of the slot that it has taken
   claim_leaves : (k : ℕ) (sweep : Sweep) (stage : ClaimStage) → StageAvoids j stage → Leaves (Some (claim_wants_at k sweep stage))

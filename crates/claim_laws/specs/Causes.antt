@@ -1,13 +1,13 @@
 -- Why a call ends without an answer: what the steps that were made for it found.
 use Rattle.std.specs.Prelude.{◌≡◌, ◌↔◌, ℕ, false, List, [], ◌∷◌, ◌++◌, length, Some, slice_get}
+use Rattle.norm_lang.specs.declared.reply.SourceReply.{SourceReply}
+use Rattle.norm_lang.specs.declared.reply.SourceReply.TheVariants as replies
 use Rattle.target_code.specs.declared.target.Target.{Target}
 use Rattle.oa_words.specs.Words.{Phase}
 use Rattle.oa_words.specs.Packed.{head_parts}
 use Rattle.phase_pools.specs.declared.stages.ClaimStage.TheVariants as stages
 use Rattle.phase_pools.specs.Accesses.{Loads}
 use Rattle.phase_pools.specs.Pools.{Claim, claim_wants}
-use Rattle.caller_parts.specs.declared.call.Reply.{Reply}
-use Rattle.caller_parts.specs.declared.call.Reply.TheVariants as replies
 use Rattle.caller_parts.specs.declared.call.Replied.{Replied}
 use Rattle.caller_parts.specs.declared.routine.Routine.TheVariants.{Claims}
 use Rattle.caller_parts.specs.Settings.{Setting}
@@ -48,7 +48,7 @@ EndsInFailedLook steps = (before : List StepMade) × (step : StepMade) × (steps
 -- ---- laws
 
 -- a reply says that phases are over, or that the pool is full, exactly where the steps of its call found so
-pub record IsCaused (setting : Setting) (reply : Reply) (steps : List StepMade) : Type 0 where
+pub record IsCaused (setting : Setting) (reply : SourceReply) (steps : List StepMade) : Type 0 where
   pub phases : (p : ℕ) → (reply ≡ replies.Phases p) ↔ FoundLastPhase setting p steps
   pub full : (reply ≡ replies.Full) ↔ EndsInFailedLook steps
 

@@ -113,28 +113,8 @@ not_several (root ∷ roots) all is =
     (or_cases (differs_from roots root.kind) (are_several roots) is)
 
 picks_one : (roots : List RootDecl) (i : Instr) → list_all is_first_root roots ≡ true → picks_several roots i ≡ true → ⊥
-picks_one roots (instr.Set d n) all is = never is
-picks_one roots (instr.Add d a b) all is = never is
-picks_one roots (instr.Sub d a b) all is = never is
-picks_one roots (instr.Rem d a n) all is = never is
-picks_one roots (instr.Mov d a) all is = never is
-picks_one roots (instr.Mark d a) all is = never is
-picks_one roots (instr.Unmark d a) all is = never is
-picks_one roots (instr.Null d) all is = never is
-picks_one roots (instr.LoadRoot d x) all is = never is
 picks_one roots (instr.LoadPick d x n a) all is = not_several (take n (drop x roots)) (all_taken is_first_root n (drop x roots) (all_dropped is_first_root x roots all)) is
-picks_one roots (instr.LoadField d a f) all is = never is
-picks_one roots (instr.New d kind) all is = never is
-picks_one roots (instr.Put a f b) all is = never is
-picks_one roots (instr.Cas entry l) all is = never is
-picks_one roots (instr.Jump l) all is = never is
-picks_one roots (instr.IfEq a b l) all is = never is
-picks_one roots (instr.IfLess a b l) all is = never is
-picks_one roots (instr.IfMarked a l) all is = never is
-picks_one roots (instr.Commit entries) all is = never is
-picks_one roots (instr.Return a) all is = never is
-picks_one roots instr.ReturnNone all is = never is
-picks_one roots instr.Again all is = never is
+picks_one roots _ all is = never is
 
 -- ---- what instructions ask for, and what they give
 
@@ -170,28 +150,11 @@ module _ (fields : List FieldDecl) (roots : List RootDecl) (all_fields : list_al
       (or_cases (asks_object fields (places.Field a f) r k) (same_register (Ref r) b && refers (field_kind fields f) k) is)
 
   asked_first : (i : Instr) (r k : ℕ) → asks fields roots i r k ≡ true → k < 1
-  asked_first (instr.Set d n) r k is = never is
-  asked_first (instr.Add d a b) r k is = never is
-  asked_first (instr.Sub d a b) r k is = never is
-  asked_first (instr.Rem d a n) r k is = never is
-  asked_first (instr.Mov d a) r k is = never is
-  asked_first (instr.Mark d a) r k is = never is
-  asked_first (instr.Unmark d a) r k is = never is
-  asked_first (instr.Null d) r k is = never is
-  asked_first (instr.LoadRoot d x) r k is = never is
-  asked_first (instr.LoadPick d x n a) r k is = never is
   asked_first (instr.LoadField d a f) r k is = object_first (places.Field a f) r k is
-  asked_first (instr.New d kind) r k is = never is
   asked_first (instr.Put a f b) r k is = put_first a b f r k is
   asked_first (instr.Cas entry l) r k is = entry_first entry r k is
-  asked_first (instr.Jump l) r k is = never is
-  asked_first (instr.IfEq a b l) r k is = never is
-  asked_first (instr.IfLess a b l) r k is = never is
-  asked_first (instr.IfMarked a l) r k is = never is
   asked_first (instr.Commit entries) r k is = entries_first entries r k is
-  asked_first (instr.Return a) r k is = never is
-  asked_first instr.ReturnNone r k is = never is
-  asked_first instr.Again r k is = never is
+  asked_first _ r k is = never is
 
   held_first : (held : ℕ → ℕ → Bool) (a : Reg) (t : ℕ) → ((r : ℕ) → held r t ≡ true → t < 1) → held_in held a t ≡ true → t < 1
   held_first held (Num a) t before is = never is
@@ -204,28 +167,14 @@ module _ (fields : List FieldDecl) (roots : List RootDecl) (all_fields : list_al
       omega (arith, zeroth, same)
 
   given_first : (i : Instr) (held : ℕ → ℕ → Bool) (t : ℕ) → makes_first i ≡ true → ((r : ℕ) → held r t ≡ true → t < 1) → given_kinds fields roots i held t ≡ true → t < 1
-  given_first (instr.Set d n) held t makes before is = never is
-  given_first (instr.Add d a b) held t makes before is = never is
-  given_first (instr.Sub d a b) held t makes before is = never is
-  given_first (instr.Rem d a n) held t makes before is = never is
   given_first (instr.Mov d a) held t makes before is = held_first held a t before is
   given_first (instr.Mark d a) held t makes before is = held_first held a t before is
   given_first (instr.Unmark d a) held t makes before is = held_first held a t before is
-  given_first (instr.Null d) held t makes before is = never is
   given_first (instr.LoadRoot d x) held t makes before is = root_first roots x t all_roots is
   given_first (instr.LoadPick d x n a) held t makes before is = any_first (take n (drop x roots)) t (all_taken is_first_root n (drop x roots) (all_dropped is_first_root x roots all_roots)) is
   given_first (instr.LoadField d a f) held t makes before is = field_first fields f t all_fields is
   given_first (instr.New d kind) held t makes before is = new_first kind t makes is
-  given_first (instr.Put a f b) held t makes before is = never is
-  given_first (instr.Cas entry l) held t makes before is = never is
-  given_first (instr.Jump l) held t makes before is = never is
-  given_first (instr.IfEq a b l) held t makes before is = never is
-  given_first (instr.IfLess a b l) held t makes before is = never is
-  given_first (instr.IfMarked a l) held t makes before is = never is
-  given_first (instr.Commit entries) held t makes before is = never is
-  given_first (instr.Return a) held t makes before is = never is
-  given_first instr.ReturnNone held t makes before is = never is
-  given_first instr.Again held t makes before is = never is
+  given_first _ held t makes before is = never is
 
   -- ---- along a path
 

@@ -45,79 +45,19 @@ put_by op wrapup t at a b closed test (inr (inr fresh)) =
 -- a `new` is made once
 pub made_once : (op : Op) (wrapup : Bool) (t : Tables) (at : ℕ) (i : Instr) → is_closed t (code_of op wrapup) ≡ true → slice_get (code_of op wrapup) at ≡ Some i
     → not (wrapup && is_new i) ≡ true → MakesNodesAgain op wrapup at i → ⊥
-made_once op wrapup t at (instr.Set d n) closed get test broken = broken
-made_once op wrapup t at (instr.Mov d a) closed get test broken = broken
-made_once op wrapup t at (instr.Add d a b) closed get test broken = broken
-made_once op wrapup t at (instr.Sub d a b) closed get test broken = broken
-made_once op wrapup t at (instr.Rem d a n) closed get test broken = broken
-made_once op wrapup t at (instr.Mark d a) closed get test broken = broken
-made_once op wrapup t at (instr.Unmark d a) closed get test broken = broken
-made_once op wrapup t at (instr.Null d) closed get test broken = broken
-made_once op wrapup t at (instr.LoadRoot d x) closed get test broken = broken
-made_once op wrapup t at (instr.LoadPick d x n a) closed get test broken = broken
-made_once op wrapup t at (instr.LoadField d a f) closed get test broken = broken
 made_once op wrapup t at (instr.New d kind) closed get test broken = made_by op wrapup t at (instr.New d kind) closed get refl test broken
-made_once op wrapup t at (instr.Put a f b) closed get test broken = broken
-made_once op wrapup t at (instr.Cas entry l) closed get test broken = broken
-made_once op wrapup t at (instr.Jump l) closed get test broken = broken
-made_once op wrapup t at (instr.IfEq a b l) closed get test broken = broken
-made_once op wrapup t at (instr.IfLess a b l) closed get test broken = broken
-made_once op wrapup t at (instr.IfMarked a l) closed get test broken = broken
-made_once op wrapup t at (instr.Commit entries) closed get test broken = broken
-made_once op wrapup t at (instr.Return a) closed get test broken = broken
-made_once op wrapup t at instr.ReturnNone closed get test broken = broken
-made_once op wrapup t at instr.Again closed get test broken = broken
+made_once op wrapup t at _ closed get test broken = broken
 
 -- a put comes in a generator, into a node that is surely fresh, of what can't be fresh
 pub puts_right : (op : Op) (wrapup : Bool) (t : Tables) (at : ℕ) (i : Instr) → is_closed t (code_of op wrapup) ≡ true → has_right_put t wrapup at i ≡ true → HasWrongPut op wrapup at i → ⊥
-puts_right op wrapup t at (instr.Set d n) closed test broken = broken
-puts_right op wrapup t at (instr.Mov d a) closed test broken = broken
-puts_right op wrapup t at (instr.Add d a b) closed test broken = broken
-puts_right op wrapup t at (instr.Sub d a b) closed test broken = broken
-puts_right op wrapup t at (instr.Rem d a n) closed test broken = broken
-puts_right op wrapup t at (instr.Mark d a) closed test broken = broken
-puts_right op wrapup t at (instr.Unmark d a) closed test broken = broken
-puts_right op wrapup t at (instr.Null d) closed test broken = broken
-puts_right op wrapup t at (instr.LoadRoot d x) closed test broken = broken
-puts_right op wrapup t at (instr.LoadPick d x n a) closed test broken = broken
-puts_right op wrapup t at (instr.LoadField d a f) closed test broken = broken
-puts_right op wrapup t at (instr.New d kind) closed test broken = broken
 puts_right op wrapup t at (instr.Put a f b) closed test broken = put_by op wrapup t at a b closed test broken
-puts_right op wrapup t at (instr.Cas entry l) closed test broken = broken
-puts_right op wrapup t at (instr.Jump l) closed test broken = broken
-puts_right op wrapup t at (instr.IfEq a b l) closed test broken = broken
-puts_right op wrapup t at (instr.IfLess a b l) closed test broken = broken
-puts_right op wrapup t at (instr.IfMarked a l) closed test broken = broken
-puts_right op wrapup t at (instr.Commit entries) closed test broken = broken
-puts_right op wrapup t at (instr.Return a) closed test broken = broken
-puts_right op wrapup t at instr.ReturnNone closed test broken = broken
-puts_right op wrapup t at instr.Again closed test broken = broken
+puts_right op wrapup t at _ closed test broken = broken
 
 -- an auxiliary exchange puts in what can't be fresh
 pub shows_none : (op : Op) (wrapup : Bool) (t : Tables) (at : ℕ) (i : Instr) → is_closed t (code_of op wrapup) ≡ true → has_right_exchange t at i ≡ true → ShowsFresh op wrapup at i → ⊥
-shows_none op wrapup t at (instr.Set d n) closed test broken = broken
-shows_none op wrapup t at (instr.Mov d a) closed test broken = broken
-shows_none op wrapup t at (instr.Add d a b) closed test broken = broken
-shows_none op wrapup t at (instr.Sub d a b) closed test broken = broken
-shows_none op wrapup t at (instr.Rem d a n) closed test broken = broken
-shows_none op wrapup t at (instr.Mark d a) closed test broken = broken
-shows_none op wrapup t at (instr.Unmark d a) closed test broken = broken
-shows_none op wrapup t at (instr.Null d) closed test broken = broken
-shows_none op wrapup t at (instr.LoadRoot d x) closed test broken = broken
-shows_none op wrapup t at (instr.LoadPick d x n a) closed test broken = broken
-shows_none op wrapup t at (instr.LoadField d a f) closed test broken = broken
-shows_none op wrapup t at (instr.New d kind) closed test broken = broken
-shows_none op wrapup t at (instr.Put a f b) closed test broken = broken
 shows_none op wrapup t at (instr.Cas entry l) closed test broken =
     not_and_true (among entry.replacement (registers_at t.may_be_fresh at)) test (may_fresh t (code_of op wrapup) entry.replacement at closed broken)
-shows_none op wrapup t at (instr.Jump l) closed test broken = broken
-shows_none op wrapup t at (instr.IfEq a b l) closed test broken = broken
-shows_none op wrapup t at (instr.IfLess a b l) closed test broken = broken
-shows_none op wrapup t at (instr.IfMarked a l) closed test broken = broken
-shows_none op wrapup t at (instr.Commit entries) closed test broken = broken
-shows_none op wrapup t at (instr.Return a) closed test broken = broken
-shows_none op wrapup t at instr.ReturnNone closed test broken = broken
-shows_none op wrapup t at instr.Again closed test broken = broken
+shows_none op wrapup t at _ closed test broken = broken
 
 -- a register that is read at a place of the wrap-up is of numbers, or set on every path there
 kept_never : (op : Op) (t : OpTables) (r : Reg) (at : ℕ) (found : Option Instr) → is_closed t.wrapup op.wrapup ≡ true → keeps_none op t ≡ true → slice_get op.wrapup at ≡ found

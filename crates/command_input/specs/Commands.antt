@@ -4,6 +4,7 @@ use Rattle.std.specs.Option.{option_map}
 use Rattle.std.specs.Str.{bytes_eq}
 use Rattle.oa_text.specs.Numbers.{is_numeral, number_of}
 use Rattle.oa_words.specs.Within.{is_count}
+use Rattle.oa_words.specs.declared.limits.TheConstants.{MOST_CALLERS}
 use Rattle.documents.specs.DocumentLimits.{most_calls}
 use Rattle.command_input.specs.declared.command.Command.{Command}
 use Rattle.command_input.specs.declared.command.Command.TheVariants.{Run, Replay, Epochs, Check, Show, Upgrade, Compile, Certify}
@@ -26,9 +27,6 @@ command_named word =
 abbrev pub count_in : ℕ → List ℕ → Option ℕ
 count_in most word = if is_numeral word && is_count most (number_of word) then Some (number_of word) else None
 
-abbrev pub most_callers : ℕ
-most_callers = 8
-
 abbrev pub workload_of : Option ℕ → Option ℕ → Option Request
 workload_of None callers = None
 workload_of (Some count) None = None
@@ -38,7 +36,7 @@ workload_of (Some count) (Some callers) = Some (Workload count callers)
 abbrev pub workload_in : List (List ℕ) → Option Request
 workload_in [] = None
 workload_in (count ∷ []) = None
-workload_in (count ∷ callers ∷ []) = workload_of (count_in most_calls count) (count_in most_callers callers)
+workload_in (count ∷ callers ∷ []) = workload_of (count_in most_calls count) (count_in MOST_CALLERS callers)
 workload_in (count ∷ callers ∷ other ∷ words) = None
 
 -- the word after `judge`: `make` or `check`
@@ -68,4 +66,4 @@ request_of (word ∷ other ∷ words) =
 abbrev pub IsInRange : Request → Type 0
 IsInRange (OfDocument command) = Unit {0}
 IsInRange OfCertificate = Unit {0}
-IsInRange (Workload count callers) = (1 ≤ count) × (count ≤ most_calls) × (1 ≤ callers) × (callers ≤ most_callers)
+IsInRange (Workload count callers) = (1 ≤ count) × (count ≤ most_calls) × (1 ≤ callers) × (callers ≤ MOST_CALLERS)

@@ -5,8 +5,9 @@ ghost use Rattle.std.specs.String.{string_bytes};
 ghost use Rattle.oa_words.specs.Within.{is_count};
 ghost use Rattle.command_input.specs.Commands.{command_named, count_in, workload_in, judge_named, judge_in, request_of, IsInRange};
 
-use documents::MOST_CALLS;
+use documents::limits::MOST_CALLS;
 use oa_text::read_numeral;
+use oa_words::limits::MOST_CALLERS;
 
 /// What is done with a document.
 #[derive(Clone, Copy)]
@@ -39,9 +40,6 @@ pub enum Request {
     /// Two large runs, for so many calls and callers. No document is read.
     Workload { count: u32, callers: u32 },
 }
-
-/// How many callers a workload has at most.
-const MOST_CALLERS: u32 = 8;
 
 fn command_named(word: &str) -> Option<Command>
     ensures { result ≡ command_named word.now }

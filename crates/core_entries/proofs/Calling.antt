@@ -4,7 +4,7 @@ use Rattle.std.specs.Prelude.{is_some}
 use Rattle.target_code.specs.declared.target.Target.{Target}
 use Rattle.oa_words.specs.Words.{address_of, word_count}
 use Rattle.oa_words.proofs.Places.{within}
-use Rattle.phase_pools.specs.Accesses.{WordAccess, word_of, located, Loads, Stores, Exchanges, Raises}
+use Rattle.phase_pools.specs.Accesses.{WordAccess, word_of, located, Loads}
 use Rattle.caller_parts.specs.declared.call.Call.{Call}
 use Rattle.caller_parts.specs.declared.call.Replied.{Replied}
 use Rattle.caller_parts.specs.Settings.{Setting, IsSetting}
@@ -89,9 +89,7 @@ runs pair setting e sound own b some = busy_by pair setting e sound own b some (
 
 pub at_located : (setting : Setting) (a : WordAccess) → at_of (located setting.sizes a) ≡ address_of setting.sizes (word_of a)
 at_located setting (Loads w) = refl
-at_located setting (Stores w x) = refl
-at_located setting (Exchanges w expected replacement) = refl
-at_located setting (Raises w x) = refl
+at_located setting _ = refl
 
 -- one that runs wants an access to a word of the row, and an idle one none
 in_row : (pair : Paired) (setting : Setting) (e : Entry) → MayRun pair → IsSetting setting → BelongsTo pair setting e

@@ -130,25 +130,11 @@ module _ (n : Sizes) where
 
   loads_kind : (w : Word) → kind_of_text w kinds.Load ≡ kind_of_access (Loads w)
   loads_kind Phase = refl
-  loads_kind (Place c) = refl
-  loads_kind (Warning c) = refl
-  loads_kind (Hazard c r) = refl
-  loads_kind (Status j) = refl
-  loads_kind (FieldOf j g) = refl
-  loads_kind (Cell x) = refl
-  loads_kind (Head t) = refl
-  loads_kind (Link j) = refl
+  loads_kind _ = refl
 
   exchanges_kind : (w : Word) (expected x : ℕ) → kind_of_text w kinds.Exchange ≡ kind_of_access (Exchanges w expected x)
   exchanges_kind Phase expected x = refl
-  exchanges_kind (Place c) expected x = refl
-  exchanges_kind (Warning c) expected x = refl
-  exchanges_kind (Hazard c r) expected x = refl
-  exchanges_kind (Status j) expected x = refl
-  exchanges_kind (FieldOf j g) expected x = refl
-  exchanges_kind (Cell y) expected x = refl
-  exchanges_kind (Head t) expected x = refl
-  exchanges_kind (Link j) expected x = refl
+  exchanges_kind _ expected x = refl
 
   kind_is : (a : WordAccess) → in_row n (word_of a) ≡ true → kind_at (field_base n) (head_base n) (located n a) ≡ kind_of_access a
   kind_is (Loads w) row = word_kind w kinds.Load row ∙ loads_kind w

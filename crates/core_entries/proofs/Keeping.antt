@@ -6,21 +6,18 @@ use Rattle.std.proofs.lemmas.Option.{slice_get_past, slice_get-map}
 use Rattle.norm_lang.specs.declared.text.Reg.TheVariants.{Ref}
 use Rattle.norm_lang.specs.declared.text.Op.{Op}
 use Rattle.norm_lang.specs.declared.text.Text.{Text}
-use Rattle.norm_lang.specs.Limits.{IsWithinLimits, has_between, are_different}
-use Rattle.norm_lang.specs.NormalForm.{IsNormal}
+use Rattle.norm_lang.specs.Limits.{has_between, are_different}
 use Rattle.norm_lang.specs.Kept.{IsKept}
 use Rattle.target_code.specs.declared.target.TargetOp.{TargetOp}
 use Rattle.target_code.specs.declared.target.Target.{Target}
 use Rattle.target_code.specs.TargetLimits.{IsTargetWithinLimits}
 use Rattle.target_code.specs.Erasing.{erased_op, ErasesTo}
 use Rattle.target_code.specs.Keeping.{keeps}
-use Rattle.target_code.specs.Barred.{IsBarred}
 use Rattle.target_code.proofs.Keeping.{keeps_is_kept}
 use Rattle.target_laws.proofs.target_runs.Limited.{parts, between}
 use Rattle.target_code.specs.TargetLimits.{is_target_op}
 use Rattle.std.specs.List.{list_all}
 use Rattle.caller_parts.specs.Spared.{kept_by, none_spared}
-use Rattle.barrier_check.specs.Paired.{Paired, IsSound}
 use Rattle.core_entries.specs.Tables.{keeps_at, row_of, table_of}
 
 -- ---- one register
@@ -87,14 +84,3 @@ table_is target few (suc (suc (suc (suc (suc (suc (suc (suc (suc (suc (suc (suc 
 pub kept_is : (target : Target) (rows : List (List Bool)) → IsTargetWithinLimits target → rows ≡ table_of target
     → (op : ℕ) → slice_index_or rows op none_spared ≡ kept_by (slice_get target.ops op)
 kept_is target rows within is op = ap (λ (t : List (List Bool)). slice_index_or t op none_spared) is ∙ table_is target (few_ops target within) op
-
--- ---- a barred target
-
-pub is_sound : (pair : Paired) (target : Target) (source : Text) → target ≡ pair.target → source ≡ pair.source → IsWithinLimits source → IsNormal source
-    → IsTargetWithinLimits target → IsBarred target pair.source → IsSound pair
-is_sound pair target source one other small normal within barred = record {
-  small = subst IsWithinLimits other small;
-  normal = subst IsNormal other normal;
-  within = subst IsTargetWithinLimits one within;
-  barred = subst (λ (t : Target). IsBarred t pair.source) one barred;
-}

@@ -58,13 +58,10 @@ all_ends true = refl
 
 -- a wrap-up that has just begun owes none
 wrap_up_quiet : (i : Option TargetInstr) (e : Entry) → e.hand.accessed ≡ false → e.hand.wrapup ≡ true → (wrap_up_stops i e).signs ≡ []
-wrap_up_quiet None e new within = refl
-wrap_up_quiet (Some Check) e new within = refl
-wrap_up_quiet (Some (Guard r)) e new within = refl
 wrap_up_quiet (Some (Plain (instr.Return a))) e new within = rw (within, new) refl
 wrap_up_quiet (Some (Plain instr.ReturnNone)) e new within = rw (within, new) refl
 wrap_up_quiet (Some (Plain instr.Again)) e new within = rw (within, new) refl
-wrap_up_quiet (Some (Plain _)) e new within = refl
+wrap_up_quiet _ e new within = refl
 
 begun_quiet : (target : Target) (made : ℕ) (e : Entry) → (wrap_up_begun target made e).signs ≡ []
 begun_quiet target made e =
@@ -93,10 +90,8 @@ module _ (target : Target) (sizes : Sizes) where
   by_owes Epochs i e = announced_owes i e
 
   stop_owes : (by : Reclamation) (i : Option TargetInstr) (e : Entry) → (stops by target sizes i e).signs ≡ owes (stop_ends (e.hand.wrapup && e.hand.accessed) i)
-  stop_owes by None e = refl
   stop_owes by (Some (Plain i)) e = by_owes by i e
-  stop_owes by (Some Check) e = refl
-  stop_owes by (Some (Guard r)) e = refl
+  stop_owes by _ e = refl
 
   -- local code from a spot on
   abbrev run_of : Spot → Entry → Run
@@ -217,10 +212,8 @@ module _ (target : Target) (sizes : Sizes) (word : ℕ) where
   retired_is by go (Some retirement) e = refl
 
   claim_is : (by : Reclamation) (claim : Claim) (end : Option ClaimEnd) (e : Entry) → all_named false (claim_on by target claim end e).signs ≡ signs_of (end_named end) false
-  claim_is by claim None e = refl
   claim_is by claim (Some (claim_ends.Claimed slot)) e = refl
-  claim_is by claim (Some claim_ends.Full) e = refl
-  claim_is by claim (Some (claim_ends.PhasesOver p)) e = refl
+  claim_is by claim _ e = refl
 
   zeroed_is : (by : Reclamation) (k field : ℕ) (e : Entry) (more : Bool) → stores_more target e field ≡ more
       → all_named false (zeroed by target sizes k field e).signs ≡ signs_of (fresh_named (stores_more target e field)) (ends_of e (zeroed_run target e k (stores_more target e field)))

@@ -94,10 +94,8 @@ module _ (pair : Paired) (setting : Setting) (e : Entry) (words : List ℕ) (acc
   -- a store's answer is as good as the word that it found
   same_after : (a : WordAccess) → wants pair.target e ≡ Some a
       → after pair.target setting e (answer_to (located setting.sizes a) (slice_index words (at_of (located setting.sizes a)))) ≡ after pair.target setting e (slice_index words (address_of setting.sizes (word_of a)))
-  same_after (Loads w) want = refl
   same_after (Stores w x) want = (after_store pair.target setting e w x 0 (slice_index words (address_of setting.sizes w)) want).0
-  same_after (Exchanges w expected x) want = refl
-  same_after (Raises w x) want = refl
+  same_after _ want = refl
 
   pub step_after : after pair.target setting e (answer_to access (slice_index words (at_of access))) ≡ after pair.target setting e (slice_index words (address_of setting.sizes (word_of it.0)))
   step_after = subst (λ (x : Access). after pair.target setting e (answer_to x (slice_index words (at_of x))) ≡ after pair.target setting e (slice_index words (address_of setting.sizes (word_of it.0)))) (sym it.2) (same_after it.0 it.1)
@@ -106,9 +104,7 @@ module _ (pair : Paired) (setting : Setting) (e : Entry) (words : List ℕ) (acc
       → slice_set words (at_of (located setting.sizes a)) (left_by (located setting.sizes a) (slice_index words (at_of (located setting.sizes a))))
       ≡ slice_set words (address_of setting.sizes (word_of a)) (word_after a (slice_index words (address_of setting.sizes (word_of a))))
   same_left (Loads w) = refl
-  same_left (Stores w x) = refl
-  same_left (Exchanges w expected x) = refl
-  same_left (Raises w x) = refl
+  same_left _ = refl
 
   pub step_left : slice_set words (at_of access) (left_by access (slice_index words (at_of access))) ≡ slice_set words (address_of setting.sizes (word_of it.0)) (word_after it.0 found)
   unfolding found

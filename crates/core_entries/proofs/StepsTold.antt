@@ -1,5 +1,5 @@
 -- What a step at a load or a check tells under optimistic access is known by where the caller stands afterwards.
-use Rattle.std.proofs.Common.{◌≡◌, ℕ, zero, suc, ◌+◌, Bool, true, false, List, [], ◌∷◌, length, Option, Some, None, refl, sym, ap, ◌∙◌, arith}
+use Rattle.std.proofs.Common.{◌≡◌, ℕ, zero, suc, ◌+◌, Bool, true, false, List, [], length, Option, Some, None, refl, sym, ap, ◌∙◌, arith}
 use Rattle.std.proofs.lemmas.Bool.Decides.{nat_tests}
 use Rattle.std.specs.Prelude.{slice_get, slice_index, ◌&&◌, ◌==◌}
 use Rattle.norm_lang.specs.declared.text.Reg.{Reg}
@@ -7,8 +7,9 @@ use Rattle.norm_lang.specs.declared.text.Instr.{Instr}
 use Rattle.norm_lang.specs.declared.text.Instr.TheVariants as instr
 use Rattle.norm_lang.specs.declared.registers.Registers.{Registers}
 use Rattle.norm_lang.specs.Local.{Spot}
+use Rattle.norm_lang.specs.declared.reply.SourceReply.{SourceReply}
 use Rattle.target_code.specs.declared.target.TargetInstr.{TargetInstr}
-use Rattle.target_code.specs.declared.target.TargetInstr.TheVariants.{Plain, Check, Guard}
+use Rattle.target_code.specs.declared.target.TargetInstr.TheVariants.{Plain, Check}
 use Rattle.target_code.specs.declared.target.Target.{Target}
 use Rattle.target_code.specs.LocalCode.{target_run}
 use Rattle.guard_words.specs.Guards.{pass_check}
@@ -22,7 +23,6 @@ use Rattle.caller_parts.specs.declared.setting.Reclamation.TheVariants.{Optimist
 use Rattle.caller_parts.specs.declared.routine.AfterClear.TheVariants as clears
 use Rattle.caller_parts.specs.declared.routine.Routine.{Routine}
 use Rattle.caller_parts.specs.declared.routine.Routine.TheVariants.{At}
-use Rattle.caller_parts.specs.declared.call.Reply.{Reply}
 use Rattle.caller_steps.specs.Entries.{Entry, RoomyEntry, instr_in, new_kind, new_number, cradle_of}
 use Rattle.caller_steps.specs.After.{with_hand, with_access, with_restart, loaded, instr_accepted, checked, check_passed, check_failed, accepted, counted, after, new_on, clear_on, stops, settles, goes_on, method_begun, restart_on, first_spot}
 use Rattle.caller_steps.specs.Clearing.{clear_next, restart_next}
@@ -51,41 +51,22 @@ module _ (target : Target) (sizes : Sizes) (owes : Bool) where
   again_tells e (Some r) = refl
   again_tells e None = refl
 
-  reply_tells : (e : Entry) (reply : Reply) (next : Option ℕ) → told_by owes (clear_on target sizes (clears.Reply reply) next e).routine ≡ owes
+  reply_tells : (e : Entry) (reply : SourceReply) (next : Option ℕ) → told_by owes (clear_on target sizes (clears.Reply reply) next e).routine ≡ owes
   reply_tells e reply (Some r) = refl
   reply_tells e reply None = refl
 
   plain_tells : (i : Instr) (e : Entry) → told_by owes (stops Optimistic target sizes (Some (Plain i)) e).entry.routine ≡ plain_ends owes i
-  plain_tells (instr.Set d n) e = refl
-  plain_tells (instr.Mov d a) e = refl
-  plain_tells (instr.Add d a b) e = refl
-  plain_tells (instr.Sub d a b) e = refl
-  plain_tells (instr.Rem d a n) e = refl
-  plain_tells (instr.Mark d a) e = refl
-  plain_tells (instr.Unmark d a) e = refl
-  plain_tells (instr.Null d) e = refl
-  plain_tells (instr.LoadRoot d x) e = refl
-  plain_tells (instr.LoadPick d x count a) e = refl
-  plain_tells (instr.LoadField d a f) e = refl
   plain_tells (instr.New d kind) e = new_tells e (clear_next target clears.New e)
-  plain_tells (instr.Put a f b) e = refl
-  plain_tells (instr.Cas entry l) e = refl
-  plain_tells (instr.Jump l) e = refl
-  plain_tells (instr.IfEq a b l) e = refl
-  plain_tells (instr.IfLess a b l) e = refl
-  plain_tells (instr.IfMarked a l) e = refl
   plain_tells (instr.Commit []) e = wrap_up_tells _ _
-  plain_tells (instr.Commit (exchange ∷ exchanges)) e = refl
   plain_tells (instr.Return a) e = reply_tells e _ _
   plain_tells instr.ReturnNone e = reply_tells e _ _
   plain_tells instr.Again e = again_tells e _
+  plain_tells _ e = refl
 
   -- where local code stopped tells whether it came to an end
   pub stops_tell : (i : Option TargetInstr) (e : Entry) → told_by owes (stops Optimistic target sizes i e).entry.routine ≡ stop_ends owes i
-  stops_tell None e = refl
   stops_tell (Some (Plain i)) e = plain_tells i e
-  stops_tell (Some Check) e = refl
-  stops_tell (Some (Guard r)) e = refl
+  stops_tell _ e = refl
 
   abbrev stop_of : Spot → Entry → Option TargetInstr
   stop_of spot e = let code = code_at target e.running.call.op e.hand.wrapup in slice_get code (target_run code (length code) spot).at
@@ -112,40 +93,21 @@ module _ (target : Target) (sizes : Sizes) (owes : Bool) where
   again_sees e (Some r) = refl
   again_sees e None = refl
 
-  reply_sees : (e : Entry) (reply : Reply) (next : Option ℕ) → (clear_on target sizes (clears.Reply reply) next e).hand.seen ≡ e.hand.seen
+  reply_sees : (e : Entry) (reply : SourceReply) (next : Option ℕ) → (clear_on target sizes (clears.Reply reply) next e).hand.seen ≡ e.hand.seen
   reply_sees e reply (Some r) = refl
   reply_sees e reply None = refl
 
   plain_sees : (i : Instr) (e : Entry) → (stops Optimistic target sizes (Some (Plain i)) e).entry.hand.seen ≡ e.hand.seen
-  plain_sees (instr.Set d n) e = refl
-  plain_sees (instr.Mov d a) e = refl
-  plain_sees (instr.Add d a b) e = refl
-  plain_sees (instr.Sub d a b) e = refl
-  plain_sees (instr.Rem d a n) e = refl
-  plain_sees (instr.Mark d a) e = refl
-  plain_sees (instr.Unmark d a) e = refl
-  plain_sees (instr.Null d) e = refl
-  plain_sees (instr.LoadRoot d x) e = refl
-  plain_sees (instr.LoadPick d x count a) e = refl
-  plain_sees (instr.LoadField d a f) e = refl
   plain_sees (instr.New d kind) e = new_sees e (clear_next target clears.New e)
-  plain_sees (instr.Put a f b) e = refl
-  plain_sees (instr.Cas entry l) e = refl
-  plain_sees (instr.Jump l) e = refl
-  plain_sees (instr.IfEq a b l) e = refl
-  plain_sees (instr.IfLess a b l) e = refl
-  plain_sees (instr.IfMarked a l) e = refl
   plain_sees (instr.Commit []) e = wrap_up_sees _ _
-  plain_sees (instr.Commit (exchange ∷ exchanges)) e = refl
   plain_sees (instr.Return a) e = reply_sees e _ _
   plain_sees instr.ReturnNone e = reply_sees e _ _
   plain_sees instr.Again e = again_sees e _
+  plain_sees _ e = refl
 
   stops_see : (i : Option TargetInstr) (e : Entry) → (stops Optimistic target sizes i e).entry.hand.seen ≡ e.hand.seen
-  stops_see None e = refl
   stops_see (Some (Plain i)) e = plain_sees i e
-  stops_see (Some Check) e = refl
-  stops_see (Some (Guard r)) e = refl
+  stops_see _ e = refl
 
   settles_see : (spot : Spot) (e : Entry) → (settles Optimistic target sizes spot e).entry.hand.seen ≡ e.hand.seen
   settles_see spot e = stops_see (stop_of spot e) _
@@ -196,16 +158,13 @@ module _ (target : Target) (setting : Setting) (words later : List ℕ) (e e' : 
       ∙ goes_tell target setting.sizes (old.hand.wrapup && old.hand.wrapup) (with_word old.hand.registers d found) (with_access (counted old))
 
   load_by : (i : Option TargetInstr) → instr_in target old ≡ i → is_load_at i ≡ true → signs_of (Some Access) (told_by old.hand.wrapup e'.core.routine) ≡ signs_told target setting words old
-  load_by None is loads = absurd (let z : false ≡ true = loads in cc)
-  load_by (Some Check) is loads = absurd (let z : false ≡ true = loads in cc)
-  load_by (Some (Guard r)) is loads = absurd (let z : false ≡ true = loads in cc)
   load_by (Some (Plain (instr.LoadRoot d x))) is loads =
       ap (λ (x : Entry). signs_of (Some Access) (told_by old.hand.wrapup x.routine)) (entry_at _ is) ∙ ap (signs_of (Some Access)) (loaded_tells d) ∙ sym (tells_at _ is)
   load_by (Some (Plain (instr.LoadPick d x count a))) is loads =
       ap (λ (x : Entry). signs_of (Some Access) (told_by old.hand.wrapup x.routine)) (entry_at _ is) ∙ ap (signs_of (Some Access)) (loaded_tells d) ∙ sym (tells_at _ is)
   load_by (Some (Plain (instr.LoadField d a f))) is loads =
       ap (λ (x : Entry). signs_of (Some Access) (told_by old.hand.wrapup x.routine)) (entry_at _ is) ∙ ap (signs_of (Some Access)) (loaded_tells d) ∙ sym (tells_at _ is)
-  load_by (Some (Plain _)) is loads = absurd (let z : false ≡ true = loads in cc)
+  load_by _ is loads = absurd (let z : false ≡ true = loads in cc)
 
   pub load_told : is_load_at (instr_in target old) ≡ true → signs_of (Some Access) (told_by old.hand.wrapup e'.core.routine) ≡ signs_told target setting words old
   load_told loads = load_by (instr_in target old) refl loads

@@ -20,7 +20,7 @@ ghost use Rattle.core_entries.specs.Callers.{BelongsTo, BelongsToAll, BelongsToS
 
 use crate::kinds::{first_field, is_check, kind_at, pool_head};
 use crate::loaded::{LoadedTarget, Ready};
-use crate::prepared::{Prepared, kept};
+use crate::prepared::Prepared;
 use crate::running::Runs;
 use crate::signs::{Signs, signs_after};
 use barrier_check::Barred;
@@ -158,7 +158,7 @@ impl Entry {
         ensures row { IsInRow setting.now result }
     {
         setting.kept();
-        kept(barred);
+        barred.kept();
         self.state.pending(program, setting)
     }
 
@@ -195,7 +195,7 @@ impl Entry {
         ensures idle { is_some result ≡ not (is_idle self.now.core.routine) }
     {
         setting.kept();
-        kept(barred);
+        barred.kept();
         self.state.pending_at(program, setting, instr)
     }
 
@@ -257,7 +257,7 @@ impl Entry {
         ensures belongs { BelongsTo barred.now setting.now self.new.core }
     {
         setting.kept();
-        kept(barred);
+        barred.kept();
         self.state.accept(program, setting, word);
     }
 
@@ -283,7 +283,7 @@ impl Entry {
         ensures belongs { BelongsTo barred.now setting.now self.new.core }
     {
         setting.kept();
-        kept(barred);
+        barred.kept();
         self.state.accept_at(program, setting, code, instr, word);
     }
 
@@ -314,7 +314,7 @@ impl Entry {
         ensures { result ≡ step_signs barred.now.target setting.now self.now.core word }
     {
         setting.kept();
-        kept(barred);
+        barred.kept();
         signs_after(&self.state, program, setting, word)
     }
 

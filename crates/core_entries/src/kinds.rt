@@ -21,7 +21,7 @@ pub(crate) fn first_field(setting: &Setting) -> u32
     ensures { result ≡ field_base setting.now.sizes }
 {
     let shape = setting.shape();
-    let _fields = shape.fields();
+    shape.kept();
     shape.field_at(0, 0)
 }
 
@@ -30,7 +30,7 @@ pub(crate) fn pool_head(setting: &Setting) -> u32
     ensures { result ≡ head_base setting.now.sizes }
 {
     let shape = setting.shape();
-    let _kinds = shape.kinds();
+    shape.kept();
     shape.head_at(0)
 }
 

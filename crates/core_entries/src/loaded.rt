@@ -4,7 +4,7 @@ ghost use Rattle.std.specs.Prelude.{◌≡◌};
 ghost use Rattle.barrier_check.specs.Paired.{IsSound};
 ghost use Rattle.core_entries.specs.Running.{bare_pair, pair_of, pair_owned, MayRun};
 
-use crate::prepared::{kept, table_of};
+use crate::prepared::table_of;
 use crate::running::{Owned, Runs};
 use barrier_check::Barred;
 use caller_parts::fields::FieldTable;
@@ -54,7 +54,7 @@ impl LoadedTarget {
         ensures same { result ≡ barred }
         ensures sound { IsSound barred }
     {
-        kept(&barred);
+        barred.kept();
         load(Owned::Barred(barred))
     }
 

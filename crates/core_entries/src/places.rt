@@ -47,7 +47,6 @@ fn kind_of(setting: &Setting, slot: u32) -> u32
 {
     setting.kept();
     let shape = setting.shape();
-    let _kinds = shape.kinds();
     if slot == 0 { 0 } else { shape.kind_of(slot) }
 }
 

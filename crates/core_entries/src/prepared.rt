@@ -38,7 +38,7 @@ pub(crate) fn keeps_register(barred: &Barred, op: u8, register: u8) -> bool
     requires register { register < 8 }
     ensures { result ≡ keeps_at (slice_get barred.now.target.ops op) register }
 {
-    let _ = barred.target();
+    barred.kept();
     barred.is_kept(op, register)
 }
 
@@ -92,21 +92,12 @@ pub(crate) fn table_of(runs: Runs) -> [[bool; 8]; 16]
     ]
 }
 
-/// What a barred target keeps.
-#[tactic(auto, using(crate::proofs::Keeping::is_sound))]
-pub fn kept(barred: &Barred)
-    ensures { IsSound barred.now }
-{
-    let _ = barred.source();
-    let _ = barred.target();
-}
-
 impl<'a> Prepared<'a> {
     /// The tables are made here, once for many steps.
     pub fn new(barred: &'a Barred) -> Prepared<'a>
         ensures { result ≡ barred.now }
     {
-        kept(barred);
+        barred.kept();
         let rows = table_of(Runs::Barred(barred));
         let fields = FieldTable::of(barred.target().fields.items());
         Prepared {
@@ -114,6 +105,13 @@ impl<'a> Prepared<'a> {
             rows,
             fields,
         }
+    }
+
+    /// What every one keeps: a law for those who hold one.
+    pub fn kept(&self)
+        ensures { IsSound self.now }
+    {
+        self.barred.kept();
     }
 
     /// The target with its source.
@@ -128,7 +126,7 @@ impl<'a> Prepared<'a> {
         ensures same { result ≡ self.now.target }
         ensures sound { IsSound self.now }
     {
-        kept(self.barred);
+        self.kept();
         Program::new(self.barred.target(), self.rows.as_slice(), &self.fields)
     }
 }

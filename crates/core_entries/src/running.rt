@@ -7,7 +7,7 @@ ghost use Rattle.caller_parts.specs.FieldTables.{IsFieldTable};
 ghost use Rattle.core_entries.specs.Running.{pair_of, pair_owned, MayRun};
 ghost use Rattle.core_entries.specs.Tables.{keeps_at};
 
-use crate::prepared::{keeps_register, kept};
+use crate::prepared::keeps_register;
 use barrier_check::Barred;
 use caller_parts::fields::FieldTable;
 use caller_steps::Program;
@@ -50,7 +50,7 @@ fn bare_register(normal: &Normal, op: u8, register: u8) -> bool
     requires register { register < 8 }
     ensures { result ≡ keeps_at (slice_get (bare normal.now).ops op) register }
 {
-    let _ = normal.text();
+    normal.kept();
     normal.is_kept(op, register)
 }
 
@@ -61,10 +61,8 @@ impl<'a> Runs<'a> {
         ensures { MayRun (pair_of self.entry) }
     {
         match self {
-            Runs::Barred(barred) => kept(barred),
-            Runs::Bare(normal) => {
-                let _ = normal.text();
-            }
+            Runs::Barred(barred) => barred.kept(),
+            Runs::Bare(normal) => normal.kept(),
         }
     }
 

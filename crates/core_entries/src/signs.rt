@@ -281,7 +281,7 @@ fn spared(state: &State, program: &Program) -> [bool; 8]
     ensures { result ≡ restart_spares state.now.core.hand.wrapup (op_of program.now state.now.core) }
 {
     if state.hand.wrapup {
-        program.kept(state.running.call.op)
+        program.kept_by(state.running.call.op)
     } else {
         [false; 8]
     }

@@ -10,7 +10,6 @@ ghost use Rattle.core_entries.specs.StepSigns.{signs_told};
 
 use crate::entry::Entry;
 use crate::port::{Port, at_of};
-use crate::prepared::kept;
 use crate::signs::Signs;
 use crate::words::PlainWords;
 use barrier_check::Barred;
@@ -98,7 +97,7 @@ pub(crate) fn step_with(
     ensures lawful { WordsSound barred.now.target setting.now words.new }
 {
     setting.kept();
-    kept(barred);
+    barred.kept();
     if let Some(access) = entry.pending_at(barred, program, setting, instr) {
         let word = words.access(access);
         entry.accept_at(barred, program, setting, code, instr, word);
@@ -124,7 +123,7 @@ fn step_apart(
     ensures lawful { WordsSound barred.now.target setting.now words.new }
 {
     setting.kept();
-    kept(barred);
+    barred.kept();
     if let Some(access) = entry.pending_in(barred, program, setting) {
         let word = words.access(access);
         entry.accept_in(barred, program, setting, word);
@@ -152,7 +151,7 @@ pub fn signs_next(
     ensures { result ≡ signs_told barred.now.target setting.now words.now entry.now.core }
 {
     setting.kept();
-    kept(barred);
+    barred.kept();
     match entry.pending_in(barred, program, setting) {
         None => Signs::of(None, false),
         Some(access) => {

@@ -173,7 +173,7 @@ fn start_head(setting: &Setting, kind: u32) -> u64
     requires { kind < length setting.now.sizes.kinds }
     ensures { result ≡ start_head setting.now.sizes (bare_start setting.now) kind }
 {
-    let _kinds = setting.shape().kinds();
+    setting.shape().kept();
     let top = slot_or_none(setting, kind, first_ready(setting, kind));
     head_word(setting.first_phase(), top)
 }

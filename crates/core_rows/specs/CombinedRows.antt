@@ -5,12 +5,12 @@ use Rattle.schedule_turns.specs.declared.turn.Turn.TheVariants as turns
 use Rattle.schedule_turns.specs.declared.turn.StepKind.TheVariants as kinds
 use Rattle.norm_lang.specs.declared.text.Instr.TheVariants.{Set, Null, LoadRoot, LoadField, New, Put, Cas, Jump, IfEq, Commit, Return, Again}
 use Rattle.norm_lang.specs.Shipped.{root_entry, next_entry, retiring, queue_text}
+use Rattle.norm_lang.specs.declared.reply.SourceReply.TheVariants as replies
 use Rattle.oa_words.specs.Words.{FieldOf, Cell}
 use Rattle.target_code.specs.declared.target.TargetInstr.TheVariants.{Plain, Check, Guard}
 use Rattle.target_code.specs.declared.target.TargetOp.{TargetOp}
 use Rattle.target_code.specs.declared.target.Target.{Target}
 use Rattle.target_code.specs.SecondScheme.{second_scheme}
-use Rattle.caller_parts.specs.declared.call.Reply.TheVariants as replies
 use Rattle.caller_parts.specs.Settings.{Setting}
 use Rattle.core_runs.specs.Machine.{CoreEvent}
 use Rattle.core_rows.specs.Short.{n0, n1, n2, n7, r0, r1, r2, r3, no_slots}

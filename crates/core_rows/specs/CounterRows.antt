@@ -1,7 +1,7 @@
 -- Runs without nodes: the counter, a wrap-up that loads and begins again, the choice of a root, and exchanges on null.
 use Rattle.std.specs.Prelude.{◌≡◌, true, false, List, [], ◌∷◌, ◌++◌, Some}
+use Rattle.norm_lang.specs.declared.reply.SourceReply.TheVariants as replies
 use Rattle.oa_words.specs.Words.{Warning, FieldOf, Cell}
-use Rattle.caller_parts.specs.declared.call.Reply.TheVariants as replies
 use Rattle.caller_parts.specs.Settings.{Setting}
 use Rattle.caller_steps.specs.Signs.{Begins, Accesses}
 use Rattle.core_runs.specs.Machine.{CoreEvent, Takes}

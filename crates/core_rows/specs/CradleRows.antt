@@ -1,9 +1,9 @@
 -- Runs in which cradles keep slots: they go by the order of the `new` instructions, a list that fails leaves them, a list's
 -- exchange that succeeds empties them, an auxiliary exchange doesn't, and no end of a call does.
 use Rattle.std.specs.Prelude.{◌≡◌, ℕ, List, [], ◌∷◌, ◌++◌, Option, Some}
+use Rattle.norm_lang.specs.declared.reply.SourceReply.{SourceReply}
+use Rattle.norm_lang.specs.declared.reply.SourceReply.TheVariants as replies
 use Rattle.oa_words.specs.Words.{Cell}
-use Rattle.caller_parts.specs.declared.call.Reply.{Reply}
-use Rattle.caller_parts.specs.declared.call.Reply.TheVariants as replies
 use Rattle.caller_parts.specs.Settings.{Setting}
 use Rattle.caller_steps.specs.Signs.{Accesses}
 use Rattle.core_runs.specs.Machine.{CoreEvent}
@@ -58,7 +58,7 @@ three_fills = two_fills ++ calls 0 (call_of 0 0) 9
 abbrev pub four_fills : List CoreEvent
 four_fills = three_fills ++ calls 0 (call_of 0 1) 13
 
-abbrev pub filled : List Reply → List ℕ → ℕ → Option Left
+abbrev pub filled : List SourceReply → List ℕ → ℕ → Option Left
 filled replies cradles claims = Some (record { replies = replies; cradles = cradles; restarts = 0; claims = claims })
 
 pub record BranchRows : Type 0 where
@@ -173,7 +173,7 @@ held = renewed_twice ++ calls 0 (call_of 2 0) 42
 abbrev pub held_twice : List CoreEvent
 held_twice = held ++ calls 0 (call_of 2 0) 14
 
-abbrev pub stale_replies : List Reply
+abbrev pub stale_replies : List SourceReply
 stale_replies = replies.Number 1 ∷ replies.Nothing ∷ replies.Number 1 ∷ replies.Nothing ∷ []
 
 pub record StaleRows : Type 0 where

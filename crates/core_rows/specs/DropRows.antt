@@ -1,8 +1,8 @@
 -- Runs of lists of two exchanges: each retirement comes right after its exchange, n7 counts those that succeeded, and an
 -- exchange after one that failed isn't made.
 use Rattle.std.specs.Prelude.{◌≡◌, ℕ, List, [], ◌∷◌, ◌++◌, Some}
+use Rattle.norm_lang.specs.declared.reply.SourceReply.TheVariants as replies
 use Rattle.oa_words.specs.Words.{Cell}
-use Rattle.caller_parts.specs.declared.call.Reply.TheVariants as replies
 use Rattle.caller_parts.specs.Settings.{Setting}
 use Rattle.core_runs.specs.Machine.{CoreEvent}
 use Rattle.core_rows.specs.Short.{call_of, setting_of, no_slots}

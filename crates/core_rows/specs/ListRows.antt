@@ -1,8 +1,8 @@
 -- Runs of the compiled list by one caller with three slots: insert, remove, insert, remove, and an insert that sweeps.
 use Rattle.std.specs.Prelude.{◌≡◌, ℕ, List, [], ◌∷◌, ◌++◌, Some}
+use Rattle.norm_lang.specs.declared.reply.SourceReply.{SourceReply}
+use Rattle.norm_lang.specs.declared.reply.SourceReply.TheVariants as replies
 use Rattle.oa_words.specs.Words.{FieldOf, Cell}
-use Rattle.caller_parts.specs.declared.call.Reply.{Reply}
-use Rattle.caller_parts.specs.declared.call.Reply.TheVariants as replies
 use Rattle.caller_parts.specs.Settings.{Setting}
 use Rattle.core_runs.specs.Machine.{CoreEvent}
 use Rattle.core_rows.specs.Short.{call_of, setting_of, no_slots}
@@ -90,7 +90,7 @@ two_rounds = inserted_again ++ calls 0 (call_of 1 7) 21
 abbrev pub third_inserted : List CoreEvent
 third_inserted = two_rounds ++ calls 0 (call_of 0 7) 52
 
-abbrev pub one : Reply
+abbrev pub one : SourceReply
 one = replies.Number 1
 
 pub record ListRows : Type 0 where

@@ -1,7 +1,7 @@
 -- Runs in which two callers meet in their sweeps, claims and loads of the own warning.
 use Rattle.std.specs.Prelude.{◌≡◌, ℕ, List, [], ◌∷◌, ◌++◌, Some}
+use Rattle.norm_lang.specs.declared.reply.SourceReply.TheVariants as replies
 use Rattle.oa_words.specs.Words.{Phase, Warning, Status, FieldOf, Cell, Head}
-use Rattle.caller_parts.specs.declared.call.Reply.TheVariants as replies
 use Rattle.caller_steps.specs.Signs.{Accesses}
 use Rattle.core_runs.specs.Machine.{CoreEvent}
 use Rattle.core_rows.specs.Short.{call_of, no_slots, cradles_of}

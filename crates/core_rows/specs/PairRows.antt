@@ -1,8 +1,8 @@
 -- Runs over initial nodes of two fields, with two arguments and with marked references; and runs whose first phase isn't 1.
 use Rattle.std.specs.Prelude.{◌≡◌, List, [], ◌∷◌, ◌++◌, Some}
+use Rattle.norm_lang.specs.declared.reply.SourceReply.TheVariants as replies
 use Rattle.oa_words.specs.Words.{FieldOf, Cell}
 use Rattle.caller_parts.specs.declared.call.Call.{Call}
-use Rattle.caller_parts.specs.declared.call.Reply.TheVariants as replies
 use Rattle.caller_parts.specs.Settings.{Setting}
 use Rattle.core_rows.specs.Short.{call_of, setting_of, no_slots}
 use Rattle.core_rows.specs.SmallTargets.{pair_target}

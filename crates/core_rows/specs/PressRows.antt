@@ -1,8 +1,8 @@
 -- Runs of a generator and a wrap-up that count their argument up: whatever begins a generator again begins it with the
 -- call's arguments. And the kept register's guard is cleared before a `new` and by `again` like any other.
 use Rattle.std.specs.Prelude.{◌≡◌, ℕ, List, [], ◌∷◌, ◌++◌, Some}
+use Rattle.norm_lang.specs.declared.reply.SourceReply.TheVariants as replies
 use Rattle.oa_words.specs.Words.{FieldOf, Cell}
-use Rattle.caller_parts.specs.declared.call.Reply.TheVariants as replies
 use Rattle.caller_parts.specs.Settings.{Setting}
 use Rattle.core_runs.specs.Machine.{CoreEvent}
 use Rattle.core_rows.specs.Short.{call_of, setting_of, no_slots}

@@ -1,12 +1,12 @@
 -- Whole runs of the list, of the queue and of the counter, each by the turns of a schedule and then every caller to its end.
 use Rattle.std.specs.Prelude.{◌≡◌, ℕ, zero, suc, ◌+◌, List, [], ◌∷◌, map, Result, Ok, Err, slice_index}
+use Rattle.norm_lang.specs.declared.reply.SourceReply.{SourceReply}
+use Rattle.norm_lang.specs.declared.reply.SourceReply.TheVariants as replies
 use Rattle.schedule_turns.specs.declared.turn.Turn.{Turn}
 use Rattle.schedule_turns.specs.declared.turn.Turn.TheVariants as turns
 use Rattle.schedule_turns.specs.declared.turn.StepKind.TheVariants as kinds
 use Rattle.target_code.specs.declared.target.Target.{Target}
 use Rattle.caller_parts.specs.declared.call.Call.{Call}
-use Rattle.caller_parts.specs.declared.call.Reply.{Reply}
-use Rattle.caller_parts.specs.declared.call.Reply.TheVariants as replies
 use Rattle.caller_parts.specs.Settings.{Setting}
 use Rattle.caller_parts.specs.Pairing.{reply_of}
 use Rattle.caller_steps.specs.Entries.{Entry}
@@ -18,7 +18,7 @@ use Rattle.core_rows.specs.ShippedTargets.{list_target, queue_target}
 -- what a document's answers are made of
 pub record Summary : Type 0 where
   -- of each caller
-  pub replies : List (List Reply)
+  pub replies : List (List SourceReply)
   pub phase : ℕ
   -- of all callers
   pub claims : ℕ
@@ -32,7 +32,7 @@ abbrev pub all_restarts : List Entry → ℕ
 all_restarts [] = 0
 all_restarts (e ∷ es) = e.counts.restarts + all_restarts es
 
-abbrev pub replies_of : Entry → List Reply
+abbrev pub replies_of : Entry → List SourceReply
 replies_of e = map reply_of e.replies
 
 abbrev pub summary_of : Result Replaying Refusal → Result Summary Refusal
@@ -63,10 +63,10 @@ enqueue value = call_of 0 value
 abbrev pub dequeue : Call
 dequeue = call_of 1 0
 
-abbrev pub yes : Reply
+abbrev pub yes : SourceReply
 yes = replies.Number 1
 
-abbrev pub no : Reply
+abbrev pub no : SourceReply
 no = replies.Number 0
 
 -- so many rounds of `insert 7` and `remove 7`, and as many replies, before others
@@ -74,7 +74,7 @@ abbrev pub rounds : ℕ → List Call → List Call
 rounds zero more = more
 rounds (suc n) more = insert 7 ∷ remove 7 ∷ rounds n more
 
-abbrev pub two_each : ℕ → List Reply → List Reply
+abbrev pub two_each : ℕ → List SourceReply → List SourceReply
 two_each zero more = more
 two_each (suc n) more = yes ∷ yes ∷ two_each n more
 
@@ -148,7 +148,7 @@ abbrev pub nop : Call
 nop = call_of 1 0
 
 -- these replies, and nothing claimed
-abbrev pub replied : List (List Reply) → Result Summary Refusal
+abbrev pub replied : List (List SourceReply) → Result Summary Refusal
 replied replies = Ok (record { replies = replies; phase = 1; claims = 0; restarts = 0 })
 
 pub record TurnRows : Type 0 where

@@ -1,11 +1,11 @@
 -- How a run is told: step by step, the access made, the word found there, and the signs given.
 use Rattle.std.specs.Prelude.{ℕ, ◌+◌, Bool, List, [], ◌∷◌, ◌++◌, map, replicate, Option, Some, None, option_map, slice_get}
+use Rattle.norm_lang.specs.declared.reply.SourceReply.{SourceReply}
 use Rattle.guard_words.specs.Guards.{Guards}
 use Rattle.oa_words.specs.Words.{Word, Phase, Warning, Hazard, Status, FieldOf, Head, Link}
 use Rattle.phase_pools.specs.Accesses.{WordAccess, Loads, Stores, Exchanges, Raises}
 use Rattle.target_code.specs.declared.target.Target.{Target}
 use Rattle.caller_parts.specs.declared.call.Call.{Call}
-use Rattle.caller_parts.specs.declared.call.Reply.{Reply}
 use Rattle.caller_parts.specs.Pairing.{reply_of}
 use Rattle.caller_parts.specs.Settings.{Setting}
 use Rattle.caller_steps.specs.Entries.{Entry}
@@ -162,7 +162,7 @@ frees slot retired ready = silent (Exchange (Status slot) retired ready retired)
 
 -- of one caller
 pub record Left : Type 0 where
-  pub replies : List Reply
+  pub replies : List SourceReply
   pub cradles : List ℕ
   pub restarts : ℕ
   pub claims : ℕ

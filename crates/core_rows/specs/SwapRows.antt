@@ -1,8 +1,8 @@
 -- Runs of a text whose wrap-up keeps a register: the guard of the old node stays through the wrap-up and through its restart,
 -- and is cleared by `again` and at the end. And wrap-ups that load, claims that are given up.
 use Rattle.std.specs.Prelude.{◌≡◌, ℕ, true, false, List, [], ◌∷◌, ◌++◌, Some, None}
+use Rattle.norm_lang.specs.declared.reply.SourceReply.TheVariants as replies
 use Rattle.oa_words.specs.Words.{Phase, Warning, FieldOf, Cell, Head}
-use Rattle.caller_parts.specs.declared.call.Reply.TheVariants as replies
 use Rattle.caller_parts.specs.Settings.{Setting}
 use Rattle.caller_steps.specs.Signs.{Begins, Accesses, GivesUp}
 use Rattle.core_runs.specs.Machine.{CoreEvent}

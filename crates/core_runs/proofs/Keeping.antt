@@ -10,7 +10,7 @@ use Rattle.caller_parts.specs.declared.call.Call.{Call}
 use Rattle.caller_parts.specs.declared.call.Replied.{Replied}
 use Rattle.caller_parts.specs.declared.call.Running.{Running}
 use Rattle.caller_parts.specs.declared.routine.Routine.{Routine}
-use Rattle.caller_parts.specs.declared.routine.Routine.TheVariants.{Idle, LoadSeen, At, InList, Retires, Restarts, Clears, Claims, Zeroes, Announces}
+use Rattle.caller_parts.specs.declared.routine.Routine.TheVariants.{Idle}
 use Rattle.caller_parts.specs.declared.setting.Reclamation.{Reclamation}
 use Rattle.caller_parts.specs.declared.setting.Reclamation.TheVariants.{Optimistic, Epochs}
 use Rattle.caller_parts.specs.Pairing.{run_of, replied_by}
@@ -28,15 +28,7 @@ use Rattle.core_runs.proofs.Turning.{after_turns}
 -- an idle entry wants nothing
 wanted_idle : (target : Target) (e : Entry) (a : WordAccess) (routine : Routine) → is_idle routine ≡ true → wanted target e routine ≡ Some a → ⊥
 wanted_idle target e a Idle idle want = let no : None ≡ Some a = want in cc
-wanted_idle target e a (LoadSeen why) idle want = let no : false ≡ true = idle in cc
-wanted_idle target e a At idle want = let no : false ≡ true = idle in cc
-wanted_idle target e a (InList k) idle want = let no : false ≡ true = idle in cc
-wanted_idle target e a (Retires retirement go) idle want = let no : false ≡ true = idle in cc
-wanted_idle target e a Restarts idle want = let no : false ≡ true = idle in cc
-wanted_idle target e a (Clears next) idle want = let no : false ≡ true = idle in cc
-wanted_idle target e a (Claims claim) idle want = let no : false ≡ true = idle in cc
-wanted_idle target e a (Zeroes k field) idle want = let no : false ≡ true = idle in cc
-wanted_idle target e a (Announces announcing) idle want = let no : false ≡ true = idle in cc
+wanted_idle target e a _ idle want = let no : false ≡ true = idle in cc
 
 pub idle_wants : (target : Target) (e : Entry) (a : WordAccess) → is_idle e.routine ≡ true → wants target e ≡ Some a → ⊥
 unfolding wants
@@ -61,7 +53,8 @@ step_keeps target setting e w busy =
     ∙ (append-nil (map run_of e'.replies) ∙ (ap (map run_of) t.2 ∙ (map-append run_of e.replies (replied_by t.0 (counted e).running ∷ []) ∙ sym bump))))
     (after_turns target setting e w busy)
 
-first_busy : (by : Reclamation) → is_idle (first_routine by) ≡ false
+-- by either scheme a caller that has taken a call isn't idle
+pub first_busy : (by : Reclamation) → is_idle (first_routine by) ≡ false
 first_busy Optimistic = refl
 first_busy Epochs = refl
 

@@ -4,7 +4,7 @@ use Rattle.std.specs.Prelude.{slice_get, slice_set, min}
 use mathlib.Core.Logic.{dite}
 use native.Mathlib.Decide.{ℕ_discrete}
 use Rattle.target_code.specs.declared.target.TargetInstr.{TargetInstr}
-use Rattle.target_code.specs.declared.target.TargetInstr.TheVariants.{Plain, Check, Guard}
+use Rattle.target_code.specs.declared.target.TargetInstr.TheVariants.{Plain}
 use Rattle.target_code.specs.declared.target.Target.{Target}
 use Rattle.oa_words.specs.Words.{Sizes}
 use Rattle.oa_words.specs.Packed.{HeadParts, head_parts, head_word}
@@ -117,10 +117,8 @@ same_counts : (before later : Entry) → later.counts ≡ before.counts → Same
 same_counts before later is = ap (λ (counts : Counts). counts.restarts) is
 
 instr_counts : (target : Target) (sizes : Sizes) (o : Option TargetInstr) (word : ℕ) (e : Entry) → is_idle e.routine ≡ false → SameCount e (instr_accepted Epochs target sizes o word e).entry
-instr_counts target sizes None word e busy = refl
 instr_counts target sizes (Some (Plain i)) word e busy = same_counts e (instr_accepted Epochs target sizes (Some (Plain i)) word e).entry (accepted_plain target sizes Epochs i word e busy).2
-instr_counts target sizes (Some Check) word e busy = refl
-instr_counts target sizes (Some (Guard r)) word e busy = refl
+instr_counts target sizes _ word e busy = refl
 
 step_counts : (target : Target) (setting : Setting) (word : ℕ) (e : Entry) (routine : Routine) → e.routine ≡ routine → ((claim : Claim) → routine ≡ Claims claim → ⊥) → SameCount e (accepted Epochs target setting word e routine).entry
 step_counts target setting word e Idle is other = refl

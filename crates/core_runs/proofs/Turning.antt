@@ -12,6 +12,7 @@ use Rattle.norm_lang.specs.declared.text.Instr.TheVariants as instr
 use Rattle.norm_lang.specs.declared.registers.Registers.{Registers}
 use Rattle.norm_lang.specs.Registers.{number_in, with_count}
 use Rattle.norm_lang.specs.Local.{Spot}
+use Rattle.norm_lang.specs.declared.reply.SourceReply.TheVariants as replies
 use Rattle.target_code.specs.declared.target.TargetInstr.{TargetInstr}
 use Rattle.target_code.specs.declared.target.TargetInstr.TheVariants.{Plain, Check, Guard}
 use Rattle.target_code.specs.declared.target.Target.{Target}
@@ -22,7 +23,6 @@ use Rattle.phase_pools.specs.declared.access.ClaimEnd.TheVariants as ends
 use Rattle.phase_pools.specs.declared.stages.Scheme.{Scheme}
 use Rattle.phase_pools.specs.declared.stages.Scheme.TheVariants.{Warned, Announced}
 use Rattle.phase_pools.specs.Pools.{Claim, claim_takes, claim_accepts, Retirement, retire_accepts}
-use Rattle.caller_parts.specs.declared.call.Reply.TheVariants as replies
 use Rattle.caller_parts.specs.declared.routine.AfterClear.{AfterClear}
 use Rattle.caller_parts.specs.declared.routine.AfterClear.TheVariants as clears
 use Rattle.caller_parts.specs.declared.routine.AfterRetire.{AfterRetire}
@@ -92,48 +92,14 @@ module _ (target : Target) (sizes : Sizes) where
   plain_turns (instr.Return a) e = cleared_turns (clears.Reply (replies.Number (number_in e.hand.registers a))) e
   plain_turns instr.ReturnNone e = cleared_turns (clears.Reply replies.Nothing) e
   plain_turns instr.Again e = cleared_turns clears.Again e
-  plain_turns (instr.Set d n) e = stays e At refl
-  plain_turns (instr.Mov d a) e = stays e At refl
-  plain_turns (instr.Add d a b) e = stays e At refl
-  plain_turns (instr.Sub d a b) e = stays e At refl
-  plain_turns (instr.Rem d a n) e = stays e At refl
-  plain_turns (instr.Mark d a) e = stays e At refl
-  plain_turns (instr.Unmark d a) e = stays e At refl
-  plain_turns (instr.Null d) e = stays e At refl
-  plain_turns (instr.Jump l) e = stays e At refl
-  plain_turns (instr.IfEq a b l) e = stays e At refl
-  plain_turns (instr.IfLess a b l) e = stays e At refl
-  plain_turns (instr.IfMarked a l) e = stays e At refl
-  plain_turns (instr.LoadRoot d x) e = stays e At refl
-  plain_turns (instr.LoadPick d x n a) e = stays e At refl
-  plain_turns (instr.LoadField d a f) e = stays e At refl
-  plain_turns (instr.Put a f b) e = stays e At refl
-  plain_turns (instr.Cas exchange l) e = stays e At refl
+  plain_turns _ e = stays e At refl
 
   -- under epochs
   wrap_up_turns : (i : Instr) (e : Entry) → Turns e (wrap_up_stop i e).entry
   wrap_up_turns (instr.Return a) e = stays e (Announces (announces.Leaves (replies.Number (number_in e.hand.registers a)))) refl
   wrap_up_turns instr.ReturnNone e = stays e (Announces (announces.Leaves replies.Nothing)) refl
   wrap_up_turns instr.Again e = stays e (Announces (announces.Loads reasons.Again)) refl
-  wrap_up_turns (instr.New d kind) e = stays e At refl
-  wrap_up_turns (instr.Commit exchanges) e = stays e At refl
-  wrap_up_turns (instr.Set d n) e = stays e At refl
-  wrap_up_turns (instr.Mov d a) e = stays e At refl
-  wrap_up_turns (instr.Add d a b) e = stays e At refl
-  wrap_up_turns (instr.Sub d a b) e = stays e At refl
-  wrap_up_turns (instr.Rem d a n) e = stays e At refl
-  wrap_up_turns (instr.Mark d a) e = stays e At refl
-  wrap_up_turns (instr.Unmark d a) e = stays e At refl
-  wrap_up_turns (instr.Null d) e = stays e At refl
-  wrap_up_turns (instr.Jump l) e = stays e At refl
-  wrap_up_turns (instr.IfEq a b l) e = stays e At refl
-  wrap_up_turns (instr.IfLess a b l) e = stays e At refl
-  wrap_up_turns (instr.IfMarked a l) e = stays e At refl
-  wrap_up_turns (instr.LoadRoot d x) e = stays e At refl
-  wrap_up_turns (instr.LoadPick d x n a) e = stays e At refl
-  wrap_up_turns (instr.LoadField d a f) e = stays e At refl
-  wrap_up_turns (instr.Put a f b) e = stays e At refl
-  wrap_up_turns (instr.Cas exchange l) e = stays e At refl
+  wrap_up_turns _ e = stays e At refl
 
   wrap_up_stopped_turns : (e : Entry) → Turns e (wrap_up_stopped target e).entry
   wrap_up_stopped_turns e = of (instr_in target e) where
@@ -154,26 +120,7 @@ module _ (target : Target) (sizes : Sizes) where
   announced_stop_turns : (i : Instr) (e : Entry) → Turns e (announced_stop target sizes i e).entry
   announced_stop_turns (instr.New d kind) e = new_turns (Announced e.number) e
   announced_stop_turns (instr.Commit exchanges) e = announced_list_turns exchanges e
-  announced_stop_turns (instr.Return a) e = wrap_up_turns (instr.Return a) e
-  announced_stop_turns instr.ReturnNone e = wrap_up_turns instr.ReturnNone e
-  announced_stop_turns instr.Again e = wrap_up_turns instr.Again e
-  announced_stop_turns (instr.Set d n) e = stays e At refl
-  announced_stop_turns (instr.Mov d a) e = stays e At refl
-  announced_stop_turns (instr.Add d a b) e = stays e At refl
-  announced_stop_turns (instr.Sub d a b) e = stays e At refl
-  announced_stop_turns (instr.Rem d a n) e = stays e At refl
-  announced_stop_turns (instr.Mark d a) e = stays e At refl
-  announced_stop_turns (instr.Unmark d a) e = stays e At refl
-  announced_stop_turns (instr.Null d) e = stays e At refl
-  announced_stop_turns (instr.Jump l) e = stays e At refl
-  announced_stop_turns (instr.IfEq a b l) e = stays e At refl
-  announced_stop_turns (instr.IfLess a b l) e = stays e At refl
-  announced_stop_turns (instr.IfMarked a l) e = stays e At refl
-  announced_stop_turns (instr.LoadRoot d x) e = stays e At refl
-  announced_stop_turns (instr.LoadPick d x n a) e = stays e At refl
-  announced_stop_turns (instr.LoadField d a f) e = stays e At refl
-  announced_stop_turns (instr.Put a f b) e = stays e At refl
-  announced_stop_turns (instr.Cas exchange l) e = stays e At refl
+  announced_stop_turns i e = wrap_up_turns i e
 
   -- under either scheme
   stop_turns : (by : Reclamation) (i : Instr) (e : Entry) → Turns e (stop_at by target sizes i e).entry
@@ -252,23 +199,7 @@ module _ (target : Target) (sizes : Sizes) where
   accepted_plain by (instr.LoadField d a f) word e busy = on_turns by (with_word e.hand.registers d word) (with_access e)
   accepted_plain by (instr.Put a f b) word e busy = on_turns by e.hand.registers e
   accepted_plain by (instr.Cas exchange l) word e busy = cas_turns by exchange l word (with_access e)
-  accepted_plain by (instr.Set d n) word e busy = same e busy
-  accepted_plain by (instr.Mov d a) word e busy = same e busy
-  accepted_plain by (instr.Add d a b) word e busy = same e busy
-  accepted_plain by (instr.Sub d a b) word e busy = same e busy
-  accepted_plain by (instr.Rem d a n) word e busy = same e busy
-  accepted_plain by (instr.Mark d a) word e busy = same e busy
-  accepted_plain by (instr.Unmark d a) word e busy = same e busy
-  accepted_plain by (instr.Null d) word e busy = same e busy
-  accepted_plain by (instr.Jump l) word e busy = same e busy
-  accepted_plain by (instr.IfEq a b l) word e busy = same e busy
-  accepted_plain by (instr.IfLess a b l) word e busy = same e busy
-  accepted_plain by (instr.IfMarked a l) word e busy = same e busy
-  accepted_plain by (instr.New d kind) word e busy = same e busy
-  accepted_plain by (instr.Commit exchanges) word e busy = same e busy
-  accepted_plain by (instr.Return a) word e busy = same e busy
-  accepted_plain by instr.ReturnNone word e busy = same e busy
-  accepted_plain by instr.Again word e busy = same e busy
+  accepted_plain by _ word e busy = same e busy
 
   checked_by_turns : (by : Reclamation) (word : ℕ) (e : Entry) → is_idle e.routine ≡ false → Turned e (checked_by by target sizes word e).entry
   checked_by_turns Optimistic word e busy = checked_turns word e
@@ -358,15 +289,7 @@ after_turns target setting e word busy = (turns_by target setting e word busy).1
 -- an idle entry has nothing to accept
 idle_number : (by : Reclamation) (target : Target) (setting : Setting) (e : Entry) (word : ℕ) (routine : Routine) → is_idle routine ≡ true → (accepted by target setting word e routine).entry.number ≡ e.number
 idle_number by target setting e word Idle idle = refl
-idle_number by target setting e word (LoadSeen why) idle = absurd (let no : false ≡ true = idle in cc)
-idle_number by target setting e word At idle = absurd (let no : false ≡ true = idle in cc)
-idle_number by target setting e word (InList k) idle = absurd (let no : false ≡ true = idle in cc)
-idle_number by target setting e word (Retires retirement go) idle = absurd (let no : false ≡ true = idle in cc)
-idle_number by target setting e word Restarts idle = absurd (let no : false ≡ true = idle in cc)
-idle_number by target setting e word (Clears next) idle = absurd (let no : false ≡ true = idle in cc)
-idle_number by target setting e word (Claims claim) idle = absurd (let no : false ≡ true = idle in cc)
-idle_number by target setting e word (Zeroes k field) idle = absurd (let no : false ≡ true = idle in cc)
-idle_number by target setting e word (Announces announcing) idle = absurd (let no : false ≡ true = idle in cc)
+idle_number by target setting e word _ idle = absurd (let no : false ≡ true = idle in cc)
 
 idle_after : (target : Target) (setting : Setting) (e : Entry) (word : ℕ) → is_idle e.routine ≡ true → (after target setting e word).number ≡ e.number
 unfolding after

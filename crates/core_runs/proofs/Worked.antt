@@ -16,7 +16,6 @@ use Rattle.schedule_turns.specs.declared.turn.Turn.TheVariants as turns
 use Rattle.schedule_turns.specs.declared.turn.StepKind.TheVariants as stepkinds
 use Rattle.caller_parts.specs.declared.call.Call.{Call}
 use Rattle.caller_parts.specs.declared.call.Replied.{Replied}
-use Rattle.caller_parts.specs.declared.call.Reply.TheVariants as replies
 use Rattle.caller_parts.specs.declared.setting.Reclamation.TheVariants.{Optimistic, Epochs}
 use Rattle.caller_parts.specs.Settings.{Setting}
 use Rattle.caller_steps.specs.Entries.{Entry}
@@ -27,6 +26,7 @@ use Rattle.core_runs.specs.Machine.{CoreState, CoreEvent, Takes, Steps, core_run
 use Rattle.core_runs.specs.RunSigns.{Signed, run_signs}
 use Rattle.core_runs.specs.Replays.{Replaying, Refusal, StepOfNobody, LongReplay, replayed}
 use Rattle.std.specs.Prelude.{Result, Ok, Err}
+use Rattle.norm_lang.specs.declared.reply.SourceReply.TheVariants as replies
 
 add : TargetOp
 add = record {

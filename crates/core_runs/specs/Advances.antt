@@ -1,7 +1,7 @@
 -- Steps of one caller.
 use Rattle.std.specs.Prelude.{◌≡◌, ℕ, true, false, ◌⊎◌, List, [], ◌∷◌, ◌++◌}
+use Rattle.norm_lang.specs.declared.reply.SourceReply.{SourceReply}
 use Rattle.target_code.specs.declared.target.Target.{Target}
-use Rattle.caller_parts.specs.declared.call.Reply.{Reply}
 use Rattle.caller_parts.specs.Pairing.{replied_by}
 use Rattle.caller_parts.specs.Settings.{Setting}
 use Rattle.caller_steps.specs.Entries.{Entry, one_more, is_idle}
@@ -25,7 +25,7 @@ RunsOn before later = (is_idle later.routine ≡ false) × (later.replies ≡ be
 
 -- it ends, with exactly one reply, which stands beside the call and the steps that were made for it
 abbrev pub Ends : Entry → Entry → Type 0
-Ends before later = (reply : Reply) × (is_idle later.routine ≡ true) × (later.replies ≡ before.replies ++ replied_by reply before.running ∷ []) × (later.running ≡ before.running)
+Ends before later = (reply : SourceReply) × (is_idle later.routine ≡ true) × (later.replies ≡ before.replies ++ replied_by reply before.running ∷ []) × (later.running ≡ before.running)
 
 abbrev pub EndsOrRuns : Entry → Entry → Type 0
 EndsOrRuns before later = RunsOn before later ⊎ Ends before later
@@ -41,7 +41,7 @@ pub record Stays (e : Entry) (ws : List ℕ) (e' : Entry) : Type 0 where
 -- the call has ended with one reply, beside which stand the call and the steps made for it
 pub record Stops (e : Entry) (ws : List ℕ) (e' : Entry) : Type 0 where
   pub idle : is_idle e'.routine ≡ true
-  pub reply : Reply
+  pub reply : SourceReply
   pub replies : e'.replies ≡ e.replies ++ replied_by reply e'.running ∷ []
   pub running : e'.running ≡ record e.running { steps = counted_on e.running.steps ws }
 

@@ -1,12 +1,12 @@
 -- Turns that count more than one access, or go on over a call's end, where that changes an answer. An `add` is five steps: the load at
 -- its begin, the root's load, the check, the exchange, and the load at its wrap-up's start. A `get` is four, with the root's load second.
 use Rattle.std.specs.Prelude.{◌≡◌, ℕ, List, [], ◌∷◌, Result, Err}
+use Rattle.norm_lang.specs.declared.reply.SourceReply.TheVariants as replies
 use Rattle.schedule_turns.specs.declared.turn.Turn.{Turn}
 use Rattle.schedule_turns.specs.declared.turn.Turn.TheVariants as turns
 use Rattle.schedule_turns.specs.declared.turn.StepKind.{StepKind}
 use Rattle.schedule_turns.specs.declared.turn.StepKind.TheVariants as kinds
 use Rattle.caller_parts.specs.declared.call.Call.{Call}
-use Rattle.caller_parts.specs.declared.call.Reply.TheVariants as replies
 use Rattle.core_runs.specs.Replays.{Refusal, StepOfNobody}
 use Rattle.core_rows.specs.Short.{call_of, setting_of}
 use Rattle.core_rows.specs.SmallTargets.{numbers_target}

@@ -3,10 +3,10 @@
 use Rattle.std.specs.Prelude.{◌≡◌, ℕ, false, List, [], ◌∷◌, ◌++◌, Option, Some}
 use Rattle.norm_lang.specs.declared.registers.Registers.{Registers}
 use Rattle.norm_lang.specs.Registers.{first_registers, with_reference}
+use Rattle.norm_lang.specs.declared.reply.SourceReply.{SourceReply}
+use Rattle.norm_lang.specs.declared.reply.SourceReply.TheVariants as replies
 use Rattle.guard_words.specs.Guards.{no_guards}
 use Rattle.oa_words.specs.Words.{Cell}
-use Rattle.caller_parts.specs.declared.call.Reply.{Reply}
-use Rattle.caller_parts.specs.declared.call.Reply.TheVariants as replies
 use Rattle.caller_parts.specs.declared.routine.Routine.TheVariants.{InList}
 use Rattle.caller_parts.specs.Settings.{Setting}
 use Rattle.caller_steps.specs.Entries.{Entry, idle_entry, empty_hand}
@@ -20,7 +20,7 @@ use Rattle.corner_rows.specs.CornerTargets.{four_target}
 abbrev pub four_setting : ℕ → ℕ → Setting
 four_setting callers slots = setting_of callers slots 1 5 0 1000
 
-abbrev pub holds : List Reply → List ℕ → ℕ → ℕ → Option Left
+abbrev pub holds : List SourceReply → List ℕ → ℕ → ℕ → Option Left
 holds replies cradles restarts claims = Some (record { replies = replies; cradles = cradles; restarts = restarts; claims = claims })
 
 -- ---- one caller, and four slots

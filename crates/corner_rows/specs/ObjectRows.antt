@@ -1,7 +1,7 @@
 -- Runs in which the object of an exchange is retired, and not the node that it compares.
 use Rattle.std.specs.Prelude.{◌≡◌, List, [], ◌∷◌, Some}
+use Rattle.norm_lang.specs.declared.reply.SourceReply.TheVariants as replies
 use Rattle.oa_words.specs.Words.{Phase, Status, FieldOf, Cell}
-use Rattle.caller_parts.specs.declared.call.Reply.TheVariants as replies
 use Rattle.caller_parts.specs.Settings.{Setting}
 use Rattle.caller_steps.specs.Signs.{Accesses}
 use Rattle.core_rows.specs.Short.{call_of, setting_of, no_slots}

@@ -1,8 +1,8 @@
 -- The report of a document in a state of the core: the answer to each call, the phase, and what the callers counted.
 use Rattle.std.specs.Prelude.{ℕ, ◌+◌, ◌-◌, ◌^◌, min, Bool, true, false, ◌&&◌, not, List, [], ◌∷◌, ◌++◌, map, length, Option, Some, None, ◌==◌, slice_get}
 use Rattle.std.specs.List.{sum_by}
+use Rattle.norm_lang.specs.declared.reply.SourceReply.{SourceReply}
 use Rattle.oa_words.specs.Words.{Phase}
-use Rattle.caller_parts.specs.declared.call.Reply.{Reply}
 use Rattle.caller_parts.specs.Pairing.{reply_of}
 use Rattle.caller_steps.specs.Entries.{Entry, is_idle}
 use Rattle.core_runs.specs.Machine.{CoreState, word_at}
@@ -21,12 +21,12 @@ abbrev pub unanswered : Bool → Answer
 unanswered true = answers.Spent
 unanswered false = answers.Unreached
 
-abbrev pub answer_from : Option Reply → Bool → Answer
+abbrev pub answer_from : Option SourceReply → Bool → Answer
 answer_from None runs = unanswered runs
 answer_from (Some reply) runs = answers.Replied reply
 
 -- by the replies so far and whether a call runs: that is the first one after those that have a reply
-abbrev pub answer_at : List Reply → Bool → ℕ → Answer
+abbrev pub answer_at : List SourceReply → Bool → ℕ → Answer
 answer_at replies running index = answer_from (slice_get replies index) (running && (index == length replies))
 
 abbrev pub entry_answer : Entry → ℕ → Answer

@@ -2,7 +2,7 @@
 use Rattle.std.specs.Prelude.{ℕ, Bool, true, false, not, List, [], ◌∷◌, ◌++◌, codes, decimal}
 use Rattle.std.specs.List.{concat, flat_map, list_any, count_by}
 use Rattle.oa_text.specs.Pieces.{argument_bytes}
-use Rattle.caller_parts.specs.declared.call.Reply.TheVariants as replies
+use Rattle.norm_lang.specs.declared.reply.SourceReply.TheVariants as replies
 use Rattle.document_runs.specs.declared.report.Answer.{Answer}
 use Rattle.document_runs.specs.declared.report.Answer.TheVariants as answers
 use Rattle.document_runs.specs.declared.report.ReportLine.{ReportLine}

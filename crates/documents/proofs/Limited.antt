@@ -3,7 +3,7 @@ use Rattle.std.proofs.Common.{◌≡◌, ℕ, ◌+◌, ◌<◌, ◌≤◌, Bool,
 use Rattle.std.proofs.lemmas.Bool.Decides.{nat_tests}
 use Rattle.std.proofs.lemmas.List.Elements.{All-nil, All-push}
 use Rattle.std.proofs.lemmas.List.{length-append, length-set, length-replicate}
-use Rattle.std.specs.Prelude.{nat_lt, nat_le, IfOk, if◌then◌else◌, codes}
+use Rattle.std.specs.Prelude.{nat_lt, nat_le, if◌then◌else◌, codes}
 use Rattle.std.specs.Str.{bytes_eq}
 use Rattle.oa_text.specs.Lines.{TextLine, lines_of, numbered}
 use Rattle.norm_lang.specs.Faults.{◌>>=◌, demand, at_line, too_many, form_fault}
@@ -12,8 +12,6 @@ use Rattle.norm_lang.specs.Declarations.{is_reserved}
 use Rattle.norm_lang.specs.declared.text.Version.{Version}
 use Rattle.norm_lang.specs.Limits.{IsWithinLimits}
 use Rattle.line_words.specs.Lines.{words_in, first_word}
-use Rattle.line_words.specs.declared.fault.ParseError.{ParseError}
-use Rattle.line_words.specs.Answered.{Answers}
 use Rattle.norm_parser.specs.FrontRead.{from_line, front_read}
 use Rattle.norm_parser.specs.Version.{after_version}
 use Rattle.schedule_turns.specs.declared.turn.Turn.{Turn}
@@ -225,18 +223,11 @@ read_kept bytes =
     found IsOther (document_of front.0 tail) (scripts_kept n tail kept, kept.turns, kept.slots))))
 
 -- a document with such a text
-read_is_within : (bytes : List ℕ) (document : Document) → document_read bytes ≡ Ok document → IsWithinLimits document.text → IsWithinDocumentLimits document
+pub read_is_within : (bytes : List ℕ) (document : Document) → document_read bytes ≡ Ok document → IsWithinLimits document.text → IsWithinDocumentLimits document
 read_is_within bytes document read text =
     let other = had IsOther _ document (read_kept bytes) read in
     record { text = text; scripts = other.0; turns = other.1 }
 
-pub answer_is_within : (bytes : List ℕ) (result : Result Document ParseError) → Answers (λ document. document) result (document_read bytes)
-    → IfOk result (λ document. IsWithinLimits document.text) → IfOk result (λ document. IsWithinDocumentLimits document)
-answer_is_within bytes (Ok document) read text = read_is_within bytes document read text
-answer_is_within bytes (Err error) read text = tt
-
 -- it has slots for each kind
-pub answer_has_slots : (bytes : List ℕ) (result : Result Document ParseError) → Answers (λ document. document) result (document_read bytes)
-    → IfOk result (λ document. length document.slots ≡ length document.text.kinds)
-answer_has_slots bytes (Ok document) read = (had IsOther _ document (read_kept bytes) read).2
-answer_has_slots bytes (Err error) read = tt
+pub read_has_slots : (bytes : List ℕ) (document : Document) → document_read bytes ≡ Ok document → length document.slots ≡ length document.text.kinds
+read_has_slots bytes document read = (had IsOther _ document (read_kept bytes) read).2

@@ -14,6 +14,8 @@ use Rattle.norm_parser.specs.Version.{after_version}
 use Rattle.schedule_turns.specs.declared.turn.Turn.{Turn}
 use Rattle.documents.specs.declared.document.ScriptCall.{ScriptCall}
 use Rattle.documents.specs.declared.document.Document.{Document}
+use Rattle.documents.specs.declared.limits.TheConstants.{DEFAULT_SLOTS, DEFAULT_FIRST, DEFAULT_LAST, DEFAULT_FUEL}
+use Rattle.documents.specs.DocumentLimits.{most_turns}
 use Rattle.documents.specs.TailLines.{Slots, slots_line, fuel_line, phases_line, script_line, call_line, turn_line}
 
 -- where a line after a document's text stands: after the text and maybe lines that set slots, after one of the other settings, in
@@ -46,16 +48,16 @@ pub record Tail : Type 0 where
 
 -- slots of a kind
 abbrev pub default_slots : ℕ
-default_slots = 64
+default_slots = DEFAULT_SLOTS
 
 abbrev pub default_first : ℕ
-default_first = 1
+default_first = DEFAULT_FIRST
 
 abbrev pub default_last : ℕ
-default_last = 1000000000
+default_last = DEFAULT_LAST
 
 abbrev pub default_fuel : ℕ
-default_fuel = 1000000
+default_fuel = DEFAULT_FUEL
 
 -- no line after a text with these kinds has been read: the settings are the defaults
 abbrev pub empty_tail : Version → List (List ℕ) → Tail
@@ -130,7 +132,7 @@ in_calls tail line word rest =
 abbrev pub in_schedule : Tail → List ℕ → List (List ℕ) → Result Tail ℕ
 in_schedule tail word rest = do
   turn ← turn_line word rest
-  room ← demand too_many (nat_lt (length tail.schedule) 100000)
+  room ← demand too_many (nat_lt (length tail.schedule) most_turns)
   Ok (record tail { schedule = tail.schedule ++ turn ∷ [] })
 
 -- the line that stands here, with its number, by its first word

@@ -12,7 +12,7 @@ use Rattle.schedule_turns.specs.declared.turn.StepKind.TheVariants as steps
 use Rattle.schedule_turns.specs.declared.turn.Turn.{Turn}
 use Rattle.schedule_turns.specs.declared.turn.Turn.TheVariants as turns
 use Rattle.documents.specs.declared.document.ScriptCall.{ScriptCall}
-use Rattle.documents.specs.DocumentLimits.{most_calls}
+use Rattle.documents.specs.DocumentLimits.{most_scripts, most_calls, most_caller, most_count}
 
 -- a kind is this one or a later one. Where the kind isn't declared that is the line's fault, and not its place
 abbrev pub is_from : ℕ → Option ℕ → Bool
@@ -68,7 +68,7 @@ script_line next words = do
   number ← number_at words
   done ← end_at number.1
   same ← demand form_fault (is_number next number.0)
-  demand too_many (nat_lt next 256)
+  demand too_many (nat_lt next most_scripts)
 
 -- the numbers that words spell, each as a number
 abbrev pub values_in : List (List ℕ) → Result (List ℕ) ℕ
@@ -117,8 +117,8 @@ abbrev pub counts_of : Option ℕ → Option ℕ → Result Counts ℕ
 counts_of caller count = do
   who ← value_of caller
   many ← value_of count
-  known ← up_to 4294967295 who
-  few ← up_to 1000000 many
+  known ← up_to most_caller who
+  few ← up_to most_count many
   Ok (record { caller = known; count = few })
 
 -- `C N`, where N is at least 1

@@ -3,14 +3,13 @@
 ghost use Rattle.line_words.specs.Answered.{Reads, Gives};
 ghost use Rattle.documents.specs.TailLines.{script_line, arguments_at, call_line};
 
-use crate::document::{MOST_CALLS, Numbers, ScriptCall};
+use crate::document::{Numbers, ScriptCall};
+use crate::limits::{MOST_CALLS, MOST_SCRIPTS};
 use line_words::fault::{Fault, Stop};
 use line_words::number::number_in;
 use line_words::words::{Words, name};
 use norm_lang::list::Listed;
 use std::alloc::Global;
-
-const MOST_SCRIPTS: usize = 256;
 
 /// `script C`, where C is the next script's number: at most 256 scripts.
 pub(crate) fn script(next: usize, words: &mut Words) -> Result<(), Fault>

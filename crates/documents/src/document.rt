@@ -7,21 +7,6 @@ use schedule_turns::Turn;
 /// Numbers, in order.
 pub type Numbers = Listed<u64>;
 
-/// How many calls a script has at most. A workload's callers make calls of a script, so no more than these either.
-pub const MOST_CALLS: u32 = 100_000;
-
-/// The slots of a kind in a document that doesn't set them.
-pub const DEFAULT_SLOTS: u64 = 64;
-
-/// The first phase in a document that doesn't set the phases.
-pub const DEFAULT_FIRST: u64 = 1;
-
-/// The last phase in a document that doesn't set the phases.
-pub const DEFAULT_LAST: u64 = 1_000_000_000;
-
-/// The steps that an operation may make in a document that doesn't set the fuel.
-pub const DEFAULT_FUEL: u64 = 1_000_000;
-
 /// A call of a script: the line that it stands at, the operation's name, and any count of arguments. Whether the text
 /// has such an operation, and with so many arguments, is not a question of the grammar.
 #[derive(Drop)]

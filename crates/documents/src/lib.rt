@@ -4,6 +4,7 @@
 mod calls;
 mod document;
 pub mod laws;
+pub mod limits;
 mod lines;
 mod reader;
 mod schedule;
@@ -11,8 +12,5 @@ mod sections;
 mod settings;
 mod tail;
 
-pub use document::{
-    DEFAULT_FIRST, DEFAULT_FUEL, DEFAULT_LAST, DEFAULT_SLOTS, Document, MOST_CALLS, Numbers,
-    Script, ScriptCall, Scripts, Turns,
-};
+pub use document::{Document, Numbers, Script, ScriptCall, Scripts, Turns};
 pub use reader::read_document;

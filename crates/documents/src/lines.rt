@@ -14,7 +14,7 @@ use line_words::words::Words;
 use oa_text::Line;
 use std::alloc::Global;
 
-fn add_line(tail: &mut Tail, alloc: Global, line: Line) -> Result<(), Stop>
+fn add_tail_line(tail: &mut Tail, alloc: Global, line: Line) -> Result<(), Stop>
     requires few_kinds { length tail.old.text.kinds ≤ 4 }
     ensures says { Gives (λ _. tail_shown tail.new) result (after_line (tail_shown tail.old) (line_shown line.entry)) }
     ensures kept { tail.new.text ≡ tail.old.text }
@@ -27,12 +27,12 @@ fn add_line(tail: &mut Tail, alloc: Global, line: Line) -> Result<(), Stop>
 }
 
 /// Adds what a line after the text says. A line that is skipped says nothing, and its bytes are judged.
-pub(crate) fn read_line(tail: &mut Tail, alloc: Global, line: Line) -> Result<(), ParseError>
+pub(crate) fn read_tail_line(tail: &mut Tail, alloc: Global, line: Line) -> Result<(), ParseError>
     requires few_kinds { length tail.old.text.kinds ≤ 4 }
     ensures says { Answers (λ _. tail_shown tail.new) result (at_line (line_shown line.entry).number (after_line (tail_shown tail.old) (line_shown line.entry))) }
     ensures kept { tail.new.text ≡ tail.old.text }
 {
-    match add_line(tail, alloc, line) {
+    match add_tail_line(tail, alloc, line) {
         Ok(()) => Ok(()),
         Err(stop) => Err(stop.at(line.number())),
     }

@@ -1,37 +1,30 @@
 //! The reader of documents.
 
 ghost use Rattle.std.specs.Prelude.{◌≡◌, ◌+◌, ◌<◌, ◌≤◌, ◌^◌, length, IfOk};
-ghost use Rattle.oa_text.specs.Lines.{lines_of, numbered};
-ghost use Rattle.norm_lang.specs.Limits.{IsWithinLimits};
+ghost use Rattle.oa_text.specs.Lines.{lines_of};
 ghost use Rattle.line_words.specs.Answered.{Answers};
-ghost use Rattle.norm_parser.specs.FrontRead.{from_line};
 ghost use Rattle.documents.specs.DocumentRead.{empty_tail, after_lines, document_read};
 ghost use Rattle.documents.specs.TailRead.{tail_if};
 ghost use Rattle.documents.specs.TailShown.{tail_shown};
 ghost use Rattle.documents.specs.DocumentLimits.{IsWithinDocumentLimits};
 
 use crate::document::Document;
-use crate::lines::read_line;
+use crate::lines::read_tail_line;
 use crate::tail::Tail;
 use line_words::fault::ParseError;
 use norm_lang::text::{Text, Version};
-use norm_parser::{after_version, numbered_version, parse_front};
-use oa_text::lines;
+use norm_parser::{Cursor, read_front, read_version};
 use std::alloc::Global;
 
-/// Adds what the lines from this one on say after a text.
-#[tactic(auto, using(crate::proofs::Reading::tail_passes, crate::proofs::Reading::tail_goes_on, crate::proofs::Reading::tail_stops, crate::proofs::Reading::few_kinds))]
-fn add_tail(tail: &mut Tail, alloc: Global, input: &[u8], line: u32) -> Result<(), ParseError>
-    requires few { length (lines_of input.now) + 1 < 2 ^ 32 }
+/// Adds what the lines after a text say.
+#[tactic(auto, using(crate::proofs::Reading::tail_over, crate::proofs::Reading::tail_goes_on, crate::proofs::Reading::tail_stops, crate::proofs::Reading::few_kinds))]
+fn add_tail(tail: &mut Tail, alloc: Global, cursor: &mut Cursor) -> Result<(), ParseError>
     requires few_kinds { length tail.old.text.kinds ≤ 4 }
-    ensures says { Answers (λ _. tail_shown tail.new) result (after_lines (tail_shown tail.old) (from_line line (numbered 1 (lines_of input.now)))) }
+    ensures says { Answers (λ _. tail_shown tail.new) result (after_lines (tail_shown tail.old) cursor.old.lines) }
     ensures kept { IfOk result (λ _. tail.new.text ≡ tail.old.text) }
 {
-    for next in lines(input) {
-        if next.number() < line {
-            continue;
-        }
-        read_line(tail, alloc, next)?;
+    'lines: while let Some(line) = cursor.take() {
+        read_tail_line(tail, alloc, line)?;
     }
     Ok(())
 }
@@ -46,34 +39,20 @@ fn tail_if(tail: Tail, read: Result<(), ParseError>) -> Result<Tail, ParseError>
     }
 }
 
-/// What the lines from this one on say after a text.
+/// What the lines after a text say.
 fn read_tail(
     alloc: Global,
-    input: &[u8],
-    line: u32,
     version: Version,
     text: Text,
+    cursor: &mut Cursor,
 ) -> Result<Tail, ParseError>
-    requires few { length (lines_of input.now) + 1 < 2 ^ 32 }
     requires few_kinds { length text.kinds ≤ 4 }
-    ensures says { Answers (λ tail. tail_shown tail) result (after_lines (empty_tail version text.kinds) (from_line line (numbered 1 (lines_of input.now)))) }
+    ensures says { Answers (λ tail. tail_shown tail) result (after_lines (empty_tail version text.kinds) cursor.old.lines) }
     ensures kept { IfOk result (λ tail. tail.text ≡ text) }
 {
     let mut tail = Tail::empty(alloc, version, text)?;
-    let read = add_tail(&mut tail, alloc, input, line);
+    let read = add_tail(&mut tail, alloc, cursor);
     tail_if(tail, read)
-}
-
-/// The document that the bytes spell, with a text within the limits.
-fn read_whole(alloc: Global, input: &[u8]) -> Result<Document, ParseError>
-    requires { length (lines_of input.now) + 1 < 2 ^ 32 }
-    ensures exact { Answers (λ document. document) result (document_read input.now) }
-    ensures text { IfOk result (λ document. IsWithinLimits document.text) }
-{
-    let (start, version) = after_version(b"oa", input)?;
-    let (text, line) = parse_front(alloc, input, start, version)?;
-    let tail = read_tail(alloc, input, line, numbered_version(version), text)?;
-    Ok(tail.into_document(alloc)?)
 }
 
 /// The document that the bytes spell: a line `oa 1` or `oa 2`, a text of that version, the settings, the scripts, and a
@@ -92,5 +71,9 @@ pub fn read_document(alloc: Global, input: &[u8]) -> Result<Document, ParseError
     ensures within { IfOk result (λ document. IsWithinDocumentLimits document) }
     ensures slots { IfOk result (λ document. length document.slots ≡ length document.text.kinds) }
 {
-    read_whole(alloc, input)
+    let mut cursor = Cursor::new(input);
+    let version = read_version(b"oa", &mut cursor)?;
+    let text = read_front(alloc, version, &mut cursor)?;
+    let tail = read_tail(alloc, version, text, &mut cursor)?;
+    Ok(tail.into_document(alloc)?)
 }

@@ -4,13 +4,10 @@ ghost use Rattle.line_words.specs.Answered.{Reads};
 ghost use Rattle.documents.specs.TailLines.{step_kind_in, step_kind_at, counts_of, counts_at, upto_line, turn_line};
 ghost use Rattle.documents.specs.TailShown.{counts_shown};
 
+use crate::limits::{MOST_CALLER, MOST_COUNT};
 use line_words::fault::Fault;
 use line_words::words::{Words, up_to, value_of};
 use schedule_turns::{StepKind, Turn};
-
-const MOST_CALLER: u64 = 4_294_967_295;
-
-const MOST_COUNT: u64 = 1_000_000;
 
 /// The caller of a turn and its count, within the limits.
 #[derive(Clone, Copy)]

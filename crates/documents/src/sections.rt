@@ -7,14 +7,13 @@ ghost use Rattle.documents.specs.DocumentRead.{begins, in_settings, in_calls, in
 ghost use Rattle.documents.specs.TailShown.{tail_shown};
 
 use crate::calls::{call, script};
+use crate::limits::MOST_TURNS;
 use crate::schedule::turn;
 use crate::settings::{both_phases, fuel, slots_of_kind};
 use crate::tail::{Stage, Tail};
 use line_words::fault::{Fault, Stop};
 use line_words::words::Words;
 use std::alloc::Global;
-
-const MOST_TURNS: usize = 100_000;
 
 /// The next script, or the schedule.
 fn begins(tail: &mut Tail, alloc: Global, word: &[u8], words: &mut Words) -> Result<(), Stop>

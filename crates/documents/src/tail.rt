@@ -4,10 +4,8 @@ ghost use Rattle.std.specs.Prelude.{◌≡◌, [], length, replicate, IfOk};
 ghost use Rattle.documents.specs.DocumentRead.{default_slots, empty_tail, is_after_text, may_set_fuel, with_slots, whole_scripts, with_script, with_schedule, document_of};
 ghost use Rattle.documents.specs.TailShown.{stage_shown, tail_shown, slots_shown};
 
-use crate::document::{
-    DEFAULT_FIRST, DEFAULT_FUEL, DEFAULT_LAST, DEFAULT_SLOTS, Document, Numbers, Script, Scripts,
-    Turns,
-};
+use crate::document::{Document, Numbers, Script, Scripts, Turns};
+use crate::limits::{DEFAULT_FIRST, DEFAULT_FUEL, DEFAULT_LAST, DEFAULT_SLOTS};
 use crate::settings::Slots;
 use norm_lang::list::Listed;
 use norm_lang::text::{Text, Version};

@@ -16,9 +16,10 @@ ghost use Rattle.core_entries.specs.Callers.{BelongsTo, BelongsToAll, BelongsToS
 ghost use Rattle.epoch_core.specs.Settings.{entry_setting};
 
 use crate::setting::setting_on;
-use caller_parts::{Reclamation, Reply};
+use caller_parts::Reclamation;
 use core_entries::{Entry, Runs};
 use norm_check::Normal;
+use norm_lang::SourceReply;
 use oa_words::shape::Shape;
 use phase_pools::access::Access;
 use std::alloc::{AllocError, Global};
@@ -128,7 +129,7 @@ impl EpochEntry {
     }
 
     /// The replies in order.
-    pub fn replies(&self) -> &[Reply]
+    pub fn replies(&self) -> &[SourceReply]
         ensures { result.now ≡ map reply_of self.now.core.replies }
     {
         self.entry.replies()

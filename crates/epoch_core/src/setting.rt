@@ -61,7 +61,7 @@ fn slots_at(shape: &Shape, kind: u32) -> u64
 
 /// The same shape.
 #[tactic(auto, using(crate::proofs::Making::is_copied, crate::proofs::Making::never_shapeless))]
-fn copy_of(shape: &Shape) -> Shape
+pub fn copy_of(shape: &Shape) -> Shape
     ensures { result ≡ shape.now }
 {
     shape.kept();

@@ -36,7 +36,7 @@ use Rattle.oa_simulation.specs.sim_relation.Points.{IsProperPoint}
 use Rattle.oa_simulation.proofs.sim_relation.Codes.{blank}
 use Rattle.oa_simulation.proofs.sim_steps.Walks.Accessing.{access_in_method}
 use Rattle.oa_simulation.specs.sim_relation.Callers.{spot_of}
-use Rattle.epoch_relation.specs.Callers.{Caller, IsSafe}
+use Rattle.epoch_relation.specs.Callers.{Caller, IsSafe, Base}
 use Rattle.epoch_relation.specs.Walking.{IsPlan, Trail, Walks, Gets, Pairs, StandsAt}
 use Rattle.epoch_relation.specs.Keeping.{point_at}
 use Rattle.epoch_relation.proofs.Bare.{in_source, undirected}
@@ -118,6 +118,23 @@ not_old old list n up new = of (has n old) refl where
   of false is = is
   of true is = absurd (let z : true ≡ false = sym (up is) ∙ new in cc)
 
+-- what is clear, and null or published, is safe
+pub clear_safe : (t : Plan) (s : Shared) (c : ℕ) (x : Caller) (n : ℕ) → Clear s x n → (n ≡ 0) ⊎ (s.public n ≡ true) → IsSafe t s c x n
+clear_safe t s c x n (inl z) shown = inl z
+clear_safe t s c x n (inr clear) (inl z) = inl z
+clear_safe t s c x n (inr clear) (inr public) = inr (inr (public, clear n (itself n)))
+
+named : (v : Value) → (name_of v ≡ 0) ⊎ ((reference : Reference) × (v ≡ Node reference) × (reference.node ≡ name_of v))
+named (Number n) = inl refl
+named (Node reference) = inr (reference, refl, refl)
+
+-- from a root
+pub root_clear : (t : Plan) (s : Shared) (since : ℕ → ℕ) (c : ℕ) (x : Caller) (z : ℕ) → Base t s since c x → IsProperPoint t.text (point_at s x) → Clear s x (top s z)
+root_clear t s since c x z base proper = of (named (value_at s.source.roots z)) where
+  of : (name_of (value_at s.source.roots z) ≡ 0) ⊎ ((reference : Reference) × (value_at s.source.roots z ≡ Node reference) × (reference.node ≡ name_of (value_at s.source.roots z))) → Clear s x (top s z)
+  of (inl none) = inl none
+  of (inr node) = inr (λ other reaches. not_old x.old s.source.retired other (base.before other) (proper.roots z other node.0 node.1 (subst (λ (n : ℕ). Reaches s.source n other) (sym node.2) reaches)))
+
 pub record Owing (t : Plan) (s : Shared) (since : ℕ → ℕ) (c : ℕ) (x : Caller) (m : Trail t) : Type 0 where
   pub standing : Standing t s since c x
   pub walks : Walks t s c x (spot_of x.entry.hand) m
@@ -130,17 +147,6 @@ module _ (t : Plan) (s : Shared) (since : ℕ → ℕ) (c : ℕ) (x : Caller) (m
   got_clear n (inl z) = inl z
   got_clear n (inr got) = inr (λ other reaches. not_old x.old x.watch.old other (w.gets.older other) (w.proper.got w.runs n other got reaches))
 
-  named : (v : Value) → (name_of v ≡ 0) ⊎ ((reference : Reference) × (v ≡ Node reference) × (reference.node ≡ name_of v))
-  named (Number n) = inl refl
-  named (Node reference) = inr (reference, refl, refl)
-
-  -- from a root
-  pub root_clear : (z : ℕ) → Clear s x (top s z)
-  root_clear z = of (named (value_at s.source.roots z)) where
-    of : (name_of (value_at s.source.roots z) ≡ 0) ⊎ ((reference : Reference) × (value_at s.source.roots z ≡ Node reference) × (reference.node ≡ name_of (value_at s.source.roots z))) → Clear s x (top s z)
-    of (inl none) = inl none
-    of (inr node) = inr (λ other reaches. not_old x.old s.source.retired other (w.standing.base.before other) (w.proper.roots z other node.0 node.1 (subst (λ (n : ℕ). Reaches s.source n other) (sym node.2) reaches)))
-
   -- along a field
   pub link_clear : (n g : ℕ) → Clear s x n → Clear s x (link s n g)
   link_clear n g (inl z) = inl (ap (λ (n : ℕ). link s n g) z ∙ null_link t s since g w.standing.holds)
@@ -148,12 +154,6 @@ module _ (t : Plan) (s : Shared) (since : ℕ → ℕ) (c : ℕ) (x : Caller) (m
     of : (name_of (field_of s.source n g) ≡ 0) ⊎ ((reference : Reference) × (field_of s.source n g ≡ Node reference) × (reference.node ≡ name_of (field_of s.source n g))) → Clear s x (link s n g)
     of (inl none) = inl none
     of (inr node) = inr (λ other reaches. clear other (onward n node.0.node other (g, node.0.marked, node.1) (subst (λ (k : ℕ). Reaches s.source k other) (sym node.2) reaches)))
-
-  -- what is clear, and null or published, is safe
-  pub clear_safe : (n : ℕ) → Clear s x n → (n ≡ 0) ⊎ (s.public n ≡ true) → IsSafe t s c x n
-  clear_safe n (inl z) shown = inl z
-  clear_safe n (inr clear) (inl z) = inl z
-  clear_safe n (inr clear) (inr public) = inr (inr (public, clear n (itself n)))
 
   -- what is linked from it is null, or published and not retired before
   pub link_public : (n g : ℕ) → Clear s x n → (link s n g ≡ 0) ⊎ ((s.public (link s n g) ≡ true) × (has (link s n g) x.old ≡ false))
@@ -164,7 +164,7 @@ module _ (t : Plan) (s : Shared) (since : ℕ → ℕ) (c : ℕ) (x : Caller) (m
     of (inr clear) (inr public) = inr (public, clear (link s n g) (itself (link s n g)))
 
   pub link_safe : (n g : ℕ) → Clear s x n → IsSafe t s c x (link s n g)
-  link_safe n g clear = clear_safe (link s n g) (link_clear n g clear) (w.standing.holds.holds.store.link n g)
+  link_safe n g clear = clear_safe t s c x (link s n g) (link_clear n g clear) (w.standing.holds.holds.store.link n g)
 
   -- a register of a generator holds null or what the run has got
   pub register_got : m.walk.method.wrapup ≡ false → (r : ℕ) → IsGot x.watch.got (node_in m.mirror r)

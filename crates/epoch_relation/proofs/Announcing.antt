@@ -16,7 +16,8 @@ use Rattle.epoch_relation.specs.Callers.{Caller, Base, IsAnnounced, Changes}
 use Rattle.epoch_relation.specs.Laws.{SafeIsResident, RegistersAreResident}
 use Rattle.run_ahead.specs.Agreeing.{node_in}
 use Rattle.oa_simulation.proofs.sim_relation.Names.{null_resident}
-use Rattle.epoch_relation.proofs.Rising.{fine_risen, goes_risen, own_risen}
+use Rattle.oa_simulation.proofs.sim_steps.Pools.Phases.{fine_risen, goes_risen}
+use Rattle.epoch_relation.proofs.Rising.{own_risen}
 
 -- a caller stores a word in its own warning word
 abbrev pub owned : Shared → ℕ → ℕ → Shared
@@ -67,6 +68,10 @@ base_announced t s since c p x x' f b number cradles old = record {
 
 -- ---- what is known of another caller stays
 
+pub since_below : (word since phase : ℕ) → word ≢ 0 → reckoned_at word since phase ≤ phase → since ≤ phase
+since_below zero since phase some le = absurd (some refl)
+since_below (suc p) since phase some le = le
+
 pub stable_base : (t : Plan) (c d : ℕ) (s : Shared) (since : ℕ → ℕ) (s' : Shared) (since' : ℕ → ℕ) (x : Caller) → Changes t c s since s' since' → EpochHolds t s since → d ≢ c → Base t s since d x → Base t s' since' d x
 stable_base t c d s since s' since' x g f ne b = record {
   number = b.number;
@@ -79,10 +84,7 @@ stable_base t c d s since s' since' x g f ne b = record {
       (g.goes.tag n p is);
   before = λ n is. g.retired n (b.before n is);
   cradle = λ k some. (g.goes.held (cradle_of x.entry k) d k ne (b.cradle k some)).0;
-} where
-  since_below : (word since phase : ℕ) → word ≢ 0 → reckoned_at word since phase ≤ phase → since ≤ phase
-  since_below zero since phase some le = absurd (some refl)
-  since_below (suc p) since phase some le = le
+}
 
 -- ---- what an announced caller may hold is resident
 

@@ -9,7 +9,7 @@ use Rattle.caller_parts.specs.declared.routine.AnnounceReason.TheVariants.{Begin
 use Rattle.caller_parts.specs.declared.routine.Announcing.{Announcing}
 use Rattle.caller_parts.specs.declared.routine.Announcing.TheVariants as announces
 use Rattle.caller_parts.specs.declared.routine.Routine.{Routine}
-use Rattle.caller_parts.specs.declared.routine.Routine.TheVariants.{Idle, LoadSeen, At, InList, Retires, Restarts, Clears, Claims, Zeroes, Announces}
+use Rattle.caller_parts.specs.declared.routine.Routine.TheVariants.{Idle, At, InList, Retires, Claims, Zeroes, Announces}
 use Rattle.caller_parts.specs.Operands.{list_of}
 use Rattle.caller_steps.specs.Entries.{is_idle, instr_in}
 use Rattle.run_ahead.specs.Standing.{first_spot, run_from}
@@ -51,17 +51,15 @@ module _ (t : Plan) (s : Shared) (since : ℕ → ℕ) (d : ℕ) (x : Caller) wh
 
   by_routine : (r : Routine) → HoldsAt t s since d x r → HasAbout (replies_of x.entry) x.source
   by_routine Idle w = inl (ap (λ (c : SourceCaller). c.replies) w)
-  by_routine (LoadSeen why) w = absurd w
   by_routine At w = running w
   by_routine (InList k) w = in_list k w
   by_routine (Retires retirement onward.Next) w =
       about (replies_of x.entry) w.1.0.walk.call x.source _ (replies_are w.1.0.walk.call (call_of x.entry) w.1.1.call) w.1.3 (at_stand w.1.0.walk.method.op w.1.0.walk.method.wrapup w.1.0.walk.started x.entry.hand.accessed w.1.0.walk.call _)
   by_routine (Retires retirement (onward.List k)) w = behind (k + 1) (nat_lt (k + 1) (length (list_of (instr_in t.target x.entry)))) w.1
-  by_routine Restarts w = absurd w
-  by_routine (Clears next) w = absurd w
   by_routine (Claims claim) w = claiming (has_withdrawn claim.stage claim.sweeps) w.2
   by_routine (Zeroes k field) w = running w.2
   by_routine (Announces a) w = announcing a w
+  by_routine _ w = absurd w
 
   pub running_agrees : CallerHolds t s since d x → HasAbout (replies_of x.entry) x.source
   running_agrees told = by_routine x.entry.routine told.spot

@@ -43,42 +43,10 @@ in_source same method at i is = plain_of (slice_get (source_in method) at) i (sy
 -- where no jump is taken elsewhere nothing changes
 pub undirected : (i : Instr) → redirected (λ at. at) i ≡ i
 undirected (instr.Set d n) = refl
-undirected (instr.Mov d a) = refl
-undirected (instr.Add d a b) = refl
-undirected (instr.Sub d a b) = refl
-undirected (instr.Rem d a n) = refl
-undirected (instr.Null d) = refl
-undirected (instr.Mark d a) = refl
-undirected (instr.Unmark d a) = refl
-undirected (instr.Jump l) = refl
-undirected (instr.IfEq a b l) = refl
-undirected (instr.IfLess a b l) = refl
-undirected (instr.IfMarked a l) = refl
-undirected (instr.LoadRoot d x) = refl
-undirected (instr.LoadPick d x n a) = refl
-undirected (instr.LoadField d a f) = refl
-undirected (instr.New d kind) = refl
-undirected (instr.Put a f b) = refl
-undirected (instr.Cas entry l) = refl
-undirected (instr.Commit entries) = refl
-undirected (instr.Return a) = refl
-undirected instr.ReturnNone = refl
-undirected instr.Again = refl
+undirected _ = refl
 
 -- whether an instruction is local doesn't depend on registers
 pub local_none : (i : Instr) (at : ℕ) (registers other : Registers) → local_step i at registers ≡ None → local_step i at other ≡ None
-local_none (instr.Set d n) at registers other is = absurd cc
-local_none (instr.Mov d a) at registers other is = absurd cc
-local_none (instr.Add d a b) at registers other is = absurd cc
-local_none (instr.Sub d a b) at registers other is = absurd cc
-local_none (instr.Rem d a n) at registers other is = absurd cc
-local_none (instr.Null d) at registers other is = absurd cc
-local_none (instr.Mark d a) at registers other is = absurd cc
-local_none (instr.Unmark d a) at registers other is = absurd cc
-local_none (instr.Jump l) at registers other is = absurd cc
-local_none (instr.IfEq a b l) at registers other is = absurd cc
-local_none (instr.IfLess a b l) at registers other is = absurd cc
-local_none (instr.IfMarked a l) at registers other is = absurd cc
 local_none (instr.LoadRoot d x) at registers other is = refl
 local_none (instr.LoadPick d x n a) at registers other is = refl
 local_none (instr.LoadField d a f) at registers other is = refl
@@ -89,3 +57,4 @@ local_none (instr.Commit entries) at registers other is = refl
 local_none (instr.Return a) at registers other is = refl
 local_none instr.ReturnNone at registers other is = refl
 local_none instr.Again at registers other is = refl
+local_none _ at registers other is = absurd cc

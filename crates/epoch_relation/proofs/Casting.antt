@@ -1,16 +1,14 @@
 -- An auxiliary exchange, whole: both sides make it or neither does, and the caller goes on, or retires first.
-use Rattle.std.proofs.Common.{ℕ, zero, suc, ◌≡◌, ◌≢◌, ◌==◌, ◌+◌, ◌<◌, ◌∙◌, ◌⊎◌, ◌||◌, Bool, true, false, [], ◌∷◌, Option, Some, None, arith, inl, inr, sym, ap, subst, refl, if◌then◌else◌}
-use Rattle.std.specs.Prelude.{slice_get, IsTrue, is_some}
+use Rattle.std.proofs.Common.{ℕ, suc, ◌≡◌, ◌==◌, ◌+◌, ◌<◌, ◌∙◌, ◌⊎◌, ◌||◌, Bool, true, false, [], ◌∷◌, Option, Some, None, arith, inl, inr, sym, ap, subst, refl, if◌then◌else◌}
+use Rattle.std.specs.Prelude.{slice_get, IsTrue}
 use Rattle.std.specs.List.{list_any}
-use Rattle.std.proofs.lemmas.Bool.{or_parts}
 use Rattle.std.proofs.lemmas.Bool.Decides.{nat_tests}
 use Rattle.norm_lang.specs.declared.text.CasEntry.{CasEntry}
-use Rattle.norm_lang.specs.declared.text.FieldKind.{FieldKind}
 use Rattle.norm_lang.specs.declared.text.Instr.{Instr}
 use Rattle.norm_lang.specs.declared.text.Instr.TheVariants as instr
 use Rattle.norm_lang.specs.declared.text.Reg.{Reg}
 use Rattle.norm_lang.specs.declared.text.Reg.TheVariants.{Num, Ref}
-use Rattle.norm_lang.specs.InstructionRules.{place_kind, has_wrong_operand, has_wrong_object, is_unlike}
+use Rattle.norm_lang.specs.InstructionRules.{has_wrong_operand}
 use Rattle.norm_lang.specs.Local.{Spot}
 use Rattle.norm_lang.specs.RegisterUse.{same_register, operands_of, registers_named}
 use Rattle.target_code.specs.declared.target.TargetInstr.TheVariants.{Plain}
@@ -18,18 +16,14 @@ use Rattle.target_laws.specs.Methods.{code_in}
 use Rattle.target_laws.proofs.Entries.{reads_entry}
 use Rattle.target_laws.proofs.Forms.{instructions_are_in_form}
 use Rattle.target_laws.proofs.FreshRules.{open_reads_are_not_fresh}
-use Rattle.oa_words.specs.Words.{Word, Warning}
 use Rattle.phase_pools.specs.Accesses.{word_of}
 use Rattle.phase_pools.specs.Pools.{retire_begun}
 use Rattle.source_machine.specs.declared.event.SourceEvent.TheVariants as events
-use Rattle.source_machine.specs.declared.state.Value.{Value}
 use Rattle.source_machine.specs.declared.state.Memory.{Memory}
-use Rattle.source_machine.specs.Memory.{value_in, exchange, auxiliary, with_name_retired}
-use Rattle.source_machine.specs.Proper.{has, IsOnce}
+use Rattle.source_machine.specs.Memory.{value_in, exchange, auxiliary}
+use Rattle.source_machine.specs.Proper.{IsOnce}
 use Rattle.source_machine.specs.Step.{caller_turn}
-use Rattle.source_machine.proofs.Names.{has_push}
-use Rattle.source_machine.proofs.Places.{put_same, put_other}
-use Rattle.caller_parts.specs.Operands.{succeeds, to_retire}
+use Rattle.caller_parts.specs.Operands.{to_retire}
 use Rattle.caller_parts.specs.declared.routine.AfterRetire.TheVariants as onward
 use Rattle.caller_steps.specs.Wants.{exchange_wanted}
 use Rattle.caller_steps.specs.Signs.{Accesses}
@@ -41,38 +35,30 @@ use Rattle.caller_parts.specs.declared.setting.Reclamation.TheVariants.{Epochs}
 use Rattle.run_ahead.specs.Agreeing.{Changes, node_in}
 use Rattle.run_ahead.specs.Known.{IsGot}
 use Rattle.run_ahead.specs.Standing.{stands_at, run_from}
-use Rattle.run_ahead.specs.Typed.{IsTyped, IsRegisterFor}
 use Rattle.run_ahead.proofs.Changing.{nothing_changes}
-use Rattle.run_ahead.proofs.TypedMemory.{register_for, exchange_typed}
-use Rattle.oa_simulation.specs.sim_relation.Views.{Plan, Held, Living, Retiring, Shared, Resident, Apart, name_of, link}
+use Rattle.oa_simulation.specs.sim_relation.Views.{Plan, Shared, Resident, Apart, name_of, link}
 use Rattle.oa_simulation.specs.sim_relation.Callers.{Shown, spot_of, IsRetiring}
 use Rattle.oa_simulation.specs.sim_relation.Points.{IsProperPoint, StaysProper, played, makes as plays_makes, done}
 use Rattle.oa_simulation.specs.sim_relation.Steps.{after_access}
-use Rattle.oa_simulation.proofs.sim_relation.Names.{has_slot_of, residents_apart}
+use Rattle.oa_simulation.proofs.sim_relation.Names.{KeepsNames, residents_apart, shown_kept}
 use Rattle.oa_simulation.proofs.sim_relation.Playing.{plays_first}
-use Rattle.oa_simulation.proofs.sim_steps.Pools.Slots.{apart}
-use Rattle.oa_simulation.proofs.sim_steps.Exchanges.Entering.{Writes, living}
-use Rattle.oa_simulation.proofs.sim_steps.Exchanges.Writing.{dropped, fine_dropped, goes_dropped, goes_compose}
-use Rattle.oa_simulation.proofs.sim_steps.Exchanges.Placing.{place_memory, placed, place_there, place_writes, words_written, to_drop, once_new, Makes, makes}
+use Rattle.oa_simulation.proofs.sim_steps.Exchanges.Entering.{published_if, public_still}
 use Rattle.oa_simulation.proofs.sim_steps.Exchanges.Exchanging.{Offers}
-use Rattle.oa_simulation.proofs.sim_steps.Exchanges.Dropping.{Drops, drops, untagged}
 use Rattle.oa_simulation.proofs.sim_steps.Exchanges.Offering.{any_before, replacement_at, object_is}
-use Rattle.epoch_relation.specs.Reckoned.{reckoned_words, reckoned, EpochHolds}
-use Rattle.epoch_relation.specs.Callers.{Caller, Base, Changes as SharedChanges}
+use Rattle.epoch_relation.specs.Reckoned.{EpochHolds}
+use Rattle.epoch_relation.specs.Callers.{Caller, Base}
 use Rattle.epoch_relation.specs.Walking.{IsPlan, Trail, Walks, Running}
 use Rattle.epoch_relation.specs.Keeping.{point_at, KeptWith, Ends, Comes}
 use Rattle.run_ahead.proofs.Plain.{kind_right}
-use Rattle.epoch_relation.proofs.Rising.{with_words}
 use Rattle.epoch_relation.proofs.Local.{Standing, erased_of, walks_on, safe_here, safe_apart}
 use Rattle.epoch_relation.proofs.Moving.{changed, base_changed, walks_changed, gets_changed}
-use Rattle.epoch_relation.proofs.Putting.{gets_past, value_safe}
+use Rattle.epoch_relation.proofs.Putting.{gets_past}
 use Rattle.epoch_relation.proofs.Settling.{settles_ends}
-use Rattle.epoch_relation.proofs.Storing.{holds_stored, goes_words}
-use Rattle.epoch_relation.proofs.Same.{Keeps, walks_kept, gets_kept}
-use Rattle.epoch_relation.proofs.Exchanging.{reckoned_offers, both_succeed}
+use Rattle.epoch_relation.proofs.Same.{walks_kept, gets_kept, base_kept}
 use Rattle.epoch_relation.proofs.Failing.{operand_got, cas_offers, failure_kept}
-use Rattle.epoch_relation.proofs.Succeeding.{reckoned_place, place_phase, place_warning}
+use Rattle.epoch_relation.proofs.Succeeding.{Tries, Made, succeeded, made_by}
 use Rattle.epoch_relation.proofs.Accessing.{Turned, turns, asked_at, stands_marked, Owing, got_clear, register_got, link_safe}
+use Rattle.epoch_relation.proofs.Stopping.{ends_quiet}
 
 -- an operand is null or was published
 operand_shown : (t : Plan) (s : Shared) (since : ℕ → ℕ) (c : ℕ) (x : Caller) (m : Trail t) (entry : CasEntry) (l r : ℕ) → Owing t s since c x m → slice_get (code_in m.walk.method) x.entry.hand.at ≡ Some (Plain (instr.Cas entry l))
@@ -92,22 +78,6 @@ value_shown : (t : Plan) (s : Shared) (since : ℕ → ℕ) (c : ℕ) (x : Calle
 value_shown t s since c x m entry l (Num r) w is operand = inl refl
 value_shown t s since c x m entry l (Ref r) w is operand = operand_shown t s since c x m entry l r w is operand
 
--- what is shared after an exchange of the caller that succeeded, in both machines
-pub record Made (t : Plan) (s s' : Shared) (since : ℕ → ℕ) (c : ℕ) (x : Caller) (m : Trail t) (entry : CasEntry) : Type 0 where
-  pub holds : EpochHolds t s' since
-  pub goes : SharedChanges t c s since s' since
-  pub memory : s'.memory ≡ after_access s.memory (exchange_wanted t.target.fields entry x.entry.hand.registers)
-  pub present : s'.present ≡ s.present
-  pub unused : s'.unused ≡ s.unused
-  pub makes : exchange t.text.fields entry m.mirror s.source ≡ Some s'.source
-  pub keeps : Keeps t c s s'
-  pub links : (n g : ℕ) → (link s' n g ≡ link s n g) ⊎ Resident t s (link s' n g)
-  pub base : Base t s' since c x
-
-typed_before : (t : Plan) (n : ℕ) (memory : Memory) → IsTyped t.text (with_name_retired n memory) → IsTyped t.text memory
-typed_before t zero memory typed = typed
-typed_before t (suc n) memory typed = record { roots = typed.roots; nodes = typed.nodes; null = typed.null }
-
 module _ (t : Plan) (c : ℕ) (s : Shared) (since : ℕ → ℕ) (x : Caller) (entry : CasEntry) (l : ℕ) (plan : IsPlan t) (f : EpochHolds t s since) (b : Base t s since c x) (below : c < t.setting.sizes.callers) (r : Running t s c x)
     (stays : StaysProper t.text c (point_at s x)) (is : slice_get (code_in r.0.walk.method) x.entry.hand.at ≡ Some (Plain (instr.Cas entry l))) where
   st : Standing t s since c x
@@ -122,18 +92,6 @@ module _ (t : Plan) (c : ℕ) (s : Shared) (since : ℕ → ℕ) (x : Caller) (e
   abbrev m' : Trail t
   m' = record { walk = r.0.walk; path = x.entry.hand.at ∷ r.0.path; mirror = r.0.mirror }
 
-  abbrev q : Shared
-  q = reckoned s since
-
-  abbrev v : Value
-  v = value_in r.0.mirror entry.replacement
-
-  abbrev words : Word → ℕ
-  words = place_memory t s.memory r.0.mirror entry.place v
-
-  abbrev p : Shared
-  p = placed t q r.0.mirror entry.place v
-
   module _ (after : Memory) (some : exchange t.text.fields entry r.0.mirror s.source ≡ Some after) where
     turn : Turned t s c 0 x r.0 i next r.0.mirror
     turn = turns t s c 0 x r.0 i next r.0.mirror plan r.1 r.3 is refl refl (ap (λ (o : Option Memory). (auxiliary o s.source x.entry.hand.at l r.0.mirror).spot) some)
@@ -147,34 +105,6 @@ module _ (t : Plan) (c : ℕ) (s : Shared) (since : ℕ → ℕ) (x : Caller) (e
     right : has_wrong_operand t.text.fields t.text.roots entry ≡ false
     right = kind_right r.0.walk.method (erased_of t plan) x.entry.hand.at i is
 
-    kind : (kind : FieldKind) × (place_kind t.text.fields t.text.roots entry.place ≡ Some kind) × IsRegisterFor kind entry.expected
-    kind = register_for (place_kind t.text.fields t.text.roots entry.place) entry.expected (or_parts (is_unlike (place_kind t.text.fields t.text.roots entry.place) entry.expected) _ (or_parts (has_wrong_object entry.place) _ right).1).0
-
-    made : Makes t q r.0.mirror entry after
-    made = makes t q r.0.mirror entry after some
-
-    typed : IsTyped t.text after
-    typed = exchange_typed t.text entry r.0.mirror s.source after right offered.asked some f.holds.typed
-
-    succeeded : succeeds entry x.entry.hand.registers (s.memory (word_of (exchange_wanted t.target.fields entry x.entry.hand.registers))) ≡ true
-    succeeded = both_succeed t s since c x.entry.hand.registers r.0.mirror entry plan f offered ∙ ap is_some some
-
-    offered_q : Offers t q c x.entry.hand.registers r.0.mirror entry
-    offered_q = reckoned_offers t s since c x.entry.hand.registers r.0.mirror entry offered
-
-    writes : Writes t c q (place_memory t q.memory r.0.mirror entry.place v) p.source.nodes p.source.roots
-    writes = place_writes t q c r.0.mirror entry.place v plan.null f.holds
-        (place_there t q c x.entry.hand.registers r.0.mirror (name_of (value_in r.0.mirror entry.expected)) entry.place kind.0 made.found f.holds offered_q.place offered_q.inside kind.1 made.finds) (safe_here t s since c x (name_of v) st (value_safe t s c x (spot_of x.entry.hand) r.0 entry.replacement r.1))
-        (value_shown t s since c x r.0 entry l entry.replacement owes is (replacement_at entry.place entry))
-        (typed_before t (to_drop entry.retire r.0.mirror) p.source (subst (λ (memory : Memory). IsTyped t.text memory) made.after_is typed))
-
-    dropping : Drops t q x.entry.hand.registers r.0.mirror entry.retire
-    dropping = drops t q c x.entry.hand.registers r.0.mirror entry made.found plan.null f.holds offered_q made.finds made.same (λ k g at. operand_shown t s since c x r.0 entry l k owes is (object_is (Ref k) g entry at))
-        (instructions_are_in_form t.target t.text plan.normal plan.erases r.0.walk.method x.entry.hand.at i is).retired
-
-    memory_is : words ≡ after_access s.memory (exchange_wanted t.target.fields entry x.entry.hand.registers)
-    memory_is = sym (words_written t s c x.entry.hand.registers r.0.mirror entry offered succeeded)
-
     -- no name is retired twice by it, since the text is proper
     once : IsOnce after.retired
     once =
@@ -182,77 +112,18 @@ module _ (t : Plan) (c : ℕ) (s : Shared) (since : ℕ → ℕ) (x : Caller) (e
         let proper : IsProperPoint t.text point = stays (Accesses ∷ []) point (plays_makes Accesses [] (point_at s x) point turn.enabled (done point)) in
         subst IsOnce (ap (λ (memory : Memory). memory.retired) (turn.memory ∙ ap (λ (o : Option Memory). (auxiliary o s.source x.entry.hand.at l r.0.mirror).memory) some)) proper.once
 
-    -- it retires nothing
-    left : to_drop entry.retire r.0.mirror ≡ 0 → Made t s (with_words p words) since c x r.0 entry
-    left none = record {
-      holds = holds_stored t s p since words f (reckoned_place t s.memory since r.0.mirror entry.place v) (place_phase t s.memory r.0.mirror entry.place v) (place_warning t s.memory r.0.mirror entry.place v) f.unguarded writes.shared_holds;
-      goes = record {
-        goes = goes_words t c q p (reckoned_words words since) (reckoned_place t s.memory since r.0.mirror entry.place v) writes.goes;
-        warning = λ d ne. place_warning t s.memory r.0.mirror entry.place v d;
-        stays = λ d ne. refl;
-        retired = λ n is. is;
-      };
-      memory = memory_is;
-      present = refl;
-      unused = refl;
-      makes = some ∙ ap Some (made.after_is ∙ ap (λ (n : ℕ). with_name_retired n p.source) none);
-      keeps = record { held = λ j k own. (own, refl); back = λ n k own here. (own, here); public = λ n is. is };
-      links = writes.links;
-      base = record { number = b.number; old = λ a. b.old (λ z. a (place_warning t s.memory r.0.mirror entry.place v c ∙ z)); before = b.before; cradle = b.cradle };
+    tries : Tries t s since c x r.0.mirror entry 0 after
+    tries = record {
+      standing = st;
+      offers = offered;
+      right = right;
+      publishes = inl refl;
+      known = shown_kept s (published_if t s 0) (name_of (value_in r.0.mirror entry.replacement)) (public_still t s 0) (value_shown t s since c x r.0 entry l entry.replacement owes is (replacement_at entry.place entry));
+      object = λ k g at. operand_shown t s since c x r.0 entry l k owes is (object_is (Ref k) g entry at);
+      kin = (instructions_are_in_form t.target t.text plan.normal plan.erases r.0.walk.method x.entry.hand.at i is).retired;
+      makes = some;
+      once = once;
     }
-
-    -- it retires a name
-    dropped_one : (n : ℕ) → to_drop entry.retire r.0.mirror ≡ suc n → Made t s (with_words (dropped t p c (suc n)) words) since c x r.0 entry × IsRetiring (with_words (dropped t p c (suc n)) words) c (t.home (suc n)) (suc n) None × (t.home (suc n) ≢ 0)
-    dropped_one n at = (
-      record {
-        holds = holds_stored t s (dropped t p c (suc n)) since words f (reckoned_place t s.memory since r.0.mirror entry.place v) (place_phase t s.memory r.0.mirror entry.place v) (place_warning t s.memory r.0.mirror entry.place v) f.unguarded
-            (fine_dropped t p c (suc n) writes.shared_holds full here alive public (subst (λ (memory : Memory). IsTyped t.text memory) after_is typed));
-        goes = record {
-          goes = goes_words t c q (dropped t p c (suc n)) (reckoned_words words since) (reckoned_place t s.memory since r.0.mirror entry.place v) (goes_compose t c q p (dropped t p c (suc n)) writes.goes (goes_dropped t p c (suc n) alive) writes.links (λ k. refl));
-          warning = λ d ne. place_warning t s.memory r.0.mirror entry.place v d;
-          stays = λ d ne. refl;
-          retired = λ k was. has_push k s.source.retired (suc n) ∙ rw was refl;
-        };
-        memory = memory_is;
-        present = refl;
-        unused = refl;
-        makes = some ∙ ap Some after_is;
-        keeps = record { held = λ j k own. (put_other s.owner (t.home (suc n)) j (Retiring c) (apart s j (t.home (suc n)) (Held c k) Living own alive (λ z. cc)) ∙ own, refl); back = λ k j own here. (owned_of (t.home k) j (t.home k == t.home (suc n)) own, here); public = λ n is. is };
-        links = writes.links;
-        base = record {
-          number = b.number;
-          old = λ a. b.old (λ z. a (place_warning t s.memory r.0.mirror entry.place v c ∙ z));
-          before = λ k old. has_push k s.source.retired (suc n) ∙ rw (b.before k old) refl;
-          cradle = λ k full. put_other s.owner (t.home (suc n)) _ (Retiring c) (apart s _ (t.home (suc n)) (Held c k) Living (b.cradle k full) alive (λ z. cc)) ∙ b.cradle k full;
-        };
-      },
-      record { owner = put_same s.owner (t.home (suc n)) (Retiring c); present = here; tag_is = untagged t q (suc n) f.holds live },
-      has_slot_of t q (suc n) f.holds here full,
-    ) where
-      full : suc n ≢ 0
-      full z = let no : ⊥ = omega (arith, z) in no
-
-      after_is : after ≡ (dropped t p c (suc n)).source
-      after_is = made.after_is ∙ ap (λ (i : ℕ). with_name_retired i p.source) at
-
-      here : Resident t s (suc n)
-      here = subst (λ (i : ℕ). Resident t s i) at dropping.here
-
-      public : s.public (suc n) ≡ true
-      public = of (subst (λ (i : ℕ). Shown s i) at dropping.shown) where
-        of : Shown s (suc n) → s.public (suc n) ≡ true
-        of (inl z) = let no : ⊥ = omega (arith, z) in absurd no
-        of (inr p) = p
-
-      live : has (suc n) s.source.retired ≡ false
-      live = once_new s.source.retired (suc n) (subst IsOnce (ap (λ (memory : Memory). memory.retired) after_is) once)
-
-      alive : s.owner (t.home (suc n)) ≡ Living
-      alive = living t p (suc n) writes.shared_holds here full public live
-
-      owned_of : (j k : ℕ) (same : Bool) → (if same then Retiring c else s.owner j) ≡ Held c k → s.owner j ≡ Held c k
-      owned_of j k true own = absurd (let z : Retiring c ≡ Held c k = own in cc)
-      owned_of j k false own = own
 
     abbrev e : Entry
     e = with_access (counted x.entry)
@@ -269,7 +140,13 @@ module _ (t : Plan) (c : ℕ) (s : Shared) (since : ℕ → ℕ) (x : Caller) (e
     walks : Walks t s c x next m'
     walks = walks_on t s c x (spot_of x.entry.hand) next r.0 i 0 r.0.mirror plan is refl (goes_next l) changes (λ k set. inl refl) (λ gen k set. inl refl) r.1
 
-    module _ (s' : Shared) (k : Made t s s' since c x r.0 entry) where
+    module _ (s' : Shared) (k : Made t s s' since c x.entry.hand.registers r.0.mirror entry 0) where
+      keeps : KeepsNames c s s'
+      keeps = record { held = λ j a own. (k.owns j a (λ never. absurd (never refl)) own, ap (λ (present : ℕ → ℕ). present j) k.present); public = k.public }
+
+      base' : Base t s' since c x
+      base' = base_kept t c s s' x keeps since since (λ announced n p tag lt. b.old (λ z. announced (k.warning ∙ z)) n p (sym (ap (λ (tags : ℕ → Option ℕ). tags n) k.tag) ∙ tag) lt) k.goes.retired b
+
       pair : (a e g : ℕ) → r.0.walk.method.wrapup ≡ false → (link s' (node_in r.0.mirror a) g ≡ link s (node_in r.0.mirror a) g) ⊎ Resident t s (link s' (node_in r.0.mirror a) g) → Apart t (link s' (node_in r.0.mirror a) g) (node_in r.0.mirror e)
       pair a e g gen (inl same) = subst (λ (n : ℕ). Apart t n (node_in r.0.mirror e)) (sym same)
           (safe_apart t s since c x (link s (node_in r.0.mirror a) g) (node_in r.0.mirror e) st (link_safe t s since c x r.0 owes (node_in r.0.mirror a) g (got_clear t s since c x r.0 owes (node_in r.0.mirror a) (register_got t s since c x r.0 owes gen a))) (r.1.safe e))
@@ -279,15 +156,13 @@ module _ (t : Plan) (c : ℕ) (s : Shared) (since : ℕ → ℕ) (x : Caller) (e
       comes = record {
         plan = plan;
         holds = k.holds;
-        base = base_changed t s' since c x e y.source x.watch refl refl k.base;
+        base = base_changed t s' since c x e y.source x.watch refl refl base';
         below = below;
-        announced = announced_still;
-        walks = walks_changed t s' c x next m' e y.source x.watch refl refl (walks_kept t c s s' x k.keeps next m' walks);
-        gets = gets_changed t s' c x m' e y.source (gets_kept t c s s' x k.keeps m' (gets_past t s c x r.0 x.entry.hand.at i x.entry.hand.registers is changes r.2));
+        announced = λ z. r.4 (sym k.warning ∙ z);
+        walks = walks_changed t s' c x next m' e y.source x.watch refl refl (walks_kept t c s s' x keeps next m' walks);
+        gets = gets_changed t s' c x m' e y.source (gets_kept t c s s' x keeps since m' plan.null k.holds (gets_past t s c x r.0 x.entry.hand.at i x.entry.hand.registers is changes r.2));
         pairs = λ gen a e g. pair a e g gen (k.links (node_in r.0.mirror a) g);
-      } where
-        announced_still : s'.memory (Warning c) ≢ 0
-        announced_still z = r.4 (sym (ap (λ (memory : Word → ℕ). memory (Warning c)) (k.memory ∙ sym memory_is) ∙ place_warning t s.memory r.0.mirror entry.place v c) ∙ z)
+      }
 
       stands : y.source ≡ stands_at r.0.walk.method.op r.0.walk.method.wrapup r.0.walk.started x.entry.hand.wrapup r.0.walk.call (run_from r.0.walk.method.op r.0.walk.method.wrapup (record { at = x.entry.hand.at + 1; registers = r.0.mirror }))
       stands = turn.stands ∙ stands_marked r.0.walk.method.op r.0.walk.method.wrapup r.0.walk.started x.entry.hand.wrapup r.0.walk.call _ (λ wrap. r.1.wrapup ∙ wrap)
@@ -317,39 +192,24 @@ module _ (t : Plan) (c : ℕ) (s : Shared) (since : ℕ → ℕ) (x : Caller) (e
       goes_on_next = settles_ends t s' since c y next m' comes stands
 
       retires_next : (j n : ℕ) → IsRetiring s' c (suc j) n None → Ends t s' since c y (quiet (with_routine e (Retires (retire_begun (suc j)) onward.Next)))
-      retires_next j n retiring = record {
-        x' = changed y (with_routine e (Retires (retire_begun (suc j)) onward.Next)) y.source y.watch;
-        entry = refl;
-        plays = done _;
-        caller_holds = record {
-          base = base_changed t s' since c y (with_routine e (Retires (retire_begun (suc j)) onward.Next)) y.source y.watch refl refl comes.base;
-          spot = (
-            (n, record { owner = retiring.owner; present = retiring.present; tag_is = retiring.tag_is }),
-            (
-              m',
-              walks_changed t s' c y next m' (with_routine e (Retires (retire_begun (suc j)) onward.Next)) y.source y.watch refl refl comes.walks,
-              gets_changed t s' c y m' (with_routine e (Retires (retire_begun (suc j)) onward.Next)) y.source comes.gets,
-              stands,
-              comes.announced,
-              comes.pairs,
-            ),
-          );
-        };
-      }
+      retires_next j n retiring = ends_quiet t s' since c y (Retires (retire_begun (suc j)) onward.Next) comes.base (
+        (n, record { owner = retiring.owner; present = retiring.present; tag_is = retiring.tag_is }),
+        (
+          m',
+          walks_changed t s' c y next m' (with_routine e (Retires (retire_begun (suc j)) onward.Next)) y.source y.watch refl refl comes.walks,
+          gets_changed t s' c y m' (with_routine e (Retires (retire_begun (suc j)) onward.Next)) y.source comes.gets,
+          stands,
+          comes.announced,
+          comes.pairs,
+        ),
+      )
 
     abbrev Kept : Moved → Type 0
     Kept m = KeptWith t c s since x (after_access s.memory (exchange_wanted t.target.fields entry x.entry.hand.registers)) (told (Accesses ∷ []) m) s.present
 
-    by_slot : (n j : ℕ) (d : Made t s (with_words (dropped t p c (suc n)) words) since c x r.0 entry × IsRetiring (with_words (dropped t p c (suc n)) words) c (t.home (suc n)) (suc n) None × (t.home (suc n) ≢ 0)) → t.home (suc n) ≡ j → Kept (retires_then Epochs t.target t.setting.sizes onward.Next j e)
-    by_slot n zero d at = absurd (d.2 at)
-    by_slot n (suc j) d at = with_end (with_words (dropped t p c (suc n)) words) d.0 _ (retires_next (with_words (dropped t p c (suc n)) words) d.0 j (suc n) (subst (λ (k : ℕ). IsRetiring (with_words (dropped t p c (suc n)) words) c k (suc n) None) at d.1))
-
-    by_drop : (n : ℕ) → to_drop entry.retire r.0.mirror ≡ n → Kept (retires_then Epochs t.target t.setting.sizes onward.Next (to_retire entry.retire x.entry.hand.registers) e)
-    by_drop zero none = subst (λ (j : ℕ). Kept (retires_then Epochs t.target t.setting.sizes onward.Next j e)) (sym (dropping.slot ∙ (ap t.home none ∙ plan.null))) (with_end (with_words p words) (left none) _ (goes_on_next (with_words p words) (left none)))
-    by_drop (suc n) at = subst (λ (j : ℕ). Kept (retires_then Epochs t.target t.setting.sizes onward.Next j e)) (sym (dropping.slot ∙ ap t.home at)) (by_slot n (t.home (suc n)) (dropped_one n at) refl)
-
     success_kept : KeptWith t c s since x (after_access s.memory (exchange_wanted t.target.fields entry x.entry.hand.registers)) (plain_accepted Epochs t.target t.setting.sizes (instr.Cas entry l) (s.memory (word_of (exchange_wanted t.target.fields entry x.entry.hand.registers))) (counted x.entry)) s.present
-    success_kept = subst (λ (made : Bool). Kept (if made then retires_then Epochs t.target t.setting.sizes onward.Next (to_retire entry.retire x.entry.hand.registers) e else cas_failed Epochs t.target t.setting.sizes l e)) (sym succeeded) (by_drop (to_drop entry.retire r.0.mirror) refl)
+    success_kept = subst (λ (made : Bool). Kept (if made then retires_then Epochs t.target t.setting.sizes onward.Next (to_retire entry.retire x.entry.hand.registers) e else cas_failed Epochs t.target t.setting.sizes l e)) (sym (succeeded t s since c x r.0.mirror entry 0 after tries))
+        (made_by t s since c x r.0.mirror entry 0 after tries (λ j. Kept (retires_then Epochs t.target t.setting.sizes onward.Next j e)) (λ s' k. with_end s' k _ (goes_on_next s' k)) (λ s' j n k retiring. with_end s' k _ (retires_next s' k j n retiring)))
 
   pub cas_kept : KeptWith t c s since x (after_access s.memory (exchange_wanted t.target.fields entry x.entry.hand.registers)) (plain_accepted Epochs t.target t.setting.sizes (instr.Cas entry l) (s.memory (word_of (exchange_wanted t.target.fields entry x.entry.hand.registers))) (counted x.entry)) s.present
   cas_kept = by_result (exchange t.text.fields entry r.0.mirror s.source) refl where

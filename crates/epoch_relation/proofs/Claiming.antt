@@ -1,41 +1,37 @@
 -- The claim of a `new`: looks, the withdrawal, sweeps, the slot that it takes, and the call that it gives up.
-use Rattle.std.proofs.Common.{ℕ, zero, suc, ◌≡◌, ◌≢◌, ◌==◌, ◌+◌, ◌≤◌, ◌<◌, ◌∙◌, Bool, true, false, List, [], ◌∷◌, ◌++◌, length, Option, Some, None, arith, ⊎_elim, sym, ap, subst, refl, if◌then◌else◌, set}
+use Rattle.std.proofs.Common.{ℕ, zero, suc, ◌≡◌, ◌≢◌, ◌==◌, ◌+◌, ◌≤◌, ◌<◌, ◌∙◌, Bool, true, false, List, [], ◌∷◌, length, Option, Some, None, arith, sym, ap, subst, refl, if◌then◌else◌, set}
 use Rattle.std.specs.Prelude.{slice_get, slice_index}
 use Rattle.std.proofs.lemmas.List.{map-append}
-use Rattle.std.proofs.lemmas.Bool.{cases_eq}
 use Rattle.std.proofs.lemmas.Bool.Decides.{nat_tests}
 use Rattle.norm_lang.specs.declared.text.Instr.TheVariants as instr
 use Rattle.norm_lang.specs.Kept.{code_of}
 use Rattle.target_code.specs.declared.target.TargetInstr.TheVariants.{Plain}
 use Rattle.oa_words.specs.declared.packed.Kind.TheVariants as kinds
-use Rattle.oa_words.specs.Words.{Word, Warning, Status, Head, Link, Sizes}
+use Rattle.oa_words.specs.Words.{Word, Warning, Status, Head, Link}
 use Rattle.oa_words.specs.Memories.{store}
-use Rattle.oa_words.specs.Packed.{StatusParts, HeadParts, status_word, head_word, head_parts, status_parts}
-use Rattle.oa_words.specs.declared.packed.Kind.{Kind}
+use Rattle.oa_words.specs.Packed.{HeadParts, status_word, head_word, head_parts}
 use Rattle.phase_pools.specs.declared.access.ClaimEnd.{ClaimEnd}
 use Rattle.phase_pools.specs.declared.access.ClaimEnd.TheVariants as ends
 use Rattle.phase_pools.specs.declared.access.SweepEnd.{SweepEnd}
 use Rattle.phase_pools.specs.declared.access.SweepEnd.TheVariants as swept
-use Rattle.phase_pools.specs.declared.stages.SweepStage.{SweepStage}
-use Rattle.phase_pools.specs.declared.stages.SweepStage.TheVariants as sweeps
 use Rattle.phase_pools.specs.Accesses.{word_of}
 use Rattle.phase_pools.specs.declared.stages.Scheme.{Scheme}
 use Rattle.phase_pools.specs.declared.stages.Scheme.TheVariants.{Announced}
 use Rattle.phase_pools.specs.declared.stages.ClaimStage.{ClaimStage}
 use Rattle.phase_pools.specs.declared.stages.ClaimStage.TheVariants as claims
-use Rattle.phase_pools.specs.Pools.{Claim, Sweep, SweepTurn, claim_wants_at, claim_accepts_at, claim_goes, claim_ends, look_ended, look_begun, look_took, takes_at, sweep_ended, sweep_started, sweep_follows, sweep_accepts_at, sweep_wants_at, sweep_on, status_read, freeing}
+use Rattle.phase_pools.specs.Pools.{Claim, Sweep, claim_wants_at, claim_accepts_at, claim_goes, claim_ends, look_ended, look_begun, look_took, takes_at, sweep_ended, sweep_started, sweep_follows, sweep_accepts_at, sweep_wants_at}
+use Rattle.phase_pools.proofs.Keeping.{sweep_keeps}
 use Rattle.target_laws.specs.Methods.{code_in}
 use Rattle.source_machine.specs.Proper.{has}
 use Rattle.source_machine.specs.Run.{is_enabled_for, is_new_at as is_source_new}
 use Rattle.caller_steps.specs.declared.entry.Counts.{Counts}
 use Rattle.source_machine.specs.declared.event.SourceEvent.TheVariants as events
-use Rattle.source_machine.specs.declared.event.SourceReply.{SourceReply}
+use Rattle.norm_lang.specs.declared.reply.SourceReply.{SourceReply}
 use Rattle.source_machine.specs.Step.{caller_turn, give_up_reply}
 use Rattle.source_machine.specs.MethodRuns.{run_after, put}
-use Rattle.source_machine.proofs.Places.{put_same, put_other}
-use Rattle.caller_parts.specs.declared.call.Replied.{Replied}
+use Rattle.source_machine.proofs.Places.{put_other}
 use Rattle.caller_parts.specs.Operands.{is_new_at}
-use Rattle.caller_parts.specs.Pairing.{replied_by}
+use Rattle.caller_parts.specs.Pairing.{replied_by, reply_of}
 use Rattle.caller_steps.specs.Entries.{one_more}
 use Rattle.caller_steps.specs.Signs.{GivesUp}
 use Rattle.caller_parts.specs.declared.routine.AnnounceReason.TheVariants.{Swept as AfterSweep}
@@ -48,17 +44,16 @@ use Rattle.caller_steps.specs.After.{counted, claimed, claim_counted, claim_on, 
 use Rattle.caller_parts.specs.declared.setting.Reclamation.TheVariants.{Epochs}
 use Rattle.run_ahead.specs.Standing.{Call, stands_at}
 use Rattle.run_ahead.proofs.Enabled.{gives_up}
-use Rattle.oa_simulation.specs.sim_relation.Views.{Plan, Pool, Held, Shared, Resident}
-use Rattle.oa_simulation.specs.sim_relation.Callers.{call_of, replies_of, spot_of, source_reply}
+use Rattle.oa_simulation.specs.sim_relation.Views.{Plan, Pool, Held, Shared}
+use Rattle.oa_simulation.specs.sim_relation.Callers.{call_of, spot_of}
 use Rattle.oa_simulation.specs.sim_relation.Points.{done}
 use Rattle.oa_simulation.specs.sim_relation.Steps.{after_access, TakenIsReady}
 use Rattle.oa_simulation.specs.sim_relation.Naming.{freed_in}
 use Rattle.oa_simulation.proofs.sim_relation.Playing.{plays_none, plays_one, points_same}
 use Rattle.oa_simulation.proofs.sim_relation.Words.{store_idle}
-use Rattle.oa_simulation.proofs.sim_relation.Lists.{index_set, index_set_other}
+use Rattle.oa_simulation.proofs.sim_relation.Lists.{index_set}
 use Rattle.caller_parts.proofs.News.{new_there}
-use Rattle.oa_simulation.proofs.sim_steps.Pools.Slots.{in_pool, apart, with_status, taken as slot_taken}
-use Rattle.oa_simulation.proofs.sim_steps.Pools.Claiming.{given_up}
+use Rattle.oa_simulation.proofs.sim_steps.Pools.Slots.{in_pool, apart, with_status, taken as slot_taken, cradle_taken}
 use Rattle.epoch_relation.specs.Reckoned.{reckoned_words, reckoned, EpochHolds}
 use Rattle.epoch_relation.specs.Callers.{Caller, Base, ClaimAt, Changes}
 use Rattle.epoch_relation.specs.Walking.{IsPlan, Running, Waits, ClaimsIn, HoldsAt, has_swept, has_withdrawn}
@@ -67,8 +62,9 @@ use Rattle.epoch_relation.proofs.Announcing.{owned, since_now, fine_owned, goes_
 use Rattle.epoch_relation.proofs.Bare.{in_source}
 use Rattle.epoch_relation.proofs.Moving.{changed, base_changed, core_instr_is}
 use Rattle.epoch_relation.proofs.Phases.{base_withdrawn}
-use Rattle.epoch_relation.proofs.Rising.{with_words, head_risen}
-use Rattle.epoch_relation.proofs.Same.{Same, placed, base_same, running_same, running_placed}
+use Rattle.oa_simulation.proofs.sim_steps.Pools.Phases.{with_words}
+use Rattle.epoch_relation.proofs.Rising.{head_risen}
+use Rattle.epoch_relation.proofs.Same.{Leaves, placed, base_kept, running_kept, claims_kept, running_placed}
 use Rattle.epoch_relation.proofs.Storing.{holds_stored, goes_words, reckoned_status}
 use Rattle.epoch_relation.proofs.Sweeping.{SweepNext, ChangesForAll, sweep_step, changes_same, risen_holds, risen_changes}
 
@@ -84,10 +80,6 @@ pub record Claiming (t : Plan) (s : Shared) (since : ℕ → ℕ) (c : ℕ) (x :
 
 -- ---- the call is given up
 
-same_reply : (phase : Option ℕ) → source_reply (given_up phase) ≡ give_up_reply phase
-same_reply None = refl
-same_reply (Some p) = refl
-
 -- what is shared after a step that leaves the source's memory
 pub record Leads (t : Plan) (c : ℕ) (s s' : Shared) (since since' : ℕ → ℕ) (x : Caller) (memory' : Word → ℕ) (present' : ℕ → ℕ) : Type 0 where
   pub holds : EpochHolds t s' since'
@@ -99,14 +91,14 @@ pub record Leads (t : Plan) (c : ℕ) (s s' : Shared) (since since' : ℕ → �
   pub present : s'.present ≡ present'
 
 gave_up : (t : Plan) (c : ℕ) (s s' : Shared) (since since' : ℕ → ℕ) (x : Caller) (phase : Option ℕ) (takes : Bool) (memory' : Word → ℕ) (present' : ℕ → ℕ) → Leads t c s s' since since' x memory' present' → Waits t x
-    → KeptWith t c s since x memory' (told (GivesUp phase ∷ []) (quiet (entry_replied (given_up phase) (with_routine (claim_counted takes (counted x.entry)) At)))) present'
+    → KeptWith t c s since x memory' (told (GivesUp phase ∷ []) (quiet (entry_replied (give_up_reply phase) (with_routine (claim_counted takes (counted x.entry)) At)))) present'
 gave_up t c s s' since since' x phase takes memory' present' l w =
     let call : Call = call_of x.entry in
     let op = ap (slice_get t.text.ops) w.5 ∙ w.0.in_text in
     let ends = gives_up t.text c phase w.0.op w.2 x.entry.hand.accessed call w.1 s.source op (ap is_source_new w.6) in
     let enabled = ap (λ caller. is_enabled_for t.text (events.GiveUp c phase) (Some caller) s.source) w.7 ∙ ends.0 in
     let turns = ap (λ caller. caller_turn t.text (events.GiveUp c phase) s.source caller) w.7 ∙ ends.1 in
-    let x' : Caller = changed x (entry_replied (given_up phase) (with_routine (claim_counted takes (counted x.entry)) At)) (caller_turn t.text (events.GiveUp c phase) s.source x.source).caller (run_after t.text (events.GiveUp c phase) s.source x.source x.watch) in
+    let x' : Caller = changed x (entry_replied (give_up_reply phase) (with_routine (claim_counted takes (counted x.entry)) At)) (caller_turn t.text (events.GiveUp c phase) s.source x.source).caller (run_after t.text (events.GiveUp c phase) s.source x.source x.watch) in
     record {
       s' = s';
       since' = since';
@@ -120,8 +112,8 @@ gave_up t c s s' since since' x phase takes memory' present' l w =
       caller_holds = record {
         base = base_changed t s' since' c x x'.entry x'.source x'.watch refl refl l.base;
         spot = ap (λ turn. turn.caller) turns
-            ∙ ap (λ (rs : List SourceReply). record { replies = rs; running = None }) (ap (λ (r : SourceReply). replies_of x.entry ++ r ∷ []) (sym (same_reply phase))
-            ∙ sym (map-append (λ (r : Replied). source_reply r.reply) x.entry.replies (replied_by (given_up phase) (record x.entry.running { steps = one_more x.entry.running.steps }) ∷ [])));
+            ∙ ap (λ (rs : List SourceReply). record { replies = rs; running = None })
+            (sym (map-append reply_of x.entry.replies (replied_by (give_up_reply phase) (record x.entry.running { steps = one_more x.entry.running.steps }) ∷ [])));
       };
     }
 
@@ -181,35 +173,6 @@ head_next t s since c x claim head scheme w = of (head.top == 0) refl where
   of true is = look_ends t s since c x claim scheme w
   of false is = (scheme, grind (arith, nat_tests), w)
 
--- ---- the scheme stays
-
-scheme_if : (b : Bool) (p q : SweepTurn) (scheme : Scheme) → p.sweep.scheme ≡ scheme → q.sweep.scheme ≡ scheme → (if b then p else q).sweep.scheme ≡ scheme
-scheme_if true p q scheme one other = one
-scheme_if false p q scheme one other = other
-
-scheme_on : (n : Sizes) (sweep : Sweep) (j : ℕ) → (sweep_on n sweep j).sweep.scheme ≡ sweep.scheme
-scheme_on n sweep j = scheme_if _ _ _ sweep.scheme refl refl
-
-scheme_freeing : (n : Sizes) (sweep : Sweep) (j q : ℕ) (kind : Kind) → (freeing n sweep j q kind).sweep.scheme ≡ sweep.scheme
-scheme_freeing n sweep j q kinds.Ready = scheme_on n sweep j
-scheme_freeing n sweep j q kinds.Used = scheme_on n sweep j
-scheme_freeing n sweep j q kinds.Retired = scheme_if _ _ _ sweep.scheme refl (scheme_on n sweep j)
-
-scheme_status : (n : Sizes) (sweep : Sweep) (j : ℕ) (parts : Option StatusParts) → (status_read n sweep j parts).sweep.scheme ≡ sweep.scheme
-scheme_status n sweep j None = scheme_on n sweep j
-scheme_status n sweep j (Some parts) = scheme_freeing n sweep j parts.phase parts.kind
-
-pub scheme_kept : (n : Sizes) (last : ℕ) (sweep : Sweep) (word : ℕ) (stage : SweepStage) → (sweep_accepts_at n last sweep word stage).sweep.scheme ≡ sweep.scheme
-scheme_kept n last sweep word sweeps.ReadPhase = scheme_if _ _ _ sweep.scheme refl refl
-scheme_kept n last sweep word (sweeps.RaisePhase p) = refl
-scheme_kept n last sweep word (sweeps.Warn c) = refl
-scheme_kept n last sweep word (sweeps.ReadHazard c r) = refl
-scheme_kept n last sweep word (sweeps.ReadStatus j) = scheme_status n sweep j (status_parts word)
-scheme_kept n last sweep word (sweeps.MakeReady j q) = scheme_if _ _ _ sweep.scheme refl (scheme_on n sweep j)
-scheme_kept n last sweep word (sweeps.PushHead kind j) = refl
-scheme_kept n last sweep word (sweeps.PushLink j q t) = refl
-scheme_kept n last sweep word (sweeps.PushTop kind j q t) = scheme_if _ _ _ sweep.scheme (scheme_on n sweep j) refl
-
 -- ---- the withdrawal
 
 -- an announced caller that stands at a `new` waits there
@@ -250,29 +213,23 @@ with_head : (t : Plan) (c : ℕ) (s : Shared) (since : ℕ → ℕ) (x : Caller)
 with_head t c s since x claim kind v k = record {
   holds = risen_holds t s since (store s.memory (Head kind) v) (head_risen s.memory since kind v k.holds.holds.warning) (λ d. refl) k.holds;
   goes = risen_changes t s since (store s.memory (Head kind) v) (head_risen s.memory since kind v k.holds.holds.warning) (λ d. refl) c;
-  base = base_same t c s (with_words s (store s.memory (Head kind) v)) x (same v) since since k.base.old (λ n is. is) k.base;
+  base = base_kept t c s (with_words s (store s.memory (Head kind) v)) x (record { held = λ j k is. (is, refl); public = λ n is. is }) since since k.base.old (λ n is. is) k.base;
   source = refl;
   unused = refl;
   memory = refl;
   present = refl;
-} where
-  same : (v : ℕ) → Same t c s (with_words s (store s.memory (Head kind) v))
-  same v = record { held = λ j k is. (is, refl); back = λ n k held here. (held, here); public = λ n is. is; links = λ n g. refl; announced = λ some. some }
-
-in_same : (t : Plan) (c : ℕ) (s s' : Shared) (x : Caller) (withdrawn : Bool) → Same t c s s' → ClaimsIn t s c x withdrawn → ClaimsIn t s' c x withdrawn
-in_same t c s s' x true g w = w
-in_same t c s s' x false g w = running_same t c s s' x g w
+}
 
 takes : (t : Plan) (c : ℕ) (s : Shared) (since : ℕ → ℕ) (x : Caller) (claim : Claim) (j q next : ℕ) → Claiming t s since c x claim → 1 ≤ j → ClaimsIn t s c x (has_swept claim.sweeps)
     → KeptWith t c s since x (after_access s.memory (claim_wants_at claim.kind claim.sweep (claims.Take q j next))) (claimed Epochs t.target (look_took claim q j (s.memory (Head claim.kind))) (claim_counted (takes_at (claims.Take q j next) (s.memory (Head claim.kind))) (counted x.entry))) s.present
 takes t c s since x claim j q next k some w = of (s.memory (Head claim.kind) == head_word q j) where
-  same : (v : ℕ) → Same t c s (with_words s (store s.memory (Head claim.kind) v))
-  same v = record { held = λ j k is. (is, refl); back = λ n k held here. (held, here); public = λ n is. is; links = λ n g. refl; announced = λ some. some }
+  left : (v : ℕ) → Leaves t c s (with_words s (store s.memory (Head claim.kind) v)) since x
+  left v = record { null = k.plan.null; after = (with_head t c s since x claim claim.kind v k).holds; names = record { held = λ j k is. (is, refl); public = λ n is. is }; announced = λ some. some; pairs = λ m some safe pairs. pairs }
 
   of : (b : Bool) → KeptWith t c s since x (store s.memory (Head claim.kind) (if b then head_word q next else s.memory (Head claim.kind)))
       (claimed Epochs t.target (if b then claim_goes claim (claims.StoreUsed q j) else claim_goes claim claims.ReadHead) (claim_counted b (counted x.entry))) s.present
   of true = claim_kept t c s (with_words s (store s.memory (Head claim.kind) (head_word q next))) since since x (record claim { stage = claims.StoreUsed q j }) None true _ s.present (with_head t c s since x claim claim.kind (head_word q next) k)
-      (k.scheme, some, in_same t c s (with_words s (store s.memory (Head claim.kind) (head_word q next))) x (has_swept claim.sweeps) (same (head_word q next)) w)
+      (k.scheme, some, claims_kept t c s (with_words s (store s.memory (Head claim.kind) (head_word q next))) since x (left (head_word q next)) (has_swept claim.sweeps) w)
   of false = claim_kept t c s s since since x (record claim { stage = claims.ReadHead }) None false _ s.present (idle t c s since x claim (Head claim.kind) k) (k.scheme, tt, w)
 
 -- ---- a slot that was taken is used
@@ -311,25 +268,11 @@ took t c s since x claim j p q w some lt is here = of claim.sweeps here where
   held : (i m : ℕ) → s.owner i ≡ Held c m → put s.owner j (Held c (new_number t.target x.entry)) i ≡ Held c m
   held i m own = put_other s.owner j i (Held c k) (apart s i j (Held c m) Pool own take.0 (λ e. cc)) ∙ own
 
-  back : (n m : ℕ) → put s.owner j (Held c (new_number t.target x.entry)) (t.home n) ≡ Held c m → Resident t s n → (s.owner (t.home n) ≡ Held c m) × Resident t s n
-  back n m own here = ⊎_elim
-      (λ (e : t.home n ≡ j).
-      let zero_is : n ≡ 0 = sym here ∙ (ap s.present e ∙ take.1) in
-      let null_is : j ≡ 0 = sym e ∙ (ap t.home zero_is ∙ w.plan.null) in
-      absurd (let le = some in omega (arith, le, null_is)))
-      (λ (ne : t.home n ≢ j). (sym (put_other s.owner j (t.home n) (Held c k) ne) ∙ own, here))
-      (cases_eq (t.home n) j)
-
-  same : Same t c s (with_status s j (Held c (new_number t.target x.entry)) (status_word q kinds.Used))
-  same = record { held = λ i m own. (held i m own, refl); back = back; public = λ n is. is; links = λ n g. refl; announced = λ some. some }
+  left : Leaves t c s (with_status s j (Held c (new_number t.target x.entry)) (status_word q kinds.Used)) since x
+  left = record { null = w.plan.null; after = take.2; names = record { held = λ i m own. (held i m own, refl); public = λ n is. is }; announced = λ some. some; pairs = λ m some safe pairs. pairs }
 
   cradle : (i : ℕ) → slice_index (set x.entry.cradles (new_number t.target x.entry) j) i ≢ 0 → put s.owner j (Held c (new_number t.target x.entry)) (slice_index (set x.entry.cradles (new_number t.target x.entry) j) i) ≡ Held c i
-  cradle i full = ⊎_elim
-      (λ (e : i ≡ k). rw e (ap (λ (n : ℕ). put s.owner j (Held c k) n) there ∙ put_same s.owner j (Held c k)))
-      (λ (ne : i ≢ k).
-      let same : slice_index (set x.entry.cradles k j) i ≡ slice_index x.entry.cradles i = index_set_other x.entry.cradles k j i ne in
-      ap (λ (n : ℕ). put s.owner j (Held c k) n) same ∙ held (slice_index x.entry.cradles i) i (w.base.cradle i (λ z. full (same ∙ z))))
-      (cases_eq i k)
+  cradle = cradle_taken s c k j x.entry.cradles lt take.0 w.base.cradle
 
   kept : (counts : Counts) (r : Routine) → HoldsAt t s' since c (placed x (one_more x.entry.running.steps) (set x.entry.cradles (new_number t.target x.entry) j) counts r) r
       → KeptWith t c s since x (store s.memory (Status j) (status_word q kinds.Used)) (quiet (placed x (one_more x.entry.running.steps) (set x.entry.cradles (new_number t.target x.entry) j) counts r).entry) s.present
@@ -350,7 +293,7 @@ took t c s since x claim j p q w some lt is here = of claim.sweeps here where
   of zero in_run = kept x.entry.counts (Zeroes k 0) (
     (λ z. omega (arith, some, there, z)),
     ((λ none. absurd (omega (arith, none))), (λ g none. absurd (omega (arith, none)))),
-    running_placed t s' c x (one_more x.entry.running.steps) cradles x.entry.counts (Zeroes k 0) (running_same t c s s' x same in_run),
+    running_placed t s' c x (one_more x.entry.running.steps) cradles x.entry.counts (Zeroes k 0) (running_kept t c s s' since x left in_run),
   )
   of (suc made) waits = kept (record x.entry.counts { restarts = one_more x.entry.counts.restarts }) (Announces (announces.Loads AfterSweep)) waits
 
@@ -389,4 +332,4 @@ claims_keep t c s since x claim claims.Sweeps is k lt callers ready at w =
     let swept = sweep_step t s since c claim.sweep claim.sweep.stage callers k.scheme k.holds at in
     claim_kept t c s swept.s' since since x (sweep_ended claim turn.sweep turn.ended).claim (sweep_ended claim turn.sweep turn.ended).ended false _ _
     (record { holds = swept.holds; goes = swept.goes c; base = swept_own t c s swept.s' since x k.holds swept.goes k.base; source = swept.source; unused = swept.unused; memory = swept.memory; present = swept.present })
-    (sweep_goes_on t swept.s' since c x claim turn.sweep turn.ended is (scheme_kept t.setting.sizes t.setting.last claim.sweep (s.memory (word_of (sweep_wants_at claim.sweep.scheme claim.sweep.stage claim.sweep.bound))) claim.sweep.stage ∙ k.scheme) swept.next w)
+    (sweep_goes_on t swept.s' since c x claim turn.sweep turn.ended is ((sweep_keeps t.setting.sizes t.setting.last claim.sweep (s.memory (word_of (sweep_wants_at claim.sweep.scheme claim.sweep.stage claim.sweep.bound)))).scheme ∙ k.scheme) swept.next w)

@@ -1,22 +1,17 @@
 -- Each step of an announced caller, by its routine.
-use Rattle.std.proofs.Common.{ℕ, ◌≡◌, ◌+◌, ◌≤◌, ◌<◌, ◌∙◌, Bool, true, false, List, [], length, set, Option, Some, None, arith, sym, ap, subst, refl, if◌then◌else◌}
+use Rattle.std.proofs.Common.{ℕ, ◌≡◌, ◌+◌, ◌<◌, ◌∙◌, Bool, true, false, List, [], length, Option, Some, None, arith, sym, ap, subst, refl, if◌then◌else◌}
 use Rattle.std.specs.Prelude.{slice_get, nat_lt, option_map}
 use Rattle.std.proofs.lemmas.Bool.{and_parts, or_parts}
 use Rattle.std.proofs.lemmas.Bool.Decides.{nat_tests}
-use Rattle.std.proofs.lemmas.List.{get_or-set_same, length-map}
-use Rattle.std.proofs.lemmas.Option.{unwrap_or-slice_get}
 use Rattle.norm_lang.specs.declared.text.CasEntry.{CasEntry}
 use Rattle.norm_lang.specs.declared.text.FieldDecl.{FieldDecl}
 use Rattle.norm_lang.specs.declared.text.Text.{Text}
-use Rattle.norm_lang.specs.KindFields.{fields_of, place_of}
+use Rattle.norm_lang.specs.KindFields.{place_of}
 use Rattle.norm_lang.specs.declared.text.Instr.{Instr}
 use Rattle.norm_lang.specs.declared.text.Instr.TheVariants as instr
 use Rattle.norm_lang.specs.declared.text.Reg.{Reg}
 use Rattle.norm_lang.specs.declared.text.Reg.TheVariants.{Num, Ref}
-use Rattle.norm_lang.specs.declared.registers.Reference.{Reference}
-use Rattle.norm_lang.specs.declared.registers.Registers.{Registers}
 use Rattle.norm_lang.specs.InstructionRules.{has_wrong_operand, retires_stranger, is_unlike, field_kind}
-use Rattle.norm_lang.specs.Registers.{with_reference, no_reference}
 use Rattle.target_code.specs.declared.target.TargetInstr.{TargetInstr}
 use Rattle.target_code.specs.declared.target.TargetInstr.TheVariants.{Plain, Check, Guard}
 use Rattle.target_laws.specs.target_runs.Sane.{SaneAt}
@@ -34,7 +29,7 @@ use Rattle.caller_parts.specs.Calls.{is_call}
 use Rattle.caller_parts.specs.Operands.{cradle_number, list_of, slot_in, word_in}
 use Rattle.caller_steps.specs.Wants.{plain_wanted, list_wanted, exchange_wanted}
 use Rattle.source_machine.specs.declared.state.Memory.{Memory}
-use Rattle.source_machine.specs.Memory.{blank_field, blank_fields, exchange}
+use Rattle.source_machine.specs.Memory.{exchange}
 use Rattle.caller_parts.specs.declared.routine.Announcing.{Announcing}
 use Rattle.caller_parts.specs.declared.routine.Announcing.TheVariants as announces
 use Rattle.caller_parts.specs.declared.routine.Routine.{Routine}
@@ -50,7 +45,6 @@ use Rattle.caller_steps.specs.After.{with_routine, counted, accepted, instr_acce
 use Rattle.caller_steps.specs.After.{moved as after_moves}
 use Rattle.caller_parts.specs.declared.setting.Reclamation.{Reclamation}
 use Rattle.caller_parts.specs.declared.setting.Reclamation.TheVariants.{Epochs}
-use Rattle.run_ahead.specs.Agreeing.{node_in}
 use Rattle.oa_simulation.specs.sim_relation.Views.{Plan, Shared}
 use Rattle.oa_simulation.specs.sim_relation.Naming.{present_at}
 use Rattle.oa_simulation.specs.sim_relation.Points.{StaysProper, DrawsHome, IsProperPoint, done}
@@ -77,6 +71,7 @@ use Rattle.epoch_relation.proofs.Newing.{Zeroing, zero_step}
 use Rattle.epoch_relation.proofs.Casting.{cas_kept}
 use Rattle.epoch_relation.proofs.Listing.{InList as ListStep, list_failure_kept}
 use Rattle.epoch_relation.proofs.Entering.{list_success_kept}
+use Rattle.oa_simulation.proofs.sim_steps.Accesses.Zeroed.{put_there, all_zeroed}
 
 -- what a step of a caller stands on
 pub record Stepping (t : Plan) (c : ℕ) (s : Shared) (since : ℕ → ℕ) (x : Caller) : Type 0 where
@@ -103,17 +98,6 @@ KeptAt t c s since x r = KeptAs t c s since x r (wanted t.target x.entry r)
 not_plain : (o : Option Instr) (i : TargetInstr) → ((j : Instr) → Plain j ≡ i → ⊥) → option_map Plain o ≡ Some i → ⊥
 not_plain None i other is = let z : None ≡ Some i = is in cc
 not_plain (Some j) i other is = other j (let same : Plain j ≡ i = cc in same)
-
--- a `new` stores 0 to each field of its kind
-all_zeroed : (t : Plan) (r kind g : ℕ) → t.target.fields ≡ t.text.fields → nat_lt (g + 1) (zero_count t.target (Some (Plain (instr.New (Ref r) kind)))) ≡ false → length (blank_fields t.text kind) ≤ g + 1
-all_zeroed t r kind g fields ends =
-    let count : length (blank_fields t.text kind) ≡ zero_count t.target (Some (Plain (instr.New (Ref r) kind))) = length-map (fields_of kind t.text.fields) blank_field ∙ ap (λ (fields : List FieldDecl). length (fields_of kind fields)) (sym fields) in
-    let past : zero_count t.target (Some (Plain (instr.New (Ref r) kind))) ≤ g + 1 = grind (arith, nat_tests, ends) in
-    omega (arith, count, past)
-
--- a reference that is put into a register is there
-put_there : (mirror : Registers) (r n : ℕ) → r < length mirror.references → node_in (with_reference mirror (Ref r) (record { node = n; marked = false })) r ≡ n
-put_there mirror r n lt = ap (λ (z : Reference). z.node) (unwrap_or-slice_get (set mirror.references r (record { node = n; marked = false })) r no_reference ∙ get_or-set_same mirror.references r (record { node = n; marked = false }) no_reference lt)
 
 module _ (t : Plan) (c : ℕ) (s : Shared) (since : ℕ → ℕ) (x : Caller) (w : Stepping t c s since x) where
   here : IsProperPoint t.text (point_at s x)
@@ -257,7 +241,7 @@ module _ (t : Plan) (c : ℕ) (s : Shared) (since : ℕ → ℕ) (x : Caller) (w
   -- ---- each routine
 
   by_retirement : (slot : ℕ) (stage : RetireStage) (go : AfterRetire) → HoldsAt t s since c x (Retires (record { slot = slot; stage = stage }) go) → KeptAt t c s since x (Retires (record { slot = slot; stage = stage }) go)
-  by_retirement slot retires.ReadPhase go h draws = retire_loaded t c s since x slot h.0.0 go w.holds w.told.base h.0.1 h.1
+  by_retirement slot retires.ReadPhase go h draws = retire_loaded t c s since x slot h.0.0 go w.plan.null w.holds w.told.base h.0.1 h.1
   by_retirement slot (retires.StoreStatus p) go h draws = retire_stored t c s since x slot h.0.0 p (s.memory (Status slot)) go w.plan w.holds w.told.base w.below h.0.1 h.1
 
   by_announcing : (announcing : Announcing) → HoldsAt t s since c x (Announces announcing) → KeptAt t c s since x (Announces announcing)

@@ -68,7 +68,7 @@ operand_got t s since c x m entry l r w is operand = by_method m.walk.method.wra
 
 pub cas_offers : (t : Plan) (s : Shared) (since : ℕ → ℕ) (c : ℕ) (x : Caller) (m : Trail t) (entry : CasEntry) (l : ℕ) → Owing t s since c x m → slice_get (code_in m.walk.method) x.entry.hand.at ≡ Some (Plain (instr.Cas entry l)) → AreAskedBy t.text entry s.source.nodes m.mirror → Offers t s c x.entry.hand.registers m.mirror entry
 cas_offers t s since c x m entry l w is asked = offers t s since c x m.mirror entry w.standing w.walks.agree w.walks.safe (kind_right m.walk.method (erased_of t w.standing.plan) x.entry.hand.at (instr.Cas entry l) is) asked
-    (λ z root. clear_safe t s since c x m w (top s z) (root_clear t s since c x m w z) (w.standing.holds.holds.store.top z))
+    (λ z root. clear_safe t s c x (top s z) (root_clear t s since c x z w.standing.base w.proper) (w.standing.holds.holds.store.top z))
     (λ r f field. safe_apart t s since c x (link s (node_in m.mirror r) (place_of t.text.fields f)) (name_of (value_in m.mirror entry.expected)) w.standing
     (link_safe t s since c x m w (node_in m.mirror r) (place_of t.text.fields f) (got_clear t s since c x m w (node_in m.mirror r) (operand_got t s since c x m entry l r w is (object_is (Ref r) f entry field))))
     (value_safe t s c x (spot_of x.entry.hand) m entry.expected w.walks))

@@ -1,6 +1,5 @@
 -- The start: nobody has announced a phase, and every caller is idle.
-use Rattle.std.proofs.Common.{ℕ, zero, suc, ◌≡◌, ◌≤◌, true, false, [], replicate, Some, None, arith, sym, subst, refl}
-use Rattle.std.specs.Prelude.{slice_index}
+use Rattle.std.proofs.Common.{ℕ, ◌≡◌, ◌≤◌, true, false, [], Some, None, arith, sym, subst, refl}
 use Rattle.oa_words.specs.Words.{Word, Phase, Warning}
 use Rattle.caller_parts.specs.Operands.{cradle_count}
 use Rattle.caller_steps.specs.Entries.{idle_entry}
@@ -10,6 +9,7 @@ use Rattle.epoch_relation.specs.Reckoned.{reckoned_at, reckoned_words, EpochHold
 use Rattle.epoch_relation.specs.Callers.{Caller}
 use Rattle.epoch_relation.specs.Walking.{CallerHolds}
 use Rattle.epoch_relation.specs.Worlds.{Holds}
+use Rattle.oa_simulation.proofs.FirstCallers.{no_cradle}
 
 pub first_holds : (t : Plan) (memory : Word → ℕ) → IsFirst t memory → ((d : ℕ) → memory (Warning d) ≡ 0) → 1 ≤ memory Phase → EpochHolds t (first_shared t memory) (λ d. memory Phase)
 first_holds t memory w none begun = record {
@@ -38,11 +38,6 @@ first_holds t memory w none begun = record {
 
 abbrev pub first_caller : ℕ → Caller
 first_caller d = record { entry = idle_entry d; old = []; source = record { replies = []; running = None }; watch = record { got = []; old = [] } }
-
-no_cradle : (n k : ℕ) → slice_index (replicate n 0) k ≡ 0
-no_cradle zero k = refl
-no_cradle (suc n) zero = refl
-no_cradle (suc n) (suc k) = no_cradle n k
 
 pub first_told : (t : Plan) (memory : Word → ℕ) (since : ℕ → ℕ) (d : ℕ) → CallerHolds t (first_shared t memory) since d (first_caller d)
 first_told t memory since d = record {

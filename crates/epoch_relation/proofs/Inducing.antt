@@ -1,16 +1,14 @@
 -- From each step to every run.
-use Rattle.std.proofs.Common.{ℕ, ◌≡◌, ◌≢◌, ◌≤◌, ◌<◌, ◌∙◌, true, false, List, Some, sym, ap, subst, refl}
+use Rattle.std.proofs.Common.{ℕ, ◌≡◌, ◌≤◌, ◌<◌, ◌∙◌, true, false, List, Some, sym, ap, subst, refl}
 use Rattle.std.specs.Prelude.{slice_get}
-use Rattle.oa_words.specs.declared.packed.Kind.TheVariants as kinds
 use Rattle.oa_words.specs.Words.{Word, Status}
 use Rattle.oa_words.specs.Within.{AreKinds}
 use Rattle.oa_words.specs.Starts.{Suits}
 use Rattle.phase_pools.specs.Accesses.{WordAccess, word_of}
 use Rattle.phase_pools.specs.Pools.{Retirement}
 use Rattle.chain_laws.specs.Machine as pool
-use Rattle.source_machine.specs.MethodRuns.{Watched, put}
 use Rattle.source_machine.specs.Proper.{IsProper}
-use Rattle.source_machine.proofs.Places.{each_put, put_same}
+use Rattle.source_machine.proofs.Places.{each_put}
 use Rattle.caller_parts.specs.declared.call.Call.{Call}
 use Rattle.caller_parts.specs.declared.routine.Routine.{Routine}
 use Rattle.caller_parts.specs.declared.routine.Routine.TheVariants.{Idle, Retires}
@@ -36,21 +34,18 @@ use Rattle.oa_simulation.specs.Shadow.{Shadow, shadow_run}
 use Rattle.oa_simulation.specs.sim_relation.Callers.{IsRetiring}
 use Rattle.oa_simulation.specs.sim_relation.Naming.{present_at}
 use Rattle.oa_simulation.specs.sim_relation.Points.{DrawsHome}
-use Rattle.oa_simulation.specs.sim_relation.Shared.{IsOf}
 use Rattle.oa_simulation.specs.sim_relation.Steps.{TakesReady, after_access}
 use Rattle.oa_simulation.specs.sim_relation.Views.{Plan, Shared, Retiring}
 use Rattle.oa_simulation.proofs.Homes.{draws_home}
-use Rattle.oa_simulation.proofs.Induction.{along_run, belongs_seen, busy, call_stays, idle_is, present_more}
+use Rattle.oa_simulation.proofs.Induction.{along_run, belongs_seen, busy, call_stays, idle_is, present_more, called_put, entry_put}
 use Rattle.oa_simulation.proofs.Lifting.{Lifted, lift, stays_proper}
-use Rattle.oa_simulation.proofs.Pools.{retires_at, takes_ready}
-use Rattle.oa_simulation.proofs.sim_relation.Names.{slot_by}
-use Rattle.oa_simulation.proofs.sim_steps.Turning.{Others}
+use Rattle.oa_simulation.proofs.Pools.{retires_at, takes_ready, owners_retire}
 use Rattle.epoch_relation.specs.Beside.{Beside}
 use Rattle.epoch_relation.specs.Callers.{Caller}
 use Rattle.epoch_relation.specs.Keeping.{point_at, KeptWith}
 use Rattle.epoch_relation.specs.Reckoned.{reckoned}
 use Rattle.epoch_relation.specs.Walking.{IsPlan, IsIdle, HoldsAt}
-use Rattle.epoch_relation.specs.Worlds.{World, with_caller, after_step}
+use Rattle.epoch_relation.specs.Worlds.{with_caller, after_step}
 use Rattle.epoch_relation.proofs.Dispatching.{steps_keep}
 use Rattle.epoch_relation.proofs.Worlds.{calls_are_taken, world_step}
 
@@ -75,13 +70,7 @@ module _ (t : Plan) (state : CoreState) (z : Shadow) (b : Beside t state z) wher
       k.owner
 
   pub retires_used : RetiresUsed t.setting (view t.setting state).memory (standings (view t.setting state).who)
-  retires_used = record {
-    used = λ c own lt at.
-        (let slot = slot_by (reckoned b.w.shared b.w.since) own.slot (Retiring c) (retiring c own lt at) (b.holds.shared_holds.holds.slot own.slot) in
-        subst (λ (memory : Word → ℕ). IsOf kinds.Used (memory (Status own.slot))) b.memory slot.0);
-    alone = λ c d one other lc ld at there same.
-        (let both : Retiring c ≡ Retiring d = sym (retiring c one lc at) ∙ (ap b.w.shared.owner same ∙ retiring d other ld there) in cc);
-  }
+  retires_used = owners_retire t.setting state (reckoned b.w.shared b.w.since) b.holds.shared_holds.holds.slot (λ j. ap (λ (memory : Word → ℕ). memory (Status j)) b.memory) retiring
 
 -- ---- a step's entry and signs are those of its move
 
@@ -100,31 +89,6 @@ module _ (t : Plan) (plan : IsPlan t) (proper : IsProper t.text) (events_seen : 
   abbrev n : ℕ
   n = t.setting.sizes.callers
 
-  called_put : (v : CoreView) (c : ℕ) (e : Entry) → ((d : ℕ) → d < n → is_idle (v.who d).routine ≡ false → is_call t.target (v.who d).running.call ≡ true)
-      → (is_idle e.routine ≡ false → is_call t.target e.running.call ≡ true) → (who' : ℕ → Entry) → who' ≡ put v.who c e
-      → (d : ℕ) → d < n → is_idle (who' d).routine ≡ false → is_call t.target (who' d).running.call ≡ true
-  called_put v c e old new who' is d lt =
-      subst (λ (k : ℕ → Entry). is_idle (k d).routine ≡ false → is_call t.target (k d).running.call ≡ true) (sym is)
-      (each_put (λ i (y : Entry). i < n → is_idle y.routine ≡ false → is_call t.target y.running.call ≡ true) v.who c e (λ lt. new) (λ i ne. old i) d lt)
-
-  entry_put : (w : World) (v : CoreView) (c : ℕ) (x' : Caller) (e : Entry) → ((d : ℕ) → d < n → (w.who d).entry ≡ v.who d) → x'.entry ≡ e → (who' : ℕ → Entry) → who' ≡ put v.who c e
-      → (d : ℕ) → d < n → (put w.who c x' d).entry ≡ who' d
-  entry_put w v c x' e old new who' is =
-      subst (λ (k : ℕ → Entry). (d : ℕ) → d < n → (put w.who c x' d).entry ≡ k d) (sym is)
-      (each_put (λ d (y : Caller). d < n → y.entry ≡ put v.who c e d) w.who c x' (λ lt. new ∙ sym (put_same v.who c e)) (λ d ne lt. old d lt ∙ other d ne)) where
-        other : (d : ℕ) → d ≢ c → v.who d ≡ put v.who c e d
-        other d ne = sym (let there = stays d ne in there) where
-          stays : (d : ℕ) → d ≢ c → put v.who c e d ≡ v.who d
-          stays d ne = each_put (λ i (y : Entry). i ≢ c → y ≡ v.who i) v.who c e (λ no. absurd (no refl)) (λ i ne no. refl) d ne
-
-  -- the source's callers and method runs, where one of them has become another
-  source_put : (w : World) (v v' : Watched) (c : ℕ) (x' : Caller) → ((d : ℕ) → d < n → slice_get v.machine.callers d ≡ Some (w.who d).source) → Others v v' c → slice_get v'.machine.callers c ≡ Some x'.source
-      → (d : ℕ) → d < n → slice_get v'.machine.callers d ≡ Some (put w.who c x' d).source
-  source_put w v v' c x' old others new = each_put (λ d (y : Caller). d < n → slice_get v'.machine.callers d ≡ Some y.source) w.who c x' (λ lt. new) (λ d ne lt. (others d ne).0 ∙ old d lt)
-
-  run_put : (w : World) (v v' : Watched) (c : ℕ) (x' : Caller) → ((d : ℕ) → d < n → v.runs d ≡ (w.who d).watch) → Others v v' c → v'.runs c ≡ x'.watch → (d : ℕ) → d < n → v'.runs d ≡ (put w.who c x' d).watch
-  run_put w v v' c x' old others new = each_put (λ d (y : Caller). d < n → v'.runs d ≡ y.watch) w.who c x' (λ lt. new) (λ d ne lt. (others d ne).1 ∙ old d lt)
-
   -- a caller takes a call
   take_beside : (state behind : CoreState) (z : Shadow) (c : ℕ) (call : Call) (b : Beside t state z) → Moves t.target t.setting (seen state) (Takes c call) (seen behind) → NamedBeside t behind z b.w.shared.present
   take_beside state behind z c call b m =
@@ -138,13 +102,13 @@ module _ (t : Plan) (plan : IsPlan t) (proper : IsProper t.text) (events_seen : 
           v = b.v;
           holds = calls_are_taken t plan c b.w call b.holds idle;
           memory = b.memory ∙ sym m.3;
-          entry = entry_put b.w (seen state) c x' (taken t.setting.reclamation call ((seen state).who c)) b.entry (ap (taken t.setting.reclamation call) e) (seen behind).who m.4;
+          entry = entry_put (λ (y : Caller). y.entry) n b.w.who (seen state).who (seen behind).who c x' (taken t.setting.reclamation call ((seen state).who c)) b.entry (ap (taken t.setting.reclamation call) e) m.4;
           sourced = b.sourced;
           source = b.source;
           caller = each_put (λ d (x : Caller). d < n → slice_get b.v.machine.callers d ≡ Some x.source) b.w.who c x' (λ lt. b.caller c lt) (λ d ne lt. b.caller d lt);
           run = each_put (λ d (x : Caller). d < n → b.v.runs d ≡ x.watch) b.w.who c x' (λ lt. b.run c lt) (λ d ne lt. b.run d lt);
           unused = b.unused;
-          called = called_put (seen state) c (taken t.setting.reclamation call ((seen state).who c)) b.called (λ run. m.2) (seen behind).who m.4;
+          called = called_put t.target n (seen state).who (seen behind).who c (taken t.setting.reclamation call ((seen state).who c)) b.called (λ run. m.2) m.4;
         },
         refl,
       )
@@ -189,15 +153,15 @@ module _ (t : Plan) (plan : IsPlan t) (proper : IsProper t.text) (events_seen : 
           v = l.v';
           holds = world_step t c b.w (after_access s.memory a) made (present_at t.target s.memory s.unused x.entry x.entry.routine s.present) plan b.holds k;
           memory = k.memory ∙ (ap (λ (i : Word → ℕ). after_access i a) b.memory ∙ sym m.4);
-          entry = entry_put b.w (seen state) c k.x' next b.entry entry_is (seen behind).who m.5;
+          entry = entry_put (λ (y : Caller). y.entry) n b.w.who (seen state).who (seen behind).who c k.x' next b.entry entry_is m.5;
           sourced = l.sourced;
           source = l.placed.memory;
-          caller = source_put b.w b.v l.v' c k.x' b.caller l.others l.placed.caller;
-          run = run_put b.w b.v l.v' c k.x' b.run l.others l.placed.run;
+          caller = each_put (λ d (y : Caller). d < n → slice_get l.v'.machine.callers d ≡ Some y.source) b.w.who c k.x' (λ lt. l.placed.caller) (λ d ne lt. (l.others d ne).0 ∙ b.caller d lt);
+          run = each_put (λ d (y : Caller). d < n → l.v'.runs d ≡ y.watch) b.w.who c k.x' (λ lt. l.placed.run) (λ d ne lt. (l.others d ne).1 ∙ b.run d lt);
           unused = l.placed.unused;
-          called = called_put (seen state) c next b.called
+          called = called_put t.target n (seen state).who (seen behind).who c next b.called
               (λ on. subst (λ (call : Call). is_call t.target call ≡ true) (sym (call_stays (counted ((seen state).who c)) next (after_turns t.target t.setting ((seen state).who c) ((seen state).memory (word_of a)) run))) (b.called c lt run))
-              (seen behind).who m.5;
+              m.5;
         },
         k.present ∙ (ap (λ (memory : Word → ℕ). present_at t.target memory s.unused x.entry x.entry.routine s.present) b.memory
             ∙ (ap (λ (drawn : ℕ). present_at t.target (seen state).memory drawn x.entry x.entry.routine s.present) (sym b.unused)

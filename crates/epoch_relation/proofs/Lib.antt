@@ -1,9 +1,7 @@
 pub mod Rising
 pub mod Announcing
-pub mod Freeing
 pub mod Sweeping
 pub mod Bare
-pub mod Copied
 pub mod Local
 pub mod Loading
 pub mod Stable

@@ -7,11 +7,9 @@ use Rattle.norm_lang.specs.declared.text.Reg.TheVariants.{Num, Ref}
 use Rattle.norm_lang.specs.InstructionRules.{has_wrong_operand}
 use Rattle.phase_pools.specs.Accesses.{word_of}
 use Rattle.source_machine.specs.declared.event.SourceEvent.TheVariants as events
-use Rattle.source_machine.specs.declared.state.Value.{Value}
-use Rattle.source_machine.specs.declared.state.Value.TheVariants.{Number, Node}
-use Rattle.source_machine.specs.Memory.{value_at, value_in, exchange}
+use Rattle.source_machine.specs.Memory.{value_in, exchange}
 use Rattle.source_machine.specs.MethodRuns.{MethodRun, run_begun, run_after}
-use Rattle.source_machine.specs.Proper.{has, itself}
+use Rattle.source_machine.specs.Proper.{has}
 use Rattle.source_machine.specs.Run.{is_enabled_for}
 use Rattle.source_machine.specs.Step.{caller_turn}
 use Rattle.caller_parts.specs.Operands.{list_of, succeeds, to_retire}
@@ -38,7 +36,7 @@ use Rattle.run_ahead.specs.TypedCallers.{IsTypedCaller}
 use Rattle.run_ahead.proofs.Asked.{lists_find_kinds}
 use Rattle.oa_simulation.specs.sim_relation.Callers.{spot_of}
 use Rattle.epoch_relation.specs.Reckoned.{EpochHolds}
-use Rattle.epoch_relation.specs.Callers.{Caller, Base, IsSafe}
+use Rattle.epoch_relation.specs.Callers.{Caller, Base}
 use Rattle.epoch_relation.specs.Walking.{IsPlan, Trail, Listed, InExecutor, Committed}
 use Rattle.epoch_relation.specs.Keeping.{point_at, KeptWith, Ends}
 use Rattle.epoch_relation.proofs.Local.{Standing}
@@ -46,15 +44,7 @@ use Rattle.epoch_relation.proofs.Moving.{changed, base_changed, listed_changed}
 use Rattle.epoch_relation.proofs.Settling.{list_ends}
 use Rattle.epoch_relation.proofs.Sweeping.{changes_same}
 use Rattle.epoch_relation.proofs.Exchanging.{offers, both_succeed}
-use Rattle.epoch_relation.proofs.Accessing.{not_old}
-
--- a root is null or public, and not retired: it is safe at any point of a proper text
-pub root_safe_at : (t : Plan) (s : Shared) (since : ℕ → ℕ) (c : ℕ) (x : Caller) (z : ℕ) → EpochHolds t s since → Base t s since c x → IsProperPoint t.text (point_at s x) → IsSafe t s c x (top s z)
-root_safe_at t s since c x z f b proper = of (value_at s.source.roots z) refl (f.holds.store.top z) where
-  of : (v : Value) → value_at s.source.roots z ≡ v → (name_of (value_at s.source.roots z) ≡ 0) ⊎ (s.public (name_of (value_at s.source.roots z)) ≡ true) → IsSafe t s c x (name_of (value_at s.source.roots z))
-  of v is (inl none) = inl none
-  of (Number n) is (inr public) = inl (ap name_of is)
-  of (Node y) is (inr public) = inr (inr (public, ap (λ (v : Value). has (name_of v) x.old) is ∙ not_old x.old s.source.retired y.node (b.before y.node) (proper.roots z y.node y is (itself y.node))))
+use Rattle.epoch_relation.proofs.Accessing.{clear_safe, root_clear}
 
 -- a caller before an exchange of its list
 pub record InList (t : Plan) (s : Shared) (since : ℕ → ℕ) (c : ℕ) (x : Caller) (k : ℕ) (entry : CasEntry) : Type 0 where
@@ -93,7 +83,7 @@ module _ (t : Plan) (s : Shared) (since : ℕ → ℕ) (c : ℕ) (x : Caller) (k
       (subst (λ caller. IsTypedCaller t.text s.source.nodes caller) w.executes.3 w.proper.kinds) k entry w.there
 
   pub offered : Offers t s c x.entry.hand.registers m.mirror entry
-  offered = offers t s since c x m.mirror entry standing listed.agree listed.safe w.right asked (λ z root. root_safe_at t s since c x z w.holds w.base w.proper) (λ r f field. pair_at r (place_of t.text.fields f) entry.expected)
+  offered = offers t s since c x m.mirror entry standing listed.agree listed.safe w.right asked (λ z root. clear_safe t s c x (top s z) (root_clear t s since c x z w.base w.proper) (w.holds.holds.store.top z)) (λ r f field. pair_at r (place_of t.text.fields f) entry.expected)
 
   -- where the source's fails the core's fails too, and the list has ended
   pub list_failure_kept : exchange t.text.fields entry m.mirror s.source ≡ None

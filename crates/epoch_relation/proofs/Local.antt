@@ -4,7 +4,6 @@ use Rattle.std.specs.Prelude.{slice_get, IsTrue}
 use Rattle.norm_lang.specs.declared.text.Reg.{Reg}
 use Rattle.norm_lang.specs.declared.text.Reg.TheVariants.{Ref}
 use Rattle.norm_lang.specs.declared.text.Instr.{Instr}
-use Rattle.norm_lang.specs.declared.text.Instr.TheVariants as instr
 use Rattle.norm_lang.specs.declared.registers.Registers.{Registers}
 use Rattle.norm_lang.specs.Flow.{passed}
 use Rattle.norm_lang.specs.Freshness.{fresh_after}
@@ -27,8 +26,6 @@ use Rattle.epoch_relation.specs.Callers.{Caller, Base, IsSafe, IsAnnounced}
 use Rattle.epoch_relation.specs.Walking.{IsPlan, Trail, Walks, Gets}
 use Rattle.epoch_relation.proofs.Bare.{in_source, instr_is, undirected, local_none}
 use Rattle.norm_lang.specs.Flow.{goes_to}
-use Rattle.norm_lang.specs.PathRules.{reads_openly}
-use Rattle.target_laws.proofs.FreshRules.{open_reads_are_not_fresh}
 use Rattle.oa_simulation.specs.sim_relation.Callers.{Own, Shown}
 use Rattle.oa_simulation.proofs.sim_relation.Codes.{blank}
 use Rattle.run_ahead.specs.Ahead.{IsErased}
@@ -38,6 +35,7 @@ use Rattle.target_laws.proofs.local_laws.Settled.{step_goes}
 use Rattle.epoch_relation.proofs.Announcing.{safe_is_resident}
 use Rattle.run_ahead.specs.Following.{Walk}
 use Rattle.std.proofs.Common.{◌<◌}
+use Rattle.oa_simulation.proofs.sim_steps.Walks.Local.{local_is_old, local_shown}
 
 pub erased_of : (t : Plan) → IsPlan t → IsErased t.target t.text
 erased_of t plan = record { normal = plan.normal; within = plan.within; erases = plan.erases }
@@ -81,15 +79,6 @@ walks_on t s d x core next m i given mirror' plan is old goes changes safe shows
 
 -- ---- local code
 
-local_is_old : (i : Instr) (at : ℕ) (registers : Registers) (next : Spot) → local_step i at registers ≡ Some next → is_new i ≡ false
-local_is_old (instr.New d kind) at registers next is = absurd (let z : None ≡ Some next = is in cc)
-local_is_old _ at registers next is = refl
-
-local_opens : (i : Instr) (at : ℕ) (registers : Registers) (next : Spot) (r : Reg) → local_step i at registers ≡ Some next → IsTrue (reads r i) → IsTrue (reads_openly r i)
-local_opens (instr.Put a f b) at registers next r is read = absurd (let z : None ≡ Some next = is in cc)
-local_opens (instr.Commit entries) at registers next r is read = absurd (let z : None ≡ Some next = is in cc)
-local_opens _ at registers next r is read = read
-
 -- one step
 pub record Stepped (t : Plan) (s : Shared) (d : ℕ) (x : Caller) (core next : Spot) (m : Trail t) : Type 0 where
   pub m' : Trail t
@@ -129,7 +118,7 @@ plain_step t s since d x core next m i st is step w g =
       walk = refl;
       walks = walks_on t s d x core next m i made.given made.mirror' st.plan is (local_is_old i core.at core.registers next step) (local_goes i core.at core.registers next step) made.changes
           (λ r set. safe made.given made.known)
-          (λ gen r set. shown made.given gen made.known) w;
+          (λ gen r set. local_shown s m.walk.method m.path m.mirror i core next made.given (erased_of t st.plan) is step w.path_is (w.shown gen) made.known) w;
       gets = record {
         got = got;
         made = λ n k has_n held here. made_before (code_in m.walk.method) core.at m.path k (g.made n k has_n held here);
@@ -152,11 +141,6 @@ plain_step t s since d x core next m i st is step w g =
     safe : (given : ℕ) → (given ≡ 0) ⊎ ((r : ℕ) × IsTrue (reads (Ref r) i) × (node_in m.mirror r ≡ given)) → IsSafe t s d x given
     safe given (inl z) = inl z
     safe given (inr read) = subst (λ (n : ℕ). IsSafe t s d x n) read.2 (w.safe read.0)
-
-    shown : (given : ℕ) → m.walk.method.wrapup ≡ false → (given ≡ 0) ⊎ ((r : ℕ) × IsTrue (reads (Ref r) i) × (node_in m.mirror r ≡ given)) → Shown s given
-    shown given gen (inl z) = inl z
-    shown given gen (inr read) = subst (λ (n : ℕ). Shown s n) read.2
-        (w.shown gen read.0 (open_reads_are_not_fresh t.target t.text st.plan.normal st.plan.erases m.walk.method m.path core.at i (Ref read.0) (record { leads = w.path_is; stands = is }) (local_opens i core.at core.registers next (Ref read.0) step read.1)))
 
 -- local code, at most so many instructions: the source's comes to the same place
 pub record RunTo (t : Plan) (s : Shared) (d : ℕ) (x : Caller) (n : ℕ) (core last : Spot) (m : Trail t) : Type 0 where

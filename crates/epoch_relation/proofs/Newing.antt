@@ -1,5 +1,5 @@
 -- The stores of 0 of a `new`: with the first its cradle's slot loses its name, and with the last it gets the name that is drawn.
-use Rattle.std.proofs.Common.{ℕ, zero, suc, ◌≡◌, ◌≢◌, ◌==◌, ◌+◌, ◌≤◌, ◌<◌, ◌∙◌, ◌⊎◌, ◌&&◌, Bool, true, false, List, [], ◌∷◌, length, Option, Some, None, arith, inl, inr, ⊎_elim, sym, ap, subst, refl, if◌then◌else◌}
+use Rattle.std.proofs.Common.{ℕ, ◌≡◌, ◌≢◌, ◌==◌, ◌+◌, ◌≤◌, ◌<◌, ◌∙◌, ◌⊎◌, Bool, true, false, List, [], ◌∷◌, length, Option, Some, None, arith, inl, inr, ⊎_elim, sym, ap, subst, refl, if◌then◌else◌}
 use Rattle.std.specs.Prelude.{slice_get, IsTrue, nat_lt, unwrap_or}
 use Rattle.std.proofs.lemmas.Bool.{cases_eq}
 use Rattle.std.proofs.lemmas.Bool.Decides.{nat_tests, eqb_tells}
@@ -18,7 +18,7 @@ use Rattle.target_code.specs.declared.target.TargetInstr.TheVariants.{Plain}
 use Rattle.target_code.specs.Paths.{target_goes_from}
 use Rattle.target_code.specs.PathStates.{over_plain, is_fresh_along}
 use Rattle.target_laws.specs.Methods.{code_in}
-use Rattle.oa_words.specs.Words.{Word, Phase, Place, Warning, Hazard, Status, FieldOf, Cell, Head, Link}
+use Rattle.oa_words.specs.Words.{Word, Warning, FieldOf}
 use Rattle.oa_words.specs.Memories.{store}
 use Rattle.source_machine.specs.declared.event.SourceEvent.TheVariants as events
 use Rattle.source_machine.specs.declared.state.Value.{Value}
@@ -58,15 +58,18 @@ use Rattle.epoch_relation.specs.Reckoned.{reckoned_words, reckoned, EpochHolds}
 use Rattle.epoch_relation.specs.Callers.{Caller, Base, IsSafe, IsAnnounced, Changes as SharedChanges}
 use Rattle.epoch_relation.specs.Walking.{IsPlan, Trail, Walks, Gets, Pairs, StandsAt}
 use Rattle.epoch_relation.specs.Keeping.{point_at, KeptWith, Ends, Comes}
-use Rattle.epoch_relation.proofs.Rising.{with_words}
+use Rattle.oa_simulation.proofs.sim_steps.Pools.Phases.{with_words}
 use Rattle.run_ahead.proofs.Getting.{plain_got, given_got, more_got}
 use Rattle.run_ahead.proofs.Plain.{path_on}
 use Rattle.epoch_relation.proofs.Local.{Standing, erased_of, safe_apart}
-use Rattle.epoch_relation.proofs.Moving.{changed, base_changed, walks_changed, safe_changed}
+use Rattle.epoch_relation.proofs.Moving.{changed, base_changed, walks_changed}
 use Rattle.epoch_relation.proofs.Settling.{settles_ends}
 use Rattle.epoch_relation.proofs.Storing.{SameWords, holds_stored, goes_words, reckoned_field}
 use Rattle.epoch_relation.proofs.Same.{placed, running_placed}
 use Rattle.epoch_relation.proofs.Accessing.{Turned, turns, stands_marked, Owing, got_clear, link_public}
+use Rattle.oa_simulation.proofs.sim_steps.Accesses.Newing.{twice_word, goes_new}
+use Rattle.oa_simulation.proofs.sim_steps.Accesses.Zeroed.{none_before}
+use Rattle.oa_simulation.proofs.sim_relation.Names.{shown_kept}
 
 -- what is known where the fields of a cradle's slot are zeroed
 pub record Zeroing (t : Plan) (s : Shared) (since : ℕ → ℕ) (c : ℕ) (x : Caller) (m : Trail t) (r kind k g : ℕ) : Type 0 where
@@ -115,10 +118,6 @@ module _ (t : Plan) (s : Shared) (since : ℕ → ℕ) (c : ℕ) (x : Caller) (m
   safe_still s' v n owner public present got (inr (inl own)) = inr (inl (own_still s' v n owner present got own))
   safe_still s' v n owner public present got (inr (inr p)) = inr (inr (ap (λ (f : ℕ → Bool). f n) public ∙ p.0, p.1))
 
-  shown_still : (s' : Shared) (n : ℕ) → s'.public ≡ s.public → Shown s n → Shown s' n
-  shown_still s' n public (inl z) = inl z
-  shown_still s' n public (inr p) = inr (ap (λ (f : ℕ → Bool). f n) public ∙ p)
-
   walks_still : (s' : Shared) (v : ℕ) → s'.owner ≡ s.owner → s'.public ≡ s.public → s'.present ≡ put s.present (cradle_of x.entry k) v → Walks t s' c x (spot_of x.entry.hand) m
   walks_still s' v owner public present = record {
     call = w.walks.call;
@@ -130,7 +129,7 @@ module _ (t : Plan) (s : Shared) (since : ℕ → ℕ) (c : ℕ) (x : Caller) (m
     agree = w.walks.agree;
     safe = λ i. safe_still s' v (node_in m.mirror i) owner public present (got_here i) (w.walks.safe i);
     fresh = λ gen i is. own_still s' v (node_in m.mirror i) owner present (got_here i) (w.walks.fresh gen i is);
-    shown = λ gen i is. shown_still s' (node_in m.mirror i) public (w.walks.shown gen i is);
+    shown = λ gen i is. shown_kept s s' (node_in m.mirror i) (λ n was. ap (λ (f : ℕ → Bool). f n) public ∙ was) (w.walks.shown gen i is);
   }
 
   -- what the slot had before, where it has another name than the one that came
@@ -202,35 +201,6 @@ zero_kept t c s since x m r kind k g w =
 
 -- ---- the draw
 
-twice_at : (b : Bool) (x y : ℕ) → (if b then x else (if b then x else y)) ≡ (if b then x else y)
-twice_at true x y = refl
-twice_at false x y = refl
-
-twice : (m : Word → ℕ) (j g : ℕ) (v : Word) → store (store m (FieldOf j g) 0) (FieldOf j g) 0 v ≡ store m (FieldOf j g) 0 v
-twice m j g (FieldOf a b) = twice_at ((a == j) && (b == g)) 0 (m (FieldOf a b))
-twice m j g Phase = refl
-twice m j g (Place c) = refl
-twice m j g (Warning c) = refl
-twice m j g (Hazard c r) = refl
-twice m j g (Status i) = refl
-twice m j g (Cell x) = refl
-twice m j g (Head kind) = refl
-twice m j g (Link i) = refl
-
-goes_new : (t : Plan) (s : Shared) (c kind j g : ℕ) → MayChange t c s (zeroed s j g) → MayChange t c (zeroed s j g) (drawn t (zeroed s j g) kind j g) → MayChange t c s (drawn t (zeroed s j g) kind j g)
-goes_new t s c kind j g one two = record {
-  phase = two.phase;
-  warning = two.warning;
-  tag = two.tag;
-  public = two.public;
-  link = two.link;
-  hazard = two.hazard;
-  protects = two.protects;
-  validated = two.validated;
-  held = λ i d m ne is. (let a = one.held i d m ne is in let b = two.held i d m ne a.0 in (b.0, b.1 ∙ a.1, (λ h. b.2 h ∙ a.2 h)));
-  retiring = λ i d ne is. (let a = one.retiring i d ne is in let b = two.retiring i d ne a.0 in (b.0, b.1 ∙ a.1, refl));
-}
-
 pub record Drawing (t : Plan) (s : Shared) (since : ℕ → ℕ) (c : ℕ) (x : Caller) (m : Trail t) (r kind k g : ℕ) : Type 0 where
   pub zeroing : Zeroing t s since c x m r kind k g
   pub proper : IsProperPoint t.text (point_at s x)
@@ -266,7 +236,7 @@ module _ (t : Plan) (s : Shared) (since : ℕ → ℕ) (c : ℕ) (x : Caller) (m
   s' = with_words (drawn t (zeroed s (cradle_of x.entry k) g) kind (cradle_of x.entry k) g) (store s.memory (FieldOf (cradle_of x.entry k) g) 0)
 
   same_words : SameWords (drawn t (zeroed (reckoned s since) (cradle_of x.entry k) g) kind (cradle_of x.entry k) g).memory (reckoned_words (store s.memory (FieldOf (cradle_of x.entry k) g) 0) since)
-  same_words v = reckoned_field s.memory since (cradle_of x.entry k) g 0 v ∙ sym (twice (reckoned_words s.memory since) (cradle_of x.entry k) g v)
+  same_words v = reckoned_field s.memory since (cradle_of x.entry k) g 0 v ∙ sym (twice_word (reckoned_words s.memory since) (cradle_of x.entry k) g v)
 
   fine1 : SharedHolds t (zeroed (reckoned s since) (cradle_of x.entry k) g)
   fine1 = fine_zeroed t (reckoned s since) c k j g plan.null f.holds own (λ i. f.unguarded c i)
@@ -385,7 +355,7 @@ module _ (t : Plan) (s : Shared) (since : ℕ → ℕ) (c : ℕ) (x : Caller) (m
         (λ (old : has n x.watch.got ≡ true). made_before (code_in m.walk.method) x.entry.hand.at m.path i (w.gets.made n i old held (before t s since c x m r kind k g w s.unused n ne (ap (λ (p : ℕ → ℕ). p (t.home n)) (sym present_new) ∙ here))))
         (has_with n s.unused x.watch.got got))
         (cases_eq n s.unused);
-    safe = λ n got. safe_changed t s' c x n y.entry y.source y.watch (⊎_elim (λ (e : n ≡ s.unused). inr (inl (own_new n e))) (λ (old : has n x.watch.got ≡ true). safe_old n (inr old) (w.gets.safe n old)) (has_with n s.unused x.watch.got got));
+    safe = λ n got. ⊎_elim (λ (e : n ≡ s.unused). inr (inl (own_new n e))) (λ (old : has n x.watch.got ≡ true). safe_old n (inr old) (w.gets.safe n old)) (has_with n s.unused x.watch.got got);
     known = λ wrap. absurd (let z : true ≡ false = sym wrap ∙ w.generator in cc);
     older = w.gets.older;
   }
@@ -450,14 +420,6 @@ module _ (t : Plan) (s : Shared) (since : ℕ → ℕ) (c : ℕ) (x : Caller) (m
     goes = goes';
     caller_holds = ended'.caller_holds;
   })
-
--- from the second store on the slot has no name already
-none_before : (present : ℕ → ℕ) (j field : ℕ) → (0 < field → present j ≡ 0) → put present j 0 ≡ emptied_at field j present
-none_before present j zero none = refl
-none_before present j (suc field) none = λ i l. at l (eqb_tells l j) i where
-  at : (l : ℕ) → (((l == j) ≡ true) × (l ≡ j)) ⊎ (((l == j) ≡ false) × (l ≢ j)) → put present j 0 l ≡ present l
-  at l (inl e) = rw e.0 (sym (ap present e.1 ∙ none (omega arith)))
-  at l (inr e) = rw e.0 refl
 
 -- each store of a `new`
 pub zero_step : (t : Plan) (c : ℕ) (s : Shared) (since : ℕ → ℕ) (x : Caller) (m : Trail t) (r kind k g : ℕ) → Zeroing t s since c x m r kind k g → instr_in t.target x.entry ≡ Some (Plain (instr.New (Ref r) kind)) → (nat_lt (g + 1) (zero_count t.target (instr_in t.target x.entry)) ≡ false → Drawing t s since c x m r kind k g)

@@ -1,30 +1,28 @@
 -- The phase is loaded and announced, and the announcement is withdrawn where the call ends.
-use Rattle.std.proofs.Common.{ℕ, zero, suc, ◌≡◌, ◌≢◌, ◌==◌, ◌≤◌, ◌<◌, ◌∙◌, Bool, true, false, List, [], ◌∷◌, replicate, get_or, Option, Some, None, arith, inl, ⊎_elim, sym, ap, refl}
+use Rattle.std.proofs.Common.{ℕ, ◌≡◌, ◌≢◌, ◌==◌, ◌≤◌, ◌<◌, ◌∙◌, Bool, true, false, List, [], ◌∷◌, Option, Some, None, arith, inl, ⊎_elim, sym, ap, refl}
 use Rattle.std.specs.Prelude.{slice_get, option_map}
 use Rattle.std.proofs.lemmas.List.{map-append}
-use Rattle.std.proofs.lemmas.Option.{slice_get-map, unwrap_or-slice_get}
+use Rattle.std.proofs.lemmas.Option.{slice_get-map}
 use Rattle.std.proofs.lemmas.Bool.Decides.{eqb_tells}
 use Rattle.norm_lang.specs.declared.text.Op.{Op}
 use Rattle.norm_lang.specs.declared.text.Text.{Text}
 use Rattle.norm_lang.specs.declared.text.Reg.{Reg}
 use Rattle.norm_lang.specs.declared.text.Reg.TheVariants.{Num, Ref}
 use Rattle.norm_lang.specs.Local.{Spot}
-use Rattle.norm_lang.specs.Registers.{first_registers, no_reference, reference_in}
+use Rattle.norm_lang.specs.Registers.{first_registers}
 use Rattle.target_code.specs.declared.target.TargetOp.{TargetOp}
 use Rattle.target_code.specs.Erasing.{erased_op}
 use Rattle.oa_words.specs.Words.{Word, Phase, Warning}
 use Rattle.oa_words.specs.Memories.{store}
 use Rattle.target_laws.specs.Methods.{Method}
 use Rattle.source_machine.specs.declared.event.SourceEvent.TheVariants as events
-use Rattle.source_machine.specs.declared.event.SourceReply.{SourceReply}
+use Rattle.norm_lang.specs.declared.reply.SourceReply.{SourceReply}
 use Rattle.source_machine.specs.declared.state.SourceCaller.{SourceCaller}
 use Rattle.source_machine.specs.MethodRuns.{run_begun, run_after}
 use Rattle.source_machine.specs.Run.{is_call_of, is_enabled_for}
 use Rattle.source_machine.specs.Step.{begun, caller_turn, generator_at}
-use Rattle.caller_parts.specs.declared.call.Reply.{Reply}
-use Rattle.caller_parts.specs.declared.call.Replied.{Replied}
 use Rattle.caller_parts.specs.Calls.{is_call, is_call_of as is_core_call_of}
-use Rattle.caller_parts.specs.Pairing.{replied_by}
+use Rattle.caller_parts.specs.Pairing.{replied_by, reply_of}
 use Rattle.caller_parts.specs.declared.routine.AnnounceReason.{AnnounceReason}
 use Rattle.caller_parts.specs.declared.routine.AnnounceReason.TheVariants.{Begin, Again, Swept}
 use Rattle.caller_parts.specs.declared.routine.Announcing.TheVariants as announces
@@ -37,10 +35,10 @@ use Rattle.run_ahead.specs.Standing.{Call, caller_of, running_of, run_from, firs
 use Rattle.run_ahead.specs.Following.{generator_walk}
 use Rattle.run_ahead.proofs.Enabled.{restart_is_enabled, generator_inside}
 use Rattle.run_ahead.proofs.Standing.{generator_restarts}
-use Rattle.run_ahead.proofs.Starting.{first_is_blank}
+use Rattle.run_ahead.proofs.Starting.{null_at, first_is_blank}
 use Rattle.run_ahead.proofs.Watched.{begin_run, restart_run}
 use Rattle.oa_simulation.specs.sim_relation.Views.{Plan, Shared, link}
-use Rattle.oa_simulation.specs.sim_relation.Callers.{call_of, source_reply}
+use Rattle.oa_simulation.specs.sim_relation.Callers.{call_of}
 use Rattle.oa_simulation.specs.sim_relation.Points.{done, event_of, unused_after}
 use Rattle.oa_simulation.proofs.sim_relation.Playing.{plays_first}
 use Rattle.oa_simulation.proofs.sim_relation.Words.{store_idle}
@@ -130,13 +128,6 @@ renewed t s c x Swept plan is w =
 
 -- ---- the store of an announcement
 
-null_at : (args : List ℕ) (r : ℕ) → reference_in (first_registers args) (Ref r) ≡ no_reference
-null_at args r = unwrap_or-slice_get (replicate 8 no_reference) r no_reference ∙ nulls 8 r where
-  nulls : (n k : ℕ) → get_or (replicate n no_reference) k no_reference ≡ no_reference
-  nulls zero k = refl
-  nulls (suc n) zero = refl
-  nulls (suc n) (suc k) = nulls n k
-
 own_word : (memory : Word → ℕ) (c p : ℕ) → store memory (Warning c) p (Warning c) ≡ p
 own_word memory c p = ⊎_elim (λ (e : ((c == c) ≡ true) × (c ≡ c)). rw e.0 refl) (λ (e : ((c == c) ≡ false) × (c ≢ c)). absurd (e.1 refl)) (eqb_tells c c)
 
@@ -224,7 +215,7 @@ base_withdrawn t s since c x b = record {
   cradle = b.cradle;
 }
 
-pub call_ended : (t : Plan) (c : ℕ) (s : Shared) (since : ℕ → ℕ) (x : Caller) (reply : Reply) → EpochHolds t s since → Base t s since c x → HasReplied x (source_reply reply)
+pub call_ended : (t : Plan) (c : ℕ) (s : Shared) (since : ℕ → ℕ) (x : Caller) (reply : SourceReply) → EpochHolds t s since → Base t s since c x → HasReplied x reply
     → KeptWith t c s since x (store s.memory (Warning x.entry.number) 0) (accepted Epochs t.target t.setting (s.memory (Warning x.entry.number)) (counted x.entry) (Announces (announces.Leaves reply))) s.present
 call_ended t c s since x reply f b w = record {
   s' = owned s c 0;
@@ -238,6 +229,6 @@ call_ended t c s since x reply f b w = record {
   goes = goes_owned t s since c 0 f;
   caller_holds = record {
     base = base_changed t (owned s c 0) (since_now s since c) c x _ x.source x.watch refl refl (base_withdrawn t s since c x b);
-    spot = w ∙ ap (λ (rs : List SourceReply). record { replies = rs; running = None }) (sym (map-append (λ (r : Replied). source_reply r.reply) x.entry.replies (replied_by reply (counted x.entry).running ∷ [])));
+    spot = w ∙ ap (λ (rs : List SourceReply). record { replies = rs; running = None }) (sym (map-append reply_of x.entry.replies (replied_by reply (counted x.entry).running ∷ [])));
   };
 }

@@ -37,7 +37,7 @@ use Rattle.run_ahead.proofs.Quiet.{goes_next}
 use Rattle.run_ahead.proofs.TypedMemory.{register_for, put_typed}
 use Rattle.oa_simulation.specs.sim_relation.Views.{Plan, Held, Null, Shared, Apart, link, name_of, word_for}
 use Rattle.oa_simulation.specs.sim_relation.Points.{IsProperPoint}
-use Rattle.oa_simulation.proofs.sim_relation.Names.{own_private}
+use Rattle.oa_simulation.proofs.sim_relation.Names.{KeepsNames, own_private}
 use Rattle.oa_simulation.proofs.sim_relation.Playing.{plays_first}
 use Rattle.oa_simulation.proofs.sim_steps.Accesses.Puts.{field_there}
 use Rattle.oa_simulation.proofs.sim_steps.Exchanges.Exchanging.{word_agrees}
@@ -55,7 +55,7 @@ use Rattle.epoch_relation.proofs.Local.{Standing, walks_on, erased_of, safe_apar
 use Rattle.epoch_relation.proofs.Moving.{changed, base_changed, walks_changed, gets_changed}
 use Rattle.epoch_relation.proofs.Settling.{settles_ends}
 use Rattle.epoch_relation.proofs.Storing.{holds_stored, goes_words, reckoned_field}
-use Rattle.epoch_relation.proofs.Same.{Keeps, walks_kept, gets_kept}
+use Rattle.epoch_relation.proofs.Same.{walks_kept, gets_kept}
 use Rattle.epoch_relation.proofs.Accessing.{Turned, turns, asked_at, stands_marked, Owing, got_clear, register_got, link_safe}
 
 value_shown : (t : Plan) (s : Shared) (c : ℕ) (x : Caller) (core : Spot) (m : Trail t) (b : Reg) → Walks t s c x core m → m.walk.method.wrapup ≡ false → is_fresh_along (code_in m.walk.method) m.path b ≡ false → Shown s (name_of (value_in m.mirror b))
@@ -146,8 +146,8 @@ put_kept t c s since x r f b plan fine base below w proper is word = record {
     retired = λ n is. is;
   }
 
-  keeps : Keeps t c s (linked t s (node_in w.0.mirror r) (place_of t.text.fields f) (value_in w.0.mirror b))
-  keeps = record { held = λ j k is. (is, refl); back = λ n k held here. (held, here); public = λ n is. is }
+  keeps : KeepsNames c s (linked t s (node_in w.0.mirror r) (place_of t.text.fields f) (value_in w.0.mirror b))
+  keeps = record { held = λ j k is. (is, refl); public = λ n is. is }
 
   turn : Turned t s c 0 x w.0 (instr.Put (Ref r) f b) (record { at = x.entry.hand.at + 1; registers = x.entry.hand.registers }) w.0.mirror
   turn = turns t s c 0 x w.0 i (record { at = x.entry.hand.at + 1; registers = x.entry.hand.registers }) w.0.mirror plan w.1 w.3 is refl refl refl
@@ -189,7 +189,7 @@ put_kept t c s since x r f b plan fine base below w proper is word = record {
     below = below;
     announced = w.4;
     walks = walks_changed t s' c x next m' e y.source x.watch refl refl (walks_kept t c s s' x keeps next m' walks);
-    gets = gets_changed t s' c x m' e y.source (gets_kept t c s s' x keeps m' (gets_past t s c x w.0 x.entry.hand.at i x.entry.hand.registers is changes w.2));
+    gets = gets_changed t s' c x m' e y.source (gets_kept t c s s' x keeps since m' plan.null fine' (gets_past t s c x w.0 x.entry.hand.at i x.entry.hand.registers is changes w.2));
     pairs = λ gen. pairs;
   }
 

@@ -1,14 +1,12 @@
 -- A load of the text, and the local code after it.
-use Rattle.std.proofs.Common.{ℕ, zero, suc, ◌≡◌, ◌+◌, ◌<◌, ◌∙◌, ◌⊎◌, Bool, true, false, List, [], ◌∷◌, Option, Some, None, inl, inr, ⊎_elim, sym, ap, subst, refl}
-use Rattle.std.specs.Prelude.{slice_get, IsTrue, unwrap_or}
+use Rattle.std.proofs.Common.{ℕ, zero, suc, ◌≡◌, ◌+◌, ◌<◌, ◌∙◌, ◌⊎◌, Bool, true, false, List, ◌∷◌, Some, None, inl, inr, ⊎_elim, sym, ap, subst, refl}
+use Rattle.std.specs.Prelude.{slice_get, IsTrue}
 use Rattle.norm_lang.specs.declared.text.Instr.{Instr}
 use Rattle.norm_lang.specs.declared.text.Instr.TheVariants as instr
 use Rattle.norm_lang.specs.declared.text.Reg.{Reg}
-use Rattle.norm_lang.specs.declared.text.Reg.TheVariants.{Num, Ref}
-use Rattle.norm_lang.specs.declared.registers.Reference.{Reference}
+use Rattle.norm_lang.specs.declared.text.Reg.TheVariants.{Ref}
 use Rattle.norm_lang.specs.declared.registers.Registers.{Registers}
-use Rattle.norm_lang.specs.Local.{Spot, remainder}
-use Rattle.norm_lang.specs.Registers.{number_in, reference_in}
+use Rattle.norm_lang.specs.Local.{Spot}
 use Rattle.norm_lang.specs.RegisterUse.{destination, sets}
 use Rattle.target_code.specs.declared.target.TargetInstr.TheVariants.{Plain}
 use Rattle.target_code.specs.Erasing.{redirected}
@@ -20,8 +18,7 @@ use Rattle.source_machine.specs.declared.event.SourceEvent.TheVariants as events
 use Rattle.source_machine.specs.declared.state.SourceCaller.{SourceCaller}
 use Rattle.source_machine.specs.declared.state.Value.{Value}
 use Rattle.source_machine.specs.declared.state.Value.TheVariants.{Number, Node}
-use Rattle.source_machine.specs.Memory.{loaded, access_by, value_at, with_value, field_behind, fields_named, null_fields}
-use Rattle.norm_lang.specs.KindFields.{owner_of, place_of}
+use Rattle.source_machine.specs.Memory.{loaded, access_by, with_value}
 use Rattle.source_machine.specs.MethodRuns.{run_with, with_name, name_got, name_in}
 use Rattle.source_machine.specs.Proper.{has}
 use Rattle.source_machine.specs.Run.{is_name}
@@ -36,11 +33,9 @@ use Rattle.run_ahead.specs.Agreeing.{Changes, node_in}
 use Rattle.run_ahead.specs.Known.{IsGot, AreGot}
 use Rattle.run_ahead.specs.Standing.{loads_into}
 use Rattle.run_ahead.proofs.Accesses.{is_load, IsLoad, value_changes}
-use Rattle.run_ahead.proofs.Mirroring.{reads_first, same_itself}
 use Rattle.oa_simulation.specs.sim_relation.Views.{Plan, Held, Null, Shared, Resident, name_of}
 use Rattle.oa_simulation.specs.sim_relation.Callers.{Shown, spot_of, HasMade}
 use Rattle.oa_simulation.specs.sim_relation.Points.{IsProperPoint}
-use Rattle.oa_simulation.proofs.sim_relation.Codes.{blank}
 use Rattle.oa_simulation.proofs.sim_relation.Names.{own_private}
 use Rattle.run_ahead.specs.Following.{Walk}
 use Rattle.oa_simulation.proofs.sim_relation.Playing.{PlaysEvent, plays_first}
@@ -53,34 +48,16 @@ use Rattle.epoch_relation.specs.Walking.{IsPlan, Trail, Walks, Gets, Running}
 use Rattle.epoch_relation.specs.Keeping.{point_at, KeptWith, Ends, Comes}
 use Rattle.epoch_relation.proofs.Bare.{undirected}
 use Rattle.run_ahead.proofs.Getting.{plain_got, given_got, more_got}
-use Rattle.epoch_relation.proofs.Copied.{copied_got}
-use Rattle.epoch_relation.proofs.Local.{Standing, walks_on, erased_of}
-use Rattle.epoch_relation.proofs.Loading.{Found, finds, null_names}
-use Rattle.epoch_relation.proofs.Moving.{changed, base_changed, walks_changed, safe_changed}
+use Rattle.epoch_relation.proofs.Local.{Standing, walks_on}
+use Rattle.epoch_relation.proofs.Loading.{Found, finds}
+use Rattle.epoch_relation.proofs.Moving.{changed, base_changed, walks_changed}
 use Rattle.epoch_relation.proofs.Settling.{settles_ends}
 use Rattle.epoch_relation.proofs.Sweeping.{changes_same}
-use Rattle.epoch_relation.proofs.Accessing.{Turned, turns, asked_at, stands_marked, Clear, Owing, got_clear, root_clear, link_clear, register_got, pairs_clear}
-
--- ---- what is found is clear
+use Rattle.epoch_relation.proofs.Accessing.{Turned, turns, asked_at, stands_marked, Clear, Owing, got_clear, register_got, pairs_clear, clear_safe}
 
 same_name : (v : Value) → name_in v ≡ name_of v
 same_name (Number n) = refl
 same_name (Node y) = refl
-
-behind_clear : (t : Plan) (s : Shared) (since : ℕ → ℕ) (c : ℕ) (x : Caller) (m : Trail t) (y : Reference) (f : ℕ) → Owing t s since c x m → IsGot x.watch.got y.node → Clear s x (name_of (field_behind t.text s.source y f))
-behind_clear t s since c x m y f w got = of (fields_named y.node s.source.nodes) refl where
-  of : (o : Option (List Value)) → fields_named y.node s.source.nodes ≡ o → Clear s x (name_of (value_at (unwrap_or o (null_fields t.text (owner_of t.text.fields f))) (place_of t.text.fields f)))
-  of None is = inl (null_names t f)
-  of (Some values) is = subst (λ (o : Option (List Value)). Clear s x (name_of (value_at (unwrap_or o []) (place_of t.text.fields f)))) is (link_clear t s since c x m w y.node (place_of t.text.fields f) (got_clear t s since c x m w y.node got))
-
-found_clear : (t : Plan) (s : Shared) (since : ℕ → ℕ) (c : ℕ) (x : Caller) (m : Trail t) (i : Instr) (d : Reg) → Owing t s since c x m → slice_get (code_in m.walk.method) x.entry.hand.at ≡ Some (Plain i) → loads_into i ≡ Some d → Clear s x (name_of (loaded t.text i m.mirror s.source))
-found_clear t s since c x m (instr.LoadRoot e z) d w is loads = root_clear t s since c x m w z
-found_clear t s since c x m (instr.LoadPick e z n a) d w is loads = root_clear t s since c x m w (z + remainder (number_in m.mirror a) n)
-found_clear t s since c x m (instr.LoadField e a f) d w is loads = behind_clear t s since c x m (reference_in m.mirror a) f w (base a is) where
-  base : (a : Reg) → slice_get (code_in m.walk.method) x.entry.hand.at ≡ Some (Plain (instr.LoadField e a f)) → IsGot x.watch.got (reference_in m.mirror a).node
-  base (Num r) is = inl refl
-  base (Ref r) is = copied_got m.walk.method (erased_of t w.standing.plan) m.path x.entry.hand.at (instr.LoadField e (Ref r) f) m.walk.started m.mirror x.watch.got r w.walks.path_is is (reads_first (Ref r) false) (same_itself (Ref r)) (blank m.walk w.walks.generator) w.gets.got
-found_clear t s since c x m _ d w is loads = absurd (let never : None ≡ Some d = loads in cc)
 
 -- ---- the run gets it
 
@@ -90,7 +67,7 @@ gets_found t s since c x m m' at n e source st w walk path got safe shown = reco
   got = subst (λ (v : Walk t.target t.text). AreGot v.method m'.path v.started m'.mirror (with_name n x.watch.got)) (sym walk) (subst (λ (p : List ℕ). AreGot m.walk.method p m.walk.started m'.mirror (with_name n x.watch.got)) (sym path) got);
   made = λ k i has_k held here. subst (λ (v : Walk t.target t.text). HasMade (code_in v.method) m'.path i) (sym walk) (subst (λ (p : List ℕ). HasMade (code_in m.walk.method) p i) (sym path)
       (made_before (code_in m.walk.method) at m.path i (made k i (has_with k n x.watch.got has_k) held here)));
-  safe = λ k has_k. safe_changed t s c x k e source (run_with n x.watch) (⊎_elim (λ (e : k ≡ n). subst (λ (j : ℕ). IsSafe t s c x j) (sym e) safe) (λ (old : has k x.watch.got ≡ true). w.safe k old) (has_with k n x.watch.got has_k));
+  safe = λ k has_k. ⊎_elim (λ (e : k ≡ n). subst (λ (j : ℕ). IsSafe t s c x j) (sym e) safe) (λ (old : has k x.watch.got ≡ true). w.safe k old) (has_with k n x.watch.got has_k);
   known = λ wrap k has_k. known n shown refl wrap k has_k;
   older = w.older;
 } where
@@ -166,10 +143,10 @@ load_kept t c s since x i d w plan f b below r proper is loads looks = subst (λ
   owes = record { standing = st; walks = r.1; gets = r.2; proper = proper; runs = turn.runs }
 
   found : Found t s c x r.0 i d w
-  found = finds t s since c x r.0 i d w (record { stands = st; walks = r.1; gets = r.2; here = is; proper = proper; runs = turn.runs; asked = asked_at t s c x r.0 i plan r.1 r.3 is l.access proper }) loads looks
+  found = finds t s since c x r.0 i d w (record { owes = owes; here = is; asked = asked_at t s c x r.0 i plan r.1 r.3 is l.access proper }) loads looks
 
-  clear : Clear s x (name_of (loaded t.text i r.0.mirror s.source))
-  clear = found_clear t s since c x r.0 i d owes is loads
+  safe : IsSafe t s c x (name_of (loaded t.text i r.0.mirror s.source))
+  safe = clear_safe t s c x n found.clear found.shown
 
   new : name_in (loaded t.text i r.0.mirror s.source) ≡ name_of (loaded t.text i r.0.mirror s.source)
   new = same_name (loaded t.text i r.0.mirror s.source)
@@ -187,14 +164,14 @@ load_kept t c s since x i d w plan f b below r proper is loads looks = subst (λ
 
   walks : Walks t s c x (record { at = x.entry.hand.at + 1; registers = with_word x.entry.hand.registers d (s.memory w) }) (record { walk = r.0.walk; path = x.entry.hand.at ∷ r.0.path; mirror = with_value r.0.mirror d (loaded t.text i r.0.mirror s.source) })
   walks = walks_on t s c x (spot_of x.entry.hand) next r.0 i (name_in (loaded t.text i r.0.mirror s.source)) mirror' plan is l.old (l.next x.entry.hand.at) changes
-      (λ k set. subst (λ (j : ℕ). IsSafe t s c x j) (sym new) found.safe) (λ gen k set. subst (λ (j : ℕ). Shown s j) (sym new) found.shown) r.1
+      (λ k set. subst (λ (j : ℕ). IsSafe t s c x j) (sym new) safe) (λ gen k set. subst (λ (j : ℕ). Shown s j) (sym new) found.shown) r.1
 
   got : AreGot r.0.walk.method (x.entry.hand.at ∷ r.0.path) r.0.walk.started (with_value r.0.mirror d (loaded t.text i r.0.mirror s.source)) (with_name (name_of (loaded t.text i r.0.mirror s.source)) x.watch.got)
   got = plain_got r.0.walk.method t.home (λ A. A) r.0.path x.entry.hand.at i (name_in (loaded t.text i r.0.mirror s.source)) x.entry.hand.registers r.0.mirror next.registers mirror' r.0.walk.started x.watch.got (with_name n x.watch.got) is changes
       (λ k set. subst (IsGot (with_name n x.watch.got)) (sym new) (given_got n x.watch.got)) (λ k. more_got n x.watch.got k) r.2.got
 
   all_clear : r.0.walk.method.wrapup ≡ false → (k : ℕ) (b : Bool) → sets (Ref k) i ≡ b → Clear s x (node_in (with_value r.0.mirror d (loaded t.text i r.0.mirror s.source)) k)
-  all_clear gen k true set = ⊎_elim (λ (z : node_in mirror' k ≡ 0). inl z) (λ (g : node_in mirror' k ≡ name_in (loaded t.text i r.0.mirror s.source)). subst (λ (j : ℕ). Clear s x j) (sym (g ∙ new)) clear) (changes.gives k set)
+  all_clear gen k true set = ⊎_elim (λ (z : node_in mirror' k ≡ 0). inl z) (λ (g : node_in mirror' k ≡ name_in (loaded t.text i r.0.mirror s.source)). subst (λ (j : ℕ). Clear s x j) (sym (g ∙ new)) found.clear) (changes.gives k set)
   all_clear gen k false unset = subst (λ (j : ℕ). Clear s x j) (sym (changes.leaves k unset)) (got_clear t s since c x r.0 owes (node_in r.0.mirror k) (register_got t s since c x r.0 owes gen k))
 
   comes : Comes t s since c (changed x (with_access (counted x.entry)) (caller_turn t.text (events.Access c 0) s.source x.source).caller (run_with (name_of (loaded t.text i r.0.mirror s.source)) x.watch)) (record { at = x.entry.hand.at + 1; registers = with_word x.entry.hand.registers d (s.memory w) })
@@ -206,7 +183,7 @@ load_kept t c s since x i d w plan f b below r proper is loads looks = subst (λ
     below = below;
     announced = r.4;
     walks = walks_changed t s c x next m' e source (run_with n x.watch) refl refl walks;
-    gets = gets_found t s since c x r.0 m' x.entry.hand.at n e source st r.2 refl refl got found.safe found.shown;
+    gets = gets_found t s since c x r.0 m' x.entry.hand.at n e source st r.2 refl refl got safe found.shown;
     pairs = λ gen. pairs_clear t s since c x r.0 owes mirror' (λ k. all_clear gen k (sets (Ref k) i) refl) walks.safe;
   }
 

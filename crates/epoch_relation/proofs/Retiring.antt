@@ -1,7 +1,6 @@
 -- The retire routine: its load gives the tag, its store the status, and the caller goes on.
-use Rattle.std.proofs.Common.{ℕ, zero, suc, ◌≡◌, ◌≢◌, ◌+◌, ◌≤◌, ◌<◌, ◌∙◌, Bool, true, false, length, Option, Some, None, arith, ⊎_elim, sym, ap, refl, if◌then◌else◌}
+use Rattle.std.proofs.Common.{ℕ, ◌≡◌, ◌+◌, ◌<◌, ◌∙◌, Bool, true, false, length, Option, Some, None, arith, sym, ap, refl, if◌then◌else◌}
 use Rattle.std.specs.Prelude.{nat_lt}
-use Rattle.std.proofs.lemmas.Bool.{cases_eq}
 use Rattle.oa_words.specs.declared.packed.Kind.TheVariants as kinds
 use Rattle.oa_words.specs.Words.{Word, Phase, Warning, Status}
 use Rattle.oa_words.specs.Memories.{store}
@@ -28,15 +27,16 @@ use Rattle.oa_simulation.specs.sim_relation.Points.{done}
 use Rattle.oa_simulation.proofs.sim_relation.Words.{store_idle}
 use Rattle.oa_simulation.proofs.sim_relation.Playing.{plays_from}
 use Rattle.oa_simulation.proofs.sim_steps.Pools.Slots.{with_tag, with_status, tagged, marked}
-use Rattle.epoch_relation.specs.Reckoned.{reckoned_at, reckoned_words, reckoned, EpochHolds}
+use Rattle.epoch_relation.specs.Reckoned.{reckoned_words, reckoned, EpochHolds}
 use Rattle.epoch_relation.specs.Callers.{Caller, Base, IsAnnounced, Changes}
 use Rattle.epoch_relation.specs.Walking.{IsPlan, GoesOn, AfterExchange}
 use Rattle.epoch_relation.specs.Keeping.{point_at, KeptWith, Ends}
+use Rattle.epoch_relation.proofs.Announcing.{since_below}
 use Rattle.epoch_relation.proofs.Moving.{base_changed}
 use Rattle.epoch_relation.proofs.Settling.{settles_ends, list_ends}
 use Rattle.epoch_relation.proofs.Stopping.{ends_quiet}
 use Rattle.epoch_relation.proofs.Storing.{holds_stored, goes_words, reckoned_status}
-use Rattle.epoch_relation.proofs.Same.{Same, placed, base_same, goes_on_same, goes_on_placed, behind_placed}
+use Rattle.epoch_relation.proofs.Same.{Leaves, placed, base_kept, goes_on_kept, goes_on_placed, behind_placed}
 
 -- what is shared changes so, and the caller ends there
 pub kept_ends : (t : Plan) (c : ℕ) (s s' : Shared) (since since' : ℕ → ℕ) (x y : Caller) (m : Moved) (memory' : Word → ℕ) (present' : ℕ → ℕ) → EpochHolds t s' since' → Changes t c s since s' since' → s'.memory ≡ memory' → s'.present ≡ present' → point_at s' y ≡ point_at s x
@@ -56,13 +56,9 @@ kept_ends t c s s' since since' x y m memory' present' f g memory present same w
 
 -- ---- the load
 
-pub since_below : (word since phase : ℕ) → word ≢ 0 → reckoned_at word since phase ≤ phase → since ≤ phase
-since_below zero since phase some le = absurd (some refl)
-since_below (suc p) since phase some le = le
-
-pub retire_loaded : (t : Plan) (c : ℕ) (s : Shared) (since : ℕ → ℕ) (x : Caller) (slot n : ℕ) (go : AfterRetire) → EpochHolds t s since → Base t s since c x → IsRetiring s c slot n None → GoesOn t s c x go
+pub retire_loaded : (t : Plan) (c : ℕ) (s : Shared) (since : ℕ → ℕ) (x : Caller) (slot n : ℕ) (go : AfterRetire) → t.home 0 ≡ 0 → EpochHolds t s since → Base t s since c x → IsRetiring s c slot n None → GoesOn t s c x go
     → KeptWith t c s since x (store s.memory Phase (s.memory Phase)) (accepted Epochs t.target t.setting (s.memory Phase) (counted x.entry) (Retires (record { slot = slot; stage = retires.ReadPhase }) go)) s.present
-retire_loaded t c s since x slot n go f b r w = record {
+retire_loaded t c s since x slot n go null f b r w = record {
   s' = with_tag s n;
   since' = since;
   x' = y;
@@ -70,13 +66,13 @@ retire_loaded t c s since x slot n go f b r w = record {
   present = refl;
   entry = refl;
   plays = done _;
-  shared_holds = record { holds = step.0; announced = f.announced; begun = f.begun; unguarded = f.unguarded };
+  shared_holds = f';
   goes = record { goes = step.1; warning = λ d ne. refl; stays = λ d ne. refl; retired = λ n is. is };
   caller_holds = record {
-    base = base_changed t (with_tag s n) since c x y.entry x.source x.watch refl refl (base_same t c s (with_tag s n) x same since since old (λ n is. is) b);
+    base = base_changed t (with_tag s n) since c x y.entry x.source x.watch refl refl (base_kept t c s (with_tag s n) x left.names since since old (λ n is. is) b);
     spot = (
       (n, record { owner = r.owner; present = r.present; tag_is = put_same s.tag n (Some (s.memory Phase)) }),
-      goes_on_placed t (with_tag s n) c x (one_more x.entry.running.steps) x.entry.cradles x.entry.counts next go (goes_on_same t c s (with_tag s n) x same go w),
+      goes_on_placed t (with_tag s n) c x (one_more x.entry.running.steps) x.entry.cradles x.entry.counts next go (goes_on_kept t c s (with_tag s n) since x left go w),
     );
   };
 } where
@@ -89,8 +85,11 @@ retire_loaded t c s since x slot n go f b r w = record {
   step : SharedHolds t (with_tag (reckoned s since) n) × MayChange t c (reckoned s since) (with_tag (reckoned s since) n)
   step = tagged t (reckoned s since) c slot n f.holds r
 
-  same : Same t c s (with_tag s n)
-  same = record { held = λ j k is. (is, refl); back = λ n k held here. (held, here); public = λ n is. is; links = λ n g. refl; announced = λ some. some }
+  f' : EpochHolds t (with_tag s n) since
+  f' = record { holds = step.0; announced = f.announced; begun = f.begun; unguarded = f.unguarded }
+
+  left : Leaves t c s (with_tag s n) since x
+  left = record { null = null; after = f'; names = record { held = λ j k is. (is, refl); public = λ n is. is }; announced = λ some. some; pairs = λ m some safe pairs. pairs }
 
   old : IsAnnounced (with_tag s n) c → (i p : ℕ) → put s.tag n (Some (s.memory Phase)) i ≡ Some p → p < since c → has i x.old ≡ true
   old some = each_put (λ i (o : Option ℕ). (p : ℕ) → o ≡ Some p → p < since c → has i x.old ≡ true) s.tag n (Some (s.memory Phase))
@@ -103,7 +102,7 @@ pub retire_stored : (t : Plan) (c : ℕ) (s : Shared) (since : ℕ → ℕ) (x :
     → KeptWith t c s since x (store s.memory (Status slot) (status_word p kinds.Retired)) (accepted Epochs t.target t.setting word (counted x.entry) (Retires (record { slot = slot; stage = retires.StoreStatus p }) go)) s.present
 retire_stored t c s since x slot n p word go plan f b below r w = kept_ends t c s s' since since x y (onward_goes Epochs t.target t.setting.sizes go y.entry) (store s.memory (Status slot) (status_word p kinds.Retired)) s.present f'
     (record { goes = goes_words t c (reckoned s since) (with_status (reckoned s since) slot Dead (status_word p kinds.Retired)) (reckoned_words s'.memory since) (reckoned_status s.memory since slot (status_word p kinds.Retired)) step.1; warning = λ d ne. refl; stays = λ d ne. refl; retired = λ n is. is })
-    refl refl refl (by go (goes_on_placed t s' c x (one_more x.entry.running.steps) x.entry.cradles x.entry.counts At go (goes_on_same t c s s' x same go w)))
+    refl refl refl (by go (goes_on_placed t s' c x (one_more x.entry.running.steps) x.entry.cradles x.entry.counts At go (goes_on_kept t c s s' since x left go w)))
   where
     s' : Shared
     s' = with_status s slot Dead (status_word p kinds.Retired)
@@ -120,17 +119,11 @@ retire_stored t c s since x slot n p word go plan f b below r w = kept_ends t c 
     held : (j k : ℕ) → s.owner j ≡ Held c k → put s.owner slot Dead j ≡ Held c k
     held j k own = put_other s.owner slot j Dead (λ e. let z : Held c k ≡ Retiring c = sym own ∙ (ap s.owner e ∙ r.owner) in cc) ∙ own
 
-    before : (j k : ℕ) → put s.owner slot Dead j ≡ Held c k → s.owner j ≡ Held c k
-    before j k own = ⊎_elim
-        (λ (e : j ≡ slot). absurd (let z : Dead ≡ Held c k = sym (put_same s.owner slot Dead) ∙ (ap (λ (l : ℕ). put s.owner slot Dead l) (sym e) ∙ own) in cc))
-        (λ (ne : j ≢ slot). sym (put_other s.owner slot j Dead ne) ∙ own)
-        (cases_eq j slot)
-
-    same : Same t c s (with_status s slot Dead (status_word p kinds.Retired))
-    same = record { held = λ j k is. (held j k is, refl); back = λ n k own here. (before (t.home n) k own, here); public = λ n is. is; links = λ n g. refl; announced = λ some. some }
+    left : Leaves t c s (with_status s slot Dead (status_word p kinds.Retired)) since x
+    left = record { null = plan.null; after = f'; names = record { held = λ j k is. (held j k is, refl); public = λ n is. is }; announced = λ some. some; pairs = λ m some safe pairs. pairs }
 
     b' : Base t (with_status s slot Dead (status_word p kinds.Retired)) since c (placed x (one_more x.entry.running.steps) x.entry.cradles x.entry.counts At)
-    b' = base_changed t _ since c x y.entry x.source x.watch refl refl (base_same t c s _ x same since since b.old (λ n is. is) b)
+    b' = base_changed t _ since c x y.entry x.source x.watch refl refl (base_kept t c s _ x left.names since since b.old (λ n is. is) b)
 
     in_list : (k : ℕ) (more : Bool) → AfterExchange t (with_status s slot Dead (status_word p kinds.Retired)) c (placed x (one_more x.entry.running.steps) x.entry.cradles x.entry.counts At) (k + 1) more
         → Ends t (with_status s slot Dead (status_word p kinds.Retired)) since c (placed x (one_more x.entry.running.steps) x.entry.cradles x.entry.counts At)

@@ -1,7 +1,5 @@
 -- Every run of a text as it is, under epochs, is simulated by a run of the source, and no load goes to what was recycled.
-use Rattle.std.proofs.Common.{ℕ, ◌≡◌, ◌<◌, ◌∙◌, List, Option, Some, sym, ap, subst, refl, arith}
-use Rattle.std.specs.Prelude.{slice_get, unwrap_or}
-use Rattle.std.proofs.lemmas.Option.{slice_get_within}
+use Rattle.std.proofs.Common.{ℕ, ◌≡◌, ◌∙◌, List, Some, sym, ap, refl, arith}
 use Rattle.norm_lang.specs.declared.text.Text.{Text}
 use Rattle.norm_lang.specs.Limits.{IsWithinLimits}
 use Rattle.norm_lang.specs.NormalForm.{IsNormal}
@@ -9,12 +7,9 @@ use Rattle.target_laws.specs.target_runs.Runnable.{IsRunnable}
 use Rattle.target_laws.proofs.target_runs.SaneTargets.{runnable_is_sane}
 use Rattle.bare_targets.specs.Bare.{bare}
 use Rattle.bare_targets.proofs.Runnable.{bare_texts_are_runnable}
-use Rattle.source_machine.specs.declared.event.SourceReply.{SourceReply}
 use Rattle.source_machine.specs.Proper.{IsProper}
-use Rattle.source_machine.specs.Run.{caller_replies}
 use Rattle.caller_parts.specs.declared.setting.Reclamation.TheVariants.{Epochs}
 use Rattle.caller_parts.specs.Settings.{Setting, Fits, IsSetting}
-use Rattle.caller_steps.specs.Entries.{Entry, idle_entry, is_idle}
 use Rattle.core_runs.specs.Machine.{CoreState, CoreEvent, core_run, core_start}
 use Rattle.core_runs.specs.RunSigns.{run_signs}
 use Rattle.core_runs.specs.core_pools.Pooled.{Pooled}
@@ -29,13 +24,11 @@ use Rattle.core_runs.proofs.core_sound.StartSound.{start_sound}
 use Rattle.oa_simulation.specs.Present.{first_present, present_in}
 use Rattle.oa_simulation.specs.Relation.{HomeIs}
 use Rattle.oa_simulation.specs.Shadow.{Shadow, shadow, shadow_start, home_of}
-use Rattle.oa_simulation.specs.Statements.{Agrees, AgreesWith}
-use Rattle.oa_simulation.specs.sim_relation.Callers.{replies_of}
+use Rattle.oa_simulation.specs.Statements.{Agrees}
 use Rattle.oa_simulation.specs.sim_relation.Views.{Plan}
 use Rattle.oa_simulation.proofs.FirstSlots.{first_null}
 use Rattle.oa_simulation.proofs.Homes.{home_stays}
-use Rattle.oa_simulation.proofs.Lifting.{machine_is}
-use Rattle.oa_simulation.proofs.Refining.{agrees_with}
+use Rattle.oa_simulation.proofs.Refining.{replies_agree}
 use Rattle.epoch_relation.specs.Beside.{Beside}
 use Rattle.epoch_relation.specs.Simulated.{Simulates, RunsAreSimulated, source_name}
 use Rattle.epoch_relation.specs.Walking.{IsPlan}
@@ -43,6 +36,8 @@ use Rattle.epoch_relation.proofs.Answering.{idle_agrees, running_agrees}
 use Rattle.epoch_relation.proofs.Beginning.{worlds_begin, begins_present}
 use Rattle.epoch_relation.proofs.Inducing.{run_beside}
 use Rattle.epoch_relation.proofs.Testing.{exchanges_agree, bases_resident}
+use Rattle.oa_simulation.proofs.Induction.{is_caller, entry_seen}
+use Rattle.epoch_relation.specs.Callers.{Caller}
 
 abbrev pub plan_of : Text → Setting → List CoreEvent → Plan
 plan_of text setting events = record { target = bare text; text = text; setting = setting; home = home_of (bare text) text setting events }
@@ -99,15 +94,9 @@ module _ (text : Text) (setting : Setting) (events : List CoreEvent) (state : Co
 
   agrees : (z : Shadow) → IsSound (bare text) setting state → Beside t state z → Agrees state z.machine
   agrees z s b c e at =
-      let inside = slice_get_within state.entries c e at in
-      let callers = s.callers in
-      let lt : c < setting.sizes.callers = omega (arith, inside, callers) in
-      let entry : (b.w.who c).entry ≡ e = b.entry c lt ∙ ap (λ (o : Option Entry). unwrap_or o (idle_entry c)) at in
-      let same : (b.w.who c).source.replies ≡ caller_replies (slice_get z.machine.callers c) =
-      sym (ap (λ m. caller_replies (slice_get m.callers c)) (sym (machine_is text setting.sizes.callers z b.v b.sourced)) ∙ ap caller_replies (b.caller c lt)) in
-      subst (λ (i : List SourceReply). AgreesWith (is_idle e.routine) (replies_of e) i) same
-      (subst (λ (i : Entry). AgreesWith (is_idle i.routine) (replies_of i) (b.w.who c).source.replies) entry (agrees_with (is_idle (b.w.who c).entry.routine) (replies_of (b.w.who c).entry) (b.w.who c).source
-      (idle_agrees t b.w.shared b.w.since c (b.w.who c) (b.holds.caller_holds c lt)) (running_agrees t b.w.shared b.w.since c (b.w.who c) (b.holds.caller_holds c lt))))
+      let lt = is_caller state setting.sizes.callers c e s.callers at in
+      let x : Caller = b.w.who c in
+      replies_agree text setting.sizes.callers c z b.v x.entry e x.source b.sourced (b.caller c lt) (b.entry c lt ∙ entry_seen setting state c e at) (idle_agrees t b.w.shared b.w.since c x (b.holds.caller_holds c lt)) (running_agrees t b.w.shared b.w.since c x (b.holds.caller_holds c lt))
 
   simulates : Simulates (bare text) text setting events state
   simulates =

@@ -1,5 +1,5 @@
 -- Local code from a spot to where it stops.
-use Rattle.std.proofs.Common.{ℕ, zero, suc, ◌≡◌, ◌<◌, ◌∙◌, ◌⊎◌, Bool, true, false, List, [], ◌∷◌, length, map, Option, Some, None, arith, inl, inr, sym, ap, subst, refl}
+use Rattle.std.proofs.Common.{ℕ, zero, suc, ◌≡◌, ◌<◌, ◌∙◌, ◌⊎◌, Bool, true, false, List, [], ◌∷◌, length, Option, Some, arith, inl, inr, sym, ap, subst, refl}
 use Rattle.std.specs.Prelude.{slice_get}
 use Rattle.norm_lang.specs.declared.text.Reg.{Reg}
 use Rattle.norm_lang.specs.declared.text.Reg.TheVariants.{Num}
@@ -11,7 +11,7 @@ use Rattle.norm_lang.specs.Local.{Spot, local_run}
 use Rattle.norm_lang.specs.Registers.{with_count}
 use Rattle.norm_lang.specs.RegisterUse.{same_register}
 use Rattle.target_code.specs.declared.target.TargetInstr.{TargetInstr}
-use Rattle.target_code.specs.declared.target.TargetInstr.TheVariants.{Plain, Check, Guard}
+use Rattle.target_code.specs.declared.target.TargetInstr.TheVariants.{Plain}
 use Rattle.target_code.specs.LocalCode.{target_run}
 use Rattle.target_laws.specs.Methods.{code_in, source_in}
 use Rattle.source_machine.specs.declared.event.SourceEvent.TheVariants as events
@@ -45,8 +45,9 @@ use Rattle.epoch_relation.specs.Keeping.{point_at, Ends, Comes}
 use Rattle.epoch_relation.proofs.Bare.{code_is, in_source}
 use Rattle.run_ahead.proofs.Getting.{start_got}
 use Rattle.epoch_relation.proofs.Local.{Standing, RunTo, runs_on, safe_apart}
-use Rattle.epoch_relation.proofs.Moving.{changed, becomes, safe_changed, base_changed, walks_changed, listed_of, gets_changed, core_code_is, core_instr_is}
+use Rattle.epoch_relation.proofs.Moving.{changed, becomes, base_changed, walks_changed, listed_of, gets_changed, core_code_is, core_instr_is}
 use Rattle.epoch_relation.proofs.Stopping.{standing_of, ends_quiet, still, stays, own_end, wrap_up_stop_ends, wrap_up_stops_ends}
+use Rattle.std.proofs.lemmas.List.{length-map}
 
 -- ---- pairs, where no register has got a name that none held
 
@@ -65,10 +66,6 @@ pairs_held t s since c x core m m' st w held pairs r e g = from (held r) (held e
   from (inr one) (inr other) = subst (λ (n : ℕ). Apart t (link s n g) (node_in m'.mirror e)) (sym one.1) (subst (λ (n : ℕ). Apart t (link s (node_in m.mirror one.0) g) n) (sym other.1) (pairs one.0 other.0 g))
 
 -- ---- local code
-
-length_map : {X Y : Type 0} (f : X → Y) (xs : List X) → length (map f xs) ≡ length xs
-length_map f [] = refl
-length_map f (x ∷ xs) = ap suc (length_map f xs)
 
 pub record Came (t : Plan) (s : Shared) (since : ℕ → ℕ) (c : ℕ) (y : Caller) (walk : Walk t.target t.text) : Type 0 where
   pub m' : Trail t
@@ -90,7 +87,7 @@ comes_to t s since c x core m w from = subst (λ (code : List TargetInstr). Came
       ran = runs_on t s since c x n core m (standing_of t s since c x core m w) w.walks w.gets
 
       size : length code ≡ length (source_in m.walk.method)
-      size = ap (λ (code : List TargetInstr). length code) (code_is w.plan.target_is m.walk.method) ∙ length_map Plain (source_in m.walk.method)
+      size = ap (λ (code : List TargetInstr). length code) (code_is w.plan.target_is m.walk.method) ∙ length-map (source_in m.walk.method) Plain
 
       e : Entry
       e = with_hand x.entry (record x.entry.hand { at = (target_run code n core).at; registers = (target_run code n core).registers })
@@ -161,7 +158,7 @@ list_ends t s since c x made plan f b below w = ends_from t s since c x (becomes
         path_is = refl;
         sized = changes.sized;
         agree = λ r. agree r (same_register r (Num 7)) refl;
-        safe = λ r. safe_changed t s c x (node_in w.0.mirror r) e x.source x.watch (w.1.safe r);
+        safe = w.1.safe;
         fresh = λ gen. absurd (let z : true ≡ false = gen in cc);
         shown = λ gen. absurd (let z : true ≡ false = gen in cc);
       };
@@ -252,10 +249,8 @@ stopped_ends t s since c x m w at = of (instr_in t.target x.entry) refl where
   by i is = wrap_up_stop_ends t s since c x m i w at (sym (core_instr_is t s c x (spot_of x.entry.hand) m w.walks) ∙ is)
 
   of : (o : Option TargetInstr) → instr_in t.target x.entry ≡ o → Ends t s since c x (stops Epochs t.target t.setting.sizes o x.entry)
-  of None is = stays t s since c x m w at
-  of (Some Check) is = stays t s since c x m w at
-  of (Some (Guard r)) is = stays t s since c x m w at
   of (Some (Plain i)) is = by i is
+  of _ is = stays t s since c x m w at
 
 -- local code from a spot, to where it stops
 pub settles_ends : (t : Plan) (s : Shared) (since : ℕ → ℕ) (c : ℕ) (x : Caller) (core : Spot) (m : Trail t) → Comes t s since c x core m → StandsFrom t x core m x.entry.hand.accessed → Ends t s since c x (settles Epochs t.target t.setting.sizes core x.entry)

@@ -15,13 +15,12 @@ use Rattle.target_code.specs.declared.target.TargetInstr.TheVariants.{Plain, Che
 use Rattle.target_laws.specs.Methods.{code_in}
 use Rattle.target_laws.proofs.Forms.{instructions_are_in_form}
 use Rattle.source_machine.specs.declared.event.SourceEvent.TheVariants as events
-use Rattle.source_machine.specs.declared.event.SourceReply.TheVariants as replies
+use Rattle.norm_lang.specs.declared.reply.SourceReply.TheVariants as replies
 use Rattle.source_machine.specs.declared.state.SourceCaller.{SourceCaller}
 use Rattle.source_machine.specs.declared.state.Stand.TheVariants.{InWrapUp}
 use Rattle.source_machine.specs.MethodRuns.{MethodRun, run_after}
 use Rattle.source_machine.specs.Run.{is_end_at, is_enabled_for}
 use Rattle.source_machine.specs.Step.{replied, wrap_up_end, caller_turn}
-use Rattle.caller_parts.specs.declared.call.Reply.TheVariants as core_replies
 use Rattle.caller_steps.specs.Signs.{Accesses}
 use Rattle.caller_parts.specs.declared.routine.AnnounceReason.TheVariants.{Again}
 use Rattle.caller_parts.specs.declared.routine.Announcing.{Announcing}
@@ -47,6 +46,7 @@ use Rattle.epoch_relation.specs.Keeping.{point_at, Ends, Comes}
 use Rattle.epoch_relation.proofs.Bare.{in_source}
 use Rattle.epoch_relation.proofs.Local.{Standing}
 use Rattle.epoch_relation.proofs.Moving.{changed, becomes, base_changed, walks_changed, gets_changed, core_instr_is}
+use Rattle.oa_simulation.proofs.sim_steps.Walks.Replying.{in_wrap_up}
 
 pub standing_of : (t : Plan) (s : Shared) (since : ℕ → ℕ) (c : ℕ) (x : Caller) (core : Spot) (m : Trail t) → Comes t s since c x core m → Standing t s since c x
 standing_of t s since c x core m w = record { plan = w.plan; holds = w.holds; base = w.base; below = w.below; announced = w.announced }
@@ -68,13 +68,6 @@ pub stays : (t : Plan) (s : Shared) (since : ℕ → ℕ) (c : ℕ) (x : Caller)
 stays t s since c x m w at = ends_quiet t s since c x At w.base (still t s since c x m At w at)
 
 -- ---- the end of a wrap-up
-
-in_wrap_up : (wrapup : Bool) (i : Instr) → IsTrue (is_end i) → is_end_of_other wrapup i ≡ false → wrapup ≡ true
-in_wrap_up true i ends own = refl
-in_wrap_up false (instr.Return a) ends own = absurd (let z : true ≡ false = own in cc)
-in_wrap_up false instr.ReturnNone ends own = absurd (let z : true ≡ false = own in cc)
-in_wrap_up false instr.Again ends own = absurd (let z : true ≡ false = own in cc)
-in_wrap_up false _ ends own = absurd (let z : false ≡ true = ends in cc)
 
 pub own_end : (t : Plan) (m : Trail t) (at : ℕ) (i : Instr) → IsPlan t → slice_get (code_in m.walk.method) at ≡ Some (Plain i) → is_end_of_other m.walk.method.wrapup i ≡ false
 own_end t m at i plan is = (instructions_are_in_form t.target t.text plan.normal plan.erases m.walk.method at i is).own_end
@@ -142,9 +135,9 @@ end_holds t s since c x m i r b w holds = subst (λ (wrapup : Bool). Ends t s si
 pub wrap_up_stop_ends : (t : Plan) (s : Shared) (since : ℕ → ℕ) (c : ℕ) (x : Caller) (m : Trail t) (i : Instr) → Comes t s since c x (spot_of x.entry.hand) m → StandsAt t x (spot_of x.entry.hand) m x.entry.hand.accessed
     → slice_get (code_in m.walk.method) x.entry.hand.at ≡ Some (Plain i) → Ends t s since c x (wrap_up_stop i x.entry)
 wrap_up_stop_ends t s since c x m (instr.Return a) w at is =
-    end_holds t s since c x m (instr.Return a) (announces.Leaves (core_replies.Number (number_in x.entry.hand.registers a))) w.base (wrap_ends t s since c x m (instr.Return a) w at is refl) (λ source watch stands. stands)
+    end_holds t s since c x m (instr.Return a) (announces.Leaves (replies.Number (number_in x.entry.hand.registers a))) w.base (wrap_ends t s since c x m (instr.Return a) w at is refl) (λ source watch stands. stands)
 wrap_up_stop_ends t s since c x m instr.ReturnNone w at is =
-    end_holds t s since c x m instr.ReturnNone (announces.Leaves core_replies.Nothing) w.base (wrap_ends t s since c x m instr.ReturnNone w at is refl) (λ source watch stands. stands)
+    end_holds t s since c x m instr.ReturnNone (announces.Leaves replies.Nothing) w.base (wrap_ends t s since c x m instr.ReturnNone w at is refl) (λ source watch stands. stands)
 wrap_up_stop_ends t s since c x m instr.Again w at is =
     end_holds t s since c x m instr.Again (announces.Loads Again) w.base (wrap_ends t s since c x m instr.Again w at is refl)
     (λ source watch stands. (m.walk.method, ap (λ (call : Call). call.number) (sym w.walks.call) ∙ w.walks.number, stands))

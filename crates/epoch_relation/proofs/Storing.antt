@@ -1,12 +1,12 @@
 -- Stores in other words than the phase and warnings, as a sweep reckons with them.
 use Rattle.std.proofs.Common.{ℕ, ◌≡◌, ◌≤◌, ◌∙◌, Some, arith, inl, inr, ⊎_elim, sym, subst, refl}
-use Rattle.oa_words.specs.Words.{Word, Phase, Place, Warning, Hazard, Status, FieldOf, Cell, Head, Link}
+use Rattle.oa_words.specs.Words.{Word, Phase, Warning, Hazard, Status, FieldOf, Cell}
 use Rattle.oa_words.specs.Memories.{store}
 use Rattle.oa_simulation.specs.sim_relation.Views.{Plan, Shared}
 use Rattle.oa_simulation.specs.sim_relation.Shared.{SharedHolds}
 use Rattle.oa_simulation.specs.sim_relation.MayChange.{MayChange}
 use Rattle.epoch_relation.specs.Reckoned.{reckoned_words, EpochHolds}
-use Rattle.epoch_relation.proofs.Rising.{with_words, fine_risen}
+use Rattle.oa_simulation.proofs.sim_steps.Pools.Phases.{with_words, fine_risen}
 
 abbrev pub SameWords : (Word → ℕ) → (Word → ℕ) → Type 0
 SameWords m m' = (w : Word) → m' w ≡ m w
@@ -42,36 +42,15 @@ goes_words t c a b m same g = record {
 -- the store of a status, a field, a root
 pub reckoned_status : (memory : Word → ℕ) (since : ℕ → ℕ) (j v : ℕ) → SameWords (store (reckoned_words memory since) (Status j) v) (reckoned_words (store memory (Status j) v) since)
 reckoned_status memory since j v Phase = refl
-reckoned_status memory since j v (Place c) = refl
-reckoned_status memory since j v (Warning c) = refl
-reckoned_status memory since j v (Hazard c r) = refl
-reckoned_status memory since j v (Status i) = refl
-reckoned_status memory since j v (FieldOf i g) = refl
-reckoned_status memory since j v (Cell x) = refl
-reckoned_status memory since j v (Head kind) = refl
-reckoned_status memory since j v (Link i) = refl
+reckoned_status memory since j v _ = refl
 
 pub reckoned_field : (memory : Word → ℕ) (since : ℕ → ℕ) (j g v : ℕ) → SameWords (store (reckoned_words memory since) (FieldOf j g) v) (reckoned_words (store memory (FieldOf j g) v) since)
 reckoned_field memory since j g v Phase = refl
-reckoned_field memory since j g v (Place c) = refl
-reckoned_field memory since j g v (Warning c) = refl
-reckoned_field memory since j g v (Hazard c r) = refl
-reckoned_field memory since j g v (Status i) = refl
-reckoned_field memory since j g v (FieldOf i h) = refl
-reckoned_field memory since j g v (Cell x) = refl
-reckoned_field memory since j g v (Head kind) = refl
-reckoned_field memory since j g v (Link i) = refl
+reckoned_field memory since j g v _ = refl
 
 pub reckoned_cell : (memory : Word → ℕ) (since : ℕ → ℕ) (x v : ℕ) → SameWords (store (reckoned_words memory since) (Cell x) v) (reckoned_words (store memory (Cell x) v) since)
 reckoned_cell memory since x v Phase = refl
-reckoned_cell memory since x v (Place c) = refl
-reckoned_cell memory since x v (Warning c) = refl
-reckoned_cell memory since x v (Hazard c r) = refl
-reckoned_cell memory since x v (Status i) = refl
-reckoned_cell memory since x v (FieldOf i g) = refl
-reckoned_cell memory since x v (Cell y) = refl
-reckoned_cell memory since x v (Head kind) = refl
-reckoned_cell memory since x v (Link i) = refl
+reckoned_cell memory since x v _ = refl
 
 -- what is shared after a step that leaves the phase, the warnings and what is protected
 pub holds_stored : (t : Plan) (s b : Shared) (since : ℕ → ℕ) (m : Word → ℕ) → EpochHolds t s since → SameWords b.memory (reckoned_words m since) → m Phase ≡ s.memory Phase → ((d : ℕ) → m (Warning d) ≡ s.memory (Warning d)) → ((d r : ℕ) → b.protects d r ≡ 0) → SharedHolds t b

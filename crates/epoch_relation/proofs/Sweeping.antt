@@ -1,14 +1,12 @@
 -- Each step of a sweep.
-use Rattle.std.proofs.Common.{ℕ, zero, suc, ◌≡◌, ◌≢◌, ◌==◌, ◌+◌, ◌-◌, ◌≤◌, ◌<◌, ◌&&◌, not, max, Bool, true, false, Option, Some, None, arith, ⊎_elim, sym, subst, refl, if◌then◌else◌}
+use Rattle.std.proofs.Common.{ℕ, zero, suc, ◌≡◌, ◌≢◌, ◌==◌, ◌+◌, ◌≤◌, ◌<◌, max, Bool, true, false, Option, Some, None, arith, ⊎_elim, sym, subst, refl, if◌then◌else◌}
 use Rattle.std.specs.Prelude.{nat_lt}
 use Rattle.std.proofs.lemmas.Bool.Decides.{nat_tests, eqb_tells}
-use Rattle.oa_words.specs.declared.packed.Kind.{Kind}
 use Rattle.oa_words.specs.declared.packed.Kind.TheVariants as kinds
 use Rattle.oa_words.specs.Words.{Word, Phase, Warning, Status, Head, Link, slot_range}
 use Rattle.oa_words.specs.SlotKinds.{kind_of}
 use Rattle.oa_words.specs.Memories.{store}
 use Rattle.oa_words.specs.Packed.{StatusParts, status_word, status_parts, head_word, head_parts}
-use Rattle.guard_words.specs.Guards.{has_slot}
 use Rattle.phase_pools.specs.declared.access.SweepEnd.{SweepEnd}
 use Rattle.phase_pools.specs.declared.access.SweepEnd.TheVariants as swept
 use Rattle.phase_pools.specs.declared.stages.SweepStage.{SweepStage}
@@ -16,8 +14,9 @@ use Rattle.phase_pools.specs.declared.stages.SweepStage.TheVariants as sweeps
 use Rattle.phase_pools.specs.Accesses.{word_of}
 use Rattle.phase_pools.specs.declared.stages.Scheme.{Scheme}
 use Rattle.phase_pools.specs.declared.stages.Scheme.TheVariants.{Announced}
-use Rattle.phase_pools.specs.Pools.{Sweep, SweepTurn, sweep_wants_at, sweep_accepts_at, sweep_goes, sweep_ends, sweep_on, has_lower, phase_read, freeing, status_read, made_ready, push_read, pushed, lower, low_after, warn_wanted, warn_next}
+use Rattle.phase_pools.specs.Pools.{Sweep, SweepTurn, sweep_wants_at, sweep_accepts_at, sweep_goes, sweep_ends, sweep_on, phase_read, status_read, made_ready, push_read, pushed, lower, low_after, warn_wanted, warn_next}
 use Rattle.phase_pools.proofs.Lowering.{lower_less, lower_announced}
+use Rattle.phase_pools.proofs.Statuses.{from_slot, from_status}
 use Rattle.source_machine.specs.MethodRuns.{put}
 use Rattle.oa_simulation.specs.sim_relation.Views.{Plan, Shared}
 use Rattle.oa_simulation.specs.sim_relation.Naming.{freed_at}
@@ -26,8 +25,10 @@ use Rattle.oa_simulation.proofs.sim_relation.Words.{store_idle}
 use Rattle.oa_simulation.proofs.sim_relation.Moving.{goes_same}
 use Rattle.epoch_relation.specs.Reckoned.{reckoned_at, reckoned_words, reckoned, EpochHolds}
 use Rattle.epoch_relation.specs.Callers.{Passed, SweepAt, Changes}
-use Rattle.epoch_relation.proofs.Rising.{Risen, with_words, fine_risen, goes_risen, phase_risen, head_risen, link_risen}
-use Rattle.epoch_relation.proofs.Freeing.{Freed, freed, fine_freed, goes_freed}
+use Rattle.oa_simulation.proofs.sim_steps.Pools.Phases.{Risen, with_words, fine_risen, goes_risen}
+use Rattle.oa_simulation.proofs.sim_steps.Pools.Slots.{Freed, freed, fine_freed, goes_freed}
+use Rattle.epoch_relation.proofs.Rising.{phase_risen, head_risen, link_risen}
+use Rattle.epoch_relation.proofs.Storing.{holds_stored, goes_words, reckoned_status}
 
 -- what a sweep that goes on knows
 abbrev pub SweepNext : Plan → Shared → (ℕ → ℕ) → Sweep → Option SweepEnd → Type 0
@@ -83,25 +84,11 @@ risen t s since m turn r same f next = record {
 
 on_next : (t : Plan) (s : Shared) (since : ℕ → ℕ) (sweep : Sweep) (j : ℕ) → Passed t s since sweep.low t.setting.sizes.callers
     → SweepNext t s since (sweep_on t.setting.sizes sweep j).sweep (sweep_on t.setting.sizes sweep j).ended
-on_next t s since sweep j w = of (has_lower t.setting.sizes j) where
-  of : (b : Bool) → SweepNext t s since (if b then sweep_goes sweep (sweeps.ReadStatus (j - 1)) else sweep_ends sweep swept.Swept).sweep (if b then sweep_goes sweep (sweeps.ReadStatus (j - 1)) else sweep_ends sweep swept.Swept).ended
-  of true = w
-  of false = tt
-
-freeing_next : (t : Plan) (s : Shared) (since : ℕ → ℕ) (sweep : Sweep) (j q : ℕ) (kind : Kind) → Passed t s since sweep.low t.setting.sizes.callers
-    → SweepNext t s since (freeing t.setting.sizes sweep j q kind).sweep (freeing t.setting.sizes sweep j q kind).ended
-freeing_next t s since sweep j q kinds.Ready w = on_next t s since sweep j w
-freeing_next t s since sweep j q kinds.Used w = on_next t s since sweep j w
-freeing_next t s since sweep j q kinds.Retired w = of (nat_lt q sweep.low && not (has_slot sweep.gathered j)) refl where
-  of : (b : Bool) → (nat_lt q sweep.low && not (has_slot sweep.gathered j)) ≡ b
-      → SweepNext t s since (if b then sweep_goes sweep (sweeps.MakeReady j q) else sweep_on t.setting.sizes sweep j).sweep (if b then sweep_goes sweep (sweeps.MakeReady j q) else sweep_on t.setting.sizes sweep j).ended
-  of true is = (w, grind (arith, nat_tests))
-  of false is = on_next t s since sweep j w
+on_next t s since sweep j w = from_slot (λ turn. SweepNext t s since turn.sweep turn.ended) t.setting.sizes sweep j (λ more. w) tt
 
 status_next : (t : Plan) (s : Shared) (since : ℕ → ℕ) (sweep : Sweep) (j : ℕ) (parts : Option StatusParts) → Passed t s since sweep.low t.setting.sizes.callers
     → SweepNext t s since (status_read t.setting.sizes sweep j parts).sweep (status_read t.setting.sizes sweep j parts).ended
-status_next t s since sweep j None w = on_next t s since sweep j w
-status_next t s since sweep j (Some parts) w = freeing_next t s since sweep j parts.phase parts.kind w
+status_next t s since sweep j parts w = from_status (λ turn. SweepNext t s since turn.sweep turn.ended) t.setting.sizes sweep j parts (on_next t s since sweep j w) (λ p is below away. (w, below))
 
 -- ---- what callers have announced
 
@@ -134,15 +121,23 @@ frees t s since sweep j q f w = of (s.memory (Status j) == status_word q kinds.R
       → Swept t s since (store s.memory (Status j) (if b then status_word sweep.bound kinds.Ready else s.memory (Status j))) (if b then sweep_goes sweep (sweeps.PushHead (kind_of t.setting.sizes j) j) else sweep_on t.setting.sizes sweep j) (if b then put s.present j 0 else s.present)
   of false is = unchanged t s since (Status j) (sweep_on t.setting.sizes sweep j) f (on_next t s since sweep j w.0)
   of true is =
-      let k : Freed t s since sweep.low j q = record { word = grind (arith, nat_tests); below = w.1; passed = w.0 } in
+      let r = reckoned s since in
+      let dead : s.memory (Status j) ≡ status_word q kinds.Retired = grind (arith, nat_tests) in
+      let k : Freed t r sweep.low j q = record { word = dead; below = w.1; warned = w.0.passed; spared = λ d i some. absurd (some (f.unguarded d i)) } in
+      let word : ℕ = status_word sweep.bound kinds.Ready in
       record {
         s' = freed s j sweep.bound;
         memory = refl;
         present = refl;
         source = refl;
         unused = refl;
-        holds = record { holds = fine_freed t s since sweep.low sweep.bound j q f k; announced = f.announced; begun = f.begun; unguarded = f.unguarded };
-        goes = λ y. record { goes = goes_freed t s since sweep.low sweep.bound j q f k y; warning = λ d ne. refl; stays = λ d ne. refl; retired = λ n is. is };
+        holds = holds_stored t s (freed r j sweep.bound) since (store s.memory (Status j) word) f (reckoned_status s.memory since j word) refl (λ d. refl) f.unguarded (fine_freed t r sweep.low sweep.bound j q f.holds k);
+        goes = λ y. record {
+          goes = goes_words t y r (freed r j sweep.bound) (reckoned_words (store s.memory (Status j) word) since) (reckoned_status s.memory since j word) (goes_freed t r sweep.low sweep.bound j q f.holds k y);
+          warning = λ d ne. refl;
+          stays = λ d ne. refl;
+          retired = λ n is. is;
+        };
         next = record { raised = w.0.raised; passed = w.0.passed };
       }
 

@@ -1,6 +1,6 @@
 -- An exchange of the text succeeds exactly where the source's does, and a load goes to what is resident.
-use Rattle.std.proofs.Common.{ℕ, ◌≡◌, ◌<◌, ◌∙◌, Bool, true, false, [], Option, Some, None, inl, sym, ap, subst, refl, arith}
-use Rattle.std.specs.Prelude.{slice_get, option_map, unwrap_or, slice_index, if◌then◌else◌}
+use Rattle.std.proofs.Common.{ℕ, ◌≡◌, ◌<◌, ◌∙◌, Bool, true, false, [], Option, Some, inl, sym, ap, subst, refl}
+use Rattle.std.specs.Prelude.{slice_get, option_map}
 use Rattle.std.proofs.lemmas.Option.{slice_get_within}
 use Rattle.norm_lang.specs.declared.text.CasEntry.{CasEntry}
 use Rattle.norm_lang.specs.declared.text.Instr.{Instr}
@@ -16,9 +16,7 @@ use Rattle.norm_lang.specs.Registers.{reference_in}
 use Rattle.target_code.specs.declared.target.TargetInstr.{TargetInstr}
 use Rattle.target_code.specs.declared.target.TargetInstr.TheVariants.{Plain}
 use Rattle.target_laws.specs.Methods.{code_in}
-use Rattle.oa_words.specs.Words.{Word, in_row, address_of}
 use Rattle.phase_pools.specs.Accesses.{WordAccess, word_of}
-use Rattle.source_machine.specs.declared.state.Memory.{Memory}
 use Rattle.source_machine.specs.declared.state.Running.{Running}
 use Rattle.source_machine.specs.declared.state.SourceCaller.{SourceCaller}
 use Rattle.source_machine.specs.declared.state.SourceMachine.{SourceMachine}
@@ -26,11 +24,11 @@ use Rattle.source_machine.specs.declared.state.Stand.TheVariants.{InGenerator, I
 use Rattle.source_machine.specs.Proper.{IsProper}
 use Rattle.source_machine.specs.Step.{performed_by, generator_stand, goes_on, wrap_up_stop}
 use Rattle.caller_parts.specs.declared.routine.Routine.{Routine}
-use Rattle.caller_parts.specs.declared.routine.Routine.TheVariants.{Idle, LoadSeen, At, Retires, Restarts, Clears, Claims, Zeroes, Announces, InList as InCoreList}
+use Rattle.caller_parts.specs.declared.routine.Routine.TheVariants.{At, InList as InCoreList}
 use Rattle.caller_parts.specs.Operands.{list_of, slot_in, succeeds}
-use Rattle.caller_steps.specs.Entries.{Entry, idle_entry, instr_in}
-use Rattle.caller_steps.specs.Wants.{wants, wanted, instr_wanted, list_wanted, exchange_wanted}
-use Rattle.core_runs.specs.Machine.{CoreState, found_by}
+use Rattle.caller_steps.specs.Entries.{Entry, instr_in}
+use Rattle.caller_steps.specs.Wants.{wants, exchange_wanted}
+use Rattle.core_runs.specs.Machine.{CoreState}
 use Rattle.core_runs.specs.Views.{IsShaped}
 use Rattle.core_runs.proofs.caller_laws.Safety.{list_there}
 use Rattle.run_ahead.specs.Standing.{Call, caller_of, stands_at, running_at}
@@ -38,14 +36,13 @@ use Rattle.run_ahead.proofs.Mirroring.{references_agree}
 use Rattle.run_ahead.proofs.Plain.{kind_right}
 use Rattle.oa_simulation.specs.Beside.{Placed}
 use Rattle.oa_simulation.specs.Shadow.{Shadow}
-use Rattle.oa_simulation.specs.Statements.{ExchangesAgree, core_exchange, caller_makes, source_makes}
+use Rattle.oa_simulation.specs.Statements.{ExchangesAgree, core_exchange, caller_makes}
 use Rattle.oa_simulation.specs.sim_relation.Callers.{spot_of}
 use Rattle.oa_simulation.specs.sim_relation.Points.{IsProperPoint, done}
 use Rattle.oa_simulation.specs.sim_relation.Views.{Plan, Shared, Resident}
 use Rattle.oa_simulation.proofs.Lifting.{machine_is, stays_proper}
-use Rattle.oa_simulation.proofs.Testing.{cas_makes, cas_there, list_makes}
+use Rattle.oa_simulation.proofs.Testing.{cas_makes, list_makes, by_exchange, test_agrees}
 use Rattle.oa_simulation.proofs.sim_steps.Exchanges.Offering.{none_passes}
-use Rattle.oa_simulation.proofs.sim_steps.Pools.Core.{wants_is}
 use Rattle.epoch_relation.specs.Beside.{Beside}
 use Rattle.epoch_relation.specs.Callers.{Caller}
 use Rattle.epoch_relation.specs.Keeping.{point_at}
@@ -60,6 +57,7 @@ use Rattle.epoch_relation.proofs.Failing.{cas_offers}
 use Rattle.epoch_relation.proofs.Listing.{InList as ListStep, offered}
 use Rattle.epoch_relation.proofs.Local.{erased_of}
 use Rattle.epoch_relation.proofs.Moving.{core_instr_is, listed_instr_is}
+use Rattle.oa_simulation.proofs.Induction.{is_caller, entry_seen}
 
 -- ---- the registers of the source's caller
 
@@ -128,27 +126,8 @@ module _ (t : Plan) (s : Shared) (since : ℕ → ℕ) (c : ℕ) (x : Caller) (p
       ∙ sym (ap (λ (caller : SourceCaller). caller_makes t.text s.source (Some caller)) run.3
       ∙ list_makes t.text run.0.walk.method.op x.entry.hand.at (list_of (instr_in t.target x.entry)) k run.0.mirror run.0.walk.call entry s.source op one)
 
-  by_routine : (r : Routine) (entry : CasEntry) (a : WordAccess) → x.entry.routine ≡ r → core_exchange t.target x.entry r ≡ Some entry → wanted t.target x.entry r ≡ Some a → TestsAgree entry a
-  by_routine At entry a at is want =
-      let there = cas_there (instr_in t.target x.entry) entry is in
-      let made : Some (exchange_wanted t.target.fields entry x.entry.hand.registers) ≡ Some a = sym (ap (λ (o : Option TargetInstr). instr_wanted t.target.fields x.entry.number o x.entry.hand.registers) there.1) ∙ want in
-      let same : exchange_wanted t.target.fields entry x.entry.hand.registers ≡ a = cc in
-      subst (TestsAgree entry) same (cas_agrees entry there.0 at there.1)
-  by_routine (InCoreList k) entry a at is want =
-      let made : Some (exchange_wanted t.target.fields entry x.entry.hand.registers) ≡ Some a = sym (ap (λ (o : Option CasEntry). list_wanted t.target.fields o x.entry.hand.registers) is) ∙ want in
-      let same : exchange_wanted t.target.fields entry x.entry.hand.registers ≡ a = cc in
-      subst (TestsAgree entry) same (entry_agrees k entry at is)
-  by_routine Idle entry a at is want = absurd (let z : None ≡ Some entry = is in cc)
-  by_routine (LoadSeen why) entry a at is want = absurd (let z : None ≡ Some entry = is in cc)
-  by_routine (Retires retirement go) entry a at is want = absurd (let z : None ≡ Some entry = is in cc)
-  by_routine Restarts entry a at is want = absurd (let z : None ≡ Some entry = is in cc)
-  by_routine (Clears next) entry a at is want = absurd (let z : None ≡ Some entry = is in cc)
-  by_routine (Claims claim) entry a at is want = absurd (let z : None ≡ Some entry = is in cc)
-  by_routine (Zeroes k field) entry a at is want = absurd (let z : None ≡ Some entry = is in cc)
-  by_routine (Announces announcing) entry a at is want = absurd (let z : None ≡ Some entry = is in cc)
-
   pub caller_agrees : (entry : CasEntry) (a : WordAccess) → core_exchange t.target x.entry x.entry.routine ≡ Some entry → wants t.target x.entry ≡ Some a → TestsAgree entry a
-  caller_agrees entry a is want = by_routine x.entry.routine entry a refl is (sym (wants_is t.target x.entry x.entry.routine refl) ∙ want)
+  caller_agrees entry a is want = by_exchange t.target x.entry TestsAgree cas_agrees entry_agrees entry a is want
 
   -- the base of a load: the source's name, its slot, and that it is resident
   pub base_there : (d a : Reg) (g : ℕ) → x.entry.routine ≡ At → instr_in t.target x.entry ≡ Some (Plain (instr.LoadField d a g))
@@ -173,42 +152,32 @@ module _ (t : Plan) (s : Shared) (since : ℕ → ℕ) (c : ℕ) (x : Caller) (p
 -- ---- a state beside its shadow
 
 module _ (t : Plan) (state : CoreState) (z : Shadow) (plan : IsPlan t) (text_proper : IsProper t.text) (shaped : IsShaped t.target t.setting state) (b : Beside t state z) where
+  placed : (c : ℕ) → c < t.setting.sizes.callers → Placed b.v z c (point_at b.w.shared (b.w.who c))
+  placed c lt = record { caller = b.caller c lt; memory = b.source; run = b.run c lt; unused = b.unused }
+
   point_proper : (c : ℕ) → c < t.setting.sizes.callers → IsProperPoint t.text (point_at b.w.shared (b.w.who c))
-  point_proper c lt =
-      let placed : Placed b.v z c (point_at b.w.shared (b.w.who c)) = record { caller = b.caller c lt; memory = b.source; run = b.run c lt; unused = b.unused } in
-      stays_proper t.text t.setting.sizes.callers c z b.v (point_at b.w.shared (b.w.who c)) plan.normal plan.within text_proper b.sourced placed [] (point_at b.w.shared (b.w.who c)) (done (point_at b.w.shared (b.w.who c)))
+  point_proper c lt = stays_proper t.text t.setting.sizes.callers c z b.v (point_at b.w.shared (b.w.who c)) plan.normal plan.within text_proper b.sourced (placed c lt) [] (point_at b.w.shared (b.w.who c)) (done (point_at b.w.shared (b.w.who c)))
 
-  is_caller : (c : ℕ) (e : Entry) → slice_get state.entries c ≡ Some e → c < t.setting.sizes.callers
-  is_caller c e at = let within = slice_get_within state.entries c e at in let callers = shaped.callers in omega (arith, within, callers)
-
-  own_entry : (c : ℕ) (e : Entry) → slice_get state.entries c ≡ Some e → (b.w.who c).entry ≡ e
-  own_entry c e at = b.entry c (is_caller c e at) ∙ ap (λ (o : Option Entry). unwrap_or o (idle_entry c)) at
+  own_entry : (c : ℕ) (e : Entry) → c < t.setting.sizes.callers → slice_get state.entries c ≡ Some e → (b.w.who c).entry ≡ e
+  own_entry c e lt at = b.entry c lt ∙ entry_seen t.setting state c e at
 
   source_caller : (c : ℕ) → c < t.setting.sizes.callers → slice_get z.machine.callers c ≡ Some (b.w.who c).source
   source_caller c lt = ap (λ (machine : SourceMachine). slice_get machine.callers c) (sym (machine_is t.text t.setting.sizes.callers z b.v b.sourced)) ∙ b.caller c lt
 
   pub exchanges_agree : ExchangesAgree t.target t.text t.setting state z.machine
   exchanges_agree c e entry a at is want =
-      let lt = is_caller c e at in
-      let s : Shared = b.w.shared in
+      let lt = is_caller state t.setting.sizes.callers c e shaped.callers at in
       let x : Caller = b.w.who c in
-      let own : x.entry ≡ e = own_entry c e at in
-      let row : in_row t.setting.sizes (word_of a) ≡ true = shaped.wanted c e a at want in
-      let found : s.memory (word_of a) ≡ found_by t.setting state a =
-      ap (λ (k : Word → ℕ). k (word_of a)) b.memory ∙ ap (λ (b : Bool). if b then slice_index state.words (address_of t.setting.sizes (word_of a)) else 0) row in
-      let mine : succeeds entry x.entry.hand.registers (s.memory (word_of a)) ≡ caller_makes t.text s.source (Some x.source) =
-      caller_agrees t s b.w.since c x plan b.holds.shared_holds lt (b.holds.caller_holds c lt) (point_proper c lt) entry a (ap (λ (i : Entry). core_exchange t.target i i.routine) own ∙ is) (ap (wants t.target) own ∙ want) in
-      sym (ap (λ (word : ℕ). succeeds entry x.entry.hand.registers word) found ∙ ap (λ (i : Entry). succeeds entry i.hand.registers (found_by t.setting state a)) own)
-      ∙ (mine ∙ (ap (λ (memory : Memory). caller_makes t.text memory (Some x.source)) (sym b.source)
-      ∙ (ap (caller_makes t.text b.v.machine.memory) (sym (b.caller c lt))
-      ∙ ap (λ (machine : SourceMachine). source_makes t.text machine c) (machine_is t.text t.setting.sizes.callers z b.v b.sourced))))
+      let own : x.entry ≡ e = own_entry c e lt at in
+      test_agrees t state z b.v c b.w.shared.memory x.entry e (point_at b.w.shared x) entry a shaped b.sourced (placed c lt) b.memory own at want
+      (caller_agrees t b.w.shared b.w.since c x plan b.holds.shared_holds lt (b.holds.caller_holds c lt) (point_proper c lt) entry a (ap (λ (i : Entry). core_exchange t.target i i.routine) own ∙ is) (ap (wants t.target) own ∙ want))
 
   -- the base of each load
   pub bases_resident : (c : ℕ) (e : Entry) (d a : Reg) (g : ℕ) → slice_get state.entries c ≡ Some e → e.routine ≡ At → instr_in t.target e ≡ Some (Plain (instr.LoadField d a g))
       → (slot_in e.hand.registers a ≡ t.home (source_name t.text z.machine c a)) × (b.w.shared.present (t.home (source_name t.text z.machine c a)) ≡ source_name t.text z.machine c a)
   bases_resident c e d a g at runs is =
-      let lt = is_caller c e at in
-      let own : (b.w.who c).entry ≡ e = own_entry c e at in
+      let lt = is_caller state t.setting.sizes.callers c e shaped.callers at in
+      let own : (b.w.who c).entry ≡ e = own_entry c e lt at in
       let there = base_there t b.w.shared b.w.since c (b.w.who c) plan b.holds.shared_holds lt (b.holds.caller_holds c lt) (point_proper c lt) d a g (ap (λ (i : Entry). i.routine) own ∙ runs) (ap (instr_in t.target) own ∙ is) in
       let name : source_name t.text z.machine c a ≡ (reference_in (caller_registers t.text (Some (b.w.who c).source)) a).node = ap (λ (o : Option SourceCaller). (reference_in (caller_registers t.text o) a).node) (source_caller c lt) in
       (sym (ap (λ (i : Entry). slot_in i.hand.registers a) own) ∙ (there.0 ∙ ap t.home (sym name)), ap (λ (n : ℕ). b.w.shared.present (t.home n)) name ∙ (there.1 ∙ sym name))

@@ -22,7 +22,7 @@ use Rattle.target_code.specs.Erasing.{ErasesTo}
 use Rattle.target_code.specs.Paths.{TargetPath}
 use Rattle.target_code.specs.PathStates.{is_fresh_along}
 use Rattle.target_laws.specs.Methods.{code_in}
-use Rattle.source_machine.specs.declared.event.SourceReply.{SourceReply}
+use Rattle.norm_lang.specs.declared.reply.SourceReply.{SourceReply}
 use Rattle.source_machine.specs.Proper.{has}
 use Rattle.caller_parts.specs.declared.setting.Reclamation.TheVariants.{Epochs}
 use Rattle.caller_parts.specs.Settings.{Fits, IsSetting}
@@ -39,7 +39,7 @@ use Rattle.caller_parts.specs.declared.routine.Routine.{Routine}
 use Rattle.caller_parts.specs.declared.routine.Routine.TheVariants.{Idle, LoadSeen, At, InList, Retires, Restarts, Clears, Claims, Zeroes, Announces}
 use Rattle.caller_steps.specs.Entries.{instr_in, cradle_of}
 use Rattle.oa_simulation.specs.sim_relation.Views.{Plan, Held, Shared, Resident, Apart, link}
-use Rattle.oa_simulation.specs.sim_relation.Callers.{Own, Shown, source_reply, replies_of, call_of, spot_of, HasMade, RetiresAt, Zeroed}
+use Rattle.oa_simulation.specs.sim_relation.Callers.{Own, Shown, replies_of, call_of, spot_of, HasMade, RetiresAt, Zeroed}
 use Rattle.epoch_relation.specs.Callers.{Caller, Base, IsSafe, IsAnnounced, ClaimAt}
 
 -- a text in normal form, run as it is
@@ -189,7 +189,7 @@ ClaimsIn t s d x false = Running t s d x
 abbrev pub AnnouncesAt : Plan → Shared → Caller → Announcing → Type 0
 AnnouncesAt t s x (announces.Loads why) = BeginsAt t x why
 AnnouncesAt t s x (announces.Stores why p) = BeginsAt t x why × IsLoaded s p
-AnnouncesAt t s x (announces.Leaves reply) = HasReplied x (source_reply reply)
+AnnouncesAt t s x (announces.Leaves reply) = HasReplied x reply
 
 -- there are no guards, so nothing is seen, checked or cleared
 abbrev pub HoldsAt : (t : Plan) → Shared → (ℕ → ℕ) → ℕ → Caller → Routine → Type 0

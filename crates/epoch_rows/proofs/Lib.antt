@@ -2,3 +2,4 @@ pub mod Lone
 pub mod Held
 pub mod Window
 pub mod Whole
+pub mod WrapUp

@@ -3,3 +3,4 @@ pub mod LoneRows
 pub mod HeldRows
 pub mod WindowRows
 pub mod WholeRows
+pub mod WrapUpRows

@@ -1,9 +1,9 @@
 -- Runs of the list under epochs by one caller with three slots, step by step: an insert and a removal, a list that is full, a slot
 -- that comes back, and phases that are over.
 use Rattle.std.specs.Prelude.{◌≡◌, ℕ, List, [], ◌∷◌, ◌++◌, Some}
+use Rattle.norm_lang.specs.declared.reply.SourceReply.{SourceReply}
+use Rattle.norm_lang.specs.declared.reply.SourceReply.TheVariants as replies
 use Rattle.oa_words.specs.Words.{Phase, Warning, FieldOf, Cell}
-use Rattle.caller_parts.specs.declared.call.Reply.{Reply}
-use Rattle.caller_parts.specs.declared.call.Reply.TheVariants as replies
 use Rattle.caller_parts.specs.Settings.{Setting}
 use Rattle.core_runs.specs.Machine.{CoreEvent}
 use Rattle.core_rows.specs.Short.{call_of, no_slots}
@@ -147,7 +147,7 @@ four_rounds = two_rounds ++ (calls 0 (call_of 0 7) 34 ++ (calls 0 (call_of 1 7) 
 abbrev pub over : List CoreEvent
 over = four_rounds ++ calls 0 (call_of 0 7) 7
 
-abbrev pub one : Reply
+abbrev pub one : SourceReply
 one = replies.Number 1
 
 -- ---- the rows

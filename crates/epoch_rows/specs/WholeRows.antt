@@ -1,10 +1,10 @@
 -- Whole runs under epochs, by what is left at their end: those of the list that optimistic access makes too give the same answers, phases
 -- and counts. And a call that begins again because its exchange failed.
 use Rattle.std.specs.Prelude.{◌≡◌, List, [], ◌∷◌, ◌++◌, Some, Ok}
+use Rattle.norm_lang.specs.declared.reply.SourceReply.TheVariants as replies
 use Rattle.oa_words.specs.Words.{Warning, Cell}
 use Rattle.target_code.specs.declared.target.Target.{Target}
 use Rattle.bare_targets.specs.Bare.{bare}
-use Rattle.caller_parts.specs.declared.call.Reply.TheVariants as replies
 use Rattle.caller_parts.specs.declared.setting.Reclamation.TheVariants.{Epochs}
 use Rattle.caller_parts.specs.Settings.{Setting}
 use Rattle.core_runs.specs.Machine.{CoreEvent}

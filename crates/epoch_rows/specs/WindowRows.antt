@@ -2,8 +2,8 @@
 -- and recycles a slot that was retired in the phase that is stored then. The caller can't reach that slot any more, and from its store on it
 -- holds back what is retired, by the smaller phase.
 use Rattle.std.specs.Prelude.{◌≡◌, List, [], ◌∷◌, ◌++◌, Some}
+use Rattle.norm_lang.specs.declared.reply.SourceReply.TheVariants as replies
 use Rattle.oa_words.specs.Words.{Phase, Warning, Status, FieldOf, Cell}
-use Rattle.caller_parts.specs.declared.call.Reply.TheVariants as replies
 use Rattle.caller_parts.specs.Settings.{Setting}
 use Rattle.caller_steps.specs.Signs.{Begins}
 use Rattle.core_runs.specs.Machine.{CoreEvent}

@@ -5,6 +5,7 @@ ghost use Rattle.epoch_rows.specs.HeldRows.{HeldRows, LetGoRows};
 ghost use Rattle.epoch_rows.specs.LoneRows.{BackRows, LoneRows};
 ghost use Rattle.epoch_rows.specs.WholeRows.{AgainRows, WholeRows};
 ghost use Rattle.epoch_rows.specs.WindowRows.{AfterWindow, WindowRows};
+ghost use Rattle.epoch_rows.specs.WrapUpRows.{TallyRows, WrapUpRows};
 
 /// One caller: an insert, a removal, a list that is full, a slot that comes back, and phases that are over.
 pub fn lone_rows()
@@ -28,4 +29,10 @@ pub fn window_rows()
 pub fn whole_rows()
     ensures whole { WholeRows }
     ensures again { AgainRows }
+{}
+
+/// What a wrap-up loads isn't recycled before the reply, and what it loads is replied.
+pub fn wrap_up_rows()
+    ensures wrap_up { WrapUpRows }
+    ensures tally { TallyRows }
 {}

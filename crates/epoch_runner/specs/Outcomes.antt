@@ -1,14 +1,14 @@
 -- What an outcome says.
 use Rattle.std.specs.Prelude.{Option, Some, None}
-use Rattle.caller_parts.specs.declared.call.Reply.{Reply}
-use Rattle.caller_parts.specs.declared.call.Reply.TheVariants as replies
+use Rattle.norm_lang.specs.declared.reply.SourceReply.{SourceReply}
+use Rattle.norm_lang.specs.declared.reply.SourceReply.TheVariants as replies
 use Rattle.word_runner.specs.declared.caller.Outcome.{Outcome}
 use Rattle.word_runner.specs.declared.caller.Outcome.TheVariants as outcomes
 use Rattle.epoch_runner.specs.declared.caller.EpochOutcome.{EpochOutcome}
 use Rattle.epoch_runner.specs.declared.caller.EpochOutcome.TheVariants as epochs
 
 -- the reply for which an outcome stands; none at `Spent`
-abbrev pub epoch_answer_of : EpochOutcome → Option Reply
+abbrev pub epoch_answer_of : EpochOutcome → Option SourceReply
 epoch_answer_of (epochs.Replied (Some n)) = Some (replies.Number n)
 epoch_answer_of (epochs.Replied None) = Some replies.Nothing
 epoch_answer_of epochs.Full = Some replies.Full

@@ -3,10 +3,10 @@ use Rattle.std.proofs.Common.{◌≡◌, ◌≤◌, ◌<◌, ℕ, Bool, true, fa
 use Rattle.std.specs.Prelude.{nat_lt}
 use Rattle.std.proofs.lemmas.Bool.Decides.{nat_tests}
 use Rattle.std.proofs.lemmas.List.{append_assoc, append-nil, map-append}
+use Rattle.norm_lang.specs.declared.reply.SourceReply.{SourceReply}
 use Rattle.target_code.specs.declared.target.Target.{Target}
 use Rattle.caller_parts.specs.declared.call.Call.{Call}
 use Rattle.caller_parts.specs.declared.call.Replied.{Replied}
-use Rattle.caller_parts.specs.declared.call.Reply.{Reply}
 use Rattle.caller_parts.specs.declared.call.Running.{Running}
 use Rattle.caller_parts.specs.declared.routine.AnnounceReason.{AnnounceReason}
 use Rattle.caller_parts.specs.declared.routine.AnnounceReason.TheVariants as reasons
@@ -60,22 +60,9 @@ Counts e = MadeAt e.routine e.running.steps
 past : (r : Routine) (n : ℕ) → waits Epochs r ≡ false → 2 ≤ n → MadeAt r n
 past Idle n on le = tt
 past (LoadSeen starts.Begin) n on le = absurd (let z : true ≡ false = on in cc)
-past (LoadSeen starts.WrapUp) n on le = le
-past (LoadSeen starts.Again) n on le = le
-past At n on le = le
-past (InList k) n on le = le
-past (Retires retirement go) n on le = le
-past Restarts n on le = le
-past (Clears next) n on le = le
-past (Claims claim) n on le = le
-past (Zeroes k field) n on le = le
 past (Announces (announces.Loads reasons.Begin)) n on le = absurd (let z : true ≡ false = on in cc)
-past (Announces (announces.Loads reasons.Again)) n on le = le
-past (Announces (announces.Loads reasons.Swept)) n on le = le
 past (Announces (announces.Stores reasons.Begin phase)) n on le = absurd (let z : true ≡ false = on in cc)
-past (Announces (announces.Stores reasons.Again phase)) n on le = le
-past (Announces (announces.Stores reasons.Swept phase)) n on le = le
-past (Announces (announces.Leaves reply)) n on le = le
+past _ n on le = le
 
 -- a count that is two or more stays so, and one that is one becomes two
 grown : (n : ℕ) → 1 ≤ n → 2 ≤ one_more n
@@ -161,7 +148,7 @@ module _ (target : Target) (setting : Setting) (epochs : setting.reclamation ≡
   }
 
   -- the store that withdraws it
-  leaves : (reply : Reply) → e.routine ≡ Announces (announces.Leaves reply) → 2 ≤ e.running.steps → Goes target setting e word
+  leaves : (reply : SourceReply) → e.routine ≡ Announces (announces.Leaves reply) → 2 ≤ e.running.steps → Goes target setting e word
   leaves reply is le = record {
     made = subst (λ (r : Routine). MadeAt r (one_more e.running.steps)) (sym (ap (λ (later : Entry). later.routine) (after_at (announces.Leaves reply) is))) tt;
     ends = λ idle. grown e.running.steps (omega (arith, le));

@@ -3,7 +3,7 @@ use Rattle.std.proofs.Common.{ℕ, zero, suc, ◌+◌, ◌<◌, ◌≤◌, ◌�
 use Rattle.std.specs.Prelude.{Result, Ok, Err, slice_get}
 use Rattle.norm_lang.specs.declared.text.Text.{Text}
 use Rattle.source_machine.specs.declared.event.SourceEvent.{SourceEvent}
-use Rattle.source_machine.specs.declared.event.SourceReply.{SourceReply}
+use Rattle.norm_lang.specs.declared.reply.SourceReply.{SourceReply}
 use Rattle.source_machine.specs.declared.state.SourceMachine.{SourceMachine}
 use Rattle.source_machine.specs.Run.{is_enabled, source_step}
 use Rattle.documents.specs.declared.document.ScriptCall.{ScriptCall}

@@ -4,7 +4,7 @@ use Rattle.std.proofs.lemmas.List.{get_or-replicate, get_or_past, length-replica
 use Rattle.std.specs.Prelude.{Result, Ok, Err, slice_get, slice_index}
 use Rattle.norm_lang.specs.declared.text.Text.{Text}
 use Rattle.source_machine.specs.declared.event.SourceEvent.{SourceEvent}
-use Rattle.source_machine.specs.declared.event.SourceReply.{SourceReply}
+use Rattle.norm_lang.specs.declared.reply.SourceReply.{SourceReply}
 use Rattle.source_machine.specs.declared.state.SourceMachine.{SourceMachine}
 use Rattle.source_machine.specs.State.{source_start}
 use Rattle.source_machine.specs.Run.{source_run, source_replies, IsSourceRun}

@@ -20,8 +20,8 @@ use Rattle.norm_lang.specs.declared.text.Text.{Text}
 use Rattle.norm_lang.specs.LineWords.{item_kind}
 use Rattle.source_machine.specs.declared.event.SourceEvent.{SourceEvent}
 use Rattle.source_machine.specs.declared.event.SourceEvent.TheVariants.{Begin, Access, Restart, GiveUp}
-use Rattle.source_machine.specs.declared.event.SourceReply.{SourceReply}
-use Rattle.source_machine.specs.declared.event.SourceReply.TheVariants as replies
+use Rattle.norm_lang.specs.declared.reply.SourceReply.{SourceReply}
+use Rattle.norm_lang.specs.declared.reply.SourceReply.TheVariants as replies
 use Rattle.documents.specs.declared.document.ScriptCall.{ScriptCall}
 use Rattle.event_judge.specs.declared.verdict.Verdict.{Verdict}
 use Rattle.event_judge.specs.declared.verdict.Verdict.TheVariants.{Accepted, Rejected}

@@ -27,6 +27,13 @@ impl Model for GuardRow {
 }
 
 impl GuardRow {
+    /// A row has eight slots and eight flags: a law for those who hold one. To read a field tells it.
+    pub fn kept(&self)
+        ensures { IsRow self.now }
+    {
+        let _ = &self.slots;
+    }
+
     /// No register has a guard.
     pub fn empty() -> GuardRow
         ensures { result ≡ no_guards }
@@ -75,13 +82,6 @@ impl GuardRow {
     {
         least(&self.slots, &spare_kept)
     }
-}
-
-/// A row has eight slots and eight flags: a law for the crates above.
-pub fn rows_have_eight(row: &GuardRow)
-    ensures { IsRow row.now }
-{
-    let _ = &row.slots;
 }
 
 /// The slot of a register, 0 past the end.

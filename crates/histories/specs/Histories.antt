@@ -9,6 +9,7 @@ use Rattle.histories.specs.declared.call.Answer.{Answer}
 use Rattle.histories.specs.declared.call.Answer.TheVariants.{Number, Nothing, Spent, NoEffect}
 use Rattle.histories.specs.declared.judgement.Judgement.{Judgement}
 use Rattle.histories.specs.declared.judgement.Judgement.TheVariants.{Legal, NoLegalOrder, TooLarge}
+use Rattle.histories.specs.declared.limits.TheConstants.{MOST_CALLS}
 
 -- the keys of the set, and the values of the queue, of which the first goes out first
 pub record Shared : Type 0 where
@@ -77,7 +78,7 @@ HasLegalOrder shared history = (order : List Call) × IsOrderOf history order ×
 
 -- how many calls a history has at most that is searched
 abbrev pub most_calls : ℕ
-most_calls = 10
+most_calls = MOST_CALLS
 
 -- what is found of a history of an empty set and an empty queue
 abbrev pub IsJudged : List Call → Judgement → Type 0

@@ -4,6 +4,7 @@ ghost use Rattle.std.specs.Prelude.{IfOk};
 ghost use Rattle.histories.specs.Histories.{IsJudged};
 
 use crate::call::Call;
+use crate::limits::MOST_CALLS;
 use crate::orders::has_legal_order;
 use crate::shared::Shared;
 use std::alloc::{AllocError, Global};
@@ -18,9 +19,6 @@ pub enum Judgement {
     /// It has too many calls to be searched.
     TooLarge,
 }
-
-/// How many calls a history has at most that is searched.
-const MOST_CALLS: usize = 10;
 
 /// Looks for an order of a history's calls, each caller's in its own, in which a set and a queue that are empty at first give each
 /// answer. A history of more than ten calls isn't searched.

@@ -5,6 +5,7 @@
 
 mod call;
 mod judgement;
+mod limits;
 mod orders;
 mod shared;
 

@@ -32,31 +32,13 @@ set_gives fields roots i held r t is = rw is refl
 
 -- what an instruction gives whatever registers have, it gives
 given_anyway : (fields : List FieldDecl) (roots : List RootDecl) (i : Instr) (held : ℕ → ℕ → Bool) (t : ℕ) → given_kinds fields roots i none_held t ≡ true → given_kinds fields roots i held t ≡ true
-given_anyway fields roots (instr.Set d n) held t is = is
 given_anyway fields roots (instr.Mov d (Num a)) held t is = is
 given_anyway fields roots (instr.Mov d (Ref a)) held t is = absurd (let no : false ≡ true = is in cc)
-given_anyway fields roots (instr.Add d a b) held t is = is
-given_anyway fields roots (instr.Sub d a b) held t is = is
-given_anyway fields roots (instr.Rem d a n) held t is = is
 given_anyway fields roots (instr.Mark d (Num a)) held t is = is
 given_anyway fields roots (instr.Mark d (Ref a)) held t is = absurd (let no : false ≡ true = is in cc)
 given_anyway fields roots (instr.Unmark d (Num a)) held t is = is
 given_anyway fields roots (instr.Unmark d (Ref a)) held t is = absurd (let no : false ≡ true = is in cc)
-given_anyway fields roots (instr.Null d) held t is = is
-given_anyway fields roots (instr.LoadRoot d x) held t is = is
-given_anyway fields roots (instr.LoadPick d x n a) held t is = is
-given_anyway fields roots (instr.LoadField d a f) held t is = is
-given_anyway fields roots (instr.New d kind) held t is = is
-given_anyway fields roots (instr.Put a f b) held t is = is
-given_anyway fields roots (instr.Cas entry l) held t is = is
-given_anyway fields roots (instr.Jump l) held t is = is
-given_anyway fields roots (instr.IfEq a b l) held t is = is
-given_anyway fields roots (instr.IfLess a b l) held t is = is
-given_anyway fields roots (instr.IfMarked a l) held t is = is
-given_anyway fields roots (instr.Commit entries) held t is = is
-given_anyway fields roots (instr.Return a) held t is = is
-given_anyway fields roots instr.ReturnNone held t is = is
-given_anyway fields roots instr.Again held t is = is
+given_anyway fields roots _ held t is = is
 
 module _ (fields : List FieldDecl) (roots : List RootDecl) (op : TargetOp) (wrapup : Bool) where
   -- a register that isn't set may have what it may have before

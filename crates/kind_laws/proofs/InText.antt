@@ -23,19 +23,11 @@ use Rattle.kind_laws.specs.TextKinds.{KindsAreInText, AskedKindsAreOne, AskedKin
 -- it doesn't matter to kinds where jumps lead
 kinds_ignore_jumps : (fields : List FieldDecl) (roots : List RootDecl) → IgnoresJumps (kinds_after fields roots)
 kinds_ignore_jumps fields roots place (instr.Cas entry l) held = refl
-kinds_ignore_jumps fields roots place (instr.Jump l) held = refl
-kinds_ignore_jumps fields roots place (instr.IfEq a b l) held = refl
-kinds_ignore_jumps fields roots place (instr.IfLess a b l) held = refl
-kinds_ignore_jumps fields roots place (instr.IfMarked a l) held = refl
 kinds_ignore_jumps fields roots place _ held = refl
 
 -- nor to what is asked
 asks_redirected : (fields : List FieldDecl) (roots : List RootDecl) (place : ℕ → ℕ) (i : Instr) (r k : ℕ) → asks fields roots (redirected place i) r k ≡ asks fields roots i r k
 asks_redirected fields roots place (instr.Cas entry l) r k = refl
-asks_redirected fields roots place (instr.Jump l) r k = refl
-asks_redirected fields roots place (instr.IfEq a b l) r k = refl
-asks_redirected fields roots place (instr.IfLess a b l) r k = refl
-asks_redirected fields roots place (instr.IfMarked a l) r k = refl
 asks_redirected fields roots place _ r k = refl
 
 module _ (target : Target) (text : Text) (normal : IsNormal text) (erases : ErasesTo target text) where

@@ -165,20 +165,11 @@ module _ (kind_of : ℕ → ℕ) (fields : List FieldDecl) (roots : List RootDec
   local_leaves (instr.Mark d a) place registers right = mark_leaves d a registers right
   local_leaves (instr.Unmark d a) place registers right = unmark_leaves d a registers right
   local_leaves (instr.Null d) place registers right = puts_reference (instr.Null d) d no_reference registers refl (inl refl)
-  local_leaves (instr.LoadRoot d x) place registers right = tt
-  local_leaves (instr.LoadPick d x n a) place registers right = tt
-  local_leaves (instr.LoadField d a f) place registers right = tt
-  local_leaves (instr.New d kind) place registers right = tt
-  local_leaves (instr.Put a f b) place registers right = tt
-  local_leaves (instr.Cas entry l) place registers right = tt
   local_leaves (instr.Jump l) place registers right = leaves_all (instr.Jump l) registers refl
   local_leaves (instr.IfEq a b l) place registers right = leaves_all (instr.IfEq a b l) registers refl
   local_leaves (instr.IfLess a b l) place registers right = leaves_all (instr.IfLess a b l) registers refl
   local_leaves (instr.IfMarked a l) place registers right = leaves_all (instr.IfMarked a l) registers refl
-  local_leaves (instr.Commit entries) place registers right = tt
-  local_leaves (instr.Return a) place registers right = tt
-  local_leaves instr.ReturnNone place registers right = tt
-  local_leaves instr.Again place registers right = tt
+  local_leaves _ place registers right = tt
 
 -- ---- the laws
 

@@ -2,12 +2,12 @@
 use Rattle.std.specs.Prelude.{◌≡◌, ℕ, ◌++◌, false, List, [], ◌∷◌}
 use Rattle.norm_lang.specs.declared.registers.Registers.{Registers}
 use Rattle.norm_lang.specs.Registers.{first_registers, with_reference}
+use Rattle.norm_lang.specs.declared.reply.SourceReply.TheVariants as replies
 use Rattle.oa_words.specs.Words.{Phase, Warning, Status, Head}
 use Rattle.phase_pools.specs.declared.stages.RetireStage.TheVariants as stages
 use Rattle.guard_words.specs.Guards.{no_guards}
 use Rattle.phase_pools.specs.declared.stages.Scheme.TheVariants.{Warned}
 use Rattle.phase_pools.specs.Pools.{claim_begun}
-use Rattle.caller_parts.specs.declared.call.Reply.TheVariants as replies
 use Rattle.caller_parts.specs.declared.routine.AfterClear.TheVariants as clears
 use Rattle.caller_parts.specs.declared.routine.AfterRetire.TheVariants as retires
 use Rattle.caller_parts.specs.declared.routine.AnnounceReason.TheVariants as reasons

@@ -6,8 +6,8 @@ use Rattle.std.proofs.lemmas.Bool.Decides.{nat_tests}
 use Rattle.norm_lang.specs.declared.text.Text.{Text}
 use Rattle.source_machine.specs.declared.event.SourceEvent.{SourceEvent}
 use Rattle.source_machine.specs.declared.event.SourceEvent.TheVariants as events
-use Rattle.source_machine.specs.declared.event.SourceReply.{SourceReply}
-use Rattle.source_machine.specs.declared.event.SourceReply.TheVariants as replies
+use Rattle.norm_lang.specs.declared.reply.SourceReply.{SourceReply}
+use Rattle.norm_lang.specs.declared.reply.SourceReply.TheVariants as replies
 use Rattle.source_machine.specs.declared.state.Running.{Running}
 use Rattle.source_machine.specs.declared.state.SourceCaller.{SourceCaller}
 use Rattle.source_machine.specs.declared.state.SourceMachine.{SourceMachine}
@@ -114,9 +114,7 @@ log_moved text (events.GiveUp c phase) t m caller after log calls enabled same k
 
 others_begin : (c : ℕ) (event : SourceEvent) → c ≢ mover event → begun_by c event ≡ []
 others_begin c (events.Begin d number args) ne = ap (λ b. if b then record { op = number; args = args } ∷ [] else []) (other_test d c ne)
-others_begin c (events.Access d name) ne = refl
-others_begin c (events.Restart d) ne = refl
-others_begin c (events.GiveUp d phase) ne = refl
+others_begin c _ ne = refl
 
 -- each caller's calls are written down
 abbrev AllLogged : List SourceEvent → Book → Type 0

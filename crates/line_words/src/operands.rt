@@ -4,6 +4,7 @@
 ghost use Rattle.std.specs.Prelude.{◌≡◌, ◌≤◌, ◌<◌, length, IfSome};
 ghost use Rattle.std.specs.List.{position};
 ghost use Rattle.std.specs.Str.{bytes_eq};
+ghost use Rattle.norm_lang.specs.Bounds.{last_target};
 ghost use Rattle.norm_lang.specs.Faults.{unknown_name, or_fault};
 ghost use Rattle.norm_lang.specs.LineWords.{kind_named, up_to};
 ghost use Rattle.norm_lang.specs.Instructions.{field_named, root_named, one_register, two_registers, three_registers, retire_at, target_at};
@@ -11,9 +12,8 @@ ghost use Rattle.line_words.specs.Answered.{Reads};
 
 use crate::fault::Fault;
 use crate::words::{Words, up_to, value_of};
+use norm_lang::limits::LAST_TARGET;
 use norm_lang::text::{FieldDecl, Name, Reg, RootDecl};
-
-const LAST_TARGET: u64 = 65535;
 
 fn kind_place(kinds: &[Name], name: &[u8]) -> Option<usize>
     ensures place { result ≡ position (λ kind. bytes_eq kind name.now) kinds.now }
@@ -121,7 +121,7 @@ pub fn retired(words: &mut Words) -> Result<Option<Reg>, Fault>
 
 /// The number of an instruction, to which a jump leads.
 pub fn target(l: u64) -> Result<u16, Fault>
-    ensures { Reads (λ l. l) result (up_to 65535 l) }
+    ensures { Reads (λ l. l) result (up_to last_target l) }
 {
     Ok(up_to(LAST_TARGET, l)? as u16)
 }

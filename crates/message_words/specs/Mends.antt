@@ -1,6 +1,5 @@
--- How a broken rule is mended, and which register is at fault.
-use Rattle.std.specs.Prelude.{ℕ, List, ◌||◌, codes, ◌==◌, if◌then◌else◌}
-use Rattle.std.specs.Str.{bytes_eq}
+-- How a broken rule is mended.
+use Rattle.std.specs.Prelude.{ℕ, List, codes, ◌==◌, if◌then◌else◌}
 
 -- how to mend what breaks a rule, by the rule's number
 unfoldable pub rule_mend : ℕ → List ℕ
@@ -21,37 +20,3 @@ rule_mend rule =
     else (if rule == 14 then codes "Set the register on each way there, and what a wrap-up reads before each commit"
     else (if rule == 15 then codes "Keep references to nodes of different kinds in registers of their own"
     else codes "Write it as the rule says"))))))))))))))
-
--- where an exchange spells its new value, by its first word: `cas A F B D L`, `casroot X B D L`; 0 where the line is no exchange
-abbrev pub new_value_place : List ℕ → ℕ
-new_value_place word =
-    if bytes_eq word (codes "cas") then 4
-    else (if bytes_eq word (codes "casroot") then 3
-    else 0)
-
--- where an exchange spells the register that it retires, by its first word; 0 where the line is no exchange
-abbrev pub retired_place : List ℕ → ℕ
-retired_place word =
-    if bytes_eq word (codes "cas") then 7
-    else (if bytes_eq word (codes "casroot") then 6
-    else 0)
-
--- where an instruction that reads one register spells it, by its first word; 0 where it isn't such an instruction
-abbrev pub source_place : List ℕ → ℕ
-source_place word =
-    if bytes_eq word (codes "mov") || (bytes_eq word (codes "mark") || (bytes_eq word (codes "unmark") || (bytes_eq word (codes "load") || bytes_eq word (codes "rem")))) then 2
-    else (if bytes_eq word (codes "return") || bytes_eq word (codes "ifmarked") then 1
-    else (if bytes_eq word (codes "pick") then 4
-    else 0))
-
--- where an instruction spells the register that a rule is about, by the rule's number and its first word: the new value that may be
--- fresh, the kept register that is set or that a way leads on from, what is retired, the one register that is read; 0 where it can be
--- one of several
-abbrev pub register_place : ℕ → List ℕ → ℕ
-register_place rule word =
-    if rule == 5 then new_value_place word
-    else (if rule == 9 then 1
-    else (if rule == 10 then 2
-    else (if rule == 12 then retired_place word
-    else (if rule == 14 then source_place word
-    else 0))))

@@ -1,8 +1,8 @@
-//! What messages are made of: how lines are spelled, how a broken rule is mended, and where an instruction spells the register at fault.
+//! How lines are spelled, and broken rules mended.
 #![tactic(auto)]
 
 mod forms;
 mod mends;
 
 pub use forms::line_form;
-pub use mends::{register_place, rule_mend};
+pub use mends::rule_mend;

@@ -1,7 +1,7 @@
-//! How a broken rule is mended, and which register is at fault.
+//! How a broken rule is mended.
 
 ghost use Rattle.std.specs.Prelude.{◌≡◌};
-ghost use Rattle.message_words.specs.Mends.{rule_mend, new_value_place, retired_place, source_place, register_place};
+ghost use Rattle.message_words.specs.Mends.{rule_mend};
 
 /// How to mend what breaks a rule, by the rule's number.
 #[tactic(auto, unfolding(crate::specs::Mends::rule_mend))]
@@ -40,71 +40,5 @@ pub fn rule_mend(rule: u8) -> &'static [u8]
         b"Keep references to nodes of different kinds in registers of their own"
     } else {
         b"Write it as the rule says"
-    }
-}
-
-/// Where an exchange spells its new value, by its first word; 0 where the line is no exchange.
-fn new_value_place(word: &[u8]) -> usize
-    ensures { result ≡ new_value_place word.now }
-{
-    if word == b"cas".as_slice() {
-        4
-    } else if word == b"casroot".as_slice() {
-        3
-    } else {
-        0
-    }
-}
-
-/// Where an exchange spells the register that it retires, by its first word; 0 where the line is no exchange.
-fn retired_place(word: &[u8]) -> usize
-    ensures { result ≡ retired_place word.now }
-{
-    if word == b"cas".as_slice() {
-        7
-    } else if word == b"casroot".as_slice() {
-        6
-    } else {
-        0
-    }
-}
-
-/// Where an instruction that reads one register spells it, by its first word; 0 where it isn't such an instruction.
-fn source_place(word: &[u8]) -> usize
-    ensures { result ≡ source_place word.now }
-{
-    if word == b"mov".as_slice()
-        || word == b"mark".as_slice()
-        || word == b"unmark".as_slice()
-        || word == b"load".as_slice()
-        || word == b"rem".as_slice()
-    {
-        2
-    } else if word == b"return".as_slice() || word == b"ifmarked".as_slice() {
-        1
-    } else if word == b"pick".as_slice() {
-        4
-    } else {
-        0
-    }
-}
-
-/// Where an instruction spells the register that a rule is about, by the rule's number and its first word; 0 where that can be one
-/// of several.
-pub fn register_place(rule: u8, word: &[u8]) -> usize
-    ensures { result ≡ register_place rule word.now }
-{
-    if rule == 5 {
-        new_value_place(word)
-    } else if rule == 9 {
-        1
-    } else if rule == 10 {
-        2
-    } else if rule == 12 {
-        retired_place(word)
-    } else if rule == 14 {
-        source_place(word)
-    } else {
-        0
     }
 }

@@ -1,2 +1,2 @@
-mod Searches
 mod Lasts
+mod Stopping

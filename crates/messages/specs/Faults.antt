@@ -8,7 +8,7 @@ use Rattle.oa_text.specs.Tokens.{line_fault}
 use Rattle.messages.specs.declared.faults.OddByte.{OddByte}
 use Rattle.messages.specs.declared.faults.NamedWord.{NamedWord}
 use Rattle.messages.specs.declared.faults.NamedWord.TheVariants.{Field, Root, Kind, Node, Operation, Unknown}
-use Rattle.messages.specs.Places.{word_at, begins, declares_kind, line_that}
+use Rattle.message_lines.specs.Places.{word_at, begins, declares_kind, line_that}
 
 -- ---- a byte that may not stand in a line
 

@@ -1,7 +1,6 @@
-pub mod Places
-pub mod Refused
 pub mod Faults
 pub mod Owed
 pub mod Shapes
+pub mod Turns
 pub mod Messages
 pub mod Remembered

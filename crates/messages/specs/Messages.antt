@@ -1,6 +1,7 @@
 -- The message on a status, where bytes were read: the sentence that names the line at fault, or where there is none the one on the status.
 use Rattle.std.specs.Prelude.{ℕ, List, Option, Some, None, codes, ◌==◌, if◌then◌else◌}
 use Rattle.oa_text.specs.Lines.{TextLine}
+use Rattle.norm_lang.specs.declared.text.Reg.{Reg}
 use Rattle.norm_check.specs.declared.refusal.Refusal.{Refusal}
 use Rattle.statuses.specs.declared.status.Status.{Status}
 use Rattle.statuses.specs.declared.status.Status.TheVariants.{Done, Partial, Usage, ReadFault, LongInput, BadDocument, Refused, BadShape, WriteFault, Memory, Rejected}
@@ -10,9 +11,10 @@ use Rattle.messages.specs.declared.faults.NamedWord.{NamedWord}
 use Rattle.messages.specs.declared.faults.NamedWord.TheVariants.{Field, Root, Kind, Node, Operation, Unknown}
 use Rattle.messages.specs.Faults.{odd_byte, byte_sentence, named_word, unknown_sentence, repeated_sentence}
 use Rattle.messages.specs.Owed.{owed_at, misplaced_message, end_message}
-use Rattle.messages.specs.Places.{word_at, is_numbered, declares_op, line_that}
-use Rattle.messages.specs.Refused.{FoundLines, refused_lines, refused_sentence}
+use Rattle.message_lines.specs.Places.{word_at, is_numbered, declares_op, line_that}
+use Rattle.refusal_messages.specs.Refused.{FoundLines, refused_lines, refused_sentence}
 use Rattle.messages.specs.Shapes.{shape_line, shape_at_sentence, arguments_sentence}
+use Rattle.messages.specs.Turns.{stopped_line, turn_sentence}
 
 -- ---- a fault of a line
 
@@ -47,12 +49,12 @@ fault_message bytes number fault = fault_found bytes (line_that (is_numbered num
 
 -- ---- a broken rule
 
-abbrev refusal_found : Option FoundLines → Refusal → List ℕ
-refusal_found None refusal = refusal_sentence refusal
-refusal_found (Some found) refusal = refused_sentence found refusal
+abbrev refusal_found : Option FoundLines → Refusal → Option Reg → List ℕ
+refusal_found None refusal named = refusal_sentence refusal
+refusal_found (Some found) refusal named = refused_sentence found refusal named
 
-abbrev pub refusal_message : List ℕ → Refusal → List ℕ
-refusal_message bytes refusal = refusal_found (refused_lines bytes refusal) refusal
+abbrev pub refusal_message : List ℕ → Refusal → Option Reg → List ℕ
+refusal_message bytes refusal named = refusal_found (refused_lines bytes refusal) refusal named
 
 -- ---- a document's shape
 
@@ -69,26 +71,31 @@ abbrev shape_found : List ℕ → Option TextLine → ℕ → ℕ → List ℕ
 shape_found bytes None number at = shape_sentence number at
 shape_found bytes (Some line) number at = shape_at_message bytes line number
 
+-- a replay stopped after so many steps, at this turn
+abbrev pub turn_message : List ℕ → Option TextLine → ℕ → List ℕ
+turn_message bytes None steps = shape_sentence 10 steps
+turn_message bytes (Some line) steps = turn_sentence bytes line steps
+
 abbrev pub shape_message : List ℕ → ℕ → ℕ → List ℕ
-shape_message bytes number at = shape_found bytes (shape_line bytes number at) number at
+shape_message bytes number at = if number == 10 then turn_message bytes (stopped_line bytes at) at else shape_found bytes (shape_line bytes number at) number at
 
 -- ---- all statuses
 
--- the message on a status, where these bytes were read; where all went well there is none
-abbrev pub message_of : List ℕ → Status → List ℕ
-message_of bytes Done = explanation Done
-message_of bytes Partial = explanation Partial
-message_of bytes Usage = explanation Usage
-message_of bytes ReadFault = explanation ReadFault
-message_of bytes LongInput = explanation LongInput
-message_of bytes (BadDocument line fault) = fault_message bytes line fault
-message_of bytes (Refused refusal) = refusal_message bytes refusal
-message_of bytes (BadShape number at) = shape_message bytes number at
-message_of bytes WriteFault = explanation WriteFault
-message_of bytes Memory = explanation Memory
-message_of bytes (Rejected number at) = explanation (Rejected number at)
+-- the message on a status, where these bytes were read, and this register is named; where all went well there is none
+abbrev pub message_of : List ℕ → Status → Option Reg → List ℕ
+message_of bytes Done named = explanation Done
+message_of bytes Partial named = explanation Partial
+message_of bytes Usage named = explanation Usage
+message_of bytes ReadFault named = explanation ReadFault
+message_of bytes LongInput named = explanation LongInput
+message_of bytes (BadDocument line fault) named = fault_message bytes line fault
+message_of bytes (Refused refusal) named = refusal_message bytes refusal named
+message_of bytes (BadShape number at) named = shape_message bytes number at
+message_of bytes WriteFault named = explanation WriteFault
+message_of bytes Memory named = explanation Memory
+message_of bytes (Rejected number at) named = explanation (Rejected number at)
 
--- the message on a status, where this is remembered of what was read
-abbrev pub message_for : Option (List ℕ) → Status → List ℕ
-message_for None status = explanation status
-message_for (Some bytes) status = message_of bytes status
+-- the message on a status, where this is remembered of what was read, and this register is named
+abbrev pub message_for : Option (List ℕ) → Status → Option Reg → List ℕ
+message_for None status named = explanation status
+message_for (Some bytes) status named = message_of bytes status named

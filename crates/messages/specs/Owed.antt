@@ -8,7 +8,7 @@ use Rattle.norm_lang.specs.LineWords.{is_lower, is_name}
 use Rattle.messages.specs.declared.owed.Owed.{Owed}
 use Rattle.messages.specs.declared.owed.Owed.TheVariants.{Version, Gen, Wrap, Instruction, Entry, Call, Nothing}
 use Rattle.message_words.specs.Forms.{line_form}
-use Rattle.messages.specs.Places.{words_if, word_at, trimmed, begins, is_said, is_entry, number_said, line_that}
+use Rattle.message_lines.specs.Places.{words_if, word_at, trimmed, begins, is_said, is_entry, number_said, line_that}
 
 -- the last of lines, or where there are none this one
 abbrev pub last_of : Option TextLine → List TextLine → Option TextLine

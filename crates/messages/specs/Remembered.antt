@@ -1,9 +1,10 @@
 -- What a source that remembers keeps.
 use Rattle.std.specs.Prelude.{◌≡◌, ℕ, Bool, true, List, ◌++◌, Option, Some, None, if◌then◌else◌}
+use Rattle.statuses.specs.declared.limits.TheConstants.{DOCUMENT_LIMIT}
 
 -- one more byte than a document may have
 abbrev pub most_remembered : ℕ
-most_remembered = 1048577
+most_remembered = DOCUMENT_LIMIT
 
 -- the bytes that a source has left, where it tells them, how many faults there were, the bytes that it keeps, and whether they are all that
 -- were read

@@ -1,18 +1,26 @@
 -- Which line makes a document's shape wrong, and the sentence on it.
-use Rattle.std.specs.Prelude.{ℕ, ◌||◌, ◌&&◌, List, [], ◌∷◌, Option, Some, None, codes, decimal, ◌==◌, if◌then◌else◌}
+use Rattle.std.specs.Prelude.{ℕ, ◌||◌, ◌&&◌, List, [], ◌∷◌, Option, Some, None, codes, decimal, nat_lt, ◌==◌, if◌then◌else◌}
 use Rattle.std.specs.List.{concat}
 use Rattle.oa_text.specs.Lines.{TextLine}
 use Rattle.statuses.specs.Explanations.{shape_words}
-use Rattle.messages.specs.Places.{trimmed, begins, begins_after, is_numbered, is_wrong_slots, line_that}
+use Rattle.message_lines.specs.Places.{trimmed, begins, begins_after, is_numbered, is_wrong_slots, line_that}
 
 -- the first, or else the second
 abbrev or_else : Option TextLine → Option TextLine → Option TextLine
 or_else None other = other
 or_else (Some line) other = Some line
 
--- the first `slots` line whose count can't be, or else, where their sum is too large, the first
+-- a line, if it stands above another, or there is no other
+abbrev pub if_above : Option TextLine → Option TextLine → Option TextLine
+if_above other None = None
+if_above None (Some line) = Some line
+if_above (Some other) (Some line) = if nat_lt line.number other.number then Some line else None
+
+-- the first `slots` line above the scripts whose count can't be, or else, where their sum is too large, the first. A call may begin with
+-- the word, too
 abbrev pub slots_line : List ℕ → Option TextLine
-slots_line bytes = or_else (line_that is_wrong_slots bytes 0) (line_that (begins_after 0 (codes "slots")) bytes 0)
+slots_line bytes =
+    or_else (if_above (line_that (begins_after 0 (codes "script")) bytes 0) (line_that is_wrong_slots bytes 0)) (line_that (begins_after 0 (codes "slots")) bytes 0)
 
 -- the `nodes` line of a kind, by its number, or else, where a text is shipped, the first `slots` line
 abbrev pub counted_line : List ℕ → ℕ → Option TextLine

@@ -6,10 +6,10 @@ ghost use Rattle.oa_text.specs.Lines.{lines_of};
 ghost use Rattle.oa_text.specs.Shown.{line_shown};
 ghost use Rattle.oa_text.specs.Written.{Writes};
 ghost use Rattle.messages.specs.Faults.{odd_byte, byte_words, byte_mend, byte_sentence, field_kind, root_named, named_word, unknown_sentence, repeated_place, repeated_sentence};
-ghost use Rattle.messages.specs.Places.{declares_kind, line_that};
+ghost use Rattle.message_lines.specs.Places.{declares_kind, line_that};
 
-use crate::lines::kind_line;
-use crate::words::word_at;
+use message_lines::lines::kind_line;
+use message_lines::words::word_at;
 use oa_text::{Failed, Line, Piece, Sink, TextFault, tokens, write_pieces};
 
 /// The first byte of a line that may not stand in one, and its column, from 1.

@@ -2,13 +2,11 @@
 #![tactic(auto)]
 
 mod faults;
-mod lines;
 mod message;
 mod owed;
-mod refused;
 mod remembering;
 mod shapes;
-mod words;
+mod turns;
 
 pub use message::explain_read;
 pub use remembering::RememberingSource;

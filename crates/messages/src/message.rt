@@ -1,23 +1,29 @@
 //! The message on a status, for a person who reads it beside what was read.
 
-ghost use Rattle.std.specs.Prelude.{◌≡◌, ◌+◌, ◌<◌, ◌≤◌, ◌^◌, length};
+ghost use Rattle.std.specs.Prelude.{◌≡◌, ◌+◌, ◌<◌, ◌≤◌, ◌^◌, length, Option, Some};
 ghost use Rattle.oa_text.specs.Causes.{HasCause};
 ghost use Rattle.oa_text.specs.Lines.{lines_of};
 ghost use Rattle.oa_text.specs.Shown.{line_shown};
 ghost use Rattle.oa_text.specs.Written.{Writes};
+ghost use Rattle.norm_lang.specs.declared.text.Reg.{Reg};
 ghost use Rattle.messages.specs.Faults.{odd_byte};
-ghost use Rattle.messages.specs.Messages.{byte_message, unknown_message, fault_at_message, fault_message, refusal_message, shape_at_message, shape_message, message_of, message_for};
+ghost use Rattle.messages.specs.Messages.{byte_message, unknown_message, fault_at_message, fault_message, refusal_message, shape_at_message, turn_message, shape_message, message_of, message_for};
+ghost use Rattle.refusal_messages.specs.Named.{IsNamedFor};
 ghost use Rattle.messages.specs.Remembered.{most_remembered, remembered};
+ghost use Rattle.messages.specs.Turns.{stopped_line};
 
 use crate::faults::{NamedWord, named_word, odd_byte, write_byte, write_repeated, write_unknown};
-use crate::lines::{numbered_line, op_line};
 use crate::owed::{explain_end, explain_misplaced, owed_at};
-use crate::refused::{refused_lines, write_refused};
 use crate::remembering::RememberingSource;
 use crate::shapes::{shape_line, write_arguments, write_shape_at};
-use crate::words::word_at;
+use crate::turns::{stopped_line, write_turn};
+use message_lines::lines::{numbered_line, op_line};
+use message_lines::words::word_at;
+use norm_lang::text::Reg;
 use oa_text::{Failed, Line, Sink, Source};
+use refusal_messages::{named_for, refused_lines, write_refused};
 use statuses::{Refusal, Status, explain};
+use std::alloc::Global;
 
 /// Writes what a line names that isn't declared.
 fn explain_unknown<K: Sink>(
@@ -118,13 +124,18 @@ fn explain_fault<K: Sink>(
 }
 
 /// Writes which rule is broken, and where.
-fn explain_refusal<K: Sink>(errors: &mut K, bytes: &[u8], refusal: Refusal) -> Result<(), Failed>
+fn explain_refusal<K: Sink>(
+    errors: &mut K,
+    bytes: &[u8],
+    refusal: Refusal,
+    named: Option<Reg>,
+) -> Result<(), Failed>
     requires { length (lines_of bytes.now) + 1 < 2 ^ 32 }
-    ensures bytes { Writes (K.written errors.old) (K.written errors.new) (refusal_message bytes.now refusal) result }
+    ensures bytes { Writes (K.written errors.old) (K.written errors.new) (refusal_message bytes.now refusal named) result }
     ensures cause { HasCause (K.faults errors.old) (K.faults errors.new) result }
 {
     match refused_lines(bytes, refusal) {
-        Some(found) => write_refused(errors, found, refusal),
+        Some(found) => write_refused(errors, found, refusal, named),
         None => explain(errors, Status::Refused { refusal }),
     }
 }
@@ -150,27 +161,53 @@ fn explain_shape_at<K: Sink>(
     }
 }
 
+/// Writes at which turn a replay stopped after so many steps.
+fn explain_turn<K: Sink>(errors: &mut K, bytes: &[u8], steps: u64) -> Result<(), Failed>
+    requires { length (lines_of bytes.now) + 1 < 2 ^ 32 }
+    ensures bytes { Writes (K.written errors.old) (K.written errors.new) (turn_message bytes.now (stopped_line bytes.now steps) steps) result }
+    ensures cause { HasCause (K.faults errors.old) (K.faults errors.new) result }
+{
+    match stopped_line(bytes, steps) {
+        Some(line) => write_turn(errors, bytes, line, steps),
+        None => explain(
+            errors,
+            Status::BadShape {
+                number: 10,
+                at: steps,
+            },
+        ),
+    }
+}
+
 /// Writes why a document can't be run.
 fn explain_shape<K: Sink>(errors: &mut K, bytes: &[u8], number: u8, at: u64) -> Result<(), Failed>
     requires { length (lines_of bytes.now) + 1 < 2 ^ 32 }
     ensures bytes { Writes (K.written errors.old) (K.written errors.new) (shape_message bytes.now number at) result }
     ensures cause { HasCause (K.faults errors.old) (K.faults errors.new) result }
 {
+    if number == 10 {
+        return explain_turn(errors, bytes, at);
+    }
     match shape_line(bytes, number, at) {
         Some(line) => explain_shape_at(errors, bytes, line, number),
         None => explain(errors, Status::BadShape { number, at }),
     }
 }
 
-/// Writes the message on a status, where these bytes were read.
-fn explain_of<K: Sink>(errors: &mut K, bytes: &[u8], status: Status) -> Result<(), Failed>
+/// Writes the message on a status, where these bytes were read, and this register is named.
+fn explain_of<K: Sink>(
+    errors: &mut K,
+    bytes: &[u8],
+    status: Status,
+    named: Option<Reg>,
+) -> Result<(), Failed>
     requires { length bytes.now ≤ most_remembered }
-    ensures bytes { Writes (K.written errors.old) (K.written errors.new) (message_of bytes.now status) result }
+    ensures bytes { Writes (K.written errors.old) (K.written errors.new) (message_of bytes.now status named) result }
     ensures cause { HasCause (K.faults errors.old) (K.faults errors.new) result }
 {
     match status {
         Status::BadDocument { line, fault } => explain_fault(errors, bytes, line, fault),
-        Status::Refused { refusal } => explain_refusal(errors, bytes, refusal),
+        Status::Refused { refusal } => explain_refusal(errors, bytes, refusal, named),
         Status::BadShape { number, at } => explain_shape(errors, bytes, number, at),
         Status::Done
         | Status::Partial
@@ -183,19 +220,51 @@ fn explain_of<K: Sink>(errors: &mut K, bytes: &[u8], status: Status) -> Result<(
     }
 }
 
+/// The register that the message on a status names, where these bytes were read.
+fn named_in(alloc: Global, bytes: &[u8], status: Status) -> Option<Reg>
+    requires { length bytes.now ≤ most_remembered }
+    ensures { IsNamedFor (Some bytes.now) status result }
+{
+    named_for(alloc, bytes, status)
+}
+
+/// The same where a source remembers what was read.
+fn named_of<S: Source>(input: &RememberingSource<S>, status: Status) -> Option<Reg>
+    ensures { IsNamedFor (remembered input.now) status result }
+{
+    match input.bytes() {
+        Some(bytes) => named_in(input.alloc(), bytes, status),
+        None => None,
+    }
+}
+
+/// Writes the message on a status, where a source remembers what was read, and this register is named.
+fn explain_named<K: Sink, S: Source>(
+    errors: &mut K,
+    input: &RememberingSource<S>,
+    status: Status,
+    named: Option<Reg>,
+) -> Result<(), Failed>
+    ensures bytes { Writes (K.written errors.old) (K.written errors.new) (message_for (remembered input.now) status named) result }
+    ensures cause { HasCause (K.faults errors.old) (K.faults errors.new) result }
+{
+    match input.bytes() {
+        Some(bytes) => explain_of(errors, bytes, status, named),
+        None => explain(errors, status),
+    }
+}
+
 /// Writes the message on a status, where a source remembers what was read: what it means, which line is at fault, and how to mend
 /// it; where that is forgotten, the sentence on the status alone. Where all went well there is none. At `Failed` a prefix of it
-/// was written.
+/// was written. Where a rule is broken, the first register that is at fault is named, if there is memory to find it.
 pub fn explain_read<K: Sink, S: Source>(
     errors: &mut K,
     input: &RememberingSource<S>,
     status: Status,
 ) -> Result<(), Failed>
-    ensures bytes { Writes (K.written errors.old) (K.written errors.new) (message_for (remembered input.now) status) result }
+    ensures bytes { (named : Option Reg) × IsNamedFor (remembered input.now) status named × Writes (K.written errors.old) (K.written errors.new) (message_for (remembered input.now) status named) result }
     ensures cause { HasCause (K.faults errors.old) (K.faults errors.new) result }
 {
-    match input.bytes() {
-        Some(bytes) => explain_of(errors, bytes, status),
-        None => explain(errors, status),
-    }
+    let named = named_of(input, status);
+    explain_named(errors, input, status, named)
 }

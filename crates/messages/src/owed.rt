@@ -6,11 +6,11 @@ ghost use Rattle.oa_text.specs.Lines.{lines_of};
 ghost use Rattle.oa_text.specs.Shown.{line_shown};
 ghost use Rattle.oa_text.specs.Written.{Writes};
 ghost use Rattle.messages.specs.Owed.{last_that, is_said_above, is_lower_word, is_mark_above, ends_text, ends_text_above, owed_after, owed_by, is_commit_above, is_entry_between, lacks_of, lacks_after, lacks_entry, begins_part, is_part_above, owed_behind, owed_at, ends_method, is_node_word, is_odd_word, odd_word, is_hash_word, owed_sentence, odd_sentence, form_sentence, end_sentence, form_message, word_message, form_of, script_form, misplaced_by, misplaced_message, end_message};
-ghost use Rattle.messages.specs.Places.{number_said, line_that};
+ghost use Rattle.message_lines.specs.Places.{number_said, line_that};
 
-use crate::lines::{begins, entry};
-use crate::words::{said, trimmed, word_at};
 use line_words::words::name;
+use message_lines::lines::{begins, entry};
+use message_lines::words::{said, trimmed, word_at};
 use message_words::line_form;
 use oa_text::{Failed, Line, Piece, Sink, Tokens, lines, read_numeral, tokens, write_pieces};
 
@@ -102,7 +102,7 @@ fn last_mark<'a>(bytes: &'a [u8], number: u32) -> Option<Line<'a>>
 }
 
 /// Whether a document has gone on after its text above a number.
-#[tactic(auto, using(crate::proofs::Searches::found, crate::proofs::Searches::passed, crate::proofs::Searches::missed))]
+#[tactic(auto, using(message_lines::proofs::Searches::found, message_lines::proofs::Searches::passed, message_lines::proofs::Searches::missed))]
 fn text_end<'a>(bytes: &'a [u8], number: u32) -> Option<Line<'a>>
     requires { length (lines_of bytes.now) + 1 < 2 ^ 32 }
     ensures { MatchOption result (line_that (ends_text_above number) bytes.now 0 ≡ None) (λ line. line_that (ends_text_above number) bytes.now 0 ≡ Some (line_shown line)) }
@@ -170,7 +170,7 @@ fn last_commit<'a>(bytes: &'a [u8], number: u32) -> Option<Line<'a>>
 }
 
 /// Of the entries of commits between two numbers the one at a place, from 0.
-#[tactic(auto, using(crate::proofs::Searches::found, crate::proofs::Searches::counted, crate::proofs::Searches::passed, crate::proofs::Searches::missed))]
+#[tactic(auto, using(message_lines::proofs::Searches::found, message_lines::proofs::Searches::counted, message_lines::proofs::Searches::passed, message_lines::proofs::Searches::missed))]
 fn entry_line<'a>(bytes: &'a [u8], after: u32, number: u32, at: usize) -> Option<Line<'a>>
     requires { length (lines_of bytes.now) + 1 < 2 ^ 32 }
     ensures { MatchOption result (line_that (is_entry_between after number) bytes.now at ≡ None) (λ line. line_that (is_entry_between after number) bytes.now at ≡ Some (line_shown line)) }

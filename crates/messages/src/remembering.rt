@@ -7,16 +7,15 @@ ghost use Rattle.oa_text.specs.Causes.{HasCause};
 ghost use Rattle.messages.specs.Remembered.{IsRemembered, most_remembered, remembered};
 
 use oa_text::{Failed, Source};
+use statuses::limits::DOCUMENT_LIMIT;
 use std::alloc::Global;
 use std::marker::Model;
 
-/// One more byte than a document may have.
-const MOST: usize = 1_048_577;
-
-/// A source that remembers all bytes that were read of it: they are at most 1,048,577, and there is memory for them, or they are
-/// forgotten.
+/// A source that remembers all bytes that were read of it, if they are at most one more than a document may have and there is memory for
+/// them. Else it forgets them all.
 #[derive(Drop)]
 pub struct RememberingSource<S: Source> {
+    alloc: Global,
     inner: S,
     bytes: Vec<u8>,
     whole: bool,
@@ -44,6 +43,7 @@ impl<S: Source> RememberingSource<S> {
         ensures { result ≡ record { left = S.left inner; faults = S.faults inner; bytes = []; whole = true } }
     {
         RememberingSource {
+            alloc,
             inner,
             bytes: Vec::new(alloc),
             whole: true,
@@ -62,6 +62,11 @@ impl<S: Source> RememberingSource<S> {
         }
     }
 
+    /// What the bytes are kept by.
+    pub(crate) fn alloc(&self) -> Global {
+        self.alloc
+    }
+
     /// Remembers a piece, or forgets all.
     fn remember(&mut self, piece: &[u8])
         ensures left { self.new.left ≡ self.old.left }
@@ -69,7 +74,7 @@ impl<S: Source> RememberingSource<S> {
         ensures bytes { IsRemembered self.old self.new piece.now }
     {
         self.whole = self.whole
-            && piece.len() <= MOST - self.bytes.len()
+            && piece.len() <= DOCUMENT_LIMIT - self.bytes.len()
             && self.bytes.extend_from_slice(piece).is_ok();
     }
 }

@@ -1,24 +1,44 @@
 //! Which line makes a document's shape wrong, and the sentence on it.
 
-ghost use Rattle.std.specs.Prelude.{◌≡◌, ◌+◌, ◌<◌, ◌^◌, length, None, Some, MatchOption};
+ghost use Rattle.std.specs.Prelude.{◌≡◌, ◌+◌, ◌<◌, ◌^◌, length, None, Some, option_map, MatchOption};
 ghost use Rattle.oa_text.specs.Causes.{HasCause};
 ghost use Rattle.oa_text.specs.Lines.{lines_of};
 ghost use Rattle.oa_text.specs.Shown.{line_shown};
 ghost use Rattle.oa_text.specs.Written.{Writes};
-ghost use Rattle.messages.specs.Places.{begins_after, line_that};
-ghost use Rattle.messages.specs.Shapes.{slots_line, counted_line, shape_line, shape_hint, shape_at_sentence, arguments_sentence};
+ghost use Rattle.message_lines.specs.Places.{begins_after, line_that};
+ghost use Rattle.messages.specs.Shapes.{if_above, slots_line, counted_line, shape_line, shape_hint, shape_at_sentence, arguments_sentence};
 
-use crate::lines::{line_beginning, numbered_line, wrong_slots_line};
-use crate::words::{trimmed, word_at};
+use message_lines::lines::{line_beginning, numbered_line, wrong_slots_line};
+use message_lines::words::{trimmed, word_at};
 use oa_text::{Failed, Line, Piece, Sink, write_pieces};
 use statuses::shape_words;
 
-/// The first `slots` line whose count can't be, or else the first.
+/// A line, if it stands above another, or there is no other.
+fn if_above<'a>(other: Option<Line<'a>>, line: Option<Line<'a>>) -> Option<Line<'a>>
+    ensures { option_map line_shown result ≡ if_above (option_map line_shown other.entry) (option_map line_shown line.entry) }
+{
+    match (other, line) {
+        (_, None) => None,
+        (None, Some(line)) => Some(line),
+        (Some(other), Some(line)) => {
+            if line.number() < other.number() {
+                Some(line)
+            } else {
+                None
+            }
+        }
+    }
+}
+
+/// The first `slots` line above the scripts whose count can't be, or else the first.
 fn slots_line<'a>(bytes: &'a [u8]) -> Option<Line<'a>>
     requires { length (lines_of bytes.now) + 1 < 2 ^ 32 }
     ensures { MatchOption result (slots_line bytes.now ≡ None) (λ line. slots_line bytes.now ≡ Some (line_shown line)) }
 {
-    match wrong_slots_line(bytes) {
+    match if_above(
+        line_beginning(bytes, 0, b"script", 0),
+        wrong_slots_line(bytes),
+    ) {
         Some(line) => Some(line),
         None => line_beginning(bytes, 0, b"slots", 0),
     }

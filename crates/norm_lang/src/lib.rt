@@ -4,10 +4,12 @@
 pub mod duplicate;
 pub mod fields;
 mod forks;
+pub mod limits;
 mod line;
 pub mod list;
 pub mod local;
 pub mod registers;
+pub mod reply;
 mod shipped;
 pub mod spelling;
 pub mod text;
@@ -15,6 +17,7 @@ pub mod uses;
 pub mod word;
 
 pub use forks::{Fork, reach};
+pub use reply::SourceReply;
 pub use shipped::{shipped_queue, shipped_set};
 pub use spelling::show;
 pub use text::{

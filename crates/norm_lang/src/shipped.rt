@@ -1,6 +1,7 @@
 //! The shipped texts: the hash set of lists, of which one bucket is a list, and the queue.
 
 ghost use Rattle.std.specs.Prelude.{◌≡◌, ◌≤◌, ◌<◌, [], ◌∷◌, ◌++◌, IfOk, OnOk, codes, decimal, replicate};
+ghost use Rattle.norm_lang.specs.Bounds.{most_buckets};
 ghost use Rattle.norm_lang.specs.Limits.{IsWithinLimits};
 ghost use Rattle.norm_lang.specs.LineWords.{item_kind};
 ghost use Rattle.norm_lang.specs.Shipped.{number_field, reference_field, sentinel, reference_root, next_entry, root_entry, retiring, bucket, buckets_from, search_code, answer_code, insert_code, remove_code, change_wrap_up, insert_op, remove_op, contains_op, set_text, enqueue_generator, enqueue_wrap_up, dequeue_generator, dequeue_wrap_up, enqueue_op, dequeue_op, queue_text};
@@ -249,7 +250,7 @@ fn bucket_root(alloc: Global, i: u32) -> Result<RootDecl, AllocError>
 }
 
 fn bucket_roots(alloc: Global, buckets: u32) -> Result<Roots, AllocError>
-    requires { buckets ≤ 64 }
+    requires { buckets ≤ most_buckets }
     ensures { IfOk result (λ roots. roots ≡ buckets_from 0 buckets) }
 {
     let mut roots = Listed::empty(alloc);
@@ -266,7 +267,7 @@ fn bucket_roots(alloc: Global, buckets: u32) -> Result<Roots, AllocError>
 /// reference to the next one marked.
 pub fn shipped_set(alloc: Global, buckets: u32) -> Result<Text, AllocError>
     requires some { 1 ≤ buckets }
-    requires most { buckets ≤ 64 }
+    requires most { buckets ≤ most_buckets }
     ensures text { IfOk result (λ text. text ≡ set_text buckets) }
     ensures within { IfOk result IsWithinLimits }
 {
@@ -275,7 +276,7 @@ pub fn shipped_set(alloc: Global, buckets: u32) -> Result<Text, AllocError>
 }
 
 fn set_of(alloc: Global, buckets: u32) -> Result<Text, AllocError>
-    requires { buckets ≤ 64 }
+    requires { buckets ≤ most_buckets }
     ensures { IfOk result (λ text. text ≡ set_text buckets) }
 {
     Ok(Text {

@@ -1,13 +1,15 @@
 -- The lines of a text within a document, line by line.
-use Rattle.std.specs.Prelude.{◌≡◌, ℕ, Bool, true, false, ◌||◌, List, [], ◌∷◌, Result, Ok, Err, if◌then◌else◌}
-use Rattle.std.proofs.Common.{◌<◌, ◌≤◌, refl, sym, ap}
+use Rattle.std.specs.Prelude.{◌≡◌, ℕ, ◌+◌, length, Bool, true, false, ◌||◌, List, [], ◌∷◌, Result, Ok, Err, if◌then◌else◌}
+use Rattle.std.proofs.Common.{◌<◌, ◌≤◌, refl, sym, ap, ◌∙◌, arith}
 use Rattle.std.proofs.lemmas.Bool.{lt-ltb, le-ltb}
 use Rattle.oa_text.specs.Lines.{TextLine}
-use Rattle.norm_lang.specs.Faults.{LineFault, at_line, ◌>>=◌}
+use Rattle.oa_text.specs.Tokens.{line_fault}
+use Rattle.norm_lang.specs.Faults.{LineFault, form_fault, at_line, ◌>>=◌}
 use Rattle.norm_lang.specs.declared.text.Version.{Version}
 use Rattle.norm_lang.specs.declared.text.Version.TheVariants.{Second}
 use Rattle.norm_lang.specs.Grammar.{Opening, Draft, draft_at, after_line, after_lines}
-use Rattle.norm_parser.specs.FrontRead.{from_line, line_word, ends_text, names_text, text_lines, after_text, end_before, end_at, head_lines, after_head, ends_head, before_op, front_end, head_end}
+use Rattle.norm_parser.specs.Cursors.{LinesLeft, past_of, rest_of, StandsNext}
+use Rattle.norm_parser.specs.FrontRead.{from_line, line_word, ends_text, names_text, text_lines, after_text, misplaced, end_before, end_at, head_lines, after_head, ends_head, before_op, front_end, head_end}
 
 -- what the lines from here on declare up to the end of a text, where the line before these named a shipped one or not
 abbrev pub front_from : Draft → Bool → List TextLine → ℕ → Result (Draft × LineFault) LineFault
@@ -87,90 +89,105 @@ earlier start line lines lt = rw (lt-ltb line.number start lt) refl
 pub later : (start : ℕ) (line : TextLine) (lines : List TextLine) → start ≤ line.number → from_line start (line ∷ lines) ≡ line ∷ from_line start lines
 later start line lines ge = rw (le-ltb line.number start ge) refl
 
-pub front_starts : (draft : Draft) (version : Version) (start past : ℕ) (lines all : List TextLine) → draft ≡ draft_at version Opening → lines ≡ all
-    → front_from draft false (from_line start lines) past ≡ front_end version (from_line start all) past
-front_starts draft version start past lines all first same = rw (first, same) (front_is (draft_at version Opening) (from_line start all) past)
+-- ---- the lines of a text, as a cursor goes over them
 
-pub front_passes : (draft : Draft) (named : Bool) (start past number : ℕ) (line : TextLine) (lines rest : List TextLine) (whole : Result (Draft × LineFault) LineFault)
-    → lines ≡ line ∷ rest → number ≡ line.number → number < start
-    → front_from draft named (from_line start lines) past ≡ whole → front_from draft named (from_line start rest) past ≡ whole
-front_passes draft named start past number line lines rest whole cut same lt so_far =
-    rw (cut, earlier start line rest (rw (← same) lt)) at so_far
+pub front_starts : (draft : Draft) (version : Version) (lines : List TextLine) (past : ℕ) → draft ≡ draft_at version Opening
+    → front_from draft false lines past ≡ front_end version lines past
+front_starts draft version lines past first = rw first (front_is (draft_at version Opening) lines past)
 
-pub front_goes_on : (draft next : Draft) (named names : Bool) (start past number : ℕ) (line : TextLine) (lines rest : List TextLine) (word : List ℕ)
-    (whole : Result (Draft × LineFault) LineFault)
-    → lines ≡ line ∷ rest → number ≡ line.number → start ≤ number → word ≡ line_word line → false ≡ (named || ends_text word)
-    → at_line line.number (after_line draft line) ≡ Ok next → names ≡ names_text word
-    → front_from draft named (from_line start lines) past ≡ whole → front_from next names (from_line start rest) past ≡ whole
-front_goes_on draft next named names start past number line lines rest word whole cut same ge is on read name so_far =
-    let late : start ≤ line.number = rw (← same) ge in
+pub front_goes_on : (draft after : Draft) (named names : Bool) (past : ℕ) (line : TextLine) (left next : LinesLeft) (word : List ℕ) (whole : Result (Draft × LineFault) LineFault)
+    → StandsNext line left → next ≡ rest_of left → word ≡ line_word line → false ≡ (named || ends_text word)
+    → at_line line.number (after_line draft line) ≡ Ok after → names ≡ names_text word
+    → front_from draft named left.lines past ≡ whole → front_from after names next.lines past ≡ whole
+front_goes_on draft after named names past line left next word whole stands taken is on read name so_far =
     let on_here : named || ends_text (line_word line) ≡ false = rw (← is) (sym on) in
-    rw (name, is) (rw (cut, later start line rest late, on_here, read) at so_far)
+    let whole_is : whole ≡ front_from draft named (line ∷ (rest_of left).lines) past = sym so_far ∙ ap (λ ls. front_from draft named ls past) stands.first in
+    rw (name, is, taken) (sym (rw (on_here, read) at whole_is))
 
-pub front_ends : (draft : Draft) (named : Bool) (start past number : ℕ) (line : TextLine) (lines rest : List TextLine) (word : List ℕ) (end : LineFault)
-    (whole : Result (Draft × LineFault) LineFault)
-    → lines ≡ line ∷ rest → number ≡ line.number → start ≤ number → word ≡ line_word line → true ≡ (named || ends_text word)
-    → end ≡ end_before line
-    → front_from draft named (from_line start lines) past ≡ whole → whole ≡ Ok (draft, end)
-front_ends draft named start past number line lines rest word end whole cut same ge is stop ends so_far =
-    let late : start ≤ line.number = rw (← same) ge in
+pub front_ends : (draft : Draft) (named : Bool) (past later : ℕ) (line : TextLine) (left : LinesLeft) (word : List ℕ) (whole : Result (Draft × LineFault) LineFault)
+    → StandsNext line left → word ≡ line_word line → true ≡ (named || ends_text word)
+    → front_from draft named left.lines past ≡ whole → whole ≡ Ok (draft, end_at left.lines later)
+front_ends draft named past later line left word whole stands is stop so_far =
     let stop_here : named || ends_text (line_word line) ≡ true = rw (← is) (sym stop) in
-    rw ends (sym (rw (cut, later start line rest late, stop_here) at so_far))
+    let whole_is : whole ≡ front_from draft named (line ∷ (rest_of left).lines) past = sym so_far ∙ ap (λ ls. front_from draft named ls past) stands.first in
+    rw stop_here at whole_is ∙ ap (λ ls. Ok (draft, end_at ls later)) (sym stands.first)
 
-pub front_stops : (draft : Draft) (named : Bool) (start past number : ℕ) (line : TextLine) (lines rest : List TextLine) (word : List ℕ) (fault : LineFault)
-    (whole : Result (Draft × LineFault) LineFault)
-    → lines ≡ line ∷ rest → number ≡ line.number → start ≤ number → word ≡ line_word line → false ≡ (named || ends_text word)
-    → at_line line.number (after_line draft line) ≡ Err fault
-    → front_from draft named (from_line start lines) past ≡ whole → whole ≡ Err fault
-front_stops draft named start past number line lines rest word fault whole cut same ge is on read so_far =
-    let late : start ≤ line.number = rw (← same) ge in
+pub front_over : (draft : Draft) (named : Bool) (past later : ℕ) (left : LinesLeft) (whole : Result (Draft × LineFault) LineFault)
+    → left.lines ≡ [] → later ≡ past → front_from draft named left.lines past ≡ whole → whole ≡ Ok (draft, end_at left.lines later)
+front_over draft named past later left whole none same so_far =
+    sym so_far ∙ ap (λ ls. front_from draft named ls past) none ∙ rw (none, same) refl
+
+pub front_stops : (draft : Draft) (named : Bool) (past : ℕ) (line : TextLine) (left : LinesLeft) (word : List ℕ) (fault : LineFault) (whole : Result (Draft × LineFault) LineFault)
+    → StandsNext line left → word ≡ line_word line → false ≡ (named || ends_text word) → at_line line.number (after_line draft line) ≡ Err fault
+    → front_from draft named left.lines past ≡ whole → whole ≡ Err fault
+front_stops draft named past line left word fault whole stands is on read so_far =
     let on_here : named || ends_text (line_word line) ≡ false = rw (← is) (sym on) in
-    sym (rw (cut, later start line rest late, on_here, read) at so_far)
+    let whole_is : whole ≡ front_from draft named (line ∷ (rest_of left).lines) past = sym so_far ∙ ap (λ ls. front_from draft named ls past) stands.first in
+    rw (on_here, read) at whole_is
 
-pub head_starts : (draft : Draft) (start past : ℕ) (lines all : List TextLine) → draft ≡ draft_at Second Opening → lines ≡ all
-    → head_from draft (from_line start lines) past ≡ head_end (from_line start all) past
-head_starts draft start past lines all first same = rw (first, same) (head_is (draft_at Second Opening) (from_line start all) past)
+-- ---- and those of declarations
 
-pub head_passes : (draft : Draft) (start past number : ℕ) (line : TextLine) (lines rest : List TextLine) (whole : Result (Draft × LineFault) LineFault)
-    → lines ≡ line ∷ rest → number ≡ line.number → number < start
-    → head_from draft (from_line start lines) past ≡ whole → head_from draft (from_line start rest) past ≡ whole
-head_passes draft start past number line lines rest whole cut same lt so_far =
-    rw (cut, earlier start line rest (rw (← same) lt)) at so_far
+pub head_starts : (draft : Draft) (lines : List TextLine) (past : ℕ) → draft ≡ draft_at Second Opening → head_from draft lines past ≡ head_end lines past
+head_starts draft lines past first = rw first (head_is (draft_at Second Opening) lines past)
 
-pub head_goes_on : (draft next : Draft) (start past number : ℕ) (line : TextLine) (lines rest : List TextLine) (word : List ℕ) (whole : Result (Draft × LineFault) LineFault)
-    → lines ≡ line ∷ rest → number ≡ line.number → start ≤ number → word ≡ line_word line → false ≡ names_text word → false ≡ ends_head word
-    → at_line line.number (after_line draft line) ≡ Ok next
-    → head_from draft (from_line start lines) past ≡ whole → head_from next (from_line start rest) past ≡ whole
-head_goes_on draft next start past number line lines rest word whole cut same ge is other on read so_far =
-    let late : start ≤ line.number = rw (← same) ge in
+pub head_goes_on : (draft after : Draft) (past : ℕ) (line : TextLine) (left next : LinesLeft) (word : List ℕ) (whole : Result (Draft × LineFault) LineFault)
+    → StandsNext line left → next ≡ rest_of left → word ≡ line_word line → false ≡ names_text word → false ≡ ends_head word
+    → at_line line.number (after_line draft line) ≡ Ok after
+    → head_from draft left.lines past ≡ whole → head_from after next.lines past ≡ whole
+head_goes_on draft after past line left next word whole stands taken is other on read so_far =
     let other_here : names_text (line_word line) ≡ false = rw (← is) (sym other) in
     let on_here : ends_head (line_word line) ≡ false = rw (← is) (sym on) in
-    rw (cut, later start line rest late, other_here, on_here, read) at so_far
+    let whole_is : whole ≡ head_from draft (line ∷ (rest_of left).lines) past = sym so_far ∙ ap (λ ls. head_from draft ls past) stands.first in
+    rw taken (sym (rw (other_here, on_here, read) at whole_is))
 
 -- a line that names a shipped text is faulty
-pub head_misplaced : (draft : Draft) (start past number : ℕ) (line : TextLine) (lines rest : List TextLine) (word : List ℕ) (end : LineFault) (whole : Result (Draft × LineFault) LineFault)
-    → lines ≡ line ∷ rest → number ≡ line.number → start ≤ number → word ≡ line_word line → true ≡ names_text word → end ≡ end_before line
-    → head_from draft (from_line start lines) past ≡ whole → whole ≡ Err end
-head_misplaced draft start past number line lines rest word end whole cut same ge is names ends so_far =
-    let late : start ≤ line.number = rw (← same) ge in
+pub head_misplaced : (draft : Draft) (past later : ℕ) (line : TextLine) (left : LinesLeft) (word : List ℕ) (whole : Result (Draft × LineFault) LineFault)
+    → StandsNext line left → word ≡ line_word line → true ≡ names_text word
+    → head_from draft left.lines past ≡ whole → whole ≡ Err (end_at left.lines later)
+head_misplaced draft past later line left word whole stands is names so_far =
     let names_here : names_text (line_word line) ≡ true = rw (← is) (sym names) in
-    rw ends (sym (rw (cut, later start line rest late, names_here) at so_far))
+    let whole_is : whole ≡ head_from draft (line ∷ (rest_of left).lines) past = sym so_far ∙ ap (λ ls. head_from draft ls past) stands.first in
+    rw names_here at whole_is ∙ ap (λ ls. Err (end_at ls later)) (sym stands.first)
 
-pub head_stops : (draft : Draft) (start past number : ℕ) (line : TextLine) (lines rest : List TextLine) (word : List ℕ) (end : LineFault) (whole : Result (Draft × LineFault) LineFault)
-    → lines ≡ line ∷ rest → number ≡ line.number → start ≤ number → word ≡ line_word line → false ≡ names_text word → true ≡ ends_head word → end ≡ end_before line
-    → head_from draft (from_line start lines) past ≡ whole → whole ≡ Ok (draft, end)
-head_stops draft start past number line lines rest word end whole cut same ge is other stop ends so_far =
-    let late : start ≤ line.number = rw (← same) ge in
+pub head_ends_here : (draft : Draft) (past later : ℕ) (line : TextLine) (left : LinesLeft) (word : List ℕ) (whole : Result (Draft × LineFault) LineFault)
+    → StandsNext line left → word ≡ line_word line → false ≡ names_text word → true ≡ ends_head word
+    → head_from draft left.lines past ≡ whole → whole ≡ Ok (draft, end_at left.lines later)
+head_ends_here draft past later line left word whole stands is other stop so_far =
     let other_here : names_text (line_word line) ≡ false = rw (← is) (sym other) in
     let stop_here : ends_head (line_word line) ≡ true = rw (← is) (sym stop) in
-    rw ends (sym (rw (cut, later start line rest late, other_here, stop_here) at so_far))
+    let whole_is : whole ≡ head_from draft (line ∷ (rest_of left).lines) past = sym so_far ∙ ap (λ ls. head_from draft ls past) stands.first in
+    rw (other_here, stop_here) at whole_is ∙ ap (λ ls. Ok (draft, end_at ls later)) (sym stands.first)
 
-pub head_faulty : (draft : Draft) (start past number : ℕ) (line : TextLine) (lines rest : List TextLine) (word : List ℕ) (fault : LineFault) (whole : Result (Draft × LineFault) LineFault)
-    → lines ≡ line ∷ rest → number ≡ line.number → start ≤ number → word ≡ line_word line → false ≡ names_text word → false ≡ ends_head word
+pub head_over : (draft : Draft) (past later : ℕ) (left : LinesLeft) (whole : Result (Draft × LineFault) LineFault)
+    → left.lines ≡ [] → later ≡ past → head_from draft left.lines past ≡ whole → whole ≡ Err (end_at left.lines later)
+head_over draft past later left whole none same so_far =
+    sym so_far ∙ ap (λ ls. head_from draft ls past) none ∙ rw (none, same) refl
+
+pub head_faulty : (draft : Draft) (past : ℕ) (line : TextLine) (left : LinesLeft) (word : List ℕ) (fault : LineFault) (whole : Result (Draft × LineFault) LineFault)
+    → StandsNext line left → word ≡ line_word line → false ≡ names_text word → false ≡ ends_head word
     → at_line line.number (after_line draft line) ≡ Err fault
-    → head_from draft (from_line start lines) past ≡ whole → whole ≡ Err fault
-head_faulty draft start past number line lines rest word fault whole cut same ge is other on read so_far =
-    let late : start ≤ line.number = rw (← same) ge in
+    → head_from draft left.lines past ≡ whole → whole ≡ Err fault
+head_faulty draft past line left word fault whole stands is other on read so_far =
     let other_here : names_text (line_word line) ≡ false = rw (← is) (sym other) in
     let on_here : ends_head (line_word line) ≡ false = rw (← is) (sym on) in
-    sym (rw (cut, later start line rest late, other_here, on_here, read) at so_far)
+    let whole_is : whole ≡ head_from draft (line ∷ (rest_of left).lines) past = sym so_far ∙ ap (λ ls. head_from draft ls past) stands.first in
+    rw (other_here, on_here, read) at whole_is
+
+-- ---- where lines end
+
+pub end_line_stands : (later : ℕ) (line : TextLine) (left : LinesLeft) → StandsNext line left → (end_at left.lines later).line ≡ left.number
+end_line_stands later line left stands = ap (λ ls. (end_at ls later).line) stands.first ∙ stands.number
+
+pub end_line_over : (left : LinesLeft) → left.lines ≡ [] → (end_at left.lines (past_of left)).line ≡ left.number
+end_line_over left none = let past : past_of left ≡ left.number = ap (λ (ls : List TextLine). left.number + length ls) none ∙ omega arith in ap (λ ls. (end_at ls (past_of left)).line) none ∙ past
+
+-- the fault at the next line
+pub end_stands : (later number fault : ℕ) (line : TextLine) (left : LinesLeft) → StandsNext line left → number ≡ left.number → fault ≡ misplaced (line_fault line)
+    → record { line = number; number = fault } ≡ end_at left.lines later
+end_stands later number fault line left stands same is = rw (same, is) (ap (λ n. record { line = n; number = misplaced (line_fault line) }) (sym stands.number) ∙ ap (λ ls. end_at ls later) (sym stands.first))
+
+-- and past the input
+pub end_over : (number fault : ℕ) (left : LinesLeft) → left.lines ≡ [] → number ≡ left.number → fault ≡ form_fault → record { line = number; number = fault } ≡ end_at left.lines (past_of left)
+end_over number fault left none same is =
+    let past : left.number ≡ past_of left = sym (ap (λ (ls : List TextLine). left.number + length ls) none ∙ omega arith) in
+    rw (same, is) (ap (λ n. record { line = n; number = form_fault }) past ∙ ap (λ ls. end_at ls (past_of left)) (sym none))

@@ -1,3 +1,4 @@
+pub mod CursorLines
 pub mod LinesLeft
 mod LinesAfter
 mod Versions

@@ -22,7 +22,7 @@ pub all_after : (n : ℕ) (lines : List TextLine) → AreFrom (n + 1) lines → 
 all_after n lines from = sym (all_from (n + 1) (n + 1) lines (omega arith) from)
 
 -- the lines from a number on, where the others stand before it
-from_left : (n m : ℕ) (front left whole : List TextLine) → front ++ left ≡ whole → AreFrom n whole → AreFrom m left → n + length front ≤ m → from_line m whole ≡ left
+pub from_left : (n m : ℕ) (front left whole : List TextLine) → front ++ left ≡ whole → AreFrom n whole → AreFrom m left → n + length front ≤ m → from_line m whole ≡ left
 from_left n m [] left whole is own from le = rw (← is) (all_from m m left (omega arith) from)
 from_left n m (line ∷ front) left whole is own from le =
     let k : line.number ≡ n = number_is n line (front ++ left) whole (sym is) own in

@@ -1,18 +1,24 @@
 -- What holds of a draft while a text is read.
 use Rattle.std.specs.Prelude.{◌≡◌, ℕ, ◌+◌, ◌≤◌, List, [], ◌∷◌, length, Bool, true, false, Result, Ok, Err, IfOk, nat_lt, if◌then◌else◌}
-use Rattle.std.proofs.Common.{refl, ap, arith}
+use Rattle.std.proofs.Common.{refl, sym, ap, ◌∙◌, arith}
 use Rattle.std.proofs.lemmas.Result.{IfOk-at_ok}
-use Rattle.oa_text.specs.Lines.{TextLine, numbered}
+use Rattle.oa_text.specs.Lines.{TextLine, lines_of, numbered}
 use Rattle.norm_lang.specs.declared.text.FieldDecl.{FieldDecl}
 use Rattle.norm_lang.specs.declared.text.RootDecl.{RootDecl}
 use Rattle.norm_lang.specs.Faults.{LineFault, form_fault, at_line, ◌>>=◌}
 use Rattle.norm_lang.specs.declared.text.Text.{Text}
 use Rattle.norm_lang.specs.declared.text.Version.{Version}
 use Rattle.norm_lang.specs.declared.text.Version.TheVariants.{Second}
-use Rattle.norm_lang.specs.Grammar.{Section, Draft, Start, Opening, Kinds, Fields, Counts, Nodes, Roots, Begun, Generator, WrapUp, Shipped, draft_at, after_line, after_lines, finished}
+use Rattle.norm_lang.specs.Grammar.{Section, Draft, Start, Opening, Kinds, Fields, Counts, Nodes, Roots, Begun, Generator, WrapUp, Shipped, draft_at, after_line, after_lines, finished, text_read}
 use Rattle.norm_lang.specs.Limits.{IsWithinLimits, is_within_limits}
 use Rattle.text_laws.proofs.DraftLimits.{Kept, Keeps, roots_within, nothing_declared, line_kept, lines_kept, finished_is}
 use Rattle.text_laws.proofs.FewDeclared.{few_declared, few_promised}
+use Rattle.line_words.specs.declared.fault.Stop.{Stop}
+use Rattle.line_words.specs.declared.fault.Stop.TheVariants as stops
+use Rattle.line_words.specs.declared.fault.ParseError.{ParseError}
+use Rattle.line_words.specs.Faults.{stopped_at}
+use Rattle.line_words.specs.Answered.{Stops, Fails}
+use Rattle.norm_parser.specs.Cursors.{LinesLeft, all_lines, rest_of, StandsNext}
 use Rattle.norm_parser.specs.FrontRead.{line_word, names_text, text_lines, after_text, end_before, end_at, front_end, head_lines, after_head, before_op, head_end, whole_in, whole_head, IsHeadWithinLimits}
 use Rattle.norm_parser.specs.declared.head.Head.{Head}
 use Rattle.text_laws.proofs.Readings.{demanded}
@@ -40,6 +46,24 @@ kept_on draft next line kept read = go (after_line draft line) (line_kept draft 
 -- all lines from the first on, whatever holds the draft
 pub lines_first : (draft first : Draft) (lines : List TextLine) → draft ≡ first → after_lines draft lines ≡ after_lines first lines
 lines_first draft first lines same = rw same refl
+
+-- a line is added, and the others follow
+pub lines_go_on : (draft after : Draft) (line : TextLine) (left next : LinesLeft) (whole : Result Draft LineFault)
+    → StandsNext line left → next ≡ rest_of left → at_line line.number (after_line draft line) ≡ Ok after
+    → after_lines draft left.lines ≡ whole → after_lines after next.lines ≡ whole
+lines_go_on draft after line left next whole stands taken read so_far =
+    let whole_is : whole ≡ after_lines draft (line ∷ (rest_of left).lines) = sym so_far ∙ ap (after_lines draft) stands.first in
+    rw taken (sym (rw read at whole_is))
+
+pub all_read : (bytes : List ℕ) (all : LinesLeft) (read : Result Draft LineFault) → all ≡ all_lines bytes → after_lines (draft_at Second Start) all.lines ≡ read
+    → after_lines (draft_at Second Start) (numbered 1 (lines_of bytes)) ≡ read
+all_read bytes all read same so_far = sym (ap (λ (ls : LinesLeft). after_lines (draft_at Second Start) ls.lines) same) ∙ so_far
+
+-- a text that may not end there
+pub text_fails : (bytes : List ℕ) (number : ℕ) (draft : Draft) (stop : Stop) (error : ParseError) → after_lines (draft_at Second Start) (numbered 1 (lines_of bytes)) ≡ Ok draft
+    → number ≡ length (lines_of bytes) + 1 → error ≡ stopped_at number stop → Stops stop (finished draft) → Fails error (text_read bytes)
+text_fails bytes number draft stops.Memory error read past is ended = rw is tt
+text_fails bytes number draft (stops.Fault fault) error read past is ended = rw is (rw (read, ended, past) refl)
 
 -- before the first line nothing is declared
 pub kept_first : (draft : Draft) → draft ≡ draft_at Second Start → Kept draft

@@ -1,27 +1,30 @@
 -- The lines before a version line.
-use Rattle.std.specs.Prelude.{◌≡◌, ℕ, ◌+◌, List, ◌∷◌, Some, None, Result, Ok, Err}
+use Rattle.std.specs.Prelude.{◌≡◌, ℕ, ◌+◌, List, [], ◌∷◌, Some, None, Result, Ok, Err}
 use Rattle.std.proofs.Common.{refl, sym, ap, ◌∙◌}
 use Rattle.oa_text.specs.Lines.{TextLine}
 use Rattle.norm_lang.specs.declared.text.Version.{Version}
 use Rattle.norm_lang.specs.Faults.{LineFault}
-use Rattle.norm_parser.specs.Instruction.{AreFrom}
-use Rattle.norm_parser.specs.Version.{numbered_version, line_version, after_version}
-use Rattle.norm_parser.proofs.LinesLeft.{number_is}
+use Rattle.norm_parser.specs.Cursors.{LinesLeft, rest_in, rest_of, StandsNext}
+use Rattle.norm_parser.specs.Version.{line_version, after_version}
 
 -- the version line ends them
-pub version_here : (name : List ℕ) (past n next number : ℕ) (version : Version) (line : TextLine) (lines all : List TextLine) (whole : Result (ℕ × Version) LineFault)
-    → line_version name line ≡ Ok (Some version) → numbered_version number ≡ version → all ≡ line ∷ lines
-    → AreFrom n all → next ≡ n + 1 → after_version name past all ≡ whole → whole ≡ Ok (next, numbered_version number)
-version_here name past n next number version line lines all whole read same is from follows so_far =
-    let k : line.number ≡ n = number_is n line lines all is from in
-    let e : line.number + 1 ≡ next = ap (λ n. n + 1) k ∙ sym follows in
-    rw same (sym so_far ∙ rw (is, read, e) refl)
+pub version_here : (name : List ℕ) (past : ℕ) (version : Version) (line : TextLine) (left next : LinesLeft) (whole : Result (ℕ × Version) LineFault)
+    → line_version name line ≡ Ok (Some version) → StandsNext line left → next ≡ rest_of left
+    → after_version name past left.lines ≡ whole → whole ≡ Ok (next.number, version)
+version_here name past version line left next whole read stands taken so_far =
+    let is : left.lines ≡ line ∷ (rest_of left).lines = stands.first in
+    let e : line.number + 1 ≡ next.number = ap (λ n. n + 1) stands.number ∙ sym (ap (λ ls. (rest_in left.number ls).number) is) ∙ sym (ap (λ (ls : LinesLeft). ls.number) taken) in
+    sym so_far ∙ ap (after_version name past) is ∙ rw (read, e) refl
 
 -- a line that is skipped leaves the others
-pub version_skipped : (name : List ℕ) (past : ℕ) (line : TextLine) (lines all : List TextLine) (whole : Result (ℕ × Version) LineFault) → line_version name line ≡ Ok None → all ≡ line ∷ lines
-    → after_version name past all ≡ whole → after_version name past lines ≡ whole
-version_skipped name past line lines all whole read is so_far = sym (rw (is, read) refl) ∙ so_far
+pub version_skipped : (name : List ℕ) (past : ℕ) (line : TextLine) (left next : LinesLeft) (whole : Result (ℕ × Version) LineFault)
+    → line_version name line ≡ Ok None → StandsNext line left → next ≡ rest_of left
+    → after_version name past left.lines ≡ whole → after_version name past next.lines ≡ whole
+version_skipped name past line left next whole read stands taken so_far =
+    ap (λ (ls : LinesLeft). after_version name past ls.lines) taken
+    ∙ sym (ap (after_version name past) stands.first ∙ rw read refl) ∙ so_far
 
-pub version_faulty : (name : List ℕ) (past fault : ℕ) (line : TextLine) (lines all : List TextLine) (whole : Result (ℕ × Version) LineFault) → line_version name line ≡ Err fault → all ≡ line ∷ lines
-    → after_version name past all ≡ whole → whole ≡ Err (record { line = line.number; number = fault })
-version_faulty name past fault line lines all whole read is so_far = sym so_far ∙ rw (is, read) refl
+pub version_faulty : (name : List ℕ) (past fault : ℕ) (line : TextLine) (left : LinesLeft) (whole : Result (ℕ × Version) LineFault)
+    → line_version name line ≡ Err fault → StandsNext line left
+    → after_version name past left.lines ≡ whole → whole ≡ Err (record { line = line.number; number = fault })
+version_faulty name past fault line left whole read stands so_far = sym so_far ∙ ap (after_version name past) stands.first ∙ rw read refl

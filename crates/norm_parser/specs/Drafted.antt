@@ -1,8 +1,8 @@
--- A draft with what was read besides.
+-- A draft, unless its lines couldn't be read.
 use Rattle.std.specs.Prelude.{Result, Ok, Err}
 use Rattle.line_words.specs.declared.fault.ParseError.{ParseError}
 use Rattle.norm_parser.specs.declared.draft.Draft.{Draft}
 
-abbrev pub drafted : {T : Type 0} → Draft → Result T ParseError → Result (Draft × T) ParseError
-drafted draft (Ok more) = Ok (draft, more)
-drafted draft (Err error) = Err error
+abbrev pub draft_if : Draft → Result (Unit {0}) ParseError → Result Draft ParseError
+draft_if draft (Ok u) = Ok draft
+draft_if draft (Err error) = Err error

@@ -1,5 +1,6 @@
 pub mod Instruction
 pub mod FrontRead
+pub mod Cursors
 pub mod Version
 pub mod FaultShown
 pub mod FrontLaws

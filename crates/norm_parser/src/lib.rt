@@ -1,6 +1,7 @@
 //! The reader of texts: what lines declare, instructions, and the first fault.
 #![tactic(auto)]
 
+mod cursor;
 mod draft;
 mod front;
 mod head;
@@ -11,8 +12,9 @@ mod reader;
 mod sections;
 mod version;
 
+pub use cursor::{Cursor, number_past};
 pub use head::Head;
 pub use instruction::parse_instr;
 pub use line_words::fault::{ParseError, ParseFault};
-pub use reader::{parse, parse_front, parse_head};
-pub use version::{after_second_version, after_version, numbered_version};
+pub use reader::{parse, parse_front, parse_head, read_front, read_head};
+pub use version::{numbered_version, read_second_version, read_version};

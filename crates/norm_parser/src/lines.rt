@@ -29,7 +29,7 @@ fn read_words(draft: &mut Draft, alloc: Global, words: &mut Words) -> Result<(),
 }
 
 #[tactic(auto, using(crate::proofs::LineReads::line_plain, crate::proofs::LineReads::line_faulty))]
-fn add_line(draft: &mut Draft, alloc: Global, line: Line) -> Result<(), Stop>
+fn add_text_line(draft: &mut Draft, alloc: Global, line: Line) -> Result<(), Stop>
     requires few_kinds { length draft.old.text.kinds ≤ 4 }
     requires few_fields { length draft.old.text.fields ≤ 16 }
     requires few_roots { length draft.old.text.roots ≤ 256 }
@@ -41,14 +41,14 @@ fn add_line(draft: &mut Draft, alloc: Global, line: Line) -> Result<(), Stop>
 }
 
 /// Adds what a line declares. A line that is skipped adds nothing, and its bytes are judged.
-pub fn read_line(draft: &mut Draft, alloc: Global, line: Line) -> Result<(), ParseError>
+pub fn read_text_line(draft: &mut Draft, alloc: Global, line: Line) -> Result<(), ParseError>
     requires few_kinds { length draft.old.text.kinds ≤ 4 }
     requires few_fields { length draft.old.text.fields ≤ 16 }
     requires few_roots { length draft.old.text.roots ≤ 256 }
     requires few_owners { length draft.old.owners ≤ 256 }
     ensures { Answers (λ _. draft_shown draft.new) result (at_line (line_shown line.entry).number (after_line (draft_shown draft.old) (line_shown line.entry))) }
 {
-    match add_line(draft, alloc, line) {
+    match add_text_line(draft, alloc, line) {
         Ok(()) => Ok(()),
         Err(stop) => Err(stop.at(line.number())),
     }

@@ -1,63 +1,59 @@
 //! The readers of texts, of texts within documents, and of a target's declarations.
 
-ghost use Rattle.std.specs.Prelude.{◌≡◌, [], ◌+◌, ◌<◌, ◌≤◌, ◌^◌, length, IfOk};
-ghost use Rattle.oa_text.specs.Lines.{lines_of, numbered};
-ghost use Rattle.oa_text.specs.Shown.{line_shown};
+ghost use Rattle.std.specs.Prelude.{◌≡◌, ◌+◌, ◌<◌, ◌≤◌, ◌^◌, length, IfOk};
+ghost use Rattle.oa_text.specs.Lines.{lines_of};
 ghost use Rattle.norm_lang.specs.declared.text.Version.TheVariants.{Second};
 ghost use Rattle.norm_lang.specs.Grammar.{draft_at, after_lines, Start, Opening, text_read};
 ghost use Rattle.norm_lang.specs.Limits.{IsWithinLimits};
 ghost use Rattle.line_words.specs.Answered.{Answers};
+ghost use Rattle.norm_parser.specs.Cursors.{past_of, IsRestOf};
 ghost use Rattle.norm_parser.specs.DraftShown.{draft_shown};
-ghost use Rattle.norm_parser.specs.Drafted.{drafted};
+ghost use Rattle.norm_parser.specs.Drafted.{draft_if};
 ghost use Rattle.norm_parser.specs.FaultShown.{fault_shown};
-ghost use Rattle.norm_parser.specs.FrontRead.{from_line, end_before, end_at, front_end, front_read, head_end, head_read, IsHeadWithinLimits};
+ghost use Rattle.norm_parser.specs.FrontRead.{end_at, front_end, front_in, front_read, head_end, head_in, head_read, IsHeadWithinLimits};
 ghost use Rattle.norm_parser.specs.Version.{IsVersionNumber, numbered_version};
 
+use crate::cursor::Cursor;
 use crate::draft::{Draft, Section};
 use crate::front::{ends_front, ends_head, front_word, misplaced, names_text};
 use crate::head::{Head, whole_head};
-use crate::lines::read_line;
+use crate::lines::read_text_line;
 use crate::version::numbered_version;
 use line_words::fault::{Fault, ParseError, ParseFault, Stop};
 use norm_lang::text::{Text, Version};
-use oa_text::{Line, lines};
 use std::alloc::Global;
 
-/// A draft with what was read besides, unless that failed.
-fn drafted<T>(draft: Draft, read: Result<T, ParseError>) -> Result<(Draft, T), ParseError>
-    ensures { result ≡ drafted draft read }
+/// A draft, if its lines were read. It stands alone, since to drop a draft is proved on each way out.
+fn draft_if(draft: Draft, read: Result<(), ParseError>) -> Result<Draft, ParseError>
+    ensures { result ≡ draft_if draft read }
 {
     match read {
-        Ok(more) => Ok((draft, more)),
+        Ok(()) => Ok(draft),
         Err(error) => Err(error),
     }
 }
 
-/// Adds what all lines declare, and answers the number of the line past the last.
-#[tactic(auto, using(crate::proofs::Reading::few_kinds, crate::proofs::Reading::few_fields, crate::proofs::Reading::few_roots, crate::proofs::Reading::few_owners, crate::proofs::Reading::kept_on, crate::proofs::Reading::past_first, crate::proofs::Reading::kept_first, crate::proofs::Reading::lines_first))]
-fn add_lines(draft: &mut Draft, alloc: Global, input: &[u8]) -> Result<u32, ParseError>
-    requires few { length (lines_of input.now) + 1 < 2 ^ 32 }
+/// Adds what all lines declare.
+#[tactic(auto, using(crate::proofs::CursorLines::rest_of_passed, crate::proofs::CursorLines::rest_of_all, crate::proofs::Reading::few_kinds, crate::proofs::Reading::few_fields, crate::proofs::Reading::few_roots, crate::proofs::Reading::few_owners, crate::proofs::Reading::kept_on, crate::proofs::Reading::kept_first, crate::proofs::Reading::lines_first))]
+fn add_lines(draft: &mut Draft, alloc: Global, cursor: &mut Cursor) -> Result<(), ParseError>
     requires first { draft_shown draft.old ≡ draft_at Second Start }
-    ensures lines { Answers (λ _. draft_shown draft.new) result (after_lines (draft_at Second Start) (numbered 1 (lines_of input.now))) }
-    ensures past { IfOk result (λ past. past ≡ length (lines_of input.now) + 1) }
+    ensures lines { Answers (λ _. draft_shown draft.new) result (after_lines (draft_at Second Start) cursor.old.lines) }
+    ensures past { IfOk result (λ _. cursor.new.number ≡ past_of cursor.old) }
 {
-    let mut past = 1;
-    for line in lines(input) {
-        read_line(draft, alloc, line)?;
-        past += 1;
+    'lines: while let Some(line) = cursor.take() {
+        read_text_line(draft, alloc, line)?;
     }
-    Ok(past)
+    Ok(())
 }
 
-/// What all lines declare, and the number of the line past the last.
-fn read_lines(alloc: Global, input: &[u8]) -> Result<(Draft, u32), ParseError>
-    requires { length (lines_of input.now) + 1 < 2 ^ 32 }
-    ensures lines { Answers (λ read. draft_shown read.0) result (after_lines (draft_at Second Start) (numbered 1 (lines_of input.now))) }
-    ensures past { IfOk result (λ read. read.1 ≡ length (lines_of input.now) + 1) }
+/// What all lines declare.
+fn read_lines(alloc: Global, cursor: &mut Cursor) -> Result<Draft, ParseError>
+    ensures lines { Answers (λ draft. draft_shown draft) result (after_lines (draft_at Second Start) cursor.old.lines) }
+    ensures past { IfOk result (λ _. cursor.new.number ≡ past_of cursor.old) }
 {
     let mut draft = Draft::at(alloc, Version::Second, Section::Start)?;
-    let past = add_lines(&mut draft, alloc, input);
-    drafted(draft, past)
+    let read = add_lines(&mut draft, alloc, cursor);
+    draft_if(draft, read)
 }
 
 /// The text that the bytes spell: a line `oa 1` or `oa 2`, a text of that version, and nothing else but lines that are
@@ -76,75 +72,80 @@ pub fn parse(alloc: Global, input: &[u8]) -> Result<Text, ParseError>
     ensures exact { Answers (λ text. text) result (text_read input.now) }
     ensures within { IfOk result (λ text. IsWithinLimits text) }
 {
-    let (draft, past) = read_lines(alloc, input)?;
+    let mut cursor = Cursor::new(input);
+    let draft = read_lines(alloc, &mut cursor)?;
     match draft.finish(alloc) {
         Ok(text) => Ok(text),
-        Err(stop) => Err(stop.at(past)),
+        Err(stop) => Err(stop.at(cursor.number())),
     }
 }
 
-/// The line after a text, or the one past the input, with the fault there if a further line must come first.
-fn end_before(line: Line) -> ParseFault
-    ensures { fault_shown result ≡ end_before (line_shown line.entry) }
+/// The fault where lines end, if a further one must come first: at the next line, or past the input.
+#[tactic(auto, using(crate::proofs::Fronts::end_stands, crate::proofs::Fronts::end_over))]
+fn end_fault(cursor: &Cursor) -> ParseFault
+    ensures { fault_shown result ≡ end_at cursor.now.lines (past_of cursor.now) }
 {
+    let fault = match cursor.peek() {
+        Some(line) => misplaced(line),
+        None => Fault::Form,
+    };
     ParseFault {
-        line: line.number(),
-        number: misplaced(line).number(),
+        line: cursor.number(),
+        number: fault.number(),
     }
 }
 
-/// Where the input ends, with the fault there if a further line must come first.
-fn end_past(past: u32) -> ParseFault
-    ensures { fault_shown result ≡ end_at [] past }
-{
-    ParseFault {
-        line: past,
-        number: Fault::Form.number(),
-    }
-}
-
-/// Adds what the lines from this one on declare up to the end of a text, and answers where that is.
-#[tactic(auto, using(crate::proofs::Reading::few_kinds, crate::proofs::Reading::few_fields, crate::proofs::Reading::few_roots, crate::proofs::Reading::few_owners, crate::proofs::Reading::kept_on, crate::proofs::Reading::past_first, crate::proofs::Reading::kept_opening, crate::proofs::Fronts::front_starts, crate::proofs::Fronts::front_passes, crate::proofs::Fronts::front_ends, crate::proofs::Fronts::front_stops))]
-fn add_front(
-    draft: &mut Draft,
-    alloc: Global,
-    input: &[u8],
-    line: u32,
-) -> Result<ParseFault, ParseError>
-    requires few { length (lines_of input.now) + 1 < 2 ^ 32 }
+/// Adds what the lines of a text declare.
+#[tactic(auto, using(crate::proofs::CursorLines::rest_of_passed, crate::proofs::CursorLines::rest_of_all, crate::proofs::Reading::few_kinds, crate::proofs::Reading::few_fields, crate::proofs::Reading::few_roots, crate::proofs::Reading::few_owners, crate::proofs::Reading::kept_on, crate::proofs::Reading::kept_opening, crate::proofs::Fronts::front_starts, crate::proofs::Fronts::front_goes_on, crate::proofs::Fronts::front_ends, crate::proofs::Fronts::front_over, crate::proofs::Fronts::front_stops, crate::proofs::Fronts::end_line_stands, crate::proofs::Fronts::end_line_over, crate::proofs::CursorLines::rest_past))]
+fn add_front(draft: &mut Draft, alloc: Global, cursor: &mut Cursor) -> Result<(), ParseError>
     requires first { draft_shown draft.old ≡ draft_at draft.old.version Opening }
-    ensures { Answers (λ end. (draft_shown draft.new, fault_shown end)) result (front_end draft.old.version (from_line line (numbered 1 (lines_of input.now))) (length (lines_of input.now) + 1)) }
+    ensures exact { Answers (λ _. (draft_shown draft.new, end_at cursor.new.lines (past_of cursor.new))) result (front_end draft.old.version cursor.old.lines (past_of cursor.old)) }
+    ensures rest { IfOk result (λ _. IsRestOf cursor.old cursor.new) }
+    ensures number { IfOk result (λ _. (end_at cursor.new.lines (past_of cursor.new)).line ≡ cursor.new.number) }
 {
     let mut named = false;
-    let mut past = 1;
-    for next in lines(input) {
-        past += 1;
-        if next.number() < line {
-            continue;
-        }
+    'lines: while let Some(next) = cursor.peek() {
         let word = front_word(next.bytes());
         if ends_front(named, word) {
-            return Ok(end_before(next));
+            return Ok(());
         }
-        read_line(draft, alloc, next)?;
+        read_text_line(draft, alloc, next)?;
+        cursor.pass();
         named = names_text(word);
     }
-    Ok(end_past(past))
+    Ok(())
 }
 
-/// What the lines from this one on declare up to the end of a text, and where that is.
-fn read_front(
-    alloc: Global,
-    input: &[u8],
-    line: u32,
-    version: Version,
-) -> Result<(Draft, ParseFault), ParseError>
-    requires { length (lines_of input.now) + 1 < 2 ^ 32 }
-    ensures { Answers (λ front. (draft_shown front.0, fault_shown front.1)) result (front_end version (from_line line (numbered 1 (lines_of input.now))) (length (lines_of input.now) + 1)) }
+/// What the lines of a text declare.
+fn front_draft(alloc: Global, version: Version, cursor: &mut Cursor) -> Result<Draft, ParseError>
+    ensures exact { Answers (λ draft. (draft_shown draft, end_at cursor.new.lines (past_of cursor.new))) result (front_end version cursor.old.lines (past_of cursor.old)) }
+    ensures rest { IfOk result (λ _. IsRestOf cursor.old cursor.new) }
+    ensures number { IfOk result (λ _. (end_at cursor.new.lines (past_of cursor.new)).line ≡ cursor.new.number) }
 {
     let mut draft = Draft::at(alloc, version, Section::Opening)?;
-    let end = add_front(&mut draft, alloc, input, line);
-    drafted(draft, end)
+    let read = add_front(&mut draft, alloc, cursor);
+    draft_if(draft, read)
+}
+
+/// Takes the lines of a text after the version line, and answers the text.
+///
+/// The text ends with its `use` line where it has one; otherwise before the first line whose first word is `slots`,
+/// `phases`, `fuel`, `script` or `schedule`, also where that line has a fault, or at the end of the input.
+///
+/// # Errors
+///
+/// As those of `parse_front`.
+pub fn read_front(alloc: Global, version: Version, cursor: &mut Cursor) -> Result<Text, ParseError>
+    ensures exact { Answers (λ text. (text, cursor.new.number)) result (front_in version cursor.old.lines (past_of cursor.old)) }
+    ensures rest { IfOk result (λ _. IsRestOf cursor.old cursor.new) }
+    ensures within { IfOk result (λ text. IsWithinLimits text) }
+{
+    let draft = front_draft(alloc, version, cursor)?;
+    match draft.finish(alloc) {
+        Ok(text) => Ok(text),
+        Err(Stop::Fault(_)) => Err(ParseError::Fault(end_fault(cursor))),
+        Err(Stop::Memory) => Err(ParseError::Memory),
+    }
 }
 
 /// The text that begins at a line, after the version line, and the number of the first line after it. Its lines are those of
@@ -171,52 +172,60 @@ pub fn parse_front(
     ensures exact { Answers (λ front. front) result (front_read (numbered_version version) input.now line) }
     ensures within { IfOk result (λ front. IsWithinLimits front.0) }
 {
-    let (draft, end) = read_front(alloc, input, line, numbered_version(version))?;
-    match draft.finish(alloc) {
-        Ok(text) => Ok((text, end.line)),
-        Err(Stop::Fault(_)) => Err(ParseError::Fault(end)),
-        Err(Stop::Memory) => Err(ParseError::Memory),
-    }
+    let mut cursor = Cursor::from_line(input, line);
+    let text = read_front(alloc, numbered_version(version), &mut cursor)?;
+    Ok((text, cursor.number()))
 }
 
-/// Adds what the lines from this one on declare up to the first operation, and answers where that is.
-#[tactic(auto, using(crate::proofs::Reading::few_kinds, crate::proofs::Reading::few_fields, crate::proofs::Reading::few_roots, crate::proofs::Reading::few_owners, crate::proofs::Reading::kept_on, crate::proofs::Reading::past_first, crate::proofs::Reading::kept_opening, crate::proofs::Fronts::head_starts, crate::proofs::Fronts::head_passes, crate::proofs::Fronts::head_misplaced, crate::proofs::Fronts::head_stops, crate::proofs::Fronts::head_faulty))]
-fn add_head(
-    draft: &mut Draft,
-    alloc: Global,
-    input: &[u8],
-    line: u32,
-) -> Result<ParseFault, ParseError>
-    requires few { length (lines_of input.now) + 1 < 2 ^ 32 }
+/// Adds what the lines of declarations declare.
+#[tactic(auto, using(crate::proofs::CursorLines::rest_of_passed, crate::proofs::CursorLines::rest_of_all, crate::proofs::Reading::few_kinds, crate::proofs::Reading::few_fields, crate::proofs::Reading::few_roots, crate::proofs::Reading::few_owners, crate::proofs::Reading::kept_on, crate::proofs::Reading::kept_opening, crate::proofs::Fronts::head_starts, crate::proofs::Fronts::head_goes_on, crate::proofs::Fronts::head_misplaced, crate::proofs::Fronts::head_ends_here, crate::proofs::Fronts::head_over, crate::proofs::Fronts::head_faulty, crate::proofs::Fronts::end_line_stands, crate::proofs::CursorLines::rest_past))]
+fn add_head(draft: &mut Draft, alloc: Global, cursor: &mut Cursor) -> Result<(), ParseError>
     requires first { draft_shown draft.old ≡ draft_at Second Opening }
-    ensures { Answers (λ end. (draft_shown draft.new, fault_shown end)) result (head_end (from_line line (numbered 1 (lines_of input.now))) (length (lines_of input.now) + 1)) }
+    ensures exact { Answers (λ _. (draft_shown draft.new, end_at cursor.new.lines (past_of cursor.new))) result (head_end cursor.old.lines (past_of cursor.old)) }
+    ensures rest { IfOk result (λ _. IsRestOf cursor.old cursor.new) }
+    ensures number { IfOk result (λ _. (end_at cursor.new.lines (past_of cursor.new)).line ≡ cursor.new.number) }
 {
-    let mut past = 1;
-    for next in lines(input) {
-        past += 1;
-        if next.number() < line {
-            continue;
-        }
+    'lines: while let Some(next) = cursor.peek() {
         let word = front_word(next.bytes());
         if names_text(word) {
-            return Err(ParseError::Fault(end_before(next)));
+            return Err(ParseError::Fault(end_fault(cursor)));
         }
         if ends_head(word) {
-            return Ok(end_before(next));
+            return Ok(());
         }
-        read_line(draft, alloc, next)?;
+        read_text_line(draft, alloc, next)?;
+        cursor.pass();
     }
-    Err(ParseError::Fault(end_past(past)))
+    Err(ParseError::Fault(end_fault(cursor)))
 }
 
-/// What the lines from this one on declare up to the first operation, and where that is.
-fn read_head(alloc: Global, input: &[u8], line: u32) -> Result<(Draft, ParseFault), ParseError>
-    requires { length (lines_of input.now) + 1 < 2 ^ 32 }
-    ensures { Answers (λ head. (draft_shown head.0, fault_shown head.1)) result (head_end (from_line line (numbered 1 (lines_of input.now))) (length (lines_of input.now) + 1)) }
+/// What the lines of declarations declare.
+fn head_draft(alloc: Global, cursor: &mut Cursor) -> Result<Draft, ParseError>
+    ensures exact { Answers (λ draft. (draft_shown draft, end_at cursor.new.lines (past_of cursor.new))) result (head_end cursor.old.lines (past_of cursor.old)) }
+    ensures rest { IfOk result (λ _. IsRestOf cursor.old cursor.new) }
+    ensures number { IfOk result (λ _. (end_at cursor.new.lines (past_of cursor.new)).line ≡ cursor.new.number) }
 {
     let mut draft = Draft::at(alloc, Version::Second, Section::Opening)?;
-    let end = add_head(&mut draft, alloc, input, line);
-    drafted(draft, end)
+    let read = add_head(&mut draft, alloc, cursor);
+    draft_if(draft, read)
+}
+
+/// Takes the lines of declarations of the second version after the version line, and answers what they declare. They end
+/// before the first line whose first word is `op`.
+///
+/// # Errors
+///
+/// As those of `parse_head`.
+pub fn read_head(alloc: Global, cursor: &mut Cursor) -> Result<Head, ParseError>
+    ensures exact { Answers (λ head. (head, cursor.new.number)) result (head_in cursor.old.lines (past_of cursor.old)) }
+    ensures rest { IfOk result (λ _. IsRestOf cursor.old cursor.new) }
+    ensures within { IfOk result (λ head. IsHeadWithinLimits head) }
+{
+    let draft = head_draft(alloc, cursor)?;
+    match whole_head(draft) {
+        Ok(head) => Ok(head),
+        Err(_) => Err(ParseError::Fault(end_fault(cursor))),
+    }
 }
 
 /// The declarations of the second version that begin at a line, after the version line, and the number of the first line
@@ -236,9 +245,7 @@ pub fn parse_head(alloc: Global, input: &[u8], line: u32) -> Result<(Head, u32),
     ensures exact { Answers (λ head. head) result (head_read input.now line) }
     ensures within { IfOk result (λ head. IsHeadWithinLimits head.0) }
 {
-    let (draft, end) = read_head(alloc, input, line)?;
-    match whole_head(draft) {
-        Ok(head) => Ok((head, end.line)),
-        Err(_) => Err(ParseError::Fault(end)),
-    }
+    let mut cursor = Cursor::from_line(input, line);
+    let head = read_head(alloc, &mut cursor)?;
+    Ok((head, cursor.number()))
 }

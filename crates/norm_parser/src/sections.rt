@@ -10,15 +10,10 @@ ghost use Rattle.norm_parser.specs.DraftShown.{draft_shown};
 use crate::draft::{Draft, Section};
 use line_words::fault::{Fault, Stop};
 use line_words::words::Words;
+use norm_lang::limits::{MOST_INSTRS, MOST_NEWS};
 use norm_lang::text::{Instr, Version};
 use std::alloc::Global;
 use text_lines::{Step, declarations, read_entry, read_step};
-
-/// The most instructions of a method.
-const MOST_INSTRS: usize = 256;
-
-/// The most `new` of an operation.
-const MOST_NEWS: usize = 4;
 
 /// Puts another draft in the place of one. It stands alone, since to drop a draft is proved on each way out.
 fn replace(draft: &mut Draft, new: Draft)

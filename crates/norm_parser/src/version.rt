@@ -1,15 +1,16 @@
 //! The version line with which a document or a target begins.
 
-ghost use Rattle.std.specs.Prelude.{◌≡◌, ◌<◌, ◌≤◌, ◌+◌, ◌^◌, length, Some, IfOk};
-ghost use Rattle.oa_text.specs.Lines.{lines_of, numbered};
+ghost use Rattle.std.specs.Prelude.{◌≡◌, Some, IfOk};
 ghost use Rattle.oa_text.specs.Shown.{line_shown};
 ghost use Rattle.line_words.specs.Answered.{Reads, Answers};
-ghost use Rattle.norm_parser.specs.Version.{IsVersionNumber, numbered_version, version_said, line_version, after_version, after_second_version};
+ghost use Rattle.norm_parser.specs.Cursors.{past_of, IsRestOf};
+ghost use Rattle.norm_parser.specs.Version.{numbered_version, version_said, line_version, after_version, after_second_version};
 
+use crate::cursor::Cursor;
 use line_words::fault::{Fault, ParseError, Stop};
 use line_words::words::Words;
 use norm_lang::text::Version;
-use oa_text::{Line, lines};
+use oa_text::Line;
 use text_lines::declarations;
 
 /// The version with a number, which is 1 or 2.
@@ -20,16 +21,6 @@ pub fn numbered_version(number: u8) -> Version
         Version::First
     } else {
         Version::Second
-    }
-}
-
-fn number_of(version: Version) -> u8
-    ensures number { IsVersionNumber result }
-    ensures same { numbered_version result ≡ version }
-{
-    match version {
-        Version::First => 1,
-        Version::Second => 2,
     }
 }
 
@@ -53,51 +44,40 @@ fn line_version(name: &[u8], line: Line) -> Result<Option<Version>, Fault>
     }
 }
 
-/// The number of the line after the version line, which is this name and `1` or `2`, and the version's number. Before it
-/// there are only lines that are skipped.
-///
-/// Lines count from 1. The input has fewer than 2^32 - 1 lines; its length bounds their count.
+/// Takes the lines up to the version line, which is this name and `1` or `2`, and answers the version. Before it there are
+/// only lines that are skipped.
 ///
 /// # Errors
 ///
 /// `Fault` with the first fault of the lines up to the version line; where there is none and no version line, it is 4 at
 /// one more than the number of lines.
-#[tactic(auto, using(crate::proofs::Reading::past_first, crate::proofs::LinesLeft::first_from, crate::proofs::LinesLeft::from_next, crate::proofs::Versions::version_here, crate::proofs::Versions::version_skipped, crate::proofs::Versions::version_faulty))]
-pub fn after_version(name: &[u8], input: &[u8]) -> Result<(u32, u8), ParseError>
-    requires { length (lines_of input.now) + 1 < 2 ^ 32 }
-    ensures exact { Answers (λ next. (next.0, numbered_version next.1)) result (after_version name.now (length (lines_of input.now) + 1) (numbered 1 (lines_of input.now))) }
-    ensures counted { IfOk result (λ next. 1 ≤ next.0) }
-    ensures version { IfOk result (λ next. IsVersionNumber next.1) }
+#[tactic(auto, using(crate::proofs::CursorLines::rest_of_passed, crate::proofs::Versions::version_here, crate::proofs::Versions::version_skipped, crate::proofs::Versions::version_faulty))]
+pub fn read_version(name: &[u8], cursor: &mut Cursor) -> Result<Version, ParseError>
+    ensures exact { Answers (λ version. (cursor.new.number, version)) result (after_version name.now (past_of cursor.old) cursor.old.lines) }
+    ensures rest { IfOk result (λ _. IsRestOf cursor.old cursor.new) }
 {
-    let mut past = 1;
-    for line in lines(input) {
-        past += 1;
+    'lines: while let Some(line) = cursor.take() {
         match line_version(name, line) {
-            Ok(Some(version)) => return Ok((past, number_of(version))),
+            Ok(Some(version)) => return Ok(version),
             Ok(None) => {}
             Err(fault) => return Err(Stop::Fault(fault).at(line.number())),
         }
     }
-    Err(Stop::Fault(Fault::Form).at(past))
+    Err(Stop::Fault(Fault::Form).at(cursor.number()))
 }
 
-/// The number of the line after the version line, which is this name and `2`. Before it there are only lines that are
-/// skipped.
-///
-/// Lines count from 1. The input has fewer than 2^32 - 1 lines; its length bounds their count.
+/// Takes the lines up to the version line, which is this name and `2`. Before it there are only lines that are skipped.
 ///
 /// # Errors
 ///
 /// `Fault` with the first fault of the lines up to the version line, where `1` in place of `2` is 4; where there is none and
 /// no version line, it is 4 at one more than the number of lines.
-pub fn after_second_version(name: &[u8], input: &[u8]) -> Result<u32, ParseError>
-    requires { length (lines_of input.now) + 1 < 2 ^ 32 }
-    ensures exact { Answers (λ next. next) result (after_second_version name.now (length (lines_of input.now) + 1) (numbered 1 (lines_of input.now))) }
-    ensures counted { IfOk result (λ next. 1 ≤ next) }
+pub fn read_second_version(name: &[u8], cursor: &mut Cursor) -> Result<(), ParseError>
+    ensures exact { Answers (λ _. cursor.new.number) result (after_second_version name.now (past_of cursor.old) cursor.old.lines) }
+    ensures rest { IfOk result (λ _. IsRestOf cursor.old cursor.new) }
 {
-    let (next, version) = after_version(name, input)?;
-    match numbered_version(version) {
-        Version::First => Err(Stop::Fault(Fault::Form).at(next - 1)),
-        Version::Second => Ok(next),
+    match read_version(name, cursor)? {
+        Version::First => Err(Stop::Fault(Fault::Form).at(cursor.number() - 1)),
+        Version::Second => Ok(()),
     }
 }

@@ -27,7 +27,8 @@ use Rattle.certificates.specs.CertificateRead.{certificate_read, IsCertificate}
 use Rattle.run_judge.specs.Judged.{verdict_of}
 use Rattle.script_plans.specs.Plans.{IsRunnable}
 use Rattle.oa_cli.specs.Complete.{IsAccepted, HasAccepted, HasCertificate, CanBeAnswered, IsAnsweredStatus, status_found, IsAnswer, IsComplete}
-use Rattle.oa_cli.specs.Judged.{LIMIT, CERTIFICATE_LIMIT, takes_rules, IsShapeRefused, IsOfBytes, IsOfCertificate, IsOfCertificateRead, IsOfCertificateBytes, IsOfSource, IsOfWorkload, IsOfRequest}
+use Rattle.statuses.specs.declared.limits.TheConstants.{DOCUMENT_LIMIT, CERTIFICATE_LIMIT}
+use Rattle.oa_cli.specs.Judged.{takes_rules, IsShapeRefused, IsOfBytes, IsOfCertificate, IsOfCertificateRead, IsOfCertificateBytes, IsOfSource, IsOfWorkload, IsOfRequest}
 use Rattle.oa_cli.proofs.Sources.{told}
 use Rattle.oa_cli.specs.verdicts.Telling.{IsSaid, text_for, status_for}
 
@@ -71,10 +72,7 @@ has_shape commands.Run document number at accepted refused = none_is_some (recor
 has_shape commands.Replay document number at accepted refused = none_is_some (record { number = number; at = at }) (sym accepted.1 ∙ refused.1)
 has_shape commands.Epochs document number at accepted refused = none_is_some (record { number = number; at = at }) (sym accepted.shape ∙ refused.1)
 has_shape commands.Certify document number at accepted refused = none_is_some (record { number = number; at = at }) (sym accepted.1 ∙ refused.1)
-has_shape commands.Check document number at accepted refused = absurd refused
-has_shape commands.Compile document number at accepted refused = absurd refused
-has_shape commands.Show document number at accepted refused = absurd refused
-has_shape commands.Upgrade document number at accepted refused = absurd refused
+has_shape _ document number at accepted refused = absurd refused
 
 -- ---- the verdict on an accepted document
 
@@ -100,28 +98,17 @@ bytes_answered command bytes document verdicts.Memory is accepted judged = inr (
 bytes_answered command bytes document (verdicts.Rejected number at) is accepted judged = absurd judged.2
 
 source_answered : (command : Command) (old new : Option (List ℕ)) (before now : ℕ) (verdict : Verdict) → HasAccepted command old → ¬ Rose before now
-    → IsOfSource LIMIT (IsOfBytes command) old new before now verdict → IsAnsweredStatus (status_for verdict)
+    → IsOfSource DOCUMENT_LIMIT (IsOfBytes command) old new before now verdict → IsAnsweredStatus (status_for verdict)
 source_answered command old new before now verdict has kept judged =
     ⊎_elim
     (λ memory. inr (inr memory))
     (λ says. bytes_answered command has.bytes has.document verdict has.spelled has.accepted says)
-    (told LIMIT (IsOfBytes command) old new before now has.bytes verdict has.told has.short kept judged)
+    (told DOCUMENT_LIMIT (IsOfBytes command) old new before now has.bytes verdict has.told has.short kept judged)
 
 workload_answered : (count callers : ℕ) (verdict : Verdict) → IsOfWorkload count callers verdict → IsAnsweredStatus (status_for verdict)
 workload_answered count callers (verdicts.Worked report) judged = done_or_partial (is_short report)
 workload_answered count callers verdicts.Memory judged = inr (inr refl)
-workload_answered count callers (verdicts.Answered report) judged = absurd judged
-workload_answered count callers verdicts.Accepted judged = absurd judged
-workload_answered count callers (verdicts.Shown spelling) judged = absurd judged
-workload_answered count callers (verdicts.Compiled spelling) judged = absurd judged
-workload_answered count callers verdicts.Usage judged = absurd judged
-workload_answered count callers verdicts.ReadFault judged = absurd judged
-workload_answered count callers verdicts.LongInput judged = absurd judged
-workload_answered count callers (verdicts.BadDocument fault) judged = absurd judged
-workload_answered count callers (verdicts.Refused text refusal) judged = absurd judged
-workload_answered count callers (verdicts.BadShape number at) judged = absurd judged
-workload_answered count callers (verdicts.Certified spelling partial) judged = absurd judged
-workload_answered count callers (verdicts.Rejected number at) judged = absurd judged
+workload_answered count callers _ judged = absurd judged
 
 -- ---- the verdict on a certificate of a document that can be run
 
@@ -142,20 +129,12 @@ one_certificate : (bytes : List ℕ) (certificate other : Certificate) → certi
 one_certificate bytes certificate other is also = ap (certificate_in certificate) (sym also ∙ is)
 
 certificate_found : (certificate : Certificate) (verdict : Verdict) → IsRunnable certificate.document → IsOfCertificate certificate verdict → IsFoundStatus certificate (status_for verdict)
-certificate_found certificate (verdicts.Answered report) runnable judged = absurd judged
-certificate_found certificate (verdicts.Worked report) runnable judged = absurd judged
 certificate_found certificate verdicts.Accepted runnable judged = inl (ap status_found judged.found.1)
-certificate_found certificate (verdicts.Shown spelling) runnable judged = absurd judged
-certificate_found certificate (verdicts.Compiled spelling) runnable judged = absurd judged
-certificate_found certificate (verdicts.Certified spelling partial) runnable judged = absurd judged
-certificate_found certificate verdicts.Usage runnable judged = absurd judged
-certificate_found certificate verdicts.ReadFault runnable judged = absurd judged
-certificate_found certificate verdicts.LongInput runnable judged = absurd judged
-certificate_found certificate (verdicts.BadDocument fault) runnable judged = absurd judged
 certificate_found certificate (verdicts.Refused text refusal) runnable judged = absurd (not_refused text refusal (subst IsNormal (sym judged.0) runnable.normal) judged.1)
 certificate_found certificate (verdicts.BadShape number at) runnable judged = absurd (none_is_some (record { number = number; at = at }) (sym runnable.shape ∙ judged.1))
 certificate_found certificate verdicts.Memory runnable judged = inr refl
 certificate_found certificate (verdicts.Rejected number at) runnable judged = inl (ap status_found judged.found.1)
+certificate_found certificate _ runnable judged = absurd judged
 
 -- the certificate that was judged is the one that the bytes spell
 read_found : (bytes : List ℕ) (certificate : Certificate) (verdict : Verdict) → IsCertificate bytes certificate → IsRunnable certificate.document

@@ -25,7 +25,8 @@ use Rattle.oa_cli.specs.declared.verdicts.verdict.Verdict.{Verdict}
 use Rattle.oa_cli.specs.declared.verdicts.verdict.Verdict.TheVariants as verdicts
 use Rattle.oa_cli.specs.verdicts.Telling.{IsSaid, text_for, status_for}
 use Rattle.oa_cli.specs.Complete.{HasAccepted, IsAccepted}
-use Rattle.oa_cli.specs.Judged.{LIMIT, IsAnswered, IsShapeRefused, IsShown, IsOfBytes, IsOfSource, IsOfRequest}
+use Rattle.statuses.specs.declared.limits.TheConstants.{DOCUMENT_LIMIT}
+use Rattle.oa_cli.specs.Judged.{IsAnswered, IsShapeRefused, IsShown, IsOfBytes, IsOfSource, IsOfRequest}
 use Rattle.oa_cli.specs.Headline.{MakesCalls, Premises, IsTakenForProper, Promised, IsPrinted, Headline}
 use Rattle.oa_cli.proofs.Completing.{not_faulty, one_document, not_refused, accepted_is_normal, has_shape}
 use Rattle.oa_cli.proofs.Sources.{told}
@@ -46,11 +47,7 @@ writes_none : {A : Type 0} (command : Command) (document : Document) (spelling :
 writes_none commands.Run document spelling makes shown = absurd shown
 writes_none commands.Replay document spelling makes shown = absurd shown
 writes_none commands.Epochs document spelling makes shown = absurd shown
-writes_none commands.Check document spelling makes shown = absurd makes
-writes_none commands.Compile document spelling makes shown = absurd makes
-writes_none commands.Show document spelling makes shown = absurd makes
-writes_none commands.Upgrade document spelling makes shown = absurd makes
-writes_none commands.Certify document spelling makes shown = absurd makes
+writes_none _ document spelling makes shown = absurd makes
 
 bytes_told : (command : Command) (bytes : List ℕ) (document : Document) (verdict : Verdict) → MakesCalls command → IsDocument bytes document → IsAccepted command document
     → status_for verdict ≢ statuses.Memory → IsOfBytes command bytes verdict → IsReport command document verdict
@@ -75,12 +72,12 @@ bytes_told command bytes document verdicts.Memory makes is accepted memory judge
 bytes_told command bytes document (verdicts.Rejected number at) makes is accepted memory judged = absurd judged.2
 
 source_told : (command : Command) (old new : Option (List ℕ)) (before now : ℕ) (verdict : Verdict) → MakesCalls command → (has : HasAccepted command old) → ¬ Rose before now → status_for verdict ≢ statuses.Memory
-    → IsOfSource LIMIT (IsOfBytes command) old new before now verdict → IsReport command has.document verdict
+    → IsOfSource DOCUMENT_LIMIT (IsOfBytes command) old new before now verdict → IsReport command has.document verdict
 source_told command old new before now verdict makes has kept memory judged =
     ⊎_elim
     (λ none. absurd (memory none))
     (λ says. bytes_told command has.bytes has.document verdict makes has.spelled has.accepted memory says)
-    (told LIMIT (IsOfBytes command) old new before now has.bytes verdict has.told has.short kept judged)
+    (told DOCUMENT_LIMIT (IsOfBytes command) old new before now has.bytes verdict has.told has.short kept judged)
 
 -- ---- the promise
 
@@ -144,7 +141,7 @@ abbrev IsDoneOrPartial : Status → Type 0
 IsDoneOrPartial status = (status ≡ statuses.Done) ⊎ (status ≡ statuses.Partial)
 
 done : (command : Command) (old new held holds : Option (List ℕ)) (before now earlier later : ℕ) (verdict : Verdict) (status : Status) (given : Premises command old held before now earlier later status)
-    → IsOfSource LIMIT (IsOfBytes command) old new before now verdict → status ≡ status_for verdict → Appends held holds (text_for verdict) → IsPrinted command given.bytes_told.document given.written holds status
+    → IsOfSource DOCUMENT_LIMIT (IsOfBytes command) old new before now verdict → status ≡ status_for verdict → Appends held holds (text_for verdict) → IsPrinted command given.bytes_told.document given.written holds status
 done command old new held holds before now earlier later verdict status given judged same added =
     let it = source_told command old new before now verdict given.calls given.bytes_told given.reads (λ memory. given.memory (same ∙ memory)) judged in
     record {
@@ -156,8 +153,6 @@ done command old new held holds before now earlier later verdict status given ju
 
 pub headline : (request : Option Request) (old new held holds : Option (List ℕ)) (before now earlier later : ℕ) (verdict : Verdict) (status : Status) → IsOfRequest request old new before now verdict
     → IsSaid held holds earlier later (text_for verdict) (status_for verdict) status → Headline request old held holds before now earlier later status
-headline None old new held holds before now earlier later verdict status judged said = tt
-headline (Some requests.OfCertificate) old new held holds before now earlier later verdict status judged said = tt
-headline (Some (requests.Workload count callers)) old new held holds before now earlier later verdict status judged said = tt
 headline (Some (requests.OfDocument command)) old new held holds before now earlier later verdict status judged said = λ given.
     ⊎_elim (λ whole. done command old new held holds before now earlier later verdict status given judged whole.0 whole.2) (λ stopped. absurd (given.writes stopped.1)) said
+headline _ old new held holds before now earlier later verdict status judged said = tt

@@ -15,39 +15,19 @@ use Rattle.oa_cli.specs.Judged.{ReadsAll, IsUnread, IsOfInput, IsOfSource}
 -- why a source was not read to its end is a verdict on it
 pub unread : (limit : ℕ) (Says : List ℕ → Verdict → Type 0) (old new : Option (List ℕ)) (before now : ℕ) (verdict : Verdict)
     → IsUnread limit old new before now verdict → IsOfSource limit Says old new before now verdict
-unread limit Says old new before now (verdicts.Answered report) is = absurd is
-unread limit Says old new before now (verdicts.Worked report) is = absurd is
-unread limit Says old new before now verdicts.Accepted is = absurd is
-unread limit Says old new before now (verdicts.Shown spelling) is = absurd is
-unread limit Says old new before now (verdicts.Compiled spelling) is = absurd is
-unread limit Says old new before now (verdicts.Certified spelling partial) is = absurd is
-unread limit Says old new before now verdicts.Usage is = absurd is
 unread limit Says old new before now verdicts.ReadFault is = is
 unread limit Says old new before now verdicts.LongInput is = is
-unread limit Says old new before now (verdicts.BadDocument fault) is = absurd is
-unread limit Says old new before now (verdicts.Refused text refusal) is = absurd is
-unread limit Says old new before now (verdicts.BadShape number at) is = absurd is
 unread limit Says old new before now verdicts.Memory is = is
-unread limit Says old new before now (verdicts.Rejected number at) is = absurd is
+unread limit Says old new before now _ is = absurd is
 
 -- what is said of all its bytes is one, if that says of none that they weren't read
 pub read : (limit : ℕ) (Says : List ℕ → Verdict → Type 0) (old new : Option (List ℕ)) (before now : ℕ) (bytes : List ℕ) (verdict : Verdict)
     → (Says bytes verdicts.ReadFault → ⊥) → (Says bytes verdicts.LongInput → ⊥) → NoFault before now → ReadsAll limit old new bytes → Says bytes verdict
     → IsOfSource limit Says old new before now verdict
-read limit Says old new before now bytes (verdicts.Answered report) unfailed short same all says = (same, bytes, all, says)
-read limit Says old new before now bytes (verdicts.Worked report) unfailed short same all says = (same, bytes, all, says)
-read limit Says old new before now bytes verdicts.Accepted unfailed short same all says = (same, bytes, all, says)
-read limit Says old new before now bytes (verdicts.Shown spelling) unfailed short same all says = (same, bytes, all, says)
-read limit Says old new before now bytes (verdicts.Compiled spelling) unfailed short same all says = (same, bytes, all, says)
-read limit Says old new before now bytes (verdicts.Certified spelling partial) unfailed short same all says = (same, bytes, all, says)
-read limit Says old new before now bytes verdicts.Usage unfailed short same all says = (same, bytes, all, says)
 read limit Says old new before now bytes verdicts.ReadFault unfailed short same all says = absurd (unfailed says)
 read limit Says old new before now bytes verdicts.LongInput unfailed short same all says = absurd (short says)
-read limit Says old new before now bytes (verdicts.BadDocument fault) unfailed short same all says = (same, bytes, all, says)
-read limit Says old new before now bytes (verdicts.Refused text refusal) unfailed short same all says = (same, bytes, all, says)
-read limit Says old new before now bytes (verdicts.BadShape number at) unfailed short same all says = (same, bytes, all, says)
 read limit Says old new before now bytes verdicts.Memory unfailed short same all says = same
-read limit Says old new before now bytes (verdicts.Rejected number at) unfailed short same all says = (same, bytes, all, says)
+read limit Says old new before now bytes _ unfailed short same all says = (same, bytes, all, says)
 
 -- ---- what was read is what there was
 

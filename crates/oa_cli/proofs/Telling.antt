@@ -5,7 +5,8 @@ use Rattle.std.specs.Io.KnownBytes.{Appends, Keeps}
 use Rattle.oa_text.specs.Causes.{one_more}
 use Rattle.oa_cli.specs.verdicts.Endings.{is_write_fault, IsFinished}
 use Rattle.command_input.specs.Commands.{request_of}
-use Rattle.oa_cli.specs.Judged.{LIMIT, CERTIFICATE_LIMIT, IsOfBytes, IsOfCertificateBytes, IsOfSource, IsOfRequest, IsJudged, FaultsAreTold}
+use Rattle.statuses.specs.declared.limits.TheConstants.{DOCUMENT_LIMIT, CERTIFICATE_LIMIT}
+use Rattle.oa_cli.specs.Judged.{IsOfBytes, IsOfCertificateBytes, IsOfSource, IsOfRequest, IsJudged, FaultsAreTold}
 use Rattle.oa_cli.specs.verdicts.Telling.{IsSaid, text_for, status_for}
 use Rattle.command_input.specs.declared.command.Request.{Request}
 use Rattle.command_input.specs.declared.command.Request.TheVariants as requests
@@ -49,25 +50,14 @@ none_rose before now same rose = omega arith
 -- a verdict other than that of a fault of reading leaves the source's count
 source_told : (limit : ℕ) (Says : List ℕ → Verdict → Type 0) (old new : Option (List ℕ)) (before now : ℕ) (verdict : Verdict)
     → IsOfSource limit Says old new before now verdict → before < now → status_for verdict ≡ statuses.ReadFault
-source_told limit Says old new before now (verdicts.Answered report) judged rose = absurd (none_rose before now judged.0 rose)
-source_told limit Says old new before now (verdicts.Worked report) judged rose = absurd (none_rose before now judged.0 rose)
-source_told limit Says old new before now verdicts.Accepted judged rose = absurd (none_rose before now judged.0 rose)
-source_told limit Says old new before now (verdicts.Shown spelling) judged rose = absurd (none_rose before now judged.0 rose)
-source_told limit Says old new before now (verdicts.Compiled spelling) judged rose = absurd (none_rose before now judged.0 rose)
-source_told limit Says old new before now (verdicts.Certified spelling partial) judged rose = absurd (none_rose before now judged.0 rose)
-source_told limit Says old new before now verdicts.Usage judged rose = absurd (none_rose before now judged.0 rose)
 source_told limit Says old new before now verdicts.ReadFault judged rose = refl
-source_told limit Says old new before now verdicts.LongInput judged rose = absurd (none_rose before now judged.0 rose)
-source_told limit Says old new before now (verdicts.BadDocument fault) judged rose = absurd (none_rose before now judged.0 rose)
-source_told limit Says old new before now (verdicts.Refused text refusal) judged rose = absurd (none_rose before now judged.0 rose)
-source_told limit Says old new before now (verdicts.BadShape number at) judged rose = absurd (none_rose before now judged.0 rose)
 source_told limit Says old new before now verdicts.Memory judged rose = absurd (none_rose before now judged rose)
-source_told limit Says old new before now (verdicts.Rejected number at) judged rose = absurd (none_rose before now judged.0 rose)
+source_told limit Says old new before now _ judged rose = absurd (none_rose before now judged.0 rose)
 
 read_told : (request : Option Request) (old new : Option (List ℕ)) (before now : ℕ) (verdict : Verdict)
     → IsOfRequest request old new before now verdict → before < now → status_for verdict ≡ statuses.ReadFault
 read_told None old new before now verdict judged rose = absurd (none_rose before now judged.1.faults rose)
-read_told (Some (requests.OfDocument command)) old new before now verdict judged rose = source_told LIMIT (IsOfBytes command) old new before now verdict judged rose
+read_told (Some (requests.OfDocument command)) old new before now verdict judged rose = source_told DOCUMENT_LIMIT (IsOfBytes command) old new before now verdict judged rose
 read_told (Some requests.OfCertificate) old new before now verdict judged rose = source_told CERTIFICATE_LIMIT IsOfCertificateBytes old new before now verdict judged rose
 read_told (Some (requests.Workload count callers)) old new before now verdict judged rose = absurd (none_rose before now judged.1.faults rose)
 

@@ -14,7 +14,7 @@ use Rattle.event_judge.specs.declared.verdict.Verdict.{Verdict as Judgement}
 use Rattle.event_judge.specs.declared.verdict.Verdict.TheVariants as judgements
 use Rattle.run_judge.specs.Judged.{verdict_of}
 use Rattle.run_judge.specs.Made.{certificate_fault}
-use Rattle.oa_cli.specs.Judged.{LIMIT, CERTIFICATE_LIMIT}
+use Rattle.statuses.specs.declared.limits.TheConstants.{DOCUMENT_LIMIT, CERTIFICATE_LIMIT}
 use Rattle.command_input.specs.declared.command.Command.{Command}
 use Rattle.command_input.specs.declared.command.Command.TheVariants as commands
 use Rattle.command_input.specs.declared.command.Request.{Request}
@@ -36,7 +36,7 @@ IsAccepted commands.Upgrade document = Unit {0}
 pub record HasAccepted (command : Command) (left : Option (List ℕ)) : Type 0 where
   pub bytes : List ℕ
   pub told : left ≡ Some bytes
-  pub short : length bytes < LIMIT
+  pub short : length bytes < DOCUMENT_LIMIT
   pub document : Document
   pub spelled : IsDocument bytes document
   pub accepted : IsAccepted command document

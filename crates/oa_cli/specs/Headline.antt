@@ -9,25 +9,25 @@
 --
 -- It is the clause `headline` of `oa_main`. The clause `judged` implies it, by this chain of definitions:
 --
---     oa_cli/specs/Judged        IsJudged, IsOfRequest, IsOfSource, IsOfInput, IsOfBytes, IsOfRead, IsOfDocument, IsAnswered
---     report_laws/specs/Runs       IsRunReport, IsReplayReport
---     report_laws/specs/Lines      TellsOf, IsTrueLine
---     report_laws/specs/Sources    HasSourceRun, IsSourceLine
---     report_laws/specs/Legal      HasLegalHistory, Shows
---     run_laws/specs/Source        FollowsSource
---     run_laws/specs/Each          AtEachState
+--     oa_cli/specs/Judged                        IsJudged, IsOfRequest, IsOfSource, IsOfInput, IsOfBytes, IsOfRead, IsOfDocument, IsAnswered
+--     script_driver/specs/report_laws/Runs       IsRunReport, IsReplayReport
+--     script_driver/specs/report_laws/Lines      TellsOf, IsTrueLine
+--     script_driver/specs/report_laws/Sources    HasSourceRun, IsSourceLine
+--     script_driver/specs/report_laws/Legal      HasLegalHistory, Shows
+--     run_laws/specs/Source                      FollowsSource
+--     run_laws/specs/Each                        AtEachState
 --
--- and for `epochs` by EpochsTellOf (report_laws/specs/EpochLines), HasEpochSourceRun (EpochSources), FollowsSource of epoch_runs/specs/Source,
+-- and for `epochs` by EpochsTellOf (script_driver/specs/report_laws/EpochLines), HasEpochSourceRun (EpochSources), FollowsSource of epoch_runs/specs/Source,
 -- Simulates (epoch_relation/specs/Simulated)
 --
 -- and on from there to what each part says:
 --
---     oa_simulation/specs/Statements    Refined: a run of the source machine, whose replies agree
---     begin_laws/specs/Begins           BeginsOfScripts: it begins the calls of the scripts in order
---     guarded_claims/specs/Guarded      Spared: no claim takes a slot that a validated guard names
---     stale_laws/specs/Stale            StaleLoadsAreWarned: a check after a load from a recycled slot fails
---     source_machine/specs/Proper       IsProper
---     histories/specs/Histories         HasLegalOrder: an order of calls that a set or a queue explains
+--     oa_simulation/specs/Statements           Refined: a run of the source machine, whose replies agree
+--     run_laws/specs/begin_laws/Begins         BeginsOfScripts: it begins the calls of the scripts in order
+--     run_laws/specs/guarded_claims/Guarded    Spared: no claim takes a slot that a validated guard names
+--     run_laws/specs/stale_laws/Stale          StaleLoadsAreWarned: a check after a load from a recycled slot fails
+--     source_machine/specs/Proper              IsProper
+--     histories/specs/Histories                HasLegalOrder: an order of calls that a set or a queue explains
 use Rattle.std.specs.Prelude.{◌≡◌, ◌≢◌, ◌⊎◌, ℕ, List, ◌++◌, Option, Some, None, Ok, slice_get}
 use Rattle.std.specs.List.{All}
 use Rattle.norm_lang.specs.declared.text.Text.{Text}

@@ -30,6 +30,7 @@ use Rattle.run_judge.specs.Made.{IsCertificateOf, IsMakingFaultOf}
 use Rattle.script_driver.specs.report_laws.Runs.{IsRunReport, IsReplayReport}
 use Rattle.script_driver.specs.report_laws.EpochLines.{IsEpochReport}
 use Rattle.script_driver.specs.WorkloadRuns.{IsWorkloadReport}
+use Rattle.statuses.specs.declared.limits.TheConstants.{DOCUMENT_LIMIT, CERTIFICATE_LIMIT}
 use Rattle.statuses.specs.declared.status.Status.{Status}
 use Rattle.statuses.specs.declared.status.Status.TheVariants as statuses
 use Rattle.command_input.specs.Commands.{request_of}
@@ -41,14 +42,6 @@ use Rattle.command_input.specs.declared.command.Request.{Request}
 use Rattle.command_input.specs.declared.command.Request.TheVariants as requests
 use Rattle.oa_cli.specs.declared.verdicts.verdict.Verdict.{Verdict}
 use Rattle.oa_cli.specs.declared.verdicts.verdict.Verdict.TheVariants as verdicts
-
--- one more byte than a document may have
-abbrev pub LIMIT : ℕ
-LIMIT = 1048577
-
--- one more byte than a certificate may have
-abbrev pub CERTIFICATE_LIMIT : ℕ
-CERTIFICATE_LIMIT = 268435457
 
 -- these bytes were read, fewer than the limit, and none are left
 pub record ReadsAll (limit : ℕ) (old new : Option (List ℕ)) (bytes : List ℕ) : Type 0 where
@@ -202,7 +195,7 @@ IsOfWorkload count callers _ = ⊥
 -- words that ask for nothing leave the source unread, and so does a workload
 abbrev pub IsOfRequest : Option Request → Option (List ℕ) → Option (List ℕ) → ℕ → ℕ → Verdict → Type 0
 IsOfRequest None old new before now verdict = (verdict ≡ verdicts.Usage) × Untouched old new before now
-IsOfRequest (Some (requests.OfDocument command)) old new before now verdict = IsOfSource LIMIT (IsOfBytes command) old new before now verdict
+IsOfRequest (Some (requests.OfDocument command)) old new before now verdict = IsOfSource DOCUMENT_LIMIT (IsOfBytes command) old new before now verdict
 IsOfRequest (Some requests.OfCertificate) old new before now verdict = IsOfSource CERTIFICATE_LIMIT IsOfCertificateBytes old new before now verdict
 IsOfRequest (Some (requests.Workload count callers)) old new before now verdict = IsOfWorkload count callers verdict × Untouched old new before now
 

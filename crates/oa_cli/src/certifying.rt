@@ -18,10 +18,8 @@ use run_judge::{
     Certificate, Verdict as Judgement, falls_short, judge, make_certificate, read_certificate,
     show_certificate,
 };
+use statuses::limits::CERTIFICATE_LIMIT;
 use std::alloc::Global;
-
-/// One more byte than a certificate may have.
-const CERTIFICATE_LIMIT: usize = 268_435_457;
 
 /// Makes the calls of a document under its schedule, and writes out the certificate of that run.
 pub(crate) fn certify_verdict(alloc: Global, document: &Document) -> Result<Verdict, Refusal>
@@ -39,7 +37,7 @@ fn certificate_shown(alloc: Global, document: &Document, certificate: &Certifica
     requires { IsCertificateOf document.now certificate.now }
     ensures { IsOfDocument Command.Certify document.now result }
 {
-    let _ = document;
+    // A law: where a certificate falls short, the replay's report does.
     short_is_told();
     match show_certificate(alloc, certificate) {
         Ok(spelling) => Verdict::Certified {

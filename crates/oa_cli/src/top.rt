@@ -5,7 +5,8 @@ ghost use Rattle.std.specs.String.{string_bytes};
 ghost use Rattle.target_code.specs.TargetSpelling.{target_spelling};
 ghost use Rattle.target_code.specs.Barred.{IsBarred};
 ghost use Rattle.target_code.specs.SecondScheme.{second_scheme};
-ghost use Rattle.documents.specs.DocumentLimits.{IsWithinDocumentLimits};
+ghost use Rattle.documents.specs.DocumentLimits.{most_calls, IsWithinDocumentLimits};
+ghost use Rattle.oa_words.specs.declared.limits.TheConstants.{MOST_CALLERS};
 ghost use Rattle.oa_cli.specs.declared.verdicts.verdict.Verdict.{Verdict};
 ghost use Rattle.command_input.specs.Commands.{request_of};
 ghost use Rattle.oa_cli.specs.Complete.{IsComplete};
@@ -28,12 +29,10 @@ use oa_text::{Gate, Sink, Source};
 use script_driver::{epoch_document, replay_document, run_document, run_workload, show_document};
 use script_plans::RunFault;
 use statuses::Status;
+use statuses::limits::DOCUMENT_LIMIT;
 use std::alloc::{AllocError, Global};
 use std::thread::Threads;
 use target_code::show_target;
-
-/// One more byte than a document may have.
-const LIMIT: usize = 1_048_577;
 
 /// Does what a command asks for with a document.
 fn judge_document<R: Threads + Sync, G: Gate + Sync>(
@@ -204,7 +203,7 @@ fn judge_bytes<R: Threads + Sync, G: Gate + Sync>(
     bytes: &[u8],
     gate: &G,
 ) -> Verdict
-    requires { length bytes.now < LIMIT }
+    requires { length bytes.now < DOCUMENT_LIMIT }
     ensures { IsOfBytes command bytes.now result }
 {
     match read_document(alloc, bytes) {
@@ -222,9 +221,9 @@ fn judge_source<R: Threads + Sync, S: Source, G: Gate + Sync>(
     input: &mut S,
     gate: &G,
 ) -> Verdict
-    ensures { IsOfSource LIMIT (IsOfBytes command) (S.left input.old) (S.left input.new) (S.faults input.old) (S.faults input.new) result }
+    ensures { IsOfSource DOCUMENT_LIMIT (IsOfBytes command) (S.left input.old) (S.left input.new) (S.faults input.old) (S.faults input.new) result }
 {
-    match read_source(alloc, input, LIMIT) {
+    match read_source(alloc, input, DOCUMENT_LIMIT) {
         Ok(bytes) => judge_bytes(rt, alloc, command, bytes.items(), gate),
         Err(verdict) => verdict,
     }
@@ -238,8 +237,8 @@ fn workload_verdict<R: Threads + Sync, G: Gate + Sync>(
     callers: u32,
     gate: &G,
 ) -> Verdict
-    requires count { (1 ≤ count) × (count ≤ 100000) }
-    requires callers { (1 ≤ callers) × (callers ≤ 8) }
+    requires count { (1 ≤ count) × (count ≤ most_calls) }
+    requires callers { (1 ≤ callers) × (callers ≤ MOST_CALLERS) }
     ensures { IsOfWorkload count callers result }
 {
     match run_workload(rt, alloc, count, callers, gate) {
@@ -273,8 +272,8 @@ fn judge<R: Threads + Sync, S: Source, G: Gate + Sync>(
 /// found of a certificate, or what the answers of a workload add up to, or why there are none. The first clause has three parts:
 /// what was read and judged, what was said, and the status. The second says that each fault is told. The third says that all is
 /// answered which nothing refuses, where memory suffices; by the first the whole text was written then, and each call has a reply
-/// at `Done`; of a certificate what is found of it is told. The fourth says what `run` and `replay` promise, with all the
-/// premises: see `Headline`. The gate is handed to the callers of `run`, of `epochs` and of a workload; it changes nothing but how
+/// at `Done`; of a certificate what is found of it is told. The fourth says what `run`, `replay` and `epochs` promise, with
+/// all the premises: see `Headline`. The gate is handed to the callers of `run`, of `epochs` and of a workload; it changes nothing but how
 /// their steps interleave.
 pub fn oa_main<R: Threads + Sync, S: Source, K: Sink, G: Gate + Sync>(
     rt: &R,

@@ -13,6 +13,8 @@ use Rattle.core_runs.specs.Scripts.{script_of, IsCompleteRun}
 use Rattle.core_runs.specs.Replays.{Replay, Replaying, Refusal, StepOfNobody, LongReplay, is_spent, replayed}
 use Rattle.core_runs.specs.core_sound.Sound.{IsSound, StaysInRow}
 use Rattle.run_laws.specs.Source.{FollowsSource}
+use Rattle.documents.specs.DocumentLimits.{most_calls}
+use Rattle.oa_core.specs.declared.limits.TheConstants.{MOST_STEPS}
 use Rattle.oa_core.specs.declared.replaying.ReplayError.{ReplayError}
 use Rattle.oa_core.specs.declared.replaying.ReplayError.TheVariants as errors
 
@@ -44,7 +46,7 @@ is_spent_in final c = entry_spent final.fuel (slice_get final.entries c)
 
 -- no script has more calls
 abbrev pub IsShort : List Call → Type 0
-IsShort script = length script ≤ 100000
+IsShort script = length script ≤ most_calls
 
 -- each caller's entry has room for one reply to each call of its script
 abbrev pub HasRooms : List (List Call) → List RoomyEntry → Type 0
@@ -52,7 +54,7 @@ HasRooms scripts entries = (c : ℕ) (e : RoomyEntry) → slice_get entries c �
 
 -- the most steps of a replay
 unfoldable pub replay_limit : ℕ
-replay_limit = 20000000
+replay_limit = MOST_STEPS
 
 abbrev pub replay_of : Target → Setting → List (List Call) → ℕ → Replay
 replay_of target setting scripts fuel = record { target = target; setting = setting; scripts = scripts; fuel = fuel; limit = replay_limit }

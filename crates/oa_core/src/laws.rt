@@ -5,7 +5,6 @@ ghost use Rattle.oa_core.specs.States.{RunsInRow};
 
 use barrier_check::Barred;
 use caller_steps::Setting;
-use core_entries::prepared::kept;
 
 /// Whatever the callers do, every reference in a register, a field or a root and every hazard names a slot of the row,
 /// every wanted address is below the count of words and finds a lawful word, the phase and the warnings are phases of the
@@ -15,6 +14,6 @@ pub fn runs_in_row(barred: &Barred, setting: &Setting)
     requires fits { Fits barred.now.target setting.now }
     ensures { RunsInRow barred.now.target setting.now }
 {
-    kept(barred);
+    barred.kept();
     setting.kept();
 }

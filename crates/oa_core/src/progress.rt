@@ -1,6 +1,6 @@
 //! A replay under way, and one step of it.
 
-ghost use Rattle.std.specs.Prelude.{◌≡◌, ◌<◌, ◌+◌, Some, OnOk, length, option_copied, option_map, slice_get, nat_le};
+ghost use Rattle.std.specs.Prelude.{◌≡◌, ◌<◌, ◌+◌, ◌^◌, Some, OnOk, length, option_copied, option_map, slice_get, nat_le};
 ghost use Rattle.core_runs.specs.Machine.{core_run};
 ghost use Rattle.core_runs.specs.Scripts.{script_of};
 ghost use Rattle.core_runs.specs.Replays.{one_step};
@@ -113,6 +113,14 @@ fn next_of(fuel: u64, scripts: &[CallList], caller: u32, entry: &Entry) -> Optio
 }
 
 impl<'a> Terms<'a> {
+    /// The limit is a number of the machine: a law for those who hold one. To read a field tells it.
+    #[inline(always)]
+    fn kept(&self)
+        ensures { self.now.limit < 2 ^ 64 }
+    {
+        let _limit = self.limit;
+    }
+
     /// What a caller does next; nothing where it has no step to take, or doesn't exist.
     #[inline(always)]
     pub(crate) fn next_of(&self, now: &Progress, caller: u32) -> Option<Move>
@@ -196,7 +204,7 @@ impl<'a> Terms<'a> {
         ensures counted { now.new.steps ≡ now.old.steps + 1 }
         ensures under_way { IsUnderWay self.now now.new }
     {
-        let _limit = self.limit;
+        self.kept();
         self.move_in(now, caller, next);
         now.steps += 1;
     }

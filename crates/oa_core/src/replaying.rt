@@ -8,10 +8,10 @@ ghost use Rattle.oa_core.specs.Finals.{IsShort, phase_of, is_spent_in, replay_li
 ghost use Rattle.oa_core.specs.Shown.{replay_by, shown, bared, told, fresh_entry, fresh_entries, replayed_from, error_of, final_of, answer_of, SuitsReplay, IsUnderWay};
 ghost use Rattle.oa_core.specs.States.{RunsInRow};
 
+use crate::limits::MOST_STEPS;
 use crate::progress::{Progress, Stop, Terms};
 use barrier_check::Barred;
 use caller_steps::{Call, Setting};
-use core_entries::prepared::kept;
 use core_entries::{Entry, PlainWords, Prepared};
 use norm_lang::list::Listed;
 use schedule_turns::Turn;
@@ -134,8 +134,8 @@ fn start(alloc: Global, terms: &Terms) -> Result<Progress, AllocError>
     ensures under_way { IfOk result (λ now. IsUnderWay terms.now now) }
 {
     terms.setting.kept();
-    let _ = terms.prepared.program();
-    let _callers = terms.setting.shape().callers();
+    terms.prepared.kept();
+    terms.setting.shape().kept();
     let words = PlainWords::new(alloc, terms.prepared.barred(), terms.setting)?;
     let entries = put_entries(alloc, terms.scripts)?;
     Ok(Progress {
@@ -168,7 +168,7 @@ fn error_of(stop: Stop) -> ReplayError
 fn replay_limit() -> u64
     ensures { result ≡ replay_limit }
 {
-    20_000_000
+    MOST_STEPS
 }
 
 /// The state in which a replay has ended.
@@ -272,7 +272,7 @@ pub fn replay(
     ensures in_row { RunsInRow barred.now.target setting.now }
     ensures rooms { IfOk result (λ s. HasRooms scripts.now s.entries) }
 {
-    kept(barred);
+    barred.kept();
     setting.kept();
     let prepared = Prepared::new(barred);
     replay_prepared(alloc, &prepared, setting, scripts, fuel, schedule)

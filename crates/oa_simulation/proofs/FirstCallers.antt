@@ -4,7 +4,6 @@ use Rattle.std.specs.Prelude.{slice_get, slice_index}
 use Rattle.target_code.specs.declared.target.Target.{Target}
 use Rattle.oa_words.specs.Words.{Word, Hazard, address_of, in_row}
 use Rattle.oa_words.specs.Starts.{Suits}
-use Rattle.guard_words.specs.Guards.{guard_at, no_guards}
 use Rattle.source_machine.specs.State.{idle_caller}
 use Rattle.caller_parts.specs.Operands.{cradle_count}
 use Rattle.caller_parts.specs.Settings.{Setting}
@@ -15,19 +14,9 @@ use Rattle.oa_simulation.specs.sim_relation.Views.{Plan, Caller}
 use Rattle.oa_simulation.specs.sim_relation.Callers.{CallerHolds}
 use Rattle.oa_simulation.specs.sim_relation.WasSet.{none_set}
 use Rattle.oa_simulation.proofs.Starting.{first_shared}
+use Rattle.guard_words.proofs.Rows.{guards_follow}
 
-no_guard : (r : ℕ) → guard_at no_guards r ≡ 0
-no_guard zero = refl
-no_guard (suc zero) = refl
-no_guard (suc (suc zero)) = refl
-no_guard (suc (suc (suc zero))) = refl
-no_guard (suc (suc (suc (suc zero)))) = refl
-no_guard (suc (suc (suc (suc (suc zero))))) = refl
-no_guard (suc (suc (suc (suc (suc (suc zero)))))) = refl
-no_guard (suc (suc (suc (suc (suc (suc (suc zero))))))) = refl
-no_guard (suc (suc (suc (suc (suc (suc (suc (suc r)))))))) = refl
-
-no_cradle : (n k : ℕ) → slice_index (replicate n 0) k ≡ 0
+pub no_cradle : (n k : ℕ) → slice_index (replicate n 0) k ≡ 0
 no_cradle zero k = refl
 no_cradle (suc n) zero = refl
 no_cradle (suc n) (suc k) = no_cradle n k
@@ -48,12 +37,12 @@ told_first t memory d hazards = record {
     number = refl;
     seen = omega arith;
     old = λ n p is. absurd (let z : None ≡ Some p = is in cc);
-    hazard = λ r. hazards r ∙ sym (no_guard r);
+    hazard = λ r. hazards r ∙ sym (guards_follow.first_slot r);
     protects = λ r. refl;
     known = λ n got. absurd (let z : false ≡ true = got in cc);
     cradle = λ k some. absurd (some (no_cradle cradle_count k));
   };
-  spot = (no_guard, λ r valid. refl, refl);
+  spot = (guards_follow.first_slot, λ r valid. refl, refl);
 }
 
 pub all_idle : (n d : ℕ) → d < n → slice_get (replicate n idle_caller) d ≡ Some idle_caller

@@ -11,18 +11,12 @@ use Rattle.oa_simulation.specs.sim_relation.Points.{DrawsHome}
 use Rattle.oa_simulation.proofs.sim_steps.Drawing.{DrawsNone}
 
 step_home : (sign : Sign) (u n : ℕ) (home : ℕ → ℕ) → n < u → home_after sign u home n ≡ home n
-step_home (Begins call) u n home lt = refl
-step_home Accesses u n home lt = refl
 step_home (Draws j) u n home lt = put_other home u n j (λ e. omega (arith, lt, e))
-step_home Renews u n home lt = refl
-step_home (GivesUp phase) u n home lt = refl
+step_home _ u n home lt = refl
 
 step_unused : (sign : Sign) (u : ℕ) → u ≤ unused_after sign u
 step_unused (Begins call) u = omega arith
-step_unused Accesses u = omega arith
-step_unused (Draws j) u = omega arith
-step_unused Renews u = omega arith
-step_unused (GivesUp phase) u = omega arith
+step_unused _ u = omega arith
 
 pub unused_grows : (text : Text) (xs : List Signed) (z : Shadow) → z.unused ≤ (shadow_run text xs z).unused
 unused_grows text [] z = omega arith

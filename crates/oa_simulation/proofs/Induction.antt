@@ -1,5 +1,5 @@
 -- From the step lemma to every run of the core.
-use Rattle.std.proofs.Common.{ℕ, ◌≡◌, ◌≢◌, ◌≤◌, ◌<◌, ◌∙◌, ◌++◌, Bool, true, false, List, [], ◌∷◌, Option, Some, None, ⊎_elim, sym, ap, subst, refl, arith}
+use Rattle.std.proofs.Common.{ℕ, ◌≡◌, ◌≤◌, ◌<◌, ◌∙◌, ◌++◌, Bool, true, false, List, [], ◌∷◌, Option, Some, None, ⊎_elim, sym, ap, subst, refl, arith, length}
 use Rattle.std.specs.Prelude.{slice_get, unwrap_or}
 use Rattle.target_code.specs.declared.target.Target.{Target}
 use Rattle.oa_words.specs.Words.{Word, in_row}
@@ -8,15 +8,15 @@ use Rattle.oa_words.specs.Starts.{Suits}
 use Rattle.phase_pools.specs.Accesses.{WordAccess, word_of}
 use Rattle.source_machine.specs.MethodRuns.{put}
 use Rattle.source_machine.specs.Proper.{IsProper}
-use Rattle.source_machine.proofs.Places.{each_put, put_same}
+use Rattle.source_machine.proofs.Places.{each_put, put_same, put_other}
 use Rattle.caller_parts.specs.declared.call.Call.{Call}
 use Rattle.caller_parts.specs.declared.routine.Routine.{Routine}
-use Rattle.caller_parts.specs.declared.routine.Routine.TheVariants.{Idle, LoadSeen, At, InList, Retires, Restarts, Clears, Claims, Zeroes, Announces}
+use Rattle.caller_parts.specs.declared.routine.Routine.TheVariants.{Idle}
 use Rattle.caller_parts.specs.Settings.{Setting}
 use Rattle.caller_steps.specs.Asking.{NewsFit}
 use Rattle.caller_steps.specs.Entries.{Entry, idle_entry, is_idle}
 use Rattle.caller_steps.specs.Wants.{wants}
-use Rattle.caller_steps.specs.After.{after, signs, taken, counted}
+use Rattle.caller_steps.specs.After.{after, taken, counted}
 use Rattle.caller_steps.specs.After.{moved as after_moves}
 use Rattle.caller_steps.specs.Belongs.{Belongs}
 use Rattle.core_runs.specs.Machine.{CoreState, CoreEvent, Takes, Steps, core_event, core_run, run_on, beginning_of}
@@ -51,18 +51,11 @@ use Rattle.norm_lang.specs.NormalForm.{IsNormal}
 use Rattle.norm_lang.specs.Limits.{IsWithinLimits}
 use Rattle.caller_parts.specs.declared.setting.Reclamation.TheVariants.{Optimistic}
 use Rattle.oa_simulation.proofs.sim_relation.Schemes.{after_is, signs_are, taken_is}
+use Rattle.std.proofs.lemmas.Option.{slice_get_within}
 
 pub idle_is : (r : Routine) → is_idle r ≡ true → r ≡ Idle
 idle_is Idle is = refl
-idle_is (LoadSeen why) is = absurd (let z : false ≡ true = is in cc)
-idle_is At is = absurd (let z : false ≡ true = is in cc)
-idle_is (InList k) is = absurd (let z : false ≡ true = is in cc)
-idle_is (Retires retirement go) is = absurd (let z : false ≡ true = is in cc)
-idle_is Restarts is = absurd (let z : false ≡ true = is in cc)
-idle_is (Clears next) is = absurd (let z : false ≡ true = is in cc)
-idle_is (Claims claim) is = absurd (let z : false ≡ true = is in cc)
-idle_is (Zeroes k field) is = absurd (let z : false ≡ true = is in cc)
-idle_is (Announces announcing) is = absurd (let z : false ≡ true = is in cc)
+idle_is _ is = absurd (let z : false ≡ true = is in cc)
 
 -- and each slot has the name that is given
 abbrev pub NamedBeside : (t : Plan) (state : CoreState) (z : Shadow) → (ℕ → ℕ) → Type 0
@@ -99,6 +92,25 @@ belongs_seen target setting state c s lt = of (slice_get state.entries c) refl w
 -- the call stays
 pub call_stays : (before later : Entry) → EndsOrRuns before later → later.running.call ≡ before.running.call
 call_stays before later turns = ap (λ running. running.call) (⊎_elim (λ (r : RunsOn before later). r.2) (λ (r : Ends before later). r.3) turns)
+
+-- each entry of a state is a caller's
+pub is_caller : (state : CoreState) (callers c : ℕ) (e : Entry) → length state.entries ≡ callers → slice_get state.entries c ≡ Some e → c < callers
+is_caller state callers c e count at = let within = slice_get_within state.entries c e at in omega (arith, within, count)
+
+pub entry_seen : (setting : Setting) (state : CoreState) (c : ℕ) (e : Entry) → slice_get state.entries c ≡ Some e → (view setting state).who c ≡ e
+entry_seen setting state c e at = ap (λ (o : Option Entry). unwrap_or o (idle_entry c)) at
+
+-- what becomes of entries beside their callers, where one is another
+pub called_put : (target : Target) (n : ℕ) (who who' : ℕ → Entry) (c : ℕ) (e : Entry) → ((d : ℕ) → d < n → is_idle (who d).routine ≡ false → is_call target (who d).running.call ≡ true) → (is_idle e.routine ≡ false → is_call target e.running.call ≡ true) → who' ≡ put who c e
+    → (d : ℕ) → d < n → is_idle (who' d).routine ≡ false → is_call target (who' d).running.call ≡ true
+called_put target n who who' c e old new is d lt =
+    subst (λ (k : ℕ → Entry). is_idle (k d).routine ≡ false → is_call target (k d).running.call ≡ true) (sym is)
+    (each_put (λ i (y : Entry). i < n → is_idle y.routine ≡ false → is_call target y.running.call ≡ true) who c e (λ lt. new) (λ i ne. old i) d lt)
+
+pub entry_put : {X : Type 0} (entry : X → Entry) (n : ℕ) (xs : ℕ → X) (who who' : ℕ → Entry) (c : ℕ) (x' : X) (e : Entry) → ((d : ℕ) → d < n → entry (xs d) ≡ who d) → entry x' ≡ e → who' ≡ put who c e → (d : ℕ) → d < n → entry (put xs c x' d) ≡ who' d
+entry_put {X = X} entry n xs who who' c x' e old new is =
+    subst (λ (k : ℕ → Entry). (d : ℕ) → d < n → entry (put xs c x' d) ≡ k d) (sym is)
+    (each_put (λ d (y : X). d < n → entry y ≡ put who c e d) xs c x' (λ lt. new ∙ sym (put_same who c e)) (λ d ne lt. old d lt ∙ sym (put_other who c d e ne)))
 
 -- a caller that takes a call
 pub record TookCall (t : Plan) (state behind : CoreState) (z : Shadow) (c : ℕ) (call : Call) (b : Beside t state z) : Type 0 where
@@ -168,23 +180,6 @@ module _ (t : Plan) (normal : IsNormal t.text) (within : IsWithinLimits t.text) 
   abbrev n : ℕ
   n = t.setting.sizes.callers
 
-  called_put : (v : CoreView) (c : ℕ) (e : Entry) → ((d : ℕ) → d < n → is_idle (v.who d).routine ≡ false → is_call t.target (v.who d).running.call ≡ true)
-      → (is_idle e.routine ≡ false → is_call t.target e.running.call ≡ true) → (who' : ℕ → Entry) → who' ≡ put v.who c e
-      → (d : ℕ) → d < n → is_idle (who' d).routine ≡ false → is_call t.target (who' d).running.call ≡ true
-  called_put v c e old new who' is d lt =
-      subst (λ (k : ℕ → Entry). is_idle (k d).routine ≡ false → is_call t.target (k d).running.call ≡ true) (sym is)
-      (each_put (λ i (y : Entry). i < n → is_idle y.routine ≡ false → is_call t.target y.running.call ≡ true) v.who c e (λ lt. new) (λ i ne. old i) d lt)
-
-  entry_put : (w : World) (v : CoreView) (c : ℕ) (x' : Caller) (e : Entry) → ((d : ℕ) → d < n → (w.who d).entry ≡ v.who d) → x'.entry ≡ e → (who' : ℕ → Entry) → who' ≡ put v.who c e
-      → (d : ℕ) → d < n → (put w.who c x' d).entry ≡ who' d
-  entry_put w v c x' e old new who' is =
-      subst (λ (k : ℕ → Entry). (d : ℕ) → d < n → (put w.who c x' d).entry ≡ k d) (sym is)
-      (each_put (λ d (y : Caller). d < n → y.entry ≡ put v.who c e d) w.who c x' (λ lt. new ∙ sym (put_same v.who c e)) (λ d ne lt. old d lt ∙ other d ne)) where
-        other : (d : ℕ) → d ≢ c → v.who d ≡ put v.who c e d
-        other d ne = sym (let open_ = put_other_here d ne in open_) where
-          put_other_here : (d : ℕ) → d ≢ c → put v.who c e d ≡ v.who d
-          put_other_here d ne = each_put (λ i (y : Entry). i ≢ c → y ≡ v.who i) v.who c e (λ no. absurd (no refl)) (λ i ne no. refl) d ne
-
   pub take_went : (state behind : CoreState) (z : Shadow) (c : ℕ) (call : Call) → (b : Beside t state z) → Moves t.target t.setting (seen state) (Takes c call) (seen behind) → TookCall t state behind z c call b
   take_went state behind z c call b m =
       let lt = m.0 in
@@ -202,13 +197,13 @@ module _ (t : Plan) (normal : IsNormal t.text) (within : IsWithinLimits t.text) 
             caller_holds = each_put (λ d (x : Caller). d < n → CallerHolds t b.w.shared d x) b.w.who c k.x' (λ lt. k.caller_holds) (λ d ne lt. b.holds.caller_holds d lt);
           };
           memory = b.memory ∙ sym m.3;
-          entry = entry_put b.w (seen state) c k.x' (taken Optimistic call ((seen state).who c)) b.entry (k.entry ∙ ap (taken Optimistic call) e) (seen behind).who who;
+          entry = entry_put (λ (y : Caller). y.entry) n b.w.who (seen state).who (seen behind).who c k.x' (taken Optimistic call ((seen state).who c)) b.entry (k.entry ∙ ap (taken Optimistic call) e) who;
           sourced = b.sourced;
           source = b.source;
           caller = each_put (λ d (x : Caller). d < n → slice_get b.v.machine.callers d ≡ Some x.source) b.w.who c k.x' (λ lt. b.caller c lt ∙ ap Some (sym k.source)) (λ d ne lt. b.caller d lt);
           run = each_put (λ d (x : Caller). d < n → b.v.runs d ≡ x.watch) b.w.who c k.x' (λ lt. b.run c lt ∙ sym k.watch) (λ d ne lt. b.run d lt);
           unused = b.unused;
-          called = called_put (seen state) c (taken Optimistic call ((seen state).who c)) b.called (λ run. m.2) (seen behind).who who;
+          called = called_put t.target n (seen state).who (seen behind).who c (taken Optimistic call ((seen state).who c)) b.called (λ run. m.2) who;
         };
       }
 
@@ -262,17 +257,17 @@ module _ (t : Plan) (normal : IsNormal t.text) (within : IsWithinLimits t.text) 
           v = l.v';
           holds = holds_on t b.w c stepped.row (set_after_access t.target x.entry x.entry.routine (s.memory (word_of a)) x.was_set) (after_access s.memory a) made (present_at t.target s.memory s.unused x.entry x.entry.routine s.present) null_home b.holds k;
           memory = k.memory ∙ (ap (λ (i : Word → ℕ). after_access i a) b.memory ∙ sym m.4);
-          entry = entry_put b.w (seen state) c k.x' next b.entry
+          entry = entry_put (λ (y : Caller). y.entry) n b.w.who (seen state).who (seen behind).who c k.x' next b.entry
               (k.entry ∙ (ap (λ (i : Moved). i.entry) same_move ∙ sym (after_is t.target t.setting ((seen state).who c) ((seen state).memory (word_of a)) optimistic)))
-              (seen behind).who m.5;
+              m.5;
           sourced = l.sourced;
           source = l.placed.memory;
           caller = each_put (λ d (y : Caller). d < n → slice_get l.v'.machine.callers d ≡ Some y.source) b.w.who c k.x' (λ lt. l.placed.caller) (λ d ne lt. (l.others d ne).0 ∙ b.caller d lt);
           run = each_put (λ d (y : Caller). d < n → l.v'.runs d ≡ y.watch) b.w.who c k.x' (λ lt. l.placed.run) (λ d ne lt. (l.others d ne).1 ∙ b.run d lt);
           unused = l.placed.unused;
-          called = called_put (seen state) c next b.called
+          called = called_put t.target n (seen state).who (seen behind).who c next b.called
               (λ on. ap (is_call t.target) (call_stays (counted ((seen state).who c)) next (after_turns t.target t.setting ((seen state).who c) ((seen state).memory (word_of a)) run)) ∙ b.called c lt run)
-              (seen behind).who m.5;
+              m.5;
         };
       }
 

@@ -15,7 +15,7 @@ use Rattle.source_machine.specs.Run.{mover, is_enabled, is_enabled_for}
 use Rattle.source_machine.specs.MethodRuns.{MethodRun, Watched, watched_start, watched_step, watched_run}
 use Rattle.source_machine.specs.Proper.{runs_method, IsProper, IsProperState}
 use Rattle.source_machine.proofs.Along.{source_run_more, watched_more, watched_machine}
-use Rattle.caller_steps.specs.Signs.{Sign, Begins, Accesses, Draws, Renews, GivesUp}
+use Rattle.caller_steps.specs.Signs.{Sign, Begins, Renews}
 use Rattle.core_runs.specs.RunSigns.{signed}
 use Rattle.oa_simulation.specs.sim_relation.Points.{event_of}
 use Rattle.oa_simulation.specs.Shadow.{Shadow, is_told, shadow_step, shadow_run}
@@ -25,17 +25,11 @@ use Rattle.oa_simulation.specs.Beside.{Sourced, Placed}
 
 mover_is : (c u : ℕ) (sign : Sign) → mover (event_of c u sign) ≡ c
 mover_is c u (Begins call) = refl
-mover_is c u Accesses = refl
-mover_is c u (Draws j) = refl
-mover_is c u Renews = refl
-mover_is c u (GivesUp phase) = refl
+mover_is c u _ = refl
 
 told_open : (sign : Sign) → is_told sign true ≡ true
 told_open (Begins call) = refl
-told_open Accesses = refl
-told_open (Draws j) = refl
-told_open Renews = refl
-told_open (GivesUp phase) = refl
+told_open _ = refl
 
 -- the source after signs, and where their caller then stands
 pub record Lifted (text : Text) (callers c : ℕ) (v : Watched) (q : Point) (z' : Shadow) : Type 0 where

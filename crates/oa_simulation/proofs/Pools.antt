@@ -12,7 +12,7 @@ use Rattle.chain_laws.specs.Machine.{Elsewhere}
 use Rattle.chain_laws.specs.Machine as pool
 use Rattle.caller_parts.specs.declared.routine.AfterRetire.{AfterRetire}
 use Rattle.caller_parts.specs.declared.routine.Routine.{Routine}
-use Rattle.caller_parts.specs.declared.routine.Routine.TheVariants.{Idle, LoadSeen, At, InList, Retires, Restarts, Clears, Claims, Zeroes, Announces}
+use Rattle.caller_parts.specs.declared.routine.Routine.TheVariants.{Retires, Claims}
 use Rattle.caller_parts.specs.Settings.{Setting}
 use Rattle.caller_steps.specs.Asking.{NewsFit}
 use Rattle.caller_steps.specs.Entries.{Entry}
@@ -21,8 +21,8 @@ use Rattle.core_runs.specs.Views.{IsShaped, Moves, view}
 use Rattle.core_runs.specs.core_sound.Standing.{standing_of}
 use Rattle.core_runs.specs.core_pools.Pooled.{Pooled, RetiresUsed, standings}
 use Rattle.core_runs.proofs.core_pools.Pooling.{leads_tell, event_pooled}
-use Rattle.oa_simulation.specs.sim_relation.Views.{Plan, Retiring}
-use Rattle.oa_simulation.specs.sim_relation.Shared.{IsOf}
+use Rattle.oa_simulation.specs.sim_relation.Views.{Plan, Retiring, Shared}
+use Rattle.oa_simulation.specs.sim_relation.Shared.{IsOf, SlotAt}
 use Rattle.oa_simulation.specs.sim_relation.Callers.{HoldsAt, IsRetiring}
 use Rattle.oa_simulation.specs.sim_relation.Steps.{TakenIsReady, TakesReady}
 use Rattle.oa_simulation.proofs.sim_relation.Names.{slot_by}
@@ -31,16 +31,17 @@ use Rattle.oa_simulation.specs.Beside.{Beside}
 
 -- who stands in a retirement is in that routine
 pub retires_at : (routine : Routine) (own : Retirement) → standing_of routine ≡ pool.Retires own → (go : AfterRetire) × (routine ≡ Retires own go)
-retires_at Idle own is = absurd (let z : Elsewhere ≡ pool.Retires own = is in cc)
-retires_at (LoadSeen why) own is = absurd (let z : Elsewhere ≡ pool.Retires own = is in cc)
-retires_at At own is = absurd (let z : Elsewhere ≡ pool.Retires own = is in cc)
-retires_at (InList k) own is = absurd (let z : Elsewhere ≡ pool.Retires own = is in cc)
 retires_at (Retires other go) own is = let same : other ≡ own = (let z : pool.Retires other ≡ pool.Retires own = is in cc) in (go, ap (λ (r : Retirement). Retires r go) same)
-retires_at Restarts own is = absurd (let z : Elsewhere ≡ pool.Retires own = is in cc)
-retires_at (Clears next) own is = absurd (let z : Elsewhere ≡ pool.Retires own = is in cc)
 retires_at (Claims claim) own is = absurd (let z : pool.Claims claim ≡ pool.Retires own = is in cc)
-retires_at (Zeroes k field) own is = absurd (let z : Elsewhere ≡ pool.Retires own = is in cc)
-retires_at (Announces announcing) own is = absurd (let z : Elsewhere ≡ pool.Retires own = is in cc)
+retires_at _ own is = absurd (let z : Elsewhere ≡ pool.Retires own = is in cc)
+
+-- a slot that a caller retires is used, and nobody else retires it
+pub owners_retire : (setting : Setting) (state : CoreState) (s : Shared) → ((j : ℕ) → SlotAt s j) → ((j : ℕ) → s.memory (Status j) ≡ (view setting state).memory (Status j))
+    → ((c : ℕ) (own : Retirement) → c < setting.sizes.callers → standings (view setting state).who c ≡ pool.Retires own → s.owner own.slot ≡ Retiring c) → RetiresUsed setting (view setting state).memory (standings (view setting state).who)
+owners_retire setting state s slot status retiring = record {
+  used = λ c own lt at. subst (λ (word : ℕ). IsOf kinds.Used word) (status own.slot) (slot_by s own.slot (Retiring c) (retiring c own lt at) (slot own.slot)).0;
+  alone = λ c d one other lc ld at there same. (let both : Retiring c ≡ Retiring d = sym (retiring c one lc at) ∙ (ap s.owner same ∙ retiring d other ld there) in cc);
+}
 
 module _ (t : Plan) (state : CoreState) (z : Shadow) (b : Beside t state z) where
   retiring : (c : ℕ) (own : Retirement) → c < t.setting.sizes.callers → standings (view t.setting state).who c ≡ pool.Retires own → b.w.shared.owner own.slot ≡ Retiring c
@@ -52,13 +53,7 @@ module _ (t : Plan) (state : CoreState) (z : Shadow) (b : Beside t state z) wher
       k.owner
 
   pub retires_used : RetiresUsed t.setting (view t.setting state).memory (standings (view t.setting state).who)
-  retires_used = record {
-    used = λ c own lt at.
-        (let slot = slot_by b.w.shared own.slot (Retiring c) (retiring c own lt at) (b.holds.shared_holds.slot own.slot) in
-        subst (λ (memory : Word → ℕ). IsOf kinds.Used (memory (Status own.slot))) b.memory slot.0);
-    alone = λ c d one other lc ld at there same.
-        (let both : Retiring c ≡ Retiring d = sym (retiring c one lc at) ∙ (ap b.w.shared.owner same ∙ retiring d other ld there) in cc);
-  }
+  retires_used = owners_retire t.setting state b.w.shared b.holds.shared_holds.slot (λ j. ap (λ (memory : Word → ℕ). memory (Status j)) b.memory) retiring
 
 -- each event goes on to a state of the pool
 pub pool_goes : (t : Plan) (state behind : CoreState) (z' : Shadow) (event : CoreEvent) → AreKinds t.setting.sizes → t.setting.sizes.slots ≤ 4096 → NewsFit t.target t.setting.sizes → Suits t.setting.sizes (beginning_of t.target t.setting) → IsShaped t.target t.setting state
@@ -77,13 +72,5 @@ takes_ready target setting state c are few suits pooled = of ((view setting stat
   in_claim claim at claims.Sweeps is = tt
 
   of : (routine : Routine) → ((view setting state).who c).routine ≡ routine → TakesReady (view setting state).memory routine
-  of Idle is = tt
-  of (LoadSeen why) is = tt
-  of At is = tt
-  of (InList k) is = tt
-  of (Retires retirement go) is = tt
-  of Restarts is = tt
-  of (Clears next) is = tt
   of (Claims claim) is = in_claim claim (ap standing_of is) claim.stage refl
-  of (Zeroes k field) is = tt
-  of (Announces announcing) is = tt
+  of _ is = tt

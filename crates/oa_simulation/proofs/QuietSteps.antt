@@ -31,7 +31,7 @@ use Rattle.oa_simulation.specs.sim_relation.Views.{Plan, IsPlan, Shared}
 use Rattle.oa_simulation.specs.sim_relation.Callers.{CallerHolds, HoldsAt, SweepAt, ClaimAt}
 use Rattle.oa_simulation.specs.sim_relation.Steps.{after_access}
 use Rattle.oa_simulation.proofs.sim_relation.Words.{store_idle}
-use Rattle.oa_simulation.proofs.sim_steps.Pools.Slots.{Freed, unguarded}
+use Rattle.oa_simulation.proofs.sim_steps.Pools.Sweeping.{may_free}
 use Rattle.oa_simulation.specs.sim_steps.Quiet.{is_quiet}
 use Rattle.oa_simulation.proofs.sim_steps.Drawing.{quiet_draws_none}
 use Rattle.oa_simulation.proofs.sim_steps.Dispatching.{quiet_steps}
@@ -130,8 +130,7 @@ sweeps_spare target text setting state z related c j below frees d r some named 
     let sweep : SweepAt t s frees.claim.sweep.bound frees.claim.sweep.gathered (sweeps.MakeReady j frees.phase) =
     subst (λ (stage : SweepStage). SweepAt t s frees.claim.sweep.bound frees.claim.sweep.gathered stage) frees.stage claim in
     let expected : s.memory (Status j) ≡ status_word frees.phase kinds.Retired = ap (λ (k : Word → ℕ). k (Status j)) b.memory ∙ frees.expected in
-    let freed : Freed t s frees.claim.sweep.bound j frees.phase frees.claim.sweep.gathered = record { word = expected; below = sweep.1; away = sweep.2; sweeps = sweep.0 } in
-    unguarded t s frees.claim.sweep.bound j frees.phase frees.claim.sweep.gathered b.holds.shared_holds freed d r some
+    (may_free t s frees.claim.sweep.bound j frees.phase frees.claim.sweep.gathered b.holds.shared_holds sweep expected).spared d r some
     (sym (b.holds.shared_holds.guard d r some).word ∙ (ap (λ (k : Word → ℕ). k (Hazard d r)) b.memory ∙ named))
 
 pub keeps_quiet : (target : Target) (text : Text) (setting : Setting) → IsRunnable target text → IsBarred target text → IsSetting setting → Fits target setting → setting.reclamation ≡ Optimistic → QuietIsKept target text setting

@@ -1,15 +1,15 @@
 -- Every run of the core is simulated by a run of the source.
-use Rattle.std.proofs.Common.{ℕ, ◌≡◌, ◌<◌, ◌∙◌, Bool, true, false, List, Option, sym, ap, subst, refl, arith}
-use Rattle.std.specs.Prelude.{slice_get, unwrap_or}
+use Rattle.std.proofs.Common.{ℕ, ◌≡◌, ◌∙◌, Bool, true, false, List, sym, ap, subst, refl, arith, Some}
+use Rattle.std.specs.Prelude.{slice_get}
 use Rattle.norm_lang.specs.declared.text.Text.{Text}
 use Rattle.target_code.specs.declared.target.Target.{Target}
 use Rattle.target_code.specs.Barred.{IsBarred}
 use Rattle.oa_words.specs.Words.{Word, Hazard, Status}
 use Rattle.source_machine.specs.declared.state.SourceCaller.{SourceCaller}
-use Rattle.source_machine.specs.Run.{caller_replies}
-use Rattle.source_machine.specs.MethodRuns.{watched_start}
+use Rattle.source_machine.specs.Run.{caller_replies, source_replies}
+use Rattle.source_machine.specs.MethodRuns.{watched_start, Watched}
 use Rattle.caller_parts.specs.Settings.{Setting, IsSetting, Fits}
-use Rattle.caller_steps.specs.Entries.{Entry, idle_entry, is_idle}
+use Rattle.caller_steps.specs.Entries.{Entry, is_idle}
 use Rattle.core_runs.specs.Machine.{CoreState, CoreEvent, core_start}
 use Rattle.core_runs.specs.core_sound.Sound.{IsSound}
 use Rattle.core_runs.specs.Views.{view}
@@ -26,11 +26,11 @@ use Rattle.target_laws.proofs.target_runs.SaneTargets.{runnable_is_sane}
 use Rattle.oa_words.specs.Starts.{Suits}
 use Rattle.core_runs.specs.Machine.{beginning_of}
 use Rattle.core_runs.proofs.caller_laws.Methods.{setting_sane, news_fit}
-use Rattle.oa_simulation.specs.sim_relation.Views.{Plan, IsPlan}
+use Rattle.oa_simulation.specs.sim_relation.Views.{Plan, IsPlan, Caller}
 use Rattle.oa_simulation.specs.sim_relation.Callers.{replies_of}
 use Rattle.core_runs.specs.RunSigns.{run_signs}
 use Rattle.oa_simulation.specs.Shadow.{Shadow, shadow, shadow_start, home_of}
-use Rattle.oa_simulation.specs.Beside.{Beside}
+use Rattle.oa_simulation.specs.Beside.{Beside, Sourced}
 use Rattle.oa_simulation.specs.Statements.{AgreesWith, Agrees, ForProper, Refines}
 use Rattle.oa_simulation.proofs.sim_steps.Worlds.{no_guarded_ready}
 use Rattle.oa_simulation.proofs.Starting.{IsFirst, first_shared, fine_first}
@@ -41,7 +41,7 @@ use Rattle.oa_simulation.proofs.FirstSlots.{first_null}
 use Rattle.oa_simulation.proofs.FirstWords.{first_words}
 use Rattle.oa_simulation.proofs.Testing.{exchanges_agree}
 use Rattle.oa_simulation.proofs.Homes.{home_stays}
-use Rattle.oa_simulation.proofs.Induction.{NamedBeside, run_beside}
+use Rattle.oa_simulation.proofs.Induction.{NamedBeside, run_beside, is_caller, entry_seen}
 use Rattle.oa_simulation.specs.Present.{first_present, present_in}
 use Rattle.oa_simulation.proofs.sim_steps.Agreeing.{HasAbout, idle_agrees, running_agrees}
 use Rattle.oa_simulation.proofs.FirstCallers.{all_idle, first_caller, no_hazard, told_first}
@@ -49,8 +49,7 @@ use Rattle.oa_simulation.proofs.Lifting.{machine_is, stays_proper}
 use Rattle.oa_simulation.proofs.FactsHold.{facts_hold}
 use Rattle.oa_simulation.specs.sim_relation.Points.{point}
 use Rattle.oa_simulation.specs.sim_relation.WasSet.{none_set}
-use Rattle.std.proofs.lemmas.Option.{slice_get_within}
-use Rattle.source_machine.specs.declared.event.SourceReply.{SourceReply}
+use Rattle.norm_lang.specs.declared.reply.SourceReply.{SourceReply}
 use Rattle.caller_parts.specs.declared.setting.Reclamation.TheVariants.{Optimistic}
 
 -- an idle caller's replies, and a running one's
@@ -88,16 +87,19 @@ pub start_sets_none : (t : Plan) (own : IsSetting t.setting) (start : StartIsSee
 unfolding start_beside
 start_sets_none t own start suits first d = refl
 
+-- one caller's replies, by what is known of its own entry and of the source's caller
+pub replies_agree : (text : Text) (callers c : ℕ) (z : Shadow) (v : Watched) (own e : Entry) (x : SourceCaller) → Sourced text callers z v → slice_get v.machine.callers c ≡ Some x → own ≡ e → (is_idle own.routine ≡ true → x.replies ≡ replies_of own) → HasAbout (replies_of own) x
+    → AgreesWith (is_idle e.routine) (replies_of e) (source_replies z.machine c)
+replies_agree text callers c z v own e x sourced there same idle about =
+    let replies : x.replies ≡ caller_replies (slice_get z.machine.callers c) = sym (ap (λ m. caller_replies (slice_get m.callers c)) (sym (machine_is text callers z v sourced)) ∙ ap caller_replies there) in
+    subst (λ (i : List SourceReply). AgreesWith (is_idle e.routine) (replies_of e) i) replies
+    (subst (λ (i : Entry). AgreesWith (is_idle i.routine) (replies_of i) x.replies) same (agrees_with (is_idle own.routine) (replies_of own) x idle about))
+
 state_agrees : (t : Plan) (state : CoreState) (z : Shadow) → IsSound t.target t.setting state → Beside t state z → Agrees state z.machine
 state_agrees t state z s b c e at =
-    let within = slice_get_within state.entries c e at in
-    let callers = s.callers in
-    let lt : c < t.setting.sizes.callers = omega (arith, within, callers) in
-    let own : (b.w.who c).entry ≡ e = b.entry c lt ∙ ap (λ (o : Option Entry). unwrap_or o (idle_entry c)) at in
-    let same : (b.w.who c).source.replies ≡ caller_replies (slice_get z.machine.callers c) =
-    sym (ap (λ m. caller_replies (slice_get m.callers c)) (sym (machine_is t.text t.setting.sizes.callers z b.v b.sourced)) ∙ ap caller_replies (b.caller c lt)) in
-    subst (λ (i : List SourceReply). AgreesWith (is_idle e.routine) (replies_of e) i) same
-    (subst (λ (i : Entry). AgreesWith (is_idle i.routine) (replies_of i) (b.w.who c).source.replies) own (agrees_with (is_idle (b.w.who c).entry.routine) (replies_of (b.w.who c).entry) (b.w.who c).source (idle_agrees t b.w.shared c (b.w.who c) (b.holds.caller_holds c lt)) (running_agrees t b.w.shared c (b.w.who c) (b.holds.caller_holds c lt))))
+    let lt = is_caller state t.setting.sizes.callers c e s.callers at in
+    let x : Caller = b.w.who c in
+    replies_agree t.text t.setting.sizes.callers c z b.v x.entry e x.source b.sourced (b.caller c lt) (b.entry c lt ∙ entry_seen t.setting state c e at) (idle_agrees t b.w.shared c x (b.holds.caller_holds c lt)) (running_agrees t b.w.shared c x (b.holds.caller_holds c lt))
 
 -- every reachable state stands beside its shadow
 abbrev pub plan_of : Target → Text → Setting → List CoreEvent → Plan

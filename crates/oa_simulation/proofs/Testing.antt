@@ -1,6 +1,6 @@
 -- An exchange of the text succeeds exactly where the source's does.
-use Rattle.std.proofs.Common.{ℕ, ◌≡◌, ◌<◌, ◌∙◌, Bool, true, false, List, [], Option, Some, None, sym, ap, subst, refl, arith, if◌then◌else◌}
-use Rattle.std.specs.Prelude.{slice_get, slice_index, option_map, is_some, unwrap_or}
+use Rattle.std.proofs.Common.{ℕ, ◌≡◌, ◌∙◌, Bool, true, false, List, [], Option, Some, None, sym, ap, subst, refl, if◌then◌else◌}
+use Rattle.std.specs.Prelude.{slice_get, slice_index, option_map, is_some}
 use Rattle.std.proofs.lemmas.Option.{slice_get_within}
 use Rattle.norm_lang.specs.declared.text.CasEntry.{CasEntry}
 use Rattle.norm_lang.specs.declared.text.Instr.{Instr}
@@ -12,7 +12,7 @@ use Rattle.norm_lang.specs.InstructionRules.{has_wrong_operand}
 use Rattle.norm_lang.specs.Kept.{code_of}
 use Rattle.norm_lang.specs.Local.{Spot}
 use Rattle.target_code.specs.declared.target.TargetInstr.{TargetInstr}
-use Rattle.target_code.specs.declared.target.TargetInstr.TheVariants.{Plain, Check, Guard}
+use Rattle.target_code.specs.declared.target.TargetInstr.TheVariants.{Plain}
 use Rattle.target_code.specs.Erasing.{source_place}
 use Rattle.oa_words.specs.Words.{Word, address_of, in_row}
 use Rattle.phase_pools.specs.Accesses.{WordAccess, word_of}
@@ -25,14 +25,14 @@ use Rattle.source_machine.specs.Memory.{exchange}
 use Rattle.source_machine.specs.Step.{performed_by, goes_on, generator_stand, wrap_up_stop}
 use Rattle.source_machine.specs.Proper.{IsProper}
 use Rattle.caller_parts.specs.declared.routine.Routine.{Routine}
-use Rattle.caller_parts.specs.declared.routine.Routine.TheVariants.{Idle, LoadSeen, At, Retires, Restarts, Clears, Claims, Zeroes, Announces, InList as InCoreList}
-use Rattle.caller_steps.specs.Entries.{Entry, idle_entry, instr_in}
+use Rattle.caller_parts.specs.declared.routine.Routine.TheVariants.{At, InList as InCoreList}
+use Rattle.caller_steps.specs.Entries.{Entry, instr_in}
 use Rattle.caller_parts.specs.Operands.{list_of, succeeds}
 use Rattle.caller_steps.specs.Belongs.{cas_of}
 use Rattle.caller_steps.specs.Wants.{wants, wanted, exchange_wanted, list_wanted, instr_wanted}
 use Rattle.core_runs.proofs.caller_laws.Safety.{list_there}
 use Rattle.core_runs.specs.Machine.{CoreState, found_by}
-use Rattle.core_runs.specs.Views.{IsShaped}
+use Rattle.core_runs.specs.Views.{IsShaped, view}
 use Rattle.target_laws.specs.Methods.{code_in}
 use Rattle.run_ahead.specs.Standing.{Call, stands_at, stands_in_list, running_at, caller_of}
 use Rattle.run_ahead.proofs.Plain.{at_place, kind_right}
@@ -41,7 +41,7 @@ use Rattle.run_ahead.specs.Ahead.{erasing}
 use Rattle.oa_simulation.specs.sim_relation.Views.{Plan, IsPlan, Shared, Caller}
 use Rattle.oa_simulation.specs.sim_relation.Shared.{SharedHolds}
 use Rattle.oa_simulation.specs.sim_relation.Callers.{CallerHolds, HoldsAt, Trail, Running as CallerRuns, InExecutor, spot_of}
-use Rattle.oa_simulation.specs.sim_relation.Points.{IsProperPoint, point, done}
+use Rattle.oa_simulation.specs.sim_relation.Points.{IsProperPoint, point, done, Point}
 use Rattle.oa_simulation.proofs.sim_relation.Codes.{instr_is}
 use Rattle.oa_simulation.proofs.sim_steps.Pools.Core.{wants_is}
 use Rattle.oa_simulation.proofs.sim_steps.Accesses.Stepping.{run_asked}
@@ -49,9 +49,12 @@ use Rattle.oa_simulation.proofs.sim_steps.Accesses.Entries.{list_asked}
 use Rattle.oa_simulation.proofs.sim_steps.Exchanges.Exchanging.{Offers, tests_agree}
 use Rattle.oa_simulation.proofs.sim_steps.Exchanges.Offering.{offers, operand_is_own, own_in_generator, none_passes}
 use Rattle.oa_simulation.specs.Shadow.{Shadow}
-use Rattle.oa_simulation.specs.Beside.{Beside, Placed}
+use Rattle.oa_simulation.specs.Beside.{Beside, Placed, Sourced}
 use Rattle.oa_simulation.specs.Statements.{ExchangesAgree, core_exchange, exchange_of, stand_exchange, exchange_makes, performed_makes, caller_makes, source_makes}
 use Rattle.oa_simulation.proofs.Lifting.{machine_is, stays_proper}
+use Rattle.source_machine.specs.MethodRuns.{Watched}
+use Rattle.target_code.specs.declared.target.Target.{Target}
+use Rattle.oa_simulation.proofs.Induction.{is_caller, entry_seen}
 
 -- ---- the source's exchange, by where its caller stands
 
@@ -87,10 +90,40 @@ cas_makes text op true started false call mirror place l entry memory there here
 
 pub cas_there : (o : Option TargetInstr) (entry : CasEntry) → cas_of o ≡ Some entry → (l : ℕ) × (o ≡ Some (Plain (instr.Cas entry l)))
 cas_there (Some (Plain (instr.Cas exchange l))) entry is = (l, (let same : exchange ≡ entry = cc in ap (λ (x : CasEntry). Some (Plain (instr.Cas x l))) same))
-cas_there None entry is = absurd (let z : None ≡ Some entry = is in cc)
-cas_there (Some Check) entry is = absurd (let z : None ≡ Some entry = is in cc)
-cas_there (Some (Guard r)) entry is = absurd (let z : None ≡ Some entry = is in cc)
-cas_there (Some (Plain _)) entry is = absurd (let z : None ≡ Some entry = is in cc)
+cas_there _ entry is = absurd (let z : None ≡ Some entry = is in cc)
+
+-- ---- the exchange that an entry makes next
+
+-- it is an auxiliary one, or one of its list
+pub by_exchange : (target : Target) (e : Entry) (P : CasEntry → WordAccess → Type 0)
+    → ((entry : CasEntry) (l : ℕ) → e.routine ≡ At → instr_in target e ≡ Some (Plain (instr.Cas entry l)) → P entry (exchange_wanted target.fields entry e.hand.registers))
+    → ((k : ℕ) (entry : CasEntry) → e.routine ≡ InCoreList k → slice_get (list_of (instr_in target e)) k ≡ Some entry → P entry (exchange_wanted target.fields entry e.hand.registers))
+    → (entry : CasEntry) (a : WordAccess) → core_exchange target e e.routine ≡ Some entry → wants target e ≡ Some a → P entry a
+by_exchange target e P auxiliary listed entry a made want = by e.routine refl made (sym (wants_is target e e.routine refl) ∙ want) where
+  by : (r : Routine) → e.routine ≡ r → core_exchange target e r ≡ Some entry → wanted target e r ≡ Some a → P entry a
+  by At at is want =
+      let there = cas_there (instr_in target e) entry is in
+      let made : Some (exchange_wanted target.fields entry e.hand.registers) ≡ Some a = sym (ap (λ (o : Option TargetInstr). instr_wanted target.fields e.number o e.hand.registers) there.1) ∙ want in
+      let same : exchange_wanted target.fields entry e.hand.registers ≡ a = cc in
+      subst (P entry) same (auxiliary entry there.0 at there.1)
+  by (InCoreList k) at is want =
+      let made : Some (exchange_wanted target.fields entry e.hand.registers) ≡ Some a = sym (ap (λ (o : Option CasEntry). list_wanted target.fields o e.hand.registers) is) ∙ want in
+      let same : exchange_wanted target.fields entry e.hand.registers ≡ a = cc in
+      subst (P entry) same (listed k entry at is)
+  by _ at is want = absurd (let z : None ≡ Some entry = is in cc)
+
+-- what is known of a caller's own entry and of its source's part says whether both succeed in a state beside its shadow
+pub test_agrees : (t : Plan) (state : CoreState) (z : Shadow) (v : Watched) (c : ℕ) (memory : Word → ℕ) (own e : Entry) (p : Point) (entry : CasEntry) (a : WordAccess) → IsShaped t.target t.setting state → Sourced t.text t.setting.sizes.callers z v → Placed v z c p
+    → memory ≡ (view t.setting state).memory → own ≡ e → slice_get state.entries c ≡ Some e → wants t.target e ≡ Some a → succeeds entry own.hand.registers (memory (word_of a)) ≡ caller_makes t.text p.memory (Some p.caller)
+    → succeeds entry e.hand.registers (found_by t.setting state a) ≡ source_makes t.text z.machine c
+test_agrees t state z v c memory own e p entry a shaped sourced placed words same at want mine =
+    let row : in_row t.setting.sizes (word_of a) ≡ true = shaped.wanted c e a at want in
+    let found : memory (word_of a) ≡ found_by t.setting state a =
+    ap (λ (k : Word → ℕ). k (word_of a)) words ∙ ap (λ (b : Bool). if b then slice_index state.words (address_of t.setting.sizes (word_of a)) else 0) row in
+    sym (ap (λ (word : ℕ). succeeds entry own.hand.registers word) found ∙ ap (λ (i : Entry). succeeds entry i.hand.registers (found_by t.setting state a)) same)
+    ∙ (mine ∙ (ap (λ (m : Memory). caller_makes t.text m (Some p.caller)) (sym placed.memory)
+    ∙ (ap (caller_makes t.text v.machine.memory) (sym placed.caller)
+    ∙ ap (λ (machine : SourceMachine). source_makes t.text machine c) (machine_is t.text t.setting.sizes.callers z v sourced))))
 
 -- ---- one caller
 
@@ -150,46 +183,17 @@ module _ (t : Plan) (s : Shared) (c : ℕ) (x : Caller) (plan : IsPlan t) (f : S
       ∙ sym (ap (λ (caller : SourceCaller). caller_makes t.text s.source (Some caller)) run.4
       ∙ list_makes t.text run.0.walk.method.op (source_place (code_in run.0.walk.method) x.entry.hand.at) (list_of (instr_in t.target x.entry)) k run.0.mirror run.0.walk.call entry s.source op one)
 
-  by_routine : (r : Routine) (entry : CasEntry) (a : WordAccess) → x.entry.routine ≡ r → core_exchange t.target x.entry r ≡ Some entry → wanted t.target x.entry r ≡ Some a → TestsAgree entry a
-  by_routine At entry a at is want =
-      let there = cas_there (instr_in t.target x.entry) entry is in
-      let made : Some (exchange_wanted t.target.fields entry x.entry.hand.registers) ≡ Some a = sym (ap (λ (o : Option TargetInstr). instr_wanted t.target.fields x.entry.number o x.entry.hand.registers) there.1) ∙ want in
-      let same : exchange_wanted t.target.fields entry x.entry.hand.registers ≡ a = cc in
-      subst (TestsAgree entry) same (cas_agrees entry there.0 at there.1)
-  by_routine (InCoreList k) entry a at is want =
-      let made : Some (exchange_wanted t.target.fields entry x.entry.hand.registers) ≡ Some a = sym (ap (λ (o : Option CasEntry). list_wanted t.target.fields o x.entry.hand.registers) is) ∙ want in
-      let same : exchange_wanted t.target.fields entry x.entry.hand.registers ≡ a = cc in
-      subst (TestsAgree entry) same (entry_agrees k entry at is)
-  by_routine Idle entry a at is want = absurd (let z : None ≡ Some entry = is in cc)
-  by_routine (LoadSeen why) entry a at is want = absurd (let z : None ≡ Some entry = is in cc)
-  by_routine (Retires retirement go) entry a at is want = absurd (let z : None ≡ Some entry = is in cc)
-  by_routine Restarts entry a at is want = absurd (let z : None ≡ Some entry = is in cc)
-  by_routine (Clears next) entry a at is want = absurd (let z : None ≡ Some entry = is in cc)
-  by_routine (Claims claim) entry a at is want = absurd (let z : None ≡ Some entry = is in cc)
-  by_routine (Zeroes k field) entry a at is want = absurd (let z : None ≡ Some entry = is in cc)
-  by_routine (Announces announcing) entry a at is want = absurd (let z : None ≡ Some entry = is in cc)
-
   pub caller_agrees : (entry : CasEntry) (a : WordAccess) → core_exchange t.target x.entry x.entry.routine ≡ Some entry → wants t.target x.entry ≡ Some a → TestsAgree entry a
-  caller_agrees entry a is want = by_routine x.entry.routine entry a refl is (sym (wants_is t.target x.entry x.entry.routine refl) ∙ want)
+  caller_agrees entry a is want = by_exchange t.target x.entry TestsAgree cas_agrees entry_agrees entry a is want
 
 -- ---- a state beside its shadow
 
 pub exchanges_agree : (t : Plan) (state : CoreState) (z : Shadow) → IsPlan t → IsProper t.text → IsShaped t.target t.setting state → Beside t state z → ExchangesAgree t.target t.text t.setting state z.machine
 exchanges_agree t state z plan proper shaped b c e entry a at is want =
-    let within = slice_get_within state.entries c e at in
-    let callers = shaped.callers in
-    let lt : c < t.setting.sizes.callers = omega (arith, within, callers) in
-    let s : Shared = b.w.shared in
+    let lt = is_caller state t.setting.sizes.callers c e shaped.callers at in
     let x : Caller = b.w.who c in
-    let own : x.entry ≡ e = b.entry c lt ∙ ap (λ (o : Option Entry). unwrap_or o (idle_entry c)) at in
-    let row : in_row t.setting.sizes (word_of a) ≡ true = shaped.wanted c e a at want in
-    let found : s.memory (word_of a) ≡ found_by t.setting state a =
-    ap (λ (k : Word → ℕ). k (word_of a)) b.memory ∙ ap (λ (b : Bool). if b then slice_index state.words (address_of t.setting.sizes (word_of a)) else 0) row in
-    let placed : Placed b.v z c (point s x) = record { caller = b.caller c lt; memory = b.source; run = b.run c lt; unused = b.unused } in
-    let here : IsProperPoint t.text (point s x) = stays_proper t.text t.setting.sizes.callers c z b.v (point s x) plan.compiled.normal plan.compiled.within proper b.sourced placed [] (point s x) (done (point s x)) in
-    let mine : succeeds entry x.entry.hand.registers (s.memory (word_of a)) ≡ caller_makes t.text s.source (Some x.source) =
-    caller_agrees t s c x plan b.holds.shared_holds (b.holds.caller_holds c lt) here entry a (ap (λ (i : Entry). core_exchange t.target i i.routine) own ∙ is) (ap (wants t.target) own ∙ want) in
-    sym (ap (λ (word : ℕ). succeeds entry x.entry.hand.registers word) found ∙ ap (λ (i : Entry). succeeds entry i.hand.registers (found_by t.setting state a)) own)
-    ∙ (mine ∙ (ap (λ (memory : Memory). caller_makes t.text memory (Some x.source)) (sym b.source)
-    ∙ (ap (caller_makes t.text b.v.machine.memory) (sym (b.caller c lt))
-    ∙ ap (λ (machine : SourceMachine). source_makes t.text machine c) (machine_is t.text t.setting.sizes.callers z b.v b.sourced))))
+    let own : x.entry ≡ e = b.entry c lt ∙ entry_seen t.setting state c e at in
+    let placed : Placed b.v z c (point b.w.shared x) = record { caller = b.caller c lt; memory = b.source; run = b.run c lt; unused = b.unused } in
+    let here : IsProperPoint t.text (point b.w.shared x) = stays_proper t.text t.setting.sizes.callers c z b.v (point b.w.shared x) plan.compiled.normal plan.compiled.within proper b.sourced placed [] (point b.w.shared x) (done (point b.w.shared x)) in
+    test_agrees t state z b.v c b.w.shared.memory x.entry e (point b.w.shared x) entry a shaped b.sourced placed b.memory own at want
+    (caller_agrees t b.w.shared c x plan b.holds.shared_holds (b.holds.caller_holds c lt) here entry a (ap (λ (i : Entry). core_exchange t.target i i.routine) own ∙ is) (ap (wants t.target) own ∙ want))

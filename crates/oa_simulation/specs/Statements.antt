@@ -9,7 +9,7 @@ use Rattle.norm_lang.specs.declared.text.FieldDecl.{FieldDecl}
 use Rattle.target_code.specs.declared.target.Target.{Target}
 use Rattle.target_code.specs.Barred.{IsBarred}
 use Rattle.phase_pools.specs.Accesses.{WordAccess}
-use Rattle.source_machine.specs.declared.event.SourceReply.{SourceReply}
+use Rattle.norm_lang.specs.declared.reply.SourceReply.{SourceReply}
 use Rattle.source_machine.specs.declared.state.Memory.{Memory}
 use Rattle.source_machine.specs.declared.state.Stand.{Stand}
 use Rattle.source_machine.specs.declared.state.Stand.TheVariants.{InGenerator, InList, InWrapUp}

@@ -1,22 +1,12 @@
 //! Laws of every run of a barred target of a proper text.
 
 ghost use Rattle.std.specs.Prelude.{◌≡◌};
-ghost use Rattle.barrier_check.specs.Paired.{IsSound};
 ghost use Rattle.caller_parts.specs.Settings.{Fits};
 ghost use Rattle.caller_parts.specs.declared.setting.Reclamation.TheVariants.{Optimistic};
 ghost use Rattle.oa_simulation.specs.Relation.{QuietIsKept, RunsAreSimulated};
 
 use barrier_check::Barred;
 use caller_steps::Setting;
-
-/// What a barred target keeps.
-#[tactic(auto, using(crate::proofs::Barring::is_sound))]
-pub fn kept(barred: &Barred)
-    ensures { IsSound barred.now }
-{
-    let _ = barred.source();
-    let _ = barred.target();
-}
 
 /// For a proper text, under optimistic access: the start state is in the relation with the source machine's start; from each reachable
 /// state in the relation every quiet step of every caller leads to one in it, be it the load at a method's begin, a check that passes or
@@ -28,7 +18,7 @@ pub fn quiet_steps_keep(barred: &Barred, setting: &Setting)
     requires optimistic { setting.now.reclamation ≡ Optimistic }
     ensures { QuietIsKept barred.now.target barred.now.source setting.now }
 {
-    kept(barred);
+    barred.kept();
     setting.kept();
 }
 
@@ -41,6 +31,6 @@ pub fn refines(barred: &Barred, setting: &Setting)
     requires optimistic { setting.now.reclamation ≡ Optimistic }
     ensures { RunsAreSimulated barred.now.target barred.now.source setting.now }
 {
-    kept(barred);
+    barred.kept();
     setting.kept();
 }

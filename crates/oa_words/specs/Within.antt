@@ -3,18 +3,19 @@ use Rattle.std.specs.Prelude.{◌≡◌, ℕ, ◌≤◌, ◌<◌, Bool, ◌&&◌
 use Rattle.std.specs.List.{list_all}
 use Rattle.oa_words.specs.Words.{Sizes}
 use Rattle.oa_words.specs.SlotKinds.{together, slots_of}
+use Rattle.oa_words.specs.declared.limits.TheConstants.{MOST_CALLERS, MOST_KINDS, MOST_SLOTS, MOST_FIELDS, MOST_CELLS}
 use Rattle.oa_words.specs.declared.shape.ShapeFault.{ShapeFault}
 use Rattle.oa_words.specs.declared.shape.ShapeFault.TheVariants as faults
 
--- there are one to four kinds, each has a slot, and their slots are all that there are
+-- there is a kind, and not too many, each has a slot, and their slots are all that there are
 pub record AreKinds (n : Sizes) : Type 0 where
   pub some : 1 ≤ length n.kinds
-  pub few : length n.kinds ≤ 4
+  pub few : length n.kinds ≤ MOST_KINDS
   pub each : (t : ℕ) → t < length n.kinds → 1 ≤ slots_of n t
   pub whole : together n.kinds ≡ n.slots
 
 abbrev pub AreSizes : Sizes → Type 0
-AreSizes n = (1 ≤ n.callers) × (n.callers ≤ 8) × (1 ≤ n.slots) × (n.slots ≤ 4096) × (1 ≤ n.fields) × (n.fields ≤ 4) × (1 ≤ n.cells) × (n.cells ≤ 256) × AreKinds n
+AreSizes n = (1 ≤ n.callers) × (n.callers ≤ MOST_CALLERS) × (1 ≤ n.slots) × (n.slots ≤ MOST_SLOTS) × (1 ≤ n.fields) × (n.fields ≤ MOST_FIELDS) × (1 ≤ n.cells) × (n.cells ≤ MOST_CELLS) × AreKinds n
 
 -- there is at least one of them, and at most so many
 abbrev pub is_count : ℕ → ℕ → Bool
@@ -28,12 +29,12 @@ sizes_of_kinds callers kinds fields cells = record { callers = callers; slots = 
 abbrev pub sizes_of_one : ℕ → ℕ → ℕ → ℕ → Sizes
 sizes_of_one callers slots fields cells = record { callers = callers; slots = slots; fields = fields; cells = cells; kinds = slots ∷ [] }
 
--- each kind has from 1 to 4096 slots, and so have all together
+-- each kind has a slot and at most so many, and so have all together
 abbrev pub are_slots : Sizes → Bool
-are_slots n = list_all (is_count 4096) n.kinds && nat_le n.slots 4096
+are_slots n = list_all (is_count MOST_SLOTS) n.kinds && nat_le n.slots MOST_SLOTS
 
 -- sizes that are asked for with so many kinds, if they are within the limits, or the first number that is outside
 abbrev pub sizes_or_fault : ℕ → Sizes → Result Sizes ShapeFault
 sizes_or_fault kinds n =
-    if is_count 8 n.callers then (if is_count 4 kinds then (if are_slots n then (if is_count 4 n.fields then (if is_count 256 n.cells then Ok n
+    if is_count MOST_CALLERS n.callers then (if is_count MOST_KINDS kinds then (if are_slots n then (if is_count MOST_FIELDS n.fields then (if is_count MOST_CELLS n.cells then Ok n
     else Err faults.Cells) else Err faults.Fields) else Err faults.Slots) else Err faults.Kinds) else Err faults.Callers

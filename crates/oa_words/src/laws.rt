@@ -9,9 +9,7 @@ use crate::shape::Shape;
 #[tactic(auto, using(crate::proofs::Places::stand_apart))]
 pub fn words_stand_apart(shape: &Shape)
     ensures { WordsStandApart shape.now }
-{
-    let _ = shape;
-}
+{}
 
 /// A reference's word and its parts give each other back.
 #[tactic(auto, using(crate::proofs::Parts::references_split))]
@@ -36,9 +34,7 @@ pub fn starts_as_named(shape: &Shape)
     ghost start: { Beginning }
     requires { Suits shape.now start }
     ensures { StartsAsNamed shape.now start }
-{
-    let _ = shape;
-}
+{}
 
 /// Each slot is in the range of its kind, and in no other.
 pub fn kinds_have_ranges(shape: &Shape)

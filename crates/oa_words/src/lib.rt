@@ -2,6 +2,7 @@
 #![tactic(auto)]
 
 pub mod laws;
+pub mod limits;
 pub mod packed;
 pub mod shape;
 

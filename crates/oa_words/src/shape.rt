@@ -4,8 +4,10 @@ ghost use Rattle.std.specs.Prelude.{◌≡◌, ◌≤◌, ◌<◌, Some, None, I
 ghost use Rattle.std.specs.List.{list_all};
 ghost use Rattle.oa_words.specs.Words.{Phase, Place, Warning, Hazard, Status, FieldOf, Cell, Head, Link, address_of, word_count};
 ghost use Rattle.oa_words.specs.SlotKinds.{together, kind_in, slots_of, kind_of};
+ghost use Rattle.oa_words.specs.declared.limits.TheConstants.{MOST_SLOTS};
 ghost use Rattle.oa_words.specs.Within.{sizes_or_fault, sizes_of_kinds, sizes_of_one, is_count, AreSizes};
 
+use crate::limits::{MOST_CALLERS, MOST_CELLS, MOST_FIELDS, MOST_KINDS, MOST_SLOTS};
 use std::marker::Model;
 
 /// How many callers, slots other than 0, fields of a slot, and cells there are, and how many of the slots each kind of nodes has: 1
@@ -58,11 +60,13 @@ fn counted(most: u32, number: u64) -> Option<u32>
     None
 }
 
-/// Whether each kind has from 1 to 4096 slots.
+/// Whether each kind has a slot, and at most `MOST_SLOTS`.
 fn are_counts(counts: &[u64]) -> bool
-    ensures { result ≡ list_all (is_count 4096) counts.now }
+    ensures { result ≡ list_all (is_count MOST_SLOTS) counts.now }
 {
-    counts.iter().all(|count| 1 <= *count && *count <= 4096)
+    counts
+        .iter()
+        .all(|count| 1 <= *count && *count <= MOST_SLOTS)
 }
 
 /// The sum of the numbers.
@@ -92,19 +96,19 @@ fn kind_in(counts: &[u64], place: u64) -> u32
     kind as u32
 }
 
-/// How many slots there are together, where each kind has from 1 to 4096 and so have all.
+/// How many slots there are together, where each kind has a slot and at most `MOST_SLOTS`, and so have all.
 #[tactic(auto, using(crate::proofs::Counts::four_together))]
 fn slots_together(counts: &[u64]) -> Option<u32>
     requires { length counts.now ≤ 4 }
-    ensures same { result ≡ (if list_all (is_count 4096) counts.now && nat_le (together counts.now) 4096 then Some (together counts.now) else None) }
-    ensures whole { IfSome result (λ slots. (together counts.now ≡ slots) × (slots ≤ 4096)) }
-    ensures each { OnSome result (list_all (is_count 4096) counts.now ≡ true) }
+    ensures same { result ≡ (if list_all (is_count MOST_SLOTS) counts.now && nat_le (together counts.now) MOST_SLOTS then Some (together counts.now) else None) }
+    ensures whole { IfSome result (λ slots. (together counts.now ≡ slots) × (slots ≤ MOST_SLOTS)) }
+    ensures each { OnSome result (list_all (is_count MOST_SLOTS) counts.now ≡ true) }
 {
     if !are_counts(counts) {
         return None;
     }
     let slots = sum(counts);
-    if slots > 4096 {
+    if slots > MOST_SLOTS {
         return None;
     }
     Some(slots as u32)
@@ -129,19 +133,19 @@ impl Shape {
     ) -> Result<Shape, ShapeFault>
         ensures { result ≡ sizes_or_fault kinds (sizes_of_kinds callers (take kinds slots) fields cells) }
     {
-        let Some(callers) = counted(8, callers) else {
+        let Some(callers) = counted(MOST_CALLERS, callers) else {
             return Err(ShapeFault::Callers);
         };
-        let Some(kinds) = counted(4, kinds) else {
+        let Some(kinds) = counted(MOST_KINDS, kinds) else {
             return Err(ShapeFault::Kinds);
         };
         let Some(slots_of_all) = slots_together(&slots[..kinds as usize]) else {
             return Err(ShapeFault::Slots);
         };
-        let Some(fields) = counted(4, fields) else {
+        let Some(fields) = counted(MOST_FIELDS, fields) else {
             return Err(ShapeFault::Fields);
         };
-        let Some(cells) = counted(256, cells) else {
+        let Some(cells) = counted(MOST_CELLS, cells) else {
             return Err(ShapeFault::Cells);
         };
         Ok(Shape {
@@ -154,11 +158,11 @@ impl Shape {
         })
     }
 
-    /// What every shape keeps: a law for those who hold one.
+    /// What every shape keeps: a law for those who hold one. To read a field tells it.
     pub fn kept(&self)
         ensures { AreSizes self.now }
     {
-        let _kinds = self.kinds;
+        let _ = &self.kinds;
     }
 
     /// How many callers there are.
@@ -214,7 +218,7 @@ impl Shape {
         ensures some { 1 ≤ result }
         ensures few { result ≤ self.now.slots }
     {
-        let _kinds = self.kinds;
+        self.kept();
         self.counts[kind as usize] as u32
     }
 
@@ -240,7 +244,7 @@ impl Shape {
         requires { caller < self.now.callers }
         ensures { result ≡ address_of self.now (Place caller) }
     {
-        let _callers = self.callers();
+        self.kept();
         1 + caller
     }
 
@@ -295,7 +299,8 @@ impl Shape {
         requires { kind < length self.now.kinds }
         ensures { result ≡ address_of self.now (Head kind) }
     {
-        let (rows, _kinds) = (self.slots + 1, self.kinds());
+        self.kept();
+        let rows = self.slots + 1;
         let heads = 1 + 10 * self.callers + rows + rows * self.fields + self.cells;
         heads + kind
     }

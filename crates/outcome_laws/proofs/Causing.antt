@@ -1,9 +1,9 @@
 -- The steps of a call of `operate` or `resume`, one after another.
 use Rattle.std.proofs.Common.{◌≡◌, ◌⊎◌, inl, inr, ⊎_elim, ℕ, ◌<◌, true, false, List, [], ◌∷◌, ◌++◌, length, Option, Some, None, refl, sym, ap, ◌∙◌, subst, arith, append_assoc}
 use Rattle.std.proofs.lemmas.List.{append-nil, append_cancel_left}
+use Rattle.norm_lang.specs.declared.reply.SourceReply.{SourceReply}
+use Rattle.norm_lang.specs.declared.reply.SourceReply.TheVariants as replies
 use Rattle.caller_parts.specs.declared.call.Call.{Call}
-use Rattle.caller_parts.specs.declared.call.Reply.{Reply}
-use Rattle.caller_parts.specs.declared.call.Reply.TheVariants as replies
 use Rattle.caller_parts.specs.declared.call.Replied.{Replied}
 use Rattle.caller_parts.specs.Pairing.{replied_by}
 use Rattle.caller_steps.specs.Entries.{Entry, is_idle}
@@ -11,7 +11,7 @@ use Rattle.caller_steps.specs.After.{taken, counted}
 use Rattle.claim_laws.specs.CallSteps.{StepMade}
 use Rattle.claim_laws.specs.Causes.{IsCaused, FoundNeither}
 use Rattle.claim_laws.proofs.Lasts.{never_nil}
-use Rattle.claim_laws.proofs.Onward.{first_before, first_busy}
+use Rattle.claim_laws.proofs.Onward.{first_before}
 use Rattle.claim_laws.proofs.Causing.{Unfinished, GoesOn, GetsReply, step_caused}
 use Rattle.word_runner.specs.table_rule.Seen.{Fixed}
 use Rattle.word_runner.specs.table_rule.Plays.{next, Steps}
@@ -20,6 +20,7 @@ use Rattle.word_runner.specs.declared.caller.Outcome.TheVariants as outcomes
 use Rattle.word_runner.specs.Shown.{Operated}
 use Rattle.word_runner.specs.Outcome.{Replies, answer_of}
 use Rattle.outcome_laws.specs.Outcomes.{steps_from, OutcomeIsCaused, OutcomesAreCaused}
+use Rattle.core_runs.proofs.Keeping.{first_busy}
 
 never : (e : Entry) → is_idle e.routine ≡ true → is_idle e.routine ≡ false → ⊥
 never e idle busy = let no : true ≡ false = sym idle ∙ busy in cc
@@ -83,7 +84,7 @@ begins : (key : Fixed) (e : Entry) (call : Call) → Unfinished key.setting (tak
 begins key e call = record { before = first_before key.setting.reclamation; neither = record { phases = λ p f. never_nil f.before f.step f.later f.among; full = λ f. never_nil f.0 f.1 [] f.2 } }
 
 -- by the reply that the call got
-by_reply : (key : Fixed) (steps : List StepMade) (outcome : Outcome) (reply : Reply) → answer_of outcome ≡ Some reply → IsCaused key.setting reply steps → OutcomeIsCaused key.setting outcome steps
+by_reply : (key : Fixed) (steps : List StepMade) (outcome : Outcome) (reply : SourceReply) → answer_of outcome ≡ Some reply → IsCaused key.setting reply steps → OutcomeIsCaused key.setting outcome steps
 by_reply key steps (outcomes.Replied (Some n)) reply is c =
     let number : reply ≡ replies.Number n = cc in
     record { phases = λ p. ((λ e. absurd cc), (λ f. let z : replies.Number n ≡ replies.Phases p = sym number ∙ (c.phases p).1 f in absurd cc)); full = ((λ e. absurd cc), (λ f. let z : replies.Number n ≡ replies.Full = sym number ∙ c.full.1 f in absurd cc)) }
@@ -116,13 +117,13 @@ steps_busy : (key : Fixed) (e later : Entry) (words : List ℕ) → 0 < length w
 steps_busy key e later [] some' made = absurd (omega (arith, some'))
 steps_busy key e later (word ∷ words) some' made = made.0
 
-concluded : (key : Fixed) (e later : Entry) (call : Call) (steps : List StepMade) (outcome : Outcome) (o : Option Reply) → answer_of outcome ≡ o → Replies e call o later → Turns key e steps later → OutcomeIsCaused key.setting outcome steps
+concluded : (key : Fixed) (e later : Entry) (call : Call) (steps : List StepMade) (outcome : Outcome) (o : Option SourceReply) → answer_of outcome ≡ o → Replies e call o later → Turns key e steps later → OutcomeIsCaused key.setting outcome steps
 concluded key e later call steps outcome (Some reply) is told turns' = ⊎_elim
     (λ (t : Goes key e steps later). absurd (never later told.0 t.busy))
     (λ (t : Gets key e steps later).
     let given : Replied = record { call = call; reply = reply; steps = later.running.steps } in
     let same : t.last ≡ given = only t.last given (append_cancel_left e.replies (t.last ∷ []) (given ∷ []) (sym t.replies ∙ told.1)) in
-    by_reply key steps outcome reply is (subst (λ (r : Reply). IsCaused key.setting r steps) (ap (λ (r : Replied). r.reply) same) t.caused))
+    by_reply key steps outcome reply is (subst (λ (r : SourceReply). IsCaused key.setting r steps) (ap (λ (r : Replied). r.reply) same) t.caused))
     turns'
 concluded key e later call steps outcome None is told turns' = ⊎_elim
     (λ (t : Goes key e steps later). by_none key steps outcome is t.unfinished.neither)
@@ -141,7 +142,7 @@ follow : (key : Fixed) (e mid later : Entry) (words more : List ℕ) → Steps k
 follow key e mid later [] more h k = subst (λ (x : Entry). Steps key x more later) h k
 follow key e mid later (word ∷ words) more h k = (h.0, follow key (next key e word) mid later words more h.1 k)
 
-retaken : (key : Fixed) (e later : Entry) (call : Call) (o : Option Reply) → Replies e call o later → Replies (taken key.setting.reclamation call e) call o later
+retaken : (key : Fixed) (e later : Entry) (call : Call) (o : Option SourceReply) → Replies e call o later → Replies (taken key.setting.reclamation call e) call o later
 retaken key e later call (Some reply) h = h
 retaken key e later call None h = h
 

@@ -1,23 +1,19 @@
 -- Which accesses of a sweep end its claim: the load of the phase alone, where it finds the last one.
-use Rattle.std.proofs.Common.{◌≡◌, ℕ, zero, suc, ◌&&◌, not, Bool, true, false, Option, Some, None, if◌then◌else◌, refl}
-use Rattle.std.specs.Prelude.{nat_lt, ◌==◌}
-use Rattle.oa_words.specs.declared.packed.Kind.{Kind}
+use Rattle.std.proofs.Common.{◌≡◌, ℕ, zero, suc, ◌&&◌, Bool, true, false, Option, Some, None, if◌then◌else◌, refl}
+use Rattle.std.specs.Prelude.{◌==◌}
 use Rattle.oa_words.specs.declared.packed.Kind.TheVariants as kinds
 use Rattle.oa_words.specs.Words.{Sizes}
-use Rattle.oa_words.specs.SlotKinds.{kind_of}
-use Rattle.oa_words.specs.Packed.{StatusParts, status_parts, status_word, head_word}
-use Rattle.guard_words.specs.Guards.{has_slot}
+use Rattle.oa_words.specs.Packed.{status_parts, status_word, head_word}
 use Rattle.phase_pools.specs.declared.access.ClaimEnd.{ClaimEnd}
 use Rattle.phase_pools.specs.declared.access.ClaimEnd.TheVariants as ends
 use Rattle.phase_pools.specs.declared.access.SweepEnd.TheVariants as swept
 use Rattle.phase_pools.specs.declared.stages.SweepStage.{SweepStage}
 use Rattle.phase_pools.specs.declared.stages.SweepStage.TheVariants as sweeps
-use Rattle.phase_pools.specs.declared.stages.ClaimStage.{ClaimStage}
-use Rattle.phase_pools.specs.declared.stages.ClaimStage.TheVariants as claims
 use Rattle.oa_words.specs.Packed.{HeadParts}
 use Rattle.phase_pools.specs.declared.stages.Scheme.{Scheme}
 use Rattle.phase_pools.specs.declared.stages.Scheme.TheVariants.{Warned, Announced}
-use Rattle.phase_pools.specs.Pools.{sweep_follows, look_begun, has_lower, Sweep, SweepTurn, sweep_goes, sweep_ends, sweep_on, freeing, status_read, phase_read, sweep_accepts_at, sweep_accepts, Claim, look_ended, claim_sweeps, finds_last, phases_end}
+use Rattle.phase_pools.specs.Pools.{sweep_follows, look_begun, Sweep, SweepTurn, sweep_goes, sweep_ends, sweep_on, sweep_accepts_at, sweep_accepts, Claim, look_ended, claim_sweeps, finds_last, phases_end}
+use Rattle.phase_pools.proofs.Statuses.{from_slot, from_status}
 
 -- a turn of a sweep after which its claim goes on
 abbrev Onward : SweepTurn → Type 0
@@ -28,16 +24,7 @@ either true x y here there = here
 either false x y here there = there
 
 on : (n : Sizes) (sweep : Sweep) (j : ℕ) → Onward (sweep_on n sweep j)
-on n sweep j = either (has_lower n j) _ _ (λ claim. refl) (λ claim. refl)
-
-freed : (n : Sizes) (sweep : Sweep) (j q : ℕ) (kind : Kind) → Onward (freeing n sweep j q kind)
-freed n sweep j q kinds.Ready = on n sweep j
-freed n sweep j q kinds.Used = on n sweep j
-freed n sweep j q kinds.Retired = either (nat_lt q sweep.low && not (has_slot sweep.gathered j)) _ _ (λ claim. refl) (on n sweep j)
-
-read : (n : Sizes) (sweep : Sweep) (j : ℕ) (parts : Option StatusParts) → Onward (status_read n sweep j parts)
-read n sweep j None = on n sweep j
-read n sweep j (Some parts) = freed n sweep j parts.phase parts.kind
+on n sweep j = from_slot Onward n sweep j (λ more claim. refl) (λ claim. refl)
 
 over : (sweep : Sweep) (p : ℕ) (claim : Claim) (test : Bool)
     → (claim_sweeps claim (if test then sweep_ends sweep (swept.PhasesOver p) else sweep_goes sweep (sweeps.RaisePhase p))).ended ≡ phases_end test p
@@ -51,7 +38,7 @@ at_stage n last word sweep claim sweeps.ReadPhase = over sweep word claim (word 
 at_stage n last word sweep claim (sweeps.RaisePhase p) = refl
 at_stage n last word sweep claim (sweeps.Warn c) = refl
 at_stage n last word sweep claim (sweeps.ReadHazard c r) = refl
-at_stage n last word sweep claim (sweeps.ReadStatus j) = read n sweep j (status_parts word) claim
+at_stage n last word sweep claim (sweeps.ReadStatus j) = from_status Onward n sweep j (status_parts word) (on n sweep j) (λ p is below away claim. refl) claim
 at_stage n last word sweep claim (sweeps.MakeReady j q) = either (word == status_word q kinds.Retired) _ _ (λ claim. refl) (on n sweep j) claim
 at_stage n last word sweep claim (sweeps.PushHead k j) = refl
 at_stage n last word sweep claim (sweeps.PushLink j q t) = refl

@@ -1,12 +1,10 @@
 -- What an access leaves of a sweep and of a claim: the scheme, the claim's kind, and that a push goes to its slot's kind.
-use Rattle.std.proofs.Common.{◌≡◌, ℕ, zero, suc, ◌+◌, ◌-◌, ◌≤◌, ◌&&◌, Bool, true, false, not, Option, Some, None, if◌then◌else◌, refl, arith}
+use Rattle.std.proofs.Common.{◌≡◌, ℕ, zero, suc, ◌+◌, ◌≤◌, Bool, true, false, Option, Some, None, if◌then◌else◌, refl, arith}
 use Rattle.std.specs.Prelude.{nat_lt, ◌==◌}
-use Rattle.oa_words.specs.declared.packed.Kind.{Kind}
 use Rattle.oa_words.specs.declared.packed.Kind.TheVariants as kinds
 use Rattle.oa_words.specs.Words.{Sizes, slot_range}
 use Rattle.oa_words.specs.SlotKinds.{kind_of}
-use Rattle.oa_words.specs.Packed.{StatusParts, status_parts, status_word, head_parts, head_word}
-use Rattle.guard_words.specs.Guards.{has_slot}
+use Rattle.oa_words.specs.Packed.{status_parts, status_word, head_parts, head_word}
 use Rattle.phase_pools.specs.declared.access.ClaimEnd.TheVariants as ends
 use Rattle.phase_pools.specs.declared.access.SweepEnd.{SweepEnd}
 use Rattle.phase_pools.specs.declared.access.SweepEnd.TheVariants as swept
@@ -16,9 +14,10 @@ use Rattle.phase_pools.specs.declared.stages.SweepStage.{SweepStage}
 use Rattle.phase_pools.specs.declared.stages.SweepStage.TheVariants as sweeps
 use Rattle.phase_pools.specs.declared.stages.ClaimStage.{ClaimStage}
 use Rattle.phase_pools.specs.declared.stages.ClaimStage.TheVariants as claims
-use Rattle.phase_pools.specs.Pools.{has_lower, Sweep, SweepTurn, sweep_goes, sweep_ends, sweep_on, warned_all, freeing, status_read, sweep_accepts_at, sweep_accepts, Claim, ClaimTurn, claim_goes, claim_ends, sweep_follows, look_ended, sweep_ended, claim_accepts_at, claim_accepts}
+use Rattle.phase_pools.specs.Pools.{Sweep, SweepTurn, sweep_goes, sweep_ends, sweep_on, warned_all, sweep_accepts_at, sweep_accepts, Claim, ClaimTurn, claim_goes, claim_ends, sweep_follows, look_ended, sweep_ended, claim_accepts_at, claim_accepts}
 use Rattle.phase_pools.specs.Ranges.{PushesByKind}
 use Rattle.phase_pools.proofs.Lowering.{low_less}
+use Rattle.phase_pools.proofs.Statuses.{from_slot, from_status}
 
 -- what holds both ways of a test
 either : {A : Type 0} (P : A → Type 0) (test : Bool) (x y : A) → P x → P y → P (if test then x else y)
@@ -35,20 +34,7 @@ pub record Keeps (n : Sizes) (sweep : Sweep) (turn : SweepTurn) : Type 0 where
   pub pushes : PushesByKind n sweep.stage → PushesByKind n turn.sweep.stage
 
 goes_on : (n : Sizes) (sweep : Sweep) (j : ℕ) → Keeps n sweep (sweep_on n sweep j)
-goes_on n sweep j =
-    either (Keeps n sweep) (has_lower n j) (sweep_goes sweep (sweeps.ReadStatus (j - 1))) (sweep_ends sweep swept.Swept)
-    (record { scheme = refl; low = λ le. le; pushes = λ _. tt }) (record { scheme = refl; low = λ le. le; pushes = λ is. is })
-
-frees : (n : Sizes) (sweep : Sweep) (j q : ℕ) (kind : Kind) → Keeps n sweep (freeing n sweep j q kind)
-frees n sweep j q kinds.Ready = goes_on n sweep j
-frees n sweep j q kinds.Used = goes_on n sweep j
-frees n sweep j q kinds.Retired =
-    either (Keeps n sweep) (nat_lt q sweep.low && not (has_slot sweep.gathered j)) (sweep_goes sweep (sweeps.MakeReady j q)) (sweep_on n sweep j)
-    (record { scheme = refl; low = λ le. le; pushes = λ _. tt }) (goes_on n sweep j)
-
-reads_status : (n : Sizes) (sweep : Sweep) (j : ℕ) (parts : Option StatusParts) → Keeps n sweep (status_read n sweep j parts)
-reads_status n sweep j None = goes_on n sweep j
-reads_status n sweep j (Some parts) = frees n sweep j parts.phase parts.kind
+goes_on n sweep j = from_slot (Keeps n sweep) n sweep j (λ more. record { scheme = refl; low = λ le. le; pushes = λ _. tt }) (record { scheme = refl; low = λ le. le; pushes = λ is. is })
 
 all_warned : (n : Sizes) (scheme : Scheme) → PushesByKind n (warned_all n scheme)
 all_warned n Warned = tt
@@ -69,7 +55,8 @@ keeps_at n last sweep word (sweeps.ReadHazard c r) =
       pushes = λ _. either (PushesByKind n) (nat_lt (r + 1) 8) (sweeps.ReadHazard c (r + 1)) (if nat_lt (c + 1) n.callers then sweeps.ReadHazard (c + 1) 0 else sweeps.ReadStatus (slot_range n).last) tt
           (either (PushesByKind n) (nat_lt (c + 1) n.callers) (sweeps.ReadHazard (c + 1) 0) (sweeps.ReadStatus (slot_range n).last) tt tt);
     }
-keeps_at n last sweep word (sweeps.ReadStatus j) = reads_status n sweep j (status_parts word)
+keeps_at n last sweep word (sweeps.ReadStatus j) =
+    from_status (Keeps n sweep) n sweep j (status_parts word) (goes_on n sweep j) (λ p is below away. record { scheme = refl; low = λ le. le; pushes = λ _. tt })
 keeps_at n last sweep word (sweeps.MakeReady j q) =
     either (Keeps n sweep) (word == status_word q kinds.Retired) (sweep_goes sweep (sweeps.PushHead (kind_of n j) j)) (sweep_on n sweep j)
     (record { scheme = refl; low = λ le. le; pushes = λ _. refl }) (goes_on n sweep j)

@@ -1,4 +1,5 @@
 pub mod Lowering
+pub mod Statuses
 pub mod Keeping
 pub mod Ending
 pub mod Runs

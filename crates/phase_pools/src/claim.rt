@@ -49,7 +49,6 @@ impl ClaimState {
         ensures same { result ≡ claim_begun shape.now kind Warned }
         ensures within { ClaimInRange shape.now result.sweep result.stage }
     {
-        let _ = shape;
         ClaimState {
             kind,
             stage: ClaimStage::ReadHead,
@@ -65,7 +64,6 @@ impl ClaimState {
         ensures same { result ≡ claim_begun shape.now kind (Announced own) }
         ensures within { ClaimInRange shape.now result.sweep result.stage }
     {
-        let _ = shape;
         ClaimState {
             kind,
             stage: ClaimStage::ReadHead,
@@ -115,7 +113,7 @@ impl ClaimState {
         requires { ClaimInRange shape.now self.now.sweep self.now.stage }
         ensures { result ≡ claim_takes self.now word }
     {
-        let _slots = shape.slots();
+        shape.kept();
         match self.stage {
             ClaimStage::Take(q, top, _) => word == head_word(q, top),
             ClaimStage::ReadHead
@@ -131,7 +129,6 @@ impl ClaimState {
     pub fn end(&self, shape: &Shape, last_phase: u64, word: u64) -> Option<ClaimEnd>
         ensures { result ≡ (claim_accepts shape.now last_phase self.now word).ended }
     {
-        let _ = shape;
         match self.stage {
             ClaimStage::ReadHead => self.look_end(word),
             ClaimStage::StoreUsed(_, top) => Some(ClaimEnd::Claimed(top)),
@@ -180,7 +177,7 @@ impl ClaimState {
         match self.stage {
             ClaimStage::ReadHead => self.look_begun(shape, last_phase, word),
             ClaimStage::ReadLink(q, top) => {
-                let _slots = shape.slots();
+                shape.kept();
                 self.stage = ClaimStage::Take(q, top, word as u32);
                 None
             }
@@ -228,7 +225,7 @@ impl ClaimState {
         ensures same { look_begun self.old (head_parts word) ≡ record { claim = self.new; ended = result } }
         ensures stays { ClaimInRange shape.now self.new.sweep self.new.stage }
     {
-        let _slots = shape.slots();
+        shape.kept();
         let (q, top) = head_parts(word);
         if top == 0 {
             return self.look_ended(shape);
@@ -245,7 +242,7 @@ impl ClaimState {
         ensures same { look_took self.old q top word ≡ record { claim = self.new; ended = None } }
         ensures stays { ClaimInRange shape.now self.new.sweep self.new.stage }
     {
-        let _slots = shape.slots();
+        shape.kept();
         self.stage = if word == head_word(q, top) {
             ClaimStage::StoreUsed(q, top)
         } else {
@@ -289,7 +286,6 @@ impl ClaimState {
         ensures same { sweep_started self.old ≡ record { claim = self.new; ended = None } }
         ensures stays { ClaimInRange shape.now self.new.sweep self.new.stage }
     {
-        let _ = shape;
         self.stage = ClaimStage::Sweeps;
         self.sweep = SweepState::begin_by(self.sweep.scheme());
     }
@@ -304,7 +300,7 @@ fn take(shape: &Shape, kind: u32, q: u64, top: u32, next: u32) -> Access
     ensures same { result ≡ located shape.now (Exchanges (Head kind) (head_word q top) (head_word q next)) }
     ensures raises { RaisesToPhase result }
 {
-    let _slots = shape.slots();
+    shape.kept();
     Access::CompareExchange {
         at: shape.head_at(kind),
         expected: head_word(q, top),

@@ -10,7 +10,7 @@ pub(crate) fn first_slot(shape: &Shape) -> u32
     ensures first { result ≡ (slot_range shape.now).first }
     ensures within { result ≤ shape.now.slots }
 {
-    let _slots = shape.slots();
+    shape.kept();
     1
 }
 

@@ -67,7 +67,7 @@ fn warned_all(shape: &Shape, scheme: Scheme) -> SweepStage
     ensures within { SweepInRange shape.now result }
     ensures slot { StandsAtSlot result }
 {
-    let _callers = shape.callers();
+    shape.kept();
     match scheme {
         Scheme::Warned => SweepStage::ReadHazard(0, 0),
         Scheme::Announced(_) => SweepStage::ReadStatus(last_slot(shape)),
@@ -241,7 +241,6 @@ impl SweepState {
         ensures same { phase_read last_phase self.old word ≡ record { sweep = self.new; ended = result } }
         ensures stays { SweepInRange shape.now self.new.stage }
     {
-        let _ = shape;
         if word == last_phase {
             return Some(SweepEnd::PhasesOver(word));
         }
@@ -256,7 +255,7 @@ impl SweepState {
         ensures same { phase_raised self.old p ≡ record { sweep = self.new; ended = None } }
         ensures stays { SweepInRange shape.now self.new.stage }
     {
-        let _callers = shape.callers();
+        shape.kept();
         self.bound = p + 1;
         self.low = self.bound;
         self.stage = SweepStage::Warn(0);
@@ -284,7 +283,7 @@ impl SweepState {
         ensures same { hazard_read shape.now self.old caller register word ≡ record { sweep = self.new; ended = None } }
         ensures stays { SweepInRange shape.now self.new.stage }
     {
-        let (_callers, _slots) = (shape.callers(), shape.slots());
+        shape.kept();
         self.gathered.add(word as u32);
         self.stage = hazard_next(shape, caller, register);
     }
@@ -367,7 +366,7 @@ impl SweepState {
         ensures same { push_read self.old slot (head_parts word) ≡ record { sweep = self.new; ended = None } }
         ensures stays { SweepInRange shape.now self.new.stage }
     {
-        let _slots = shape.slots();
+        shape.kept();
         let (q, top) = head_parts(word);
         self.stage = SweepStage::PushLink(slot, q, top as u32);
     }
@@ -384,7 +383,7 @@ impl SweepState {
         ensures same { pushed shape.now self.old slot q top word ≡ record { sweep = self.new; ended = result } }
         ensures stays { SweepInRange shape.now self.new.stage }
     {
-        let _slots = shape.slots();
+        shape.kept();
         if word == head_word(q, top) {
             return self.slot_done(shape, slot);
         }
@@ -403,7 +402,7 @@ fn push(shape: &Shape, kind: u32, slot: u32, q: u64, top: u32, bound: u64) -> Ac
     ensures same { result ≡ located shape.now (Exchanges (Head kind) (head_word q top) (head_word (max q bound) slot)) }
     ensures raises { RaisesToPhase result }
 {
-    let _slots = shape.slots();
+    shape.kept();
     Access::CompareExchange {
         at: shape.head_at(kind),
         expected: head_word(q, top),

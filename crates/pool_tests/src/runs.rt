@@ -64,7 +64,8 @@ fn is_told(shape: &Shape, last_phase: u64, at: u32, word: u64) -> bool
     ensures { IsTrue result → IsTold shape.now last_phase at word }
 {
     let callers = shape.callers();
-    let (slots, _kinds) = (shape.slots(), shape.kinds());
+    shape.kept();
+    let slots = shape.slots();
     if at <= 2 * callers {
         return word <= last_phase;
     }

@@ -7,17 +7,15 @@ use Rattle.target_code.specs.declared.target.Target.{Target}
 use Rattle.phase_pools.specs.Accesses.{WordAccess}
 use Rattle.caller_parts.specs.declared.call.Call.{Call}
 use Rattle.caller_parts.specs.Settings.{Setting}
-use Rattle.caller_parts.specs.declared.setting.Reclamation.{Reclamation}
-use Rattle.caller_parts.specs.declared.setting.Reclamation.TheVariants.{Optimistic, Epochs}
 use Rattle.caller_parts.specs.Calls.{is_call, AreCalls}
 use Rattle.caller_steps.specs.Entries.{Entry, RoomyEntry, is_idle}
 use Rattle.caller_steps.specs.Wants.{wants}
-use Rattle.caller_steps.specs.After.{after, taken, first_routine}
+use Rattle.caller_steps.specs.After.{after, taken}
 use Rattle.core_runs.specs.Machine.{CoreState, CoreEvent, Takes, Steps, core_event, core_run, run_on, event_by, stepped, found_by, made}
 use Rattle.core_runs.specs.RunSigns.{event_signs, signs_on, run_signs}
 use Rattle.core_runs.specs.Scripts.{script_of}
 use Rattle.core_runs.specs.Replays.{is_spent, take_events, entry_events}
-use Rattle.core_runs.proofs.Keeping.{got_same}
+use Rattle.core_runs.proofs.Keeping.{got_same, first_busy}
 use Rattle.core_entries.specs.Steps.{StepIs}
 use Rattle.replay_logs.specs.UnderWay.{Terms, Progress, replay_by, core_part, cores_of, core_in, has_next, begun_by, begun, HasRooms}
 
@@ -101,11 +99,6 @@ pub record Readies (t : Terms) (c : ℕ) (old : Progress) (e e1 : RoomyEntry) : 
 
 set_core : (entries : List RoomyEntry) (c : ℕ) (e : RoomyEntry) → slice_set (map core_part entries) c e.core ≡ map core_part (slice_set entries c e)
 set_core entries c e = sym (map-set core_part entries c e)
-
--- a call that was taken runs
-first_busy : (by : Reclamation) → is_idle (first_routine by) ≡ false
-first_busy Optimistic = refl
-first_busy Epochs = refl
 
 takes_first : (t : Terms) (c : ℕ) (old : Progress) (e : RoomyEntry) (call : Call) → slice_get old.entries c ≡ Some e → is_idle e.core.routine ≡ true → is_call t.pair.target call ≡ true
     → entry_events (replay_by t) c e.core ≡ Some (Takes c call ∷ Steps c ∷ []) → Readies t c old e (record e { core = taken t.setting.reclamation call e.core })

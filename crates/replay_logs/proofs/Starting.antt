@@ -4,18 +4,16 @@ use Rattle.std.specs.Prelude.{slice_get, Result, Ok, Err}
 use Rattle.std.specs.List.{list_all}
 use Rattle.oa_words.specs.SlotKinds.{together}
 use Rattle.norm_lang.specs.declared.text.Text.{Text}
-use Rattle.source_machine.specs.declared.event.SourceReply.{SourceReply}
+use Rattle.norm_lang.specs.declared.reply.SourceReply.{SourceReply}
 use Rattle.source_machine.specs.Calls.{IsOfSourceRun}
 use Rattle.caller_parts.specs.declared.call.Call.{Call}
-use Rattle.caller_parts.specs.declared.call.Replied.{Replied}
-use Rattle.caller_parts.specs.Pairing.{reply_of}
 use Rattle.caller_steps.specs.Entries.{Entry, RoomyEntry, idle_entry}
 use Rattle.core_runs.specs.Machine.{CoreState, core_start, idle_from}
 use Rattle.core_runs.specs.Scripts.{script_of}
 use Rattle.core_runs.specs.Replays.{Replaying, Refusal, replay_start}
 use Rattle.core_runs.proofs.core_sound.Grouped.{nodes_together}
 use Rattle.core_runs.proofs.core_sound.StartSound.{stand}
-use Rattle.oa_simulation.specs.sim_relation.Callers.{source_reply, replies_of}
+use Rattle.oa_simulation.specs.sim_relation.Callers.{replies_of}
 use Rattle.oa_simulation.specs.Shadow.{shadow_start}
 use Rattle.run_logs.specs.Logged.{Recording, is_sized, recording_start}
 use Rattle.run_logs.specs.LogLaws.{recording}
@@ -93,8 +91,3 @@ logs_none t old now next (errors.LongReplay steps) follows = record { each = λ 
 
 pub memory_none : (t : Terms) (old : Progress) (next : Way) → LogsFrom t old next (Err errors.Memory)
 memory_none t old next = record { each = λ r shows. tt }
-
--- the replies of an entry, one by one
-pub replies_so : (replies : List Replied) → map source_reply (map reply_of replies) ≡ map (λ (replied : Replied). source_reply replied.reply) replies
-replies_so [] = refl
-replies_so (replied ∷ replies) = ap (λ (rest : List SourceReply). source_reply replied.reply ∷ rest) (replies_so replies)

@@ -2,8 +2,9 @@
 use Rattle.std.specs.Prelude.{◌≡◌, ℕ, ◌≤◌, ◌+◌, All, Bool, true, false, not, List, [], ◌∷◌, map, length, Option, Some, None, is_some, Result, Ok, Err, if◌then◌else◌, slice_get, slice_set}
 use Rattle.norm_lang.specs.declared.text.Text.{Text}
 use Rattle.barrier_check.specs.Paired.{Paired, IsSound}
-use Rattle.source_machine.specs.declared.event.SourceReply.{SourceReply}
+use Rattle.norm_lang.specs.declared.reply.SourceReply.{SourceReply}
 use Rattle.source_machine.specs.Calls.{IsOfSourceRun}
+use Rattle.documents.specs.DocumentLimits.{most_calls}
 use Rattle.caller_parts.specs.declared.call.Call.{Call}
 use Rattle.caller_parts.specs.Calls.{AreCalls}
 use Rattle.caller_parts.specs.Settings.{Setting, IsSetting, Fits}
@@ -149,7 +150,7 @@ pub record Follows (t : Terms) (old : Progress) (result : Result (Unit {0}) LogE
 
 -- no script has more calls
 abbrev pub IsShort : List Call → Type 0
-IsShort script = length script ≤ 100000
+IsShort script = length script ≤ most_calls
 
 -- an idle entry with room for a script's replies
 abbrev pub fresh_entry : ℕ → List Call → RoomyEntry

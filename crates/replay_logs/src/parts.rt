@@ -108,7 +108,7 @@ impl<'a> Terms<'a> {
     {
         match entry_at(&now.entries, caller) {
             None => false,
-            Some(entry) => is_of_kind(kind, entry.kind_wanted(&self.prepared, self.setting)),
+            Some(entry) => is_of_kind(kind, entry.kind_wanted(self.prepared, self.setting)),
         }
     }
 
@@ -146,6 +146,7 @@ impl<'a> Terms<'a> {
     }
 
     /// What is left of a part after a further step; nothing where it is over.
+    #[inline(always)]
     fn rest_of(&self, now: &Progress, part: Part) -> Option<Part>
         requires { IsUnderWay self.now now.now }
         ensures { result ≡ part_rest (replay_by self.now) part (cores_of now.now) }
@@ -167,6 +168,7 @@ impl<'a> Terms<'a> {
     }
 
     /// The steps of a part.
+    #[inline(always)]
     pub(crate) fn make_part(
         &self,
         alloc: Global,

@@ -1,6 +1,6 @@
 //! A replay under way, and one step of it, written down.
 
-ghost use Rattle.std.specs.Prelude.{◌≡◌, ◌<◌, ◌+◌, true, OnOk, length, is_some, nat_le, option_copied, slice_get};
+ghost use Rattle.std.specs.Prelude.{◌≡◌, ◌<◌, ◌+◌, ◌^◌, true, OnOk, length, is_some, nat_le, option_copied, slice_get};
 ghost use Rattle.source_machine.specs.Calls.{IsOfSourceRun};
 ghost use Rattle.caller_parts.specs.Calls.{AreCalls};
 ghost use Rattle.core_runs.specs.Scripts.{script_of};
@@ -10,7 +10,7 @@ ghost use Rattle.core_entries.specs.Steps.{WordsSound, StepIs};
 ghost use Rattle.replay_logs.specs.UnderWay.{replay_by, log_after, begun, has_next, has_next_in, MovesAt, CanMove, CanMoveAt, Moves, IsUnderWay, Follows};
 
 use crate::error::LogError;
-use caller_steps::{Call, Setting};
+use caller_steps::{Call, Program, Setting};
 use core_entries::{Entry, PlainWords, Prepared, Runs};
 use norm_check::Normal;
 use norm_lang::list::Listed;
@@ -19,10 +19,12 @@ use run_logs::steps::step_written;
 use std::alloc::{AllocError, Global};
 use std::marker::Model;
 
-/// What is replayed: the calls of each caller, `fuel` steps at most for each call, and `limit` steps at most in all.
+/// What is replayed: the calls of each caller, `fuel` steps at most for each call, and `limit` steps at most in all. The program of
+/// the target is made once for all steps.
 #[derive(Drop)]
 pub(crate) struct Terms<'a> {
-    pub(crate) prepared: Prepared<'a>,
+    pub(crate) prepared: &'a Prepared<'a>,
+    pub(crate) program: Program<'a>,
     pub(crate) normal: &'a Normal,
     pub(crate) setting: &'a Setting,
     pub(crate) scripts: &'a [Listed<Call>],
@@ -31,11 +33,14 @@ pub(crate) struct Terms<'a> {
 }
 
 impl<'a> Model for Terms<'a> {
+    ghost use Rattle.std.specs.Prelude.{◌≡◌};
     ghost use Rattle.replay_logs.specs.UnderWay.{Terms as Told};
 
     ghost Value = { Told };
 
-    ghost view = { λ t. record { pair = t.prepared; text = t.normal.now; setting = t.setting.now; scripts = t.scripts.now; fuel = t.fuel; limit = t.limit } };
+    ghost view = { λ t. record { pair = t.prepared.now; text = t.normal.now; setting = t.setting.now; scripts = t.scripts.now; fuel = t.fuel; limit = t.limit } };
+
+    ghost invariant = { λ t. t.program ≡ t.prepared.now.target };
 }
 
 /// How far a replay has come: the words, the entries, what was written down, and how many steps were made.
@@ -76,24 +81,35 @@ fn script_at(scripts: &[Listed<Call>], caller: usize) -> &[Call]
     }
 }
 
-/// Whether a caller with this script has a step to take: it runs a call that isn't spent, or its script has a further one.
-fn has_next(fuel: u64, script: &[Call], entry: &Entry) -> bool
-    ensures { result ≡ has_next fuel script.now entry.now.core }
+/// Whether a caller has a step to take: it runs a call that isn't spent, or its script has a further one.
+#[inline(always)]
+fn has_next(fuel: u64, scripts: &[Listed<Call>], caller: u32, entry: &Entry) -> bool
+    ensures { result ≡ has_next fuel (script_of scripts.now caller) entry.now.core }
 {
     if entry.is_idle() {
+        let script = script_at(scripts, caller as usize);
         return call_at(script, entry.replies().len()).is_some();
     }
     !entry.is_spent(fuel)
 }
 
 impl<'a> Terms<'a> {
+    /// The limit is a number of the machine: a law for those who hold one. To read a field tells it.
+    #[inline(always)]
+    fn kept(&self)
+        ensures { self.now.limit < 2 ^ 64 }
+    {
+        let _limit = self.limit;
+    }
+
     /// Whether a caller has a step to take. One that doesn't exist has none.
+    #[inline(always)]
     pub(crate) fn has_next(&self, now: &Progress, caller: u32) -> bool
         ensures { result ≡ has_next_in self.now caller now.now }
     {
         match now.entries.get(caller as usize) {
             None => false,
-            Some(entry) => has_next(self.fuel, script_at(self.scripts, caller as usize), entry),
+            Some(entry) => has_next(self.fuel, self.scripts, caller, entry),
         }
     }
 
@@ -115,6 +131,7 @@ impl<'a> Terms<'a> {
     }
 
     /// Makes a step of an entry, after it took its call, and writes it down.
+    #[inline(always)]
     fn move_entry(
         &self,
         alloc: Global,
@@ -131,7 +148,7 @@ impl<'a> Terms<'a> {
         ensures written { OnOk result (log.new ≡ log_after self.now words.old (begun self.now.setting.reclamation script.now entry.old).core log.old) }
     {
         self.begin_entry(entry, script);
-        let (barred, program) = (self.prepared.barred(), self.prepared.program());
+        let barred = self.prepared.barred();
         step_written(
             alloc,
             self.normal,
@@ -139,12 +156,13 @@ impl<'a> Terms<'a> {
             words,
             log,
             barred,
-            &program,
+            &self.program,
             self.setting,
         )
     }
 
     /// Makes a step of a caller, in its place among the entries.
+    #[inline(always)]
     fn move_caller(
         &self,
         alloc: Global,
@@ -167,6 +185,7 @@ impl<'a> Terms<'a> {
     }
 
     /// Makes a step of a caller that has one to take, and doesn't count it.
+    #[inline(always)]
     fn move_in(&self, alloc: Global, now: &mut Progress, caller: u32) -> Result<(), AllocError>
         requires under_way { IsUnderWay self.now now.old }
         requires next { has_next_in self.now caller now.old ≡ true }
@@ -193,7 +212,7 @@ impl<'a> Terms<'a> {
         requires { now.old.steps < self.now.limit }
         ensures { now.new ≡ record now.old { steps = now.old.steps + 1 } }
     {
-        let _limit = self.limit;
+        self.kept();
         now.steps += 1;
     }
 
@@ -201,6 +220,7 @@ impl<'a> Terms<'a> {
     ///
     /// # Errors
     /// The caller has no step to take, the limit is reached, or memory ran out.
+    #[inline(always)]
     pub(crate) fn step_of(
         &self,
         alloc: Global,

@@ -18,7 +18,6 @@ use crate::progress::{Progress, Terms};
 use crate::replies::all_replies;
 use barrier_check::Barred;
 use caller_steps::{Call, Setting};
-use core_entries::prepared::kept;
 use core_entries::{Entry, PlainWords, Prepared};
 use norm_check::Normal;
 use norm_lang::list::Listed;
@@ -87,7 +86,6 @@ fn new_log(alloc: Global, terms: &Terms) -> Result<Log, AllocError>
     ensures made { IfOk result (λ log. log ≡ recording (shadow_start terms.now.text terms.now.setting)) }
     ensures source { IfOk result (λ log. IsOfSourceRun terms.now.text log.machine) }
 {
-    let _callers = terms.setting.shape().callers();
     let callers = terms.setting.shape().callers();
     let nodes = terms.prepared.barred().target().nodes.items().len() as u32;
     Log::new(alloc, terms.normal, callers, nodes)
@@ -99,7 +97,7 @@ fn start(alloc: Global, terms: &Terms) -> Result<Progress, AllocError>
     requires starts { Starts terms.now }
     ensures { IfOk result (λ now. Shows terms.now now (replay_start (replay_by terms.now))) }
 {
-    let _callers = terms.setting.shape().callers();
+    terms.setting.shape().kept();
     let words = PlainWords::new(alloc, terms.prepared.barred(), terms.setting)?;
     let entries = put_entries(alloc, terms.scripts)?;
     let log = new_log(alloc, terms)?;
@@ -148,6 +146,37 @@ fn log_from(
     Ok(logged(alloc, later)?)
 }
 
+/// Replays scripts on a prepared target, whose program is made here once for all steps.
+fn log_prepared<'a>(
+    alloc: Global,
+    prepared: &'a Prepared<'a>,
+    normal: &'a Normal,
+    setting: &'a Setting,
+    scripts: &'a [Listed<Call>],
+    fuel: u64,
+    limit: u64,
+    schedule: &[Turn],
+) -> Result<LoggedRun, LogError>
+    requires fits { Fits prepared.now.target setting.now }
+    requires count { length scripts.now ≡ setting.now.sizes.callers }
+    requires calls { All (AreCalls prepared.now.target) scripts.now }
+    requires few { All IsShort scripts.now }
+    ensures { IsLoggedBy (replay_for prepared.now.target setting.now scripts.now fuel limit) normal.now schedule.now result }
+{
+    setting.kept();
+    let terms = Terms {
+        prepared,
+        program: prepared.program(),
+        normal,
+        setting,
+        scripts,
+        fuel,
+        limit,
+    };
+    let now = start(alloc, &terms)?;
+    log_from(alloc, &terms, now, schedule)
+}
+
 /// Replays scripts, one for each caller, and writes down what the run tells the source machine: the turns of a schedule in order, and
 /// then each caller to its end, in the order of their numbers. A caller has a step to take where its operation runs or its script has a
 /// further call, and no operation of it was spent. An operation is spent where `fuel` steps were made for it and it hasn't ended. At most
@@ -172,16 +201,8 @@ pub fn log_replay(
     requires few { All IsShort scripts.now }
     ensures { IsLoggedBy (replay_for barred.now.target setting.now scripts.now fuel limit) normal.now schedule.now result }
 {
-    kept(barred);
-    setting.kept();
-    let terms = Terms {
-        prepared: Prepared::new(barred),
-        normal,
-        setting,
-        scripts,
-        fuel,
-        limit,
-    };
-    let now = start(alloc, &terms)?;
-    log_from(alloc, &terms, now, schedule)
+    let prepared = Prepared::new(barred);
+    log_prepared(
+        alloc, &prepared, normal, setting, scripts, fuel, limit, schedule,
+    )
 }

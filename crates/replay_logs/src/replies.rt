@@ -1,37 +1,32 @@
-//! The replies of callers, as the source machine gives them.
+//! The replies of callers.
 
 ghost use Rattle.std.specs.Prelude.{◌≡◌, true, map, IfOk};
 ghost use Rattle.std.specs.List.{list_all};
-ghost use Rattle.oa_simulation.specs.sim_relation.Callers.{source_reply, replies_of};
+ghost use Rattle.oa_simulation.specs.sim_relation.Callers.{replies_of};
 ghost use Rattle.replay_logs.specs.UnderWay.{entry_replies};
 ghost use Rattle.replay_logs.specs.Logged.{is_sized_reply};
 
-use caller_steps::Reply;
 use core_entries::Entry;
 use norm_lang::list::Listed;
 use source_machine::SourceReply;
 use std::alloc::{AllocError, Global};
 
-fn source_reply(reply: Reply) -> SourceReply
-    ensures same { result ≡ source_reply reply }
+/// The same reply, whose number is one of its type.
+fn numbered(reply: SourceReply) -> SourceReply
+    ensures same { result ≡ reply }
     ensures sized { is_sized_reply result ≡ true }
 {
-    match reply {
-        Reply::Number(n) => SourceReply::Number(n),
-        Reply::Nothing => SourceReply::Nothing,
-        Reply::Full => SourceReply::Full,
-        Reply::Phases(p) => SourceReply::Phases(p),
-    }
+    reply
 }
 
-/// Replies in order, as the source machine gives them.
-fn source_replies(alloc: Global, replies: &[Reply]) -> Result<Listed<SourceReply>, AllocError>
-    ensures same { IfOk result (λ list. list ≡ map source_reply replies.now) }
+/// Replies in order.
+fn copied(alloc: Global, replies: &[SourceReply]) -> Result<Listed<SourceReply>, AllocError>
+    ensures same { IfOk result (λ list. list ≡ replies.now) }
     ensures sized { IfOk result (λ list. list_all is_sized_reply list ≡ true) }
 {
     let mut list = Listed::empty(alloc);
     for reply in replies {
-        list.push(source_reply(*reply))?;
+        list.push(numbered(*reply))?;
     }
     Ok(list)
 }
@@ -41,7 +36,7 @@ fn replies_of(alloc: Global, entry: &Entry) -> Result<Listed<SourceReply>, Alloc
     ensures same { IfOk result (λ list. list ≡ replies_of entry.now.core) }
     ensures sized { IfOk result (λ list. list_all is_sized_reply list ≡ true) }
 {
-    source_replies(alloc, entry.replies())
+    copied(alloc, entry.replies())
 }
 
 /// The replies of each entry.

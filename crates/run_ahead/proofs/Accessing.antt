@@ -34,18 +34,14 @@ use Rattle.run_ahead.proofs.Getting.{given_got, more_got, plain_got}
 use Rattle.run_ahead.proofs.GuardRows.{plain_guards}
 use Rattle.run_ahead.proofs.Plain.{at_place, plain_keeps}
 use Rattle.run_ahead.proofs.Quiet.{source_ahead, stands_there}
-use Rattle.run_ahead.proofs.Standing.{access_at_is, accesses, accessed_same}
+use Rattle.run_ahead.proofs.Standing.{accesses, accessed_same}
 use Rattle.run_ahead.proofs.Watched.{access_watched}
 
 -- ---- instructions with their jumps taken elsewhere
 
 pub still_access : (place : ℕ → ℕ) (i : Instr) → is_access_at (Some (redirected place i)) ≡ is_access i
 still_access place (instr.Cas entry l) = refl
-still_access place (instr.Jump l) = refl
-still_access place (instr.IfEq a b l) = refl
-still_access place (instr.IfLess a b l) = refl
-still_access place (instr.IfMarked a l) = refl
-still_access place i = sym (access_at_is i)
+still_access place _ = refl
 
 new_at_is : (i : Instr) → is_new i ≡ is_new_at (Some i)
 new_at_is (instr.New d kind) = refl
@@ -56,13 +52,8 @@ still_new place i = sym (new_at_is (redirected place i)) ∙ is_new_redirected p
 
 -- an access isn't local
 pub not_local : (place : ℕ → ℕ) (i : Instr) (at : ℕ) (registers : Registers) → IsTrue (is_access i) → local_step (redirected place i) at registers ≡ None
-not_local place (instr.LoadRoot d x) at registers access = refl
-not_local place (instr.LoadPick d x n a) at registers access = refl
-not_local place (instr.LoadField d a f) at registers access = refl
-not_local place (instr.New d kind) at registers access = refl
-not_local place (instr.Put a f b) at registers access = refl
-not_local place (instr.Cas entry l) at registers access = refl
-not_local place _ at registers access = absurd (let no : false ≡ true = access in cc)
+not_local place (instr.LoadRoot d x) at registers access = cc
+not_local place _ at registers access = cc
 
 -- ---- any access
 

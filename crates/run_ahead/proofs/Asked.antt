@@ -37,10 +37,6 @@ use Rattle.run_ahead.proofs.TypedCallers.{stands_asked, list_asked}
 -- it doesn't matter to what is asked where a jump leads
 asks_redirected : (fields : List FieldDecl) (roots : List RootDecl) (place : ℕ → ℕ) (i : Instr) (r k : ℕ) → asks fields roots (redirected place i) r k ≡ asks fields roots i r k
 asks_redirected fields roots place (instr.Cas entry l) r k = refl
-asks_redirected fields roots place (instr.Jump l) r k = refl
-asks_redirected fields roots place (instr.IfEq a b l) r k = refl
-asks_redirected fields roots place (instr.IfLess a b l) r k = refl
-asks_redirected fields roots place (instr.IfMarked a l) r k = refl
 asks_redirected fields roots place _ r k = refl
 
 -- a typed caller that stands at an access

@@ -12,7 +12,7 @@ use Rattle.norm_lang.specs.Local.{Spot, local_step}
 use Rattle.norm_lang.specs.RegisterUse.{reads}
 use Rattle.target_laws.specs.local_laws.Settling.{is_end}
 use Rattle.source_machine.specs.declared.event.SourceEvent.TheVariants as events
-use Rattle.source_machine.specs.declared.event.SourceReply.TheVariants as replies
+use Rattle.norm_lang.specs.declared.reply.SourceReply.TheVariants as replies
 use Rattle.source_machine.specs.MethodRuns.{run_begun, run_after}
 use Rattle.source_machine.specs.Run.{is_end_at, is_new_at, is_enabled_for}
 use Rattle.source_machine.specs.declared.state.Stand.TheVariants.{InWrapUp}

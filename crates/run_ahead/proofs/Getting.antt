@@ -1,5 +1,5 @@
 -- What registers hold, along a method run: names that it got, or those of its start.
-use Rattle.std.proofs.Common.{◌≡◌, ℕ, zero, suc, ◌⊎◌, inl, inr, Bool, true, false, ◌||◌, List, [], ◌∷◌, Some, None, refl, sym, ap, subst, ◌∙◌}
+use Rattle.std.proofs.Common.{◌≡◌, ℕ, zero, suc, ◌⊎◌, inl, inr, Bool, true, false, ◌||◌, List, [], ◌∷◌, Some, refl, sym, ap, subst, ◌∙◌}
 use Rattle.std.specs.Prelude.{slice_get, IsTrue, ◌==◌}
 use Rattle.std.proofs.lemmas.Bool.{or_parts, or_cases, or_left, or_right}
 use Rattle.norm_lang.specs.declared.text.Reg.{Reg}
@@ -74,22 +74,13 @@ plain_got method home Set path at i given here mirror here' mirror' started got 
 -- one that sets a reference and reads one copies it
 copies : (fields : List FieldDecl) (roots : List RootDecl) (i : Instr) (at : ℕ) (registers : Registers) (next : Spot) (d a : ℕ) → has_wrong_kind fields roots i ≡ false → local_step i at registers ≡ Some next
     → IsTrue (sets (Ref d) i) → IsTrue (reads (Ref a) i) → IsTrue (follows (Ref a) i)
-copies fields roots (instr.Set e n) at registers next d a kind step set read = absurd (let no : false ≡ true = read in cc)
 copies fields roots (instr.Mov e b) at registers next d a kind step set read = elim (or_cases (same_register (Ref a) b) false read) [ inl same ↦ same | inr other ↦ absurd (let never : false ≡ true = other in cc) ]
 copies fields roots (instr.Mark e b) at registers next d a kind step set read = elim (or_cases (same_register (Ref a) b) false read) [ inl same ↦ same | inr other ↦ absurd (let never : false ≡ true = other in cc) ]
 copies fields roots (instr.Unmark e b) at registers next d a kind step set read = elim (or_cases (same_register (Ref a) b) false read) [ inl same ↦ same | inr other ↦ absurd (let never : false ≡ true = other in cc) ]
 copies fields roots (instr.Add (Num e) b c) at registers next d a kind step set read = absurd (let no : false ≡ true = set in cc)
-copies fields roots (instr.Add (Ref e) b c) at registers next d a kind step set read = absurd (let no : true ≡ false = kind in cc)
 copies fields roots (instr.Sub (Num e) b c) at registers next d a kind step set read = absurd (let no : false ≡ true = set in cc)
-copies fields roots (instr.Sub (Ref e) b c) at registers next d a kind step set read = absurd (let no : true ≡ false = kind in cc)
 copies fields roots (instr.Rem (Num e) b n) at registers next d a kind step set read = absurd (let no : false ≡ true = set in cc)
-copies fields roots (instr.Rem (Ref e) b n) at registers next d a kind step set read = absurd (let no : true ≡ false = kind in cc)
-copies fields roots (instr.Null e) at registers next d a kind step set read = absurd (let no : false ≡ true = read in cc)
-copies fields roots (instr.Jump l) at registers next d a kind step set read = absurd (let no : false ≡ true = set in cc)
-copies fields roots (instr.IfEq b c l) at registers next d a kind step set read = absurd (let no : false ≡ true = set in cc)
-copies fields roots (instr.IfLess b c l) at registers next d a kind step set read = absurd (let no : false ≡ true = set in cc)
-copies fields roots (instr.IfMarked b l) at registers next d a kind step set read = absurd (let no : false ≡ true = set in cc)
-copies fields roots _ at registers next d a kind step set read = absurd (let no : None ≡ Some next = step in cc)
+copies fields roots _ at registers next d a kind step set read = absurd cc
 
 -- what is read at a place of the target and wasn't set on the path is so in the text
 read_unset : {target : Target} {text : Text} (method : Method target text) → IsErased target text → (path : List ℕ) (at : ℕ) (i : Instr) (r : Reg) → TargetPath (code_in method) path at
@@ -106,7 +97,7 @@ carried_where_read method erased path at i r wrapup leads is read unset =
     subst (λ b. (place : ℕ) × IsTrue (reads_at r (slice_get (code_of method.op b) place)) × ComesUnset (code_of method.op b) r place) wrapup (read_unset method erased path at i r leads is read unset)
 
 -- a register that is copied holds null or a name that the run got: a wrap-up copies no kept register
-copied_got : {target : Target} {text : Text} (method : Method target text) → IsErased target text → (path : List ℕ) (at : ℕ) (i : Instr) (started mirror : Registers) (got : List ℕ) (r : ℕ) → TargetPath (code_in method) path at
+pub copied_got : {target : Target} {text : Text} (method : Method target text) → IsErased target text → (path : List ℕ) (at : ℕ) (i : Instr) (started mirror : Registers) (got : List ℕ) (r : ℕ) → TargetPath (code_in method) path at
     → slice_get (code_in method) at ≡ Some (Plain i) → IsTrue (reads (Ref r) i) → IsTrue (follows (Ref r) i) → (method.wrapup ≡ false → (r : ℕ) → node_in started r ≡ 0) → AreGot method path started mirror got → IsGot got (node_in mirror r)
 copied_got {target = target} {text = text} method erased path at i started mirror got r leads is read followed null a = by_set (is_set_in method path r) refl
   where

@@ -24,17 +24,10 @@ use Rattle.run_ahead.specs.Guards.{GuardRow, no_guards, validated, published, gu
 plain_stands : (set made : Bool) (was : GuardState) (registers registers' : Registers) (row : GuardRow) (r : ℕ) → (set ≡ false → node_in registers' r ≡ node_in registers r)
     → GuardStands was registers row r → GuardStands (if set || made then dropped was else was) registers' (if made then no_guards else row) r
 plain_stands true made Free registers registers' row r same stands = tt
-plain_stands true made Published registers registers' row r same stands = tt
-plain_stands true made Validated registers registers' row r same stands = tt
-plain_stands true made Dropped registers registers' row r same stands = tt
 plain_stands false true Free registers registers' row r same stands = tt
-plain_stands false true Published registers registers' row r same stands = tt
-plain_stands false true Validated registers registers' row r same stands = tt
-plain_stands false true Dropped registers registers' row r same stands = tt
-plain_stands false false Free registers registers' row r same stands = tt
 plain_stands false false Published registers registers' row r same stands = stands ∙ sym (same refl)
 plain_stands false false Validated registers registers' row r same stands = (stands.0 ∙ sym (same refl), stands.1)
-plain_stands false false Dropped registers registers' row r same stands = tt
+plain_stands _ made _ registers registers' row r same stands = tt
 
 valid_unless_null : (name : ℕ) → (not (name == 0) ≡ true) ⊎ (name ≡ 0)
 valid_unless_null zero = inr refl

@@ -122,37 +122,28 @@ pub mirrored : (home place : ℕ → ℕ) (fields : List FieldDecl) (roots : Lis
     → local_step i at here ≡ Some next → Mirrors home place i at here mirror next
 mirrored home place fields roots (instr.Set (Num d) n) at here mirror next null on sized kind agree apart is =
     mirrored_number home place (instr.Set (Num d) n) at here mirror next d n n sized refl refl on is refl
-mirrored home place fields roots (instr.Set (Ref d) n) at here mirror next null on sized kind agree apart is = absurd (let no : true ≡ false = kind in cc)
 mirrored home place fields roots (instr.Mov (Num d) (Num a)) at here mirror next null on sized kind agree apart is =
     mirrored_number home place (instr.Mov (Num d) (Num a)) at here mirror next d (number_in here (Num a)) (number_in mirror (Num a)) sized refl refl on is (agree (Num a) (reads_first (Num a) false))
-mirrored home place fields roots (instr.Mov (Num d) (Ref a)) at here mirror next null on sized kind agree apart is = absurd (let no : true ≡ false = kind in cc)
-mirrored home place fields roots (instr.Mov (Ref d) (Num a)) at here mirror next null on sized kind agree apart is = absurd (let no : true ≡ false = kind in cc)
 mirrored home place fields roots (instr.Mov (Ref d) (Ref a)) at here mirror next null on sized kind agree apart is =
     mirrored_reference home place (instr.Mov (Ref d) (Ref a)) at here mirror next d (reference_in here (Ref a)) (reference_in mirror (Ref a)) null sized refl refl on is
     (agree (Ref a) (reads_first (Ref a) false)) (known_node mirror (instr.Mov (Ref d) (Ref a)) (Ref a) (reads_first (Ref a) false))
 mirrored home place fields roots (instr.Add (Num d) a b) at here mirror next null on sized kind agree apart is =
     mirrored_number home place (instr.Add (Num d) a b) at here mirror next d ((number_in here a + number_in here b) % 2 ^ 64) ((number_in mirror a + number_in mirror b) % 2 ^ 64) sized refl refl on is
     (rw (numbers_agree home here mirror a (agree a (reads_first a _)), numbers_agree home here mirror b (agree b (reads_second a b))) refl)
-mirrored home place fields roots (instr.Add (Ref d) a b) at here mirror next null on sized kind agree apart is = absurd (let no : true ≡ false = kind in cc)
 mirrored home place fields roots (instr.Sub (Num d) a b) at here mirror next null on sized kind agree apart is =
     mirrored_number home place (instr.Sub (Num d) a b) at here mirror next d ((number_in here a + (2 ^ 64 - number_in here b)) % 2 ^ 64) ((number_in mirror a + (2 ^ 64 - number_in mirror b)) % 2 ^ 64) sized refl refl on is
     (rw (numbers_agree home here mirror a (agree a (reads_first a _)), numbers_agree home here mirror b (agree b (reads_second a b))) refl)
-mirrored home place fields roots (instr.Sub (Ref d) a b) at here mirror next null on sized kind agree apart is = absurd (let no : true ≡ false = kind in cc)
 mirrored home place fields roots (instr.Rem (Num d) a n) at here mirror next null on sized kind agree apart is =
     mirrored_number home place (instr.Rem (Num d) a n) at here mirror next d (remainder (number_in here a) n) (remainder (number_in mirror a) n) sized refl refl on is
     (ap (λ k. remainder k n) (numbers_agree home here mirror a (agree a (reads_first a _))))
-mirrored home place fields roots (instr.Rem (Ref d) a n) at here mirror next null on sized kind agree apart is = absurd (let no : true ≡ false = kind in cc)
 mirrored home place fields roots (instr.Null (Ref d)) at here mirror next null on sized kind agree apart is =
     mirrored_reference home place (instr.Null (Ref d)) at here mirror next d no_reference no_reference null sized refl refl on is (sym null, refl) (inl refl)
-mirrored home place fields roots (instr.Null (Num d)) at here mirror next null on sized kind agree apart is = absurd (let no : true ≡ false = kind in cc)
 mirrored home place fields roots (instr.Mark (Ref d) a) at here mirror next null on sized kind agree apart is =
     mirrored_reference home place (instr.Mark (Ref d) a) at here mirror next d (record { node = (reference_in here a).node; marked = true }) (record { node = (reference_in mirror a).node; marked = true }) null sized refl refl on is
     ((references_agree home here mirror a null (agree a (reads_first a _))).0, refl) (known_node mirror (instr.Mark (Ref d) a) a (reads_first a _))
-mirrored home place fields roots (instr.Mark (Num d) a) at here mirror next null on sized kind agree apart is = absurd (let no : true ≡ false = kind in cc)
 mirrored home place fields roots (instr.Unmark (Ref d) a) at here mirror next null on sized kind agree apart is =
     mirrored_reference home place (instr.Unmark (Ref d) a) at here mirror next d (record { node = (reference_in here a).node; marked = false }) (record { node = (reference_in mirror a).node; marked = false }) null sized refl refl on is
     ((references_agree home here mirror a null (agree a (reads_first a _))).0, refl) (known_node mirror (instr.Unmark (Ref d) a) a (reads_first a _))
-mirrored home place fields roots (instr.Unmark (Num d) a) at here mirror next null on sized kind agree apart is = absurd (let no : true ≡ false = kind in cc)
 mirrored home place fields roots (instr.Jump l) at here mirror next null on sized kind agree apart is =
     mirrored_fork home place (instr.Jump l) at l here mirror next true true sized refl refl on is refl
 mirrored home place fields roots (instr.IfEq a b l) at here mirror next null on sized kind agree apart is =
@@ -165,4 +156,4 @@ mirrored home place fields roots (instr.IfLess a b l) at here mirror next null o
 mirrored home place fields roots (instr.IfMarked a l) at here mirror next null on sized kind agree apart is =
     mirrored_fork home place (instr.IfMarked a l) at l here mirror next (reference_in here a).marked (reference_in mirror a).marked sized refl refl on is
     (references_agree home here mirror a null (agree a (reads_first a _))).1
-mirrored home place fields roots _ at here mirror next null on sized kind agree apart is = absurd (let no : None ≡ Some next = is in cc)
+mirrored home place fields roots _ at here mirror next null on sized kind agree apart is = absurd cc

@@ -11,7 +11,7 @@ use Rattle.norm_lang.specs.Local.{Spot}
 use Rattle.norm_lang.specs.Registers.{first_registers}
 use Rattle.target_laws.specs.local_laws.Settling.{is_access, is_end}
 use Rattle.source_machine.specs.declared.event.SourceEvent.TheVariants as events
-use Rattle.source_machine.specs.declared.event.SourceReply.{SourceReply}
+use Rattle.norm_lang.specs.declared.reply.SourceReply.{SourceReply}
 use Rattle.source_machine.specs.Memory.{access_at}
 use Rattle.source_machine.specs.Run.{is_end_at}
 use Rattle.source_machine.specs.declared.state.Stand.{Stand}
@@ -26,17 +26,10 @@ use Rattle.run_ahead.specs.Standing.{Call, running_of, caller_of, stands_at, run
 
 pub access_at_is : (i : Instr) → is_access i ≡ is_access_at (Some i)
 access_at_is (instr.LoadRoot d x) = refl
-access_at_is (instr.LoadPick d x n a) = refl
-access_at_is (instr.LoadField d a f) = refl
-access_at_is (instr.New d kind) = refl
-access_at_is (instr.Put a f b) = refl
-access_at_is (instr.Cas entry l) = refl
 access_at_is _ = refl
 
 pub end_at_is : (i : Instr) → is_end i ≡ is_end_at (Some i)
 end_at_is (instr.Return a) = refl
-end_at_is instr.ReturnNone = refl
-end_at_is instr.Again = refl
 end_at_is _ = refl
 
 -- ---- where methods begin
@@ -46,8 +39,6 @@ pub end_same : (op : Op) (i : Option Instr) (running : Running) (replies : List 
     → wrap_up_end op i running (record { replies = replies; running = was }) ≡ wrap_up_end op i running (record { replies = replies; running = other })
 end_same op None running replies was other = refl
 end_same op (Some (instr.Return a)) running replies was other = refl
-end_same op (Some instr.ReturnNone) running replies was other = refl
-end_same op (Some instr.Again) running replies was other = refl
 end_same op (Some _) running replies was other = refl
 
 pub wrap_up_begins : (op : Op) (call : Call) (made : ℕ) (registers : Registers) (stand : Stand)
@@ -58,12 +49,6 @@ wrap_up_begins op call made registers stand = end_same op _ _ call.replies (Some
 
 pub generator_access : (i : Option Instr) (at : ℕ) → IsTrue (is_access_at i) → generator_stand i at ≡ InGenerator at
 generator_access None at access = refl
-generator_access (Some (instr.LoadRoot d x)) at access = refl
-generator_access (Some (instr.LoadPick d x n a)) at access = refl
-generator_access (Some (instr.LoadField d a f)) at access = refl
-generator_access (Some (instr.New d kind)) at access = refl
-generator_access (Some (instr.Put a f b)) at access = refl
-generator_access (Some (instr.Cas entry l)) at access = refl
 generator_access (Some (instr.Commit entries)) at access = absurd (let never : false ≡ true = access in cc)
 generator_access (Some _) at access = refl
 

@@ -42,7 +42,7 @@ start_keeps {text = text} method home calm first started normal starts = record 
 
 -- ---- a generator
 
-null_at : (args : List ℕ) (r : ℕ) → reference_in (first_registers args) (Ref r) ≡ no_reference
+pub null_at : (args : List ℕ) (r : ℕ) → reference_in (first_registers args) (Ref r) ≡ no_reference
 null_at args r = unwrap_or-slice_get (replicate 8 no_reference) r no_reference ∙ nulls 8 r
   where
     nulls : (n k : ℕ) → get_or (replicate n no_reference) k no_reference ≡ no_reference

@@ -19,7 +19,7 @@ use Rattle.norm_lang.specs.Flow.{goes_to}
 use Rattle.norm_lang.specs.Grammar.{is_new}
 use Rattle.norm_lang.specs.InstructionRules.{field_kind, root_kind, are_roots_of_one_kind}
 use Rattle.norm_lang.specs.Kept.{code_of}
-use Rattle.norm_lang.specs.Kinds.{refers, root_refers, none_held, given_kinds, asks_entry, asks}
+use Rattle.norm_lang.specs.Kinds.{refers, root_refers, none_held, given_kinds, asks_entry}
 use Rattle.norm_lang.specs.Bounds.{most_picked}
 use Rattle.norm_lang.specs.Limits.{is_register, is_instr, IsWithinLimits}
 use Rattle.norm_lang.specs.Local.{Spot, remainder, local_at, local_run, go_on}
@@ -42,10 +42,11 @@ use Rattle.kind_laws.proofs.Closed.{kept_kind}
 use Rattle.kind_laws.proofs.InText.{asked_kinds_are_named}
 use Rattle.kind_laws.proofs.Typed.{local_code_keeps, loads_keep, new_nodes_keep, commits_carry, restarts_keep}
 use Rattle.run_ahead.specs.Agreeing.{node_in}
-use Rattle.run_ahead.specs.Bare.{bare_op, bare}
+use Rattle.bare_targets.specs.Bare.{bare_op, bare}
 use Rattle.run_ahead.specs.Typed.{IsNodeOf, IsOfKind, IsRegisterFor, IsTyped, KindsStay, AreAsked, AreAskedBy}
 use Rattle.run_ahead.specs.TypedCallers.{HasKinds, AreTypedAmong, StandsTyped}
-use Rattle.run_ahead.proofs.Bare.{bare_erases, method_of, bare_at, bare_goes, kind_at, range_at, limits_at}
+use Rattle.bare_targets.proofs.Erasing.{bare_erases}
+use Rattle.run_ahead.proofs.Bare.{method_of, bare_at, bare_goes, kind_at, range_at, limits_at}
 use Rattle.run_ahead.proofs.TypedMemory.{FindsFor, root_finds, field_finds, pick_finds, slice_drop, put_typed, new_typed, exchange_typed, exchange_kinds_stay, access_kinds_stay}
 
 -- ---- names that come change nothing

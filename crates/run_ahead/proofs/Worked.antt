@@ -12,7 +12,7 @@ use Rattle.norm_lang.specs.LineWords.{item_kind}
 use Rattle.norm_lang.specs.Local.{local_step}
 use Rattle.norm_lang.specs.Registers.{are_equal, first_registers}
 use Rattle.source_machine.specs.declared.event.SourceEvent.TheVariants.{Access, Restart}
-use Rattle.source_machine.specs.declared.event.SourceReply.TheVariants as replies
+use Rattle.norm_lang.specs.declared.reply.SourceReply.TheVariants as replies
 use Rattle.source_machine.specs.Memory.{exchange}
 use Rattle.source_machine.specs.MethodRuns.{run_after}
 use Rattle.source_machine.specs.Run.{is_enabled_for}

@@ -4,7 +4,6 @@ pub mod Standing
 pub mod Following
 pub mod Guards
 pub mod Known
-pub mod Bare
 pub mod Typed
 pub mod TypedCallers
 pub mod LocalLaws

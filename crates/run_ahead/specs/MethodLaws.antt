@@ -14,7 +14,7 @@ use Rattle.norm_lang.specs.Registers.{first_registers, number_in, with_count}
 use Rattle.target_laws.specs.local_laws.Settling.{is_end}
 use Rattle.source_machine.specs.declared.event.SourceEvent.{SourceEvent}
 use Rattle.source_machine.specs.declared.event.SourceEvent.TheVariants as events
-use Rattle.source_machine.specs.declared.event.SourceReply.TheVariants as replies
+use Rattle.norm_lang.specs.declared.reply.SourceReply.TheVariants as replies
 use Rattle.source_machine.specs.Memory.{exchange}
 use Rattle.source_machine.specs.MethodRuns.{MethodRun, run_begun, run_after}
 use Rattle.source_machine.specs.Run.{is_call, is_enabled_for}

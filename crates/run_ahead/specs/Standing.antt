@@ -12,7 +12,7 @@ use Rattle.norm_lang.specs.Kept.{code_of}
 use Rattle.norm_lang.specs.Local.{Spot, local_run}
 use Rattle.norm_lang.specs.Registers.{first_registers, with_count}
 use Rattle.source_machine.specs.declared.event.SourceEvent.{SourceEvent}
-use Rattle.source_machine.specs.declared.event.SourceReply.{SourceReply}
+use Rattle.norm_lang.specs.declared.reply.SourceReply.{SourceReply}
 use Rattle.source_machine.specs.Run.{is_enabled_for}
 use Rattle.source_machine.specs.declared.state.Value.{Value}
 use Rattle.source_machine.specs.declared.state.Value.TheVariants.{Number, Node}

@@ -1,22 +1,21 @@
 -- Some call of a certificate didn't return exactly where a line of the report is short.
-use Rattle.std.proofs.Common.{◌≡◌, ℕ, ◌+◌, Bool, true, false, ◌||◌, not, List, [], ◌∷◌, ◌++◌, map, Option, Some, None, refl, sym, ap, ◌∙◌, arith, ◌≤◌, length}
+use Rattle.std.proofs.Common.{◌≡◌, ℕ, ◌+◌, Bool, true, false, ◌||◌, not, List, [], ◌∷◌, map, Option, Some, None, refl, sym, ap, ◌∙◌, arith}
 use Rattle.std.specs.Prelude.{slice_get}
 use Rattle.std.specs.List.{list_any}
 use Rattle.std.specs.Option.{option_map}
 use Rattle.std.proofs.lemmas.List.Folds.{list_any-append}
 use Rattle.std.proofs.lemmas.Option.{slice_get-map, slice_get_past}
-use Rattle.source_machine.specs.declared.event.SourceReply.{SourceReply}
+use Rattle.norm_lang.specs.declared.reply.SourceReply.{SourceReply}
+use Rattle.norm_lang.specs.declared.reply.SourceReply.TheVariants as replies
 use Rattle.documents.specs.declared.document.Document.{Document}
 use Rattle.documents.specs.declared.document.ScriptCall.{ScriptCall}
-use Rattle.caller_parts.specs.declared.call.Reply.{Reply}
-use Rattle.caller_parts.specs.declared.call.Reply.TheVariants as replies
 use Rattle.caller_parts.specs.declared.call.Replied.{Replied}
 use Rattle.caller_parts.specs.Pairing.{reply_of}
-use Rattle.caller_steps.specs.Entries.{Entry, is_idle}
-use Rattle.oa_simulation.specs.sim_relation.Callers.{source_reply, replies_of}
+use Rattle.caller_steps.specs.Entries.{Entry}
+use Rattle.oa_simulation.specs.sim_relation.Callers.{replies_of}
 use Rattle.document_runs.specs.declared.report.Answer.{Answer}
 use Rattle.document_runs.specs.declared.report.Answer.TheVariants as answers
-use Rattle.document_runs.specs.Reports.{answer_from, answer_by, answer_among, entry_answer, lines_from, all_lines, report_of}
+use Rattle.document_runs.specs.Reports.{answer_from, answer_by, answer_among, lines_from, all_lines, report_of}
 use Rattle.document_runs.specs.Texts.{is_answered, is_short_line, is_partial}
 use Rattle.event_judge.specs.Calls.{listed}
 use Rattle.certificates.specs.declared.certificate.Certificate.{Certificate}
@@ -26,16 +25,11 @@ use Rattle.run_judge.specs.Short.{is_returned, is_returned_at, is_short_from, ar
 
 -- ---- one call
 
-as_returned : (reply : Reply) → is_answered (answers.Replied reply) ≡ is_returned (source_reply reply)
+as_returned : (reply : SourceReply) → is_answered (answers.Replied reply) ≡ is_returned reply
 as_returned (replies.Number n) = refl
-as_returned replies.Nothing = refl
-as_returned replies.Full = refl
-as_returned (replies.Phases p) = refl
+as_returned _ = refl
 
-abbrev told_by : Replied → SourceReply
-told_by replied = source_reply replied.reply
-
-answered_as : (reply : Option Replied) (runs : Bool) → is_answered (answer_from (option_map reply_of reply) runs) ≡ is_returned_at (option_map told_by reply)
+answered_as : (reply : Option Replied) (runs : Bool) → is_answered (answer_from (option_map reply_of reply) runs) ≡ is_returned_at (option_map reply_of reply)
 answered_as None true = refl
 answered_as None false = refl
 answered_as (Some replied) runs = as_returned replied.reply
@@ -43,9 +37,9 @@ answered_as (Some replied) runs = as_returned replied.reply
 entry_answered : (entry : Entry) (runs : Bool) (index : ℕ)
     → is_answered (answer_from (slice_get (map reply_of entry.replies) index) runs) ≡ is_returned_at (slice_get (replies_of entry) index)
 entry_answered entry runs index =
-    ap (λ (o : Option Reply). is_answered (answer_from o runs)) (slice_get-map reply_of entry.replies index)
+    ap (λ (o : Option SourceReply). is_answered (answer_from o runs)) (slice_get-map reply_of entry.replies index)
     ∙ answered_as (slice_get entry.replies index) runs
-    ∙ ap is_returned_at (sym (slice_get-map told_by entry.replies index))
+    ∙ ap is_returned_at (sym (slice_get-map reply_of entry.replies index))
 
 answered_by : (entry : Option Entry) (index : ℕ) → is_answered (answer_by entry index) ≡ is_returned_at (slice_get (listed (option_map replies_of entry)) index)
 answered_by None index = ap is_returned_at (sym (slice_get_past {X = SourceReply} [] index (omega arith)))

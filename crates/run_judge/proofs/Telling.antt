@@ -13,15 +13,15 @@ use Rattle.target_code.specs.declared.target.TargetOp.{TargetOp}
 use Rattle.target_code.specs.Erasing.{erased, erased_op}
 use Rattle.source_machine.specs.declared.event.SourceEvent.{SourceEvent}
 use Rattle.source_machine.specs.declared.event.SourceEvent.TheVariants as events
-use Rattle.source_machine.specs.declared.event.SourceReply.{SourceReply}
-use Rattle.source_machine.specs.declared.event.SourceReply.TheVariants as replies
+use Rattle.norm_lang.specs.declared.reply.SourceReply.{SourceReply}
+use Rattle.norm_lang.specs.declared.reply.SourceReply.TheVariants as replies
 use Rattle.source_machine.specs.Run.{mover, is_enabled, is_call as is_source_call, is_call_of as is_source_call_of}
 use Rattle.caller_parts.specs.declared.call.Call.{Call}
 use Rattle.caller_parts.specs.Calls.{is_call, is_call_of, AreCalls}
 use Rattle.caller_parts.specs.declared.setting.Reclamation.TheVariants.{Optimistic}
 use Rattle.caller_parts.specs.Settings.{Setting}
 use Rattle.caller_steps.specs.Entries.{Entry, is_idle}
-use Rattle.caller_steps.specs.Signs.{Sign, Begins, Accesses, Draws, Renews, GivesUp}
+use Rattle.caller_steps.specs.Signs.{Sign, Begins}
 use Rattle.core_runs.specs.Machine.{CoreState, CoreEvent, Takes, Steps, core_event, core_run, run_on, core_start}
 use Rattle.core_runs.specs.RunSigns.{Signed, signed, entry_signs, event_signs, signs_on, run_signs}
 use Rattle.core_runs.specs.Scripts.{IsCompleteRun, script_of}
@@ -45,10 +45,7 @@ is_signed_below n x = nat_lt x.caller n
 
 event_mover : (c unused : ℕ) (sign : Sign) → mover (event_of c unused sign) ≡ c
 event_mover c unused (Begins call) = refl
-event_mover c unused Accesses = refl
-event_mover c unused (Draws slot) = refl
-event_mover c unused Renews = refl
-event_mover c unused (GivesUp phase) = refl
+event_mover c unused _ = refl
 
 both_true : (a b : Bool) → a ≡ true → b ≡ true → a && b ≡ true
 both_true a b is too = ap (λ (x : Bool). x && b) is ∙ too
@@ -112,9 +109,7 @@ none_begun c n (event ∷ l) all le =
 
     one : (event : SourceEvent) → is_below n event ≡ true → begun_by c event ≡ []
     one (events.Begin d op args) lt = ap (λ (b : Bool). if b then record { op = op; args = args } ∷ [] else []) (apart d lt le)
-    one (events.Access d name) lt = refl
-    one (events.Restart d) lt = refl
-    one (events.GiveUp d phase) lt = refl
+    one _ lt = refl
 
 -- ---- the calls that events begin
 
@@ -129,14 +124,12 @@ record BeginCalls (target : Target) (l : List SourceEvent) : Type 0 where
   each : (c i : ℕ) (call : Call) → slice_get (begun_in c l) i ≡ Some call → is_call target call ≡ true
 
 begin_calls_after : (target : Target) (event : SourceEvent) (l : List SourceEvent) → BeginCalls target (event ∷ l) → BeginCalls target l
-begin_calls_after target (events.Access d name) l all = record { each = λ c i call there. all.each c i call there }
-begin_calls_after target (events.Restart d) l all = record { each = λ c i call there. all.each c i call there }
-begin_calls_after target (events.GiveUp d phase) l all = record { each = λ c i call there. all.each c i call there }
 begin_calls_after target (events.Begin d op args) l all = record { each = λ c i call there. of c i call there (d == c) (λ j at. all.each c j call at) } where
   of : (c i : ℕ) (call : Call) → slice_get (begun_in c l) i ≡ Some call → (b : Bool)
       → ((j : ℕ) → slice_get ((if b then record { op = op; args = args } ∷ [] else []) ++ begun_in c l) j ≡ Some call → is_call target call ≡ true) → is_call target call ≡ true
   of c i call there true whole = whole (suc i) there
   of c i call there false whole = whole i there
+begin_calls_after target _ l all = record { each = λ c i call there. all.each c i call there }
 
 own_number : (d : ℕ) → (d == d) ≡ true
 own_number d = grind (arith, nat_tests)
@@ -227,10 +220,7 @@ source_call target text op args erases =
 
 event_so : (target : Target) (text : Text) (event : SourceEvent) → erased target ≡ text → is_sized event ≡ true → begins_call target event ≡ true → is_event text event ≡ true
 event_so target text (events.Begin c op args) erases sized call = both_true (nat_le c 4294967295) (is_source_call text op args) sized (sym (source_call target text op args erases) ∙ call)
-event_so target text (events.Access c name) erases sized call = sized
-event_so target text (events.Restart c) erases sized call = sized
-event_so target text (events.GiveUp c None) erases sized call = sized
-event_so target text (events.GiveUp c (Some phase)) erases sized call = sized
+event_so target text _ erases sized call = sized
 
 pub events_so : (target : Target) (text : Text) (l : List SourceEvent) → erased target ≡ text → list_all is_sized l ≡ true → list_all (begins_call target) l ≡ true → list_all (is_event text) l ≡ true
 events_so target text [] erases sized calls = refl
@@ -241,9 +231,7 @@ events_so target text (event ∷ l) erases sized calls =
 
 reply_so : (reply : SourceReply) → is_sized_reply reply ≡ is_reply reply
 reply_so (replies.Number n) = refl
-reply_so replies.Nothing = refl
-reply_so replies.Full = refl
-reply_so (replies.Phases p) = refl
+reply_so _ = refl
 
 list_so : (l : List SourceReply) → list_all is_sized_reply l ≡ list_all is_reply l
 list_so [] = refl

@@ -21,10 +21,11 @@ use Rattle.certificates.specs.CertificateLaws.{IsTold}
 use Rattle.event_judge.specs.declared.verdict.Verdict.TheVariants.{Accepted}
 use Rattle.certificate_laws.specs.Certified.{replies_in}
 use Rattle.run_judge.specs.Judged.{verdict_of}
+use Rattle.run_judge.specs.declared.limits.TheConstants.{MOST_STEPS}
 
 -- the most steps of a run that is certified
 unfoldable pub certificate_limit : ℕ
-certificate_limit = 2000000
+certificate_limit = MOST_STEPS
 
 -- what is replayed for a certificate
 abbrev pub certificate_replay : Document → Replay

@@ -1,7 +1,7 @@
 -- Whether some call of a certificate didn't return.
 use Rattle.std.specs.Prelude.{◌≡◌, ℕ, ◌+◌, Bool, true, false, ◌||◌, not, List, [], ◌∷◌, Option, Some, None, slice_get}
-use Rattle.source_machine.specs.declared.event.SourceReply.{SourceReply}
-use Rattle.source_machine.specs.declared.event.SourceReply.TheVariants as replies
+use Rattle.norm_lang.specs.declared.reply.SourceReply.{SourceReply}
+use Rattle.norm_lang.specs.declared.reply.SourceReply.TheVariants as replies
 use Rattle.documents.specs.declared.document.Document.{Document}
 use Rattle.documents.specs.declared.document.ScriptCall.{ScriptCall}
 use Rattle.document_runs.specs.Reports.{report_of}

@@ -4,6 +4,7 @@
 mod copying;
 mod judging;
 pub mod laws;
+mod limits;
 mod making;
 mod short;
 

@@ -8,9 +8,9 @@ ghost use Rattle.replay_logs.specs.Logged.{IsLoggedBy};
 ghost use Rattle.run_judge.specs.Made.{certificate_limit, fault_of, plan_logged, IsMade};
 
 use crate::copying::copied;
+use crate::limits::MOST_STEPS;
 use certificate_laws::laws::images_are_accepted;
 use certificates::Certificate;
-use core_entries::prepared::kept;
 use documents::Document;
 use norm_check::{Normal, check};
 use replay_logs::{LogError, LoggedRun, log_replay};
@@ -22,7 +22,7 @@ use std::alloc::{AllocError, Global};
 fn certificate_limit() -> u64
     ensures { result ≡ certificate_limit }
 {
-    2_000_000
+    MOST_STEPS
 }
 
 /// What a run that isn't written down is told as: the numbers 10 and 11, with the steps made.
@@ -93,8 +93,9 @@ fn make_from(
     requires text { normal.now ≡ document.now.text }
     ensures { IsMade document.now result }
 {
-    kept(&plan.barred);
+    plan.barred.kept();
     plan.setting.kept();
+    // A law: the judge accepts what a run of a proper text tells the source machine.
     images_are_accepted(&plan.barred, &plan.setting);
     match log_plan(alloc, document, plan, normal) {
         Ok(run) => Ok(certificate_of(alloc, document, run)?),

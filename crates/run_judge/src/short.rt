@@ -34,8 +34,7 @@ fn is_returned_at(replies: &[SourceReply], index: usize) -> bool
 fn is_short_script(script: &[ScriptCall], replies: &[SourceReply]) -> bool
     ensures { result ≡ is_short_from 0 script.now replies.now }
 {
-    for (index, call) in script.iter().enumerate() {
-        let _ = call;
+    for (index, _) in script.iter().enumerate() {
         if !is_returned_at(replies, index) {
             return true;
         }

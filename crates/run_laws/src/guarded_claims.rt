@@ -7,7 +7,6 @@ ghost use Rattle.run_laws.specs.guarded_claims.Guarded.{GuardsAreSpared};
 
 use barrier_check::Barred;
 use caller_steps::Setting;
-use oa_simulation::laws::kept;
 
 /// For a proper text, under optimistic access: whatever the callers do and however their steps interleave, in no state does a validated
 /// guard name a slot whose status is ready. Each slot of a kind's chain has that kind and is ready, and stands in it once, so no claim's
@@ -17,6 +16,6 @@ pub fn no_guarded_claim(barred: &Barred, setting: &Setting)
     requires optimistic { setting.now.reclamation ≡ Optimistic }
     ensures { GuardsAreSpared barred.now.target barred.now.source setting.now }
 {
-    kept(barred);
+    barred.kept();
     setting.kept();
 }

@@ -9,7 +9,6 @@ ghost use Rattle.run_laws.specs.Source.{RunsFollowSource};
 
 use barrier_check::Barred;
 use caller_steps::Setting;
-use oa_simulation::laws::kept;
 
 /// For a proper text, under optimistic access: a complete run of scripts is one of the text on memory that is never recycled, by all
 /// callers at once, however their steps interleave. It begins the calls of the scripts in order; no claim takes a slot that a validated
@@ -19,7 +18,7 @@ pub fn runs_follow_source(barred: &Barred, setting: &Setting)
     requires optimistic { setting.now.reclamation ≡ Optimistic }
     ensures { RunsFollowSource barred.now.target barred.now.source setting.now }
 {
-    kept(barred);
+    barred.kept();
     setting.kept();
 }
 

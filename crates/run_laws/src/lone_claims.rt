@@ -7,7 +7,6 @@ ghost use Rattle.run_laws.specs.lone_claims.Lone.{LoneClaimsAreFull};
 
 use barrier_check::Barred;
 use caller_steps::Setting;
-use oa_simulation::laws::kept;
 
 /// For a proper text and one caller, under optimistic access: a claim that comes to its end, and whose sweeps don't find the last phase,
 /// ends with Full exactly where each slot of its kind held a name that isn't retired at its begin, which is that the status of each was
@@ -17,6 +16,6 @@ pub fn lone_claims_are_full(barred: &Barred, setting: &Setting)
     requires optimistic { setting.now.reclamation ≡ Optimistic }
     ensures { LoneClaimsAreFull barred.now.target barred.now.source setting.now }
 {
-    kept(barred);
+    barred.kept();
     setting.kept();
 }

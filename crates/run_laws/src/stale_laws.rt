@@ -7,7 +7,6 @@ ghost use Rattle.run_laws.specs.stale_laws.Stale.{NoStalePass};
 
 use barrier_check::Barred;
 use caller_steps::Setting;
-use oa_simulation::laws::kept;
 
 /// For a proper text, under optimistic access: once a caller stands before a load whose base isn't null and isn't resident, its warning
 /// word differs from its `seen` until a method run of it begins, whatever all callers do. So each check that it comes to in that run fails,
@@ -17,6 +16,6 @@ pub fn no_stale_pass(barred: &Barred, setting: &Setting)
     requires optimistic { setting.now.reclamation ≡ Optimistic }
     ensures { NoStalePass barred.now.target barred.now.source setting.now }
 {
-    kept(barred);
+    barred.kept();
     setting.kept();
 }

@@ -57,10 +57,7 @@ one_same text c call own (GivesUp (Some p)) z is = refl
 
 first_of : (call : Call) (sign : Sign) (rest : List Sign) → EachBegins call (sign ∷ rest) → EachBegins call (sign ∷ []) × EachBegins call rest
 first_of call (Begins x) rest each = ((each.0, tt), each.1)
-first_of call Accesses rest each = (tt, each)
-first_of call (Draws slot) rest each = (tt, each)
-first_of call Renews rest each = (tt, each)
-first_of call (GivesUp phase) rest each = (tt, each)
+first_of call _ rest each = (tt, each)
 
 rest_same : (text : Text) (c : ℕ) (call : Call) (l : List Sign) (z : Shadow) → EachBegins call l → logged_all text c call (map (named false) l) (recording z) ≡ recording (shadow_run text (signed c l) z)
 rest_same text c call [] z each = refl

@@ -106,6 +106,13 @@ fn unused_after(sign: Sign, unused: u64) -> u64
 }
 
 impl Log {
+    /// There is a further name: a law for those who hold a log.
+    fn kept(&self)
+        ensures { self.now.unused < 2 ^ 63 }
+    {
+        let _ = self.events.items().len();
+    }
+
     /// Before the first event: the callers, 1 to 8, are idle, and the names of so many initial nodes are used.
     ///
     /// # Errors
@@ -153,7 +160,7 @@ impl Log {
         ensures written { OnOk result (self.new ≡ logged normal.now caller call self.old sign) }
         ensures runs { IsOfSourceRun normal.now self.new.machine }
     {
-        let _count = self.events.items().len();
+        self.kept();
         let unused = unused_after(sign, self.unused);
         let event = named_event(caller, call, self.unused, sign);
         let enabled = make(alloc, normal, &event, &mut self.machine)?;

@@ -7,7 +7,8 @@ use Rattle.documents.specs.declared.document.ScriptCall.{ScriptCall}
 use Rattle.script_driver.specs.declared.rounds.Round.{Round}
 use Rattle.script_driver.specs.Laws.{KeysAreOwn}
 use Rattle.script_driver.specs.Rounds.{round_at}
-use Rattle.script_driver.specs.Workload.{multiplier, increment, modulus, keys, next_seed, seed_at, key_from, round_call, call_at, script_of, scripts_of}
+use Rattle.script_driver.specs.declared.rounds.TheConstants.{MULTIPLIER, INCREMENT, MODULUS, KEYS}
+use Rattle.script_driver.specs.Workload.{next_seed, seed_at, key_from, round_call, call_at, script_of, scripts_of}
 
 iterate_more : (h : ℕ → ℕ) (n x : ℕ) → iterate h (suc n) x ≡ h (iterate h n x)
 iterate_more h zero x = refl
@@ -18,10 +19,10 @@ seed_next caller j =
     let one_more : j + 1 ≡ suc j = omega arith in
     ap (λ n. seed_at caller n) one_more ∙ iterate_more next_seed j (caller + 1)
 
-pub seed_below : (caller j : ℕ) → caller < 8 → seed_at caller j < modulus
+pub seed_below : (caller j : ℕ) → caller < 8 → seed_at caller j < MODULUS
 seed_below caller zero few = omega (arith, few)
 seed_below caller (suc j) few =
-    subst (λ seed. seed < modulus) (sym (iterate_more next_seed j (caller + 1))) (mod_below (multiplier * seed_at caller j + increment) modulus (omega arith))
+    subst (λ seed. seed < MODULUS) (sym (iterate_more next_seed j (caller + 1))) (mod_below (MULTIPLIER * seed_at caller j + INCREMENT) MODULUS (omega arith))
 
 -- the round that the next number, its key and the key before make
 pub round_next : (caller j : ℕ) (round : Round) (seed key : ℕ) → round ≡ round_at caller j → seed ≡ next_seed round.seed → key ≡ key_from caller seed
@@ -52,5 +53,5 @@ keys_are_own = record {
   first = λ caller. refl;
   next = seed_next;
   from = λ caller j. omega arith;
-  below = λ caller j. let rest = mod_below (seed_at caller j) keys (omega arith) in omega (arith, rest);
+  below = λ caller j. let rest = mod_below (seed_at caller j) KEYS (omega arith) in omega (arith, rest);
 }

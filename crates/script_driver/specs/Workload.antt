@@ -6,36 +6,24 @@ use Rattle.norm_lang.specs.Shipped.{set_text}
 use Rattle.documents.specs.declared.document.ScriptCall.{ScriptCall}
 use Rattle.documents.specs.declared.document.Document.{Document}
 use Rattle.documents.specs.DocumentRead.{bare_document}
+use Rattle.oa_words.specs.declared.limits.TheConstants.{MOST_SLOTS}
+use Rattle.script_driver.specs.declared.parts.TheConstants.{BUCKETS, FIRST_PART_CALLS, SECOND_PART_SLOTS}
+use Rattle.script_driver.specs.declared.rounds.TheConstants.{MULTIPLIER, INCREMENT, MODULUS, KEYS, KEYS_APART}
 
 -- ---- keys
 
--- a caller's numbers are a linear congruential sequence; its modulus is a prime
-abbrev pub multiplier : ℕ
-multiplier = 75
-
-abbrev pub increment : ℕ
-increment = 74
-
-abbrev pub modulus : ℕ
-modulus = 65537
-
--- each number of the sequence gives the next
+-- a caller's numbers are a linear congruential sequence: each gives the next
 abbrev pub next_seed : ℕ → ℕ
-next_seed seed = (multiplier * seed + increment) % modulus
+next_seed seed = (MULTIPLIER * seed + INCREMENT) % MODULUS
 
 -- number j of a caller's sequence, which begins with one more than the caller's own
 abbrev pub seed_at : ℕ → ℕ → ℕ
 seed_at caller j = iterate next_seed j (caller + 1)
 
--- how many keys a caller has, and how far they are from those of the next caller: so no two callers share one
-abbrev pub keys : ℕ
-keys = 50
-
-abbrev pub keys_apart : ℕ
-keys_apart = 1000
-
+-- the key that a number of the sequence gives: a caller's keys are further from those of the next caller than they are many, so no two
+-- callers share one
 abbrev pub key_from : ℕ → ℕ → ℕ
-key_from caller seed = keys_apart * caller + seed % keys
+key_from caller seed = KEYS_APART * caller + seed % KEYS
 
 abbrev pub key_at : ℕ → ℕ → ℕ
 key_at caller j = key_from caller (seed_at caller j)
@@ -68,31 +56,18 @@ scripts_of count callers = map (script_of count) (range_with_len 0 callers)
 
 -- ---- documents
 
-abbrev pub buckets : ℕ
-buckets = 8
-
--- part 1: each caller makes at most so many of its calls, of which one in four puts a key in, over as many slots as a row may have
-abbrev pub first_part_calls : ℕ
-first_part_calls = 2000
-
-abbrev pub first_part_slots : ℕ
-first_part_slots = 4096
-
--- part 2: eight slots are the buckets' own; of the other eight no more than two hold a key of the set
-abbrev pub second_part_slots : ℕ
-second_part_slots = 16
-
 -- scripts on the set, over so many slots; phases and fuel are those of a document that doesn't set them, and there is no schedule
 abbrev pub set_document : ℕ → List (List ScriptCall) → Document
-set_document slots scripts = record (bare_document (set_text buckets)) { slots = slots ∷ []; scripts = scripts }
+set_document slots scripts = record (bare_document (set_text BUCKETS)) { slots = slots ∷ []; scripts = scripts }
 
--- part 1: so many callers, each with the first 2,000 of its calls at most
+-- part 1: so many callers, each with the first of its calls, of which one in four puts a key in, over as many slots as a row may have
 abbrev pub first_part : ℕ → ℕ → Document
-first_part count callers = set_document first_part_slots (scripts_of (min count first_part_calls) callers)
+first_part count callers = set_document MOST_SLOTS (scripts_of (min count FIRST_PART_CALLS) callers)
 
--- part 2: caller 0 alone, over a row in which slots must be used again
+-- part 2: caller 0 alone, over a row in which slots must be used again: eight are the buckets' own, and of the other eight no more than
+-- two hold a key of the set
 abbrev pub second_part : ℕ → Document
-second_part count = set_document second_part_slots (scripts_of count 1)
+second_part count = set_document SECOND_PART_SLOTS (scripts_of count 1)
 
 -- the document of a part, with so many calls for so many callers
 abbrev pub workload_document : ℕ → ℕ → ℕ → Document

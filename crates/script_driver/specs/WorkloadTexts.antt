@@ -1,7 +1,7 @@
 -- The text of a workload.
 use Rattle.std.specs.Prelude.{ℕ, Bool, false, ◌||◌, ◌==◌, List, [], ◌∷◌, ◌++◌, length, codes, decimal}
 use Rattle.std.specs.List.{concat, count_by}
-use Rattle.caller_parts.specs.declared.call.Reply.TheVariants as replies
+use Rattle.norm_lang.specs.declared.reply.SourceReply.TheVariants as replies
 use Rattle.document_runs.specs.declared.report.Answer.{Answer}
 use Rattle.document_runs.specs.declared.report.Answer.TheVariants as answers
 use Rattle.document_runs.specs.declared.report.ReportLine.{ReportLine}

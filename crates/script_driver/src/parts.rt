@@ -1,30 +1,30 @@
 //! Scripts and documents.
 
 ghost use Rattle.std.specs.Prelude.{◌≡◌, ◌≤◌, ◌<◌, IfOk};
-ghost use Rattle.documents.specs.DocumentLimits.{IsWithinDocumentLimits};
+ghost use Rattle.documents.specs.DocumentLimits.{most_calls, IsWithinDocumentLimits};
+ghost use Rattle.oa_words.specs.declared.limits.TheConstants.{MOST_CALLERS};
 ghost use Rattle.script_plans.specs.Plans.{IsRunnable};
 ghost use Rattle.script_driver.specs.Workload.{key_call, round_call, script_of, scripts_of, set_document, workload_document};
 
 use crate::laws::{parts_are_within_limits, parts_can_be_run};
 use crate::rounds::{first_round, round_after};
-use documents::{DEFAULT_FIRST, DEFAULT_FUEL, DEFAULT_LAST, Document, Script, ScriptCall, Scripts};
+use documents::limits::{DEFAULT_FIRST, DEFAULT_FUEL, DEFAULT_LAST};
+use documents::{Document, Script, ScriptCall, Scripts};
 use norm_lang::list::Listed;
+use oa_words::limits::MOST_SLOTS;
 use set_source::set_text;
 use std::alloc::{AllocError, Global};
 
 /// How many buckets the set has.
-const BUCKETS: u32 = 8;
+pub(crate) const BUCKETS: u32 = 8;
 
 /// How many of its calls each caller of part 1 makes at most. One call in four puts a key in, so eight callers need 4,000
-/// slots beside the eight of the buckets.
-const FIRST_PART_CALLS: u32 = 2000;
-
-/// The slots of part 1: as many as a row may have. They suffice for every key that is put in, so that none is used again.
-const FIRST_PART_SLOTS: u64 = 4096;
+/// slots beside the eight of the buckets: the part has as many as a row may have, so that none is used again.
+pub(crate) const FIRST_PART_CALLS: u32 = 2000;
 
 /// The slots of part 2: eight of the buckets, and eight for the two keys that are in the set at most, so that slots must be
 /// used again and again.
-const SECOND_PART_SLOTS: u64 = 16;
+pub(crate) const SECOND_PART_SLOTS: u64 = 16;
 
 /// A call of an operation with a key.
 fn key_call(alloc: Global, name: &[u8], key: u64) -> Result<ScriptCall, AllocError>
@@ -54,7 +54,7 @@ fn round_call(alloc: Global, key: u64, before: u64, place: u32) -> Result<Script
 
 /// The first calls of a caller.
 fn script_of(alloc: Global, count: u32, caller: u32) -> Result<Script, AllocError>
-    requires { caller < 8 }
+    requires { caller < MOST_CALLERS }
     ensures { IfOk result (λ script. script ≡ script_of count caller) }
 {
     let mut script = Listed::empty(alloc);
@@ -68,7 +68,7 @@ fn script_of(alloc: Global, count: u32, caller: u32) -> Result<Script, AllocErro
 
 /// Those of the first callers.
 fn scripts_of(alloc: Global, count: u32, callers: u32) -> Result<Scripts, AllocError>
-    requires { callers ≤ 8 }
+    requires { callers ≤ MOST_CALLERS }
     ensures { IfOk result (λ scripts. scripts ≡ scripts_of count callers) }
 {
     let mut scripts = Listed::empty(alloc);
@@ -95,12 +95,12 @@ fn set_document(alloc: Global, slots: u64, scripts: Scripts) -> Result<Document,
 
 /// The document of a part.
 fn part_document(alloc: Global, part: u32, count: u32, callers: u32) -> Result<Document, AllocError>
-    requires callers { callers ≤ 8 }
+    requires callers { callers ≤ MOST_CALLERS }
     ensures { IfOk result (λ document. document ≡ workload_document part count callers) }
 {
     if part == 1 {
         let scripts = scripts_of(alloc, count.min(FIRST_PART_CALLS), callers)?;
-        set_document(alloc, FIRST_PART_SLOTS, scripts)
+        set_document(alloc, MOST_SLOTS, scripts)
     } else {
         let scripts = scripts_of(alloc, count, 1)?;
         set_document(alloc, SECOND_PART_SLOTS, scripts)
@@ -119,12 +119,13 @@ pub fn workload_document(
     callers: u32,
 ) -> Result<Document, AllocError>
     requires part { (1 ≤ part) × (part ≤ 2) }
-    requires count { (1 ≤ count) × (count ≤ 100000) }
-    requires callers { (1 ≤ callers) × (callers ≤ 8) }
+    requires count { (1 ≤ count) × (count ≤ most_calls) }
+    requires callers { (1 ≤ callers) × (callers ≤ MOST_CALLERS) }
     ensures document { IfOk result (λ document. document ≡ workload_document part count callers) }
     ensures within { IfOk result IsWithinDocumentLimits }
     ensures runnable { IfOk result IsRunnable }
 {
+    // Laws for the clauses `within` and `runnable`.
     parts_are_within_limits();
     parts_can_be_run();
     part_document(alloc, part, count, callers)

@@ -1,22 +1,23 @@
 //! The keys of a caller, round by round.
 
 ghost use Rattle.std.specs.Prelude.{◌≡◌, ◌<◌, ◌+◌, ◌/◌};
+ghost use Rattle.oa_words.specs.declared.limits.TheConstants.{MOST_CALLERS};
 ghost use Rattle.script_driver.specs.Workload.{next_seed, seed_at, key_from};
 ghost use Rattle.script_driver.specs.Rounds.{round_at};
 
 /// Each number x of a caller's sequence gives the next, the remainder of 75 x + 74 by 65,537, which is a prime: a linear
 /// congruential sequence.
-const MULTIPLIER: u64 = 75;
+pub(crate) const MULTIPLIER: u64 = 75;
 
-const INCREMENT: u64 = 74;
+pub(crate) const INCREMENT: u64 = 74;
 
-const MODULUS: u64 = 65_537;
+pub(crate) const MODULUS: u64 = 65_537;
 
 /// How many keys a caller has: a number of its sequence gives one by its remainder.
-const KEYS: u64 = 50;
+pub(crate) const KEYS: u64 = 50;
 
 /// How far the keys of a caller are from those of the next, which is more than the keys of each, so that no two share one.
-const KEYS_APART: u64 = 1000;
+pub(crate) const KEYS_APART: u64 = 1000;
 
 /// A round of a caller: its number of the sequence, its key, and the key of the round before.
 #[derive(Clone, Copy)]
@@ -28,7 +29,7 @@ pub(crate) struct Round {
 
 /// The number after a number of the sequence.
 fn next_seed(seed: u64) -> u64
-    requires { seed < 65537 }
+    requires { seed < MODULUS }
     ensures { result ≡ next_seed seed }
 {
     (MULTIPLIER * seed + INCREMENT) % MODULUS
@@ -57,7 +58,7 @@ pub(crate) fn first_round(caller: u32) -> Round
 /// The round after a round.
 #[tactic(auto, using(crate::proofs::Sequence::seed_below, crate::proofs::Sequence::round_next))]
 fn next_round(caller: u32, j: u32, round: Round) -> Round
-    requires caller { caller < 8 }
+    requires caller { caller < MOST_CALLERS }
     requires round { round ≡ round_at caller j }
     ensures { result ≡ round_at caller (j + 1) }
 {
@@ -72,7 +73,7 @@ fn next_round(caller: u32, j: u32, round: Round) -> Round
 /// The round of the call after call `i`, whose own round is given.
 #[tactic(auto, using(crate::proofs::Sequence::next_in_round))]
 pub(crate) fn round_after(caller: u32, i: u32, round: Round) -> Round
-    requires caller { caller < 8 }
+    requires caller { caller < MOST_CALLERS }
     requires round { round ≡ round_at caller (i / 4) }
     ensures { result ≡ round_at caller ((i + 1) / 4) }
 {

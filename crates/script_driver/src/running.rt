@@ -28,6 +28,7 @@ pub fn replay_document(alloc: Global, document: &Document) -> Result<Report, Run
     requires { IsWithinDocumentLimits document.now }
     ensures { IsReplayAnswer document.now result }
 {
+    // A law: what the clause says of a report.
     reports_are_true();
     document_runs::replay_document(alloc, document)
 }
@@ -56,6 +57,7 @@ pub fn run_document<R: Threads + Sync, G: Gate + Sync>(
     requires { IsWithinDocumentLimits document.now }
     ensures { IsRunAnswer document.now result }
 {
+    // A law: what the clause says of a report.
     reports_are_true();
     document_runs::run_document(rt, alloc, document, gate)
 }
@@ -81,6 +83,7 @@ pub fn epoch_document<R: Threads + Sync, G: Gate + Sync>(
     requires { IsWithinDocumentLimits document.now }
     ensures { IsEpochAnswer document.now result }
 {
+    // A law: what the clause says of a report.
     epoch_reports_are_true();
     document_runs::epoch_document(rt, alloc, document, gate)
 }

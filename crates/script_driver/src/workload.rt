@@ -1,7 +1,8 @@
 //! Both documents of a workload are run.
 
 ghost use Rattle.std.specs.Prelude.{◌≤◌, IfOk};
-ghost use Rattle.documents.specs.DocumentLimits.{IsWithinDocumentLimits};
+ghost use Rattle.documents.specs.DocumentLimits.{most_calls, IsWithinDocumentLimits};
+ghost use Rattle.oa_words.specs.declared.limits.TheConstants.{MOST_CALLERS};
 ghost use Rattle.script_plans.specs.Plans.{IsRunnable};
 ghost use Rattle.script_driver.specs.report_laws.Runs.{IsRunReport};
 ghost use Rattle.script_driver.specs.Workload.{workload_document};
@@ -53,8 +54,8 @@ fn run_part<R: Threads + Sync, G: Gate + Sync>(
     gate: &G,
 ) -> Result<Report, AllocError>
     requires part { (1 ≤ part) × (part ≤ 2) }
-    requires count { (1 ≤ count) × (count ≤ 100000) }
-    requires callers { (1 ≤ callers) × (callers ≤ 8) }
+    requires count { (1 ≤ count) × (count ≤ most_calls) }
+    requires callers { (1 ≤ callers) × (callers ≤ MOST_CALLERS) }
     ensures { IfOk result (λ report. IsRunReport (workload_document part count callers) report) }
 {
     let document = workload_document(alloc, part, count, callers)?;
@@ -70,8 +71,8 @@ pub fn run_workload<R: Threads + Sync, G: Gate + Sync>(
     callers: u32,
     gate: &G,
 ) -> Result<WorkloadReport, AllocError>
-    requires count { (1 ≤ count) × (count ≤ 100000) }
-    requires callers { (1 ≤ callers) × (callers ≤ 8) }
+    requires count { (1 ≤ count) × (count ≤ most_calls) }
+    requires callers { (1 ≤ callers) × (callers ≤ MOST_CALLERS) }
     ensures { IfOk result (IsWorkloadReport count callers) }
 {
     let first = run_part(rt, alloc, 1, count, callers, gate)?;

@@ -2,7 +2,7 @@ mod Naming
 mod Firsts
 pub mod Counting
 mod Settings
-mod Limits
+mod Sized
 mod Accepted
 pub mod Ready
 mod Planned

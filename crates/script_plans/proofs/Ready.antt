@@ -18,13 +18,14 @@ use Rattle.caller_parts.specs.Settings.{are_phases}
 use Rattle.caller_parts.specs.Calls.{are_words, is_call_of}
 use Rattle.documents.specs.declared.document.ScriptCall.{ScriptCall}
 use Rattle.documents.specs.declared.document.Document.{Document}
-use Rattle.documents.specs.DocumentLimits.{AreShort, IsWithinDocumentLimits}
+use Rattle.documents.specs.DocumentLimits.{most_calls, AreShort, IsWithinDocumentLimits}
 use Rattle.script_plans.specs.declared.fault.ShapeFault.{ShapeFault}
-use Rattle.script_plans.specs.Shapes.{first_of, most_fuel, padded, kind_slots, kind_nodes, sizes_of, sizes_fault, nodes_fault, rest_fault, fault_unless, op_number, call_fault_at, args_fault, call_fault, script_fault, scripts_fault, setting_fault}
+use Rattle.script_plans.specs.declared.limits.TheConstants.{MOST_FUEL}
+use Rattle.script_plans.specs.Shapes.{first_of, padded, kind_slots, kind_nodes, sizes_of, sizes_fault, nodes_fault, rest_fault, fault_unless, op_number, call_fault_at, args_fault, call_fault, script_fault, scripts_fault, setting_fault}
 use Rattle.bare_targets.specs.Bare.{bare_op}
 use Rattle.script_plans.specs.Plans.{call_of, calls_of, TakeWords, AllTakeWords, plan_for, IsRunnable, IsReady}
 use Rattle.script_plans.specs.EpochPlans.{epoch_plan_for, IsEpochReady}
-use Rattle.script_plans.proofs.Limits.{few_kinds}
+use Rattle.script_plans.proofs.Sized.{few_kinds}
 
 both : (one other : Option ShapeFault) → option_or one other ≡ None → (one ≡ None) × (other ≡ None)
 both None other none = (refl, none)
@@ -90,7 +91,7 @@ module _ (coded : Op → TargetOp) (same : (op : Op) → (coded op).args ≡ op.
 -- ---- the rest
 
 abbrev Short : {A : Type 0} → List A → Type 0
-Short script = length script ≤ 100000
+Short script = length script ≤ most_calls
 
 one_short : (ops : List Op) (script : List ScriptCall) → Short script → Short (map (call_of ops) script)
 one_short ops script le = rw (length-map script (call_of ops)) le
@@ -102,9 +103,9 @@ short_are ops scripts short =
 
 fuelled : (document : Document) → setting_fault document ≡ None → 1 ≤ document.fuel
 fuelled document none =
-    let last : fault_unless 7 (is_count most_fuel document.fuel) ≡ None =
-    fourth (sizes_fault (length document.text.kinds) (sizes_of document)) (nodes_fault (kind_slots document) (kind_nodes document.text.nodes)) (fault_unless 6 (are_phases document.first document.last)) (fault_unless 7 (is_count most_fuel document.fuel)) none in
-    first (nat_le 1 document.fuel) (nat_le document.fuel most_fuel) refl (passed 7 (is_count most_fuel document.fuel) last)
+    let last : fault_unless 7 (is_count MOST_FUEL document.fuel) ≡ None =
+    fourth (sizes_fault (length document.text.kinds) (sizes_of document)) (nodes_fault (kind_slots document) (kind_nodes document.text.nodes)) (fault_unless 6 (are_phases document.first document.last)) (fault_unless 7 (is_count MOST_FUEL document.fuel)) none in
+    first (nat_le 1 document.fuel) (nat_le document.fuel MOST_FUEL) refl (passed 7 (is_count MOST_FUEL document.fuel) last)
   where
     fourth : (a b c d : Option ShapeFault) → first_of (a ∷ b ∷ first_of (c ∷ d ∷ []) ∷ []) ≡ None → d ≡ None
     fourth None None None None none = refl

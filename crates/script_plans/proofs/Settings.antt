@@ -12,7 +12,8 @@ use Rattle.caller_parts.specs.Settings.{Setting, are_phases, have_slots, setting
 use Rattle.caller_parts.specs.declared.setting.Reclamation.{Reclamation}
 use Rattle.documents.specs.declared.document.Document.{Document}
 use Rattle.script_plans.specs.declared.fault.ShapeFault.{ShapeFault}
-use Rattle.script_plans.specs.Shapes.{first_of, most_fuel, whole_fault, fault_unless, padded, kind_slots, kind_nodes, sizes_of, setting_with, setting_under, sizes_fault, nodes_fault, rest_fault, setting_fault}
+use Rattle.script_plans.specs.declared.limits.TheConstants.{MOST_FUEL}
+use Rattle.script_plans.specs.Shapes.{first_of, whole_fault, fault_unless, padded, kind_slots, kind_nodes, sizes_of, setting_with, setting_under, sizes_fault, nodes_fault, rest_fault, setting_fault}
 use Rattle.script_plans.specs.Told.{sizes_number, or_fault}
 use Rattle.script_plans.proofs.Counting.{are_roomy}
 
@@ -68,14 +69,14 @@ module _ (by : Reclamation) (document : Document) (shape : Sizes) (nodes : List 
   judged_so : setting_or_fault asked ≡ tried asked true (are_phases document.first document.last)
   judged_so = ap (λ (b : Bool). tried asked b (are_phases document.first document.last)) roomy
 
-  pub over_fine : (setting : Setting) → Ok setting ≡ setting_or_fault asked → true ≡ is_count most_fuel document.fuel → Ok setting ≡ or_fault (rest_fault document) asked
+  pub over_fine : (setting : Setting) → Ok setting ≡ setting_or_fault asked → true ≡ is_count MOST_FUEL document.fuel → Ok setting ≡ or_fault (rest_fault document) asked
   over_fine setting is fuel = rw (← fuel) (fine asked setting (are_phases document.first document.last) (is ∙ judged_so))
 
-  pub over_unfuelled : (setting : Setting) → Ok setting ≡ setting_or_fault asked → false ≡ is_count most_fuel document.fuel → Err (whole_fault 7) ≡ or_fault (rest_fault document) asked
+  pub over_unfuelled : (setting : Setting) → Ok setting ≡ setting_or_fault asked → false ≡ is_count MOST_FUEL document.fuel → Err (whole_fault 7) ≡ or_fault (rest_fault document) asked
   over_unfuelled setting is fuel = rw (← fuel) (unfuelled asked setting (are_phases document.first document.last) (is ∙ judged_so))
 
   pub over_refused : (fault : SettingFault) → Err fault ≡ setting_or_fault asked → Err (whole_fault 6) ≡ or_fault (rest_fault document) asked
-  over_refused fault is = refused asked fault (are_phases document.first document.last) (is_count most_fuel document.fuel) (is ∙ judged_so)
+  over_refused fault is = refused asked fault (are_phases document.first document.last) (is_count MOST_FUEL document.fuel) (is ∙ judged_so)
 
 -- ---- the setting
 

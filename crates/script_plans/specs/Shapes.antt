@@ -8,6 +8,7 @@ use Rattle.norm_lang.specs.declared.text.Op.{Op}
 use Rattle.norm_lang.specs.declared.text.NodeDecl.{NodeDecl}
 use Rattle.oa_words.specs.Words.{Sizes}
 use Rattle.oa_words.specs.Within.{is_count, are_slots, sizes_of_kinds}
+use Rattle.oa_words.specs.declared.limits.TheConstants.{MOST_CALLERS, MOST_KINDS, MOST_FIELDS, MOST_CELLS}
 use Rattle.caller_parts.specs.KindCounts.{greatest_of, node_count}
 use Rattle.caller_parts.specs.Settings.{Setting, are_phases}
 use Rattle.caller_parts.specs.declared.setting.Reclamation.{Reclamation}
@@ -15,6 +16,7 @@ use Rattle.caller_parts.specs.declared.setting.Reclamation.TheVariants.{Optimist
 use Rattle.documents.specs.declared.document.ScriptCall.{ScriptCall}
 use Rattle.documents.specs.declared.document.Document.{Document}
 use Rattle.script_plans.specs.declared.fault.ShapeFault.{ShapeFault}
+use Rattle.script_plans.specs.declared.limits.TheConstants.{MOST_FUEL}
 
 -- the first that is there
 abbrev pub first_of : List (Option ShapeFault) → Option ShapeFault
@@ -22,21 +24,6 @@ first_of [] = None
 first_of (fault ∷ faults) = option_or fault (first_of faults)
 
 -- ---- settings
-
-abbrev pub most_callers : ℕ
-most_callers = 8
-
-abbrev pub most_kinds : ℕ
-most_kinds = 4
-
-abbrev pub most_fields : ℕ
-most_fields = 4
-
-abbrev pub most_cells : ℕ
-most_cells = 256
-
-abbrev pub most_fuel : ℕ
-most_fuel = 1000000000
 
 -- a fault of the document as a whole has the place 0, but for that of a kind
 abbrev pub whole_fault : ℕ → ShapeFault
@@ -80,10 +67,10 @@ epoch_setting_of document = setting_under Epochs document
 -- never too many kinds
 abbrev pub sizes_fault : ℕ → Sizes → Option ShapeFault
 sizes_fault kinds sizes = first_of (
-    fault_unless 1 (is_count most_callers sizes.callers)
-    ∷ fault_unless 2 (is_count most_kinds kinds && are_slots sizes)
-    ∷ fault_unless 3 (is_count most_fields sizes.fields)
-    ∷ fault_unless 4 (is_count most_cells sizes.cells)
+    fault_unless 1 (is_count MOST_CALLERS sizes.callers)
+    ∷ fault_unless 2 (is_count MOST_KINDS kinds && are_slots sizes)
+    ∷ fault_unless 3 (is_count MOST_FIELDS sizes.fields)
+    ∷ fault_unless 4 (is_count MOST_CELLS sizes.cells)
     ∷ [])
 
 -- the first of so many kinds that has more initial nodes than slots, counted from 0
@@ -97,7 +84,7 @@ nodes_fault slots nodes = option_map (λ kind. record { number = 5; at = kind })
 
 -- 6 the phases, 7 the fuel
 abbrev pub rest_fault : Document → Option ShapeFault
-rest_fault document = first_of (fault_unless 6 (are_phases document.first document.last) ∷ fault_unless 7 (is_count most_fuel document.fuel) ∷ [])
+rest_fault document = first_of (fault_unless 6 (are_phases document.first document.last) ∷ fault_unless 7 (is_count MOST_FUEL document.fuel) ∷ [])
 
 -- what is wrong with the settings: their sizes, 5 the initial nodes, of which no kind has more than slots, and the rest
 abbrev pub setting_fault : Document → Option ShapeFault

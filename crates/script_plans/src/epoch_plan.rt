@@ -26,7 +26,7 @@ pub struct EpochPlan {
 }
 
 /// The setting and the calls of a document whose text is in normal form.
-#[tactic(auto, using(crate::proofs::Limits::few_kinds, crate::proofs::Limits::few_nodes, crate::proofs::Limits::few_ops))]
+#[tactic(auto, using(crate::proofs::Sized::few_kinds, crate::proofs::Sized::few_nodes, crate::proofs::Sized::few_ops))]
 fn parts_of(alloc: Global, document: &Document) -> Result<(Setting, CallLists), RunFault>
     requires within { IsWithinDocumentLimits document.now }
     requires normal { IsNormal document.now.text }

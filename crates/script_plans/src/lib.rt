@@ -5,6 +5,7 @@
 mod calls;
 mod epoch_plan;
 mod fault;
+mod limits;
 mod plan;
 mod setting;
 mod shape;

@@ -48,6 +48,7 @@ fn barred_of(alloc: Global, normal: &Normal) -> Result<Barred, RunFault>
         Ok(barred) => Ok(barred),
         Err(VerifyError::Memory) => Err(RunFault::Memory),
         Err(VerifyError::Flawed(_)) => {
+            // A law: what is barred has no flaw, and compiled code is barred.
             flawed_is_not_barred();
             unreachable!()
         }
@@ -68,7 +69,7 @@ pub(crate) fn shaped(by: Reclamation, document: &Document) -> Result<Setting, Sh
 }
 
 /// The plan of a document whose text is in normal form.
-#[tactic(auto, using(crate::proofs::Limits::few_kinds, crate::proofs::Limits::few_nodes, crate::proofs::Limits::few_ops))]
+#[tactic(auto, using(crate::proofs::Sized::few_kinds, crate::proofs::Sized::few_nodes, crate::proofs::Sized::few_ops))]
 fn plan_of_normal(alloc: Global, document: &Document, normal: &Normal) -> Result<Plan, RunFault>
     requires within { IsWithinDocumentLimits document.now }
     requires text { normal.now ≡ document.now.text }

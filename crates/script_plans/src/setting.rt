@@ -4,18 +4,17 @@ ghost use Rattle.std.specs.Prelude.{◌≡◌, ◌≤◌, ◌<◌, ◌^◌, leng
 ghost use Rattle.oa_words.specs.Within.{is_count};
 ghost use Rattle.caller_parts.specs.KindCounts.{greatest_of, node_count};
 ghost use Rattle.caller_parts.specs.Settings.{have_slots};
-ghost use Rattle.script_plans.specs.Shapes.{most_fuel, whole_fault, kind_nodes, sizes_of, sizes_fault, first_crowded, nodes_fault, setting_with, setting_under, rest_fault, setting_fault};
+ghost use Rattle.script_plans.specs.Shapes.{whole_fault, kind_nodes, sizes_of, sizes_fault, first_crowded, nodes_fault, setting_with, setting_under, rest_fault, setting_fault};
 ghost use Rattle.script_plans.specs.Told.{sizes_number, or_fault};
 
 use crate::calls::padded;
 use crate::fault::ShapeFault;
+use crate::limits::MOST_FUEL;
 use caller_parts::{Reclamation, Setting};
 use documents::Document;
 use norm_lang::fields::count_of;
 use norm_lang::text::{FieldDecl, NodeDecl};
 use oa_words::shape::{Shape, ShapeFault as SizesFault};
-
-const MOST_FUEL: u64 = 1_000_000_000;
 
 /// A fault of the document as a whole.
 fn whole_fault(number: u8) -> ShapeFault
@@ -116,7 +115,7 @@ fn nodes_fault(slots: &[u64], nodes: &[u32]) -> Option<ShapeFault>
 }
 
 fn fuel_fits(fuel: u64) -> bool
-    ensures { result ≡ is_count most_fuel fuel }
+    ensures { result ≡ is_count MOST_FUEL fuel }
 {
     1 <= fuel && fuel <= MOST_FUEL
 }

@@ -3,7 +3,7 @@ use Rattle.std.specs.Prelude.{ℕ, ◌≡◌, List, [], ◌∷◌, Some, None}
 use Rattle.norm_lang.specs.Shipped.{set_text}
 use Rattle.source_machine.specs.declared.event.SourceEvent.{SourceEvent}
 use Rattle.source_machine.specs.declared.event.SourceEvent.TheVariants.{Begin, Access, Restart}
-use Rattle.source_machine.specs.declared.event.SourceReply.TheVariants as replies
+use Rattle.norm_lang.specs.declared.reply.SourceReply.TheVariants as replies
 use Rattle.source_histories.specs.declared.deed.Deed.{Deed}
 use Rattle.source_histories.specs.Books.{Started, Ended, Log, book_of}
 use Rattle.set_laws.specs.Sets.{set_rules, set_deeds, SetLegal}

@@ -12,6 +12,7 @@ use Rattle.norm_lang.specs.declared.text.Instr.TheVariants as instr
 use Rattle.norm_lang.specs.declared.registers.Registers.{Registers}
 use Rattle.norm_lang.specs.Registers.{number_in, with_count}
 use Rattle.norm_lang.specs.Local.{Spot, local_step, go_on}
+use Rattle.norm_lang.specs.declared.reply.SourceReply.TheVariants as replies
 use Rattle.target_code.specs.declared.target.TargetInstr.{TargetInstr}
 use Rattle.target_code.specs.declared.target.TargetInstr.TheVariants.{Plain, Check, Guard}
 use Rattle.target_code.specs.declared.target.Target.{Target}
@@ -19,7 +20,6 @@ use Rattle.target_code.specs.LocalCode.{target_local_at, target_next_spot, targe
 use Rattle.guard_words.specs.Guards.{pass_check, with_guard}
 use Rattle.oa_words.specs.Words.{Sizes}
 use Rattle.phase_pools.specs.Pools.{Retirement, retire_accepts}
-use Rattle.caller_parts.specs.declared.call.Reply.TheVariants as replies
 use Rattle.caller_steps.specs.declared.entry.Hand.{Hand}
 use Rattle.caller_parts.specs.declared.routine.Announcing.{Announcing}
 use Rattle.caller_parts.specs.declared.routine.Announcing.TheVariants as announces
@@ -131,20 +131,6 @@ unguarded_clears (Some r) hand clears.Again settled = settled
 
 module _ (Holds : ℕ → Registers → Type 0) where
   plain_carries : (i : Instr) (at : ℕ) (registers : Registers) (next : Spot) → PlainCarries Holds at registers i → local_step i at registers ≡ Some next → Holds next.at next.registers
-  plain_carries (instr.Set d n) at registers next carries is = carries next is
-  plain_carries (instr.Mov d a) at registers next carries is = carries next is
-  plain_carries (instr.Add d a b) at registers next carries is = carries next is
-  plain_carries (instr.Sub d a b) at registers next carries is = carries next is
-  plain_carries (instr.Rem d a n) at registers next carries is = carries next is
-  plain_carries (instr.Mark d a) at registers next carries is = carries next is
-  plain_carries (instr.Unmark d a) at registers next carries is = carries next is
-  plain_carries (instr.Null d) at registers next carries is = carries next is
-  plain_carries (instr.Jump l) at registers next carries is = carries next is
-  plain_carries (instr.IfEq a b l) at registers next carries is = carries next is
-  plain_carries (instr.IfLess a b l) at registers next carries is = carries next is
-  plain_carries (instr.IfMarked a l) at registers next carries is = carries next is
-  plain_carries (instr.Return a) at registers next carries is = carries next is
-  plain_carries instr.ReturnNone at registers next carries is = carries next is
   plain_carries (instr.LoadRoot d x) at registers next carries is = absurd (let z : None ≡ Some next = is in cc)
   plain_carries (instr.LoadPick d x n a) at registers next carries is = absurd (let z : None ≡ Some next = is in cc)
   plain_carries (instr.LoadField d a f) at registers next carries is = absurd (let z : None ≡ Some next = is in cc)
@@ -153,12 +139,11 @@ module _ (Holds : ℕ → Registers → Type 0) where
   plain_carries (instr.New d kind) at registers next carries is = absurd carries
   plain_carries (instr.Commit exchanges) at registers next carries is = absurd carries
   plain_carries instr.Again at registers next carries is = absurd carries
+  plain_carries _ at registers next carries is = carries next is
 
   instr_carries : (o : Option TargetInstr) (at : ℕ) (registers : Registers) (next : Spot) → InstrCarries Holds at registers o → target_local_at o at registers ≡ Some next → Holds next.at next.registers
-  instr_carries None at registers next carries is = absurd (let z : None ≡ Some next = is in cc)
   instr_carries (Some (Plain i)) at registers next carries is = plain_carries i at registers next carries is
-  instr_carries (Some Check) at registers next carries is = absurd (let z : None ≡ Some next = is in cc)
-  instr_carries (Some (Guard r)) at registers next carries is = absurd (let z : None ≡ Some next = is in cc)
+  instr_carries _ at registers next carries is = absurd (let z : None ≡ Some next = is in cc)
 
   run_carries : (code : List TargetInstr) → CodeCarries Holds code → (n : ℕ) (spot : Spot) → Holds spot.at spot.registers → (let end = target_run code n spot in Holds end.at end.registers)
   run_carries code carries zero spot holds = holds
@@ -202,23 +187,7 @@ module _ (target : Target) (sizes : Sizes) (Holds : ℕ → ℕ → Registers �
   plain_settles (instr.Return a) e wraps holds carried = cleared_settles (clears.Reply (replies.Number (number_in e.hand.registers a))) e tt
   plain_settles instr.ReturnNone e wraps holds carried = cleared_settles (clears.Reply replies.Nothing) e tt
   plain_settles instr.Again e wraps holds carried = absurd carried
-  plain_settles (instr.Set d n) e wraps holds carried = (wraps, holds)
-  plain_settles (instr.Mov d a) e wraps holds carried = (wraps, holds)
-  plain_settles (instr.Add d a b) e wraps holds carried = (wraps, holds)
-  plain_settles (instr.Sub d a b) e wraps holds carried = (wraps, holds)
-  plain_settles (instr.Rem d a n) e wraps holds carried = (wraps, holds)
-  plain_settles (instr.Mark d a) e wraps holds carried = (wraps, holds)
-  plain_settles (instr.Unmark d a) e wraps holds carried = (wraps, holds)
-  plain_settles (instr.Null d) e wraps holds carried = (wraps, holds)
-  plain_settles (instr.Jump l) e wraps holds carried = (wraps, holds)
-  plain_settles (instr.IfEq a b l) e wraps holds carried = (wraps, holds)
-  plain_settles (instr.IfLess a b l) e wraps holds carried = (wraps, holds)
-  plain_settles (instr.IfMarked a l) e wraps holds carried = (wraps, holds)
-  plain_settles (instr.LoadRoot d x) e wraps holds carried = (wraps, holds)
-  plain_settles (instr.LoadPick d x n a) e wraps holds carried = (wraps, holds)
-  plain_settles (instr.LoadField d a f) e wraps holds carried = (wraps, holds)
-  plain_settles (instr.Put a f b) e wraps holds carried = (wraps, holds)
-  plain_settles (instr.Cas exchange l) e wraps holds carried = (wraps, holds)
+  plain_settles _ e wraps holds carried = (wraps, holds)
 
   -- ---- under epochs
 
@@ -226,49 +195,12 @@ module _ (target : Target) (sizes : Sizes) (Holds : ℕ → ℕ → Registers �
   stop_settles (instr.Return a) e wraps holds carried = tt
   stop_settles instr.ReturnNone e wraps holds carried = tt
   stop_settles instr.Again e wraps holds carried = absurd carried
-  stop_settles (instr.New d kind) e wraps holds carried = (wraps, holds)
-  stop_settles (instr.Commit exchanges) e wraps holds carried = (wraps, holds)
-  stop_settles (instr.Set d n) e wraps holds carried = (wraps, holds)
-  stop_settles (instr.Mov d a) e wraps holds carried = (wraps, holds)
-  stop_settles (instr.Add d a b) e wraps holds carried = (wraps, holds)
-  stop_settles (instr.Sub d a b) e wraps holds carried = (wraps, holds)
-  stop_settles (instr.Rem d a n) e wraps holds carried = (wraps, holds)
-  stop_settles (instr.Mark d a) e wraps holds carried = (wraps, holds)
-  stop_settles (instr.Unmark d a) e wraps holds carried = (wraps, holds)
-  stop_settles (instr.Null d) e wraps holds carried = (wraps, holds)
-  stop_settles (instr.Jump l) e wraps holds carried = (wraps, holds)
-  stop_settles (instr.IfEq a b l) e wraps holds carried = (wraps, holds)
-  stop_settles (instr.IfLess a b l) e wraps holds carried = (wraps, holds)
-  stop_settles (instr.IfMarked a l) e wraps holds carried = (wraps, holds)
-  stop_settles (instr.LoadRoot d x) e wraps holds carried = (wraps, holds)
-  stop_settles (instr.LoadPick d x n a) e wraps holds carried = (wraps, holds)
-  stop_settles (instr.LoadField d a f) e wraps holds carried = (wraps, holds)
-  stop_settles (instr.Put a f b) e wraps holds carried = (wraps, holds)
-  stop_settles (instr.Cas exchange l) e wraps holds carried = (wraps, holds)
+  stop_settles _ e wraps holds carried = (wraps, holds)
 
   announced_settles : (i : Instr) (e : Entry) → InWrapUp e.hand → HoldsIn e e.hand.at e.hand.registers → PlainCarries (HoldsIn e) e.hand.at e.hand.registers i → Settled (announced_stop target sizes i e).entry
   announced_settles (instr.New d kind) e wraps holds carried = absurd carried
   announced_settles (instr.Commit exchanges) e wraps holds carried = absurd carried
-  announced_settles (instr.Return a) e wraps holds carried = tt
-  announced_settles instr.ReturnNone e wraps holds carried = tt
-  announced_settles instr.Again e wraps holds carried = absurd carried
-  announced_settles (instr.Set d n) e wraps holds carried = (wraps, holds)
-  announced_settles (instr.Mov d a) e wraps holds carried = (wraps, holds)
-  announced_settles (instr.Add d a b) e wraps holds carried = (wraps, holds)
-  announced_settles (instr.Sub d a b) e wraps holds carried = (wraps, holds)
-  announced_settles (instr.Rem d a n) e wraps holds carried = (wraps, holds)
-  announced_settles (instr.Mark d a) e wraps holds carried = (wraps, holds)
-  announced_settles (instr.Unmark d a) e wraps holds carried = (wraps, holds)
-  announced_settles (instr.Null d) e wraps holds carried = (wraps, holds)
-  announced_settles (instr.Jump l) e wraps holds carried = (wraps, holds)
-  announced_settles (instr.IfEq a b l) e wraps holds carried = (wraps, holds)
-  announced_settles (instr.IfLess a b l) e wraps holds carried = (wraps, holds)
-  announced_settles (instr.IfMarked a l) e wraps holds carried = (wraps, holds)
-  announced_settles (instr.LoadRoot d x) e wraps holds carried = (wraps, holds)
-  announced_settles (instr.LoadPick d x n a) e wraps holds carried = (wraps, holds)
-  announced_settles (instr.LoadField d a f) e wraps holds carried = (wraps, holds)
-  announced_settles (instr.Put a f b) e wraps holds carried = (wraps, holds)
-  announced_settles (instr.Cas exchange l) e wraps holds carried = (wraps, holds)
+  announced_settles i e wraps holds carried = stop_settles i e wraps holds carried
 
   -- ---- where local code stops
 
@@ -381,23 +313,7 @@ module _ (target : Target) (sizes : Sizes) (Holds : ℕ → ℕ → Registers �
   accepted_plain by (instr.LoadField d a f) word e eight is wraps holds carried = on_settles by (with_word e.hand.registers d word) (with_access e) wraps (carried word)
   accepted_plain by (instr.Put a f b) word e eight is wraps holds carried = on_settles by e.hand.registers e wraps carried
   accepted_plain by (instr.Cas exchange l) word e eight is wraps holds carried = cas_settles by exchange l word (with_access e) eight wraps carried
-  accepted_plain by (instr.Set d n) word e eight is wraps holds carried = same e At is (wraps, holds)
-  accepted_plain by (instr.Mov d a) word e eight is wraps holds carried = same e At is (wraps, holds)
-  accepted_plain by (instr.Add d a b) word e eight is wraps holds carried = same e At is (wraps, holds)
-  accepted_plain by (instr.Sub d a b) word e eight is wraps holds carried = same e At is (wraps, holds)
-  accepted_plain by (instr.Rem d a n) word e eight is wraps holds carried = same e At is (wraps, holds)
-  accepted_plain by (instr.Mark d a) word e eight is wraps holds carried = same e At is (wraps, holds)
-  accepted_plain by (instr.Unmark d a) word e eight is wraps holds carried = same e At is (wraps, holds)
-  accepted_plain by (instr.Null d) word e eight is wraps holds carried = same e At is (wraps, holds)
-  accepted_plain by (instr.Jump l) word e eight is wraps holds carried = same e At is (wraps, holds)
-  accepted_plain by (instr.IfEq a b l) word e eight is wraps holds carried = same e At is (wraps, holds)
-  accepted_plain by (instr.IfLess a b l) word e eight is wraps holds carried = same e At is (wraps, holds)
-  accepted_plain by (instr.IfMarked a l) word e eight is wraps holds carried = same e At is (wraps, holds)
-  accepted_plain by (instr.New d kind) word e eight is wraps holds carried = same e At is (wraps, holds)
-  accepted_plain by (instr.Commit exchanges) word e eight is wraps holds carried = same e At is (wraps, holds)
-  accepted_plain by (instr.Return a) word e eight is wraps holds carried = same e At is (wraps, holds)
-  accepted_plain by instr.ReturnNone word e eight is wraps holds carried = same e At is (wraps, holds)
-  accepted_plain by instr.Again word e eight is wraps holds carried = same e At is (wraps, holds)
+  accepted_plain by _ word e eight is wraps holds carried = same e At is (wraps, holds)
 
   accepted_instr : (by : Reclamation) (o : Option TargetInstr) (word : ℕ) (e : Entry) → HasEight e → e.routine ≡ At → InWrapUp e.hand → HoldsIn e e.hand.at e.hand.registers → InstrCarries (HoldsIn e) e.hand.at e.hand.registers o
       → Settled (instr_accepted by target sizes o word e).entry

@@ -3,8 +3,8 @@ use Rattle.std.proofs.Common.{◌≡◌, ◌≢◌, ℕ, zero, suc, ◌==◌, Bo
 use Rattle.std.specs.Prelude.{slice_index_or, codes, if◌then◌else◌}
 use Rattle.std.proofs.lemmas.Bool.{cases_eq}
 use Rattle.std.proofs.lemmas.Bool.Decides.{nat_tests}
+use Rattle.norm_lang.specs.declared.reply.SourceReply.TheVariants as replies
 use mathlib.Core.Logic.{◌⊎◌}
-use Rattle.caller_parts.specs.declared.call.Reply.TheVariants as replies
 use Rattle.document_runs.specs.declared.report.Answer.{Answer}
 use Rattle.document_runs.specs.declared.report.Answer.TheVariants as answers
 use Rattle.document_runs.specs.declared.report.ReportLine.{ReportLine}

@@ -1,8 +1,8 @@
 -- A report of two callers, call by call, whose claims together are more than a word holds.
 use Rattle.std.specs.Prelude.{◌≡◌, ℕ, ◌-◌, ◌^◌, [], ◌∷◌, codes}
+use Rattle.norm_lang.specs.declared.reply.SourceReply.TheVariants as replies
 use Rattle.documents.specs.declared.document.ScriptCall.{ScriptCall}
 use Rattle.documents.specs.declared.document.Document.{Document}
-use Rattle.caller_parts.specs.declared.call.Reply.TheVariants as replies
 use Rattle.caller_parts.specs.declared.routine.Routine.TheVariants.{At}
 use Rattle.caller_steps.specs.Entries.{Entry, idle_entry}
 use Rattle.core_rows.specs.ReplayRows.{add}

@@ -2,7 +2,7 @@
 -- or ends a call.
 use Rattle.std.proofs.Common.{ℕ, zero, suc, ◌+◌, ◌≡◌, ◌≢◌, ◌≤◌, ◌<◌, ◌∙◌, ◌++◌, Bool, true, false, List, [], ◌∷◌, map, Option, Some, None, is_some, sym, ap, subst, refl, ⊎_elim, arith}
 use Rattle.std.proofs.lemmas.Bool.{cases_lt}
-use Rattle.source_machine.specs.declared.event.SourceReply.{SourceReply}
+use Rattle.norm_lang.specs.declared.reply.SourceReply.{SourceReply}
 use Rattle.source_machine.specs.MethodRuns.{put}
 use Rattle.source_machine.proofs.Places.{each_put, put_same, put_other}
 use Rattle.source_histories.specs.declared.deed.Deed.{Deed}

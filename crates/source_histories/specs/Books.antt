@@ -7,8 +7,8 @@ use Rattle.norm_lang.specs.Registers.{number_in}
 use Rattle.source_machine.specs.declared.reads.Standing.{Standing}
 use Rattle.source_machine.specs.declared.event.SourceEvent.{SourceEvent}
 use Rattle.source_machine.specs.declared.event.SourceEvent.TheVariants as events
-use Rattle.source_machine.specs.declared.event.SourceReply.{SourceReply}
-use Rattle.source_machine.specs.declared.event.SourceReply.TheVariants as replies
+use Rattle.norm_lang.specs.declared.reply.SourceReply.{SourceReply}
+use Rattle.norm_lang.specs.declared.reply.SourceReply.TheVariants as replies
 use Rattle.source_machine.specs.declared.state.Stand.{Stand}
 use Rattle.source_machine.specs.declared.state.Stand.TheVariants.{InGenerator, InList, InWrapUp}
 use Rattle.source_machine.specs.declared.state.Running.{Running}

@@ -2,6 +2,7 @@
 #![tactic(auto)]
 
 mod explanation;
+pub mod limits;
 mod status;
 
 pub use explanation::{explain, fault_words, method_words, rule_words, shape_words};

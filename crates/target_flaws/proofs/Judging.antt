@@ -54,28 +54,9 @@ operands_read r (entry ∷ entries) is =
     ]
 
 exchanged_read : (r : Reg) (i : Instr) → IsTrue (list_any (same_register r) (exchanged i)) → IsTrue (reads r i)
-exchanged_read r (instr.Set d n) is = cc
-exchanged_read r (instr.Mov d a) is = cc
-exchanged_read r (instr.Add d a b) is = cc
-exchanged_read r (instr.Sub d a b) is = cc
-exchanged_read r (instr.Rem d a n) is = cc
-exchanged_read r (instr.Mark d a) is = cc
-exchanged_read r (instr.Unmark d a) is = cc
-exchanged_read r (instr.Null d) is = cc
-exchanged_read r (instr.LoadRoot d x) is = cc
-exchanged_read r (instr.LoadPick d x n a) is = cc
-exchanged_read r (instr.LoadField d a f) is = cc
-exchanged_read r (instr.New d kind) is = cc
-exchanged_read r (instr.Put a f b) is = cc
 exchanged_read r (instr.Cas entry l) is = operand_read r entry is
-exchanged_read r (instr.Jump l) is = cc
-exchanged_read r (instr.IfEq a b l) is = cc
-exchanged_read r (instr.IfLess a b l) is = cc
-exchanged_read r (instr.IfMarked a l) is = cc
 exchanged_read r (instr.Commit entries) is = operands_read r entries is
-exchanged_read r (instr.Return a) is = cc
-exchanged_read r instr.ReturnNone is = cc
-exchanged_read r instr.Again is = cc
+exchanged_read r _ is = cc
 
 -- what an instruction within the limits reads, exchanges or guards is a register
 target_reads_within : (kinds fields roots : ℕ) (i : TargetInstr) (r : Reg) → IsTrue (is_target_instr kinds fields roots i) → IsTrue (target_reads r i) → IsTrue (is_register r)

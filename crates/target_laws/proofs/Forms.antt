@@ -1,5 +1,5 @@
 -- The rules that look at one instruction, at an instruction of a target.
-use Rattle.std.proofs.Common.{◌≡◌, ℕ, ◌<◌, false, List, length, refl, sym, ◌∙◌, arith}
+use Rattle.std.proofs.Common.{◌≡◌, ℕ, ◌<◌, false, List, length, sym, ◌∙◌, arith}
 use Rattle.std.specs.Prelude.{nat_le}
 use Rattle.std.proofs.lemmas.Bool.Decides.{nat_tests}
 use Rattle.norm_lang.specs.declared.text.RootDecl.{RootDecl}
@@ -29,8 +29,7 @@ range_by roots place count was (instr.Jump l) inside is = not_past l count (insi
 range_by roots place count was (instr.IfEq a b l) inside is = not_past l count (inside l (below (place l) was is))
 range_by roots place count was (instr.IfLess a b l) inside is = not_past l count (inside l (below (place l) was is))
 range_by roots place count was (instr.IfMarked a l) inside is = not_past l count (inside l (below (place l) was is))
-range_by roots place count was (instr.LoadPick d x n a) inside is = is
-range_by roots place count was _ inside is = refl
+range_by roots place count was _ inside is = is
 
 pub instructions_are_in_form : InstructionsAreInForm
 instructions_are_in_form target text normal erases method at i is =

@@ -13,94 +13,45 @@ use Rattle.target_code.specs.Erasing.{redirected}
 
 pub sets_redirected : (r : Reg) (place : ℕ → ℕ) (i : Instr) → sets r (redirected place i) ≡ sets r i
 sets_redirected r place (instr.Cas entry l) = refl
-sets_redirected r place (instr.Jump l) = refl
-sets_redirected r place (instr.IfEq a b l) = refl
-sets_redirected r place (instr.IfLess a b l) = refl
-sets_redirected r place (instr.IfMarked a l) = refl
 sets_redirected r place _ = refl
 
 pub reads_redirected : (r : Reg) (place : ℕ → ℕ) (i : Instr) → reads r (redirected place i) ≡ reads r i
 reads_redirected r place (instr.Cas entry l) = refl
-reads_redirected r place (instr.Jump l) = refl
-reads_redirected r place (instr.IfEq a b l) = refl
-reads_redirected r place (instr.IfLess a b l) = refl
-reads_redirected r place (instr.IfMarked a l) = refl
 reads_redirected r place _ = refl
 
 pub follows_redirected : (r : Reg) (place : ℕ → ℕ) (i : Instr) → follows r (redirected place i) ≡ follows r i
 follows_redirected r place (instr.Cas entry l) = refl
-follows_redirected r place (instr.Jump l) = refl
-follows_redirected r place (instr.IfEq a b l) = refl
-follows_redirected r place (instr.IfLess a b l) = refl
-follows_redirected r place (instr.IfMarked a l) = refl
 follows_redirected r place _ = refl
 
 pub exchanges_redirected : (r : Reg) (place : ℕ → ℕ) (i : Instr) → exchanges r (redirected place i) ≡ exchanges r i
 exchanges_redirected r place (instr.Cas entry l) = refl
-exchanges_redirected r place (instr.Jump l) = refl
-exchanges_redirected r place (instr.IfEq a b l) = refl
-exchanges_redirected r place (instr.IfLess a b l) = refl
-exchanges_redirected r place (instr.IfMarked a l) = refl
 exchanges_redirected r place _ = refl
 
 pub openly_redirected : (r : Reg) (place : ℕ → ℕ) (i : Instr) → reads_openly r (redirected place i) ≡ reads_openly r i
 openly_redirected r place (instr.Cas entry l) = refl
-openly_redirected r place (instr.Jump l) = refl
-openly_redirected r place (instr.IfEq a b l) = refl
-openly_redirected r place (instr.IfLess a b l) = refl
-openly_redirected r place (instr.IfMarked a l) = refl
 openly_redirected r place _ = refl
 
 pub is_new_redirected : (place : ℕ → ℕ) (i : Instr) → is_new (redirected place i) ≡ is_new i
 is_new_redirected place (instr.Cas entry l) = refl
-is_new_redirected place (instr.Jump l) = refl
-is_new_redirected place (instr.IfEq a b l) = refl
-is_new_redirected place (instr.IfLess a b l) = refl
-is_new_redirected place (instr.IfMarked a l) = refl
 is_new_redirected place _ = refl
 
 pub looks_redirected : (place : ℕ → ℕ) (i : Instr) → looks (redirected place i) ≡ looks i
 looks_redirected place (instr.Cas entry l) = refl
-looks_redirected place (instr.Jump l) = refl
-looks_redirected place (instr.IfEq a b l) = refl
-looks_redirected place (instr.IfLess a b l) = refl
-looks_redirected place (instr.IfMarked a l) = refl
 looks_redirected place _ = refl
 
 pub kinds_redirected : (fields : List FieldDecl) (roots : List RootDecl) (place : ℕ → ℕ) (i : Instr) → has_wrong_kind fields roots (redirected place i) ≡ has_wrong_kind fields roots i
 kinds_redirected fields roots place (instr.Cas entry l) = refl
-kinds_redirected fields roots place (instr.Jump l) = refl
-kinds_redirected fields roots place (instr.IfEq a b l) = refl
-kinds_redirected fields roots place (instr.IfLess a b l) = refl
-kinds_redirected fields roots place (instr.IfMarked a l) = refl
 kinds_redirected fields roots place _ = refl
 
 pub numbers_redirected : (place : ℕ → ℕ) (i : Instr) → computes_on_reference (redirected place i) ≡ computes_on_reference i
 numbers_redirected place (instr.Cas entry l) = refl
-numbers_redirected place (instr.Jump l) = refl
-numbers_redirected place (instr.IfEq a b l) = refl
-numbers_redirected place (instr.IfLess a b l) = refl
-numbers_redirected place (instr.IfMarked a l) = refl
 numbers_redirected place _ = refl
 
 pub retired_redirected : (place : ℕ → ℕ) (i : Instr) → has_wrong_retire (redirected place i) ≡ has_wrong_retire i
 retired_redirected place (instr.Cas entry l) = refl
-retired_redirected place (instr.Jump l) = refl
-retired_redirected place (instr.IfEq a b l) = refl
-retired_redirected place (instr.IfLess a b l) = refl
-retired_redirected place (instr.IfMarked a l) = refl
 retired_redirected place _ = refl
 
 pub end_redirected : (wrapup : Bool) (place : ℕ → ℕ) (i : Instr) → is_end_of_other wrapup (redirected place i) ≡ is_end_of_other wrapup i
 end_redirected false place (instr.Cas entry l) = refl
-end_redirected false place (instr.Jump l) = refl
-end_redirected false place (instr.IfEq a b l) = refl
-end_redirected false place (instr.IfLess a b l) = refl
-end_redirected false place (instr.IfMarked a l) = refl
-end_redirected false place _ = refl
 end_redirected true place (instr.Cas entry l) = refl
-end_redirected true place (instr.Jump l) = refl
-end_redirected true place (instr.IfEq a b l) = refl
-end_redirected true place (instr.IfLess a b l) = refl
-end_redirected true place (instr.IfMarked a l) = refl
-end_redirected true place _ = refl
+end_redirected _ place _ = refl

@@ -89,28 +89,8 @@ cas_plain fields roots (places.Root x) entry l at = rw at (is_plain (codes "casr
 cas_plain fields roots (places.Field a f) entry l at = rw at (is_plain (codes "cas") refl refl refl refl refl)
 
 instr_plain : (kinds : List (List ℕ)) (fields : List FieldDecl) (roots : List RootDecl) (i : Instr) → PlainLine (spelled_instr Second kinds fields roots i)
-instr_plain kinds fields roots (instr.Set d n) = is_plain (codes "set") refl refl refl refl refl
-instr_plain kinds fields roots (instr.Mov d a) = is_plain (codes "mov") refl refl refl refl refl
-instr_plain kinds fields roots (instr.Add d a b) = is_plain (codes "add") refl refl refl refl refl
-instr_plain kinds fields roots (instr.Sub d a b) = is_plain (codes "sub") refl refl refl refl refl
-instr_plain kinds fields roots (instr.Rem d a n) = is_plain (codes "rem") refl refl refl refl refl
-instr_plain kinds fields roots (instr.Mark d a) = is_plain (codes "mark") refl refl refl refl refl
-instr_plain kinds fields roots (instr.Unmark d a) = is_plain (codes "unmark") refl refl refl refl refl
-instr_plain kinds fields roots (instr.Null d) = is_plain (codes "null") refl refl refl refl refl
-instr_plain kinds fields roots (instr.LoadRoot d x) = is_plain (codes "root") refl refl refl refl refl
-instr_plain kinds fields roots (instr.LoadPick d x n a) = is_plain (codes "pick") refl refl refl refl refl
-instr_plain kinds fields roots (instr.LoadField d a f) = is_plain (codes "load") refl refl refl refl refl
-instr_plain kinds fields roots (instr.New d kind) = is_plain (codes "new") refl refl refl refl refl
-instr_plain kinds fields roots (instr.Put a f b) = is_plain (codes "put") refl refl refl refl refl
 instr_plain kinds fields roots (instr.Cas entry l) = cas_plain fields roots entry.place entry l refl
-instr_plain kinds fields roots (instr.Jump l) = is_plain (codes "jump") refl refl refl refl refl
-instr_plain kinds fields roots (instr.IfEq a b l) = is_plain (codes "ifeq") refl refl refl refl refl
-instr_plain kinds fields roots (instr.IfLess a b l) = is_plain (codes "ifless") refl refl refl refl refl
-instr_plain kinds fields roots (instr.IfMarked a l) = is_plain (codes "ifmarked") refl refl refl refl refl
-instr_plain kinds fields roots (instr.Commit entries) = is_plain (codes "commit") refl refl refl refl refl
-instr_plain kinds fields roots (instr.Return a) = is_plain (codes "return") refl refl refl refl refl
-instr_plain kinds fields roots instr.ReturnNone = is_plain (codes "returnnone") refl refl refl refl refl
-instr_plain kinds fields roots instr.Again = is_plain (codes "again") refl refl refl refl refl
+instr_plain kinds fields roots _ = is_plain _ refl refl refl refl refl
 
 entry_plain : (fields : List FieldDecl) (roots : List RootDecl) (place : Place) (entry : CasEntry) → entry.place ≡ place → PlainLine (spelled_entry fields roots entry)
 entry_plain fields roots (places.Root x) entry at = rw at (is_plain (codes "withroot") refl refl refl refl refl)

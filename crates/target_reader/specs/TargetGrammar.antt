@@ -3,7 +3,7 @@
 -- A target has the version line `oat 2`, the declarations of a text, no `use` line, and operations in whose methods `chk` and
 -- `grd R` may stand. Its lines are those of the second version of the language. A line's fault is the first that it has, as in a
 -- text: its bytes are judged first, also where it is skipped, and each line's form before its numbers, names and limits.
-use Rattle.std.specs.Prelude.{◌≡◌, ℕ, zero, suc, ◌+◌, Bool, false, ◌&&◌, not, List, [], ◌∷◌, ◌++◌, map, length, Option, Some, None, Result, Ok, Err, codes, nat_lt, ◌==◌, if◌then◌else◌}
+use Rattle.std.specs.Prelude.{◌≡◌, ℕ, zero, suc, ◌+◌, Bool, false, ◌&&◌, not, List, [], ◌∷◌, ◌++◌, map, length, Option, Some, None, Result, Ok, Err, codes, nat_lt, nat_le, ◌==◌, if◌then◌else◌}
 use Rattle.std.specs.Str.{bytes_eq}
 use Rattle.oa_text.specs.Lines.{TextLine, lines_of, numbered}
 use Rattle.norm_lang.specs.declared.text.Reg.{Reg}
@@ -28,7 +28,8 @@ use Rattle.target_code.specs.declared.target.TargetInstr.{TargetInstr}
 use Rattle.target_code.specs.declared.target.TargetInstr.TheVariants.{Plain, Check, Guard}
 use Rattle.target_code.specs.declared.target.TargetOp.{TargetOp}
 use Rattle.target_code.specs.declared.target.Target.{Target}
-use Rattle.target_code.specs.TargetLimits.{target_news_of}
+use Rattle.norm_lang.specs.Bounds.{most_news}
+use Rattle.target_code.specs.TargetLimits.{most_target_instrs, target_news_of}
 
 -- where among the operations a line stands: before the first; after an `op` line; in a generator; in a wrap-up
 pub data Part : Type 0 where
@@ -98,11 +99,11 @@ with_one_more draft i = record draft { op = with_target_instr draft.part draft.o
 
 -- a method has at most 4096 instructions
 abbrev pub has_place : OpsDraft → Bool
-has_place draft = nat_lt (length (target_code_so_far draft.part draft.op)) 4096
+has_place draft = nat_lt (length (target_code_so_far draft.part draft.op)) most_target_instrs
 
 -- whether a step is a fifth `new` of its operation
 abbrev pub is_fifth_target_new : OpsDraft → Step → Bool
-is_fifth_target_new draft (Whole i) = is_new i && nat_lt 3 (target_news_of draft.op)
+is_fifth_target_new draft (Whole i) = is_new i && nat_le most_news (target_news_of draft.op)
 is_fifth_target_new draft (Commits count) = false
 
 -- a commit is an instruction once none of its entry lines is left

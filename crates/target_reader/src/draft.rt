@@ -11,10 +11,8 @@ use norm_lang::list::Listed;
 use norm_lang::text::Instr;
 use std::alloc::{AllocError, Global};
 use std::mem;
+use target_code::limits::MOST_TARGET_INSTRS;
 use target_code::target::{TargetInstr, TargetOp, TargetOps};
-
-/// The most instructions of a method.
-const MOST_INSTRS: usize = 4096;
 
 /// Where among the operations the next line stands.
 #[derive(Clone, Copy, PartialEq, Eq)]
@@ -116,7 +114,7 @@ impl OpsDraft {
     pub(crate) fn has_place(&self) -> bool
         ensures { result ≡ has_place (draft_shown self.now) }
     {
-        self.code().len() < MOST_INSTRS
+        self.code().len() < MOST_TARGET_INSTRS
     }
 
     /// How many `new` the operation has whose lines stand here, in both methods.

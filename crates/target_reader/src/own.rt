@@ -12,15 +12,12 @@ ghost use Rattle.target_reader.specs.OpsShown.{draft_shown, read_or_plain, line_
 use crate::draft::{OpsDraft, Part};
 use line_words::fault::{Fault, Stop};
 use line_words::words::{Words, up_to, value_of};
+use norm_lang::limits::{MOST_ARGUMENTS, MOST_OPS};
 use norm_lang::list::Listed;
 use norm_lang::text::Reg;
 use oa_text::Line;
 use std::alloc::Global;
 use target_code::target::{TargetInstr, TargetOp};
-
-const MOST_OPS: usize = 16;
-
-const MOST_ARGUMENTS: u64 = 4;
 
 /// Whether a line that begins with this word begins a part of a document, so that no operation may have the name.
 fn reserved(name: &[u8]) -> bool

@@ -12,14 +12,12 @@ ghost use Rattle.target_reader.specs.OpsShown.{draft_shown, line_own, alone, too
 
 use crate::draft::OpsDraft;
 use line_words::fault::{Fault, ParseError, Stop};
+use norm_lang::limits::MOST_NEWS;
 use norm_lang::text::Instr;
 use norm_parser::{Head, parse_instr};
 use oa_text::{Line, Lines, lines};
 use std::alloc::Global;
 use target_code::target::TargetInstr;
-
-/// The most `new` of an operation.
-const MOST_NEWS: usize = 4;
 
 /// Whether an instruction is a fifth `new` of its operation.
 fn is_fifth(draft: &OpsDraft, instr: &Instr) -> bool

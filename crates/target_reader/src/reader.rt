@@ -1,11 +1,12 @@
 //! The reader of targets.
 
 ghost use Rattle.std.specs.Prelude.{◌≡◌, ◌+◌, ◌<◌, ◌^◌, ◌∷◌, length, IfOk};
-ghost use Rattle.oa_text.specs.Lines.{lines_of, numbered};
+ghost use Rattle.oa_text.specs.Lines.{lines_of};
 ghost use Rattle.oa_text.specs.Shown.{line_shown};
 ghost use Rattle.line_words.specs.Answered.{Answers};
+ghost use Rattle.norm_parser.specs.Cursors.{all_lines, IsRestOf};
 ghost use Rattle.norm_parser.specs.Instruction.{AreFrom, AreLeftOf};
-ghost use Rattle.norm_parser.specs.FrontRead.{from_line, IsHeadWithinLimits};
+ghost use Rattle.norm_parser.specs.FrontRead.{IsHeadWithinLimits};
 ghost use Rattle.target_code.specs.TargetLimits.{IsTargetWithinLimits};
 ghost use Rattle.target_reader.specs.TargetGrammar.{no_ops, ops_read, target_read};
 ghost use Rattle.target_reader.specs.OpsShown.{draft_shown, GoesOn};
@@ -14,14 +15,14 @@ use crate::draft::OpsDraft;
 use crate::own::read_own;
 use crate::plain::read_plain;
 use line_words::fault::ParseError;
-use norm_parser::{Head, after_second_version, parse_head};
-use oa_text::{Line, Lines, lines};
+use norm_parser::{Cursor, Head, number_past, read_head, read_second_version};
+use oa_text::{Line, Lines};
 use std::alloc::Global;
 use target_code::target::{Target, TargetOps};
 
 /// Adds what a line says, with the entry lines of a commit.
 #[tactic(auto, using(crate::proofs::OwnLines::own_added, crate::proofs::OwnLines::own_fails, crate::proofs::Reading::left_all))]
-fn read_line<'a>(
+fn read_op_line<'a>(
     draft: &mut OpsDraft,
     alloc: Global,
     line: Line<'a>,
@@ -41,65 +42,45 @@ fn read_line<'a>(
     }
 }
 
-/// The number of the line past the last.
-#[tactic(auto, using(crate::proofs::Ordered::first_past))]
-fn line_past(input: &[u8]) -> u32
-    requires { length (lines_of input.now) + 1 < 2 ^ 32 }
-    ensures { result ≡ length (lines_of input.now) + 1 }
-{
-    let mut past = 1;
-    for _ in lines(input) {
-        past += 1;
-    }
-    past
-}
-
-/// The lines from a number on.
-#[tactic(auto, using(norm_parser::proofs::LinesLeft::first_from))]
-fn lines_from(input: &[u8], start: u32) -> Lines<'_>
-    requires { length (lines_of input.now) + 1 < 2 ^ 32 }
-    ensures { result ≡ from_line start (numbered 1 (lines_of input.now)) }
-{
-    let mut rest = lines(input);
-    for _ in 1..start {
-        rest.next();
-    }
-    rest
-}
-
-/// Adds the operations whose lines begin at a line to none.
-#[tactic(auto, using(crate::proofs::Ordered::from_line_up_to, crate::proofs::Ordered::left_up_to))]
-fn add_ops(
+/// Adds the operations whose lines are left of an input to none.
+fn add_ops<'a>(
     draft: &mut OpsDraft,
     alloc: Global,
-    input: &[u8],
-    first: u32,
+    input: &'a [u8],
+    cursor: Cursor<'a>,
     head: &Head,
 ) -> Result<(), ParseError>
     requires few { length (lines_of input.now) + 1 < 2 ^ 32 }
+    requires rest { IsRestOf (all_lines input.now) cursor }
     requires within { IsHeadWithinLimits head.now }
     requires none { draft_shown draft.old ≡ no_ops }
-    ensures { Answers (λ _. draft.new.ops) result (ops_read head.now.kinds head.now.fields head.now.roots (length (lines_of input.now) + 1) no_ops (from_line first (numbered 1 (lines_of input.now)))) }
+    ensures { Answers (λ _. draft.new.ops) result (ops_read head.now.kinds head.now.fields head.now.roots (length (lines_of input.now) + 1) no_ops cursor.entry.lines) }
 {
-    let past = line_past(input);
-    let mut rest = lines_from(input, first);
-    'lines: while let Some(line) = rest.next() {
-        read_line(draft, alloc, line, &mut rest, head)?;
+    let (mut next, mut rest) = cursor.split();
+    'lines: while let Some(line) = next {
+        read_op_line(draft, alloc, line, &mut rest, head)?;
+        next = rest.next();
     }
     match draft.end(alloc) {
         Ok(()) => Ok(()),
-        Err(stop) => Err(stop.at(past)),
+        Err(stop) => Err(stop.at(number_past(input))),
     }
 }
 
-/// The operations whose lines begin at a line.
-fn read_ops(alloc: Global, input: &[u8], first: u32, head: &Head) -> Result<TargetOps, ParseError>
+/// The operations whose lines are left of an input.
+fn read_ops<'a>(
+    alloc: Global,
+    input: &'a [u8],
+    cursor: Cursor<'a>,
+    head: &Head,
+) -> Result<TargetOps, ParseError>
     requires few { length (lines_of input.now) + 1 < 2 ^ 32 }
+    requires rest { IsRestOf (all_lines input.now) cursor }
     requires within { IsHeadWithinLimits head.now }
-    ensures { Answers (λ ops. ops) result (ops_read head.now.kinds head.now.fields head.now.roots (length (lines_of input.now) + 1) no_ops (from_line first (numbered 1 (lines_of input.now)))) }
+    ensures { Answers (λ ops. ops) result (ops_read head.now.kinds head.now.fields head.now.roots (length (lines_of input.now) + 1) no_ops cursor.entry.lines) }
 {
     let mut draft = OpsDraft::start(alloc);
-    match add_ops(&mut draft, alloc, input, first, head) {
+    match add_ops(&mut draft, alloc, input, cursor, head) {
         Ok(()) => Ok(draft.into_ops()),
         Err(error) => Err(error),
     }
@@ -121,9 +102,10 @@ pub fn read_target(alloc: Global, input: &[u8]) -> Result<Target, ParseError>
     ensures exact { Answers (λ target. target) result (target_read input.now) }
     ensures within { IfOk result (λ target. IsTargetWithinLimits target) }
 {
-    let behind = after_second_version(b"oat", input)?;
-    let (head, first) = parse_head(alloc, input, behind)?;
-    let ops = read_ops(alloc, input, first, &head)?;
+    let mut cursor = Cursor::new(input);
+    read_second_version(b"oat", &mut cursor)?;
+    let head = read_head(alloc, &mut cursor)?;
+    let ops = read_ops(alloc, input, cursor, &head)?;
     Ok(Target {
         kinds: head.kinds,
         fields: head.fields,

@@ -33,28 +33,8 @@ cas_inside fields roots (places.Root x) entry l at = rw at refl
 cas_inside fields roots (places.Field a f) entry l at = rw at refl
 
 instr_inside : (version : Version) (kinds : List (List ℕ)) (fields : List FieldDecl) (roots : List RootDecl) (i : Instr) → is_inside (spelled_instr version kinds fields roots i) ≡ true
-instr_inside version kinds fields roots (instr.Set d n) = refl
-instr_inside version kinds fields roots (instr.Mov d a) = refl
-instr_inside version kinds fields roots (instr.Add d a b) = refl
-instr_inside version kinds fields roots (instr.Sub d a b) = refl
-instr_inside version kinds fields roots (instr.Rem d a n) = refl
-instr_inside version kinds fields roots (instr.Mark d a) = refl
-instr_inside version kinds fields roots (instr.Unmark d a) = refl
-instr_inside version kinds fields roots (instr.Null d) = refl
-instr_inside version kinds fields roots (instr.LoadRoot d x) = refl
-instr_inside version kinds fields roots (instr.LoadPick d x n a) = refl
-instr_inside version kinds fields roots (instr.LoadField d a f) = refl
-instr_inside version kinds fields roots (instr.New d kind) = refl
-instr_inside version kinds fields roots (instr.Put a f b) = refl
 instr_inside version kinds fields roots (instr.Cas entry l) = cas_inside fields roots entry.place entry l refl
-instr_inside version kinds fields roots (instr.Jump l) = refl
-instr_inside version kinds fields roots (instr.IfEq a b l) = refl
-instr_inside version kinds fields roots (instr.IfLess a b l) = refl
-instr_inside version kinds fields roots (instr.IfMarked a l) = refl
-instr_inside version kinds fields roots (instr.Commit entries) = refl
-instr_inside version kinds fields roots (instr.Return a) = refl
-instr_inside version kinds fields roots instr.ReturnNone = refl
-instr_inside version kinds fields roots instr.Again = refl
+instr_inside version kinds fields roots _ = refl
 
 entry_inside : (fields : List FieldDecl) (roots : List RootDecl) (place : Place) (entry : CasEntry) → entry.place ≡ place → is_inside (spelled_entry fields roots entry) ≡ true
 entry_inside fields roots (places.Root x) entry at = rw at refl

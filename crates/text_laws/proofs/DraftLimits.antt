@@ -748,20 +748,12 @@ roots_within draft h some =
 
 -- a text that ends is within the limits
 finished_in_is : (section : Section) (draft : Draft) → Keeps section draft → IfOk (finished_in section draft) (λ text. is_within_limits text ≡ true)
-finished_in_is Start draft h = tt
-finished_in_is Opening draft h = tt
-finished_in_is Kinds draft h = tt
-finished_in_is Fields draft h = tt
-finished_in_is Counts draft h = tt
-finished_in_is Nodes draft h = tt
-finished_in_is Roots draft h = tt
-finished_in_is Begun draft h = tt
-finished_in_is Generator draft h = tt
 finished_in_is WrapUp draft h =
     then_has (with_whole_op draft) _ (IsNextDraft draft.left) _ (whole_op_has draft h) λ next last.
     and_from _ _ last.text.kinds (and_from _ _ last.text.fields (and_from _ _ last.text.nodes
     (and_from _ _ last.text.roots (whole_list 16 _ _ next.text.ops last.text.ops last.some))))
 finished_in_is Shipped draft h = h.0
+finished_in_is _ draft h = tt
 
 pub finished_is : (draft : Draft) → Kept draft → IfOk (finished draft) (λ text. is_within_limits text ≡ true)
 finished_is draft h = demanded form_fault (draft.left == 0) _ _ λ _. finished_in_is draft.section draft h

@@ -506,14 +506,6 @@ none left e = absurd (omega arith)
 entry_pushed : (section : Section) (left : ℕ) (draft : Draft) (entry : CasEntry) (words : List (List ℕ)) (lines : Lines) → SaysIn section (record draft { left = suc left }) lines
     → words ≡ spelled_entry draft.text.fields draft.text.roots entry
     → SaysIn section (with_entries left (record draft { section = section }) (draft.entries ++ entry ∷ [])) (lines ++ words ∷ [])
-entry_pushed Start left draft entry words lines h same = absurd (none left h.whole)
-entry_pushed Opening left draft entry words lines h same = absurd (none left h.whole)
-entry_pushed Kinds left draft entry words lines h same = absurd (none left h.whole)
-entry_pushed Fields left draft entry words lines h same = absurd (none left h.whole)
-entry_pushed Counts left draft entry words lines h same = absurd (none left h.whole)
-entry_pushed Nodes left draft entry words lines h same = absurd (none left h.whole)
-entry_pushed Roots left draft entry words lines h same = absurd (none left h.whole)
-entry_pushed Begun left draft entry words lines h same = absurd (none left h.whole)
 entry_pushed Generator zero draft entry words lines h same = record {
   may = h.may;
   said = grown (before_generator draft.version draft.text draft.op) _ _ lines words h.said (last_entry_said draft.version draft.text.kinds draft.text.fields draft.text.roots draft.op.generator words draft.entries entry same);
@@ -532,7 +524,7 @@ entry_pushed WrapUp (suc left) draft entry words lines h same = record {
   may = h.may;
   said = grown (before_wrap_up draft.version draft.text draft.op) _ _ lines words h.said (entry_line_said draft.version draft.text.kinds draft.text.fields draft.text.roots draft.op.wrapup left words draft.entries entry same);
 }
-entry_pushed Shipped left draft entry words lines h same = absurd (none left h.whole)
+entry_pushed _ left draft entry words lines h same = absurd (none left h.whole)
 
 -- what is said at a section is said of a draft there
 said_there : (section : Section) (left : ℕ) (draft : Draft) (entries : List CasEntry) (lines : Lines)
@@ -575,17 +567,9 @@ pub nothing_said : SaidIn [] (draft_at Second Start)
 nothing_said = record { said = refl; whole = refl }
 
 finished_in_said : (section : Section) (draft : Draft) (lines : Lines) → draft.left ≡ 0 → SaysIn section draft lines → IfOk (finished_in section draft) (SaysText lines)
-finished_in_said Start draft lines whole h = tt
-finished_in_said Opening draft lines whole h = tt
-finished_in_said Kinds draft lines whole h = tt
-finished_in_said Fields draft lines whole h = tt
-finished_in_said Counts draft lines whole h = tt
-finished_in_said Nodes draft lines whole h = tt
-finished_in_said Roots draft lines whole h = tt
-finished_in_said Begun draft lines whole h = tt
-finished_in_said Generator draft lines whole h = tt
 finished_in_said WrapUp draft lines whole h = then_has (with_whole_op draft) _ (SaysWhole lines) (SaysText lines) (whole_op_said draft lines whole h) λ next last. inl (next.version, last.may, last.said)
 finished_in_said Shipped draft lines whole h = inr h.named
+finished_in_said _ draft lines whole h = tt
 
 -- a text that ends is what its lines say
 pub finished_said : (draft : Draft) (lines : Lines) → SaidIn lines draft → IfOk (finished draft) (SaysText lines)

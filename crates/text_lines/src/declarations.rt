@@ -17,24 +17,13 @@ use line_words::words::{
     StartWord, Words, fits, great, kind_of_holding, spelled_kind, start_of, up_to, value_of,
 };
 use norm_lang::fields::count_of;
+use norm_lang::limits::{
+    MOST_ARGUMENTS, MOST_BUCKETS, MOST_FIELDS, MOST_KINDS, MOST_NODES, MOST_OPS, MOST_ROOTS,
+};
 use norm_lang::list::Listed;
 use norm_lang::text::{FieldDecl, Name, NodeDecl, Op, RootDecl, Start, Starts, Text, Version};
 use norm_lang::{shipped_queue, shipped_set};
 use std::alloc::Global;
-
-const MOST_KINDS: usize = 4;
-
-const MOST_FIELDS: usize = 4;
-
-const MOST_NODES: u64 = 256;
-
-const MOST_ROOTS: usize = 256;
-
-const MOST_OPS: usize = 16;
-
-const MOST_ARGUMENTS: u64 = 4;
-
-const MOST_BUCKETS: u64 = 64;
 
 fn named_field(fields: &[FieldDecl], name: &[u8]) -> bool
     ensures { result ≡ has_field fields.now name.now }

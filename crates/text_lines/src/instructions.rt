@@ -11,11 +11,8 @@ use line_words::operands::{
     two_registers,
 };
 use line_words::words::{Words, up_to, value_of};
+use norm_lang::limits::{MOST_ENTRIES, MOST_PICKED};
 use norm_lang::text::{CasEntry, FieldDecl, Instr, Name, Place, RootDecl, Version};
-
-const MOST_PICKED: u64 = 256;
-
-const MOST_ENTRIES: u64 = 4;
 
 /// `set D 17`
 pub fn set(words: &mut Words) -> Result<Instr, Fault>

@@ -6,15 +6,13 @@ use Rattle.caller_parts.specs.declared.call.Call.{Call}
 use Rattle.caller_parts.specs.declared.call.Running.{Running}
 use Rattle.caller_parts.specs.Pairing.{run_of, replied_by}
 use Rattle.caller_steps.specs.Entries.{Entry, RoomyEntry, idle_entry, one_more, is_idle}
-use Rattle.caller_parts.specs.declared.setting.Reclamation.{Reclamation}
-use Rattle.caller_parts.specs.declared.setting.Reclamation.TheVariants.{Optimistic, Epochs}
-use Rattle.caller_steps.specs.After.{first_routine, taken}
+use Rattle.caller_steps.specs.After.{taken}
 use Rattle.core_runs.specs.Machine.{CoreState}
 use Rattle.core_runs.specs.Advances.{Stays, Stops, counted_on}
 use Rattle.core_runs.specs.Histories.{running_of, calls_of, calls_in}
 use Rattle.core_runs.specs.Scripts.{script_of, AreOfScript, HasEnded, IsCompleteRun}
 use Rattle.core_runs.proofs.Advancing.{runs_end}
-use Rattle.core_runs.proofs.Keeping.{kept_calls}
+use Rattle.core_runs.proofs.Keeping.{kept_calls, first_busy}
 use Rattle.core_runs.specs.core_sound.Sound.{IsSound}
 use Rattle.word_runner.specs.table_rule.Seen.{Fixed}
 use Rattle.word_runner.specs.table_rule.Rule.{IsReached}
@@ -32,11 +30,6 @@ counted_exact n (w ∷ ws) lt =
 -- a call with so many steps
 abbrev one_of : Call → ℕ → List Running
 one_of call steps = record { call = call; steps = steps } ∷ []
-
--- by either scheme a caller that has taken a call isn't idle
-first_busy : (by : Reclamation) → is_idle (first_routine by) ≡ false
-first_busy Optimistic = refl
-first_busy Epochs = refl
 
 -- one call
 one_call : (key : Fixed) (e mid : Entry) (call : Call) (fuel accesses : ℕ) → is_idle e.routine ≡ true → (o : Operated key (taken key.setting.reclamation call e) fuel mid accesses) → calls_of mid ≡ calls_of e ++ one_of call (counted_on 0 o.words)

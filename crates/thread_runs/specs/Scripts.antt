@@ -5,6 +5,7 @@ use Rattle.caller_steps.specs.Entries.{Entry, idle_entry, is_idle}
 use Rattle.caller_parts.specs.Calls.{AreCalls}
 use Rattle.caller_steps.specs.After.{taken}
 use Rattle.core_runs.specs.Scripts.{script_of}
+use Rattle.documents.specs.DocumentLimits.{most_calls}
 use Rattle.word_runner.specs.table_rule.Seen.{Fixed}
 use Rattle.word_runner.specs.Shown.{ArenaShown, CallerShown, CameFrom, Operated}
 
@@ -27,7 +28,7 @@ pub record Ready (arena : ArenaShown) (script : List Call) (c : CallerShown) : T
   pub came : CameFrom arena c.table c.fixed
   pub idle : is_idle c.entry.core.routine ≡ true
   pub room : length c.entry.core.replies + length script ≤ c.entry.room
-  pub short : length script ≤ 100000
+  pub short : length script ≤ most_calls
   pub calls : AreCalls arena.fixed.target.target script
 
 -- a caller that has entered and made no call, with room for its own script
@@ -36,7 +37,7 @@ pub record Fresh (arena : ArenaShown) (scripts : List (List Call)) (c : CallerSh
   pub idle : c.entry.core ≡ idle_entry c.entry.core.number
   pub within : c.entry.core.number < length scripts
   pub room : length (script_of scripts c.entry.core.number) ≤ c.entry.room
-  pub short : length (script_of scripts c.entry.core.number) ≤ 100000
+  pub short : length (script_of scripts c.entry.core.number) ≤ most_calls
   pub calls : AreCalls arena.fixed.target.target (script_of scripts c.entry.core.number)
 
 -- the calls of the entry's own script were taken from the start

@@ -8,6 +8,7 @@ use Rattle.core_runs.specs.core_sound.Sound.{IsSound}
 use Rattle.word_runner.specs.table_rule.Seen.{Fixed}
 use Rattle.word_runner.specs.table_rule.Seats.{cores}
 use Rattle.word_runner.specs.Shown.{ArenaShown, BlankShown, CameFrom}
+use Rattle.documents.specs.DocumentLimits.{most_calls}
 use Rattle.thread_runs.specs.Scripts.{Ended}
 
 -- a blank of the arena, with this room
@@ -26,7 +27,7 @@ abbrev pub HasRooms : List (List Call) → ℕ → Type 0
 HasRooms scripts room = All (λ (s : List Call). length s ≤ room) scripts
 
 abbrev pub AreShort : List (List Call) → Type 0
-AreShort scripts = HasRooms scripts 100000
+AreShort scripts = HasRooms scripts most_calls
 
 -- the phase and the entries are those of one state of the core, in which a complete run of the scripts ends
 pub record IsFinalOf (key : Fixed) (scripts : List (List Call)) (fuel phase : ℕ) (entries : List RoomyEntry) : Type 0 where

@@ -1,23 +1,17 @@
 -- A caller that has taken a call may step; and each caller's empty entry belongs.
-use Rattle.std.proofs.Common.{◌≡◌, ◌∙◌, ◌<◌, ℕ, true, false, [], inr, ap, refl, subst, sym}
+use Rattle.std.proofs.Common.{◌≡◌, ◌∙◌, ◌<◌, ℕ, true, [], inr, ap, refl, subst, sym}
 use Rattle.atomic_table.specs.Table.{Me}
 use Rattle.caller_parts.specs.declared.call.Call.{Call}
 use Rattle.caller_parts.specs.Calls.{is_call}
 use Rattle.caller_steps.specs.Entries.{Entry, idle_entry, is_idle}
-use Rattle.caller_parts.specs.declared.setting.Reclamation.{Reclamation}
-use Rattle.caller_parts.specs.declared.setting.Reclamation.TheVariants.{Optimistic, Epochs}
-use Rattle.caller_steps.specs.After.{first_routine, taken}
+use Rattle.caller_steps.specs.After.{taken}
 use Rattle.core_runs.proofs.caller_laws.Beginning.{idle_belongs}
 use Rattle.core_runs.proofs.caller_laws.Together.{methods}
 use Rattle.word_runner.specs.table_rule.Seen.{Fixed, IsGround, SeatView}
 use Rattle.word_runner.specs.table_rule.Plays.{Belonging, CanGo, NewcomersBelong, with_accesses, with_entry, with_found}
 use Rattle.word_runner.specs.table_rule.Rule.{callers_of}
 use Rattle.word_runner.specs.table_rule.Seats.{Seated}
-
--- by either scheme a caller that has taken a call isn't idle
-pub first_busy : (by : Reclamation) → is_idle (first_routine by) ≡ false
-first_busy Optimistic = refl
-first_busy Epochs = refl
+use Rattle.core_runs.proofs.Keeping.{first_busy}
 
 pub may_go : (key : Fixed) (me : Me ℕ SeatView) (base e : Entry) (call : Call) → Seated me base → me.0.fixed ≡ key → is_idle base.routine ≡ true → is_call key.target.target call ≡ true
     → e ≡ taken key.setting.reclamation call base → Belonging key e → CanGo key me e

@@ -82,7 +82,7 @@ impl Arena {
         self.ground.setting.shape().callers()
     }
 
-    /// A target that callers may run, and a setting that fits it: so each caller's empty entry belongs.
+    /// A target that callers may run, and a setting that fits it: so each caller's empty entry belongs. To read a field tells it.
     pub(crate) fn kept(&self)
         ensures ground { IsGround self.now.fixed }
         ensures idle { NewcomersBelong self.now.fixed }

@@ -1,7 +1,7 @@
 -- The rows of exchanges, each computed from the machine's definitions.
 use Rattle.std.specs.Prelude.{◌≡◌, [], ◌∷◌, Some, None, refl}
 use Rattle.norm_lang.specs.Shipped.{root_entry}
-use Rattle.source_machine.specs.declared.event.SourceReply.TheVariants as replies
+use Rattle.norm_lang.specs.declared.reply.SourceReply.TheVariants as replies
 use Rattle.source_machine.specs.declared.state.Value.TheVariants.{Number}
 use Rattle.source_machine.specs.declared.state.Stand.TheVariants.{InList}
 use Rattle.worked_rows.specs.Small.{n1, n2, n3, ten}

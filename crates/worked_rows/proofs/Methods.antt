@@ -1,7 +1,7 @@
 -- The rows of methods that begin again, of names and of giving up, each computed from the machine's definitions.
 use Rattle.std.specs.Prelude.{◌≡◌, [], ◌∷◌, Some, None, refl}
 use Rattle.source_machine.specs.declared.event.SourceEvent.TheVariants.{Begin, Access, Restart, GiveUp}
-use Rattle.source_machine.specs.declared.event.SourceReply.TheVariants as replies
+use Rattle.norm_lang.specs.declared.reply.SourceReply.TheVariants as replies
 use Rattle.source_machine.specs.declared.state.Value.TheVariants.{Number}
 use Rattle.worked_rows.specs.Runs.{replies_after, begins, nodes_after, to_node, first_nodes}
 use Rattle.worked_rows.specs.MethodRows.{adds_then_loads, adds_then_commits, adds_in_wrap_up, doubles_count, adds_again, exchanges_once, makes_node, MethodRows}

@@ -1,7 +1,7 @@
 -- The rows of a text of two kinds of nodes, each computed from the machine's definitions.
 use Rattle.std.specs.Prelude.{◌≡◌, [], ◌∷◌, Some, None, refl}
 use Rattle.source_machine.specs.declared.event.SourceEvent.TheVariants.{Access}
-use Rattle.source_machine.specs.declared.event.SourceReply.TheVariants as replies
+use Rattle.norm_lang.specs.declared.reply.SourceReply.TheVariants as replies
 use Rattle.source_machine.specs.declared.state.Value.TheVariants.{Number}
 use Rattle.source_machine.specs.Memory.{kind_named}
 use Rattle.worked_rows.specs.Runs.{Replies, nodes_after, roots_after, begins, to_node}

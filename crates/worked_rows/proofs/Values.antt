@@ -1,7 +1,7 @@
 -- The rows of loads and local instructions, each computed from the machine's definitions.
 use Rattle.std.specs.Prelude.{refl}
 use Rattle.norm_lang.specs.declared.text.Instr.TheVariants.{IfEq, IfMarked}
-use Rattle.source_machine.specs.declared.event.SourceReply.TheVariants as replies
+use Rattle.norm_lang.specs.declared.reply.SourceReply.TheVariants as replies
 use Rattle.worked_rows.specs.Small.{r0, r1, r2}
 use Rattle.worked_rows.specs.Runs.{Replies, decides}
 use Rattle.worked_rows.specs.ValueRows.{loads_number, loads_reference, loads_through_mark, picks_number, takes_five, adds_two, divides_by_five, moves_number, marked_and_copied, marked_and_unmarked, jumps_over, compares_with_five, ValueRows}

@@ -3,7 +3,7 @@ use Rattle.std.specs.Prelude.{◌≡◌, [], ◌∷◌, Some, None}
 use Rattle.norm_lang.specs.declared.text.Instr.TheVariants.{Set, Null, Mark, LoadRoot, Cas, Commit}
 use Rattle.norm_lang.specs.declared.text.Text.{Text}
 use Rattle.norm_lang.specs.Shipped.{root_entry, next_entry, retiring}
-use Rattle.source_machine.specs.declared.event.SourceReply.TheVariants as replies
+use Rattle.norm_lang.specs.declared.reply.SourceReply.TheVariants as replies
 use Rattle.source_machine.specs.declared.state.Value.TheVariants.{Number}
 use Rattle.source_machine.specs.declared.state.Stand.TheVariants.{InList}
 use Rattle.worked_rows.specs.Small.{n0, n1, n2, n3, r0, r1, r2, key, first, second, none, ten, field_entry}

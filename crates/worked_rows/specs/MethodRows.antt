@@ -4,7 +4,7 @@ use Rattle.norm_lang.specs.declared.text.Instr.TheVariants.{Set, Add, Null, Load
 use Rattle.norm_lang.specs.declared.text.Text.{Text}
 use Rattle.norm_lang.specs.Shipped.{root_entry}
 use Rattle.source_machine.specs.declared.event.SourceEvent.TheVariants.{Begin, Access, Restart, GiveUp}
-use Rattle.source_machine.specs.declared.event.SourceReply.TheVariants as replies
+use Rattle.norm_lang.specs.declared.reply.SourceReply.TheVariants as replies
 use Rattle.source_machine.specs.declared.state.Value.TheVariants.{Number}
 use Rattle.worked_rows.specs.Small.{n0, n1, n2, n3, n7, r0, r1, key, none, ten, small}
 use Rattle.worked_rows.specs.Runs.{replies_after, nodes_after, begins, counts, to_node, first_nodes}

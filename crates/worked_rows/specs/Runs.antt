@@ -5,7 +5,7 @@ use Rattle.norm_lang.specs.declared.text.Instr.TheVariants.{Set, Commit, Return}
 use Rattle.norm_lang.specs.declared.text.Text.{Text}
 use Rattle.source_machine.specs.declared.event.SourceEvent.{SourceEvent}
 use Rattle.source_machine.specs.declared.event.SourceEvent.TheVariants.{Begin, Access}
-use Rattle.source_machine.specs.declared.event.SourceReply.{SourceReply}
+use Rattle.norm_lang.specs.declared.reply.SourceReply.{SourceReply}
 use Rattle.source_machine.specs.declared.state.Value.{Value}
 use Rattle.source_machine.specs.declared.state.Value.TheVariants.{Number, Node}
 use Rattle.source_machine.specs.declared.state.NamedNode.{NamedNode}

@@ -12,7 +12,7 @@ use Rattle.norm_lang.specs.declared.text.Instr.TheVariants.{Set, Null, LoadRoot,
 use Rattle.norm_lang.specs.declared.text.Text.{Text}
 use Rattle.norm_lang.specs.Shipped.{root_entry}
 use Rattle.source_machine.specs.declared.event.SourceEvent.TheVariants.{Access}
-use Rattle.source_machine.specs.declared.event.SourceReply.TheVariants as replies
+use Rattle.norm_lang.specs.declared.reply.SourceReply.TheVariants as replies
 use Rattle.source_machine.specs.declared.state.Value.TheVariants.{Number}
 use Rattle.source_machine.specs.declared.state.NamedNode.{NamedNode}
 use Rattle.source_machine.specs.Memory.{kind_named}

@@ -3,7 +3,7 @@ use Rattle.std.specs.Prelude.{List, [], ◌∷◌}
 use Rattle.norm_lang.specs.declared.text.Instr.{Instr}
 use Rattle.norm_lang.specs.declared.text.Instr.TheVariants.{Set, Mov, Add, Sub, Rem, Null, Mark, Unmark, LoadRoot, LoadPick, LoadField, Jump, IfEq, IfLess, IfMarked, Commit, Return}
 use Rattle.norm_lang.specs.declared.text.Text.{Text}
-use Rattle.source_machine.specs.declared.event.SourceReply.TheVariants as replies
+use Rattle.norm_lang.specs.declared.reply.SourceReply.TheVariants as replies
 use Rattle.worked_rows.specs.Small.{n0, n1, n2, r0, r1, r2, key, next, first, ten, small}
 use Rattle.worked_rows.specs.Runs.{Replies, decides}
 

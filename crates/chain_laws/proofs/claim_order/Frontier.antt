@@ -1,9 +1,8 @@
 -- Claims of each kind take slots that were never claimed in ascending order.
-use Rattle.std.proofs.Common.{ℕ, zero, suc, ◌≡◌, ◌≢◌, ◌==◌, ◌+◌, ◌-◌, ◌≤◌, ◌<◌, ◌⊎◌, ◌∙◌, ◌&&◌, not, Bool, true, false, List, [], ◌∷◌, length, Option, Some, None, arith, inl, inr, ⊎_elim, sym, ap, subst, refl, max, if◌then◌else◌}
+use Rattle.std.proofs.Common.{ℕ, zero, suc, ◌≡◌, ◌≢◌, ◌==◌, ◌+◌, ◌≤◌, ◌<◌, ◌⊎◌, ◌∙◌, Bool, true, false, List, [], ◌∷◌, length, Option, Some, None, arith, inl, inr, ⊎_elim, sym, ap, subst, refl, max, if◌then◌else◌}
 use Rattle.std.specs.Prelude.{nat_lt}
 use Rattle.std.proofs.lemmas.Bool.{cases_eq, cases_lt}
 use Rattle.std.proofs.lemmas.Bool.Decides.{nat_tests}
-use Rattle.oa_words.specs.declared.packed.Kind.{Kind}
 use Rattle.oa_words.specs.declared.packed.Kind.TheVariants as kinds
 use Rattle.oa_words.specs.Words.{Word, Phase, Warning, Hazard, Status, Head, Link, Sizes, SlotRange, IsSlot}
 use Rattle.oa_words.specs.SlotKinds.{range_of, kind_of, range_at}
@@ -11,7 +10,6 @@ use Rattle.oa_words.specs.Within.{AreKinds}
 use Rattle.oa_words.specs.Packed.{StatusParts, status_word, status_parts, head_word, head_parts}
 use Rattle.oa_words.specs.Starts.{Beginning, nodes_of, first_ready, slot_after, start_kind, start_link, start_top, start_word}
 use Rattle.oa_words.proofs.KindRanges.{part_within, kind_small, in_range_is_of_kind, of_kind_is_in_range}
-use Rattle.guard_words.specs.Guards.{has_slot}
 use Rattle.phase_pools.specs.declared.access.ClaimEnd.{ClaimEnd}
 use Rattle.phase_pools.specs.declared.access.ClaimEnd.TheVariants as ends
 use Rattle.phase_pools.specs.declared.access.SweepEnd.{SweepEnd}
@@ -25,7 +23,8 @@ use Rattle.phase_pools.specs.declared.stages.ClaimStage.TheVariants as claims
 use Rattle.phase_pools.specs.declared.stages.RetireStage.{RetireStage}
 use Rattle.phase_pools.specs.declared.stages.RetireStage.TheVariants as retires
 use Rattle.phase_pools.specs.Accesses.{WordAccess, word_of}
-use Rattle.phase_pools.specs.Pools.{Sweep, warn_wanted, low_after, sweep_wants_at, sweep_accepts_at, sweep_goes, sweep_ends, sweep_on, phase_read, phase_raised, warned_all, warn_next, hazard_next, hazard_read, freeing, status_read, Claim, claim_begun, claim_wants, claim_accepts, claim_wants_at, claim_accepts_at, claim_goes, claim_ends, sweep_follows, look_ended, look_begun, sweep_started, sweep_ended, retire_begun, retire_wants, retire_accepts, retire_wants_at, retire_accepts_at}
+use Rattle.phase_pools.specs.Pools.{Sweep, warn_wanted, low_after, sweep_wants_at, sweep_accepts_at, sweep_goes, sweep_ends, sweep_on, phase_read, phase_raised, warned_all, warn_next, hazard_next, hazard_read, status_read, Claim, claim_begun, claim_wants, claim_accepts, claim_wants_at, claim_accepts_at, claim_goes, claim_ends, sweep_follows, look_ended, look_begun, sweep_started, sweep_ended, retire_begun, retire_wants, retire_accepts, retire_wants_at, retire_accepts_at}
+use Rattle.phase_pools.proofs.Statuses.{from_slot, from_status}
 use Rattle.oa_words.specs.Memories.{store}
 use Rattle.chain_laws.specs.Memories.{put, after_access}
 use Rattle.chain_laws.specs.Chains.{top}
@@ -165,22 +164,10 @@ SweepOn n m v sweep None = SweepFits n m v sweep.stage
 SweepOn n m v sweep (Some end) = Unit {0}
 
 on_next : (n : Sizes) (m : Word → ℕ) (v : ℕ → ℕ) (sweep : Sweep) (j : ℕ) → j ≤ n.slots → SweepOn n m v (sweep_on n sweep j).sweep (sweep_on n sweep j).ended
-on_next n m v sweep j le = of (nat_lt 1 j) refl where
-  of : (b : Bool) → nat_lt 1 j ≡ b → SweepOn n m v (if b then sweep_goes sweep (sweeps.ReadStatus (j - 1)) else sweep_ends sweep swept.Swept).sweep (if b then sweep_goes sweep (sweeps.ReadStatus (j - 1)) else sweep_ends sweep swept.Swept).ended
-  of true is = let more : 1 < j = grind (arith, nat_tests) in (omega (arith, more), omega (arith, le))
-  of false is = tt
-
-freeing_next : (n : Sizes) (m : Word → ℕ) (v : ℕ → ℕ) (sweep : Sweep) (j q : ℕ) (kind : Kind) → 1 ≤ j → j ≤ n.slots → SweepOn n m v (freeing n sweep j q kind).sweep (freeing n sweep j q kind).ended
-freeing_next n m v sweep j q kinds.Ready some le = on_next n m v sweep j le
-freeing_next n m v sweep j q kinds.Used some le = on_next n m v sweep j le
-freeing_next n m v sweep j q kinds.Retired some le = of (nat_lt q sweep.low && not (has_slot sweep.gathered j)) where
-  of : (b : Bool) → SweepOn n m v (if b then sweep_goes sweep (sweeps.MakeReady j q) else sweep_on n sweep j).sweep (if b then sweep_goes sweep (sweeps.MakeReady j q) else sweep_on n sweep j).ended
-  of true = (some, le)
-  of false = on_next n m v sweep j le
+on_next n m v sweep j le = from_slot (λ turn. SweepOn n m v turn.sweep turn.ended) n sweep j (λ more. (omega (arith, more), omega (arith, le))) tt
 
 status_next : (n : Sizes) (m : Word → ℕ) (v : ℕ → ℕ) (sweep : Sweep) (j : ℕ) (parts : Option StatusParts) → 1 ≤ j → j ≤ n.slots → SweepOn n m v (status_read n sweep j parts).sweep (status_read n sweep j parts).ended
-status_next n m v sweep j None some le = on_next n m v sweep j le
-status_next n m v sweep j (Some parts) some le = freeing_next n m v sweep j parts.phase parts.kind some le
+status_next n m v sweep j parts some le = from_status (λ turn. SweepOn n m v turn.sweep turn.ended) n sweep j parts (on_next n m v sweep j le) (λ p is below away. (some, le))
 
 -- there is a slot
 some_slots : (n : Sizes) → AreKinds n → 1 ≤ n.slots

@@ -1,9 +1,8 @@
 -- The words of the chains stay within their limits.
-use Rattle.std.proofs.Common.{ℕ, zero, suc, ◌≡◌, ◌≢◌, ◌==◌, ◌+◌, ◌-◌, ◌≤◌, ◌<◌, ◌⊎◌, ◌&&◌, not, Bool, true, false, List, [], ◌∷◌, length, Option, Some, None, arith, inl, inr, ⊎_elim, sym, ap, subst, refl, max, if◌then◌else◌}
+use Rattle.std.proofs.Common.{ℕ, zero, suc, ◌≡◌, ◌≢◌, ◌==◌, ◌+◌, ◌≤◌, ◌<◌, ◌⊎◌, Bool, true, false, List, [], ◌∷◌, length, Option, Some, None, arith, inl, inr, ⊎_elim, sym, ap, subst, refl, max, if◌then◌else◌}
 use Rattle.std.specs.Prelude.{nat_lt}
 use Rattle.std.proofs.lemmas.Bool.{cases_eq, cases_lt}
 use Rattle.std.proofs.lemmas.Bool.Decides.{nat_tests}
-use Rattle.oa_words.specs.declared.packed.Kind.{Kind}
 use Rattle.oa_words.specs.declared.packed.Kind.TheVariants as kinds
 use Rattle.oa_words.specs.Words.{Word, Phase, Warning, Hazard, Status, Head, Link, Sizes, slot_range, IsSlot}
 use Rattle.oa_words.specs.SlotKinds.{range_of, kind_of, range_at, IsNullOrOf}
@@ -11,7 +10,6 @@ use Rattle.oa_words.specs.Within.{AreKinds}
 use Rattle.oa_words.specs.Packed.{StatusParts, status_word, status_parts, head_word, head_parts}
 use Rattle.oa_words.specs.Starts.{Beginning, nodes_of, first_ready, slot_or_none, slot_after, link_at_start, start_top}
 use Rattle.oa_words.proofs.KindRanges.{kind_small, in_range_is_of_kind, range_is_within}
-use Rattle.guard_words.specs.Guards.{has_slot}
 use Rattle.phase_pools.specs.declared.access.ClaimEnd.{ClaimEnd}
 use Rattle.phase_pools.specs.declared.access.ClaimEnd.TheVariants as ends
 use Rattle.phase_pools.specs.declared.access.SweepEnd.{SweepEnd}
@@ -25,7 +23,8 @@ use Rattle.phase_pools.specs.declared.stages.ClaimStage.TheVariants as claims
 use Rattle.phase_pools.specs.declared.stages.RetireStage.{RetireStage}
 use Rattle.phase_pools.specs.declared.stages.RetireStage.TheVariants as retires
 use Rattle.phase_pools.specs.Accesses.{WordAccess, word_of}
-use Rattle.phase_pools.specs.Pools.{Sweep, warn_wanted, sweep_wants_at, sweep_accepts_at, sweep_goes, sweep_ends, sweep_on, hazard_next, warned_all, warn_next, freeing, status_read, Claim, claim_begun, claim_wants, claim_accepts, claim_wants_at, claim_accepts_at, claim_goes, claim_ends, sweep_follows, look_ended, sweep_ended, Retirement, retire_begun, retire_wants, retire_accepts, retire_wants_at}
+use Rattle.phase_pools.specs.Pools.{Sweep, warn_wanted, sweep_wants_at, sweep_accepts_at, sweep_goes, sweep_ends, sweep_on, hazard_next, warned_all, warn_next, status_read, Claim, claim_begun, claim_wants, claim_accepts, claim_wants_at, claim_accepts_at, claim_goes, claim_ends, sweep_follows, look_ended, sweep_ended, Retirement, retire_begun, retire_wants, retire_accepts, retire_wants_at}
+use Rattle.phase_pools.proofs.Statuses.{from_slot, from_status}
 use Rattle.oa_words.specs.Memories.{store}
 use Rattle.chain_laws.specs.Memories.{put, after_access}
 use Rattle.chain_laws.specs.Chains.{stamp, top}
@@ -121,22 +120,10 @@ SweepOn sweep None phase = SweepBelow phase sweep.bound sweep.stage
 SweepOn sweep (Some end) phase = Unit {0}
 
 on_next : (n : Sizes) (phase : ℕ) (sweep : Sweep) (j : ℕ) → sweep.bound ≤ phase → SweepOn (sweep_on n sweep j).sweep (sweep_on n sweep j).ended phase
-on_next n phase sweep j up = of (nat_lt 1 j) where
-  of : (b : Bool) → SweepOn (if b then sweep_goes sweep (sweeps.ReadStatus (j - 1)) else sweep_ends sweep swept.Swept).sweep (if b then sweep_goes sweep (sweeps.ReadStatus (j - 1)) else sweep_ends sweep swept.Swept).ended phase
-  of true = up
-  of false = tt
-
-freeing_next : (n : Sizes) (phase : ℕ) (sweep : Sweep) (j q : ℕ) (kind : Kind) → sweep.bound ≤ phase → SweepOn (freeing n sweep j q kind).sweep (freeing n sweep j q kind).ended phase
-freeing_next n phase sweep j q kinds.Ready up = on_next n phase sweep j up
-freeing_next n phase sweep j q kinds.Used up = on_next n phase sweep j up
-freeing_next n phase sweep j q kinds.Retired up = of (nat_lt q sweep.low && not (has_slot sweep.gathered j)) where
-  of : (b : Bool) → SweepOn (if b then sweep_goes sweep (sweeps.MakeReady j q) else sweep_on n sweep j).sweep (if b then sweep_goes sweep (sweeps.MakeReady j q) else sweep_on n sweep j).ended phase
-  of true = up
-  of false = on_next n phase sweep j up
+on_next n phase sweep j up = from_slot (λ turn. SweepOn turn.sweep turn.ended phase) n sweep j (λ more. up) tt
 
 status_next : (n : Sizes) (phase : ℕ) (sweep : Sweep) (j : ℕ) (parts : Option StatusParts) → sweep.bound ≤ phase → SweepOn (status_read n sweep j parts).sweep (status_read n sweep j parts).ended phase
-status_next n phase sweep j None up = on_next n phase sweep j up
-status_next n phase sweep j (Some parts) up = freeing_next n phase sweep j parts.phase parts.kind up
+status_next n phase sweep j parts up = from_status (λ turn. SweepOn turn.sweep turn.ended phase) n sweep j parts (on_next n phase sweep j up) (λ p is below away. up)
 
 hazard_on : (n : Sizes) (phase s d r : ℕ) → s ≤ phase → SweepBelow phase s (hazard_next n d r)
 hazard_on n phase s d r up = of (nat_lt (r + 1) 8) (nat_lt (d + 1) n.callers) where

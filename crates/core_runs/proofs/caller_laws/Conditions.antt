@@ -117,8 +117,6 @@ zeroes_within target setting e field sane fits new below = let room = (zero_coun
 
 ask_step : (target : Target) (setting : Setting) (e : Entry) (routine : Routine) → Methods target → IsSetting setting → Fits target setting → Belongs target setting e
     → RunsAt target e routine → Stands target setting e routine → (is_idle routine ≡ false → AsksSafely target setting (wanted target e routine)) → CanAsk target setting e routine
-ask_step target setting e Idle sane own fits b reaches stands safe = tt
-ask_step target setting e (LoadSeen why) sane own fits b reaches stands safe = tt
 ask_step target setting e At sane own fits b reaches stands safe = ask_instr target setting e (instr_in target e) sane reaches refl (safe refl)
 ask_step target setting e (InList k) sane own fits b reaches stands safe = ask_list target setting (slice_get (list_of (instr_in target e)) k) e.hand.registers (safe refl)
 ask_step target setting e (Retires retirement go) sane own fits b reaches stands safe = stands.0.1
@@ -127,7 +125,7 @@ ask_step target setting e (Clears next) sane own fits b reaches stands safe = cl
 ask_step target setting e (Claims claim) sane own fits b reaches stands safe =
     (stands.1.kind, claim_ranges setting claim.kind claim.sweep claim.stage (setting_sane setting own) (claim_own target setting e claim b stands.1) stands.1.stands stands.1.sweep)
 ask_step target setting e (Zeroes k field) sane own fits b reaches stands safe = (b.cradles.within k, zeroes_within target setting e field sane fits stands.0 stands.3)
-ask_step target setting e (Announces announcing) sane own fits b reaches stands safe = tt
+ask_step target setting e _ sane own fits b reaches stands safe = tt
 
 -- what `pending` needs
 pub can_ask : (target : Target) (setting : Setting) (e : Entry) → Methods target → IsSetting setting → Fits target setting → Belongs target setting e → CanAsk target setting e e.routine
@@ -138,11 +136,9 @@ can_ask target setting e sane own fits b =
 -- ---- being told a lawful word
 
 accept_instr : (target : Target) (setting : Setting) (e : Entry) (o : Option TargetInstr) → Methods target → Reaches (code_in target e) e.hand.at e.hand.registers → instr_in target e ≡ o → InstrAccepts o
-accept_instr target setting e None sane here is = tt
-accept_instr target setting e (Some (Plain i)) sane here is = tt
-accept_instr target setting e (Some Check) sane here is = tt
 accept_instr target setting e (Some (Guard (Ref r))) sane here is = guarded_register target e r sane here is
 accept_instr target setting e (Some (Guard (Num r))) sane here is = no_guard_of_number target e r sane here is
+accept_instr target setting e _ sane here is = tt
 
 -- a list has at most 4 exchanges
 near_list : (target : Target) (setting : Setting) (e : Entry) (k : ℕ) → Methods target → Reaches (code_in target e) e.hand.at e.hand.registers → k < length (list_of (instr_in target e)) → k < 2 ^ 62
@@ -195,12 +191,4 @@ is_near target setting e sane b = of e.routine b.reaches where
 
   of : (routine : Routine) → RunsAt target e routine → e.hand.at < 2 ^ 62
   of Idle reaches = omega (arith, short, reaches)
-  of (LoadSeen why) reaches = let lt = reaches.inside in omega (arith, short, lt)
-  of At reaches = let lt = reaches.inside in omega (arith, short, lt)
-  of (InList k) reaches = let lt = reaches.inside in omega (arith, short, lt)
-  of (Retires retirement go) reaches = let lt = reaches.inside in omega (arith, short, lt)
-  of Restarts reaches = let lt = reaches.inside in omega (arith, short, lt)
-  of (Clears next) reaches = let lt = reaches.inside in omega (arith, short, lt)
-  of (Claims claim) reaches = let lt = reaches.inside in omega (arith, short, lt)
-  of (Zeroes k field) reaches = let lt = reaches.inside in omega (arith, short, lt)
-  of (Announces announcing) reaches = let lt = reaches.inside in omega (arith, short, lt)
+  of _ reaches = let lt = reaches.inside in omega (arith, short, lt)

@@ -52,12 +52,10 @@ sweep_told : (target : Target) (setting : Setting) (scheme : Scheme) (bound word
 sweep_told target setting scheme bound word sweeps.ReadPhase l = l.1
 sweep_told target setting scheme bound word (sweeps.RaisePhase p) l = l.1
 sweep_told target setting scheme bound word (sweeps.Warn c) l = warned_told target setting scheme c bound word l
-sweep_told target setting scheme bound word (sweeps.ReadHazard c r) l = l
-sweep_told target setting scheme bound word (sweeps.ReadStatus j) l = l
-sweep_told target setting scheme bound word (sweeps.MakeReady j q) l = l
 sweep_told target setting scheme bound word (sweeps.PushHead k j) l = head_told setting k word l
 sweep_told target setting scheme bound word (sweeps.PushLink j q t) l = tt
 sweep_told target setting scheme bound word (sweeps.PushTop k j q t) l = head_told setting k word l
+sweep_told target setting scheme bound word _ l = l
 
 pub claim_told : (target : Target) (setting : Setting) (k : ℕ) (sweep : Sweep) (word : ℕ) (stage : ClaimStage) → Accepts target setting (claim_wants_at k sweep stage) word
     → ClaimTold setting.sizes setting.last sweep stage word

@@ -195,23 +195,7 @@ plain_keeps target setting by e (instr.LoadField d a f) word sane some fits s ha
 plain_keeps target setting by e (instr.Put a f b) word sane some fits s has told = passes target setting by e (Plain (instr.Put a f b)) sane some fits s (one_way (e.hand.at + 1)) refl (λ r. refl)
 plain_keeps target setting by e (instr.Cas exchange l) word sane some fits s has told =
     cas_keeps target setting by (with_access e) exchange l word sane some fits (record { scheme = s.scheme; holds = s.holds; here = s.here; is = s.is })
-plain_keeps target setting by e (instr.Set d n) word sane some fits s has told = absurd cc
-plain_keeps target setting by e (instr.Mov d a) word sane some fits s has told = absurd cc
-plain_keeps target setting by e (instr.Add d a b) word sane some fits s has told = absurd cc
-plain_keeps target setting by e (instr.Sub d a b) word sane some fits s has told = absurd cc
-plain_keeps target setting by e (instr.Rem d a n) word sane some fits s has told = absurd cc
-plain_keeps target setting by e (instr.Mark d a) word sane some fits s has told = absurd cc
-plain_keeps target setting by e (instr.Unmark d a) word sane some fits s has told = absurd cc
-plain_keeps target setting by e (instr.Null d) word sane some fits s has told = absurd cc
-plain_keeps target setting by e (instr.New d kind) word sane some fits s has told = absurd cc
-plain_keeps target setting by e (instr.Jump l) word sane some fits s has told = absurd cc
-plain_keeps target setting by e (instr.IfEq a b l) word sane some fits s has told = absurd cc
-plain_keeps target setting by e (instr.IfLess a b l) word sane some fits s has told = absurd cc
-plain_keeps target setting by e (instr.IfMarked a l) word sane some fits s has told = absurd cc
-plain_keeps target setting by e (instr.Commit exchanges) word sane some fits s has told = absurd cc
-plain_keeps target setting by e (instr.Return a) word sane some fits s has told = absurd cc
-plain_keeps target setting by e instr.ReturnNone word sane some fits s has told = absurd cc
-plain_keeps target setting by e instr.Again word sane some fits s has told = absurd cc
+plain_keeps target setting by e _ word sane some fits s has told = absurd cc
 
 -- code that is run under epochs has none of these
 checks_by : (target : Target) (setting : Setting) (by : Reclamation) (e : Entry) (word : ℕ) → Methods target → SettingSane setting → Fits target setting → Stays target setting by e Check → Belongs target setting e → word ≤ setting.last

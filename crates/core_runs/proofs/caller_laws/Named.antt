@@ -81,17 +81,8 @@ local_names slots (instr.Rem d a n) at registers s = numbered slots registers d 
 local_names slots (instr.Mark d a) at registers s = referred slots registers d (record { node = (reference_in registers a).node; marked = true }) s (named slots registers a s)
 local_names slots (instr.Unmark d a) at registers s = referred slots registers d (record { node = (reference_in registers a).node; marked = false }) s (named slots registers a s)
 local_names slots (instr.Null d) at registers s = referred slots registers d no_reference s (omega arith)
-local_names slots (instr.LoadRoot d x) at registers s = tt
-local_names slots (instr.LoadPick d x n a) at registers s = tt
-local_names slots (instr.LoadField d a f) at registers s = tt
-local_names slots (instr.New d kind) at registers s = tt
-local_names slots (instr.Put a f b) at registers s = tt
-local_names slots (instr.Cas entry l) at registers s = tt
 local_names slots (instr.Jump l) at registers s = s
 local_names slots (instr.IfEq a b l) at registers s = s
 local_names slots (instr.IfLess a b l) at registers s = s
 local_names slots (instr.IfMarked a l) at registers s = s
-local_names slots (instr.Commit entries) at registers s = tt
-local_names slots (instr.Return a) at registers s = tt
-local_names slots instr.ReturnNone at registers s = tt
-local_names slots instr.Again at registers s = tt
+local_names slots _ at registers s = tt

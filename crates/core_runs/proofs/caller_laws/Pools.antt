@@ -1,15 +1,14 @@
 -- A sweep, a claim and a retirement go on to stand at slots, callers and registers of the row.
-use Rattle.std.proofs.Common.{◌≡◌, ◌≢◌, ℕ, zero, suc, ◌+◌, ◌-◌, ◌≤◌, ◌<◌, ◌==◌, ◌&&◌, not, Bool, true, false, List, length, Option, Some, None, refl, sym, ◌∙◌, subst, arith, if◌then◌else◌}
+use Rattle.std.proofs.Common.{◌≡◌, ◌≢◌, ℕ, zero, suc, ◌+◌, ◌-◌, ◌≤◌, ◌<◌, ◌==◌, Bool, true, false, List, length, Option, Some, None, refl, sym, ◌∙◌, subst, arith, if◌then◌else◌}
 use Rattle.std.specs.Prelude.{nat_lt, IsSomeAnd}
 use Rattle.std.specs.List.{All}
 use Rattle.std.proofs.lemmas.Bool.Decides.{nat_tests}
 use Rattle.std.proofs.lemmas.List.Elements.{All-push}
-use Rattle.oa_words.specs.declared.packed.Kind.{Kind}
 use Rattle.oa_words.specs.declared.packed.Kind.TheVariants as kinds
 use Rattle.oa_words.specs.SlotKinds.{kind_of, IsNullOrOf}
 use Rattle.oa_words.specs.Packed.{StatusParts, status_parts, status_word, HeadParts, head_word, head_parts}
 use Rattle.target_code.specs.declared.target.Target.{Target}
-use Rattle.guard_words.specs.Guards.{with_slot, has_slot}
+use Rattle.guard_words.specs.Guards.{with_slot}
 use Rattle.phase_pools.specs.declared.access.ClaimEnd.{ClaimEnd}
 use Rattle.phase_pools.specs.declared.access.ClaimEnd.TheVariants as ends
 use Rattle.phase_pools.specs.declared.access.SweepEnd.{SweepEnd}
@@ -22,7 +21,8 @@ use Rattle.phase_pools.specs.declared.stages.Scheme.{Scheme}
 use Rattle.phase_pools.specs.declared.stages.Scheme.TheVariants.{Warned, Announced}
 use Rattle.phase_pools.proofs.Lowering.{lower_less}
 use Rattle.phase_pools.proofs.Keeping.{sweep_keeps as schemes_stay}
-use Rattle.phase_pools.specs.Pools.{Sweep, SweepTurn, has_lower, sweep_wants_at, low_after, warned_all, sweep_follows, sweep_started, sweep_goes, sweep_ends, sweep_on, sweep_accepts, sweep_accepts_at, freeing, status_read, Claim, ClaimTurn, claim_wants_at, claim_accepts_at, claim_goes, claim_ends, look_begun, look_ended, sweep_ended, Retirement, sweep_begun}
+use Rattle.phase_pools.specs.Pools.{Sweep, SweepTurn, sweep_wants_at, low_after, warned_all, sweep_follows, sweep_started, sweep_goes, sweep_ends, sweep_on, sweep_accepts, sweep_accepts_at, status_read, Claim, ClaimTurn, claim_wants_at, claim_accepts_at, claim_goes, claim_ends, look_begun, look_ended, sweep_ended, Retirement, sweep_begun}
+use Rattle.phase_pools.proofs.Statuses.{from_slot, from_status}
 use Rattle.caller_parts.specs.Settings.{Setting}
 use Rattle.caller_steps.specs.Lawful.{Accepts}
 use Rattle.caller_steps.specs.Belongs.{ClaimBelongs, ClaimStands, HasBound, HasLow, RetireBelongs, SweepBelongs, SweepStands, last_slot, scheme_of}
@@ -55,24 +55,13 @@ pub fresh_sweep : (setting : Setting) (scheme : Scheme) → SweepBelongs setting
 fresh_sweep setting scheme = record { stands = tt; bound = omega arith; low = no_lower scheme 0; gathered = λ k d lt. let no : k < 0 = lt in omega (arith, no) }
 
 pub on_keeps : (setting : Setting) (sweep : Sweep) (j : ℕ) → j ≤ setting.sizes.slots → SweepBelongs setting sweep → Bound setting sweep → Gathers setting sweep → SweepKeeps setting (sweep_on setting.sizes sweep j)
-on_keeps setting sweep j high own bound gathers = of (has_lower setting.sizes j) refl where
-  of : (b : Bool) → has_lower setting.sizes j ≡ b → SweepKeeps setting (if b then sweep_goes sweep (sweeps.ReadStatus (j - 1)) else sweep_ends sweep swept.Swept)
-  of true is = let lt : 1 < j = grind (arith, nat_tests) in record { stands = (omega (arith, lt), omega (arith, high)); bound = bound; low = own.low; gathered = gathers }
-  of false is = own
-
-freeing_keeps : (setting : Setting) (sweep : Sweep) (j q : ℕ) (kind : Kind) → 1 ≤ j → j ≤ setting.sizes.slots → q ≤ setting.last → SweepBelongs setting sweep → Bound setting sweep → Gathers setting sweep
-    → SweepKeeps setting (freeing setting.sizes sweep j q kind)
-freeing_keeps setting sweep j q kinds.Ready low high within own bound gathers = on_keeps setting sweep j high own bound gathers
-freeing_keeps setting sweep j q kinds.Used low high within own bound gathers = on_keeps setting sweep j high own bound gathers
-freeing_keeps setting sweep j q kinds.Retired low high within own bound gathers = of (nat_lt q sweep.low && not (has_slot sweep.gathered j)) where
-  of : (b : Bool) → SweepKeeps setting (if b then sweep_goes sweep (sweeps.MakeReady j q) else sweep_on setting.sizes sweep j)
-  of true = record { stands = (low, high, within); bound = bound; low = own.low; gathered = gathers }
-  of false = on_keeps setting sweep j high own bound gathers
+on_keeps setting sweep j high own bound gathers =
+    from_slot (SweepKeeps setting) setting.sizes sweep j (λ more. record { stands = (omega (arith, more), omega (arith, high)); bound = bound; low = own.low; gathered = gathers }) own
 
 status_keeps : (setting : Setting) (sweep : Sweep) (j : ℕ) (parts : Option StatusParts) → IsSomeAnd parts (λ (p : StatusParts). p.phase ≤ setting.last)
     → 1 ≤ j → j ≤ setting.sizes.slots → SweepBelongs setting sweep → Bound setting sweep → Gathers setting sweep → SweepKeeps setting (status_read setting.sizes sweep j parts)
-status_keeps setting sweep j None lawful low high own bound gathers = absurd lawful
-status_keeps setting sweep j (Some parts) lawful low high own bound gathers = freeing_keeps setting sweep j parts.phase parts.kind low high lawful own bound gathers
+status_keeps setting sweep j parts lawful low high own bound gathers = from_status (SweepKeeps setting) setting.sizes sweep j parts (on_keeps setting sweep j high own bound gathers)
+    (λ p is below away. record { stands = (low, high, subst (λ o. IsSomeAnd o (λ (p : StatusParts). p.phase ≤ setting.last)) is lawful); bound = bound; low = own.low; gathered = gathers })
 
 gathers_more : (setting : Setting) (slots : List ℕ) (word : ℕ) → word ≤ setting.sizes.slots → All (λ (j : ℕ). j ≤ setting.sizes.slots) slots → All (λ (j : ℕ). j ≤ setting.sizes.slots) (with_slot slots word)
 gathers_more setting slots zero le all = all

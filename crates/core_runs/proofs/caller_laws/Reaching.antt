@@ -1,5 +1,5 @@
 -- The run of a method comes from an instruction to its successor, and what is surely fresh there isn't null.
-use Rattle.std.proofs.Common.{◌≡◌, ◌≢◌, ℕ, ◌+◌, ◌<◌, ◌==◌, ◌||◌, Bool, true, false, List, [], ◌∷◌, length, Option, Some, refl, sym, ◌∙◌, subst, ap, arith, if◌then◌else◌}
+use Rattle.std.proofs.Common.{◌≡◌, ◌≢◌, ℕ, ◌<◌, ◌==◌, Bool, true, false, List, [], ◌∷◌, length, Option, Some, refl, sym, ◌∙◌, subst, ap, arith, if◌then◌else◌}
 use Rattle.std.specs.Prelude.{slice_get, IfSome}
 use Rattle.std.specs.List.{list_any}
 use Rattle.std.proofs.lemmas.Bool.Decides.{nat_tests}
@@ -11,7 +11,7 @@ use Rattle.norm_lang.specs.declared.registers.Reference.{Reference}
 use Rattle.norm_lang.specs.declared.registers.Registers.{Registers}
 use Rattle.norm_lang.specs.Registers.{no_reference, number_in, reference_in, with_number, with_reference, moved}
 use Rattle.norm_lang.specs.Grammar.{is_new}
-use Rattle.norm_lang.specs.Flow.{passed, state_along, goes_to}
+use Rattle.norm_lang.specs.Flow.{passed, state_along}
 use Rattle.norm_lang.specs.RegisterUse.{same_register, sets}
 use Rattle.norm_lang.specs.Local.{Spot, local_step}
 use Rattle.target_code.specs.declared.target.TargetInstr.{TargetInstr}
@@ -54,20 +54,11 @@ local_touches (instr.Rem d a n) at registers = λ r isnt. other_number registers
 local_touches (instr.Mark d a) at registers = λ r isnt. other_reference registers d _ r isnt
 local_touches (instr.Unmark d a) at registers = λ r isnt. other_reference registers d _ r isnt
 local_touches (instr.Null d) at registers = λ r isnt. other_reference registers d no_reference r isnt
-local_touches (instr.LoadRoot d x) at registers = tt
-local_touches (instr.LoadPick d x n a) at registers = tt
-local_touches (instr.LoadField d a f) at registers = tt
-local_touches (instr.New d kind) at registers = tt
-local_touches (instr.Put a f b) at registers = tt
-local_touches (instr.Cas entry l) at registers = tt
 local_touches (instr.Jump l) at registers = λ r isnt. refl
 local_touches (instr.IfEq a b l) at registers = λ r isnt. refl
 local_touches (instr.IfLess a b l) at registers = λ r isnt. refl
 local_touches (instr.IfMarked a l) at registers = λ r isnt. refl
-local_touches (instr.Commit entries) at registers = tt
-local_touches (instr.Return a) at registers = tt
-local_touches instr.ReturnNone at registers = tt
-local_touches instr.Again at registers = tt
+local_touches _ at registers = tt
 
 -- a number is its own equal
 itself : (n : ℕ) → (n == n) ≡ true
@@ -76,64 +67,10 @@ itself n = grind (arith, nat_tests)
 pub one_way : (to : ℕ) → list_any (λ (next : ℕ). next == to) (to ∷ []) ≡ true
 one_way to = rw (itself to) refl
 
-pub two_ways : (b : Bool) (l next : ℕ) → list_any (λ (n : ℕ). n == (if b then l else next)) (next ∷ l ∷ []) ≡ true
-two_ways true l next = of (next == l) where
-  of : (c : Bool) → (c || ((l == l) || false)) ≡ true
-  of true = refl
-  of false = rw (itself l) refl
-two_ways false l next = rw (itself next) refl
-
-abbrev GoesTo : Instr → ℕ → Option Spot → Type 0
-GoesTo i at spot = IfSome spot (λ (next : Spot). goes_to i at next.at ≡ true)
-
--- it goes to a successor by its form, and is no `new`
-pub local_goes : (i : Instr) (at : ℕ) (registers : Registers) → GoesTo i at (local_step i at registers)
-local_goes (instr.Set d n) at registers = one_way (at + 1)
-local_goes (instr.Mov d a) at registers = one_way (at + 1)
-local_goes (instr.Add d a b) at registers = one_way (at + 1)
-local_goes (instr.Sub d a b) at registers = one_way (at + 1)
-local_goes (instr.Rem d a n) at registers = one_way (at + 1)
-local_goes (instr.Mark d a) at registers = one_way (at + 1)
-local_goes (instr.Unmark d a) at registers = one_way (at + 1)
-local_goes (instr.Null d) at registers = one_way (at + 1)
-local_goes (instr.LoadRoot d x) at registers = tt
-local_goes (instr.LoadPick d x n a) at registers = tt
-local_goes (instr.LoadField d a f) at registers = tt
-local_goes (instr.New d kind) at registers = tt
-local_goes (instr.Put a f b) at registers = tt
-local_goes (instr.Cas entry l) at registers = tt
-local_goes (instr.Jump l) at registers = one_way l
-local_goes (instr.IfEq a b l) at registers = two_ways _ l (at + 1)
-local_goes (instr.IfLess a b l) at registers = two_ways _ l (at + 1)
-local_goes (instr.IfMarked a l) at registers = two_ways _ l (at + 1)
-local_goes (instr.Commit entries) at registers = tt
-local_goes (instr.Return a) at registers = tt
-local_goes instr.ReturnNone at registers = tt
-local_goes instr.Again at registers = tt
-
-pub local_isnt_new : (i : Instr) (at : ℕ) (registers : Registers) → IfSome (local_step i at registers) (λ (spot : Spot). is_new i ≡ false)
-local_isnt_new (instr.Set d n) at registers = refl
-local_isnt_new (instr.Mov d a) at registers = refl
-local_isnt_new (instr.Add d a b) at registers = refl
-local_isnt_new (instr.Sub d a b) at registers = refl
-local_isnt_new (instr.Rem d a n) at registers = refl
-local_isnt_new (instr.Mark d a) at registers = refl
-local_isnt_new (instr.Unmark d a) at registers = refl
-local_isnt_new (instr.Null d) at registers = refl
-local_isnt_new (instr.LoadRoot d x) at registers = tt
-local_isnt_new (instr.LoadPick d x n a) at registers = tt
-local_isnt_new (instr.LoadField d a f) at registers = tt
-local_isnt_new (instr.New d kind) at registers = tt
-local_isnt_new (instr.Put a f b) at registers = tt
-local_isnt_new (instr.Cas entry l) at registers = tt
-local_isnt_new (instr.Jump l) at registers = refl
-local_isnt_new (instr.IfEq a b l) at registers = refl
-local_isnt_new (instr.IfLess a b l) at registers = refl
-local_isnt_new (instr.IfMarked a l) at registers = refl
-local_isnt_new (instr.Commit entries) at registers = tt
-local_isnt_new (instr.Return a) at registers = tt
-local_isnt_new instr.ReturnNone at registers = tt
-local_isnt_new instr.Again at registers = tt
+-- a local instruction is no `new`
+pub local_isnt_new : (i : Instr) (at : ℕ) (registers : Registers) (next : Spot) → local_step i at registers ≡ Some next → is_new i ≡ false
+local_isnt_new (instr.New d kind) at registers next steps = absurd cc
+local_isnt_new _ at registers next steps = refl
 
 -- whether the last instruction that set a register is a `new`, by what an instruction does
 pub fresh_by : (r : Reg) (i : TargetInstr) (was : Bool) → over_plain (fresh_after r) i was ≡ (if target_sets r i then is_target_new i else was)

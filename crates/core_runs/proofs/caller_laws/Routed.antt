@@ -11,6 +11,8 @@ use Rattle.norm_lang.specs.declared.text.Instr.TheVariants as instr
 use Rattle.norm_lang.specs.declared.registers.Registers.{Registers}
 use Rattle.norm_lang.specs.Registers.{number_in, with_count}
 use Rattle.norm_lang.specs.Local.{Spot}
+use Rattle.norm_lang.specs.declared.reply.SourceReply.{SourceReply}
+use Rattle.norm_lang.specs.declared.reply.SourceReply.TheVariants as replies
 use Rattle.target_code.specs.declared.target.TargetInstr.{TargetInstr}
 use Rattle.target_code.specs.declared.target.TargetInstr.TheVariants.{Plain, Check, Guard}
 use Rattle.target_code.specs.declared.target.Target.{Target}
@@ -21,8 +23,6 @@ use Rattle.phase_pools.specs.declared.access.ClaimEnd.TheVariants as ends
 use Rattle.phase_pools.specs.declared.stages.Scheme.{Scheme}
 use Rattle.phase_pools.specs.declared.stages.Scheme.TheVariants.{Warned, Announced}
 use Rattle.phase_pools.specs.Pools.{Claim, claim_begun, claim_takes, claim_accepts, Retirement, retire_begun, retire_accepts}
-use Rattle.caller_parts.specs.declared.call.Reply.{Reply}
-use Rattle.caller_parts.specs.declared.call.Reply.TheVariants as replies
 use Rattle.caller_parts.specs.declared.routine.MethodStart.{MethodStart}
 use Rattle.caller_parts.specs.declared.routine.MethodStart.TheVariants as starts
 use Rattle.caller_parts.specs.declared.routine.AfterClear.{AfterClear}
@@ -71,7 +71,7 @@ pub record HoldsAtStarts (target : Target) (sizes : Sizes) (Holds : Routine → 
   pub zeroes : (k field : ℕ) → Holds (Zeroes k field)
   pub again : Holds (Announces (announces.Loads reasons.Again))
   pub stores : (why : AnnounceReason) (phase : ℕ) → Holds (Announces (announces.Stores why phase))
-  pub leaves : (reply : Reply) → Holds (Announces (announces.Leaves reply))
+  pub leaves : (reply : SourceReply) → Holds (Announces (announces.Leaves reply))
 
 starts_of : (target : Target) (sizes : Sizes) (Holds : Routine → Type 0) → HoldsAtBegins target sizes Holds → HoldsAtStarts target sizes Holds
 starts_of target sizes Holds h = record {
@@ -121,48 +121,14 @@ module _ (target : Target) (sizes : Sizes) (Holds : Routine → Type 0) (h : Hol
   plain_routed (instr.Return a) e = cleared_routed (clears.Reply (replies.Number (number_in e.hand.registers a))) e
   plain_routed instr.ReturnNone e = cleared_routed (clears.Reply replies.Nothing) e
   plain_routed instr.Again e = cleared_routed clears.Again e
-  plain_routed (instr.Set d n) e = h.here
-  plain_routed (instr.Mov d a) e = h.here
-  plain_routed (instr.Add d a b) e = h.here
-  plain_routed (instr.Sub d a b) e = h.here
-  plain_routed (instr.Rem d a n) e = h.here
-  plain_routed (instr.Mark d a) e = h.here
-  plain_routed (instr.Unmark d a) e = h.here
-  plain_routed (instr.Null d) e = h.here
-  plain_routed (instr.Jump l) e = h.here
-  plain_routed (instr.IfEq a b l) e = h.here
-  plain_routed (instr.IfLess a b l) e = h.here
-  plain_routed (instr.IfMarked a l) e = h.here
-  plain_routed (instr.LoadRoot d x) e = h.here
-  plain_routed (instr.LoadPick d x n a) e = h.here
-  plain_routed (instr.LoadField d a f) e = h.here
-  plain_routed (instr.Put a f b) e = h.here
-  plain_routed (instr.Cas exchange l) e = h.here
+  plain_routed _ e = h.here
 
   -- under epochs
   wrap_up_routed : (i : Instr) (e : Entry) → Holds (wrap_up_stop i e).entry.routine
   wrap_up_routed (instr.Return a) e = h.leaves (replies.Number (number_in e.hand.registers a))
   wrap_up_routed instr.ReturnNone e = h.leaves replies.Nothing
   wrap_up_routed instr.Again e = h.again
-  wrap_up_routed (instr.New d kind) e = h.here
-  wrap_up_routed (instr.Commit exchanges) e = h.here
-  wrap_up_routed (instr.Set d n) e = h.here
-  wrap_up_routed (instr.Mov d a) e = h.here
-  wrap_up_routed (instr.Add d a b) e = h.here
-  wrap_up_routed (instr.Sub d a b) e = h.here
-  wrap_up_routed (instr.Rem d a n) e = h.here
-  wrap_up_routed (instr.Mark d a) e = h.here
-  wrap_up_routed (instr.Unmark d a) e = h.here
-  wrap_up_routed (instr.Null d) e = h.here
-  wrap_up_routed (instr.Jump l) e = h.here
-  wrap_up_routed (instr.IfEq a b l) e = h.here
-  wrap_up_routed (instr.IfLess a b l) e = h.here
-  wrap_up_routed (instr.IfMarked a l) e = h.here
-  wrap_up_routed (instr.LoadRoot d x) e = h.here
-  wrap_up_routed (instr.LoadPick d x n a) e = h.here
-  wrap_up_routed (instr.LoadField d a f) e = h.here
-  wrap_up_routed (instr.Put a f b) e = h.here
-  wrap_up_routed (instr.Cas exchange l) e = h.here
+  wrap_up_routed _ e = h.here
 
   wrap_up_stopped_routed : (e : Entry) → Holds (wrap_up_stopped target e).entry.routine
   wrap_up_stopped_routed e = of (instr_in target e) where
@@ -183,26 +149,7 @@ module _ (target : Target) (sizes : Sizes) (Holds : Routine → Type 0) (h : Hol
   announced_stop_routed : (i : Instr) (e : Entry) → Holds (announced_stop target sizes i e).entry.routine
   announced_stop_routed (instr.New d kind) e = new_routed (Announced e.number) e
   announced_stop_routed (instr.Commit exchanges) e = announced_list_routed exchanges e
-  announced_stop_routed (instr.Return a) e = wrap_up_routed (instr.Return a) e
-  announced_stop_routed instr.ReturnNone e = wrap_up_routed instr.ReturnNone e
-  announced_stop_routed instr.Again e = wrap_up_routed instr.Again e
-  announced_stop_routed (instr.Set d n) e = h.here
-  announced_stop_routed (instr.Mov d a) e = h.here
-  announced_stop_routed (instr.Add d a b) e = h.here
-  announced_stop_routed (instr.Sub d a b) e = h.here
-  announced_stop_routed (instr.Rem d a n) e = h.here
-  announced_stop_routed (instr.Mark d a) e = h.here
-  announced_stop_routed (instr.Unmark d a) e = h.here
-  announced_stop_routed (instr.Null d) e = h.here
-  announced_stop_routed (instr.Jump l) e = h.here
-  announced_stop_routed (instr.IfEq a b l) e = h.here
-  announced_stop_routed (instr.IfLess a b l) e = h.here
-  announced_stop_routed (instr.IfMarked a l) e = h.here
-  announced_stop_routed (instr.LoadRoot d x) e = h.here
-  announced_stop_routed (instr.LoadPick d x n a) e = h.here
-  announced_stop_routed (instr.LoadField d a f) e = h.here
-  announced_stop_routed (instr.Put a f b) e = h.here
-  announced_stop_routed (instr.Cas exchange l) e = h.here
+  announced_stop_routed i e = wrap_up_routed i e
 
   -- under either scheme
   stop_routed : (by : Reclamation) (i : Instr) (e : Entry) → Holds (stop_at by target sizes i e).entry.routine
@@ -279,23 +226,7 @@ module _ (target : Target) (sizes : Sizes) (Holds : Routine → Type 0) (h : Hol
   accepted_plain by (instr.LoadField d a f) word e own = on_routed by (with_word e.hand.registers d word) (with_access e)
   accepted_plain by (instr.Put a f b) word e own = on_routed by e.hand.registers e
   accepted_plain by (instr.Cas exchange l) word e own = cas_routed by exchange l word (with_access e)
-  accepted_plain by (instr.Set d n) word e own = own
-  accepted_plain by (instr.Mov d a) word e own = own
-  accepted_plain by (instr.Add d a b) word e own = own
-  accepted_plain by (instr.Sub d a b) word e own = own
-  accepted_plain by (instr.Rem d a n) word e own = own
-  accepted_plain by (instr.Mark d a) word e own = own
-  accepted_plain by (instr.Unmark d a) word e own = own
-  accepted_plain by (instr.Null d) word e own = own
-  accepted_plain by (instr.Jump l) word e own = own
-  accepted_plain by (instr.IfEq a b l) word e own = own
-  accepted_plain by (instr.IfLess a b l) word e own = own
-  accepted_plain by (instr.IfMarked a l) word e own = own
-  accepted_plain by (instr.New d kind) word e own = own
-  accepted_plain by (instr.Commit exchanges) word e own = own
-  accepted_plain by (instr.Return a) word e own = own
-  accepted_plain by instr.ReturnNone word e own = own
-  accepted_plain by instr.Again word e own = own
+  accepted_plain by _ word e own = own
 
   checked_by_routed : (by : Reclamation) (word : ℕ) (e : Entry) → Holds e.routine → Holds (checked_by by target sizes word e).entry.routine
   checked_by_routed Optimistic word e own = checked_routed word e

@@ -237,23 +237,7 @@ plain_safe target setting e (instr.Put a f b) sane some fits c is has =
 plain_safe target setting e (instr.Cas exchange l) sane some fits c is has =
     let site = site_of target e (Plain (instr.Cas exchange l)) sane c.reached is in
     exchange_safe target setting e (instr.Cas exchange l) exchange sane fits c is (λ r k asked. asked) (parts (is_entry (length target.fields) (length target.roots) exchange) (nat_le l 65535) site.limits).0 site.own.form.kinds
-plain_safe target setting e (instr.Set d n) sane some fits c is has = absurd cc
-plain_safe target setting e (instr.Mov d a) sane some fits c is has = absurd cc
-plain_safe target setting e (instr.Add d a b) sane some fits c is has = absurd cc
-plain_safe target setting e (instr.Sub d a b) sane some fits c is has = absurd cc
-plain_safe target setting e (instr.Rem d a n) sane some fits c is has = absurd cc
-plain_safe target setting e (instr.Mark d a) sane some fits c is has = absurd cc
-plain_safe target setting e (instr.Unmark d a) sane some fits c is has = absurd cc
-plain_safe target setting e (instr.Null d) sane some fits c is has = absurd cc
-plain_safe target setting e (instr.New d kind) sane some fits c is has = absurd cc
-plain_safe target setting e (instr.Jump l) sane some fits c is has = absurd cc
-plain_safe target setting e (instr.IfEq a b l) sane some fits c is has = absurd cc
-plain_safe target setting e (instr.IfLess a b l) sane some fits c is has = absurd cc
-plain_safe target setting e (instr.IfMarked a l) sane some fits c is has = absurd cc
-plain_safe target setting e (instr.Commit exchanges) sane some fits c is has = absurd cc
-plain_safe target setting e (instr.Return a) sane some fits c is has = absurd cc
-plain_safe target setting e instr.ReturnNone sane some fits c is has = absurd cc
-plain_safe target setting e instr.Again sane some fits c is has = absurd cc
+plain_safe target setting e _ sane some fits c is has = absurd cc
 
 guard_safe : (target : Target) (setting : Setting) (e : Entry) (r : Reg) → e.number < setting.sizes.callers → (holds_reference r && is_register r) ≡ true → Here target setting e
     → IsSafe target setting (Stores (Hazard e.number (register_number r)) (slot_in e.hand.registers r))

@@ -3,13 +3,12 @@ use Rattle.std.proofs.Common.{◌≡◌, ℕ, zero, suc, Bool, true, false, List
 use Rattle.std.specs.Prelude.{slice_get, IfSome}
 use Rattle.norm_lang.specs.declared.text.Instr.{Instr}
 use Rattle.norm_lang.specs.Grammar.{is_new}
-use Rattle.norm_lang.specs.Flow.{goes_to}
 use Rattle.norm_lang.specs.RegisterUse.{sets}
 use Rattle.norm_lang.specs.Local.{Spot, local_step, go_on}
 use Rattle.norm_lang.specs.declared.text.Reg.TheVariants.{Ref}
 use Rattle.norm_lang.specs.Registers.{reference_in}
 use Rattle.target_code.specs.declared.target.TargetInstr.{TargetInstr}
-use Rattle.target_code.specs.declared.target.TargetInstr.TheVariants.{Plain, Check, Guard}
+use Rattle.target_code.specs.declared.target.TargetInstr.TheVariants.{Plain}
 use Rattle.target_code.specs.declared.target.Target.{Target}
 use Rattle.target_code.specs.Paths.{IsTargetSuccessor, target_goes_from}
 use Rattle.target_code.specs.LocalCode.{target_local_at, target_run}
@@ -17,9 +16,10 @@ use Rattle.caller_parts.specs.Operands.{code_at}
 use Rattle.caller_parts.specs.Settings.{Setting}
 use Rattle.caller_steps.specs.Belongs.{HaveKinds, NamesSlots, Reaches}
 use Rattle.target_laws.specs.target_runs.Sane.{SaneAt, SaneCode}
+use Rattle.target_laws.proofs.local_laws.Settled.{step_goes}
 use Rattle.core_runs.proofs.caller_laws.Named.{local_names}
 use Rattle.core_runs.proofs.caller_laws.KindSteps.{local_typed}
-use Rattle.core_runs.proofs.caller_laws.Reaching.{local_touches, local_goes, local_isnt_new, next_reached, Leaves}
+use Rattle.core_runs.proofs.caller_laws.Reaching.{local_touches, local_isnt_new, next_reached, Leaves}
 
 -- a run of an operation's method has come to a spot, with registers that name slots of kinds that they may have there
 abbrev pub Comes : Target → Setting → ℕ → Bool → Spot → Type 0
@@ -44,13 +44,13 @@ local_comes target setting op wrapup spot next i sane stands steps c = record {
   site = sane.each spot.at (Plain i) c.reached.path.0 stands c.reached.path.1
 
   goes : target_goes_from (Some (Plain i)) spot.at next.at ≡ true
-  goes = subst (λ (o : Option Spot). IfSome o (λ (s : Spot). goes_to i spot.at s.at ≡ true)) steps (local_goes i spot.at spot.registers)
+  goes = (step_goes i spot.at spot.registers next steps).0
 
   way : IsTargetSuccessor code spot.at next.at
   way = (rw stands goes, site.goes next.at goes)
 
   fresh : is_new i ≡ false
-  fresh = subst (λ (o : Option Spot). IfSome o (λ (s : Spot). is_new i ≡ false)) steps (local_isnt_new i spot.at spot.registers)
+  fresh = local_isnt_new i spot.at spot.registers next steps
 
   touched : (r : ℕ) → sets (Ref r) i ≡ false → reference_in next.registers (Ref r) ≡ reference_in spot.registers (Ref r)
   touched = subst (λ (o : Option Spot). IfSome o (λ (s : Spot). (r : ℕ) → sets (Ref r) i ≡ false → reference_in s.registers (Ref r) ≡ reference_in spot.registers (Ref r))) steps (local_touches i spot.at spot.registers)
@@ -72,7 +72,5 @@ run_comes target setting op wrapup (suc n) spot sane c = turn (λ next d. run_co
 
   turn : ((next : Spot) → Comes target setting op wrapup next → Comes target setting op wrapup (target_run code n next)) → (o : Option TargetInstr) → slice_get code spot.at ≡ o
       → Comes target setting op wrapup (go_on (target_local_at o spot.at spot.registers) spot (target_run code n))
-  turn further None is = c
-  turn further (Some Check) is = c
-  turn further (Some (Guard r)) is = c
   turn further (Some (Plain i)) is = step further i is (local_step i spot.at spot.registers) refl
+  turn further _ is = c

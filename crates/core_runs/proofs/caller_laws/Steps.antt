@@ -13,7 +13,7 @@ use Rattle.norm_lang.specs.Registers.{no_reference, reference_in, with_reference
 use Rattle.norm_lang.specs.InstructionRules.{holds_number}
 use Rattle.norm_lang.specs.Limits.{is_register}
 use Rattle.target_code.specs.declared.target.TargetInstr.{TargetInstr}
-use Rattle.target_code.specs.declared.target.TargetInstr.TheVariants.{Plain, Check, Guard}
+use Rattle.target_code.specs.declared.target.TargetInstr.TheVariants.{Plain}
 use Rattle.target_code.specs.declared.target.Target.{Target}
 use Rattle.phase_pools.specs.declared.access.ClaimEnd.{ClaimEnd}
 use Rattle.phase_pools.specs.declared.access.ClaimEnd.TheVariants as ends
@@ -131,30 +131,7 @@ cas_passes : (target : Target) (setting : Setting) (by : Reclamation) (e : Entry
 cas_passes target setting by e sane some fits h c scheme is = of (instr_in target e) refl is where
   of : (o : Option TargetInstr) → instr_in target e ≡ o → is_retiring (cas_of o) ≡ true → BelongsIn target setting (onward_goes by target setting.sizes onwards.Next e)
   of (Some (Plain (instr.Cas exchange l))) at stands = passes target setting by e (Plain (instr.Cas exchange l)) sane some fits (record { scheme = scheme; holds = h; here = c; is = at }) (two l (e.hand.at + 1)) refl (λ r. refl)
-  of None at stands = absurd (let z : false ≡ true = stands in cc)
-  of (Some Check) at stands = absurd (let z : false ≡ true = stands in cc)
-  of (Some (Guard r)) at stands = absurd (let z : false ≡ true = stands in cc)
-  of (Some (Plain (instr.Set d n))) at stands = absurd (let z : false ≡ true = stands in cc)
-  of (Some (Plain (instr.Mov d a))) at stands = absurd (let z : false ≡ true = stands in cc)
-  of (Some (Plain (instr.Add d a b))) at stands = absurd (let z : false ≡ true = stands in cc)
-  of (Some (Plain (instr.Sub d a b))) at stands = absurd (let z : false ≡ true = stands in cc)
-  of (Some (Plain (instr.Rem d a n))) at stands = absurd (let z : false ≡ true = stands in cc)
-  of (Some (Plain (instr.Mark d a))) at stands = absurd (let z : false ≡ true = stands in cc)
-  of (Some (Plain (instr.Unmark d a))) at stands = absurd (let z : false ≡ true = stands in cc)
-  of (Some (Plain (instr.Null d))) at stands = absurd (let z : false ≡ true = stands in cc)
-  of (Some (Plain (instr.LoadRoot d x))) at stands = absurd (let z : false ≡ true = stands in cc)
-  of (Some (Plain (instr.LoadPick d x n a))) at stands = absurd (let z : false ≡ true = stands in cc)
-  of (Some (Plain (instr.LoadField d a f))) at stands = absurd (let z : false ≡ true = stands in cc)
-  of (Some (Plain (instr.New d kind))) at stands = absurd (let z : false ≡ true = stands in cc)
-  of (Some (Plain (instr.Put a f b))) at stands = absurd (let z : false ≡ true = stands in cc)
-  of (Some (Plain (instr.Jump l))) at stands = absurd (let z : false ≡ true = stands in cc)
-  of (Some (Plain (instr.IfEq a b l))) at stands = absurd (let z : false ≡ true = stands in cc)
-  of (Some (Plain (instr.IfLess a b l))) at stands = absurd (let z : false ≡ true = stands in cc)
-  of (Some (Plain (instr.IfMarked a l))) at stands = absurd (let z : false ≡ true = stands in cc)
-  of (Some (Plain (instr.Commit exchanges))) at stands = absurd (let z : false ≡ true = stands in cc)
-  of (Some (Plain (instr.Return a))) at stands = absurd (let z : false ≡ true = stands in cc)
-  of (Some (Plain instr.ReturnNone)) at stands = absurd (let z : false ≡ true = stands in cc)
-  of (Some (Plain instr.Again)) at stands = absurd (let z : false ≡ true = stands in cc)
+  of _ at stands = absurd (let z : false ≡ true = stands in cc)
 
 onward_keeps : (target : Target) (setting : Setting) (by : Reclamation) (e : Entry) (go : AfterRetire) → Methods target → SettingSane setting → Fits target setting → Holds target setting e → Here target setting e → setting.reclamation ≡ by
     → RetireFits (instr_in target e) go → BelongsIn target setting (onward_goes by target setting.sizes go e)

@@ -7,13 +7,14 @@ use Rattle.norm_lang.specs.declared.text.Instr.{Instr}
 use Rattle.norm_lang.specs.declared.text.Instr.TheVariants as instr
 use Rattle.norm_lang.specs.declared.text.Reg.{Reg}
 use Rattle.norm_lang.specs.declared.text.Reg.TheVariants.{Num, Ref}
+use Rattle.norm_lang.specs.declared.registers.Registers.{Registers}
 use Rattle.norm_lang.specs.InstructionRules.{is_end_of_other}
 use Rattle.norm_lang.specs.Registers.{reference_in, first_registers, with_count, number_in}
 use Rattle.norm_lang.specs.Local.{Spot, local_step}
+use Rattle.norm_lang.specs.declared.reply.SourceReply.TheVariants as replies
 use Rattle.target_code.specs.declared.target.TargetInstr.{TargetInstr}
 use Rattle.target_code.specs.declared.target.TargetInstr.TheVariants.{Plain, Check, Guard}
 use Rattle.target_code.specs.declared.target.Target.{Target}
-use Rattle.caller_parts.specs.declared.call.Reply.TheVariants as replies
 use Rattle.caller_parts.specs.declared.routine.AfterClear.{AfterClear}
 use Rattle.caller_parts.specs.declared.routine.AfterClear.TheVariants as clears
 use Rattle.caller_parts.specs.declared.routine.AnnounceReason.TheVariants as reasons
@@ -27,6 +28,7 @@ use Rattle.caller_parts.specs.Operands.{list_of, code_at, instr_at, is_new_at}
 use Rattle.caller_steps.specs.Clearing.{clear_next, restart_next}
 use Rattle.caller_steps.specs.After.{announced_list, announced_stop, clear_on, cleared, first_spot, generator_begun, list_begun, list_ended, method_begun, new_begun, new_on, plain_stop, restart_on, restarted, run_to, settles, stop_at, stopped, stops, then_goes, with_hand, with_routine, wrap_up_begun, wrap_up_hand, wrap_up_stop, wrap_up_stopped, wrap_up_stops}
 use Rattle.caller_steps.specs.Signs.{Moved}
+use Rattle.caller_steps.specs.Stands.{leaves}
 use Rattle.caller_steps.specs.Belongs.{AnnouncingStands, Belongs, ClaimBelongs, ClearStands, GuardsSlots, HandBelongs, HaveKinds, HoldsSlots, IsSomeOf, NamesSlots, Reaches, has_access, is_check_at, scheme_of}
 use Rattle.caller_parts.specs.declared.routine.Routine.TheVariants.{At, InList, Announces}
 use Rattle.target_code.specs.LocalCode.{target_local_at}
@@ -171,6 +173,15 @@ module _ (target : Target) (setting : Setting) (e : Entry) (sane : Methods targe
   pub new_in_generator : (d : Reg) (kind : ℕ) → instr_in target e ≡ Some (Plain (instr.New d kind)) → e.hand.wrapup ≡ false
   new_in_generator d kind is = (site_of target e (Plain (instr.New d kind)) sane c.reached is).own.news refl
 
+-- what neither leads elsewhere nor is local is an access
+comes_to_access : (i : Instr) (at : ℕ) (registers : Registers) → leaves i ≡ false → local_step i at registers ≡ None → has_access (Some (Plain i)) ≡ true
+comes_to_access (instr.LoadRoot d x) at registers stays ends = refl
+comes_to_access (instr.LoadPick d x n a) at registers stays ends = refl
+comes_to_access (instr.LoadField d a f) at registers stays ends = refl
+comes_to_access (instr.Put a f b) at registers stays ends = refl
+comes_to_access (instr.Cas exchange l) at registers stays ends = refl
+comes_to_access _ at registers stays ends = absurd cc
+
 plain_belongs : (target : Target) (setting : Setting) (i : Instr) (e : Entry) → Methods target → SettingSane setting → Fits target setting → Holds target setting e → Here target setting e
     → setting.reclamation ≡ Optimistic → instr_in target e ≡ Some (Plain i) → local_step i e.hand.at e.hand.registers ≡ None → BelongsIn target setting (plain_stop target setting.sizes i e)
 plain_belongs target setting (instr.New d kind) e sane some fits h c scheme is ends = cleared_belongs target setting clears.New e sane some fits h c scheme (rw is refl)
@@ -180,23 +191,7 @@ plain_belongs target setting (instr.Return a) e sane some fits h c scheme is end
 plain_belongs target setting instr.ReturnNone e sane some fits h c scheme is ends =
     cleared_belongs target setting (clears.Reply replies.Nothing) e sane some fits h c scheme (nothing_there target setting e sane c is, rw is refl)
 plain_belongs target setting instr.Again e sane some fits h c scheme is ends = cleared_belongs target setting clears.Again e sane some fits h c scheme (again_there target setting e sane c is, rw is refl)
-plain_belongs target setting (instr.LoadRoot d x) e sane some fits h c scheme is ends = at_access target setting e h c (rw is refl)
-plain_belongs target setting (instr.LoadPick d x n a) e sane some fits h c scheme is ends = at_access target setting e h c (rw is refl)
-plain_belongs target setting (instr.LoadField d a f) e sane some fits h c scheme is ends = at_access target setting e h c (rw is refl)
-plain_belongs target setting (instr.Put a f b) e sane some fits h c scheme is ends = at_access target setting e h c (rw is refl)
-plain_belongs target setting (instr.Cas exchange l) e sane some fits h c scheme is ends = at_access target setting e h c (rw is refl)
-plain_belongs target setting (instr.Set d n) e sane some fits h c scheme is ends = absurd cc
-plain_belongs target setting (instr.Mov d a) e sane some fits h c scheme is ends = absurd cc
-plain_belongs target setting (instr.Add d a b) e sane some fits h c scheme is ends = absurd cc
-plain_belongs target setting (instr.Sub d a b) e sane some fits h c scheme is ends = absurd cc
-plain_belongs target setting (instr.Rem d a n) e sane some fits h c scheme is ends = absurd cc
-plain_belongs target setting (instr.Mark d a) e sane some fits h c scheme is ends = absurd cc
-plain_belongs target setting (instr.Unmark d a) e sane some fits h c scheme is ends = absurd cc
-plain_belongs target setting (instr.Null d) e sane some fits h c scheme is ends = absurd cc
-plain_belongs target setting (instr.Jump l) e sane some fits h c scheme is ends = absurd cc
-plain_belongs target setting (instr.IfEq a b l) e sane some fits h c scheme is ends = absurd cc
-plain_belongs target setting (instr.IfLess a b l) e sane some fits h c scheme is ends = absurd cc
-plain_belongs target setting (instr.IfMarked a l) e sane some fits h c scheme is ends = absurd cc
+plain_belongs target setting i e sane some fits h c scheme is ends = at_access target setting e h c (rw is (comes_to_access i e.hand.at e.hand.registers refl ends))
 
 -- ---- under epochs
 
@@ -214,23 +209,7 @@ wrap_up_belongs target setting (instr.Return a) e sane h c scheme is own ends =
     announces_belongs target setting (announces.Leaves (replies.Number (number_in e.hand.registers a))) e h c scheme (return_there target setting e sane c a is, rw is refl)
 wrap_up_belongs target setting instr.ReturnNone e sane h c scheme is own ends = announces_belongs target setting (announces.Leaves replies.Nothing) e h c scheme (nothing_there target setting e sane c is, rw is refl)
 wrap_up_belongs target setting instr.Again e sane h c scheme is own ends = announces_belongs target setting (announces.Loads reasons.Again) e h c scheme (again_there target setting e sane c is, rw is refl)
-wrap_up_belongs target setting (instr.LoadRoot d x) e sane h c scheme is own ends = at_access target setting e h c (rw is refl)
-wrap_up_belongs target setting (instr.LoadPick d x n a) e sane h c scheme is own ends = at_access target setting e h c (rw is refl)
-wrap_up_belongs target setting (instr.LoadField d a f) e sane h c scheme is own ends = at_access target setting e h c (rw is refl)
-wrap_up_belongs target setting (instr.Put a f b) e sane h c scheme is own ends = at_access target setting e h c (rw is refl)
-wrap_up_belongs target setting (instr.Cas exchange l) e sane h c scheme is own ends = at_access target setting e h c (rw is refl)
-wrap_up_belongs target setting (instr.Set d n) e sane h c scheme is own ends = absurd cc
-wrap_up_belongs target setting (instr.Mov d a) e sane h c scheme is own ends = absurd cc
-wrap_up_belongs target setting (instr.Add d a b) e sane h c scheme is own ends = absurd cc
-wrap_up_belongs target setting (instr.Sub d a b) e sane h c scheme is own ends = absurd cc
-wrap_up_belongs target setting (instr.Rem d a n) e sane h c scheme is own ends = absurd cc
-wrap_up_belongs target setting (instr.Mark d a) e sane h c scheme is own ends = absurd cc
-wrap_up_belongs target setting (instr.Unmark d a) e sane h c scheme is own ends = absurd cc
-wrap_up_belongs target setting (instr.Null d) e sane h c scheme is own ends = absurd cc
-wrap_up_belongs target setting (instr.Jump l) e sane h c scheme is own ends = absurd cc
-wrap_up_belongs target setting (instr.IfEq a b l) e sane h c scheme is own ends = absurd cc
-wrap_up_belongs target setting (instr.IfLess a b l) e sane h c scheme is own ends = absurd cc
-wrap_up_belongs target setting (instr.IfMarked a l) e sane h c scheme is own ends = absurd cc
+wrap_up_belongs target setting i e sane h c scheme is own ends = at_access target setting e h c (rw is (comes_to_access i e.hand.at e.hand.registers refl ends))
 
 wrap_up_stopped_belongs : (target : Target) (setting : Setting) (e : Entry) → Methods target → Holds target setting e → Here target setting e
     → setting.reclamation ≡ Epochs → e.hand.wrapup ≡ true → target_local_at (instr_in target e) e.hand.at e.hand.registers ≡ None → BelongsIn target setting (wrap_up_stopped target e)
@@ -268,23 +247,7 @@ announced_belongs target setting (instr.Return a) e sane some fits h c scheme is
     announces_belongs target setting (announces.Leaves (replies.Number (number_in e.hand.registers a))) e h c scheme (return_there target setting e sane c a is, rw is refl)
 announced_belongs target setting instr.ReturnNone e sane some fits h c scheme is ends = announces_belongs target setting (announces.Leaves replies.Nothing) e h c scheme (nothing_there target setting e sane c is, rw is refl)
 announced_belongs target setting instr.Again e sane some fits h c scheme is ends = announces_belongs target setting (announces.Loads reasons.Again) e h c scheme (again_there target setting e sane c is, rw is refl)
-announced_belongs target setting (instr.LoadRoot d x) e sane some fits h c scheme is ends = at_access target setting e h c (rw is refl)
-announced_belongs target setting (instr.LoadPick d x n a) e sane some fits h c scheme is ends = at_access target setting e h c (rw is refl)
-announced_belongs target setting (instr.LoadField d a f) e sane some fits h c scheme is ends = at_access target setting e h c (rw is refl)
-announced_belongs target setting (instr.Put a f b) e sane some fits h c scheme is ends = at_access target setting e h c (rw is refl)
-announced_belongs target setting (instr.Cas exchange l) e sane some fits h c scheme is ends = at_access target setting e h c (rw is refl)
-announced_belongs target setting (instr.Set d n) e sane some fits h c scheme is ends = absurd cc
-announced_belongs target setting (instr.Mov d a) e sane some fits h c scheme is ends = absurd cc
-announced_belongs target setting (instr.Add d a b) e sane some fits h c scheme is ends = absurd cc
-announced_belongs target setting (instr.Sub d a b) e sane some fits h c scheme is ends = absurd cc
-announced_belongs target setting (instr.Rem d a n) e sane some fits h c scheme is ends = absurd cc
-announced_belongs target setting (instr.Mark d a) e sane some fits h c scheme is ends = absurd cc
-announced_belongs target setting (instr.Unmark d a) e sane some fits h c scheme is ends = absurd cc
-announced_belongs target setting (instr.Null d) e sane some fits h c scheme is ends = absurd cc
-announced_belongs target setting (instr.Jump l) e sane some fits h c scheme is ends = absurd cc
-announced_belongs target setting (instr.IfEq a b l) e sane some fits h c scheme is ends = absurd cc
-announced_belongs target setting (instr.IfLess a b l) e sane some fits h c scheme is ends = absurd cc
-announced_belongs target setting (instr.IfMarked a l) e sane some fits h c scheme is ends = absurd cc
+announced_belongs target setting i e sane some fits h c scheme is ends = at_access target setting e h c (rw is (comes_to_access i e.hand.at e.hand.registers refl ends))
 
 -- ---- under either scheme
 

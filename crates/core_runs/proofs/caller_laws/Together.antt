@@ -4,7 +4,7 @@ use Rattle.norm_lang.specs.declared.text.Text.{Text}
 use Rattle.target_code.specs.declared.target.Target.{Target}
 use Rattle.target_laws.specs.target_runs.Runnable.{IsRunnable}
 use Rattle.caller_parts.specs.declared.routine.Routine.{Routine}
-use Rattle.caller_parts.specs.declared.routine.Routine.TheVariants.{Idle, LoadSeen, At, InList, Retires, Restarts, Clears, Claims, Zeroes, Announces}
+use Rattle.caller_parts.specs.declared.routine.Routine.TheVariants.{Idle}
 use Rattle.caller_steps.specs.Entries.{Entry, is_idle}
 use Rattle.caller_parts.specs.Operands.{code_at}
 use Rattle.caller_steps.specs.Wants.{wanted, wants}
@@ -40,15 +40,7 @@ fits_code target text setting runs own fits = record {
 -- an idle entry wants nothing
 idle_by : (target : Target) (e : Entry) (routine : Routine) → is_idle routine ≡ true → wanted target e routine ≡ None
 idle_by target e Idle is = refl
-idle_by target e (LoadSeen why) is = absurd (let z : false ≡ true = is in cc)
-idle_by target e At is = absurd (let z : false ≡ true = is in cc)
-idle_by target e (InList k) is = absurd (let z : false ≡ true = is in cc)
-idle_by target e (Retires retirement go) is = absurd (let z : false ≡ true = is in cc)
-idle_by target e Restarts is = absurd (let z : false ≡ true = is in cc)
-idle_by target e (Clears next) is = absurd (let z : false ≡ true = is in cc)
-idle_by target e (Claims claim) is = absurd (let z : false ≡ true = is in cc)
-idle_by target e (Zeroes k field) is = absurd (let z : false ≡ true = is in cc)
-idle_by target e (Announces announcing) is = absurd (let z : false ≡ true = is in cc)
+idle_by target e _ is = absurd (let z : false ≡ true = is in cc)
 
 pub idle_wants : (target : Target) (e : Entry) → is_idle e.routine ≡ true → wants target e ≡ None
 unfolding wants

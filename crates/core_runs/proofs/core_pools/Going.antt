@@ -47,16 +47,9 @@ some_same : (a b : WordAccess) → Some a ≡ Some b → a ≡ b
 some_same a b is = cc
 
 elsewhere_idle : (r : Routine) → is_idle r ≡ true → standing_of r ≡ Elsewhere
-elsewhere_idle routines.Idle is = refl
-elsewhere_idle (routines.LoadSeen why) is = refl
-elsewhere_idle routines.At is = refl
-elsewhere_idle (routines.InList k) is = refl
 elsewhere_idle (routines.Retires retirement go) is = absurd (let z : false ≡ true = is in cc)
-elsewhere_idle routines.Restarts is = refl
-elsewhere_idle (routines.Clears next) is = refl
 elsewhere_idle (routines.Claims claim) is = absurd (let z : false ≡ true = is in cc)
-elsewhere_idle (routines.Zeroes k field) is = refl
-elsewhere_idle (routines.Announces announcing) is = refl
+elsewhere_idle _ is = refl
 
 -- so does one before the first access of a call
 elsewhere_first : (by : Reclamation) → standing_of (first_routine by) ≡ Elsewhere
@@ -139,10 +132,8 @@ module _ (target : Target) (setting : Setting) (are : AreKinds setting.sizes) (f
         gained Epochs (suc made) j e = refl
 
         of : (by : Reclamation) (next : Claim) (end : Option ClaimEnd) (e : Entry) → standing_of (claim_on by target next end e).entry.routine ≡ claim_left next end
-        of by next None e = refl
         of by next (Some (ends.Claimed j)) e = gained by next.sweeps j (with_routine e At)
-        of by next (Some ends.Full) e = refl
-        of by next (Some (ends.PhasesOver p)) e = refl
+        of by next _ e = refl
 
   retires_stand : (e : Entry) (word : ℕ) (own left : Retirement) (go : AfterRetire) → e.routine ≡ routines.Retires own go → retire_accepts own word ≡ Some left → standing_of (after target setting e word).routine ≡ Retires left
   unfolding after

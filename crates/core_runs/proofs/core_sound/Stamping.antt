@@ -133,15 +133,10 @@ elsewhere_wants target e a at is = other_wanted target e e.routine a at is
 -- ---- a claim that belongs stores slots of the row
 
 sweep_stores : (setting : Setting) (bound : ℕ) (stage : SweepStage) → SweepStands setting bound stage → SweepStores setting.sizes stage
-sweep_stores setting bound sweeps.ReadPhase s = tt
-sweep_stores setting bound (sweeps.RaisePhase p) s = tt
-sweep_stores setting bound (sweeps.Warn c) s = tt
-sweep_stores setting bound (sweeps.ReadHazard c r) s = tt
-sweep_stores setting bound (sweeps.ReadStatus j) s = tt
-sweep_stores setting bound (sweeps.MakeReady j q) s = tt
 sweep_stores setting bound (sweeps.PushHead k j) s = s.2
 sweep_stores setting bound (sweeps.PushLink j q t) s = s.3
 sweep_stores setting bound (sweeps.PushTop k j q t) s = (s.4, (s.0, s.1))
+sweep_stores setting bound _ s = tt
 
 claim_stores : (setting : Setting) (c : ℕ) (claim : Claim) → ClaimBelongs setting c claim → ClaimStores setting.sizes claim.kind claim.sweep.stage claim.stage
 claim_stores setting c claim b = of claim.stage b.stands where

@@ -3,7 +3,9 @@ use Rattle.std.specs.Prelude.{◌≡◌, ℕ, List, Bool, true, false, Option, I
 use Rattle.std.specs.Io.KnownBytes.{Appends}
 use Rattle.oa_text.specs.Causes.{Rose}
 use Rattle.oa_text.specs.Written.{AppendsPrefix}
+use Rattle.norm_lang.specs.declared.text.Reg.{Reg}
 use Rattle.messages.specs.Messages.{message_for}
+use Rattle.refusal_messages.specs.Named.{IsNamedFor}
 use Rattle.statuses.specs.declared.status.Status.{Status}
 use Rattle.statuses.specs.declared.status.Status.TheVariants.{Done, Partial, Usage, ReadFault, LongInput, BadDocument, Refused, BadShape, WriteFault, Memory, Rejected}
 
@@ -27,7 +29,10 @@ abbrev pub IsFinished : ℕ → ℕ → Status → Status → Type 0
 IsFinished before now status result =
     ((result ≡ status) × (now ≡ before)) ⊎ (IsFalse (is_write_fault status) × (result ≡ WriteFault) × Rose before now)
 
--- the whole message on the status was written, where this is remembered of what was read, or writing failed after a prefix of it
+-- the whole message on the status was written, where this is remembered of what was read, or writing failed after a prefix of it. Where a
+-- rule is broken it names the register that is at fault
 abbrev pub IsExplained : Option (List ℕ) → Option (List ℕ) → ℕ → ℕ → Option (List ℕ) → Status → Type 0
 IsExplained old new before now read status =
-    Appends old new (message_for read status) ⊎ (Rose before now × AppendsPrefix old new (message_for read status))
+    (named : Option Reg)
+    × IsNamedFor read status named
+    × (Appends old new (message_for read status named) ⊎ (Rose before now × AppendsPrefix old new (message_for read status named)))

@@ -1,7 +1,6 @@
 -- Guards are cleared from the least on, and what follows where none is left.
-use Rattle.std.proofs.Common.{ℕ, zero, suc, ◌≡◌, ◌≢◌, ◌==◌, ◌+◌, ◌≤◌, ◌<◌, ◌⊎◌, ◌∙◌, ◌&&◌, not, Bool, true, false, List, [], ◌∷◌, length, Some, None, arith, inl, inr, ⊎_elim, sym, ap, refl, if◌then◌else◌}
+use Rattle.std.proofs.Common.{ℕ, zero, suc, ◌≡◌, ◌==◌, ◌+◌, ◌≤◌, ◌<◌, ◌⊎◌, ◌∙◌, ◌&&◌, not, Bool, true, false, List, [], ◌∷◌, length, Some, None, arith, inl, inr, sym, ap, refl, if◌then◌else◌}
 use Rattle.std.specs.Prelude.{slice_get, unwrap_or}
-use Rattle.std.proofs.lemmas.Bool.{cases_eq, cases_lt}
 use Rattle.std.proofs.lemmas.Bool.Decides.{nat_tests}
 use Rattle.norm_lang.specs.declared.text.Reg.TheVariants.{Ref}
 use Rattle.target_code.specs.declared.target.TargetOp.{TargetOp}
@@ -9,13 +8,7 @@ use Rattle.target_code.specs.Erasing.{erased_op}
 use Rattle.target_code.specs.Keeping.{keeps}
 use Rattle.guard_words.specs.Guards.{Guards, guard_at, least_from, is_spared, is_to_clear, next_to_clear}
 use Rattle.caller_parts.specs.Spared.{kept_by, none_spared}
-
-pub least_none : (test : ℕ → Bool) (r n : ℕ) → least_from test r n ≡ None → (k : ℕ) → r ≤ k → k < r + n → test k ≡ false
-least_none test r zero is k le lt = absurd (omega (arith, le, lt))
-least_none test r (suc n) is k le lt = of (test r) refl is (λ e. least_none test (r + 1) n e) where
-  of : (b : Bool) → test r ≡ b → (if b then Some r else least_from test (r + 1) n) ≡ None → (least_from test (r + 1) n ≡ None → (k : ℕ) → r + 1 ≤ k → k < r + 1 + n → test k ≡ false) → test k ≡ false
-  of true here e more = absurd (let z : Some r ≡ None = e in cc)
-  of false here e more = ⊎_elim (λ (same : k ≡ r). ap test same ∙ here) (λ (ne : k ≢ r). more e k (omega (arith, le, ne)) (omega (arith, lt))) (cases_eq k r)
+use Rattle.guard_words.proofs.Rows.{guards_follow}
 
 pub least_some : (test : ℕ → Bool) (r n k : ℕ) → least_from test r n ≡ Some k → (test k ≡ true) × (k < r + n)
 least_some test r zero k is = absurd (let z : None ≡ Some k = is in cc)
@@ -31,16 +24,10 @@ past_end (x ∷ xs) (suc r) le = past_end xs r (omega (arith, le))
 
 -- where none is left, each guard that isn't left out is 0
 pub clear_none : (guards : Guards) (out : List Bool) → next_to_clear guards out ≡ None → (r : ℕ) → is_spared out r ≡ false → guard_at guards r ≡ 0
-clear_none guards out is r free = ⊎_elim
-    (λ (lt : r < length guards.slots).
-    let fails : (not (guard_at guards r == 0) && not (is_spared out r)) ≡ false = least_none (is_to_clear guards.slots out) 0 (length guards.slots) is r (omega arith) (omega (arith, lt)) in
-    zero_of (guard_at guards r) (is_spared out r) free fails)
-    (λ (ge : length guards.slots ≤ r). past_end guards.slots r ge)
-    (cases_lt r (length guards.slots))
-  where
-    zero_of : (n : ℕ) (b : Bool) → b ≡ false → (not (n == 0) && not b) ≡ false → n ≡ 0
-    zero_of n true free fails = absurd (let z : true ≡ false = free in cc)
-    zero_of n false free fails = grind (arith, nat_tests)
+clear_none guards out is r free = zero_of (guard_at guards r) (is_spared out r) free (guards_follow.next_none guards out is r) where
+  zero_of : (n : ℕ) (b : Bool) → b ≡ false → (not (n == 0) && not b) ≡ false → n ≡ 0
+  zero_of n true free fails = absurd (let z : true ≡ false = free in cc)
+  zero_of n false free fails = grind (arith, nat_tests)
 
 -- the next to clear isn't left out
 pub clear_some : (guards : Guards) (out : List Bool) (r : ℕ) → next_to_clear guards out ≡ Some r → (is_spared out r ≡ false) × (r < length guards.slots)

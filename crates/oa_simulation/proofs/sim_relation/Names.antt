@@ -5,7 +5,7 @@ use Rattle.oa_words.specs.Words.{Status, Hazard}
 use Rattle.source_machine.specs.Proper.{has}
 use Rattle.oa_simulation.specs.sim_relation.Views.{Plan, Owner, Null, Held, Shared, Resident, Apart}
 use Rattle.oa_simulation.specs.sim_relation.Shared.{Slot, SlotAt, SharedHolds}
-use Rattle.oa_simulation.specs.sim_relation.Callers.{Own, Known}
+use Rattle.oa_simulation.specs.sim_relation.Callers.{Own, Known, Shown}
 
 pub residents_apart : (t : Plan) (s : Shared) (x y : ℕ) → Resident t s x → Resident t s y → Apart t x y
 residents_apart t s x y p q e = sym p ∙ (ap s.present e ∙ q)
@@ -55,3 +55,16 @@ pub known_kept : (t : Plan) (c : ℕ) (s s' : Shared) (n : ℕ) → KeepsNames c
 known_kept t c s s' n keeps (inl z) = inl z
 known_kept t c s s' n keeps (inr (inl public)) = inr (inl (keeps.public n public))
 known_kept t c s s' n keeps (inr (inr own)) = inr (inr (own_kept t c s s' n keeps own))
+
+pub shown_kept : (s s' : Shared) (n : ℕ) → ((n : ℕ) → s.public n ≡ true → s'.public n ≡ true) → Shown s n → Shown s' n
+shown_kept s s' n stays (inl z) = inl z
+shown_kept s s' n stays (inr public) = inr (stays n public)
+
+-- what is known of its own names stays so, too: no other name comes to a cradle
+pub made_kept : (t : Plan) (c : ℕ) (s s' : Shared) (P : ℕ → Type 0) (n : ℕ) → t.home 0 ≡ 0 → KeepsNames c s s' → SharedHolds t s' → Known t s c n → ((k : ℕ) → s.owner (t.home n) ≡ Held c k → Resident t s n → P k)
+    → (k : ℕ) → s'.owner (t.home n) ≡ Held c k → Resident t s' n → P k
+made_kept t c s s' P n null_home keeps f' (inl z) made k held here = absurd (let e : Null ≡ Held c k = sym f'.none_there ∙ (ap s'.owner (sym (ap t.home z ∙ null_home)) ∙ held) in cc)
+made_kept t c s s' P n null_home keeps f' (inr (inl public)) made k held here = absurd (let e : true ≡ false = sym (keeps.public n public) ∙ own_private t s' c k n f' held here in cc)
+made_kept t c s s' P n null_home keeps f' (inr (inr own)) made k held here =
+    let was = keeps.held (t.home n) own.0 own.1 in
+    let same : k ≡ own.0 = (let e : Held c k ≡ Held c own.0 = sym held ∙ was.0 in cc) in subst P (sym same) (made own.0 own.1 own.2)

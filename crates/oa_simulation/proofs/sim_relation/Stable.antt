@@ -11,7 +11,6 @@ use Rattle.phase_pools.specs.declared.stages.SweepStage.TheVariants as sweeps
 use Rattle.phase_pools.specs.declared.stages.ClaimStage.{ClaimStage}
 use Rattle.phase_pools.specs.declared.stages.ClaimStage.TheVariants as claims
 use Rattle.phase_pools.specs.Pools.{Sweep}
-use Rattle.source_machine.specs.Proper.{has}
 use Rattle.caller_parts.specs.declared.routine.MethodStart.{MethodStart}
 use Rattle.caller_parts.specs.declared.routine.MethodStart.TheVariants as starts
 use Rattle.caller_parts.specs.declared.routine.AfterClear.{AfterClear}
@@ -26,11 +25,11 @@ use Rattle.run_ahead.specs.Agreeing.{node_in}
 use Rattle.target_laws.specs.Methods.{code_in}
 use Rattle.run_ahead.specs.Following.{Walk}
 use Rattle.run_ahead.proofs.Quiet.{less_calm}
-use Rattle.oa_simulation.specs.sim_relation.Views.{Plan, Null, Held, Shared, Caller, link, Resident, Apart}
+use Rattle.oa_simulation.specs.sim_relation.Views.{Plan, Held, Shared, Caller, link, Resident, Apart}
 use Rattle.oa_simulation.specs.sim_relation.Shared.{SharedHolds}
-use Rattle.oa_simulation.specs.sim_relation.Callers.{Shown, spot_of, tag_at, Own, Known, Calm, Base, Sound, HasMade, Trail, Walks, Gets, Running, AtNew, Begins, AfterExchange, IsRetiring, Sweeps, SweepAt, ClaimAt, Zeroed, GoesOn, BeginsAt, ClearsAt, HoldsAt, CallerHolds}
+use Rattle.oa_simulation.specs.sim_relation.Callers.{spot_of, tag_at, Own, Known, Calm, Base, Sound, HasMade, Trail, Walks, Gets, Running, AtNew, Begins, AfterExchange, IsRetiring, Sweeps, SweepAt, ClaimAt, Zeroed, GoesOn, BeginsAt, ClearsAt, HoldsAt, CallerHolds}
 use Rattle.oa_simulation.specs.sim_relation.MayChange.{MayChange}
-use Rattle.oa_simulation.proofs.sim_relation.Names.{residents_apart, own_private, KeepsNames, own_kept, known_kept}
+use Rattle.oa_simulation.proofs.sim_relation.Names.{residents_apart, KeepsNames, own_kept, known_kept, shown_kept, made_kept}
 
 -- what is another's own stays
 names_stay : (t : Plan) (c d : ℕ) (s s' : Shared) → MayChange t c s s' → d ≢ c → KeepsNames d s s'
@@ -81,20 +80,6 @@ stable_sound t c d s s' x walk path mirror g f ne b w = record {
       (g.link (s'.protects d o) i);
 }
 
--- an own name that was got came by its `new`
-stable_made : (t : Plan) (c d : ℕ) (s s' : Shared) (x : Caller) (P : ℕ → Type 0) → t.home 0 ≡ 0 → MayChange t c s s' → SharedHolds t s' → d ≢ c → Base t s d x
-    → ((n k : ℕ) → has n x.held.got ≡ true → s.owner (t.home n) ≡ Held d k → Resident t s n → P k)
-    → (n k : ℕ) → has n x.held.got ≡ true → s'.owner (t.home n) ≡ Held d k → Resident t s' n → P k
-stable_made t c d s s' x P null_home g f' ne b made n k got held here = of (b.known n got) where
-  of : Known t s d n → P k
-  of (inl z) = absurd (let e : Null ≡ Held d k = sym f'.none_there ∙ (ap s'.owner (sym (ap t.home z ∙ null_home)) ∙ held) in cc)
-  of (inr (inl public)) = absurd (let e : true ≡ false = sym (g.public n public) ∙ own_private t s' d k n f' held here in cc)
-  of (inr (inr own)) = let was = g.held (t.home n) d own.0 ne own.1 in let same : k ≡ own.0 = (let e : Held d k ≡ Held d own.0 = sym held ∙ was.0 in cc) in subst P (sym same) (made n own.0 got own.1 own.2)
-
-pub stable_shown : (s s' : Shared) (n : ℕ) → ((n : ℕ) → s.public n ≡ true → s'.public n ≡ true) → Shown s n → Shown s' n
-stable_shown s s' n stays (inl z) = inl z
-stable_shown s s' n stays (inr public) = inr (stays n public)
-
 pub stable_walks : (t : Plan) (c d : ℕ) (s s' : Shared) (x : Caller) (core : Spot) (m : Trail t) → MayChange t c s s' → SharedHolds t s' → d ≢ c → Base t s d x → Walks t s d x core m → Walks t s' d x core m
 stable_walks t c d s s' x core m g f' ne b w = record {
   call = w.call;
@@ -106,12 +91,48 @@ stable_walks t c d s s' x core m g f' ne b w = record {
   generator = w.generator;
   ahead = less_calm m.walk.method t.home (Calm s d x) (Calm s' d x) m.path core m.mirror m.there (calm_before t c d s s' x g b) w.ahead;
   kept = w.kept;
-  shown = λ r is. stable_shown s s' (node_in m.walk.started r) (λ n public. g.public n public) (w.shown r is);
+  shown = λ r is. shown_kept s s' (node_in m.walk.started r) g.public (w.shown r is);
   sound = stable_sound t c d s s' x m.walk m.path m.mirror g f' ne b w.sound;
 }
 
+-- ---- a step of the caller's own that leaves its warning and its guards: what it links is as before, or resident
+
+pub record LeavesGuards (t : Plan) (c : ℕ) (s s' : Shared) : Type 0 where
+  pub warning : s'.memory (Warning c) ≡ s.memory (Warning c)
+  pub protects : (r : ℕ) → s'.protects c r ≡ s.protects c r
+  pub links : (n g : ℕ) → (link s' n g ≡ link s n g) ⊎ Resident t s (link s' n g)
+  pub public : (n : ℕ) → s.public n ≡ true → s'.public n ≡ true
+
+pub walks_left : (t : Plan) (c : ℕ) (s s' : Shared) (x : Caller) (core : Spot) (m : Trail t) → SharedHolds t s → LeavesGuards t c s s' → Walks t s c x core m → Walks t s' c x core m
+walks_left t c s s' x core m f q w = record {
+  call = w.call;
+  wrapup = w.wrapup;
+  was_set = w.was_set;
+  first = w.first;
+  number = w.number;
+  start = w.start;
+  generator = w.generator;
+  kept = w.kept;
+  shown = λ r is. shown_kept s s' (node_in m.walk.started r) q.public (w.shown r is);
+  ahead = less_calm m.walk.method t.home (Calm s c x) (Calm s' c x) m.path core m.mirror m.there (λ calm. calm ∙ q.warning) w.ahead;
+  sound = record {
+    word = λ calm. w.sound.word (calm ∙ q.warning);
+    apart = λ gen r e trusted some. rw (q.protects e) (w.sound.apart gen r e trusted (λ z. some (q.protects e ∙ z)));
+    pairs = λ o e g free some some'. rw (q.protects o, q.protects e) (pair o e g (w.sound.pairs o e g free (λ z. some (q.protects o ∙ z)) (λ z. some' (q.protects e ∙ z))) (λ z. some' (q.protects e ∙ z)) (q.links (s.protects c o) g));
+  };
+} where
+  pair : (o e g : ℕ) → Apart t (link s (s.protects c o) g) (s.protects c e) → s.protects c e ≢ 0 → (link s' (s.protects c o) g ≡ link s (s.protects c o) g) ⊎ Resident t s (link s' (s.protects c o) g) → Apart t (link s' (s.protects c o) g) (s.protects c e)
+  pair o e g was some (inl same) = subst (λ (j : ℕ). Apart t j (s.protects c e)) (sym same) was
+  pair o e g was some (inr new) = residents_apart t s (link s' (s.protects c o) g) (s.protects c e) new (f.guard c e some).resident
+
 pub stable_gets : (t : Plan) (c d : ℕ) (s s' : Shared) (x : Caller) (m : Trail t) → t.home 0 ≡ 0 → MayChange t c s s' → SharedHolds t s' → d ≢ c → Base t s d x → Gets t s d x m → Gets t s' d x m
-stable_gets t c d s s' x m null_home g f' ne b w = record { got = w.got; named = w.named; fresh = λ gen r is. stable_own t c d s s' (node_in m.mirror r) g ne (w.fresh gen r is); shown = λ gen r is. ⊎_elim (λ (z : node_in m.mirror r ≡ 0). inl z) (λ (p : s.public (node_in m.mirror r) ≡ true). inr (g.public (node_in m.mirror r) p)) (w.shown gen r is); made = stable_made t c d s s' x (λ k. HasMade (code_in m.walk.method) m.path k) null_home g f' ne b w.made }
+stable_gets t c d s s' x m null_home g f' ne b w = record {
+  got = w.got;
+  named = w.named;
+  fresh = λ gen r is. stable_own t c d s s' (node_in m.mirror r) g ne (w.fresh gen r is);
+  shown = λ gen r is. shown_kept s s' (node_in m.mirror r) g.public (w.shown gen r is);
+  made = λ n k got. made_kept t d s s' (λ i. HasMade (code_in m.walk.method) m.path i) n null_home (names_stay t c d s s' g ne) f' (b.known n got) (λ i. w.made n i got) k;
+}
 
 pub stable_begins : (t : Plan) (c d : ℕ) (s s' : Shared) (x : Caller) (walk : Walk t.target t.text) → MayChange t c s s' → d ≢ c → Begins t s d x walk → Begins t s' d x walk
 stable_begins t c d s s' x walk g ne b = record {
@@ -125,7 +146,7 @@ stable_begins t c d s s' x walk g ne b = record {
   tied = b.tied;
   settled = b.settled;
   kept = b.kept;
-  shown = λ r is. stable_shown s s' (node_in walk.started r) (λ n public. g.public n public) (b.shown r is);
+  shown = λ r is. shown_kept s s' (node_in walk.started r) g.public (b.shown r is);
 }
 
 pub stable_retires : (t : Plan) (c d : ℕ) (s s' : Shared) (j n : ℕ) (o : Option ℕ) → MayChange t c s s' → d ≢ c → IsRetiring s d j n o → IsRetiring s' d j n o
@@ -162,19 +183,14 @@ stable_sweep t c s s' p l sweeps.ReadPhase g f w = tt
 stable_sweep t c s s' p l (sweeps.RaisePhase q) g f w = let le : q ≤ s.memory Phase = w in omega (arith, le, g.phase)
 stable_sweep t c s s' p l (sweeps.Warn x) g f w = (stable_sweeps t c s s' p x 0 l g f (omega arith) w.0, w.1)
 stable_sweep t c s s' p l (sweeps.ReadHazard x r) g f w = (stable_sweeps t c s s' p t.setting.sizes.callers (8 * x + r) l g f (omega (arith, w.1, w.2)) w.0, w.1, w.2)
-stable_sweep t c s s' p l (sweeps.ReadStatus j) g f w = stable_sweeps t c s s' p t.setting.sizes.callers (8 * t.setting.sizes.callers) l g f (omega arith) w
 stable_sweep t c s s' p l (sweeps.MakeReady j q) g f w = (stable_sweeps t c s s' p t.setting.sizes.callers (8 * t.setting.sizes.callers) l g f (omega arith) w.0, w.1, w.2)
-stable_sweep t c s s' p l (sweeps.PushHead kind j) g f w = stable_sweeps t c s s' p t.setting.sizes.callers (8 * t.setting.sizes.callers) l g f (omega arith) w
-stable_sweep t c s s' p l (sweeps.PushLink j q top) g f w = stable_sweeps t c s s' p t.setting.sizes.callers (8 * t.setting.sizes.callers) l g f (omega arith) w
-stable_sweep t c s s' p l (sweeps.PushTop kind j q top) g f w = stable_sweeps t c s s' p t.setting.sizes.callers (8 * t.setting.sizes.callers) l g f (omega arith) w
+stable_sweep t c s s' p l _ g f w = stable_sweeps t c s s' p t.setting.sizes.callers (8 * t.setting.sizes.callers) l g f (omega arith) w
 
 pub stable_claim : (t : Plan) (c : ℕ) (s s' : Shared) (sweep : Sweep) (stage : ClaimStage) → MayChange t c s s' → SharedHolds t s' → ClaimAt t s sweep stage → ClaimAt t s' sweep stage
 stable_claim t c s s' sweep claims.ReadHead g f w = tt
-stable_claim t c s s' sweep (claims.ReadLink q j) g f w = w
-stable_claim t c s s' sweep (claims.Take q j next) g f w = w
-stable_claim t c s s' sweep (claims.StoreUsed q j) g f w = w
 stable_claim t c s s' sweep (claims.Withdraw own) g f w = tt
 stable_claim t c s s' sweep claims.Sweeps g f w = stable_sweep t c s s' sweep.bound sweep.gathered sweep.stage g f w
+stable_claim t c s s' sweep _ g f w = w
 
 pub stable_running : (t : Plan) (c d : ℕ) (s s' : Shared) (x : Caller) (core : Spot) → t.home 0 ≡ 0 → MayChange t c s s' → SharedHolds t s' → d ≢ c → Base t s d x → Running t s d x core → Running t s' d x core
 stable_running t c d s s' x core null_home g f' ne b w = (w.0, stable_walks t c d s s' x core w.0 g f' ne b w.1, w.2, stable_gets t c d s s' x w.0 null_home g f' ne b w.3, w.4)
@@ -183,8 +199,8 @@ pub stable_new : (t : Plan) (c d : ℕ) (s s' : Shared) (x : Caller) (core : Spo
 stable_new t c d s s' x core null_home g f' ne b w = (w.0, stable_walks t c d s s' x core w.0 g f' ne b w.1, w.2, stable_gets t c d s s' x w.0 null_home g f' ne b w.3)
 
 pub stable_behind : (t : Plan) (c d : ℕ) (s s' : Shared) (x : Caller) (made : ℕ) (more : Bool) → MayChange t c s s' → SharedHolds t s' → d ≢ c → Base t s d x → AfterExchange t s d x made more → AfterExchange t s' d x made more
-stable_behind t c d s s' x made true g f' ne b w = (w.0, stable_walks t c d s s' x (spot_of x.entry.hand) w.0 g f' ne b w.1, w.2, w.3, w.4, (λ r is. stable_shown s s' (node_in w.0.mirror r) (λ n public. g.public n public) (w.5 r is)))
-stable_behind t c d s s' x made false g f' ne b w = (w.0, stable_walks t c d s s' x (spot_of x.entry.hand) w.0 g f' ne b w.1, w.2, w.3, w.4, w.5, w.6, (λ r is. stable_shown s s' (node_in w.0.mirror r) (λ n public. g.public n public) (w.7 r is)))
+stable_behind t c d s s' x made true g f' ne b w = (w.0, stable_walks t c d s s' x (spot_of x.entry.hand) w.0 g f' ne b w.1, w.2, w.3, w.4, (λ r is. shown_kept s s' (node_in w.0.mirror r) g.public (w.5 r is)))
+stable_behind t c d s s' x made false g f' ne b w = (w.0, stable_walks t c d s s' x (spot_of x.entry.hand) w.0 g f' ne b w.1, w.2, w.3, w.4, w.5, w.6, (λ r is. shown_kept s s' (node_in w.0.mirror r) g.public (w.7 r is)))
 
 stable_onward : (t : Plan) (c d : ℕ) (s s' : Shared) (x : Caller) (go : AfterRetire) → t.home 0 ≡ 0 → MayChange t c s s' → SharedHolds t s' → d ≢ c → Base t s d x → GoesOn t s d x go → GoesOn t s' d x go
 stable_onward t c d s s' x onward.Next null_home g f' ne b w = stable_running t c d s s' x (record { at = x.entry.hand.at + 1; registers = x.entry.hand.registers }) null_home g f' ne b w
@@ -201,7 +217,7 @@ stable_then t c d s s' x clears.WrapUp null_home g f' ne b w = (w.0, stable_begi
 stable_then t c d s s' x (clears.Reply reply) null_home g f' ne b w = w
 stable_then t c d s s' x clears.Again null_home g f' ne b w = (w.0, stable_begins t c d s s' x w.0 g ne w.1, w.2)
 
-stable_zeroed : (t : Plan) (c d k : ℕ) (s s' : Shared) (j field : ℕ) → MayChange t c s s' → d ≢ c → s.owner j ≡ Held d k → Zeroed s j field → Zeroed s' j field
+pub stable_zeroed : (t : Plan) (c d k : ℕ) (s s' : Shared) (j field : ℕ) → MayChange t c s s' → d ≢ c → s.owner j ≡ Held d k → Zeroed s j field → Zeroed s' j field
 stable_zeroed t c d k s s' j field g ne own z = let h = g.held j d k ne own in ((λ some. h.1 ∙ z.0 some), (λ i lt. h.2 i ∙ z.1 i lt))
 
 pub stable_spot : (t : Plan) (c d : ℕ) (s s' : Shared) (x : Caller) (r : Routine) → t.home 0 ≡ 0 → MayChange t c s s' → SharedHolds t s' → d ≢ c → Base t s d x → HoldsAt t s d x r → HoldsAt t s' d x r

@@ -3,51 +3,40 @@ use Rattle.std.proofs.Common.{ℕ, ◌≡◌, ◌≢◌, ◌∙◌, ◌==◌, �
 use Rattle.std.proofs.lemmas.Bool.Decides.{eqb_tells}
 use Rattle.oa_words.specs.Words.{Word, Phase, Place, Warning, Hazard, Status, FieldOf, Cell, Head, Link}
 use Rattle.oa_words.specs.Memories.{store}
+use Rattle.chain_laws.proofs.Same.{again}
 
 -- what holds at the word, and at each other one, holds at each
-pub each_warning : (P : ℕ → ℕ → Type 0) (m : Word → ℕ) (c v : ℕ) → P c v → ((i : ℕ) → i ≢ c → P i (m (Warning i))) → (i : ℕ) → P i (store m (Warning c) v (Warning i))
-each_warning P m c v here others i = ⊎_elim
+each_one : (P : ℕ → ℕ → Type 0) (old : ℕ → ℕ) (c v : ℕ) → P c v → ((i : ℕ) → i ≢ c → P i (old i)) → (i : ℕ) → P i (if (i == c) && true then v else old i)
+each_one P old c v here others i = ⊎_elim
     (λ (e : ((i == c) ≡ true) × (i ≡ c)). rw e.0 (subst (λ j. P j v) (sym e.1) here))
     (λ (e : ((i == c) ≡ false) × (i ≢ c)). rw e.0 (others i e.1))
     (eqb_tells i c)
+
+each_two : (P : ℕ → ℕ → ℕ → Type 0) (old : ℕ → ℕ → ℕ) (c r v : ℕ) → P c r v → ((i k : ℕ) → (i ≡ c → k ≡ r → ⊥) → P i k (old i k)) → (i k : ℕ) → P i k (if (i == c) && (k == r) then v else old i k)
+each_two P old c r v here others i k = ⊎_elim
+    (λ (e : ((i == c) ≡ true) × (i ≡ c)). ⊎_elim
+    (λ (f : ((k == r) ≡ true) × (k ≡ r)). rw (e.0, f.0) (subst (λ j. P j k v) (sym e.1) (subst (λ j. P c j v) (sym f.1) here)))
+    (λ (f : ((k == r) ≡ false) × (k ≢ r)). rw (e.0, f.0) (others i k (λ p q. f.1 q)))
+    (eqb_tells k r))
+    (λ (e : ((i == c) ≡ false) × (i ≢ c)). rw e.0 (others i k (λ p q. e.1 p)))
+    (eqb_tells i c)
+
+pub each_warning : (P : ℕ → ℕ → Type 0) (m : Word → ℕ) (c v : ℕ) → P c v → ((i : ℕ) → i ≢ c → P i (m (Warning i))) → (i : ℕ) → P i (store m (Warning c) v (Warning i))
+each_warning P m c v here others i = each_one P (λ k. m (Warning k)) c v here others i
 
 pub each_status : (P : ℕ → ℕ → Type 0) (m : Word → ℕ) (c v : ℕ) → P c v → ((i : ℕ) → i ≢ c → P i (m (Status i))) → (i : ℕ) → P i (store m (Status c) v (Status i))
-each_status P m c v here others i = ⊎_elim
-    (λ (e : ((i == c) ≡ true) × (i ≡ c)). rw e.0 (subst (λ j. P j v) (sym e.1) here))
-    (λ (e : ((i == c) ≡ false) × (i ≢ c)). rw e.0 (others i e.1))
-    (eqb_tells i c)
+each_status P m c v here others i = each_one P (λ k. m (Status k)) c v here others i
 
 pub each_cell : (P : ℕ → ℕ → Type 0) (m : Word → ℕ) (c v : ℕ) → P c v → ((i : ℕ) → i ≢ c → P i (m (Cell i))) → (i : ℕ) → P i (store m (Cell c) v (Cell i))
-each_cell P m c v here others i = ⊎_elim
-    (λ (e : ((i == c) ≡ true) × (i ≡ c)). rw e.0 (subst (λ j. P j v) (sym e.1) here))
-    (λ (e : ((i == c) ≡ false) × (i ≢ c)). rw e.0 (others i e.1))
-    (eqb_tells i c)
+each_cell P m c v here others i = each_one P (λ k. m (Cell k)) c v here others i
 
 pub each_hazard : (P : ℕ → ℕ → ℕ → Type 0) (m : Word → ℕ) (c r v : ℕ) → P c r v → ((i k : ℕ) → (i ≡ c → k ≡ r → ⊥) → P i k (m (Hazard i k))) → (i k : ℕ) → P i k (store m (Hazard c r) v (Hazard i k))
-each_hazard P m c r v here others i k = ⊎_elim
-    (λ (e : ((i == c) ≡ true) × (i ≡ c)). ⊎_elim
-    (λ (f : ((k == r) ≡ true) × (k ≡ r)). rw (e.0, f.0) (subst (λ j. P j k v) (sym e.1) (subst (λ j. P c j v) (sym f.1) here)))
-    (λ (f : ((k == r) ≡ false) × (k ≢ r)). rw (e.0, f.0) (others i k (λ p q. f.1 q)))
-    (eqb_tells k r))
-    (λ (e : ((i == c) ≡ false) × (i ≢ c)). rw e.0 (others i k (λ p q. e.1 p)))
-    (eqb_tells i c)
+each_hazard P m c r v here others i k = each_two P (λ a b. m (Hazard a b)) c r v here others i k
 
 pub each_field : (P : ℕ → ℕ → ℕ → Type 0) (m : Word → ℕ) (c r v : ℕ) → P c r v → ((i k : ℕ) → (i ≡ c → k ≡ r → ⊥) → P i k (m (FieldOf i k))) → (i k : ℕ) → P i k (store m (FieldOf c r) v (FieldOf i k))
-each_field P m c r v here others i k = ⊎_elim
-    (λ (e : ((i == c) ≡ true) × (i ≡ c)). ⊎_elim
-    (λ (f : ((k == r) ≡ true) × (k ≡ r)). rw (e.0, f.0) (subst (λ j. P j k v) (sym e.1) (subst (λ j. P c j v) (sym f.1) here)))
-    (λ (f : ((k == r) ≡ false) × (k ≢ r)). rw (e.0, f.0) (others i k (λ p q. f.1 q)))
-    (eqb_tells k r))
-    (λ (e : ((i == c) ≡ false) × (i ≢ c)). rw e.0 (others i k (λ p q. e.1 p)))
-    (eqb_tells i c)
+each_field P m c r v here others i k = each_two P (λ a b. m (FieldOf a b)) c r v here others i k
 
 -- to store what stands there changes nothing
-one_again : (m : Word → ℕ) (f : ℕ → Word) (a i : ℕ) → (if (i == a) && true then m (f a) else m (f i)) ≡ m (f i)
-one_again m f a i = ⊎_elim
-    (λ (e : ((i == a) ≡ true) × (i ≡ a)). rw e.0 (ap (λ j. m (f j)) (sym e.1)))
-    (λ (e : ((i == a) ≡ false) × (i ≢ a)). rw e.0 refl)
-    (eqb_tells i a)
-
 two_again : (m : Word → ℕ) (f : ℕ → ℕ → Word) (a b i k : ℕ) → (if (i == a) && (k == b) then m (f a b) else m (f i k)) ≡ m (f i k)
 two_again m f a b i k = ⊎_elim
     (λ (e : ((i == a) ≡ true) × (i ≡ a)). ⊎_elim
@@ -59,86 +48,15 @@ two_again m f a b i k = ⊎_elim
 
 pub store_again : (m : Word → ℕ) (w v : Word) → store m w (m w) v ≡ m v
 store_again m Phase Phase = refl
-store_again m Phase (Place c) = refl
-store_again m Phase (Warning c) = refl
-store_again m Phase (Hazard c r) = refl
-store_again m Phase (Status j) = refl
-store_again m Phase (FieldOf j g) = refl
-store_again m Phase (Cell x) = refl
-store_again m Phase (Head t) = refl
-store_again m Phase (Link j) = refl
-store_again m (Place a) Phase = refl
-store_again m (Place a) (Place c) = one_again m Place a c
-store_again m (Place a) (Warning c) = refl
-store_again m (Place a) (Hazard c r) = refl
-store_again m (Place a) (Status j) = refl
-store_again m (Place a) (FieldOf j g) = refl
-store_again m (Place a) (Cell x) = refl
-store_again m (Place a) (Head t) = refl
-store_again m (Place a) (Link j) = refl
-store_again m (Warning a) Phase = refl
-store_again m (Warning a) (Place c) = refl
-store_again m (Warning a) (Warning c) = one_again m Warning a c
-store_again m (Warning a) (Hazard c r) = refl
-store_again m (Warning a) (Status j) = refl
-store_again m (Warning a) (FieldOf j g) = refl
-store_again m (Warning a) (Cell x) = refl
-store_again m (Warning a) (Head t) = refl
-store_again m (Warning a) (Link j) = refl
-store_again m (Hazard a b) Phase = refl
-store_again m (Hazard a b) (Place c) = refl
-store_again m (Hazard a b) (Warning c) = refl
+store_again m (Place a) (Place c) = again m Place a c
+store_again m (Warning a) (Warning c) = again m Warning a c
 store_again m (Hazard a b) (Hazard c r) = two_again m Hazard a b c r
-store_again m (Hazard a b) (Status j) = refl
-store_again m (Hazard a b) (FieldOf j g) = refl
-store_again m (Hazard a b) (Cell x) = refl
-store_again m (Hazard a b) (Head t) = refl
-store_again m (Hazard a b) (Link j) = refl
-store_again m (Status a) Phase = refl
-store_again m (Status a) (Place c) = refl
-store_again m (Status a) (Warning c) = refl
-store_again m (Status a) (Hazard c r) = refl
-store_again m (Status a) (Status j) = one_again m Status a j
-store_again m (Status a) (FieldOf j g) = refl
-store_again m (Status a) (Cell x) = refl
-store_again m (Status a) (Head t) = refl
-store_again m (Status a) (Link j) = refl
-store_again m (FieldOf a b) Phase = refl
-store_again m (FieldOf a b) (Place c) = refl
-store_again m (FieldOf a b) (Warning c) = refl
-store_again m (FieldOf a b) (Hazard c r) = refl
-store_again m (FieldOf a b) (Status j) = refl
+store_again m (Status a) (Status j) = again m Status a j
 store_again m (FieldOf a b) (FieldOf j g) = two_again m FieldOf a b j g
-store_again m (FieldOf a b) (Cell x) = refl
-store_again m (FieldOf a b) (Head t) = refl
-store_again m (FieldOf a b) (Link j) = refl
-store_again m (Cell a) Phase = refl
-store_again m (Cell a) (Place c) = refl
-store_again m (Cell a) (Warning c) = refl
-store_again m (Cell a) (Hazard c r) = refl
-store_again m (Cell a) (Status j) = refl
-store_again m (Cell a) (FieldOf j g) = refl
-store_again m (Cell a) (Cell x) = one_again m Cell a x
-store_again m (Cell a) (Head t) = refl
-store_again m (Cell a) (Link j) = refl
-store_again m (Head a) Phase = refl
-store_again m (Head a) (Place c) = refl
-store_again m (Head a) (Warning c) = refl
-store_again m (Head a) (Hazard c r) = refl
-store_again m (Head a) (Status j) = refl
-store_again m (Head a) (FieldOf j g) = refl
-store_again m (Head a) (Cell x) = refl
-store_again m (Head a) (Head t) = one_again m Head a t
-store_again m (Head a) (Link j) = refl
-store_again m (Link a) Phase = refl
-store_again m (Link a) (Place c) = refl
-store_again m (Link a) (Warning c) = refl
-store_again m (Link a) (Hazard c r) = refl
-store_again m (Link a) (Status j) = refl
-store_again m (Link a) (FieldOf j g) = refl
-store_again m (Link a) (Cell x) = refl
-store_again m (Link a) (Head t) = refl
-store_again m (Link a) (Link j) = one_again m Link a j
+store_again m (Cell a) (Cell x) = again m Cell a x
+store_again m (Head a) (Head t) = again m Head a t
+store_again m (Link a) (Link j) = again m Link a j
+store_again m _ _ = refl
 
 pub store_idle : (m : Word → ℕ) (w : Word) → m ≡ store m w (m w)
 store_idle m w = λ i v. sym (store_again m w v) i

@@ -7,8 +7,8 @@ use Rattle.norm_lang.specs.declared.registers.Registers.{Registers}
 use Rattle.norm_lang.specs.Registers.{number_in, with_count}
 use Rattle.norm_lang.specs.Local.{Spot}
 use Rattle.std.specs.Prelude.{slice_get, length, nat_lt}
-use Rattle.source_machine.specs.declared.event.SourceReply.{SourceReply}
-use Rattle.source_machine.specs.declared.event.SourceReply.TheVariants as replies
+use Rattle.norm_lang.specs.declared.reply.SourceReply.{SourceReply}
+use Rattle.norm_lang.specs.declared.reply.SourceReply.TheVariants as replies
 use Rattle.source_machine.specs.declared.state.Running.{Running}
 use Rattle.source_machine.specs.declared.state.SourceCaller.{SourceCaller}
 use Rattle.source_machine.specs.Step.{wrap_up_end, wrap_up_stop}
@@ -28,29 +28,9 @@ abbrev pub HasAbout : List SourceReply → SourceCaller → Type 0
 HasAbout own caller = (caller.replies ≡ own) ⊎ ((reply : SourceReply) × (caller.replies ≡ own ++ reply ∷ []))
 
 at_end : (op : Op) (i : Option Instr) (running : Running) (caller : SourceCaller) → HasAbout caller.replies (wrap_up_end op i running caller)
-at_end op None running caller = inl refl
 at_end op (Some (instr.Return a)) running caller = inr (replies.Number (number_in running.registers a), refl)
 at_end op (Some instr.ReturnNone) running caller = inr (replies.Nothing, refl)
-at_end op (Some instr.Again) running caller = inl refl
-at_end op (Some (instr.Set d v)) running caller = inl refl
-at_end op (Some (instr.Mov d a)) running caller = inl refl
-at_end op (Some (instr.Add d a b)) running caller = inl refl
-at_end op (Some (instr.Sub d a b)) running caller = inl refl
-at_end op (Some (instr.Rem d a b)) running caller = inl refl
-at_end op (Some (instr.Null d)) running caller = inl refl
-at_end op (Some (instr.Mark d a)) running caller = inl refl
-at_end op (Some (instr.Unmark d a)) running caller = inl refl
-at_end op (Some (instr.LoadRoot d x)) running caller = inl refl
-at_end op (Some (instr.LoadPick d x count a)) running caller = inl refl
-at_end op (Some (instr.LoadField d a f)) running caller = inl refl
-at_end op (Some (instr.New d kind)) running caller = inl refl
-at_end op (Some (instr.Put a f b)) running caller = inl refl
-at_end op (Some (instr.Cas x l)) running caller = inl refl
-at_end op (Some (instr.Jump l)) running caller = inl refl
-at_end op (Some (instr.IfEq a b l)) running caller = inl refl
-at_end op (Some (instr.IfLess a b l)) running caller = inl refl
-at_end op (Some (instr.IfMarked a l)) running caller = inl refl
-at_end op (Some (instr.Commit entries)) running caller = inl refl
+at_end op _ running caller = inl refl
 
 at_stop : (accessed : Bool) (op : Op) (i : Option Instr) (running : Running) (caller : SourceCaller) → HasAbout caller.replies (wrap_up_stop accessed op i running caller)
 at_stop true op i running caller = inl refl
@@ -86,20 +66,16 @@ module _ (t : Plan) (s : Shared) (d : ℕ) (x : Caller) where
   by_routine : (r : Routine) → HoldsAt t s d x r → HasAbout (replies_of x.entry) x.source
   by_routine Idle told = inl (ap (λ (c : SourceCaller). c.replies) told.2)
   by_routine (LoadSeen starts.Begin) told = inl (ap (λ (c : SourceCaller). c.replies) told.2)
-  by_routine (LoadSeen starts.WrapUp) told = beginning told.0 told.1
-  by_routine (LoadSeen starts.Again) told = beginning told.0 told.1
   by_routine At told = walking (spot_of x.entry.hand) told.0 told.1 told.2
   by_routine (InList k) told = in_list k told
   by_routine (Retires retirement onward.Next) told = walking (record { at = x.entry.hand.at + 1; registers = x.entry.hand.registers }) told.1.0 told.1.1 told.1.2
   by_routine (Retires retirement (onward.List k)) told = behind_entry (k + 1) (nat_lt (k + 1) (length (list_of (instr_in t.target x.entry)))) told.1
-  by_routine Restarts told = beginning told.0 told.1
   by_routine (Clears clears.New) told = walking (spot_of x.entry.hand) told.0 told.1 told.2
-  by_routine (Clears clears.WrapUp) told = beginning told.0 told.1
   by_routine (Clears (clears.Reply reply)) told = inr (_, ap (λ (c : SourceCaller). c.replies) told.0)
-  by_routine (Clears clears.Again) told = beginning told.0 told.1
   by_routine (Claims claim) told = walking (spot_of x.entry.hand) told.1.0 told.1.1 told.1.2
   by_routine (Zeroes k field) told = walking (spot_of x.entry.hand) told.2.0 told.2.1 told.2.2
   by_routine (Announces announcing) told = absurd told
+  by_routine _ told = beginning told.0 told.1
 
   pub running_agrees : CallerHolds t s d x → HasAbout (replies_of x.entry) x.source
   running_agrees told = by_routine x.entry.routine told.spot

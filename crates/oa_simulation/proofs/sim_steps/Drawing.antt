@@ -54,10 +54,8 @@ module _ (target : Target) (sizes : Sizes) where
   plain_draws _ e = refl
 
   stops_draw : (o : Option TargetInstr) (e : Entry) → DrawsNone (stops Optimistic target sizes o e).signs
-  stops_draw None e = refl
   stops_draw (Some (Plain i)) e = plain_draws i e
-  stops_draw (Some Check) e = refl
-  stops_draw (Some (Guard r)) e = refl
+  stops_draw _ e = refl
 
   settled_draws : (spot : Spot) (e : Entry) → DrawsNone (settles Optimistic target sizes spot e).signs
   settled_draws spot e =
@@ -86,10 +84,8 @@ module _ (target : Target) (sizes : Sizes) where
   retired_draws go (Some retirement) e = refl
 
   claim_draws : (claim : Claim) (o : Option ClaimEnd) (e : Entry) → DrawsNone (claim_on Optimistic target claim o e).signs
-  claim_draws claim None e = refl
   claim_draws claim (Some (ends.Claimed j)) e = refl
-  claim_draws claim (Some ends.Full) e = refl
-  claim_draws claim (Some (ends.PhasesOver p)) e = refl
+  claim_draws claim _ e = refl
 
   instr_draws : (o : Option TargetInstr) (word : ℕ) (e : Entry) → is_quiet_instr o ≡ true → DrawsNone (instr_accepted Optimistic target sizes o word e).signs
   instr_draws None word e is = refl

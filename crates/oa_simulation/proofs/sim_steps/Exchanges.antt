@@ -8,3 +8,4 @@ pub mod Made
 pub mod Offering
 pub mod Placing
 pub mod Dropping
+pub mod Done

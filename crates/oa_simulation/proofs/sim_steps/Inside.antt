@@ -1,5 +1,5 @@
 -- Where an instruction asks the object of a field to be of the kind that has the field, the object is null, or has the field.
-use Rattle.std.proofs.Common.{ℕ, zero, suc, ◌≡◌, ◌≢◌, ◌==◌, ◌<◌, ◌∙◌, true, false, List, [], ◌∷◌, length, Option, Some, None, arith, inl, inr, sym, ap, refl}
+use Rattle.std.proofs.Common.{ℕ, ◌≡◌, ◌≢◌, ◌==◌, ◌<◌, ◌∙◌, true, false, List, [], length, Option, Some, None, arith, inl, inr, sym, ap, refl}
 use Rattle.std.specs.Prelude.{slice_get, unwrap_or, is_some, IsTrue}
 use Rattle.std.proofs.lemmas.Bool.Decides.{nat_tests}
 use Rattle.norm_lang.specs.declared.text.Reg.{Reg}
@@ -19,16 +19,10 @@ use Rattle.source_machine.specs.declared.state.Memory.{Memory}
 use Rattle.source_machine.specs.Memory.{fields_named}
 use Rattle.source_machine.proofs.Places.{kind_is_named}
 use Rattle.run_ahead.specs.Agreeing.{node_in}
-use Rattle.run_ahead.specs.Typed.{IsNodeOf, AreOfKinds, IsTyped, field_kinds}
+use Rattle.run_ahead.specs.Typed.{IsNodeOf, IsTyped, field_kinds}
 use Rattle.run_ahead.proofs.Mirroring.{same_itself}
 use Rattle.run_ahead.proofs.TypedMemory.{field_at, place_inside as place_below}
 use Rattle.oa_simulation.specs.sim_relation.Views.{value_count}
-
-pub is_within : (nodes : List NamedNode) (kinds : List FieldKind) (values : List Value) (f : ℕ) (kind : FieldKind) → AreOfKinds nodes kinds values → slice_get kinds f ≡ Some kind → f < length values
-is_within nodes [] values f kind typed is = absurd (let z : None ≡ Some kind = is in cc)
-is_within nodes (first ∷ kinds) [] f kind typed is = absurd typed
-is_within nodes (first ∷ kinds) (v ∷ values) zero kind typed is = omega arith
-is_within nodes (first ∷ kinds) (v ∷ values) (suc f) kind typed is = let lt = is_within nodes kinds values f kind typed.1 is in omega (arith, lt)
 
 -- what is asked of the object of a place
 abbrev pub IsObjectAsked : Text → List NamedNode → Registers → Place → Type 0

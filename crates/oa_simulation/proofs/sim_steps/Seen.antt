@@ -10,6 +10,7 @@ use Rattle.norm_lang.specs.declared.text.Instr.TheVariants as instr
 use Rattle.norm_lang.specs.declared.registers.Registers.{Registers}
 use Rattle.norm_lang.specs.Registers.{number_in}
 use Rattle.norm_lang.specs.Local.{Spot}
+use Rattle.norm_lang.specs.declared.reply.SourceReply.TheVariants as replies
 use Rattle.target_code.specs.declared.target.TargetInstr.{TargetInstr}
 use Rattle.target_code.specs.declared.target.TargetInstr.TheVariants.{Plain, Check, Guard}
 use Rattle.target_code.specs.declared.target.Target.{Target}
@@ -20,7 +21,6 @@ use Rattle.phase_pools.specs.Accesses.{Loads}
 use Rattle.phase_pools.specs.declared.access.ClaimEnd.{ClaimEnd}
 use Rattle.phase_pools.specs.declared.access.ClaimEnd.TheVariants as ends
 use Rattle.phase_pools.specs.Pools.{Claim, claim_accepts, claim_takes, Retirement, retire_accepts}
-use Rattle.caller_parts.specs.declared.call.Reply.TheVariants as replies
 use Rattle.caller_parts.specs.declared.routine.AfterClear.{AfterClear}
 use Rattle.caller_parts.specs.declared.routine.AfterClear.TheVariants as clears
 use Rattle.caller_parts.specs.declared.routine.AfterRetire.{AfterRetire}
@@ -60,9 +60,7 @@ module _ (target : Target) (sizes : Sizes) where
     of : (j : ℕ) → Keeps e (new_on Warned sizes (new_kind target e) (new_number target e) j e)
     of zero = refl
     of (suc j) = refl
-  then_seen clears.WrapUp e = refl
-  then_seen (clears.Reply reply) e = refl
-  then_seen clears.Again e = refl
+  then_seen _ e = refl
 
   cleared_seen : (next : AfterClear) (e : Entry) → Keeps e (cleared target sizes next e)
   cleared_seen next e = of (clear_next target next e) where
@@ -83,23 +81,7 @@ module _ (target : Target) (sizes : Sizes) where
   plain_seen (instr.Return a) e = cleared_seen (clears.Reply (replies.Number (number_in e.hand.registers a))) e
   plain_seen instr.ReturnNone e = cleared_seen (clears.Reply replies.Nothing) e
   plain_seen instr.Again e = cleared_seen clears.Again e
-  plain_seen (instr.Set d n) e = refl
-  plain_seen (instr.Mov d a) e = refl
-  plain_seen (instr.Add d a b) e = refl
-  plain_seen (instr.Sub d a b) e = refl
-  plain_seen (instr.Rem d a n) e = refl
-  plain_seen (instr.Mark d a) e = refl
-  plain_seen (instr.Unmark d a) e = refl
-  plain_seen (instr.Null d) e = refl
-  plain_seen (instr.Jump l) e = refl
-  plain_seen (instr.IfEq a b l) e = refl
-  plain_seen (instr.IfLess a b l) e = refl
-  plain_seen (instr.IfMarked a l) e = refl
-  plain_seen (instr.LoadRoot d x) e = refl
-  plain_seen (instr.LoadPick d x n a) e = refl
-  plain_seen (instr.LoadField d a f) e = refl
-  plain_seen (instr.Put a f b) e = refl
-  plain_seen (instr.Cas exchange l) e = refl
+  plain_seen _ e = refl
 
   stopped_seen : (e : Entry) → Keeps e (stopped Optimistic target sizes e).entry
   stopped_seen e = of (instr_in target e) where
@@ -150,23 +132,7 @@ module _ (target : Target) (sizes : Sizes) where
   accepted_plain (instr.LoadField d a f) word e = on_seen (with_word e.hand.registers d word) (with_access e)
   accepted_plain (instr.Put a f b) word e = on_seen e.hand.registers e
   accepted_plain (instr.Cas exchange l) word e = cas_seen exchange l word (with_access e)
-  accepted_plain (instr.Set d n) word e = refl
-  accepted_plain (instr.Mov d a) word e = refl
-  accepted_plain (instr.Add d a b) word e = refl
-  accepted_plain (instr.Sub d a b) word e = refl
-  accepted_plain (instr.Rem d a n) word e = refl
-  accepted_plain (instr.Mark d a) word e = refl
-  accepted_plain (instr.Unmark d a) word e = refl
-  accepted_plain (instr.Null d) word e = refl
-  accepted_plain (instr.Jump l) word e = refl
-  accepted_plain (instr.IfEq a b l) word e = refl
-  accepted_plain (instr.IfLess a b l) word e = refl
-  accepted_plain (instr.IfMarked a l) word e = refl
-  accepted_plain (instr.New d kind) word e = refl
-  accepted_plain (instr.Commit exchanges) word e = refl
-  accepted_plain (instr.Return a) word e = refl
-  accepted_plain instr.ReturnNone word e = refl
-  accepted_plain instr.Again word e = refl
+  accepted_plain _ word e = refl
 
   accepted_instr : (o : Option TargetInstr) (word : ℕ) (e : Entry) → fails_at o e.hand.seen word ≡ false → Keeps e (instr_accepted Optimistic target sizes o word e).entry
   accepted_instr None word e goes = refl
@@ -200,10 +166,8 @@ module _ (target : Target) (sizes : Sizes) where
   retired_seen go (Some retirement) e = refl
 
   claim_seen : (claim : Claim) (o : Option ClaimEnd) (e : Entry) → Keeps e (claim_on Optimistic target claim o e).entry
-  claim_seen claim None e = refl
   claim_seen claim (Some (ends.Claimed j)) e = refl
-  claim_seen claim (Some ends.Full) e = refl
-  claim_seen claim (Some (ends.PhasesOver p)) e = refl
+  claim_seen claim _ e = refl
 
   zeroed_seen : (k field : ℕ) (e : Entry) → Keeps e (zeroed Optimistic target sizes k field e).entry
   zeroed_seen k field e = of (nat_lt (field + 1) (zero_count target (instr_in target e))) where
@@ -239,22 +203,13 @@ stays_seen target setting word e (Zeroes k field) never other = zeroed_seen targ
 stays_seen target setting word e (Announces announcing) never other = absurd (never announcing refl)
 
 no_check : (o : Option TargetInstr) (seen word : ℕ) → is_check o ≡ false → fails_at o seen word ≡ false
-no_check None seen word other = refl
-no_check (Some (Plain i)) seen word other = refl
 no_check (Some Check) seen word other = absurd (let z : true ≡ false = other in cc)
-no_check (Some (Guard r)) seen word other = refl
+no_check _ seen word other = refl
 
 no_begin : (target : Target) (e : Entry) (routine : Routine) (word : ℕ) → loads_seen target e routine ≡ false → renews_at target e routine word ≡ false
-no_begin target e Idle word other = refl
 no_begin target e (LoadSeen why) word other = other
 no_begin target e At word other = no_check (instr_in target e) e.hand.seen word other
-no_begin target e (InList k) word other = refl
-no_begin target e (Retires retirement go) word other = refl
-no_begin target e Restarts word other = refl
-no_begin target e (Clears next) word other = refl
-no_begin target e (Claims claim) word other = refl
-no_begin target e (Zeroes k field) word other = refl
-no_begin target e (Announces announcing) word other = refl
+no_begin target e _ word other = refl
 
 pub seen_stays : (target : Target) (setting : Setting) (word : ℕ) (e : Entry) (routine : Routine) → NeverAnnounces routine → loads_seen target e routine ≡ false → Keeps e (accepted Optimistic target setting word (counted e) routine).entry
 seen_stays target setting word e routine never other = stays_seen target setting word e routine never (no_begin target e routine word other)
@@ -264,7 +219,6 @@ after_stays target setting word e optimistic never other = ap (λ (e : Entry). e
 
 -- where a method begins, or begins again, what is seen is the warning that was found
 pub renewed_seen : (target : Target) (setting : Setting) (warning : ℕ) (e : Entry) (routine : Routine) → renews_at target e routine warning ≡ true → (accepted Optimistic target setting warning (counted e) routine).entry.hand.seen ≡ warning
-renewed_seen target setting warning e Idle renew = absurd (let z : false ≡ true = renew in cc)
 renewed_seen target setting warning e (LoadSeen why) renew = begun_seen target setting.sizes (is_wrap_up why) (with_hand (counted e) (record e.hand { seen = warning }))
 renewed_seen target setting warning e At renew = of (instr_in target e) renew where
   failed : (b : Bool) → not b ≡ true → (if b then check_passed target setting.sizes (counted e) else check_failed target setting.sizes warning (counted e)).entry.hand.seen ≡ warning
@@ -272,17 +226,9 @@ renewed_seen target setting warning e At renew = of (instr_in target e) renew wh
   failed false fails = restarted_seen target setting.sizes (with_hand (with_restart (counted e)) (record e.hand { seen = warning; accessed = false }))
 
   of : (o : Option TargetInstr) → fails_at o e.hand.seen warning ≡ true → (instr_accepted Optimistic target setting.sizes o warning (counted e)).entry.hand.seen ≡ warning
-  of None renew = absurd (let z : false ≡ true = renew in cc)
-  of (Some (Plain i)) renew = absurd (let z : false ≡ true = renew in cc)
   of (Some Check) renew = failed (warning == e.hand.seen) renew
-  of (Some (Guard r)) renew = absurd (let z : false ≡ true = renew in cc)
-renewed_seen target setting warning e (InList k) renew = absurd (let z : false ≡ true = renew in cc)
-renewed_seen target setting warning e (Retires retirement go) renew = absurd (let z : false ≡ true = renew in cc)
-renewed_seen target setting warning e Restarts renew = absurd (let z : false ≡ true = renew in cc)
-renewed_seen target setting warning e (Clears next) renew = absurd (let z : false ≡ true = renew in cc)
-renewed_seen target setting warning e (Claims claim) renew = absurd (let z : false ≡ true = renew in cc)
-renewed_seen target setting warning e (Zeroes k field) renew = absurd (let z : false ≡ true = renew in cc)
-renewed_seen target setting warning e (Announces announcing) renew = absurd (let z : false ≡ true = renew in cc)
+  of _ renew = absurd (let z : false ≡ true = renew in cc)
+renewed_seen target setting warning e _ renew = absurd (let z : false ≡ true = renew in cc)
 
 -- such a step finds the own warning
 pub renewing_loads : (target : Target) (warning : ℕ) (e : Entry) → renews target e warning ≡ true → wants target e ≡ Some (Loads (Warning e.number))
@@ -294,16 +240,9 @@ renewing_loads target warning e renew = of e.routine refl renew where
   by_instr (Some (Guard r)) renew = absurd (let z : false ≡ true = renew in cc)
 
   of : (r : Routine) → e.routine ≡ r → renews_at target e r warning ≡ true → wants target e ≡ Some (Loads (Warning e.number))
-  of Idle is renew = absurd (let z : false ≡ true = renew in cc)
   of (LoadSeen why) is renew = wants_is target e (LoadSeen why) is
   of At is renew = wants_is target e At is ∙ by_instr (instr_in target e) renew
-  of (InList k) is renew = absurd (let z : false ≡ true = renew in cc)
-  of (Retires retirement go) is renew = absurd (let z : false ≡ true = renew in cc)
-  of Restarts is renew = absurd (let z : false ≡ true = renew in cc)
-  of (Clears next) is renew = absurd (let z : false ≡ true = renew in cc)
-  of (Claims claim) is renew = absurd (let z : false ≡ true = renew in cc)
-  of (Zeroes k field) is renew = absurd (let z : false ≡ true = renew in cc)
-  of (Announces announcing) is renew = absurd (let z : false ≡ true = renew in cc)
+  of _ is renew = absurd (let z : false ≡ true = renew in cc)
 
 pub after_seen : (target : Target) (setting : Setting) (warning : ℕ) (e : Entry) → setting.reclamation ≡ Optimistic → renews target e warning ≡ true → (after target setting e warning).hand.seen ≡ warning
 after_seen target setting warning e optimistic renew = ap (λ (e : Entry). e.hand.seen) (after_is target setting e warning optimistic) ∙ renewed_seen target setting warning e e.routine renew

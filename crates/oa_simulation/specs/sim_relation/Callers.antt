@@ -18,12 +18,8 @@ use Rattle.phase_pools.specs.declared.stages.ClaimStage.TheVariants as claims
 use Rattle.phase_pools.specs.declared.stages.RetireStage.{RetireStage}
 use Rattle.phase_pools.specs.declared.stages.RetireStage.TheVariants as retires
 use Rattle.phase_pools.specs.Pools.{Sweep, Retirement}
-use Rattle.source_machine.specs.declared.event.SourceReply.{SourceReply}
-use Rattle.source_machine.specs.declared.event.SourceReply.TheVariants as source_replies
+use Rattle.norm_lang.specs.declared.reply.SourceReply.{SourceReply}
 use Rattle.source_machine.specs.Proper.{has, runs_method}
-use Rattle.caller_parts.specs.declared.call.Replied.{Replied}
-use Rattle.caller_parts.specs.declared.call.Reply.{Reply}
-use Rattle.caller_parts.specs.declared.call.Reply.TheVariants as replies
 use Rattle.caller_parts.specs.declared.routine.MethodStart.{MethodStart}
 use Rattle.caller_parts.specs.declared.routine.MethodStart.TheVariants as starts
 use Rattle.caller_parts.specs.declared.routine.AfterClear.{AfterClear}
@@ -35,6 +31,7 @@ use Rattle.caller_parts.specs.declared.routine.Routine.{Routine}
 use Rattle.caller_parts.specs.declared.routine.Routine.TheVariants.{Idle, LoadSeen, At, InList, Retires, Restarts, Clears, Claims, Zeroes, Announces}
 use Rattle.caller_steps.specs.Entries.{Entry, cradle_of, instr_in}
 use Rattle.caller_parts.specs.Operands.{list_of, is_new_at, cradle_number}
+use Rattle.caller_parts.specs.Pairing.{reply_of}
 use Rattle.run_ahead.specs.Agreeing.{node_in}
 use Rattle.target_laws.specs.Methods.{code_in}
 use Rattle.target_laws.specs.Trusted.{trust_along, Trusted}
@@ -74,15 +71,9 @@ pub record Base (t : Plan) (s : Shared) (d : ℕ) (x : Caller) : Type 0 where
   pub known : (n : ℕ) → has n x.held.got ≡ true → Known t s d n
   pub cradle : (k : ℕ) → cradle_of x.entry k ≢ 0 → s.owner (cradle_of x.entry k) ≡ Held d k
 
--- the replies of the source for those of an entry
-abbrev pub source_reply : Reply → SourceReply
-source_reply (replies.Number n) = source_replies.Number n
-source_reply replies.Nothing = source_replies.Nothing
-source_reply replies.Full = source_replies.Full
-source_reply (replies.Phases p) = source_replies.Phases p
-
+-- the replies that the source's caller has, too
 abbrev pub replies_of : Entry → List SourceReply
-replies_of e = map (λ (replied : Replied). source_reply replied.reply) e.replies
+replies_of e = map reply_of e.replies
 
 abbrev pub call_of : Entry → Call
 call_of e = record { number = e.running.call.op; args = e.running.call.args; replies = replies_of e }
@@ -300,7 +291,7 @@ BeginsAt t s d x starts.Again = (walk : Walk t.target t.text) × Begins t s d x 
 abbrev pub ClearsAt : (t : Plan) (s : Shared) (d : ℕ) (x : Caller) → AfterClear → Type 0
 ClearsAt t s d x clears.New = AtNew t s d x (spot_of x.entry.hand)
 ClearsAt t s d x clears.WrapUp = (walk : Walk t.target t.text) × Begins t s d x walk × (walk.method.wrapup ≡ true)
-ClearsAt t s d x (clears.Reply reply) = HasReplied x (source_reply reply) × Settled x
+ClearsAt t s d x (clears.Reply reply) = HasReplied x reply × Settled x
 ClearsAt t s d x clears.Again = (walk : Walk t.target t.text) × Begins t s d x walk × (walk.method.wrapup ≡ false)
 
 -- where the caller stands. Under optimistic access none stands at an announcement

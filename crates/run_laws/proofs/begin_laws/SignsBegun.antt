@@ -10,6 +10,7 @@ use Rattle.norm_lang.specs.declared.text.Instr.TheVariants as instr
 use Rattle.norm_lang.specs.declared.registers.Registers.{Registers}
 use Rattle.norm_lang.specs.Registers.{number_in, with_count}
 use Rattle.norm_lang.specs.Local.{Spot}
+use Rattle.norm_lang.specs.declared.reply.SourceReply.TheVariants as replies
 use Rattle.target_code.specs.declared.target.TargetInstr.{TargetInstr}
 use Rattle.target_code.specs.declared.target.TargetInstr.TheVariants.{Plain, Check, Guard}
 use Rattle.target_code.specs.declared.target.Target.{Target}
@@ -21,7 +22,6 @@ use Rattle.phase_pools.specs.declared.stages.Scheme.{Scheme}
 use Rattle.phase_pools.specs.declared.stages.Scheme.TheVariants.{Warned, Announced}
 use Rattle.phase_pools.specs.Pools.{Claim, claim_accepts, claim_takes, Retirement, retire_accepts}
 use Rattle.caller_parts.specs.declared.call.Call.{Call}
-use Rattle.caller_parts.specs.declared.call.Reply.TheVariants as replies
 use Rattle.caller_parts.specs.declared.routine.AfterClear.{AfterClear}
 use Rattle.caller_parts.specs.declared.routine.AfterClear.TheVariants as clears
 use Rattle.caller_parts.specs.declared.routine.AfterRetire.{AfterRetire}
@@ -86,9 +86,7 @@ module _ (target : Target) (sizes : Sizes) where
 
   then_on : (next : AfterClear) (e : Entry) → waits Optimistic (then_goes target sizes next e).routine ≡ false
   then_on clears.New e = new_begun_on Optimistic Warned e
-  then_on clears.WrapUp e = refl
-  then_on (clears.Reply reply) e = refl
-  then_on clears.Again e = refl
+  then_on _ e = refl
 
   cleared_on : (next : AfterClear) (e : Entry) → waits Optimistic (cleared target sizes next e).routine ≡ false
   cleared_on next e = of (clear_next target next e) where
@@ -112,23 +110,7 @@ module _ (target : Target) (sizes : Sizes) where
   plain_on (instr.Return a) e = ended_on (clears.Reply (replies.Number (number_in e.hand.registers a))) e
   plain_on instr.ReturnNone e = ended_on (clears.Reply replies.Nothing) e
   plain_on instr.Again e = ended_on clears.Again e
-  plain_on (instr.Set d n) e = (refl, refl)
-  plain_on (instr.Mov d a) e = (refl, refl)
-  plain_on (instr.Add d a b) e = (refl, refl)
-  plain_on (instr.Sub d a b) e = (refl, refl)
-  plain_on (instr.Rem d a n) e = (refl, refl)
-  plain_on (instr.Mark d a) e = (refl, refl)
-  plain_on (instr.Unmark d a) e = (refl, refl)
-  plain_on (instr.Null d) e = (refl, refl)
-  plain_on (instr.Jump l) e = (refl, refl)
-  plain_on (instr.IfEq a b l) e = (refl, refl)
-  plain_on (instr.IfLess a b l) e = (refl, refl)
-  plain_on (instr.IfMarked a l) e = (refl, refl)
-  plain_on (instr.LoadRoot d x) e = (refl, refl)
-  plain_on (instr.LoadPick d x n a) e = (refl, refl)
-  plain_on (instr.LoadField d a f) e = (refl, refl)
-  plain_on (instr.Put a f b) e = (refl, refl)
-  plain_on (instr.Cas exchange l) e = (refl, refl)
+  plain_on _ e = (refl, refl)
 
   -- under epochs
   wrap_up_on : (i : Instr) (e : Entry) → Onward Epochs (wrap_up_stop i e)
@@ -230,23 +212,7 @@ module _ (target : Target) (sizes : Sizes) where
   accepted_plain by (instr.LoadField d a f) word e on = code_on by (with_word e.hand.registers d word) (with_access e)
   accepted_plain by (instr.Put a f b) word e on = code_on by e.hand.registers e
   accepted_plain by (instr.Cas exchange l) word e on = cas_on by exchange l word (with_access e)
-  accepted_plain by (instr.Set d n) word e on = (refl, on)
-  accepted_plain by (instr.Mov d a) word e on = (refl, on)
-  accepted_plain by (instr.Add d a b) word e on = (refl, on)
-  accepted_plain by (instr.Sub d a b) word e on = (refl, on)
-  accepted_plain by (instr.Rem d a n) word e on = (refl, on)
-  accepted_plain by (instr.Mark d a) word e on = (refl, on)
-  accepted_plain by (instr.Unmark d a) word e on = (refl, on)
-  accepted_plain by (instr.Null d) word e on = (refl, on)
-  accepted_plain by (instr.Jump l) word e on = (refl, on)
-  accepted_plain by (instr.IfEq a b l) word e on = (refl, on)
-  accepted_plain by (instr.IfLess a b l) word e on = (refl, on)
-  accepted_plain by (instr.IfMarked a l) word e on = (refl, on)
-  accepted_plain by (instr.New d kind) word e on = (refl, on)
-  accepted_plain by (instr.Commit exchanges) word e on = (refl, on)
-  accepted_plain by (instr.Return a) word e on = (refl, on)
-  accepted_plain by instr.ReturnNone word e on = (refl, on)
-  accepted_plain by instr.Again word e on = (refl, on)
+  accepted_plain by _ word e on = (refl, on)
 
   checked_by_on : (by : Reclamation) (word : ℕ) (e : Entry) → waits by e.routine ≡ false → Onward by (checked_by by target sizes word e)
   checked_by_on Optimistic word e on = checked_on word e
@@ -287,10 +253,8 @@ module _ (target : Target) (sizes : Sizes) where
   gained_on Epochs (suc swept) j e = refl
 
   claim_goes : (by : Reclamation) (claim : Claim) (o : Option ClaimEnd) (e : Entry) → Onward by (claim_on by target claim o e)
-  claim_goes by claim None e = (refl, refl)
   claim_goes by claim (Some (ends.Claimed j)) e = (refl, gained_on by claim.sweeps j (with_routine e At))
-  claim_goes by claim (Some ends.Full) e = (refl, refl)
-  claim_goes by claim (Some (ends.PhasesOver p)) e = (refl, refl)
+  claim_goes by claim _ e = (refl, refl)
 
   zeroed_on : (by : Reclamation) (k field : ℕ) (e : Entry) → Onward by (zeroed by target sizes k field e)
   zeroed_on by k field e = of (nat_lt (field + 1) (zero_count target (instr_in target e))) where
@@ -317,18 +281,9 @@ Starts by e routine m = (begun m.signs ≡ call_if (begins_at routine) e.running
 
 -- fewer wait under epochs
 fewer_wait : (by : Reclamation) (r : Routine) → waits Optimistic r ≡ false → waits by r ≡ false
-fewer_wait by Idle on = refl
 fewer_wait by (LoadSeen starts.Begin) on = on
-fewer_wait by (LoadSeen starts.WrapUp) on = refl
-fewer_wait by (LoadSeen starts.Again) on = refl
-fewer_wait by At on = refl
-fewer_wait by (InList k) on = refl
-fewer_wait by (Retires retirement go) on = refl
-fewer_wait by Restarts on = refl
-fewer_wait by (Clears next) on = refl
-fewer_wait by (Claims claim) on = refl
-fewer_wait by (Zeroes k field) on = refl
 fewer_wait by (Announces announcing) on = absurd (let no : true ≡ false = on in cc)
+fewer_wait by _ on = refl
 
 -- no announcement begins a call but the first one's store
 announced_starts : (target : Target) (sizes : Sizes) (announcing : Announcing) (word : ℕ) (e : Entry) → begun (announced target sizes announcing word e).signs ≡ call_if (begins_at (Announces announcing)) e.running.call
@@ -370,15 +325,5 @@ never_waits r on announcing is = let no : true ≡ false = sym (ap (waits Optimi
 
 -- and its call begins where it waits
 pub begins_waiting : (r : Routine) → NeverAnnounces r → begins_at r ≡ waits Optimistic r
-begins_waiting Idle never = refl
-begins_waiting (LoadSeen starts.Begin) never = refl
-begins_waiting (LoadSeen starts.WrapUp) never = refl
-begins_waiting (LoadSeen starts.Again) never = refl
-begins_waiting At never = refl
-begins_waiting (InList k) never = refl
-begins_waiting (Retires retirement go) never = refl
-begins_waiting Restarts never = refl
-begins_waiting (Clears next) never = refl
-begins_waiting (Claims claim) never = refl
-begins_waiting (Zeroes k field) never = refl
 begins_waiting (Announces announcing) never = absurd (never announcing refl)
+begins_waiting _ never = refl

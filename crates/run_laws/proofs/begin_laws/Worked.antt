@@ -13,10 +13,9 @@ use Rattle.target_code.specs.declared.target.TargetOp.{TargetOp}
 use Rattle.target_code.specs.Erasing.{erased_op}
 use Rattle.source_machine.specs.declared.event.SourceEvent.{SourceEvent}
 use Rattle.source_machine.specs.declared.event.SourceEvent.TheVariants.{Begin, Access, Restart}
-use Rattle.source_machine.specs.declared.event.SourceReply.TheVariants as source_reply
-use Rattle.source_machine.specs.Run.{source_replies as replies_there}
-use Rattle.caller_parts.specs.declared.call.Reply.{Reply}
-use Rattle.caller_parts.specs.declared.call.Reply.TheVariants as replies
+use Rattle.source_machine.specs.Run.{source_replies}
+use Rattle.norm_lang.specs.declared.reply.SourceReply.{SourceReply}
+use Rattle.norm_lang.specs.declared.reply.SourceReply.TheVariants as replies
 use Rattle.caller_parts.specs.declared.routine.Routine.{Routine}
 use Rattle.caller_parts.specs.declared.routine.Routine.TheVariants.{Clears}
 use Rattle.caller_parts.specs.declared.routine.AfterClear.TheVariants as clears
@@ -68,7 +67,7 @@ abbrev entry_of : Option CoreState → Option Entry
 entry_of None = None
 entry_of (Some state) = slice_get state.entries 0
 
-abbrev replied : Option Entry → Option (List Reply)
+abbrev replied : Option Entry → Option (List SourceReply)
 replied None = None
 replied (Some e) = Some (map reply_of e.replies)
 
@@ -98,7 +97,7 @@ made_by_eight : image target text setting (with_steps 8) ≡ made
 unfolding target touch text setting with_steps made wants after signs
 made_by_eight = refl
 
-ended_there : replies_there (shadow target text setting (with_steps 8)).machine 0 ≡ source_reply.Number 7 ∷ []
+ended_there : source_replies (shadow target text setting (with_steps 8)).machine 0 ≡ replies.Number 7 ∷ []
 unfolding target touch text setting with_steps wants after signs
 ended_there = refl
 
@@ -112,6 +111,6 @@ unfolding target touch setting with_steps wants after signs
 replied_by_nine = refl
 
 -- with seven it runs still in the source too
-runs_there : replies_there (shadow target text setting (with_steps 7)).machine 0 ≡ []
+runs_there : source_replies (shadow target text setting (with_steps 7)).machine 0 ≡ []
 unfolding target touch text setting with_steps wants after signs
 runs_there = refl

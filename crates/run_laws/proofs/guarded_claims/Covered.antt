@@ -15,7 +15,7 @@ use Rattle.source_machine.specs.MethodRuns.{put}
 use Rattle.source_machine.specs.Proper.{has}
 use Rattle.source_machine.proofs.Places.{each_put}
 use Rattle.caller_parts.specs.declared.routine.Routine.{Routine}
-use Rattle.caller_parts.specs.declared.routine.Routine.TheVariants.{Idle, LoadSeen, At, InList, Retires, Restarts, Clears, Claims, Zeroes, Announces}
+use Rattle.caller_parts.specs.declared.routine.Routine.TheVariants.{Claims}
 use Rattle.caller_steps.specs.Entries.{cradle_of}
 use Rattle.oa_simulation.specs.sim_relation.Views.{Plan, Held, Shared, Caller}
 use Rattle.oa_simulation.specs.sim_relation.Shared.{SharedHolds}
@@ -68,31 +68,16 @@ module _ (t : Plan) (w : World) (h : Holds t w) (d r : ℕ) (some : w.shared.pro
   known_at p g (sweeps.RaisePhase q) k = tt
   known_at p g (sweeps.Warn x) k = tt
   known_at p g (sweeps.ReadHazard x i) k = λ past q is below. k.0.gathered d r q past some (ap s.tag (sym (h.shared_holds.guard d r some).resident) ∙ is) below
-  known_at p g (sweeps.ReadStatus i) k = known_all p g k
   known_at p g (sweeps.MakeReady i q) k = known_all p g k.0
-  known_at p g (sweeps.PushHead kind i) k = known_all p g k
-  known_at p g (sweeps.PushLink i q top) k = known_all p g k
-  known_at p g (sweeps.PushTop kind i q top) k = known_all p g k
+  known_at p g _ k = known_all p g k
 
   known_in : (sweep : Sweep) (stage : ClaimStage) → ClaimAt t s sweep stage → KnowsIn s d r (t.home (s.protects d r)) sweep stage
-  known_in sweep claims.ReadHead k = tt
-  known_in sweep (claims.ReadLink q i) k = tt
-  known_in sweep (claims.Take q i next) k = tt
-  known_in sweep (claims.StoreUsed q i) k = tt
-  known_in sweep (claims.Withdraw own) k = tt
   known_in sweep claims.Sweeps k = known_at sweep.bound sweep.gathered sweep.stage k
+  known_in sweep _ k = tt
 
   known_where : (e : ℕ) (x : Caller) (routine : Routine) → HoldsAt t s e x routine → KnowsWhere s d r (t.home (s.protects d r)) routine
-  known_where e x Idle k = tt
-  known_where e x (LoadSeen why) k = tt
-  known_where e x At k = tt
-  known_where e x (InList i) k = tt
-  known_where e x (Retires retirement go) k = tt
-  known_where e x Restarts k = tt
-  known_where e x (Clears next) k = tt
   known_where e x (Claims claim) k = known_in claim.sweep claim.stage k.0
-  known_where e x (Zeroes i field) k = tt
-  known_where e x (Announces announcing) k = tt
+  known_where e x _ k = tt
 
   pub covered_of : Covered t w d r
   covered_of =

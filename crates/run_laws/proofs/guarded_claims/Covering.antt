@@ -64,14 +64,6 @@ module _ (t : Plan) (w : World) (h : Holds t w) (c : ℕ) (mover : c < t.setting
 
   -- the slot keeps its name
   freed_stays : (sweep : Sweep) (stage : SweepStage) → SweepAt t s sweep.bound sweep.gathered stage → KnowsAt s d r v.slot sweep.bound sweep.gathered stage → freed_at stage s.memory s.present v.slot ≡ s.present v.slot
-  freed_stays sweep sweeps.ReadPhase at k = refl
-  freed_stays sweep (sweeps.RaisePhase p) at k = refl
-  freed_stays sweep (sweeps.Warn i) at k = refl
-  freed_stays sweep (sweeps.ReadHazard i m) at k = refl
-  freed_stays sweep (sweeps.ReadStatus i) at k = refl
-  freed_stays sweep (sweeps.PushHead kind i) at k = refl
-  freed_stays sweep (sweeps.PushLink i q top) at k = refl
-  freed_stays sweep (sweeps.PushTop kind i q top) at k = refl
   freed_stays sweep (sweeps.MakeReady i q) at k = of (s.memory (Status i) == status_word q kinds.Retired) refl where
     other : s.memory (Status i) ≡ status_word q kinds.Retired → v.slot ≢ i
     other is same =
@@ -83,14 +75,11 @@ module _ (t : Plan) (w : World) (h : Holds t w) (c : ℕ) (mover : c < t.setting
     of : (b : Bool) → (s.memory (Status i) == status_word q kinds.Retired) ≡ b → (if b then put s.present i 0 else s.present) v.slot ≡ s.present v.slot
     of true is = put_other s.present i v.slot 0 (other (grind (arith, nat_tests)))
     of false is = refl
+  freed_stays sweep _ at k = refl
 
   claimed_stays : (sweep : Sweep) (stage : ClaimStage) → ClaimAt t s sweep stage → KnowsIn s d r v.slot sweep stage → freed_in stage sweep.stage s.memory s.present v.slot ≡ s.present v.slot
-  claimed_stays sweep claims.ReadHead at k = refl
-  claimed_stays sweep (claims.ReadLink q i) at k = refl
-  claimed_stays sweep (claims.Take q i next) at k = refl
-  claimed_stays sweep (claims.StoreUsed q i) at k = refl
-  claimed_stays sweep (claims.Withdraw own) at k = refl
   claimed_stays sweep claims.Sweeps at k = freed_stays sweep sweep.stage at k
+  claimed_stays sweep _ at k = refl
 
   -- a caller that stores 0 in the fields of its cradle's slot has no guards
   zeroes_others : (k : ℕ) → Empty x → v.slot ≢ cradle_of x.entry k
@@ -107,59 +96,32 @@ module _ (t : Plan) (w : World) (h : Holds t w) (c : ℕ) (mover : c < t.setting
   zeroed_stays false k (suc field) empty = put_other s.present (cradle_of x.entry k) v.slot s.unused (zeroes_others k empty)
 
   present_stays : (routine : Routine) → HoldsAt t s c x routine → KnowsWhere s d r v.slot routine → present_at t.target s.memory s.unused x.entry routine s.present v.slot ≡ s.present v.slot
-  present_stays Idle at k = refl
-  present_stays (LoadSeen why) at k = refl
-  present_stays At at k = refl
-  present_stays (InList i) at k = refl
-  present_stays (Retires retirement go) at k = refl
-  present_stays Restarts at k = refl
-  present_stays (Clears next) at k = refl
   present_stays (Claims claim) at k = claimed_stays claim.sweep claim.stage at.0 k
   present_stays (Zeroes i field) at k = zeroed_stays (nat_lt (field + 1) (zero_count t.target (instr_in t.target x.entry))) i field at.3
-  present_stays (Announces announcing) at k = refl
+  present_stays _ at k = refl
 
   -- what others know of it stays known
   stays_where : (s' : Shared) (e : ℕ) (y : Caller) (routine : Routine) → ((sweep : Sweep) (stage : ClaimStage) → ClaimAt t s sweep stage → KnowsIn s d r v.slot sweep stage → KnowsIn s' d r v.slot sweep stage)
       → HoldsAt t s e y routine → KnowsWhere s d r v.slot routine → KnowsWhere s' d r v.slot routine
-  stays_where s' e y Idle stays at k = tt
-  stays_where s' e y (LoadSeen why) stays at k = tt
-  stays_where s' e y At stays at k = tt
-  stays_where s' e y (InList i) stays at k = tt
-  stays_where s' e y (Retires retirement go) stays at k = tt
-  stays_where s' e y Restarts stays at k = tt
-  stays_where s' e y (Clears next) stays at k = tt
   stays_where s' e y (Claims claim) stays at k = stays claim.sweep claim.stage at.0 k
-  stays_where s' e y (Zeroes i field) stays at k = tt
-  stays_where s' e y (Announces announcing) stays at k = tt
+  stays_where s' e y _ stays at k = tt
 
   -- ---- the mover's entry
 
   -- the word that a sweep finds is the slot, where it reads the hazard word
   finds_at : (scheme : Scheme) (p : ℕ) (g : List ℕ) (stage : SweepStage) → SweepAt t s p g stage → FindsAt d r v.slot (s.memory (word_of (sweep_wants_at scheme stage p))) stage
-  finds_at scheme p g sweeps.ReadPhase at = tt
-  finds_at scheme p g (sweeps.RaisePhase q) at = tt
-  finds_at scheme p g (sweeps.Warn i) at = tt
   finds_at scheme p g (sweeps.ReadHazard i m) at = (at.2, λ same there. ap (λ (k : ℕ). s.memory (Hazard k m)) (sym same) ∙ (ap (λ (k : ℕ). s.memory (Hazard d k)) (sym there) ∙ v.word))
-  finds_at scheme p g (sweeps.ReadStatus i) at = tt
-  finds_at scheme p g (sweeps.MakeReady i q) at = tt
-  finds_at scheme p g (sweeps.PushHead kind i) at = tt
-  finds_at scheme p g (sweeps.PushLink i q top) at = tt
-  finds_at scheme p g (sweeps.PushTop kind i q top) at = tt
+  finds_at scheme p g _ at = tt
 
   finds_in : (kind : ℕ) (sweep : Sweep) (stage : ClaimStage) → ClaimAt t s sweep stage → FindsIn d r v.slot (s.memory (word_of (claim_wants_at kind sweep stage))) sweep stage
-  finds_in kind sweep claims.ReadHead at = tt
-  finds_in kind sweep (claims.ReadLink q i) at = tt
-  finds_in kind sweep (claims.Take q i next) at = tt
-  finds_in kind sweep (claims.StoreUsed q i) at = tt
-  finds_in kind sweep (claims.Withdraw own) at = tt
   finds_in kind sweep claims.Sweeps at = finds_at sweep.scheme sweep.bound sweep.gathered sweep.stage at
+  finds_in kind sweep _ at = tt
 
   -- the slot that a claim ends with is ready before its last store, so it has no name
   abbrev Takes : Option ClaimEnd → Type 0
   Takes o = (i : ℕ) → o ≡ Some (ends.Claimed i) → v.slot ≢ i
 
   claim_away : (counts : Bool) (claim : Claim) (o : Option ClaimEnd) → Takes o → Away v.slot x.entry → Away v.slot (claim_on Optimistic t.target claim o (claim_counted counts (counted x.entry))).entry
-  claim_away counts claim None takes a = a
   claim_away counts claim (Some (ends.Claimed i)) takes a = λ k is.
       ⊎_elim
       (λ (here : k ≡ new_number t.target x.entry).
@@ -167,8 +129,7 @@ module _ (t : Plan) (w : World) (h : Holds t w) (c : ℕ) (mover : c < t.setting
       takes i refl (sym at ∙ filled x.entry.cradles k i (λ z. some (sym at ∙ z))))
       (λ (other : k ≢ new_number t.target x.entry). a k (sym (index_set_other x.entry.cradles (new_number t.target x.entry) i k other) ∙ is))
       (cases_eq k (new_number t.target x.entry))
-  claim_away counts claim (Some ends.Full) takes a = a
-  claim_away counts claim (Some (ends.PhasesOver p)) takes a = a
+  claim_away counts claim _ takes a = a
 
   ended_takes : (claim : Claim) → Takes (look_ended claim).ended
   ended_takes claim = of (claim.sweeps == 2) where
@@ -221,8 +182,7 @@ module _ (t : Plan) (w : World) (h : Holds t w) (c : ℕ) (mover : c < t.setting
   claim_where : (s' : Shared) (counts : Bool) (claim : Claim) (o : Option ClaimEnd) → ClaimKnows s' d r v.slot claim o → KnowsWhere s' d r v.slot (claim_on Optimistic t.target claim o (claim_counted counts (counted x.entry))).entry.routine
   claim_where s' counts claim None k = k
   claim_where s' counts claim (Some (ends.Claimed i)) k = tt
-  claim_where s' counts claim (Some ends.Full) k = tt
-  claim_where s' counts claim (Some (ends.PhasesOver p)) k = tt
+  claim_where s' counts claim _ k = tt
 
   claim_moves : (s' : Shared) (claim : Claim) → claim.sweep.scheme ≡ Warned → TakenIsReady s.memory claim.stage → ClaimAt t s claim.sweep claim.stage → KnowsIn s' d r v.slot claim.sweep claim.stage
       → Moves s' (accepted Optimistic t.target t.setting (s.memory (word_of (claim_wants claim))) (counted x.entry) (Claims claim))

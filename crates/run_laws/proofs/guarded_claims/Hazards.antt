@@ -84,23 +84,7 @@ module _ (m : Word → ℕ) (c r : ℕ) where
   plain_leaves fields (instr.LoadField d a f) registers = refl
   plain_leaves fields (instr.Put a f b) registers = refl
   plain_leaves fields (instr.Cas exchange l) registers = exchange_leaves fields exchange registers
-  plain_leaves fields (instr.Set d n) registers = tt
-  plain_leaves fields (instr.Mov d a) registers = tt
-  plain_leaves fields (instr.Add d a b) registers = tt
-  plain_leaves fields (instr.Sub d a b) registers = tt
-  plain_leaves fields (instr.Rem d a n) registers = tt
-  plain_leaves fields (instr.Mark d a) registers = tt
-  plain_leaves fields (instr.Unmark d a) registers = tt
-  plain_leaves fields (instr.Null d) registers = tt
-  plain_leaves fields (instr.New d kind) registers = tt
-  plain_leaves fields (instr.Jump l) registers = tt
-  plain_leaves fields (instr.IfEq a b l) registers = tt
-  plain_leaves fields (instr.IfLess a b l) registers = tt
-  plain_leaves fields (instr.IfMarked a l) registers = tt
-  plain_leaves fields (instr.Commit exchanges) registers = tt
-  plain_leaves fields (instr.Return a) registers = tt
-  plain_leaves fields instr.ReturnNone registers = tt
-  plain_leaves fields instr.Again registers = tt
+  plain_leaves fields _ registers = tt
 
   list_leaves : (fields : List FieldDecl) (o : Option CasEntry) (registers : Registers) → Leaves m c r (list_wanted fields o registers)
   list_leaves fields None registers = tt
@@ -125,23 +109,13 @@ module _ (m : Word → ℕ) (c r : ℕ) where
   warn_leaves (Announced own) d bound = refl
 
   sweep_leaves : (scheme : Scheme) (stage : SweepStage) (bound : ℕ) → Leaves m c r (Some (sweep_wants_at scheme stage bound))
-  sweep_leaves scheme sweeps.ReadPhase bound = refl
-  sweep_leaves scheme (sweeps.RaisePhase p) bound = refl
   sweep_leaves scheme (sweeps.Warn d) bound = warn_leaves scheme d bound
   sweep_leaves scheme (sweeps.ReadHazard d i) bound = store_again m (Hazard d i) (Hazard c r)
-  sweep_leaves scheme (sweeps.ReadStatus j) bound = refl
-  sweep_leaves scheme (sweeps.MakeReady j q) bound = refl
-  sweep_leaves scheme (sweeps.PushHead kind j) bound = refl
-  sweep_leaves scheme (sweeps.PushLink j q top) bound = refl
-  sweep_leaves scheme (sweeps.PushTop kind j q top) bound = refl
+  sweep_leaves scheme _ bound = refl
 
   claim_leaves : (kind : ℕ) (sweep : Sweep) (stage : ClaimStage) → Leaves m c r (Some (claim_wants_at kind sweep stage))
-  claim_leaves kind sweep claims.ReadHead = refl
-  claim_leaves kind sweep (claims.ReadLink q j) = refl
-  claim_leaves kind sweep (claims.Take q j next) = refl
-  claim_leaves kind sweep (claims.StoreUsed q j) = refl
-  claim_leaves kind sweep (claims.Withdraw own) = refl
   claim_leaves kind sweep claims.Sweeps = sweep_leaves sweep.scheme sweep.stage sweep.bound
+  claim_leaves kind sweep _ = refl
 
   announcing_leaves : (i : ℕ) (announcing : Announcing) → Leaves m c r (Some (announcing_wanted i announcing))
   announcing_leaves i (announces.Loads why) = refl

@@ -1,9 +1,8 @@
 -- What the sweeps under way know of a slot that a hazard word names: one that is past the word has gathered the slot, if the name there
 -- was retired before the sweep's phase.
-use Rattle.std.proofs.Common.{ℕ, zero, suc, ◌≡◌, ◌≢◌, ◌==◌, ◌+◌, ◌-◌, ◌*◌, ◌≤◌, ◌<◌, ◌∙◌, ◌&&◌, not, Bool, true, false, List, Option, Some, None, arith, ⊎_elim, sym, ap, subst, refl, if◌then◌else◌}
+use Rattle.std.proofs.Common.{ℕ, zero, suc, ◌≡◌, ◌≢◌, ◌==◌, ◌+◌, ◌*◌, ◌≤◌, ◌<◌, ◌∙◌, Bool, true, false, List, Option, Some, None, arith, ⊎_elim, sym, ap, subst, refl, if◌then◌else◌}
 use Rattle.std.specs.Prelude.{nat_lt}
 use Rattle.std.proofs.lemmas.Bool.Decides.{nat_tests}
-use Rattle.oa_words.specs.declared.packed.Kind.{Kind}
 use Rattle.oa_words.specs.declared.packed.Kind.TheVariants as kinds
 use Rattle.oa_words.specs.Words.{Sizes, Phase, slot_range}
 use Rattle.oa_words.specs.SlotKinds.{kind_of}
@@ -19,7 +18,8 @@ use Rattle.phase_pools.specs.declared.stages.SweepStage.{SweepStage}
 use Rattle.phase_pools.specs.declared.stages.SweepStage.TheVariants as sweeps
 use Rattle.phase_pools.specs.declared.stages.ClaimStage.{ClaimStage}
 use Rattle.phase_pools.specs.declared.stages.ClaimStage.TheVariants as claims
-use Rattle.phase_pools.specs.Pools.{Claim, Sweep, sweep_accepts_at, sweep_goes, sweep_ends, sweep_on, has_lower, freeing, status_read, made_ready, pushed, claim_accepts_at, claim_goes, claim_ends, look_ended, look_begun, look_took, sweep_follows, sweep_ended}
+use Rattle.phase_pools.specs.Pools.{Claim, Sweep, sweep_accepts_at, sweep_goes, sweep_ends, sweep_on, status_read, made_ready, pushed, claim_accepts_at, claim_goes, claim_ends, look_ended, look_begun, look_took, sweep_follows, sweep_ended}
+use Rattle.phase_pools.proofs.Statuses.{from_slot, from_status}
 use Rattle.caller_parts.specs.declared.routine.Routine.{Routine}
 use Rattle.caller_parts.specs.declared.routine.Routine.TheVariants.{Idle, LoadSeen, At, InList, Retires, Restarts, Clears, Claims, Zeroes, Announces}
 use Rattle.oa_simulation.specs.sim_relation.Views.{Plan, Shared}
@@ -76,19 +76,12 @@ module _ (t : Plan) (c : ℕ) (s s' : Shared) (goes : MayChange t c s s') (d r j
   stays_at p g (sweeps.RaisePhase q) w k = tt
   stays_at p g (sweeps.Warn x) w k = tt
   stays_at p g (sweeps.ReadHazard x i) w k = λ past. stays_known p g w.0.raised (k past)
-  stays_at p g (sweeps.ReadStatus i) w k = stays_known p g w.raised k
   stays_at p g (sweeps.MakeReady i q) w k = stays_known p g w.0.raised k
-  stays_at p g (sweeps.PushHead kind i) w k = stays_known p g w.raised k
-  stays_at p g (sweeps.PushLink i q top) w k = stays_known p g w.raised k
-  stays_at p g (sweeps.PushTop kind i q top) w k = stays_known p g w.raised k
+  stays_at p g _ w k = stays_known p g w.raised k
 
   pub stays_in : (sweep : Sweep) (stage : ClaimStage) → ClaimAt t s sweep stage → KnowsIn s d r j sweep stage → KnowsIn s' d r j sweep stage
-  stays_in sweep claims.ReadHead w k = tt
-  stays_in sweep (claims.ReadLink q i) w k = tt
-  stays_in sweep (claims.Take q i next) w k = tt
-  stays_in sweep (claims.StoreUsed q i) w k = tt
-  stays_in sweep (claims.Withdraw own) w k = tt
   stays_in sweep claims.Sweeps w k = stays_at sweep.bound sweep.gathered sweep.stage w k
+  stays_in sweep _ w k = tt
 
 -- ---- what a sweep's own step makes of it
 
@@ -122,22 +115,10 @@ FindsIn d r j word sweep claims.Sweeps = FindsAt d r j word sweep.stage
 
 module _ (sizes : Sizes) (last : ℕ) (s : Shared) (d r j : ℕ) (low : r < 8) (some : j ≢ 0) where
   on_knows : (sweep : Sweep) (i : ℕ) → Knows s j sweep.bound sweep.gathered → SweepKnows s d r j (sweep_on sizes sweep i).sweep (sweep_on sizes sweep i).ended
-  on_knows sweep i k = of (has_lower sizes i) where
-    of : (b : Bool) → SweepKnows s d r j (if b then sweep_goes sweep (sweeps.ReadStatus (i - 1)) else sweep_ends sweep swept.Swept).sweep (if b then sweep_goes sweep (sweeps.ReadStatus (i - 1)) else sweep_ends sweep swept.Swept).ended
-    of true = k
-    of false = tt
-
-  freeing_knows : (sweep : Sweep) (i q : ℕ) (kind : Kind) → Knows s j sweep.bound sweep.gathered → SweepKnows s d r j (freeing sizes sweep i q kind).sweep (freeing sizes sweep i q kind).ended
-  freeing_knows sweep i q kinds.Ready k = on_knows sweep i k
-  freeing_knows sweep i q kinds.Used k = on_knows sweep i k
-  freeing_knows sweep i q kinds.Retired k = of (nat_lt q sweep.low && not (has_slot sweep.gathered i)) where
-    of : (b : Bool) → SweepKnows s d r j (if b then sweep_goes sweep (sweeps.MakeReady i q) else sweep_on sizes sweep i).sweep (if b then sweep_goes sweep (sweeps.MakeReady i q) else sweep_on sizes sweep i).ended
-    of true = k
-    of false = on_knows sweep i k
+  on_knows sweep i k = from_slot (λ turn. SweepKnows s d r j turn.sweep turn.ended) sizes sweep i (λ more. k) tt
 
   status_knows : (sweep : Sweep) (i : ℕ) (parts : Option StatusParts) → Knows s j sweep.bound sweep.gathered → SweepKnows s d r j (status_read sizes sweep i parts).sweep (status_read sizes sweep i parts).ended
-  status_knows sweep i None k = on_knows sweep i k
-  status_knows sweep i (Some parts) k = freeing_knows sweep i parts.phase parts.kind k
+  status_knows sweep i parts k = from_status (λ turn. SweepKnows s d r j turn.sweep turn.ended) sizes sweep i parts (on_knows sweep i k) (λ p is below away. k)
 
   made_knows : (sweep : Sweep) (i q word : ℕ) → Knows s j sweep.bound sweep.gathered → SweepKnows s d r j (made_ready sizes sweep i q word).sweep (made_ready sizes sweep i q word).ended
   made_knows sweep i q word k = of (word == status_word q kinds.Retired) where
@@ -223,9 +204,7 @@ module _ (sizes : Sizes) (last : ℕ) (s : Shared) (d r j : ℕ) (low : r < 8) (
   pub claim_knows : (claim : Claim) (word : ℕ) (stage : ClaimStage) → claim.stage ≡ stage → claim.sweep.scheme ≡ Warned → d < sizes.callers → FindsIn d r j word claim.sweep stage → KnowsIn s d r j claim.sweep stage
       → ClaimKnows s d r j (claim_accepts_at sizes last claim word stage).claim (claim_accepts_at sizes last claim word stage).ended
   claim_knows claim word claims.ReadHead at warns caller found k = look_begun_knows claim (head_parts word)
-  claim_knows claim word (claims.ReadLink q i) at warns caller found k = tt
   claim_knows claim word (claims.Take q i next) at warns caller found k = look_took_knows claim q i word
-  claim_knows claim word (claims.StoreUsed q i) at warns caller found k = tt
-  claim_knows claim word (claims.Withdraw own) at warns caller found k = tt
   claim_knows claim word claims.Sweeps at warns caller found k =
       let turn = sweep_accepts_at sizes last claim.sweep word claim.sweep.stage in swept_knows claim turn.sweep turn.ended at (sweep_knows claim.sweep word claim.sweep.stage warns caller found k)
+  claim_knows claim word _ at warns caller found k = tt

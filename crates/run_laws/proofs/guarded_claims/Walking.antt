@@ -9,6 +9,7 @@ use Rattle.norm_lang.specs.declared.text.Instr.TheVariants as instr
 use Rattle.norm_lang.specs.declared.registers.Registers.{Registers}
 use Rattle.norm_lang.specs.Registers.{number_in}
 use Rattle.norm_lang.specs.Local.{Spot}
+use Rattle.norm_lang.specs.declared.reply.SourceReply.TheVariants as replies
 use Rattle.target_code.specs.declared.target.TargetInstr.{TargetInstr}
 use Rattle.target_code.specs.declared.target.TargetInstr.TheVariants.{Plain, Check, Guard}
 use Rattle.target_code.specs.declared.target.Target.{Target}
@@ -16,7 +17,6 @@ use Rattle.target_code.specs.LocalCode.{target_run}
 use Rattle.guard_words.specs.Guards.{with_guard, pass_check}
 use Rattle.oa_words.specs.Words.{Sizes}
 use Rattle.phase_pools.specs.Pools.{Retirement, retire_accepts}
-use Rattle.caller_parts.specs.declared.call.Reply.TheVariants as replies
 use Rattle.caller_parts.specs.declared.routine.AfterClear.{AfterClear}
 use Rattle.caller_parts.specs.declared.routine.AfterClear.TheVariants as clears
 use Rattle.caller_parts.specs.declared.routine.AfterRetire.{AfterRetire}
@@ -56,9 +56,7 @@ module _ (target : Target) (sizes : Sizes) (s : Shared) (d r j : ℕ) (some : j 
     of : (slot : ℕ) → Keeps s d r j e (new_on Warned sizes (new_kind target e) (new_number target e) slot e)
     of zero = (λ a. a, λ k. tt)
     of (suc slot) = (λ a. a, λ k. tt)
-  then_keeps clears.WrapUp e = (λ a. a, λ k. tt)
-  then_keeps (clears.Reply reply) e = (λ a. a, λ k. tt)
-  then_keeps clears.Again e = (λ a. a, λ k. tt)
+  then_keeps _ e = (λ a. a, λ k. tt)
 
   cleared_keeps : (next : AfterClear) (e : Entry) → Keeps s d r j e (cleared target sizes next e)
   cleared_keeps next e = of (clear_next target next e) where
@@ -79,23 +77,7 @@ module _ (target : Target) (sizes : Sizes) (s : Shared) (d r j : ℕ) (some : j 
   plain_keeps (instr.Return a) e = cleared_keeps (clears.Reply (replies.Number (number_in e.hand.registers a))) e
   plain_keeps instr.ReturnNone e = cleared_keeps (clears.Reply replies.Nothing) e
   plain_keeps instr.Again e = cleared_keeps clears.Again e
-  plain_keeps (instr.Set d n) e = (λ a. a, λ k. tt)
-  plain_keeps (instr.Mov d a) e = (λ a. a, λ k. tt)
-  plain_keeps (instr.Add d a b) e = (λ a. a, λ k. tt)
-  plain_keeps (instr.Sub d a b) e = (λ a. a, λ k. tt)
-  plain_keeps (instr.Rem d a n) e = (λ a. a, λ k. tt)
-  plain_keeps (instr.Mark d a) e = (λ a. a, λ k. tt)
-  plain_keeps (instr.Unmark d a) e = (λ a. a, λ k. tt)
-  plain_keeps (instr.Null d) e = (λ a. a, λ k. tt)
-  plain_keeps (instr.Jump l) e = (λ a. a, λ k. tt)
-  plain_keeps (instr.IfEq a b l) e = (λ a. a, λ k. tt)
-  plain_keeps (instr.IfLess a b l) e = (λ a. a, λ k. tt)
-  plain_keeps (instr.IfMarked a l) e = (λ a. a, λ k. tt)
-  plain_keeps (instr.LoadRoot d x) e = (λ a. a, λ k. tt)
-  plain_keeps (instr.LoadPick d x n a) e = (λ a. a, λ k. tt)
-  plain_keeps (instr.LoadField d a f) e = (λ a. a, λ k. tt)
-  plain_keeps (instr.Put a f b) e = (λ a. a, λ k. tt)
-  plain_keeps (instr.Cas exchange l) e = (λ a. a, λ k. tt)
+  plain_keeps _ e = (λ a. a, λ k. tt)
 
   stopped_keeps : (e : Entry) → Keeps s d r j e (stopped Optimistic target sizes e).entry
   stopped_keeps e = of (instr_in target e) where
@@ -146,23 +128,7 @@ module _ (target : Target) (sizes : Sizes) (s : Shared) (d r j : ℕ) (some : j 
   accepted_plain (instr.LoadField d a f) word e = on_keeps (with_word e.hand.registers d word) (with_access e)
   accepted_plain (instr.Put a f b) word e = on_keeps e.hand.registers e
   accepted_plain (instr.Cas exchange l) word e = cas_keeps exchange l word (with_access e)
-  accepted_plain (instr.Set d n) word e = (λ a. a, λ k. k)
-  accepted_plain (instr.Mov d a) word e = (λ a. a, λ k. k)
-  accepted_plain (instr.Add d a b) word e = (λ a. a, λ k. k)
-  accepted_plain (instr.Sub d a b) word e = (λ a. a, λ k. k)
-  accepted_plain (instr.Rem d a n) word e = (λ a. a, λ k. k)
-  accepted_plain (instr.Mark d a) word e = (λ a. a, λ k. k)
-  accepted_plain (instr.Unmark d a) word e = (λ a. a, λ k. k)
-  accepted_plain (instr.Null d) word e = (λ a. a, λ k. k)
-  accepted_plain (instr.Jump l) word e = (λ a. a, λ k. k)
-  accepted_plain (instr.IfEq a b l) word e = (λ a. a, λ k. k)
-  accepted_plain (instr.IfLess a b l) word e = (λ a. a, λ k. k)
-  accepted_plain (instr.IfMarked a l) word e = (λ a. a, λ k. k)
-  accepted_plain (instr.New d kind) word e = (λ a. a, λ k. k)
-  accepted_plain (instr.Commit exchanges) word e = (λ a. a, λ k. k)
-  accepted_plain (instr.Return a) word e = (λ a. a, λ k. k)
-  accepted_plain instr.ReturnNone word e = (λ a. a, λ k. k)
-  accepted_plain instr.Again word e = (λ a. a, λ k. k)
+  accepted_plain _ word e = (λ a. a, λ k. k)
 
   accepted_instr : (o : Option TargetInstr) (word : ℕ) (e : Entry) → Keeps s d r j e (instr_accepted Optimistic target sizes o word e).entry
   accepted_instr None word e = (λ a. a, λ k. k)

@@ -8,7 +8,7 @@ use Rattle.phase_pools.specs.Accesses.{WordAccess, word_of}
 use Rattle.phase_pools.specs.Pools.{Claim, ClaimTurn, claim_wants, claim_accepts, claim_takes}
 use Rattle.source_machine.proofs.Places.{each_put}
 use Rattle.caller_parts.specs.declared.routine.Routine.{Routine}
-use Rattle.caller_parts.specs.declared.routine.Routine.TheVariants.{Idle, LoadSeen, At, InList, Retires, Restarts, Clears, Claims, Zeroes, Announces}
+use Rattle.caller_parts.specs.declared.routine.Routine.TheVariants.{Idle, At, Claims, Zeroes, Announces}
 use Rattle.caller_parts.specs.Settings.{Setting}
 use Rattle.caller_steps.specs.Entries.{Entry, is_idle}
 use Rattle.caller_steps.specs.Wants.{wants, wanted}
@@ -76,15 +76,7 @@ both false b is = absurd (let no : false ≡ true = is in cc)
 
 claiming : (r : Routine) → is_claiming r ≡ true → (claim : Claim) × (r ≡ Claims claim)
 claiming (Claims claim) is = (claim, refl)
-claiming Idle is = absurd (let no : false ≡ true = is in cc)
-claiming (LoadSeen why) is = absurd (let no : false ≡ true = is in cc)
-claiming At is = absurd (let no : false ≡ true = is in cc)
-claiming (InList k) is = absurd (let no : false ≡ true = is in cc)
-claiming (Retires retirement go) is = absurd (let no : false ≡ true = is in cc)
-claiming Restarts is = absurd (let no : false ≡ true = is in cc)
-claiming (Clears next) is = absurd (let no : false ≡ true = is in cc)
-claiming (Zeroes k field) is = absurd (let no : false ≡ true = is in cc)
-claiming (Announces announcing) is = absurd (let no : false ≡ true = is in cc)
+claiming _ is = absurd (let no : false ≡ true = is in cc)
 
 -- what each step of a claim keeps, holds along it
 module _ (target : Target) (setting : Setting) (lone : setting.sizes.callers ≡ 1) (seen : EventsAreSeen target setting) (shaped : (state : CoreState) → IsSound target setting state → IsShaped target setting state)

@@ -1,9 +1,8 @@
 -- A claim over words that nobody else changes, where a slot is ready or was retired: it doesn't end with Full.
-use Rattle.std.proofs.Common.{ℕ, ◌≡◌, ◌≢◌, ◌==◌, ◌+◌, ◌-◌, ◌≤◌, ◌<◌, ◌⊎◌, ◌∙◌, ◌&&◌, not, Bool, true, false, List, [], Option, Some, None, arith, inl, inr, ⊎_elim, sym, ap, subst, refl, max, if◌then◌else◌}
+use Rattle.std.proofs.Common.{ℕ, ◌≡◌, ◌≢◌, ◌==◌, ◌+◌, ◌≤◌, ◌<◌, ◌⊎◌, ◌∙◌, Bool, true, false, List, [], Option, Some, None, arith, inl, inr, ⊎_elim, sym, ap, subst, refl, max, if◌then◌else◌}
 use Rattle.std.specs.Prelude.{nat_lt}
 use Rattle.std.proofs.lemmas.Bool.{cases_eq}
 use Rattle.std.proofs.lemmas.Bool.Decides.{nat_tests}
-use Rattle.oa_words.specs.declared.packed.Kind.{Kind}
 use Rattle.oa_words.specs.declared.packed.Kind.TheVariants as kinds
 use Rattle.oa_words.specs.Words.{Sizes, Word, Phase, Hazard, Status, Head}
 use Rattle.oa_words.specs.SlotKinds.{kind_of}
@@ -25,6 +24,7 @@ use Rattle.phase_pools.specs.Accesses.{word_of}
 use Rattle.chain_laws.specs.Chains.{top}
 use Rattle.phase_pools.specs.Pools.{Claim, Sweep, claim_wants_at, claim_accepts_at, claim_goes, claim_ends, look_ended, look_begun, sweep_follows, sweep_ended, sweep_goes, sweep_ends, sweep_on, warn_wanted, sweep_wants_at, sweep_accepts_at, has_lower, phase_read, freeing, status_read, made_ready, push_read, pushed}
 use Rattle.phase_pools.proofs.Keeping.{claim_stays}
+use Rattle.phase_pools.proofs.Statuses.{from_slot, from_status}
 use Rattle.chain_laws.proofs.Changes.{head_here, head_other}
 use Rattle.oa_simulation.proofs.sim_relation.Words.{store_idle, each_status}
 use Rattle.run_laws.proofs.lone_claims.Pools.{made, HasKind, reads}
@@ -115,10 +115,7 @@ module _ (n : Sizes) (i : ℕ) (least : 1 ≤ i) (most : i ≤ n.slots) (few : n
 
   module _ (k : ℕ) (own : kind_of n i ≡ k) where
     swept_free : (m : Word → ℕ) (sweep : Sweep) (j : ℕ) → IsBare sweep → j ≤ n.slots → HasTop m k → FreeSwept n m k i (sweep_on n sweep j).sweep (sweep_on n sweep j).ended
-    swept_free m sweep j none le some = of (has_lower n j) refl where
-      of : (b : Bool) → has_lower n j ≡ b → FreeSwept n m k i (if b then sweep_goes sweep (sweeps.ReadStatus (j - 1)) else sweep_ends sweep swept.Swept).sweep (if b then sweep_goes sweep (sweeps.ReadStatus (j - 1)) else sweep_ends sweep swept.Swept).ended
-      of true is = (none, ((let lt : 1 < j = grind (arith, nat_tests) in omega (arith, lt)), omega (arith, le), inr some))
-      of false is = some
+    swept_free m sweep j none le some = from_slot (λ turn. FreeSwept n m k i turn.sweep turn.ended) n sweep j (λ more. (none, (omega (arith, more), omega (arith, le), inr some))) some
 
     swept_old : (m : Word → ℕ) (sweep : Sweep) (j : ℕ) → IsBare sweep → j ≤ n.slots → IsOld m i sweep.bound → i < j → FreeSwept n m k i (sweep_on n sweep j).sweep (sweep_on n sweep j).ended
     swept_old m sweep j none le old lt = let more : has_lower n j ≡ true = (let above : 1 < j = omega (arith, least, lt) in grind (arith, nat_tests)) in rw more (none, (omega (arith, least, lt), omega (arith, le), inl (old, omega (arith, lt))))
@@ -126,15 +123,7 @@ module _ (n : Sizes) (i : ℕ) (least : 1 ≤ i) (most : i ≤ n.slots) (few : n
     -- another slot is read
     passes : (m : Word → ℕ) (sweep : Sweep) (j : ℕ) (o : Option StatusParts) → FreeSwept n m k i (sweep_on n sweep j).sweep (sweep_on n sweep j).ended
         → ((q : ℕ) → FreeSwept n m k i (record sweep { stage = sweeps.MakeReady j q }) None) → FreeSwept n m k i (status_read n sweep j o).sweep (status_read n sweep j o).ended
-    passes m sweep j None on makes = on
-    passes m sweep j (Some parts) on makes = by_kind parts.phase parts.kind where
-      by_kind : (q : ℕ) (kind : Kind) → FreeSwept n m k i (freeing n sweep j q kind).sweep (freeing n sweep j q kind).ended
-      by_kind q kinds.Ready = on
-      by_kind q kinds.Used = on
-      by_kind q kinds.Retired = of (nat_lt q sweep.low && not (has_slot sweep.gathered j)) where
-        of : (b : Bool) → FreeSwept n m k i (if b then sweep_goes sweep (sweeps.MakeReady j q) else sweep_on n sweep j).sweep (if b then sweep_goes sweep (sweeps.MakeReady j q) else sweep_on n sweep j).ended
-        of true = makes q
-        of false = on
+    passes m sweep j o on makes = from_status (λ turn. FreeSwept n m k i turn.sweep turn.ended) n sweep j o on (λ p is below away. makes p.phase)
 
     -- the slot itself
     makes_ready : (m : Word → ℕ) (sweep : Sweep) (q : ℕ) → IsBare sweep → m (Status i) ≡ status_word q kinds.Retired → q < sweep.bound → FreeSwept n m k i (freeing n sweep i q kinds.Retired).sweep (freeing n sweep i q kinds.Retired).ended
@@ -263,23 +252,13 @@ module _ (n : Sizes) (i : ℕ) (least : 1 ≤ i) (most : i ≤ n.slots) (few : n
   warning_spares m (Announced own) c bound r = refl
 
   sweep_spares : (m : Word → ℕ) (sweep : Sweep) (stage : SweepStage) (r : ℕ) → made m (sweep_wants_at sweep.scheme stage sweep.bound) (Hazard 0 r) ≡ m (Hazard 0 r)
-  sweep_spares m sweep sweeps.ReadPhase r = refl
-  sweep_spares m sweep (sweeps.RaisePhase p) r = refl
   sweep_spares m sweep (sweeps.Warn c) r = warning_spares m sweep.scheme c sweep.bound r
   sweep_spares m sweep (sweeps.ReadHazard c k) r = sym (ap (λ (w : Word → ℕ). w (Hazard 0 r)) (store_idle m (Hazard c k)))
-  sweep_spares m sweep (sweeps.ReadStatus j) r = refl
-  sweep_spares m sweep (sweeps.MakeReady j q) r = refl
-  sweep_spares m sweep (sweeps.PushHead h j) r = refl
-  sweep_spares m sweep (sweeps.PushLink j q t) r = refl
-  sweep_spares m sweep (sweeps.PushTop h j q t) r = refl
+  sweep_spares m sweep _ r = refl
 
   spares : (m : Word → ℕ) (k : ℕ) (sweep : Sweep) (stage : ClaimStage) (r : ℕ) → made m (claim_wants_at k sweep stage) (Hazard 0 r) ≡ m (Hazard 0 r)
-  spares m k sweep claims.ReadHead r = refl
-  spares m k sweep (claims.ReadLink q t) r = refl
-  spares m k sweep (claims.Take q t next) r = refl
-  spares m k sweep (claims.StoreUsed q t) r = refl
-  spares m k sweep (claims.Withdraw own) r = refl
   spares m k sweep claims.Sweeps r = sweep_spares m sweep sweep.stage r
+  spares m k sweep _ r = refl
 
   -- no hazard word is set, and the slot is free or will be
   pub record Frees (m : Word → ℕ) (claim : Claim) : Type 0 where

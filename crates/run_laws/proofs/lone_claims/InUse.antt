@@ -47,7 +47,7 @@ use Rattle.oa_simulation.specs.sim_relation.Callers.{CallerHolds, HoldsAt}
 use Rattle.oa_simulation.specs.sim_relation.Naming.{emptied_at, freed_in, named_at, present_at}
 use Rattle.oa_simulation.specs.sim_relation.Steps.{GoesToRetire, after_access}
 use Rattle.oa_simulation.proofs.sim_relation.Words.{store_again}
-use Rattle.oa_simulation.proofs.sim_steps.Pools.Slots.{status_tells}
+use Rattle.chain_laws.proofs.Routines.{status_tells}
 use Rattle.caller_parts.specs.declared.setting.Reclamation.TheVariants.{Optimistic}
 use Rattle.caller_parts.specs.declared.routine.Announcing.{Announcing}
 use Rattle.caller_parts.specs.declared.routine.Announcing.TheVariants as announces
@@ -95,23 +95,7 @@ module _ (m : Word → ℕ) (j : ℕ) where
   plain_leaves fields (instr.LoadField d a f) registers = refl
   plain_leaves fields (instr.Put a f b) registers = refl
   plain_leaves fields (instr.Cas exchange l) registers = exchange_leaves fields exchange registers
-  plain_leaves fields (instr.Set d n) registers = tt
-  plain_leaves fields (instr.Mov d a) registers = tt
-  plain_leaves fields (instr.Add d a b) registers = tt
-  plain_leaves fields (instr.Sub d a b) registers = tt
-  plain_leaves fields (instr.Rem d a n) registers = tt
-  plain_leaves fields (instr.Mark d a) registers = tt
-  plain_leaves fields (instr.Unmark d a) registers = tt
-  plain_leaves fields (instr.Null d) registers = tt
-  plain_leaves fields (instr.New d kind) registers = tt
-  plain_leaves fields (instr.Jump l) registers = tt
-  plain_leaves fields (instr.IfEq a b l) registers = tt
-  plain_leaves fields (instr.IfLess a b l) registers = tt
-  plain_leaves fields (instr.IfMarked a l) registers = tt
-  plain_leaves fields (instr.Commit exchanges) registers = tt
-  plain_leaves fields (instr.Return a) registers = tt
-  plain_leaves fields instr.ReturnNone registers = tt
-  plain_leaves fields instr.Again registers = tt
+  plain_leaves fields _ registers = tt
 
   instr_leaves : (fields : List FieldDecl) (c : ℕ) (o : Option TargetInstr) (registers : Registers) → Leaves m j (instr_wanted fields c o registers)
   instr_leaves fields c None registers = tt

@@ -1,5 +1,5 @@
 -- The routine of a claim over words that nobody else changes.
-use Rattle.std.proofs.Common.{ℕ, zero, suc, ◌≡◌, ◌≢◌, ◌==◌, ◌+◌, ◌-◌, ◌≤◌, ◌<◌, ◌∙◌, ◌&&◌, not, Bool, true, false, length, Option, Some, None, arith, ⊎_elim, sym, ap, subst, refl, if◌then◌else◌}
+use Rattle.std.proofs.Common.{ℕ, zero, suc, ◌≡◌, ◌≢◌, ◌==◌, ◌+◌, ◌≤◌, ◌<◌, ◌∙◌, Bool, true, false, length, Option, Some, None, arith, ⊎_elim, sym, ap, subst, refl, if◌then◌else◌}
 use Rattle.std.specs.Prelude.{nat_lt}
 use Rattle.chain_laws.specs.Chains.{top}
 use Rattle.std.proofs.lemmas.Bool.{cases_eq}
@@ -24,9 +24,9 @@ use Rattle.phase_pools.specs.declared.stages.SweepStage.TheVariants as sweeps
 use Rattle.phase_pools.specs.declared.stages.ClaimStage.{ClaimStage}
 use Rattle.phase_pools.specs.declared.stages.ClaimStage.TheVariants as claims
 use Rattle.phase_pools.specs.Accesses.{WordAccess, word_of, word_after}
-use Rattle.phase_pools.specs.Pools.{Claim, Sweep, claim_wants_at, claim_accepts_at, claim_ends, look_ended, look_begun, sweep_follows, sweep_ended, sweep_goes, sweep_ends, sweep_on, has_lower, warn_wanted, warned_all, sweep_wants_at, sweep_accepts_at, freeing, status_read}
+use Rattle.phase_pools.specs.Pools.{Claim, Sweep, claim_wants_at, claim_accepts_at, claim_ends, look_ended, look_begun, sweep_follows, sweep_ended, sweep_goes, sweep_ends, sweep_on, warn_wanted, warned_all, sweep_wants_at, sweep_accepts_at, status_read}
 use Rattle.phase_pools.proofs.Keeping.{claim_stays}
-use Rattle.guard_words.specs.Guards.{has_slot}
+use Rattle.phase_pools.proofs.Statuses.{from_slot, from_status}
 use Rattle.chain_laws.proofs.Changes.{head_other}
 use Rattle.oa_simulation.proofs.sim_relation.Words.{store_again, store_idle}
 use Rattle.run_laws.specs.lone_claims.Lone.{AreUsed}
@@ -95,10 +95,7 @@ SweptOn n k sweep None = UsedSweep n k sweep.stage
 SweptOn n k sweep (Some end) = Unit {0}
 
 used_sweep : (n : Sizes) (k : ℕ) (sweep : Sweep) (j : ℕ) → j ≤ n.slots → SweptOn n k (sweep_on n sweep j).sweep (sweep_on n sweep j).ended
-used_sweep n k sweep j le = of (has_lower n j) refl where
-  of : (b : Bool) → has_lower n j ≡ b → SweptOn n k (if b then sweep_goes sweep (sweeps.ReadStatus (j - 1)) else sweep_ends sweep swept.Swept).sweep (if b then sweep_goes sweep (sweeps.ReadStatus (j - 1)) else sweep_ends sweep swept.Swept).ended
-  of true is = (let lt : 1 < j = grind (arith, nat_tests) in omega (arith, lt), omega (arith, le))
-  of false is = tt
+used_sweep n k sweep j le = from_slot (λ turn. SweptOn n k turn.sweep turn.ended) n sweep j (λ more. (omega (arith, more), omega (arith, le))) tt
 
 used_ended : (n : Sizes) (claim : Claim) (sweep : Sweep) (end : Option SweepEnd) → claim.stage ≡ claims.Sweeps → SweptOn n claim.kind sweep end → UsedOn n (sweep_ended claim sweep end).claim (sweep_ended claim sweep end).ended
 used_ended n claim sweep None is on = subst (λ (stage : ClaimStage). UsedStage n claim.kind sweep stage) (sym is) on
@@ -107,15 +104,7 @@ used_ended n claim sweep (Some (swept.PhasesOver p)) is on = tt
 
 -- a slot of another kind is read
 other_read : (n : Sizes) (k : ℕ) (sweep : Sweep) (j : ℕ) (o : Option StatusParts) → OfOther n k j → SweptOn n k (status_read n sweep j o).sweep (status_read n sweep j o).ended
-other_read n k sweep j None at = used_sweep n k sweep j at.1
-other_read n k sweep j (Some parts) at = by_kind parts.phase parts.kind where
-  by_kind : (q : ℕ) (kind : Kind) → SweptOn n k (freeing n sweep j q kind).sweep (freeing n sweep j q kind).ended
-  by_kind q kinds.Ready = used_sweep n k sweep j at.1
-  by_kind q kinds.Used = used_sweep n k sweep j at.1
-  by_kind q kinds.Retired = of (nat_lt q sweep.low && not (has_slot sweep.gathered j)) where
-    of : (b : Bool) → SweptOn n k (if b then sweep_goes sweep (sweeps.MakeReady j q) else sweep_on n sweep j).sweep (if b then sweep_goes sweep (sweeps.MakeReady j q) else sweep_on n sweep j).ended
-    of true = at
-    of false = used_sweep n k sweep j at.1
+other_read n k sweep j parts at = from_status (λ turn. SweptOn n k turn.sweep turn.ended) n sweep j parts (used_sweep n k sweep j at.1) (λ p is below away. at)
 
 used_read : (n : Sizes) (k : ℕ) (m : Word → ℕ) (sweep : Sweep) (j : ℕ) → AreKinds n → AreUsed n k m → 1 ≤ j → j ≤ n.slots
     → SweptOn n k (status_read n sweep j (status_parts (m (Status j)))).sweep (status_read n sweep j (status_parts (m (Status j)))).ended
@@ -162,13 +151,11 @@ used_stage n last k m sweep (sweeps.PushTop i j q t) are some used at = of (m (H
 used_turn : (n : Sizes) (last : ℕ) (m : Word → ℕ) (claim : Claim) (stage : ClaimStage) → claim.stage ≡ stage → AreKinds n → 1 ≤ n.slots → AreUsed n claim.kind m → top m claim.kind ≡ 0 → UsedStage n claim.kind claim.sweep stage
     → UsedOn n (claim_accepts_at n last claim (m (word_of (claim_wants_at claim.kind claim.sweep stage))) stage).claim (claim_accepts_at n last claim (m (word_of (claim_wants_at claim.kind claim.sweep stage))) stage).ended
 used_turn n last m claim claims.ReadHead is are some used none at = used_look n claim (head_parts (m (Head claim.kind))) none
-used_turn n last m claim (claims.ReadLink q t) is are some used none at = absurd at
-used_turn n last m claim (claims.Take q t next) is are some used none at = absurd at
-used_turn n last m claim (claims.StoreUsed q t) is are some used none at = absurd at
 used_turn n last m claim (claims.Withdraw own) is are some used none at = tt
 used_turn n last m claim claims.Sweeps is are some used none at =
     let turn = sweep_accepts_at n last claim.sweep (m (word_of (sweep_wants_at claim.sweep.scheme claim.sweep.stage claim.sweep.bound))) claim.sweep.stage in
     used_ended n claim turn.sweep turn.ended is (used_stage n last claim.kind m claim.sweep claim.sweep.stage are some used at)
+used_turn n last m claim _ is are some used none at = absurd at
 
 -- its accesses leave each status of the kind, and the kind's head, as they are
 warn_words : (m : Word → ℕ) (scheme : Scheme) (c bound j : ℕ) → made m (warn_wanted scheme c bound) (Status j) ≡ m (Status j)
@@ -176,48 +163,34 @@ warn_words m Warned c bound j = refl
 warn_words m (Announced own) c bound j = refl
 
 used_words : (n : Sizes) (k : ℕ) (m : Word → ℕ) (sweep : Sweep) (stage : SweepStage) → UsedSweep n k stage → (j : ℕ) → kind_of n j ≡ k → made m (sweep_wants_at sweep.scheme stage sweep.bound) (Status j) ≡ m (Status j)
-used_words n k m sweep sweeps.ReadPhase at j own = refl
-used_words n k m sweep (sweeps.RaisePhase p) at j own = refl
 used_words n k m sweep (sweeps.Warn c) at j own = warn_words m sweep.scheme c sweep.bound j
-used_words n k m sweep (sweeps.ReadHazard c r) at j own = refl
 used_words n k m sweep (sweeps.ReadStatus i) at j own = sym (ap (λ (k : Word → ℕ). k (Status j)) (store_idle m (Status i)))
 used_words n k m sweep (sweeps.MakeReady i q) at j own =
     let away : (j == i) ≡ false = (let ne : j ≢ i = (λ e. at.2 (ap (kind_of n) (sym e) ∙ own)) in grind (arith, nat_tests, ne)) in
     rw away refl
-used_words n k m sweep (sweeps.PushHead h i) at j own = refl
-used_words n k m sweep (sweeps.PushLink i q t) at j own = refl
-used_words n k m sweep (sweeps.PushTop h i q t) at j own = refl
+used_words n k m sweep _ at j own = refl
 
 used_still : (n : Sizes) (k : ℕ) (m : Word → ℕ) (sweep : Sweep) (stage : ClaimStage) → UsedStage n k sweep stage → (j : ℕ) → kind_of n j ≡ k → made m (claim_wants_at k sweep stage) (Status j) ≡ m (Status j)
 used_still n k m sweep claims.ReadHead at j own = refl
-used_still n k m sweep (claims.ReadLink q t) at j own = absurd at
-used_still n k m sweep (claims.Take q t next) at j own = absurd at
-used_still n k m sweep (claims.StoreUsed q t) at j own = absurd at
 used_still n k m sweep (claims.Withdraw caller) at j own = refl
 used_still n k m sweep claims.Sweeps at j own = used_words n k m sweep sweep.stage at j own
+used_still n k m sweep _ at j own = absurd at
 
 warn_leaves : (m : Word → ℕ) (scheme : Scheme) (c bound k : ℕ) → made m (warn_wanted scheme c bound) (Head k) ≡ m (Head k)
 warn_leaves m Warned c bound k = refl
 warn_leaves m (Announced own) c bound k = refl
 
 sweep_leaves : (n : Sizes) (k : ℕ) (m : Word → ℕ) (sweep : Sweep) (stage : SweepStage) → UsedSweep n k stage → made m (sweep_wants_at sweep.scheme stage sweep.bound) (Head k) ≡ m (Head k)
-sweep_leaves n k m sweep sweeps.ReadPhase at = refl
-sweep_leaves n k m sweep (sweeps.RaisePhase p) at = refl
 sweep_leaves n k m sweep (sweeps.Warn c) at = warn_leaves m sweep.scheme c sweep.bound k
-sweep_leaves n k m sweep (sweeps.ReadHazard c r) at = refl
-sweep_leaves n k m sweep (sweeps.ReadStatus i) at = refl
-sweep_leaves n k m sweep (sweeps.MakeReady i q) at = refl
 sweep_leaves n k m sweep (sweeps.PushHead h i) at = store_again m (Head h) (Head k)
-sweep_leaves n k m sweep (sweeps.PushLink i q t) at = refl
 sweep_leaves n k m sweep (sweeps.PushTop h i q t) at = (let other = at.0 in head_other m h _ k (λ e. other.2 (sym at.1 ∙ sym e)))
+sweep_leaves n k m sweep _ at = refl
 
 head_still : (n : Sizes) (k : ℕ) (m : Word → ℕ) (sweep : Sweep) (stage : ClaimStage) → UsedStage n k sweep stage → made m (claim_wants_at k sweep stage) (Head k) ≡ m (Head k)
 head_still n k m sweep claims.ReadHead at = store_again m (Head k) (Head k)
-head_still n k m sweep (claims.ReadLink q t) at = absurd at
-head_still n k m sweep (claims.Take q t next) at = absurd at
-head_still n k m sweep (claims.StoreUsed q t) at = absurd at
 head_still n k m sweep (claims.Withdraw own) at = refl
 head_still n k m sweep claims.Sweeps at = sweep_leaves n k m sweep sweep.stage at
+head_still n k m sweep _ at = absurd at
 
 -- each status of the claim's kind is used, no slot of it is on top, and the claim stands where it then may
 pub record Used (n : Sizes) (m : Word → ℕ) (claim : Claim) : Type 0 where

@@ -15,7 +15,7 @@ use Rattle.source_machine.specs.Proper.{IsProper, has}
 use Rattle.source_machine.proofs.Places.{put_same, put_other}
 use Rattle.caller_parts.specs.declared.call.Call.{Call}
 use Rattle.caller_parts.specs.declared.routine.Routine.{Routine}
-use Rattle.caller_parts.specs.declared.routine.Routine.TheVariants.{Idle, LoadSeen, At, InList, Retires, Restarts, Clears, Claims, Zeroes, Announces}
+use Rattle.caller_parts.specs.declared.routine.Routine.TheVariants.{Retires, Zeroes}
 use Rattle.caller_parts.specs.Settings.{Setting, Fits, IsSetting}
 use Rattle.caller_steps.specs.Entries.{Entry, is_idle}
 use Rattle.caller_steps.specs.Wants.{wants}
@@ -39,7 +39,7 @@ use Rattle.oa_simulation.specs.sim_relation.Views.{Plan, IsPlan, Caller}
 use Rattle.oa_simulation.specs.sim_relation.Shared.{IsOf}
 use Rattle.oa_simulation.specs.sim_relation.Worlds.{World}
 use Rattle.oa_simulation.proofs.sim_steps.Pools.Core.{wants_is}
-use Rattle.oa_simulation.proofs.sim_steps.Pools.Slots.{status_tells}
+use Rattle.chain_laws.proofs.Routines.{status_tells}
 use Rattle.oa_simulation.proofs.sim_steps.Dispatching.{steps_keep}
 use Rattle.oa_simulation.proofs.Starting.{IsFirst}
 use Rattle.oa_simulation.proofs.FirstWords.{first_words}
@@ -71,16 +71,9 @@ pub record SettledBeside (t : Plan) (state : CoreState) (z : Shadow) (present : 
 
 -- an idle caller works on nothing, and one that takes a call neither
 idle_rests : (e : Entry) (r : Routine) (j : ℕ) → is_idle r ≡ true → WorksAt e r j → ⊥
-idle_rests e Idle j is works = works
-idle_rests e (LoadSeen why) j is works = works
-idle_rests e At j is works = works
-idle_rests e (InList k) j is works = works
 idle_rests e (Retires retirement go) j is works = let no : false ≡ true = is in absurd (let bad : ⊥ = cc in bad)
-idle_rests e Restarts j is works = works
-idle_rests e (Clears next) j is works = works
-idle_rests e (Claims claim) j is works = works
 idle_rests e (Zeroes k field) j is works = let no : false ≡ true = is in absurd (let bad : ⊥ = cc in bad)
-idle_rests e (Announces announcing) j is works = works
+idle_rests e _ j is works = works
 
 module _ (callers c : ℕ) (who : ℕ → Caller) (x' : Caller) (j : ℕ) where
   -- another caller works on it

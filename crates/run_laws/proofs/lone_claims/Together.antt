@@ -48,8 +48,8 @@ use Rattle.core_runs.specs.core_pools.Pooled.{standings, pool_of}
 use Rattle.core_runs.proofs.core_pools.Going.{past_callers}
 use Rattle.core_runs.proofs.core_pools.Pooling.{leads_hold, leads_tell}
 use Rattle.target_laws.specs.target_runs.Runnable.{IsRunnable}
-use Rattle.oa_simulation.proofs.sim_steps.Pools.Slots.{status_tells}
-use Rattle.oa_simulation.specs.sim_relation.Views.{Owner, Null, Pool, Held, Living, Retiring, Dead, Shared}
+use Rattle.chain_laws.proofs.Routines.{status_tells}
+use Rattle.oa_simulation.specs.sim_relation.Views.{Owner, Pool, Dead, Shared}
 use Rattle.oa_simulation.specs.sim_relation.Shared.{Slot, IsOf}
 use Rattle.oa_simulation.specs.sim_relation.Callers.{HoldsAt}
 use Rattle.oa_simulation.specs.Shadow.{shadow}
@@ -66,21 +66,15 @@ use Rattle.caller_parts.specs.declared.setting.Reclamation.TheVariants.{Optimist
 
 -- a slot's status by its owner: used, ready, or retired with its name's tag
 kind_of : (o : Owner) (word n : ℕ) (tag : Option ℕ) (rt pb : Bool) → Slot o word n tag rt pb → IsOf kinds.Used word ⊎ IsOf kinds.Ready word ⊎ ((p : ℕ) × (word ≡ status_word p kinds.Retired) × (tag ≡ Some p))
-kind_of Null word n tag rt pb slot = inl slot.0
 kind_of Pool word n tag rt pb slot = inr (inl slot.0)
-kind_of (Held c k) word n tag rt pb slot = inl slot.0
-kind_of Living word n tag rt pb slot = inl slot.0
-kind_of (Retiring c) word n tag rt pb slot = inl slot.0
 kind_of Dead word n tag rt pb slot = inr (inr (slot.0, slot.1, slot.2))
+kind_of _ word n tag rt pb slot = inl slot.0
 
 -- a name that isn't retired is in a used slot
 named_used : (o : Owner) (word n : ℕ) (tag : Option ℕ) (rt pb : Bool) → Slot o word n tag rt pb → ((p : ℕ) → tag ≡ Some p → rt ≡ true) → n ≢ 0 → rt ≡ false → IsOf kinds.Used word
-named_used Null word n tag rt pb slot tagged some alive = slot.0
 named_used Pool word n tag rt pb slot tagged some alive = absurd (some slot.1)
-named_used (Held c k) word n tag rt pb slot tagged some alive = slot.0
-named_used Living word n tag rt pb slot tagged some alive = slot.0
-named_used (Retiring c) word n tag rt pb slot tagged some alive = slot.0
 named_used Dead word n tag rt pb slot tagged some alive = absurd (let no : true ≡ false = sym (tagged slot.0 slot.2) ∙ alive in cc)
+named_used _ word n tag rt pb slot tagged some alive = slot.0
 
 module _ (target : Target) (text : Text) (setting : Setting) (runs : IsRunnable target text) (own : IsSetting setting) (fits : Fits target setting) (lone : setting.sizes.callers ≡ 1) (events : List CoreEvent) (state : CoreState) (k : Stood target text setting events state) where
   abbrev m : Word → ℕ

@@ -65,23 +65,7 @@ plain fields (instr.LoadPick d x count a) registers = loads (Cell (x + remainder
 plain fields (instr.LoadField d a f) registers = loads (FieldOf (slot_in registers a) (place_of fields f))
 plain fields (instr.Put a f b) registers = λ m d. omega arith
 plain fields (instr.Cas exchange l) registers = exchanges fields exchange registers
-plain fields (instr.Set d n) registers = tt
-plain fields (instr.Mov d a) registers = tt
-plain fields (instr.Add d a b) registers = tt
-plain fields (instr.Sub d a b) registers = tt
-plain fields (instr.Rem d a n) registers = tt
-plain fields (instr.Mark d a) registers = tt
-plain fields (instr.Unmark d a) registers = tt
-plain fields (instr.Null d) registers = tt
-plain fields (instr.Jump l) registers = tt
-plain fields (instr.IfEq a b l) registers = tt
-plain fields (instr.IfLess a b l) registers = tt
-plain fields (instr.IfMarked a l) registers = tt
-plain fields (instr.New d kind) registers = tt
-plain fields (instr.Commit entries) registers = tt
-plain fields (instr.Return a) registers = tt
-plain fields instr.ReturnNone registers = tt
-plain fields instr.Again registers = tt
+plain fields _ registers = tt
 
 by_instr : (fields : List FieldDecl) (c : ℕ) (o : Option TargetInstr) (registers : Registers) → AllRise (instr_wanted fields c o registers)
 by_instr fields c None registers = tt
@@ -103,14 +87,11 @@ by_warning (Announced own) c bound = loads (Warning c)
 
 by_sweep : (scheme : Scheme) (stage : SweepStage) (bound : ℕ) → Rises (sweep_wants_at scheme stage bound)
 by_sweep scheme sweeps.ReadPhase bound = loads Phase
-by_sweep scheme (sweeps.RaisePhase p) bound = λ m d. omega arith
 by_sweep scheme (sweeps.Warn c) bound = by_warning scheme c bound
 by_sweep scheme (sweeps.ReadHazard c r) bound = loads (Hazard c r)
 by_sweep scheme (sweeps.ReadStatus j) bound = loads (Status j)
-by_sweep scheme (sweeps.MakeReady j q) bound = λ m d. omega arith
 by_sweep scheme (sweeps.PushHead k j) bound = loads (Head k)
-by_sweep scheme (sweeps.PushLink j q t) bound = λ m d. omega arith
-by_sweep scheme (sweeps.PushTop k j q t) bound = λ m d. omega arith
+by_sweep scheme _ bound = λ m d. omega arith
 
 by_claim : (setting : Setting) (k : ℕ) (sweep : Sweep) (stage : ClaimStage) → sweep.scheme ≡ Warned → ClaimStands setting sweep.scheme k stage → Rises (claim_wants_at k sweep stage)
 by_claim setting k sweep claims.ReadHead warns stands = loads (Head k)

@@ -5,13 +5,13 @@ use Rattle.std.proofs.lemmas.Bool.Decides.{nat_tests}
 use Rattle.norm_lang.specs.declared.registers.Registers.{Registers}
 use Rattle.norm_lang.specs.declared.text.FieldDecl.{FieldDecl}
 use Rattle.target_code.specs.declared.target.TargetInstr.{TargetInstr}
-use Rattle.target_code.specs.declared.target.TargetInstr.TheVariants.{Plain, Check, Guard}
+use Rattle.target_code.specs.declared.target.TargetInstr.TheVariants.{Check}
 use Rattle.target_code.specs.declared.target.Target.{Target}
 use Rattle.oa_words.specs.Words.{Word, Warning}
 use Rattle.phase_pools.specs.Accesses.{WordAccess, Loads, word_of}
 use Rattle.source_machine.proofs.Places.{each_put}
 use Rattle.caller_parts.specs.declared.routine.Routine.{Routine}
-use Rattle.caller_parts.specs.declared.routine.Routine.TheVariants.{Idle, LoadSeen, At, InList, Retires, Restarts, Clears, Claims, Zeroes, Announces}
+use Rattle.caller_parts.specs.declared.routine.Routine.TheVariants.{At}
 use Rattle.caller_parts.specs.Settings.{Setting}
 use Rattle.caller_steps.specs.Entries.{Entry, idle_entry, instr_in}
 use Rattle.caller_steps.specs.Belongs.{Belongs}
@@ -33,22 +33,12 @@ use Rattle.oa_simulation.proofs.sim_relation.Schemes.{after_is, never_belongs}
 
 by_instr : (fields : List FieldDecl) (c : ℕ) (o : Option TargetInstr) (registers : Registers) (seen : ℕ) (memory : Word → ℕ) (a : WordAccess) → instr_wanted fields c o registers ≡ Some a
     → fails_at o seen (memory (Warning c)) ≡ false → fails_at o seen (memory (word_of a)) ≡ false
-by_instr fields c None registers seen memory a want goes = refl
-by_instr fields c (Some (Plain i)) registers seen memory a want goes = refl
 by_instr fields c (Some Check) registers seen memory a want goes = let same : Loads (Warning c) ≡ a = cc in subst (λ (b : WordAccess). not (memory (word_of b) == seen) ≡ false) same goes
-by_instr fields c (Some (Guard r)) registers seen memory a want goes = refl
+by_instr fields c _ registers seen memory a want goes = refl
 
 by_routine : (target : Target) (e : Entry) (r : Routine) (memory : Word → ℕ) (a : WordAccess) → wanted target e r ≡ Some a → renews_at target e r (memory (Warning e.number)) ≡ false → renews_at target e r (memory (word_of a)) ≡ false
-by_routine target e Idle memory a want goes = goes
-by_routine target e (LoadSeen why) memory a want goes = goes
 by_routine target e At memory a want goes = by_instr target.fields e.number (instr_in target e) e.hand.registers e.hand.seen memory a want goes
-by_routine target e (InList k) memory a want goes = goes
-by_routine target e (Retires retirement go) memory a want goes = goes
-by_routine target e Restarts memory a want goes = goes
-by_routine target e (Clears next) memory a want goes = goes
-by_routine target e (Claims claim) memory a want goes = goes
-by_routine target e (Zeroes k field) memory a want goes = goes
-by_routine target e (Announces announcing) memory a want goes = goes
+by_routine target e _ memory a want goes = goes
 
 found_begins : (target : Target) (e : Entry) (memory : Word → ℕ) (a : WordAccess) → wants target e ≡ Some a → renews_at target e e.routine (memory (Warning e.number)) ≡ false → renews_at target e e.routine (memory (word_of a)) ≡ false
 unfolding wants

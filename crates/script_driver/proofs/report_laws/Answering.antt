@@ -3,10 +3,10 @@ use Rattle.std.proofs.Common.{◌≡◌, ℕ, zero, suc, Bool, true, false, List
 use Rattle.std.proofs.lemmas.List.{length-map}
 use Rattle.std.specs.Prelude.{slice_get}
 use Rattle.std.specs.Option.{option_map}
+use Rattle.norm_lang.specs.declared.reply.SourceReply.{SourceReply}
+use Rattle.norm_lang.specs.declared.reply.SourceReply.TheVariants as replies
 use Rattle.target_code.specs.declared.target.Target.{Target}
 use Rattle.caller_parts.specs.declared.call.Call.{Call}
-use Rattle.caller_parts.specs.declared.call.Reply.{Reply}
-use Rattle.caller_parts.specs.declared.call.Reply.TheVariants as replies
 use Rattle.caller_parts.specs.declared.call.Replied.{Replied}
 use Rattle.caller_parts.specs.declared.call.Running.{Running}
 use Rattle.caller_parts.specs.Pairing.{reply_of, run_of}
@@ -50,8 +50,8 @@ module _ (target : Target) (setting : Setting) (scripts : List (List Call)) (fue
 
     told : (replied : Replied) → slice_get e.replies i ≡ Some replied → IsCausedAnswer target setting fuel events state c i (answers.Replied replied.reply)
     told replied is = record {
-      phases = λ p. ((λ z. (why.phases p).0 (replied_is replied.reply (replies.Phases p) z)), (λ found. ap (λ (r : Reply). answers.Replied r) ((why.phases p).1 found)));
-      full = ((λ z. why.full.0 (replied_is replied.reply replies.Full z)), (λ failed. ap (λ (r : Reply). answers.Replied r) (why.full.1 failed)));
+      phases = λ p. ((λ z. (why.phases p).0 (replied_is replied.reply (replies.Phases p) z)), (λ found. ap (λ (r : SourceReply). answers.Replied r) ((why.phases p).1 found)));
+      full = ((λ z. why.full.0 (replied_is replied.reply replies.Full z)), (λ failed. ap (λ (r : SourceReply). answers.Replied r) (why.full.1 failed)));
       spent = ((λ z. absurd cc), (λ out. absurd (let z : Some replied ≡ None = sym is ∙ (sym replies_are ∙ out.unanswered) in cc)));
       unreached = ((λ z. absurd cc), (λ none. absurd (let z : Some (run_of replied) ≡ None = sym taken ∙ none in cc)));
     } where

@@ -6,7 +6,7 @@ use Rattle.std.proofs.lemmas.Option.{slice_get-map}
 use Rattle.std.specs.Prelude.{slice_get}
 use Rattle.std.specs.List.{All}
 use Rattle.std.specs.Option.{option_map}
-use Rattle.caller_parts.specs.declared.call.Reply.{Reply}
+use Rattle.norm_lang.specs.declared.reply.SourceReply.{SourceReply}
 use Rattle.caller_parts.specs.declared.call.Replied.{Replied}
 use Rattle.caller_parts.specs.Pairing.{reply_of}
 use Rattle.caller_steps.specs.Entries.{Entry, is_idle}
@@ -29,7 +29,7 @@ pub runs_false : (idle : Bool) (i n : ℕ) → runs_at idle i n ≡ false → id
 runs_false true i n is busy same = let z : true ≡ false = busy in cc
 runs_false false i n is busy same = let z : true ≡ false = sym (eq-eqb i n same) ∙ is in cc
 
-pub replied_is : (a b : Reply) → answers.Replied a ≡ answers.Replied b → a ≡ b
+pub replied_is : (a b : SourceReply) → answers.Replied a ≡ answers.Replied b → a ≡ b
 replied_is a b is = cc
 
 -- ---- the answer to a call
@@ -39,10 +39,10 @@ still e i = runs_at (is_idle e.routine) i (length (map reply_of e.replies))
 
 module _ (state : CoreState) (c : ℕ) (e : Entry) (there : slice_get state.entries c ≡ Some e) (i : ℕ) where
   pub answer_is : answer_in state c i ≡ answer_from (option_map reply_of (slice_get e.replies i)) (still e i)
-  answer_is = ap (λ (o : Option Entry). answer_by o i) there ∙ ap (λ (o : Option Reply). answer_from o (still e i)) (slice_get-map reply_of e.replies i)
+  answer_is = ap (λ (o : Option Entry). answer_by o i) there ∙ ap (λ (o : Option SourceReply). answer_from o (still e i)) (slice_get-map reply_of e.replies i)
 
   -- the reply that an answer is
-  pub told_reply : (reply : Reply) → answer_in state c i ≡ answers.Replied reply → (replied : Replied) × (slice_get e.replies i ≡ Some replied) × (replied.reply ≡ reply)
+  pub told_reply : (reply : SourceReply) → answer_in state c i ≡ answers.Replied reply → (replied : Replied) × (slice_get e.replies i ≡ Some replied) × (replied.reply ≡ reply)
   told_reply reply is = of (slice_get e.replies i) refl (sym answer_is ∙ is) where
     un : (b : Bool) → answer_from None b ≡ answers.Replied reply → ⊥
     un true z = cc

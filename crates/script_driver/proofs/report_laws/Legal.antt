@@ -4,17 +4,14 @@ use Rattle.std.proofs.lemmas.List.{length-map, length-append}
 use Rattle.std.proofs.lemmas.Bool.Decides.{nat_tests}
 use Rattle.std.specs.Prelude.{slice_get, slice_index, if◌then◌else◌}
 use Rattle.norm_lang.specs.declared.text.Op.{Op}
-use Rattle.source_machine.specs.declared.event.SourceReply.{SourceReply}
-use Rattle.source_machine.specs.declared.event.SourceReply.TheVariants as source_replies
+use Rattle.norm_lang.specs.declared.reply.SourceReply.{SourceReply}
+use Rattle.norm_lang.specs.declared.reply.SourceReply.TheVariants as replies
 use Rattle.caller_parts.specs.declared.call.Call.{Call}
-use Rattle.caller_parts.specs.declared.call.Reply.{Reply}
-use Rattle.caller_parts.specs.declared.call.Reply.TheVariants as replies
 use Rattle.caller_parts.specs.declared.call.Running.{Running}
 use Rattle.caller_parts.specs.Pairing.{run_of}
 use Rattle.caller_steps.specs.Entries.{Entry}
 use Rattle.core_runs.specs.Histories.{running_of}
 use Rattle.core_runs.specs.Scripts.{script_of, HasEnded}
-use Rattle.oa_simulation.specs.sim_relation.Callers.{source_reply}
 use Rattle.run_laws.specs.begin_laws.Begins.{BeginsScript}
 use Rattle.documents.specs.declared.document.ScriptCall.{ScriptCall}
 use Rattle.script_plans.specs.Shapes.{op_number}
@@ -112,7 +109,7 @@ Front (x ∷ begun) (y ∷ calls) = (x ≡ y) × Front begun calls
 
 -- from the call at an index on, by the calls from there on that were begun, and their replies
 pub record Answered (answer : ℕ → Answer) (i : ℕ) (begun : List Call) (got : List SourceReply) : Type 0 where
-  pub replied : (k j : ℕ) (reply : Reply) → k ≡ i + j → answer k ≡ answers.Replied reply → slice_get got j ≡ Some (source_reply reply)
+  pub replied : (k j : ℕ) (reply : SourceReply) → k ≡ i + j → answer k ≡ answers.Replied reply → slice_get got j ≡ Some reply
   pub unreached : (k j : ℕ) → k ≡ i + j → answer k ≡ answers.Unreached → length begun ≤ j
 
 next_got : (got : List SourceReply) (j : ℕ) → slice_get (drop 1 got) j ≡ slice_get got (suc j)
@@ -134,30 +131,26 @@ none_later answer i h = record {
 -- ---- one call
 
 never_begun : (answer : ℕ → Answer) (i : ℕ) → Answered answer i [] [] → (a : Answer) → answer i ≡ a → NeverBegun (answer_shown a)
-never_begun answer i h (answers.Replied reply) is = absurd (let z : None ≡ Some (source_reply reply) = h.replied i 0 reply (omega arith) is in cc)
+never_begun answer i h (answers.Replied reply) is = absurd (let z : None ≡ Some reply = h.replied i 0 reply (omega arith) is in cc)
 never_begun answer i h answers.Spent is = inr refl
 never_begun answer i h answers.Unreached is = inl refl
 
 is_spent : (answer : ℕ → Answer) (i : ℕ) (x : Call) (begun : List Call) → Answered answer i (x ∷ begun) [] → (a : Answer) → answer i ≡ a → answer_shown a ≡ Spent
-is_spent answer i x begun h (answers.Replied reply) is = absurd (let z : None ≡ Some (source_reply reply) = h.replied i 0 reply (omega arith) is in cc)
+is_spent answer i x begun h (answers.Replied reply) is = absurd (let z : None ≡ Some reply = h.replied i 0 reply (omega arith) is in cc)
 is_spent answer i x begun h answers.Spent is = refl
 is_spent answer i x begun h answers.Unreached is = let le = h.unreached i 0 (omega arith) is in let no : ⊥ = omega (arith, le) in absurd no
 
-told_reply : (reply : Reply) → AnswerTold (source_reply reply) (answer_shown (answers.Replied reply))
+told_reply : (reply : SourceReply) → AnswerTold reply (answer_shown (answers.Replied reply))
 told_reply (replies.Number n) = refl
-told_reply replies.Nothing = tt
-told_reply replies.Full = tt
-told_reply (replies.Phases p) = tt
+told_reply _ = tt
 
 any_spent : (reply : SourceReply) → AnswerTold reply Spent
-any_spent (source_replies.Number v) = tt
-any_spent source_replies.Nothing = tt
-any_spent source_replies.Full = tt
-any_spent (source_replies.Phases p) = tt
+any_spent (replies.Number v) = tt
+any_spent _ = tt
 
 answer_told : (answer : ℕ → Answer) (i : ℕ) (x : Call) (begun : List Call) (r : SourceReply) (got : List SourceReply) → Answered answer i (x ∷ begun) (r ∷ got) → (a : Answer) → answer i ≡ a → AnswerTold r (answer_shown a)
 answer_told answer i x begun r got h (answers.Replied reply) is =
-    let same : r ≡ source_reply reply = (let z : Some r ≡ Some (source_reply reply) = h.replied i 0 reply (omega arith) is in cc) in
+    let same : r ≡ reply = (let z : Some r ≡ Some reply = h.replied i 0 reply (omega arith) is in cc) in
     subst (λ y. AnswerTold y (answer_shown (answers.Replied reply))) (sym same) (told_reply reply)
 answer_told answer i x begun r got h answers.Spent is = any_spent r
 answer_told answer i x begun r got h answers.Unreached is = let le = h.unreached i 0 (omega arith) is in let no : ⊥ = omega (arith, le) in absurd no

@@ -11,7 +11,9 @@ use Rattle.caller_parts.specs.Settings.{IsSetting, HaveSlots, are_phases}
 use Rattle.caller_parts.proofs.KindCounts.{kinds_have_slots}
 use Rattle.documents.specs.declared.document.Document.{Document}
 use Rattle.script_plans.specs.declared.fault.ShapeFault.{ShapeFault}
-use Rattle.script_plans.specs.Shapes.{first_of, most_callers, most_kinds, most_fields, most_cells, most_fuel, fault_unless, kind_slots, kind_nodes, sizes_of, setting_of, sizes_fault, nodes_fault, rest_fault, setting_fault, scripts_fault}
+use Rattle.oa_words.specs.declared.limits.TheConstants.{MOST_CALLERS, MOST_KINDS, MOST_FIELDS, MOST_CELLS}
+use Rattle.script_plans.specs.declared.limits.TheConstants.{MOST_FUEL}
+use Rattle.script_plans.specs.Shapes.{first_of, fault_unless, kind_slots, kind_nodes, sizes_of, setting_of, sizes_fault, nodes_fault, rest_fault, setting_fault, scripts_fault}
 use Rattle.script_plans.specs.Plans.{IsRunnable}
 use Rattle.script_plans.proofs.Counting.{are_roomy}
 use Rattle.script_plans.proofs.Ready.{all_kinds}
@@ -57,32 +59,32 @@ module _ (document : Document) (runs : IsRunnable document) where
   last = (both (rest_fault document) None after_sizes.1).0
 
   abbrev after_fields : List (Option ShapeFault)
-  after_fields = fault_unless 4 (is_count most_cells (sizes_of document).cells) ∷ []
+  after_fields = fault_unless 4 (is_count MOST_CELLS (sizes_of document).cells) ∷ []
 
   abbrev after_slots : List (Option ShapeFault)
-  after_slots = fault_unless 3 (is_count most_fields (sizes_of document).fields) ∷ after_fields
+  after_slots = fault_unless 3 (is_count MOST_FIELDS (sizes_of document).fields) ∷ after_fields
 
   abbrev after_callers : List (Option ShapeFault)
-  after_callers = fault_unless 2 (is_count most_kinds kinds && are_slots (sizes_of document)) ∷ after_slots
+  after_callers = fault_unless 2 (is_count MOST_KINDS kinds && are_slots (sizes_of document)) ∷ after_slots
 
-  callers : (is_count most_callers (sizes_of document).callers ≡ true) × (first_of after_callers ≡ None)
-  callers = passed 1 (is_count most_callers (sizes_of document).callers) after_callers setting.0
+  callers : (is_count MOST_CALLERS (sizes_of document).callers ≡ true) × (first_of after_callers ≡ None)
+  callers = passed 1 (is_count MOST_CALLERS (sizes_of document).callers) after_callers setting.0
 
-  slots : ((is_count most_kinds kinds && are_slots (sizes_of document)) ≡ true) × (first_of after_slots ≡ None)
-  slots = passed 2 (is_count most_kinds kinds && are_slots (sizes_of document)) after_slots callers.1
+  slots : ((is_count MOST_KINDS kinds && are_slots (sizes_of document)) ≡ true) × (first_of after_slots ≡ None)
+  slots = passed 2 (is_count MOST_KINDS kinds && are_slots (sizes_of document)) after_slots callers.1
 
-  fields : (is_count most_fields (sizes_of document).fields ≡ true) × (first_of after_fields ≡ None)
-  fields = passed 3 (is_count most_fields (sizes_of document).fields) after_fields slots.1
+  fields : (is_count MOST_FIELDS (sizes_of document).fields ≡ true) × (first_of after_fields ≡ None)
+  fields = passed 3 (is_count MOST_FIELDS (sizes_of document).fields) after_fields slots.1
 
   -- one to four kinds
   pub few : (1 ≤ kinds) × (kinds ≤ 4)
-  few = counted most_kinds kinds (both_true (is_count most_kinds kinds) (are_slots (sizes_of document)) slots.0).0
+  few = counted MOST_KINDS kinds (both_true (is_count MOST_KINDS kinds) (are_slots (sizes_of document)) slots.0).0
 
   pub kinds_are_all : length (kind_slots document) ≡ kinds
   kinds_are_all = all_kinds document few.1
 
   of_kinds : (list_all (is_count 4096) (kind_slots document) ≡ true) × (nat_le (together (kind_slots document)) 4096 ≡ true)
-  of_kinds = both_true (list_all (is_count 4096) (kind_slots document)) (nat_le (together (kind_slots document)) 4096) (both_true (is_count most_kinds kinds) (are_slots (sizes_of document)) slots.0).1
+  of_kinds = both_true (list_all (is_count 4096) (kind_slots document)) (nat_le (together (kind_slots document)) 4096) (both_true (is_count MOST_KINDS kinds) (are_slots (sizes_of document)) slots.0).1
 
   kinds_are : AreKinds (sizes_of document)
   kinds_are =
@@ -102,16 +104,16 @@ module _ (document : Document) (runs : IsRunnable document) where
 
   sizes : AreSizes (sizes_of document)
   sizes =
-      let a = counted most_callers (sizes_of document).callers callers.0 in
-      let c = counted most_fields (sizes_of document).fields fields.0 in
-      let d = counted most_cells (sizes_of document).cells (passed 4 (is_count most_cells (sizes_of document).cells) [] fields.1).0 in
+      let a = counted MOST_CALLERS (sizes_of document).callers callers.0 in
+      let c = counted MOST_FIELDS (sizes_of document).fields fields.0 in
+      let d = counted MOST_CELLS (sizes_of document).cells (passed 4 (is_count MOST_CELLS (sizes_of document).cells) [] fields.1).0 in
       (a.0, a.1, some_slot, at_most (together (kind_slots document)) 4096 of_kinds.1, c.0, c.1, d.0, d.1, kinds_are)
 
   nodes : HaveSlots (sizes_of document) (kind_nodes document.text.nodes)
   nodes = kinds_have_slots (sizes_of document) (kind_nodes document.text.nodes) (are_roomy (sizes_of document) (kind_nodes document.text.nodes) after_sizes.0)
 
-  phased : (are_phases document.first document.last ≡ true) × (first_of (fault_unless 7 (is_count most_fuel document.fuel) ∷ []) ≡ None)
-  phased = passed 6 (are_phases document.first document.last) (fault_unless 7 (is_count most_fuel document.fuel) ∷ []) last
+  phased : (are_phases document.first document.last ≡ true) × (first_of (fault_unless 7 (is_count MOST_FUEL document.fuel) ∷ []) ≡ None)
+  phased = passed 6 (are_phases document.first document.last) (fault_unless 7 (is_count MOST_FUEL document.fuel) ∷ []) last
 
   first : (1 ≤ document.first) × ((nat_le document.first document.last && nat_le document.last (2 ^ 50)) ≡ true)
   first = let parts = both_true (nat_le 1 document.first) (nat_le document.first document.last && nat_le document.last (2 ^ 50)) phased.0 in (at_most 1 document.first parts.0, parts.1)
@@ -124,4 +126,4 @@ module _ (document : Document) (runs : IsRunnable document) where
 
   -- each call may make a step
   pub fuel_is : 1 ≤ document.fuel
-  fuel_is = (counted most_fuel document.fuel (passed 7 (is_count most_fuel document.fuel) [] phased.1).0).0
+  fuel_is = (counted MOST_FUEL document.fuel (passed 7 (is_count MOST_FUEL document.fuel) [] phased.1).0).0

@@ -8,17 +8,16 @@ use Rattle.norm_lang.specs.declared.text.Text.{Text}
 use Rattle.norm_lang.specs.Shipped.{set_text, queue_text}
 use Rattle.text_laws.specs.StandsFor.{ShippedText, TheList, TheSet, TheQueue, IsShipped, shipped_text}
 use Rattle.target_laws.specs.target_runs.Runnable.{IsRunnable as MayRun}
-use Rattle.source_machine.specs.declared.event.SourceReply.{SourceReply}
+use Rattle.norm_lang.specs.declared.reply.SourceReply.{SourceReply}
 use Rattle.source_machine.specs.declared.state.SourceMachine.{SourceMachine}
 use Rattle.source_machine.specs.Run.{source_replies}
 use Rattle.source_machine.specs.Proper.{IsProper}
-use Rattle.caller_parts.specs.declared.call.Reply.{Reply}
 use Rattle.caller_parts.specs.declared.call.Replied.{Replied}
 use Rattle.caller_parts.specs.Pairing.{reply_of}
 use Rattle.caller_parts.specs.Settings.{Fits, IsSetting}
 use Rattle.caller_steps.specs.Entries.{Entry, is_idle}
 use Rattle.core_runs.specs.Machine.{CoreState, CoreEvent}
-use Rattle.oa_simulation.specs.sim_relation.Callers.{source_reply, replies_of}
+use Rattle.oa_simulation.specs.sim_relation.Callers.{replies_of}
 use Rattle.oa_simulation.specs.Statements.{AgreesWith}
 use Rattle.barrier_check.specs.Paired.{Paired, IsSound}
 use Rattle.run_laws.proofs.Following.{follows}
@@ -51,20 +50,20 @@ one_longer (y ∷ xs) x = let more = one_longer xs x in omega (arith, more)
 module _ (machine : SourceMachine) (state : CoreState) (c : ℕ) (e : Entry) (there : slice_get state.entries c ≡ Some e)
     (agrees : AgreesWith (is_idle e.routine) (replies_of e) (source_replies machine c)) (i : ℕ) where
   count_is : length (replies_of e) ≡ length e.replies
-  count_is = length-map e.replies (λ (replied : Replied). source_reply replied.reply)
+  count_is = length-map e.replies reply_of
 
-  same_reply : (replied : Replied) → slice_get e.replies i ≡ Some replied → slice_get (replies_of e) i ≡ Some (source_reply replied.reply)
-  same_reply replied is = slice_get-map (λ (r : Replied). source_reply r.reply) e.replies i ∙ ap (option_map (λ (r : Replied). source_reply r.reply)) is
+  same_reply : (replied : Replied) → slice_get e.replies i ≡ Some replied → slice_get (replies_of e) i ≡ Some replied.reply
+  same_reply replied is = slice_get-map reply_of e.replies i ∙ ap (option_map reply_of) is
 
   reply_there : (replied : Replied) → slice_get e.replies i ≡ Some replied → (b : Bool) → AgreesWith b (replies_of e) (source_replies machine c)
-      → slice_get (source_replies machine c) i ≡ Some (source_reply replied.reply)
+      → slice_get (source_replies machine c) i ≡ Some replied.reply
   reply_there replied is true same = ap (λ (l : List SourceReply). slice_get l i) same ∙ same_reply replied is
   reply_there replied is false (inl same) = ap (λ (l : List SourceReply). slice_get l i) same ∙ same_reply replied is
-  reply_there replied is false (inr more) = ap (λ (l : List SourceReply). slice_get l i) more.1 ∙ still_there (replies_of e) (more.0 ∷ []) i (source_reply replied.reply) (same_reply replied is)
+  reply_there replied is false (inr more) = ap (λ (l : List SourceReply). slice_get l i) more.1 ∙ still_there (replies_of e) (more.0 ∷ []) i replied.reply (same_reply replied is)
 
   told : (replied : Replied) → slice_get e.replies i ≡ Some replied → IsSourceAnswer machine c i (answers.Replied replied.reply)
   told replied is = record {
-    replied = λ reply z. reply_there replied is (is_idle e.routine) agrees ∙ ap (λ (r : Reply). Some (source_reply r)) (replied_is replied.reply reply z);
+    replied = λ reply z. reply_there replied is (is_idle e.routine) agrees ∙ ap Some (replied_is replied.reply reply z);
     spent = λ z. absurd (let no : answers.Replied replied.reply ≡ answers.Spent = z in cc);
     unreached = λ z. absurd (let no : answers.Replied replied.reply ≡ answers.Unreached = z in cc);
   }

@@ -9,7 +9,7 @@ use Rattle.norm_lang.specs.declared.text.Text.{Text}
 use Rattle.norm_lang.specs.declared.text.Version.{Version}
 use Rattle.norm_lang.specs.Faults.{LineFault, form_fault, ◌>>=◌, at_line}
 use Rattle.norm_lang.specs.Declarations.{use_line}
-use Rattle.norm_lang.specs.Grammar.{Section, Start, Opening, Kinds, Fields, Counts, Nodes, Roots, Begun, Generator, WrapUp, Shipped, Draft, draft_at, plain, finished, in_section, in_place, after_words as words_drafted, after_line as line_drafted, after_lines as lines_drafted}
+use Rattle.norm_lang.specs.Grammar.{Section, Opening, Shipped, Draft, draft_at, plain, finished, in_section, in_place, after_words as words_drafted, after_line as line_drafted, after_lines as lines_drafted}
 use Rattle.text_laws.proofs.DeclarationsSaid.{NamesBy, use_said}
 use Rattle.norm_parser.specs.FrontRead.{from_line, front_of, line_word, ends_text, names_text, text_lines, after_text, end_at, ended, front_read}
 use Rattle.documents.specs.declared.document.Document.{Document}
@@ -48,16 +48,7 @@ used Opening draft next rest left read = go (use_line rest) refl read
         let e : record draft { section = Shipped; text = text } ≡ next = ap (given next) read in
         subst (IsUsed (codes "use" ∷ rest)) e (record { named = named_by rest text is; section = refl; left = left })
     go (Err fault) is read = absurd (let f : ⊥ = cc in f)
-used Start draft next rest left read = impossible next read
-used Kinds draft next rest left read = impossible next read
-used Fields draft next rest left read = impossible next read
-used Counts draft next rest left read = impossible next read
-used Nodes draft next rest left read = impossible next read
-used Roots draft next rest left read = impossible next read
-used Begun draft next rest left read = impossible next read
-used Generator draft next rest left read = impossible next read
-used WrapUp draft next rest left read = impossible next read
-used Shipped draft next rest left read = impossible next read
+used _ draft next rest left read = impossible next read
 
 used_at : (left : ℕ) (draft next : Draft) (rest : List (List ℕ)) → draft.left ≡ left → in_place left draft (codes "use") rest ≡ Ok next → IsUsed (codes "use" ∷ rest) next
 used_at zero draft next rest same read = used draft.section draft next rest same read

@@ -2,9 +2,9 @@
 use Rattle.std.specs.Prelude.{◌≡◌, ◌↔◌, ℕ, List, None, slice_get}
 use Rattle.std.specs.List.{All}
 use Rattle.source_machine.specs.Proper.{IsProper}
+use Rattle.norm_lang.specs.declared.reply.SourceReply.TheVariants as replies
 use Rattle.target_code.specs.declared.target.Target.{Target}
 use Rattle.caller_parts.specs.Settings.{Setting}
-use Rattle.caller_parts.specs.declared.call.Reply.TheVariants as replies
 use Rattle.core_runs.specs.Machine.{CoreState, CoreEvent}
 use Rattle.core_runs.specs.Histories.{calls_in}
 use Rattle.claim_laws.specs.CallSteps.{steps_of_call}

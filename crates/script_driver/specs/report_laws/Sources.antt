@@ -5,9 +5,8 @@ use Rattle.norm_lang.specs.declared.text.Text.{Text}
 use Rattle.text_laws.specs.StandsFor.{ShippedText, IsShipped, spelled_use, shipped_text}
 use Rattle.source_machine.specs.declared.state.SourceMachine.{SourceMachine}
 use Rattle.source_machine.specs.Run.{source_replies}
-use Rattle.caller_parts.specs.declared.call.Reply.{Reply}
+use Rattle.norm_lang.specs.declared.reply.SourceReply.{SourceReply}
 use Rattle.core_runs.specs.Machine.{CoreState, CoreEvent}
-use Rattle.oa_simulation.specs.sim_relation.Callers.{source_reply}
 use Rattle.oa_simulation.specs.Shadow.{shadow}
 use Rattle.run_laws.specs.Source.{FollowsSource}
 use Rattle.documents.specs.declared.document.Document.{Document}
@@ -21,10 +20,10 @@ use Rattle.document_runs.specs.declared.report.Report.{Report}
 -- ---- a line against the source
 
 -- a reply that is printed is the source's to this call, so that a call printed as `full` or `phases` was given up at its `new`; a
--- spent one runs still in the source, or has ended there, by its last access or the local code after it, with a reply that isn't
--- printed; one that wasn't reached has no reply there
+-- spent one has no reply there, or has ended there, by its last access or the local code after it, with a reply that isn't printed;
+-- one that wasn't reached has no reply there
 pub record IsSourceAnswer (machine : SourceMachine) (caller index : ℕ) (answer : Answer) : Type 0 where
-  pub replied : (reply : Reply) → answer ≡ answers.Replied reply → slice_get (source_replies machine caller) index ≡ Some (source_reply reply)
+  pub replied : (reply : SourceReply) → answer ≡ answers.Replied reply → slice_get (source_replies machine caller) index ≡ Some reply
   pub spent : answer ≡ answers.Spent → (length (source_replies machine caller) ≡ index) ⊎ (length (source_replies machine caller) ≡ index + 1)
   pub unreached : answer ≡ answers.Unreached → length (source_replies machine caller) ≤ index
 

@@ -76,26 +76,16 @@ stays_below code inside here there (goes_on _ next _ is rest) lt =
 
 -- an instruction that isn't local, and that its method may have, is one at which local code may stop
 pub stops_there : (wrapup : Bool) (i : Instr) (at : ℕ) (registers : Registers) → local_step i at registers ≡ None → is_end_of_other wrapup i ≡ false → IsTrue (may_stop wrapup i)
-stops_there false (instr.Return a) at registers none own = absurd (let no : true ≡ false = own in cc)
-stops_there false instr.ReturnNone at registers none own = absurd (let no : true ≡ false = own in cc)
-stops_there false instr.Again at registers none own = absurd (let no : true ≡ false = own in cc)
-stops_there true (instr.Commit entries) at registers none own = absurd (let no : true ≡ false = own in cc)
 stops_there false (instr.Commit entries) at registers none own = refl
 stops_there true (instr.Return a) at registers none own = refl
 stops_there true instr.ReturnNone at registers none own = refl
 stops_there true instr.Again at registers none own = refl
-stops_there false (instr.LoadRoot d x) at registers none own = refl
-stops_there false (instr.LoadPick d x n a) at registers none own = refl
-stops_there false (instr.LoadField d a f) at registers none own = refl
-stops_there false (instr.New d kind) at registers none own = refl
-stops_there false (instr.Put a f b) at registers none own = refl
-stops_there false (instr.Cas entry l) at registers none own = refl
-stops_there true (instr.LoadRoot d x) at registers none own = refl
-stops_there true (instr.LoadPick d x n a) at registers none own = refl
-stops_there true (instr.LoadField d a f) at registers none own = refl
-stops_there true (instr.New d kind) at registers none own = refl
-stops_there true (instr.Put a f b) at registers none own = refl
-stops_there true (instr.Cas entry l) at registers none own = refl
+stops_there _ (instr.LoadRoot d x) at registers none own = refl
+stops_there _ (instr.LoadPick d x n a) at registers none own = refl
+stops_there _ (instr.LoadField d a f) at registers none own = refl
+stops_there _ (instr.New d kind) at registers none own = refl
+stops_there _ (instr.Put a f b) at registers none own = refl
+stops_there _ (instr.Cas entry l) at registers none own = refl
 stops_there _ _ at registers none own = absurd cc
 
 pub there_is : {X : Type 0} (xs : List X) (k : ℕ) → k < length xs → (x : X) × (slice_get xs k ≡ Some x)

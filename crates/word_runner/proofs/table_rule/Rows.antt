@@ -7,7 +7,7 @@ use Rattle.target_laws.specs.target_runs.Runnable.{IsRunnable}
 use Rattle.norm_lang.specs.declared.text.Text.{Text}
 use Rattle.oa_words.specs.Words.{Word, Place, Sizes, address_of, in_row}
 use Rattle.oa_words.proofs.Places.{apart}
-use Rattle.phase_pools.specs.Accesses.{WordAccess, Loads, Stores, Exchanges, Raises, word_of}
+use Rattle.phase_pools.specs.Accesses.{WordAccess, Stores, word_of}
 use Rattle.caller_parts.specs.declared.call.Call.{Call}
 use Rattle.caller_parts.specs.Settings.{Setting, Fits, IsSetting}
 use Rattle.caller_steps.specs.Entries.{Entry, is_idle}
@@ -30,10 +30,8 @@ no_place n w k row isnt lt is =
 
 -- a word that is lawful where it stands is one that the caller may be told
 pub told_lawful : (target : Target) (setting : Setting) (a : WordAccess) (n : ℕ) → IsLawful target setting (word_of a) n → Accepts target setting a n
-told_lawful target setting (Loads w) n h = h
 told_lawful target setting (Stores w x) n h = tt
-told_lawful target setting (Exchanges w expected replacement) n h = h
-told_lawful target setting (Raises w x) n h = h
+told_lawful target setting _ n h = h
 
 pub place_free : (target : Target) (text : Text) (setting : Setting) (c : ℕ) → IsRunnable target text → IsSetting setting → Fits target setting → c < setting.sizes.callers
     → slice_index (core_start target setting).words (1 + c) ≡ 0

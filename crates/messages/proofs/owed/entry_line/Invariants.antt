@@ -1,6 +1,6 @@
 use Rattle.std.proofs.Common.{◌≡◌, filter, slice_get}
 use Rattle.messages.specs.Owed.{is_entry_between}
-use Rattle.messages.specs.Places.{line_that}
+use Rattle.message_lines.specs.Places.{line_that}
 use Rattle.messages.proofs.owed.entry_line.Given as goal
 
 abbrev pub invariant-loop-line : goal.invariant-loop-line

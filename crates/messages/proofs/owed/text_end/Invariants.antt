@@ -1,6 +1,6 @@
 use Rattle.std.proofs.Common.{◌≡◌, filter, slice_get}
 use Rattle.messages.specs.Owed.{ends_text_above}
-use Rattle.messages.specs.Places.{line_that}
+use Rattle.message_lines.specs.Places.{line_that}
 use Rattle.messages.proofs.owed.text_end.Given as goal
 
 abbrev pub invariant-loop-line : goal.invariant-loop-line

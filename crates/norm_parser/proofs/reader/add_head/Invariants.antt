@@ -1,14 +1,17 @@
-use Rattle.std.proofs.Common.{◌≡◌, ◌+◌, length}
-use Rattle.oa_text.specs.Lines.{lines_of, numbered}
+use Rattle.std.proofs.Common.{◌≡◌, length}
 use Rattle.text_laws.proofs.DraftLimits.{Kept}
+use Rattle.norm_parser.specs.Cursors.{past_of, IsRestOf}
 use Rattle.norm_parser.specs.DraftShown.{draft_shown}
-use Rattle.norm_parser.specs.FrontRead.{from_line, head_end}
+use Rattle.norm_parser.specs.FrontRead.{head_end}
 use Rattle.norm_parser.proofs.Fronts.{head_from}
 use Rattle.norm_parser.proofs.reader.add_head.Given as goal
 
-abbrev pub invariant-loop-next : goal.invariant-loop-next
-invariant-loop-next l = record {
-  same : head_from (draft_shown l.draft) (from_line l.line l.next-iterator) (length (lines_of l.input) + 1) ≡ head_end (from_line l.line (numbered 1 (lines_of l.input))) (length (lines_of l.input) + 1);
+abbrev pub invariant-lines : goal.invariant-lines
+invariant-lines l = record {
+  same : head_from (draft_shown l.draft) l.cursor.lines (past_of l.fn.cursor) ≡ head_end l.fn.cursor.lines (past_of l.fn.cursor);
   kept : Kept (draft_shown l.draft);
-  past : l.past + length l.next-iterator ≡ length (lines_of l.input) + 1;
+  rest : IsRestOf l.fn.cursor l.cursor;
 }
+
+abbrev pub decreases-lines : goal.decreases-lines
+decreases-lines l = length l.cursor.lines

@@ -1,5 +1,10 @@
-use Rattle.std.proofs.Common.{rules}
+use Rattle.norm_parser.specs.Cursors.{past_of}
+use Rattle.norm_parser.specs.DraftShown.{draft_shown}
+use Rattle.norm_parser.specs.FrontRead.{end_at}
+use Rattle.norm_parser.proofs.Reading.{front_is_within}
 use Rattle.norm_parser.proofs.reader.read_front.Goals as goal
 
-pub returns : goal.returns
-returns c = search rules
+pub returns-in-Ok-clause-within : goal.returns-in-Ok-clause-within
+returns-in-Ok-clause-within c =
+    front_is_within c.args.version c.args.cursor.now.lines (past_of c.args.cursor.now) (draft_shown c.in_ok-draft.draft) (end_at c.front_draft.new.cursor.lines (past_of c.front_draft.new.cursor)) c.in-Ok.text
+    c.in_ok-draft.ensures.exact c.in-Ok.ensures

@@ -1,5 +1,6 @@
 use Rattle.std.proofs.Common.{ℕ, List, subst}
-use Rattle.oa_cli.specs.Judged.{CERTIFICATE_LIMIT, IsOfCertificateBytes}
+use Rattle.statuses.specs.declared.limits.TheConstants.{CERTIFICATE_LIMIT}
+use Rattle.oa_cli.specs.Judged.{IsOfCertificateBytes}
 use Rattle.oa_cli.proofs.Sources.{read, unread}
 use Rattle.oa_cli.proofs.certifying.judge_certificate.Goals as goal
 

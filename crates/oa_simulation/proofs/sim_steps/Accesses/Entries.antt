@@ -1,32 +1,27 @@
 -- The exchanges of a list, of a caller that belongs.
-use Rattle.std.proofs.Common.{ℕ, zero, suc, ◌≡◌, ◌≢◌, ◌==◌, ◌+◌, ◌⊎◌, ◌∙◌, Bool, true, false, List, [], ◌∷◌, map, length, Option, Some, None, arith, inl, inr, ⊎_elim, sym, ap, subst, refl, if◌then◌else◌}
-use Rattle.source_machine.proofs.Names.{has_last}
+use Rattle.std.proofs.Common.{ℕ, zero, suc, ◌≡◌, ◌≢◌, ◌==◌, ◌+◌, ◌⊎◌, ◌∙◌, Bool, true, false, List, [], ◌∷◌, map, length, Option, Some, None, inl, inr, ⊎_elim, sym, ap, subst, refl, if◌then◌else◌}
 use Rattle.std.specs.Prelude.{slice_get, slice_index, nat_lt, is_some}
-use Rattle.std.proofs.lemmas.Bool.{or_parts, cases_eq}
+use Rattle.std.proofs.lemmas.Bool.{cases_eq}
 use Rattle.std.proofs.lemmas.Bool.Decides.{eqb_tells}
 use Rattle.norm_lang.specs.declared.text.Reg.{Reg}
 use Rattle.norm_lang.specs.declared.text.Reg.TheVariants.{Num, Ref}
-use Rattle.norm_lang.specs.declared.text.Place.{Place}
-use Rattle.norm_lang.specs.declared.text.Place.TheVariants as places
 use Rattle.norm_lang.specs.declared.text.CasEntry.{CasEntry}
 use Rattle.norm_lang.specs.declared.text.Instr.TheVariants as instr
 use Rattle.norm_lang.specs.declared.registers.Registers.{Registers}
-use Rattle.norm_lang.specs.Registers.{reference_in}
-use Rattle.norm_lang.specs.InstructionRules.{place_kind, is_unlike, has_wrong_object, has_wrong_operand, retires_stranger}
+use Rattle.norm_lang.specs.InstructionRules.{has_wrong_operand, retires_stranger}
 use Rattle.norm_lang.specs.NormalForm.{IsNormal}
 use Rattle.target_code.specs.declared.target.TargetInstr.{TargetInstr}
-use Rattle.target_code.specs.declared.target.TargetInstr.TheVariants.{Plain, Check, Guard}
+use Rattle.target_code.specs.declared.target.TargetInstr.TheVariants.{Plain}
 use Rattle.target_code.specs.Erasing.{source_place}
 use Rattle.target_code.specs.PathStates.{is_fresh_along}
 use Rattle.phase_pools.specs.Accesses.{word_of}
 use Rattle.phase_pools.specs.Pools.{retire_begun}
 use Rattle.source_machine.specs.declared.event.SourceEvent.TheVariants as events
 use Rattle.source_machine.specs.declared.state.Memory.{Memory}
-use Rattle.source_machine.specs.Memory.{value_in, exchange, with_name_retired}
+use Rattle.source_machine.specs.Memory.{value_in, exchange}
 use Rattle.source_machine.specs.Proper.{has, IsOnce}
 use Rattle.source_machine.specs.Run.{is_enabled_for}
 use Rattle.source_machine.specs.Step.{caller_turn}
-use Rattle.source_machine.proofs.Places.{put_same, put_other}
 use Rattle.caller_parts.specs.declared.routine.AfterRetire.TheVariants as onward
 use Rattle.caller_parts.specs.declared.routine.Routine.{Routine}
 use Rattle.caller_parts.specs.declared.routine.Routine.TheVariants.{InList, Retires}
@@ -40,34 +35,29 @@ use Rattle.target_laws.proofs.Forms.{instructions_are_in_form}
 use Rattle.target_laws.proofs.FreshRules.{open_reads_are_not_fresh}
 use Rattle.run_ahead.specs.Agreeing.{Agree, node_in}
 use Rattle.run_ahead.specs.Standing.{stands_in_list}
-use Rattle.run_ahead.specs.Typed.{IsTyped}
 use Rattle.run_ahead.proofs.Lists.{lists_are_made}
 use Rattle.run_ahead.proofs.Plain.{kind_right}
 use Rattle.run_ahead.specs.Typed.{AreAskedBy}
 use Rattle.run_ahead.specs.TypedCallers.{IsTypedCaller}
-use Rattle.run_ahead.proofs.TypedMemory.{register_for, exchange_typed}
 use Rattle.run_ahead.proofs.Asked.{lists_find_kinds}
 use Rattle.run_ahead.specs.Ahead.{erasing}
-use Rattle.oa_simulation.specs.sim_relation.Views.{Plan, IsPlan, Held, Living, Retiring, Shared, Caller, name_of, link, Resident}
+use Rattle.oa_simulation.specs.sim_relation.Views.{Plan, IsPlan, Shared, Caller, name_of}
 use Rattle.oa_simulation.specs.sim_relation.Shared.{SharedHolds}
 use Rattle.oa_simulation.specs.sim_relation.Callers.{CallerHolds, HoldsAt, IsRetiring, Shown, Base, Trail, Walks, Guards, InExecutor, AfterExchange, spot_of}
 use Rattle.oa_simulation.specs.sim_relation.Points.{StaysProper, IsProperPoint, point, played, makes, done}
 use Rattle.oa_simulation.specs.sim_relation.Steps.{Kept, after_access}
 use Rattle.oa_simulation.proofs.sim_relation.Codes.{instr_is}
-use Rattle.oa_simulation.proofs.sim_relation.Names.{residents_apart, has_slot_of}
 use Rattle.oa_simulation.proofs.sim_relation.Playing.{PlaysEvent, plays_one, plays_first}
-use Rattle.oa_simulation.proofs.sim_steps.Pools.Slots.{apart}
 use Rattle.oa_simulation.proofs.sim_steps.Walks.Committing.{list_ends}
-use Rattle.oa_simulation.proofs.sim_steps.Exchanges.Exchanging.{IsAtHand, hand_resident, Offers, tests_agree}
-use Rattle.oa_simulation.proofs.sim_steps.Exchanges.Entering.{Passes, Enters, enters, entered, published_if, publishes, public_still, public_now, owner_still, living}
-use Rattle.oa_simulation.proofs.sim_steps.Exchanges.Writing.{dropped, fine_dropped, goes_dropped, goes_compose}
+use Rattle.oa_simulation.proofs.sim_steps.Exchanges.Exchanging.{Offers, tests_agree}
+use Rattle.oa_simulation.proofs.sim_steps.Exchanges.Entering.{Enters, enters, entered, published_if, public_now}
 use Rattle.oa_simulation.proofs.sim_steps.Exchanges.Offering.{offers, own_in_generator, none_passes}
-use Rattle.oa_simulation.proofs.sim_steps.Exchanges.Placing.{placed, PlaceThere, place_there, place_writes, makes as makes_after, to_drop, words_written, once_new}
-use Rattle.oa_simulation.proofs.sim_steps.Exchanges.Dropping.{Drops, drops, untagged}
+use Rattle.oa_simulation.proofs.sim_steps.Exchanges.Placing.{words_written}
 use Rattle.oa_simulation.proofs.sim_steps.Accesses.Ending.{entry_fails}
 use Rattle.oa_simulation.proofs.sim_steps.Accesses.Objects.{object_openly}
 use Rattle.oa_simulation.proofs.sim_relation.Moving.{same_names}
 use Rattle.caller_parts.specs.declared.setting.Reclamation.TheVariants.{Optimistic}
+use Rattle.oa_simulation.proofs.sim_steps.Exchanges.Done.{Tried, Done, by_retirement}
 
 -- the source's caller is before the exchange, and what the exchange asks of its registers holds
 pub list_asked : (t : Plan) (s : Shared) (c : ℕ) (x : Caller) (m : Trail t) (k : ℕ) (entry : CasEntry) → IsNormal t.text → Walks t s c x (spot_of x.entry.hand) m
@@ -88,11 +78,8 @@ pub record AtEntry (t : Plan) (c : ℕ) (s : Shared) (x : Caller) (k : ℕ) (ent
 
 -- only a commit has a list
 commit_there : (o : Option TargetInstr) (k : ℕ) (entry : CasEntry) → slice_get (list_of o) k ≡ Some entry → (entries : List CasEntry) × (o ≡ Some (Plain (instr.Commit entries)))
-commit_there None k entry is = absurd (let never : None ≡ Some entry = is in cc)
-commit_there (Some Check) k entry is = absurd (let never : None ≡ Some entry = is in cc)
-commit_there (Some (Guard r)) k entry is = absurd (let never : None ≡ Some entry = is in cc)
 commit_there (Some (Plain (instr.Commit entries))) k entry is = (entries, refl)
-commit_there (Some (Plain _)) k entry is = absurd (let never : None ≡ Some entry = is in cc)
+commit_there _ k entry is = absurd (let never : None ≡ Some entry = is in cc)
 
 -- ---- the cradles
 
@@ -101,7 +88,7 @@ abbrev pub cradles_after : Reg → Registers → List ℕ → List ℕ
 cradles_after (Num r) registers cradles = cradles
 cradles_after (Ref r) registers cradles = map (emptied (slot_in registers (Ref r))) cradles
 
-published_entry : (r : Reg) (e : Entry) → with_published r e ≡ record e { cradles = cradles_after r e.hand.registers e.cradles }
+pub published_entry : (r : Reg) (e : Entry) → with_published r e ≡ record e { cradles = cradles_after r e.hand.registers e.cradles }
 published_entry (Num r) e = refl
 published_entry (Ref r) e = refl
 
@@ -113,12 +100,12 @@ emptied_at slot (x ∷ xs) zero some = ⊎_elim
     (eqb_tells x slot)
 emptied_at slot (x ∷ xs) (suc i) some = emptied_at slot xs i some
 
-left_at : (t : Plan) (r : Reg) (core mirror : Registers) (cradles : List ℕ) (i : ℕ) → slot_in core r ≡ t.home (name_of (value_in mirror r)) → slice_index (cradles_after r core cradles) i ≢ 0
+pub left_at : (t : Plan) (r : Reg) (core mirror : Registers) (cradles : List ℕ) (i : ℕ) → slot_in core r ≡ t.home (name_of (value_in mirror r)) → slice_index (cradles_after r core cradles) i ≢ 0
     → (slice_index (cradles_after r core cradles) i ≡ slice_index cradles i) × (name_of (value_in mirror r) ≢ 0 → slice_index (cradles_after r core cradles) i ≢ t.home (name_of (value_in mirror r)))
 left_at t (Num r) core mirror cradles i agree some = (refl, (λ none. absurd (none refl)))
 left_at t (Ref r) core mirror cradles i agree some = let left = emptied_at (slot_in core (Ref r)) cradles i some in (left.0, (λ named z. left.1 (z ∙ sym agree)))
 
-slot_agrees : (t : Plan) (core mirror : Registers) (entry : CasEntry) → t.home 0 ≡ 0 → Agree t.home core mirror entry.replacement → slot_in core entry.replacement ≡ t.home (name_of (value_in mirror entry.replacement))
+pub slot_agrees : (t : Plan) (core mirror : Registers) (entry : CasEntry) → t.home 0 ≡ 0 → Agree t.home core mirror entry.replacement → slot_in core entry.replacement ≡ t.home (name_of (value_in mirror entry.replacement))
 slot_agrees t core mirror entry null_home agrees = of entry.replacement refl where
   of : (r : Reg) → entry.replacement ≡ r → slot_in core entry.replacement ≡ t.home (name_of (value_in mirror entry.replacement))
   of (Num r) is = ap (slot_in core) is ∙ (sym null_home ∙ ap (λ (a : Reg). t.home (name_of (value_in mirror a))) (sym is))
@@ -126,36 +113,8 @@ slot_agrees t core mirror entry null_home agrees = of entry.replacement refl whe
     by : Agree t.home core mirror entry.replacement → entry.replacement ≡ Ref r → slot_in core entry.replacement ≡ t.home (name_of (value_in mirror entry.replacement))
     by agree is = ap (slot_in core) is ∙ ((subst (λ (a : Reg). Agree t.home core mirror a) is agree).0 ∙ ap (λ (a : Reg). t.home (name_of (value_in mirror a))) (sym is))
 
--- ---- what is published, and where
-
--- what is at hand is so where a name at hand is published
-hand_published : (t : Plan) (s : Shared) (c n o : ℕ) → IsAtHand t s c n → IsAtHand t s c o → IsAtHand t (published_if t s n) c o
-hand_published t s c n o new (inl z) = inl z
-hand_published t s c n o new (inr known) = inr (known.0, of known.1 new) where
-  there : (n ≢ 0 → t.home o ≢ t.home n) → (i : ℕ) × (s.owner (t.home o) ≡ Held c i) → (i : ℕ) × ((published_if t s n).owner (t.home o) ≡ Held c i)
-  there away mine = (mine.0, owner_still t s n (t.home o) away ∙ mine.1)
-
-  by_slot : n ≢ 0 → Resident t s n → (i : ℕ) × (s.owner (t.home o) ≡ Held c i) → ((published_if t s n).public o ≡ true) ⊎ ((i : ℕ) × ((published_if t s n).owner (t.home o) ≡ Held c i))
-  by_slot some here mine = ⊎_elim
-      (λ (same : t.home o ≡ t.home n). inl (subst (λ (i : ℕ). (published_if t s n).public i ≡ true) (sym (residents_apart t s o n known.0 here same)) (public_now t s n some)))
-      (λ (ne : t.home o ≢ t.home n). inr (there (λ a. ne) mine))
-      (cases_eq (t.home o) (t.home n))
-
-  of : (s.public o ≡ true) ⊎ ((i : ℕ) × (s.owner (t.home o) ≡ Held c i)) → IsAtHand t s c n → ((published_if t s n).public o ≡ true) ⊎ ((i : ℕ) × ((published_if t s n).owner (t.home o) ≡ Held c i))
-  of (inl public) given = inl (public_still t s n o public)
-  of (inr mine) (inl z) = inr (there (λ some. absurd (some z)) mine)
-  of (inr mine) (inr given) = ⊎_elim (λ (z : n ≡ 0). inr (there (λ some. absurd (some z)) mine)) (λ (some : n ≢ 0). by_slot some given.0 mine) (cases_eq n 0)
-
-there_published : (t : Plan) (s : Shared) (n c : ℕ) (mirror : Registers) (p : Place) → IsAtHand t s c n → PlaceThere t s c mirror p → PlaceThere t (published_if t s n) c mirror p
-there_published t s n c mirror (places.Root z) new there = there
-there_published t s n c mirror (places.Field a f) new there = (hand_published t s c n (reference_in mirror a).node new there.0, there.1, there.2)
-
-known_now : (t : Plan) (s : Shared) (n : ℕ) → (n ≡ 0) ⊎ ((published_if t s n).public n ≡ true)
+pub known_now : (t : Plan) (s : Shared) (n : ℕ) → (n ≡ 0) ⊎ ((published_if t s n).public n ≡ true)
 known_now t s n = ⊎_elim (λ (z : n ≡ 0). inl z) (λ (some : n ≢ 0). inr (public_now t s n some)) (cases_eq n 0)
-
-typed_before : (t : Plan) (n : ℕ) (memory : Memory) → IsTyped t.text (with_name_retired n memory) → IsTyped t.text memory
-typed_before t zero memory typed = typed
-typed_before t (suc n) memory typed = record { roots = typed.roots; nodes = typed.nodes; null = typed.null }
 
 -- ---- the exchange succeeds
 
@@ -172,22 +131,6 @@ record Tries (t : Plan) (c : ℕ) (s : Shared) (x : Caller) (m : Trail t) (k : �
   one : slice_get entries k ≡ Some entry
   offers : Offers t s c x.entry.hand.registers m.mirror entry
 
--- it is made: memory after it, and what both machines have but for what it retires
-record Done (t : Plan) (c : ℕ) (s : Shared) (x : Caller) (m : Trail t) (k : ℕ) (entry : CasEntry) (entries : List CasEntry) (n : ℕ) (s1 : Shared) (after : Memory) : Type 0 where
-  tries : Tries t c s x m k entry entries
-  name : n ≡ name_of (value_in m.mirror entry.replacement)
-  makes : exchange t.text.fields entry m.mirror s.source ≡ Some after
-  after_is : after ≡ with_name_retired (to_drop entry.retire m.mirror) s1.source
-  typed : IsTyped t.text after
-  passes : Passes t c s s1 n
-  drops : Drops t s x.entry.hand.registers m.mirror entry.retire
-  memory : after_access s.memory (exchange_wanted t.target.fields entry x.entry.hand.registers) ≡ s1.memory
-  unused : s1.unused ≡ s.unused
-  present : (j : ℕ) → s1.present j ≡ s.present j
-  retired : s1.source.retired ≡ s.source.retired
-  tag : (i : ℕ) → s1.tag i ≡ s.tag i
-  once : IsOnce after.retired
-
 once_after : (t : Plan) (c : ℕ) (s : Shared) (x : Caller) (m : Trail t) (k : ℕ) (entry : CasEntry) (entries : List CasEntry) (after : Memory) → Tries t c s x m k entry entries → exchange t.text.fields entry m.mirror s.source ≡ Some after → IsOnce after.retired
 once_after t c s x m k entry entries after w some =
     let op = ap (slice_get t.text.ops) w.walks.number ∙ m.walk.method.in_text in
@@ -197,58 +140,29 @@ once_after t c s x m k entry entries after w some =
     let proper : IsProperPoint t.text q = w.before.proper (Accesses ∷ []) q (makes Accesses [] (point s x) q (ap (λ caller. is_enabled_for t.text (events.Access c 0) (Some caller) s.source) w.source ∙ turns.enabled) (done q)) in
     subst IsOnce (ap (λ turn. turn.memory.retired) turned) proper.once
 
-is_done : (t : Plan) (c : ℕ) (s : Shared) (x : Caller) (m : Trail t) (k : ℕ) (entry : CasEntry) (entries : List CasEntry) (after : Memory) → Tries t c s x m k entry entries → exchange t.text.fields entry m.mirror s.source ≡ Some after
-    → Done t c s x m k entry entries (name_of (value_in m.mirror entry.replacement)) (placed t (published_if t s (name_of (value_in m.mirror entry.replacement))) m.mirror entry.place (value_in m.mirror entry.replacement)) after
-is_done t c s x m k entry entries after w some =
+tried : (t : Plan) (c : ℕ) (s : Shared) (x : Caller) (m : Trail t) (k : ℕ) (entry : CasEntry) (entries : List CasEntry) (after : Memory) → Tries t c s x m k entry entries → exchange t.text.fields entry m.mirror s.source ≡ Some after
+    → Tried t s c x.entry.hand.registers m.mirror entry (name_of (value_in m.mirror entry.replacement)) after
+tried t c s x m k entry entries after w some =
     let plan = w.before.plan in
-    let f = w.before.shared_holds in
-    let core = x.entry.hand.registers in
-    let v = value_in m.mirror entry.replacement in
-    let n : ℕ = name_of v in
-    let right : has_wrong_operand t.text.fields t.text.roots entry ≡ false = none_passes (has_wrong_operand t.text.fields t.text.roots) entries k entry (kind_right m.walk.method (erasing plan.compiled) x.entry.hand.at (instr.Commit entries) w.here) w.one in
-    let kind = register_for (place_kind t.text.fields t.text.roots entry.place) entry.expected (or_parts (is_unlike (place_kind t.text.fields t.text.roots entry.place) entry.expected) _ (or_parts (has_wrong_object entry.place) _ right).1).0 in
-    let made = makes_after t s m.mirror entry after some in
-    let there = place_there t s c x.entry.hand.registers m.mirror (name_of (value_in m.mirror entry.expected)) entry.place kind.0 made.found f w.offers.place w.offers.inside kind.1 made.finds in
-    let typed : IsTyped t.text after = exchange_typed t.text entry m.mirror s.source after right w.offers.asked some f.typed in
-    let up = publishes t s c (name_of (value_in m.mirror entry.replacement)) f w.offers.new in
-    let writes = place_writes t (published_if t s (name_of (value_in m.mirror entry.replacement))) c m.mirror entry.place (value_in m.mirror entry.replacement) plan.null up.0
-    (there_published t s (name_of (value_in m.mirror entry.replacement)) c m.mirror entry.place w.offers.new there)
-    (hand_resident t s c (name_of (value_in m.mirror entry.replacement)) plan.null f w.offers.new)
-    (known_now t s (name_of (value_in m.mirror entry.replacement)))
-    (typed_before t (to_drop entry.retire m.mirror) (placed t s m.mirror entry.place (value_in m.mirror entry.replacement)).source (subst (λ (memory : Memory). IsTyped t.text memory) made.after_is typed)) in
-    let succeeded : succeeds entry x.entry.hand.registers (s.memory (word_of (exchange_wanted t.target.fields entry x.entry.hand.registers))) ≡ true = tests_agree t s c x.entry.hand.registers m.mirror entry plan.null f w.offers ∙ ap is_some some in
+    let form = instructions_are_in_form t.target t.text plan.compiled.normal plan.compiled.barred.erases m.walk.method x.entry.hand.at (instr.Commit entries) w.here in
     record {
-      tries = w;
-      name = refl;
+      null = plan.null;
+      shared_holds = w.before.shared_holds;
+      offers = w.offers;
+      right = none_passes (has_wrong_operand t.text.fields t.text.roots) entries k entry (kind_right m.walk.method (erasing plan.compiled) x.entry.hand.at (instr.Commit entries) w.here) w.one;
+      publishes = w.offers.new;
+      known = known_now t s (name_of (value_in m.mirror entry.replacement));
+      object = λ q g is. w.shown q (open_reads_are_not_fresh t.target t.text plan.compiled.normal plan.compiled.barred.erases m.walk.method m.path x.entry.hand.at (instr.Commit entries) (Ref q)
+          (record { leads = w.walks.ahead.path_is; stands = w.here }) (object_openly q g entries k entry w.one is));
+      kin = none_passes retires_stranger entries k entry form.retired w.one;
       makes = some;
-      after_is = made.after_is;
-      typed = typed;
-      passes = record {
-        shared_holds = writes.shared_holds;
-        goes = goes_compose t c s (published_if t s (name_of (value_in m.mirror entry.replacement))) (placed t (published_if t s (name_of (value_in m.mirror entry.replacement))) m.mirror entry.place (value_in m.mirror entry.replacement)) up.1 writes.goes writes.links (λ r. refl);
-        warning = writes.warning c;
-        hazard = λ r. writes.hazard c r;
-        protects = λ r. refl;
-        links = writes.links;
-        public = λ i is. public_still t s (name_of (value_in m.mirror entry.replacement)) i is;
-        owns = λ j i away held. owner_still t s (name_of (value_in m.mirror entry.replacement)) j away ∙ held;
-      };
-      drops = drops t s c x.entry.hand.registers m.mirror entry made.found plan.null f w.offers made.finds made.same
-          (λ q g is. w.shown q (open_reads_are_not_fresh t.target t.text plan.compiled.normal plan.compiled.barred.erases m.walk.method m.path x.entry.hand.at (instr.Commit entries) (Ref q)
-          (record { leads = w.walks.ahead.path_is; stands = w.here }) (object_openly q g entries k entry w.one is)))
-          (none_passes retires_stranger entries k entry (instructions_are_in_form t.target t.text plan.compiled.normal plan.compiled.barred.erases m.walk.method x.entry.hand.at (instr.Commit entries) w.here).retired w.one);
-      memory = words_written t s c x.entry.hand.registers m.mirror entry w.offers succeeded;
-      unused = refl;
-      present = λ j. refl;
-      retired = refl;
-      tag = λ i. refl;
       once = once_after t c s x m k entry entries after w some;
     }
 
 -- the entry enters, in what both machines come to
-enters_at : (t : Plan) (c : ℕ) (s s' : Shared) (x : Caller) (m : Trail t) (k : ℕ) (entry : CasEntry) (entries : List CasEntry) → Tries t c s x m k entry entries → Passes t c s s' (name_of (value_in m.mirror entry.replacement))
-    → exchange t.text.fields entry m.mirror s.source ≡ Some s'.source → Enters t s s' c x m k (name_of (value_in m.mirror entry.replacement)) entry (cradles_after entry.replacement x.entry.hand.registers x.entry.cradles)
-enters_at t c s s' x m k entry entries w passes after = record {
+enters_at : (t : Plan) (c : ℕ) (s s' : Shared) (x : Caller) (m : Trail t) (k : ℕ) (entry : CasEntry) (entries : List CasEntry) → Tries t c s x m k entry entries → Done t s s' c x.entry.hand.registers m.mirror entry (name_of (value_in m.mirror entry.replacement))
+    → Enters t s s' c x m k (name_of (value_in m.mirror entry.replacement)) entry (cradles_after entry.replacement x.entry.hand.registers x.entry.cradles)
+enters_at t c s s' x m k entry entries w d = record {
   plan = w.before.plan;
   shared_holds = w.before.shared_holds;
   base = w.before.caller_holds.base;
@@ -257,10 +171,10 @@ enters_at t c s s' x m k entry entries w passes after = record {
   generator = w.generator;
   source = w.source;
   shown = w.shown;
-  passes = passes;
+  passes = record { shared_holds = d.shared_holds; goes = d.goes; left = d.left; hazard = d.hazard; owns = d.owns };
   cradle = λ i some. left_at t entry.replacement x.entry.hand.registers m.mirror x.entry.cradles i (slot_agrees t x.entry.hand.registers m.mirror entry w.before.plan.null w.offers.replacement) some;
   entry_is = w.before.here;
-  after = after;
+  after = d.makes;
 }
 
 -- the core's step, by whether it succeeds and the slot that it retires
@@ -269,20 +183,13 @@ EntryKept t c s x k entry j =
     Kept t c s x (after_access s.memory (exchange_wanted t.target.fields entry x.entry.hand.registers))
     (told (Accesses ∷ []) (retires_then Optimistic t.target t.setting.sizes (onward.List k) j (record (counted x.entry) { cradles = cradles_after entry.replacement x.entry.hand.registers x.entry.cradles })))
 
-by_retirement : (t : Plan) (c : ℕ) (s : Shared) (x : Caller) (m : Trail t) (k : ℕ) (entry : CasEntry) (entries : List CasEntry) (after : Memory) (j : ℕ) → Tries t c s x m k entry entries → exchange t.text.fields entry m.mirror s.source ≡ Some after
-    → to_retire entry.retire x.entry.hand.registers ≡ j → EntryKept t c s x k entry j
-    → Kept t c s x (after_access s.memory (exchange_wanted t.target.fields entry x.entry.hand.registers)) (entry_made Optimistic t.target t.setting.sizes k entry (s.memory (word_of (exchange_wanted t.target.fields entry x.entry.hand.registers))) (counted x.entry))
-by_retirement t c s x m k entry entries after j w some slot kept =
-    let succeeded : succeeds entry x.entry.hand.registers (s.memory (word_of (exchange_wanted t.target.fields entry x.entry.hand.registers))) ≡ true = tests_agree t s c x.entry.hand.registers m.mirror entry w.before.plan.null w.before.shared_holds w.offers ∙ ap is_some some in
-    subst (λ (z : Bool). Kept t c s x (after_access s.memory (exchange_wanted t.target.fields entry x.entry.hand.registers))
-    (told (Accesses ∷ []) (if z then retires_then Optimistic t.target t.setting.sizes (onward.List k) (to_retire entry.retire x.entry.hand.registers) (with_published entry.replacement (counted x.entry)) else quiet (list_ended t.target t.setting.sizes k (counted x.entry))))) (sym succeeded)
-    (subst (λ (e : Entry). Kept t c s x (after_access s.memory (exchange_wanted t.target.fields entry x.entry.hand.registers)) (told (Accesses ∷ []) (retires_then Optimistic t.target t.setting.sizes (onward.List k) (to_retire entry.retire x.entry.hand.registers) e))) (sym (published_entry entry.replacement (counted x.entry)))
-    (subst (λ (i : ℕ). EntryKept t c s x k entry i) (sym slot) kept))
-
 -- where nothing is retired the next entry follows, or the wrap-up's start
-keeps_on : (t : Plan) (c : ℕ) (s s' : Shared) (x : Caller) (m : Trail t) (k : ℕ) (entry : CasEntry) (entries : List CasEntry) → Tries t c s x m k entry entries → Passes t c s s' (name_of (value_in m.mirror entry.replacement))
-    → exchange t.text.fields entry m.mirror s.source ≡ Some s'.source → s'.memory ≡ after_access s.memory (exchange_wanted t.target.fields entry x.entry.hand.registers) → s'.unused ≡ s.unused → s'.present ≡ s.present → ((i : ℕ) → has i s'.source.retired ≡ true → has i s.source.retired ≡ true) → EntryKept t c s x k entry 0
-keeps_on t c s s' x m k entry entries w passes after memory unused present old = of (nat_lt (k + 1) (length (list_of (instr_in t.target x.entry)))) (λ routine. enters t s s' c x m k n entry cradles routine (enters_at t c s s' x m k entry entries w passes after)) where
+keeps_on : (t : Plan) (c : ℕ) (s s' : Shared) (x : Caller) (m : Trail t) (k : ℕ) (entry : CasEntry) (entries : List CasEntry) → Tries t c s x m k entry entries → Done t s s' c x.entry.hand.registers m.mirror entry (name_of (value_in m.mirror entry.replacement))
+    → s'.memory ≡ after_access s.memory (exchange_wanted t.target.fields entry x.entry.hand.registers) → to_retire entry.retire x.entry.hand.registers ≡ 0 → EntryKept t c s x k entry 0
+keeps_on t c s s' x m k entry entries w d memory none = of (nat_lt (k + 1) (length (list_of (instr_in t.target x.entry)))) (λ routine. enters t s s' c x m k n entry cradles routine (enters_at t c s s' x m k entry entries w d)) where
+  old : (i : ℕ) → has i s'.source.retired ≡ true → has i s.source.retired ≡ true
+  old i is = ⊎_elim (λ (was : has i s.source.retired ≡ true). was) (λ (now : (to_retire entry.retire x.entry.hand.registers ≡ t.home i) × (t.home i ≢ 0)). absurd (now.1 (sym now.0 ∙ none))) (d.retires i is)
+
   n : ℕ
   n = name_of (value_in m.mirror entry.replacement)
 
@@ -302,13 +209,13 @@ keeps_on t c s s' x m k entry entries w passes after memory unused present old =
         s' = s';
         x' = y;
         memory = memory;
-        present = present;
+        present = d.present;
         entry = refl;
         names = same_names x.names false;
         was_set = refl;
-        plays = plays_one t.text c Accesses (point s x) (point s' y) e.0 unused;
-        shared_holds = passes.shared_holds;
-        goes = passes.goes;
+        plays = plays_one t.text c Accesses (point s x) (point s' y) e.0 d.unused;
+        shared_holds = d.shared_holds;
+        goes = d.goes;
         retires = λ i is. inl (old i is);
         caller_holds = record { base = e.1; spot = e.2 };
       }
@@ -321,97 +228,53 @@ keeps_on t c s s' x m k entry entries w passes after memory unused present old =
         s' = s';
         x' = ended.x';
         memory = memory;
-        present = present;
+        present = d.present;
         entry = ended.entry;
         names = ended.names;
         was_set = ended.was_set;
-        plays = plays_first t.text c Accesses _ (point s x) (point s' y) (point s' ended.x') e.0 unused ended.plays;
-        shared_holds = passes.shared_holds;
-        goes = passes.goes;
+        plays = plays_first t.text c Accesses _ (point s x) (point s' y) (point s' ended.x') e.0 d.unused ended.plays;
+        shared_holds = d.shared_holds;
+        goes = d.goes;
         retires = λ i is. inl (old i is);
         caller_holds = ended.caller_holds;
       }
 
 -- and a name that is retired goes into the retire routine
-retires_on : (t : Plan) (c : ℕ) (s s' : Shared) (x : Caller) (m : Trail t) (k : ℕ) (entry : CasEntry) (entries : List CasEntry) (j n : ℕ) → Tries t c s x m k entry entries → Passes t c s s' (name_of (value_in m.mirror entry.replacement))
-    → exchange t.text.fields entry m.mirror s.source ≡ Some s'.source → s'.memory ≡ after_access s.memory (exchange_wanted t.target.fields entry x.entry.hand.registers) → s'.unused ≡ s.unused → s'.present ≡ s.present → IsRetiring s' c (suc j) n None
-    → ((i : ℕ) → has i s'.source.retired ≡ true → (has i s.source.retired ≡ true) ⊎ (t.home i ≡ suc j)) → EntryKept t c s x k entry (suc j)
-retires_on t c s s' x m k entry entries j n w passes after memory unused present retiring new =
+retires_on : (t : Plan) (c : ℕ) (s s' : Shared) (x : Caller) (m : Trail t) (k : ℕ) (entry : CasEntry) (entries : List CasEntry) (j n : ℕ) → Tries t c s x m k entry entries → Done t s s' c x.entry.hand.registers m.mirror entry (name_of (value_in m.mirror entry.replacement))
+    → s'.memory ≡ after_access s.memory (exchange_wanted t.target.fields entry x.entry.hand.registers) → IsRetiring s' c (suc j) n None → to_retire entry.retire x.entry.hand.registers ≡ suc j → EntryKept t c s x k entry (suc j)
+retires_on t c s s' x m k entry entries j n w d memory retiring slot =
     let cradles = cradles_after entry.replacement x.entry.hand.registers x.entry.cradles in
     let routine = Retires (retire_begun (suc j)) (onward.List k) in
-    let e = enters t s s' c x m k (name_of (value_in m.mirror entry.replacement)) entry (cradles_after entry.replacement x.entry.hand.registers x.entry.cradles) (Retires (retire_begun (suc j)) (onward.List k)) (enters_at t c s s' x m k entry entries w passes after) in
+    let e = enters t s s' c x m k (name_of (value_in m.mirror entry.replacement)) entry (cradles_after entry.replacement x.entry.hand.registers x.entry.cradles) (Retires (retire_begun (suc j)) (onward.List k)) (enters_at t c s s' x m k entry entries w d) in
     let y = entered t c s s' x (cradles_after entry.replacement x.entry.hand.registers x.entry.cradles) (Retires (retire_begun (suc j)) (onward.List k)) in
     record {
       s' = s';
       x' = y;
       memory = memory;
-      present = present;
+      present = d.present;
       entry = refl;
       names = same_names x.names false;
       was_set = refl;
-      plays = plays_one t.text c Accesses (point s x) (point s' y) e.0 unused;
-      shared_holds = passes.shared_holds;
-      goes = passes.goes;
-      retires = λ i is. ⊎_elim (λ (was : has i s.source.retired ≡ true). inl was) (λ (now : t.home i ≡ suc j). inr (onward.List k, ap (λ (slot : ℕ). Retires (retire_begun slot) (onward.List k)) (sym now))) (new i is);
+      plays = plays_one t.text c Accesses (point s x) (point s' y) e.0 d.unused;
+      shared_holds = d.shared_holds;
+      goes = d.goes;
+      retires = λ i is. ⊎_elim (λ (was : has i s.source.retired ≡ true). inl was) (λ (now : (to_retire entry.retire x.entry.hand.registers ≡ t.home i) × (t.home i ≢ 0)). inr (onward.List k, ap (λ (slot : ℕ). Retires (retire_begun slot) (onward.List k)) (sym slot ∙ now.0))) (d.retires i is);
       caller_holds = record { base = e.1; spot = ((n, retiring), e.2) };
     }
 
--- what both machines have where a name was retired
-drop_passes : (t : Plan) (c : ℕ) (s s1 : Shared) (n e : ℕ) → Passes t c s s1 n → ((j : ℕ) → s1.present j ≡ s.present j) → e ≢ 0 → Resident t s1 e → s1.owner (t.home e) ≡ Living → s1.public e ≡ true → IsTyped t.text (dropped t s1 c e).source
-    → Passes t c s (dropped t s1 c e) n
-drop_passes t c s s1 n e w present some here alive public typed = record {
-  shared_holds = fine_dropped t s1 c e w.shared_holds some here alive public typed;
-  goes = goes_compose t c s s1 (dropped t s1 c e) w.goes (goes_dropped t s1 c e alive) (λ i g. links i g (w.links i g)) w.protects;
-  warning = w.warning;
-  hazard = w.hazard;
-  protects = w.protects;
-  links = w.links;
-  public = w.public;
-  owns = λ j i away held. let still = w.owns j i away held in put_other s1.owner (t.home e) j (Retiring c) (apart s1 j (t.home e) (Held c i) Living still alive (λ z. cc)) ∙ still;
-} where
-  links : (i g : ℕ) → (link s1 i g ≡ link s i g) ⊎ Resident t s (link s1 i g) → (link s1 i g ≡ link s i g) ⊎ Resident t s1 (link s1 i g)
-  links i g (inl same) = inl same
-  links i g (inr new) = inr (present (t.home (link s1 i g)) ∙ new)
-
 -- ---- the whole step
 
-retired_kept : (t : Plan) (c : ℕ) (s s1 : Shared) (x : Caller) (m : Trail t) (k : ℕ) (entry : CasEntry) (entries : List CasEntry) (after : Memory) (n : ℕ) → Done t c s x m k entry entries (name_of (value_in m.mirror entry.replacement)) s1 after
-    → to_drop entry.retire m.mirror ≡ suc n → (j : ℕ) → t.home (suc n) ≡ j → (to_retire entry.retire x.entry.hand.registers ≡ j) × EntryKept t c s x k entry j
-retired_kept t c s s1 x m k entry entries after n d is j home =
-    let w = d.tries in
-    let f = w.before.shared_holds in
-    let some : suc n ≢ 0 = λ z. (let no : ⊥ = omega (arith, z) in no) in
-    let after_is : after ≡ (dropped t s1 c (suc n)).source = d.after_is ∙ ap (λ (i : ℕ). with_name_retired i s1.source) is in
-    let here : Resident t s (suc n) = subst (λ (i : ℕ). Resident t s i) is d.drops.here in
-    let here1 : Resident t s1 (suc n) = d.present (t.home (suc n)) ∙ here in
-    let public : s1.public (suc n) ≡ true = d.passes.public (suc n) (public_of (subst (λ (i : ℕ). Shown s i) is d.drops.shown)) in
-    let live1 : has (suc n) s1.source.retired ≡ false = once_new s1.source.retired (suc n) (subst IsOnce (ap (λ (memory : Memory). memory.retired) after_is) d.once) in
-    let alive : s1.owner (t.home (suc n)) ≡ Living = living t s1 (suc n) d.passes.shared_holds here1 some public live1 in
-    let passes = drop_passes t c s s1 (name_of (value_in m.mirror entry.replacement)) (suc n) d.passes d.present some here1 alive public (subst (λ (memory : Memory). IsTyped t.text memory) after_is d.typed) in
-    let retiring : IsRetiring (dropped t s1 c (suc n)) c (t.home (suc n)) (suc n) None = record { owner = put_same s1.owner (t.home (suc n)) (Retiring c); present = here1; tag_is = untagged t s1 (suc n) d.passes.shared_holds live1 } in
-    (d.drops.slot ∙ (ap t.home is ∙ home), by_slot j home (has_slot_of t s (suc n) f here some) passes (d.makes ∙ ap Some after_is) retiring)
-  where
-    public_of : Shown s (suc n) → s.public (suc n) ≡ true
-    public_of (inl z) = let no : ⊥ = omega (arith, z) in absurd no
-    public_of (inr p) = p
-
-    by_slot : (j : ℕ) → t.home (suc n) ≡ j → t.home (suc n) ≢ 0 → Passes t c s (dropped t s1 c (suc n)) (name_of (value_in m.mirror entry.replacement)) → exchange t.text.fields entry m.mirror s.source ≡ Some (dropped t s1 c (suc n)).source
-        → IsRetiring (dropped t s1 c (suc n)) c (t.home (suc n)) (suc n) None → EntryKept t c s x k entry j
-    by_slot zero home ne passes made retiring = absurd (ne home)
-    by_slot (suc j) home ne passes made retiring = retires_on t c s (dropped t s1 c (suc n)) x m k entry entries j (suc n) d.tries passes made (sym d.memory) d.unused (λ i l. d.present l i)
-        (subst (λ (i : ℕ). IsRetiring (dropped t s1 c (suc n)) c i (suc n) None) home retiring)
-        (λ i new. ⊎_elim (λ (was : has i s1.source.retired ≡ true). inl (subst (λ (ns : List ℕ). has i ns ≡ true) d.retired was)) (λ (now : i ≡ suc n). inr (ap t.home now ∙ home)) (has_last i (suc n) s1.source.retired new))
-
-made_kept : (t : Plan) (c : ℕ) (s s1 : Shared) (x : Caller) (m : Trail t) (k : ℕ) (entry : CasEntry) (entries : List CasEntry) (after : Memory) → Done t c s x m k entry entries (name_of (value_in m.mirror entry.replacement)) s1 after
+made_kept : (t : Plan) (c : ℕ) (s : Shared) (x : Caller) (m : Trail t) (k : ℕ) (entry : CasEntry) (entries : List CasEntry) (after : Memory) → Tries t c s x m k entry entries → exchange t.text.fields entry m.mirror s.source ≡ Some after
     → Kept t c s x (after_access s.memory (exchange_wanted t.target.fields entry x.entry.hand.registers)) (entry_made Optimistic t.target t.setting.sizes k entry (s.memory (word_of (exchange_wanted t.target.fields entry x.entry.hand.registers))) (counted x.entry))
-made_kept t c s s1 x m k entry entries after d = by_drop (to_drop entry.retire m.mirror) refl where
-  by_drop : (n : ℕ) → to_drop entry.retire m.mirror ≡ n
-      → Kept t c s x (after_access s.memory (exchange_wanted t.target.fields entry x.entry.hand.registers)) (entry_made Optimistic t.target t.setting.sizes k entry (s.memory (word_of (exchange_wanted t.target.fields entry x.entry.hand.registers))) (counted x.entry))
-  by_drop zero none = by_retirement t c s x m k entry entries after 0 d.tries d.makes (d.drops.slot ∙ (ap t.home none ∙ d.tries.before.plan.null))
-      (keeps_on t c s s1 x m k entry entries d.tries d.passes (d.makes ∙ ap Some (d.after_is ∙ ap (λ (n : ℕ). with_name_retired n s1.source) none)) (sym d.memory) d.unused (λ i l. d.present l i) (λ i is. subst (λ (ns : List ℕ). has i ns ≡ true) d.retired is))
-  by_drop (suc n) is =
-      let kept = retired_kept t c s s1 x m k entry entries after n d is (t.home (suc n)) refl in
-      by_retirement t c s x m k entry entries after (t.home (suc n)) d.tries d.makes kept.0 kept.1
+made_kept t c s x m k entry entries after w some =
+    let succeeded : succeeds entry x.entry.hand.registers (s.memory (word_of (exchange_wanted t.target.fields entry x.entry.hand.registers))) ≡ true = tests_agree t s c x.entry.hand.registers m.mirror entry w.before.plan.null w.before.shared_holds w.offers ∙ ap is_some some in
+    let words = sym (words_written t s c x.entry.hand.registers m.mirror entry w.offers succeeded) in
+    subst (λ (z : Bool). Kept t c s x (after_access s.memory (exchange_wanted t.target.fields entry x.entry.hand.registers))
+    (told (Accesses ∷ []) (if z then retires_then Optimistic t.target t.setting.sizes (onward.List k) (to_retire entry.retire x.entry.hand.registers) (with_published entry.replacement (counted x.entry)) else quiet (list_ended t.target t.setting.sizes k (counted x.entry))))) (sym succeeded)
+    (subst (λ (e : Entry). Kept t c s x (after_access s.memory (exchange_wanted t.target.fields entry x.entry.hand.registers)) (told (Accesses ∷ []) (retires_then Optimistic t.target t.setting.sizes (onward.List k) (to_retire entry.retire x.entry.hand.registers) e))) (sym (published_entry entry.replacement (counted x.entry)))
+    (by_retirement t s c x.entry.hand.registers m.mirror entry (name_of (value_in m.mirror entry.replacement)) after (tried t c s x m k entry entries after w some) (EntryKept t c s x k entry)
+    (λ s' d none. keeps_on t c s s' x m k entry entries w d (d.memory ∙ words) none)
+    (λ s' j n d retiring slot. retires_on t c s s' x m k entry entries j n w d (d.memory ∙ words) retiring slot)))
 
 -- an exchange of a list, whether it fails or succeeds, and whatever it retires
 pub entry_step : (t : Plan) (c : ℕ) (s : Shared) (x : Caller) (k : ℕ) (entry : CasEntry) → AtEntry t c s x k entry
@@ -443,4 +306,4 @@ entry_step t c s x k entry w = by_spot (subst (λ (r : Routine). HoldsAt t s c x
           → Kept t c s x (after_access s.memory (exchange_wanted t.target.fields entry x.entry.hand.registers)) (entry_made Optimistic t.target t.setting.sizes k entry (s.memory (word_of (exchange_wanted t.target.fields entry x.entry.hand.registers))) (counted x.entry))
       by_result spot entries tries None none = entry_fails t c s x k entry entries w.plan w.shared_holds w.caller_holds.base spot tries.here w.here tries.offers none
       by_result spot entries tries (Some after) some =
-          made_kept t c s (placed t (published_if t s (name_of (value_in spot.0.mirror entry.replacement))) spot.0.mirror entry.place (value_in spot.0.mirror entry.replacement)) x spot.0 k entry entries after (is_done t c s x spot.0 k entry entries after tries some)
+          made_kept t c s x spot.0 k entry entries after tries some

@@ -78,6 +78,7 @@ use Rattle.oa_simulation.proofs.sim_steps.Walks.Stopping.{settles_ends}
 use Rattle.oa_simulation.proofs.sim_steps.Guards.Unguarding.{counted_caller}
 use Rattle.oa_simulation.proofs.sim_steps.Walks.Accessing.{Makes, turns, turned, took, base_turned, walks_turned, stands_took}
 use Rattle.caller_parts.specs.declared.setting.Reclamation.TheVariants.{Optimistic}
+use Rattle.target_laws.proofs.local_laws.Inside.{refuted}
 
 -- ---- a word as a register sees it
 
@@ -199,11 +200,7 @@ pub object_resident : (t : Plan) (s : Shared) (c : ℕ) (x : Caller) (m : Trail 
 object_resident t s c x m i (Ref r) w is calm = trusted_resident t s c x m i r w is calm
 object_resident t s c x m i (Num r) w is calm = null_resident t s 0 w.plan.null w.shared_holds refl
 
-refuted : (b : Bool) → (IsTrue b → ⊥) → b ≡ false
-refuted true never = absurd (never refl)
-refuted false never = refl
-
-some_load : (v w : Word) → Some (Loads v) ≡ Some (Loads w) → v ≡ w
+pub some_load : (v w : Word) → Some (Loads v) ≡ Some (Loads w) → v ≡ w
 some_load v w is = cc
 
 pub finds : (t : Plan) (s : Shared) (c : ℕ) (x : Caller) (m : Trail t) (i : Instr) (d : Reg) (w : Word) → Reading t s c x m i → AreAsked t.text i s.source.nodes m.mirror → loads_into i ≡ Some d → LooksAt t.target.fields i x.entry.hand.registers w → Found t s c x m i d w

@@ -9,7 +9,7 @@ use Rattle.norm_lang.specs.declared.text.Instr.TheVariants as instr
 use Rattle.norm_lang.specs.Local.{Spot}
 use Rattle.target_code.specs.declared.target.TargetInstr.TheVariants.{Plain}
 use Rattle.target_code.specs.Erasing.{source_place}
-use Rattle.oa_words.specs.Words.{Warning, Hazard}
+use Rattle.oa_words.specs.Words.{Hazard}
 use Rattle.source_machine.specs.declared.event.SourceEvent.TheVariants as events
 use Rattle.source_machine.specs.Memory.{exchange, auxiliary}
 use Rattle.source_machine.specs.declared.state.Memory.{Memory}
@@ -35,17 +35,16 @@ use Rattle.run_ahead.proofs.Changing.{nothing_changes}
 use Rattle.run_ahead.proofs.Getting.{plain_got}
 use Rattle.run_ahead.proofs.Plain.{at_place}
 use Rattle.run_ahead.proofs.Quiet.{less_calm}
-use Rattle.oa_simulation.proofs.sim_relation.Stable.{stable_shown}
-use Rattle.run_ahead.specs.Agreeing.{node_in}
-use Rattle.oa_simulation.specs.sim_relation.Views.{Plan, Held, Shared, Caller, link, Resident, Apart}
+use Rattle.oa_simulation.proofs.sim_relation.Stable.{LeavesGuards, walks_left}
+use Rattle.oa_simulation.specs.sim_relation.Views.{Plan, Held, Shared, Caller}
 use Rattle.oa_simulation.specs.sim_relation.Shared.{SharedHolds}
-use Rattle.oa_simulation.specs.sim_relation.Callers.{IsRetiring, Calm, Base, Trail, Walks, Stands, Gets, Guards, Running, spot_of}
+use Rattle.oa_simulation.specs.sim_relation.Callers.{IsRetiring, Calm, HasMade, Base, Trail, Walks, Stands, Gets, Guards, Running, spot_of}
 use Rattle.caller_steps.specs.Signs.{Accesses, told}
 use Rattle.oa_simulation.specs.sim_relation.Points.{point}
 use Rattle.oa_simulation.proofs.sim_relation.Playing.{PlaysEvent, plays_first, plays_one}
 use Rattle.oa_simulation.specs.sim_relation.Steps.{KeptSetting, after_access}
 use Rattle.oa_simulation.specs.sim_relation.WasSet.{set_exchanged, set_plain, set_unless_retiring}
-use Rattle.oa_simulation.proofs.sim_relation.Names.{residents_apart, KeepsNames, own_kept, known_kept}
+use Rattle.oa_simulation.proofs.sim_relation.Names.{KeepsNames, own_kept, known_kept, shown_kept, made_kept}
 use Rattle.oa_simulation.proofs.sim_steps.Walks.Along.{walks_along, guards_along, gets_along}
 use Rattle.oa_simulation.proofs.sim_steps.Walks.Accessing.{Makes, turns, turned, took, base_turned, walks_turned, stands_took}
 use Rattle.oa_simulation.proofs.sim_steps.Accesses.Puts.{Reads}
@@ -53,59 +52,33 @@ use Rattle.caller_parts.specs.declared.setting.Reclamation.TheVariants.{Optimist
 
 -- what a caller's own exchange leaves of what it knows
 pub record Keeps (t : Plan) (c : ℕ) (s s' : Shared) : Type 0 where
-  pub warning : s'.memory (Warning c) ≡ s.memory (Warning c)
+  pub left : LeavesGuards t c s s'
   pub hazard : (r : ℕ) → s'.memory (Hazard c r) ≡ s.memory (Hazard c r)
-  pub protects : (r : ℕ) → s'.protects c r ≡ s.protects c r
   pub tag : (n p : ℕ) → s'.tag n ≡ Some p → s.tag n ≡ Some p
-  pub public : (n : ℕ) → s.public n ≡ true → s'.public n ≡ true
-  pub links : (n g : ℕ) → (link s' n g ≡ link s n g) ⊎ Resident t s (link s' n g)
   pub present : (j : ℕ) → s'.present j ≡ s.present j
   pub owns : (j k : ℕ) → s.owner j ≡ Held c k → s'.owner j ≡ Held c k
-  pub owned : (j k : ℕ) → s'.owner j ≡ Held c k → s.owner j ≡ Held c k
 
 keeps_names : (t : Plan) (c : ℕ) (s s' : Shared) → Keeps t c s s' → KeepsNames c s s'
-keeps_names t c s s' q = record { held = λ j k own. (q.owns j k own, q.present j); public = q.public }
+keeps_names t c s s' q = record { held = λ j k own. (q.owns j k own, q.present j); public = q.left.public }
 
 pub keeps_base : (t : Plan) (c : ℕ) (s s' : Shared) (x : Caller) → Keeps t c s s' → Base t s c x → Base t s' c x
 keeps_base t c s s' x q b = record {
   number = b.number;
-  seen = subst (λ (i : ℕ). x.entry.hand.seen ≤ i) (sym q.warning) b.seen;
+  seen = subst (λ (i : ℕ). x.entry.hand.seen ≤ i) (sym q.left.warning) b.seen;
   old = λ n p is lt. b.old n p (q.tag n p is) lt;
   hazard = λ r. q.hazard r ∙ b.hazard r;
-  protects = λ r. q.protects r ∙ b.protects r;
+  protects = λ r. q.left.protects r ∙ b.protects r;
   known = λ n got. known_kept t c s s' n (keeps_names t c s s' q) (b.known n got);
   cradle = λ k some. q.owns _ k (b.cradle k some);
 }
 
-pub keeps_walks : (t : Plan) (c : ℕ) (s s' : Shared) (x : Caller) (core : Spot) (m : Trail t) → SharedHolds t s → Keeps t c s s' → Walks t s c x core m → Walks t s' c x core m
-keeps_walks t c s s' x core m f q w = record {
-  call = w.call;
-  wrapup = w.wrapup;
-  was_set = w.was_set;
-  first = w.first;
-  number = w.number;
-  start = w.start;
-  generator = w.generator;
-  kept = w.kept;
-  shown = λ r is. stable_shown s s' (node_in m.walk.started r) (λ n p. q.public n p) (w.shown r is);
-  ahead = less_calm m.walk.method t.home (Calm s c x) (Calm s' c x) m.path core m.mirror m.there (λ calm. calm ∙ q.warning) w.ahead;
-  sound = record {
-    word = λ calm. w.sound.word (calm ∙ q.warning);
-    apart = λ gen r e trusted some. rw (q.protects e) (w.sound.apart gen r e trusted (λ z. some (q.protects e ∙ z)));
-    pairs = λ o e g free some some'. rw (q.protects o, q.protects e) (pair o e g (w.sound.pairs o e g free (λ z. some (q.protects o ∙ z)) (λ z. some' (q.protects e ∙ z))) (λ z. some' (q.protects e ∙ z)) (q.links (s.protects c o) g));
-  };
-} where
-  pair : (o e g : ℕ) → Apart t (link s (s.protects c o) g) (s.protects c e) → s.protects c e ≢ 0 → (link s' (s.protects c o) g ≡ link s (s.protects c o) g) ⊎ Resident t s (link s' (s.protects c o) g) → Apart t (link s' (s.protects c o) g) (s.protects c e)
-  pair o e g was some (inl same) = subst (λ (j : ℕ). Apart t j (s.protects c e)) (sym same) was
-  pair o e g was some (inr new) = residents_apart t s (link s' (s.protects c o) g) (s.protects c e) new (f.guard c e some).resident
-
-pub keeps_gets : (t : Plan) (c : ℕ) (s s' : Shared) (x : Caller) (m : Trail t) → Keeps t c s s' → Gets t s c x m → Gets t s' c x m
-keeps_gets t c s s' x m q g = record {
+pub keeps_gets : (t : Plan) (c : ℕ) (s s' : Shared) (x : Caller) (m : Trail t) → t.home 0 ≡ 0 → SharedHolds t s' → Keeps t c s s' → Base t s c x → Gets t s c x m → Gets t s' c x m
+keeps_gets t c s s' x m null_home f' q b g = record {
   got = g.got;
   named = g.named;
   fresh = λ gen r is. own_kept t c s s' _ (keeps_names t c s s' q) (g.fresh gen r is);
-  shown = λ gen r is. stable_shown s s' _ (λ n p. q.public n p) (g.shown gen r is);
-  made = λ n k got own here. g.made n k got (q.owned (t.home n) k own) (sym (q.present (t.home n)) ∙ here);
+  shown = λ gen r is. shown_kept s s' _ q.left.public (g.shown gen r is);
+  made = λ n k got. made_kept t c s s' (λ i. HasMade (code_in m.walk.method) m.path i) n null_home (keeps_names t c s s' q) f' (b.known n got) (λ i. g.made n i got) k;
 }
 
 -- the access of an exchange that succeeds in the source
@@ -147,7 +120,7 @@ success_takes t s s' c x m entry l accessed w st guards some f' q marked =
     let there : Spot = run_from method.op method.wrapup (record { at = place (at + 1); registers = m.mirror }) in
     let got = plain_got method t.home (AsTrusted (Calm s c x) Trusted) m.path at i 0 x.entry.hand.registers m.mirror next.registers m.mirror m.walk.started x.held.got x.held.got w.here changes (λ k set. inl refl) (λ k is. is) w.gets.got in
     let b = base_turned t s' c x y.source y.watch (keeps_base t c s s' x q w.base) in
-    let ahead = less_calm method t.home (Calm s c x) (Calm s' c x) (at ∷ m.path) next m.mirror there (λ calm. calm ∙ q.warning) turn.ahead in
+    let ahead = less_calm method t.home (Calm s c x) (Calm s' c x) (at ∷ m.path) next m.mirror there (λ calm. calm ∙ q.left.warning) turn.ahead in
     let changes' = nothing_changes t.home (AsTrusted (Calm s' c x) Trusted) x.entry.hand.registers m.mirror w.walks.ahead.sized in (
       (turn.enabled, (sym (turn.memory ∙ ap (λ (o : Option Memory). (auxiliary o s.source (place at) (place l) m.mirror).memory) some), refl, sym turn.watch)),
       (
@@ -155,9 +128,9 @@ success_takes t s s' c x m entry l accessed w st guards some f' q marked =
         (
           record { walk = m.walk; path = at ∷ m.path; mirror = m.mirror; there = there },
           walks_along t s' c y (spot_of x.entry.hand) next m i 0 (AsTrusted (Calm s' c x) Trusted) m.mirror there accessed x.held w.plan.null f' w.here changes' (λ trusted. inl refl) ahead
-              (walks_turned t s' c x (spot_of x.entry.hand) m y.source y.watch (keeps_walks t c s s' x (spot_of x.entry.hand) m w.shared_holds q w.walks)),
+              (walks_turned t s' c x (spot_of x.entry.hand) m y.source y.watch (walks_left t c s s' x (spot_of x.entry.hand) m w.shared_holds q.left w.walks)),
           stands_took t s c 0 x m i next m.mirror accessed 0 marked turn,
-          gets_along t s' c y (spot_of x.entry.hand) next m i 0 (AsTrusted (Calm s' c x) Trusted) m.mirror there accessed x.held w.here refl changes' got (λ k is. is) (λ k j is a z. is) (λ gen k set. inl refl) (keeps_gets t c s s' x m q w.gets),
+          gets_along t s' c y (spot_of x.entry.hand) next m i 0 (AsTrusted (Calm s' c x) Trusted) m.mirror there accessed x.held w.here refl changes' got (λ k is. is) (λ k j is a z. is) (λ gen k set. inl refl) (keeps_gets t c s s' x m w.plan.null f' q w.base w.gets),
           guards_along t s' c y (spot_of x.entry.hand) next m i 0 (AsTrusted (Calm s' c x) Trusted) m.mirror there accessed x.held w.here refl changes' guards,
         ),
       ),

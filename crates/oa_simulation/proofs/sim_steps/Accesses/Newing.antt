@@ -5,7 +5,7 @@ use Rattle.norm_lang.specs.declared.text.Reg.TheVariants.{Ref}
 use Rattle.norm_lang.specs.declared.text.Instr.TheVariants as instr
 use Rattle.target_code.specs.declared.target.TargetInstr.{TargetInstr}
 use Rattle.target_code.specs.declared.target.TargetInstr.TheVariants.{Plain}
-use Rattle.oa_words.specs.Words.{Word, Phase, Place, Warning, Hazard, Status, FieldOf, Cell, Head, Link}
+use Rattle.oa_words.specs.Words.{Word, Hazard, FieldOf}
 use Rattle.oa_words.specs.Memories.{store}
 use Rattle.guard_words.specs.Guards.{guard_at, with_guard}
 use Rattle.target_code.specs.Keeping.{keeps}
@@ -45,16 +45,9 @@ twice_at : (b : Bool) (x y : ℕ) → (if b then x else (if b then x else y)) �
 twice_at true x y = refl
 twice_at false x y = refl
 
-twice_word : (m : Word → ℕ) (j g : ℕ) (v : Word) → store (store m (FieldOf j g) 0) (FieldOf j g) 0 v ≡ store m (FieldOf j g) 0 v
+pub twice_word : (m : Word → ℕ) (j g : ℕ) (v : Word) → store (store m (FieldOf j g) 0) (FieldOf j g) 0 v ≡ store m (FieldOf j g) 0 v
 twice_word m j g (FieldOf a b) = twice_at ((a == j) && (b == g)) 0 (m (FieldOf a b))
-twice_word m j g Phase = refl
-twice_word m j g (Place c) = refl
-twice_word m j g (Warning c) = refl
-twice_word m j g (Hazard c r) = refl
-twice_word m j g (Status i) = refl
-twice_word m j g (Cell x) = refl
-twice_word m j g (Head t) = refl
-twice_word m j g (Link i) = refl
+twice_word m j g _ = refl
 
 twice : (m : Word → ℕ) (j g : ℕ) → store (store m (FieldOf j g) 0) (FieldOf j g) 0 ≡ store m (FieldOf j g) 0
 twice m j g = λ i v. twice_word m j g v i
@@ -80,7 +73,7 @@ unfolding zeroing_moved
 moved_kind t s c x m r k g w = refl
 
 -- the zero, and the draw in the same step
-goes_new : (t : Plan) (s : Shared) (c kind j g : ℕ) → MayChange t c s (zeroed s j g) → MayChange t c (zeroed s j g) (drawn t (zeroed s j g) kind j g) → MayChange t c s (drawn t (zeroed s j g) kind j g)
+pub goes_new : (t : Plan) (s : Shared) (c kind j g : ℕ) → MayChange t c s (zeroed s j g) → MayChange t c (zeroed s j g) (drawn t (zeroed s j g) kind j g) → MayChange t c s (drawn t (zeroed s j g) kind j g)
 goes_new t s c kind j g one two = record {
   phase = two.phase;
   warning = two.warning;

@@ -55,18 +55,18 @@ pub record AtZeroes (t : Plan) (c : ℕ) (s : Shared) (x : Caller) (k field : �
   pub home : DrawsHome t.home (core_zeroed Optimistic t.target t.setting.sizes k field (counted x.entry)).signs s.unused
 
 -- a reference that is put into a register is there
-put_there : (mirror : Registers) (r n : ℕ) → r < length mirror.references → node_in (with_reference mirror (Ref r) (record { node = n; marked = false })) r ≡ n
+pub put_there : (mirror : Registers) (r n : ℕ) → r < length mirror.references → node_in (with_reference mirror (Ref r) (record { node = n; marked = false })) r ≡ n
 put_there mirror r n lt = ap (λ (z : Reference). z.node) (unwrap_or-slice_get (set mirror.references r (record { node = n; marked = false })) r no_reference ∙ get_or-set_same mirror.references r (record { node = n; marked = false }) no_reference lt)
 
 -- a `new` stores 0 to each field of its kind
-all_zeroed : (t : Plan) (r kind g : ℕ) → t.target.fields ≡ t.text.fields → nat_lt (g + 1) (zero_count t.target (Some (Plain (instr.New (Ref r) kind)))) ≡ false → length (blank_fields t.text kind) ≤ g + 1
+pub all_zeroed : (t : Plan) (r kind g : ℕ) → t.target.fields ≡ t.text.fields → nat_lt (g + 1) (zero_count t.target (Some (Plain (instr.New (Ref r) kind)))) ≡ false → length (blank_fields t.text kind) ≤ g + 1
 all_zeroed t r kind g fields ends =
     let count : length (blank_fields t.text kind) ≡ zero_count t.target (Some (Plain (instr.New (Ref r) kind))) = length-map (fields_of kind t.text.fields) blank_field ∙ ap (λ (fields : List FieldDecl). length (fields_of kind fields)) (sym fields) in
     let past : zero_count t.target (Some (Plain (instr.New (Ref r) kind))) ≤ g + 1 = grind (arith, nat_tests, ends) in
     omega (arith, count, past)
 
 -- from the second store on the slot has no name already
-none_before : (present : ℕ → ℕ) (j field : ℕ) → (0 < field → present j ≡ 0) → put present j 0 ≡ emptied_at field j present
+pub none_before : (present : ℕ → ℕ) (j field : ℕ) → (0 < field → present j ≡ 0) → put present j 0 ≡ emptied_at field j present
 none_before present j zero none = refl
 none_before present j (suc field) none = λ i l. at l (eqb_tells l j) i where
   at : (l : ℕ) → (((l == j) ≡ true) × (l ≡ j)) ⊎ (((l == j) ≡ false) × (l ≢ j)) → put present j 0 l ≡ present l

@@ -17,19 +17,19 @@ use Rattle.caller_parts.specs.declared.routine.Routine.{Routine}
 use Rattle.caller_steps.specs.Entries.{one_more, instr_in}
 use Rattle.caller_parts.specs.Operands.{list_of}
 use Rattle.run_ahead.specs.Standing.{wrap_up_after, stands_in_list}
-use Rattle.run_ahead.proofs.Quiet.{less_calm}
 use Rattle.run_ahead.specs.MethodLaws.{Turns}
 use Rattle.run_ahead.proofs.Lists.{lists_are_made}
 use Rattle.target_code.specs.Erasing.{source_place}
 use Rattle.target_laws.specs.Methods.{code_in}
 use Rattle.oa_simulation.proofs.sim_relation.Playing.{PlaysEvent}
 use Rattle.run_ahead.specs.Agreeing.{node_in}
-use Rattle.oa_simulation.specs.sim_relation.Views.{Plan, IsPlan, Owner, Null, Pool, Held, Living, Retiring, Dead, Shared, Caller, link, Resident, Apart}
+use Rattle.oa_simulation.specs.sim_relation.Views.{Plan, IsPlan, Owner, Null, Pool, Held, Living, Retiring, Dead, Shared, Caller, link, Resident}
 use Rattle.oa_simulation.specs.sim_relation.Shared.{SharedHolds}
-use Rattle.oa_simulation.specs.sim_relation.Callers.{Shown, CommitsShown, Calm, Base, Trail, Walks, Guards, AfterExchange, spot_of}
+use Rattle.oa_simulation.specs.sim_relation.Callers.{CommitsShown, Base, Trail, Walks, Guards, AfterExchange, spot_of}
 use Rattle.oa_simulation.specs.sim_relation.MayChange.{MayChange}
 use Rattle.oa_simulation.specs.sim_relation.Steps.{moved, cradled}
-use Rattle.oa_simulation.proofs.sim_relation.Names.{residents_apart, slot_by, own_private}
+use Rattle.oa_simulation.proofs.sim_relation.Names.{slot_by, own_private, shown_kept}
+use Rattle.oa_simulation.proofs.sim_relation.Stable.{LeavesGuards, walks_left}
 use Rattle.oa_simulation.proofs.sim_relation.Moving.{goes_same}
 use Rattle.oa_simulation.proofs.sim_steps.Exchanges.Writing.{publish, published, fine_published, goes_published}
 
@@ -98,11 +98,8 @@ owner_still t s n j away = ⊎_elim
 pub record Passes (t : Plan) (c : ℕ) (s s' : Shared) (n : ℕ) : Type 0 where
   pub shared_holds : SharedHolds t s'
   pub goes : MayChange t c s s'
-  pub warning : s'.memory (Warning c) ≡ s.memory (Warning c)
+  pub left : LeavesGuards t c s s'
   pub hazard : (r : ℕ) → s'.memory (Hazard c r) ≡ s.memory (Hazard c r)
-  pub protects : (r : ℕ) → s'.protects c r ≡ s.protects c r
-  pub links : (i g : ℕ) → (link s' i g ≡ link s i g) ⊎ Resident t s (link s' i g)
-  pub public : (i : ℕ) → s.public i ≡ true → s'.public i ≡ true
   -- a slot of another name stays in its cradle
   pub owns : (j k : ℕ) → (n ≢ 0 → j ≢ t.home n) → s.owner j ≡ Held c k → s'.owner j ≡ Held c k
 
@@ -166,48 +163,22 @@ enters t s s' c x m k n entry cradles routine w = (
   begun : run_begun s'.source ≡ run_after t.text (events.Access c 0) s.source x.source x.watch
   begun = sym (ap (λ caller. run_after t.text (events.Access c 0) s.source caller x.watch) w.source ∙ list.run x.watch)
 
-  calm_was : Calm s' c x → Calm s c x
-  calm_was calm = calm ∙ w.passes.warning
-
   base' : Base t s' c (entered t c s s' x cradles routine)
   base' = record {
     number = w.base.number;
     old = λ i p is lt. w.passes.shared_holds.tagged i p is;
-    protects = λ r. w.passes.protects r ∙ w.base.protects r;
-    seen = subst (λ (i : ℕ). x.entry.hand.seen ≤ i) (sym w.passes.warning) w.base.seen;
+    protects = λ r. w.passes.left.protects r ∙ w.base.protects r;
+    seen = subst (λ (i : ℕ). x.entry.hand.seen ≤ i) (sym w.passes.left.warning) w.base.seen;
     hazard = λ r. w.passes.hazard r ∙ w.base.hazard r;
     known = λ i got. absurd (let z : false ≡ true = got in cc);
     cradle = λ i full. let cr = w.cradle i full in rw cr.0 (w.passes.owns (slice_index x.entry.cradles i) i (λ some z. cr.1 some (cr.0 ∙ z)) (w.base.cradle i (λ z. full (cr.0 ∙ z))));
   }
 
-  shown_still : (i : ℕ) → Shown s i → Shown s' i
-  shown_still i (inl z) = inl z
-  shown_still i (inr public) = inr (w.passes.public i public)
-
-  pair : (o e g : ℕ) → Apart t (link s (s.protects c o) g) (s.protects c e) → s.protects c e ≢ 0 → (link s' (s.protects c o) g ≡ link s (s.protects c o) g) ⊎ Resident t s (link s' (s.protects c o) g) → Apart t (link s' (s.protects c o) g) (s.protects c e)
-  pair o e g was some (inl same) = subst (λ (j : ℕ). Apart t j (s.protects c e)) (sym same) was
-  pair o e g was some (inr new) = residents_apart t s (link s' (s.protects c o) g) (s.protects c e) new (w.shared_holds.guard c e some).resident
-
   walks' : Walks t s' c (entered t c s s' x cradles routine) (spot_of x.entry.hand) m
-  walks' = record {
-    call = w.walks.call;
-    wrapup = w.walks.wrapup;
-    was_set = w.walks.was_set;
-    first = w.walks.first;
-    number = w.walks.number;
-    start = w.walks.start;
-    generator = w.walks.generator;
-    kept = w.walks.kept;
-    shown = λ r is. shown_still (node_in m.walk.started r) (w.walks.shown r is);
-    ahead = less_calm m.walk.method t.home (Calm s c x) (Calm s' c x) m.path (spot_of x.entry.hand) m.mirror m.there calm_was w.walks.ahead;
-    sound = record {
-      word = λ calm. w.walks.sound.word (calm_was calm);
-      apart = λ gen r e trusted some. rw (w.passes.protects e) (w.walks.sound.apart gen r e trusted (λ z. some (w.passes.protects e ∙ z)));
-      pairs = λ o e g free some some'.
-          rw (w.passes.protects o, w.passes.protects e) (pair o e g (w.walks.sound.pairs o e g free (λ z. some (w.passes.protects o ∙ z)) (λ z. some' (w.passes.protects e ∙ z))) (λ z. some' (w.passes.protects e ∙ z)) (w.passes.links (s.protects c o) g));
-    };
-  }
+  walks' =
+      let k = walks_left t c s s' x (spot_of x.entry.hand) m w.shared_holds w.passes.left w.walks in
+      record { call = k.call; wrapup = k.wrapup; was_set = k.was_set; first = k.first; number = k.number; start = k.start; generator = k.generator; kept = k.kept; shown = k.shown; ahead = k.ahead; sound = k.sound }
 
   behind : (b : Bool) → nat_lt (k + 1) (length (list_of (instr_in t.target x.entry))) ≡ b → AfterExchange t s' c (entered t c s s' x cradles routine) (k + 1) b
-  behind true is = (m, walks', w.guards, w.generator, ap (λ turn. turn.caller) turned ∙ rw is refl, (λ r is. shown_still (node_in m.mirror r) (w.shown r is)))
-  behind false is = (m, walks', w.guards, w.generator, ap (λ turn. turn.caller) turned ∙ rw is refl, begun, refl, (λ r is. shown_still (node_in m.mirror r) (w.shown r is)))
+  behind true is = (m, walks', w.guards, w.generator, ap (λ turn. turn.caller) turned ∙ rw is refl, (λ r is. shown_kept s s' (node_in m.mirror r) w.passes.left.public (w.shown r is)))
+  behind false is = (m, walks', w.guards, w.generator, ap (λ turn. turn.caller) turned ∙ rw is refl, begun, refl, (λ r is. shown_kept s s' (node_in m.mirror r) w.passes.left.public (w.shown r is)))

@@ -25,15 +25,16 @@ use Rattle.source_machine.proofs.Names.{has_push}
 use Rattle.caller_parts.specs.Operands.{word_in, slot_in, succeeds, has_object}
 use Rattle.caller_steps.specs.Wants.{place_exchange, object_exchange, exchange_wanted}
 use Rattle.run_ahead.specs.Typed.{IsTyped, root_kinds}
-use Rattle.run_ahead.proofs.TypedMemory.{root_at}
+use Rattle.run_ahead.proofs.TypedMemory.{root_at, values_inside}
 use Rattle.oa_simulation.specs.sim_relation.Views.{Plan, Held, Shared, word_for, name_of, Resident}
 use Rattle.oa_simulation.specs.sim_relation.Shared.{SharedHolds}
 use Rattle.oa_simulation.specs.sim_relation.Steps.{after_access}
 use Rattle.oa_simulation.proofs.sim_relation.Names.{own_private}
-use Rattle.oa_simulation.proofs.sim_steps.Inside.{is_within, IsPlaceInside}
+use Rattle.oa_simulation.proofs.sim_steps.Inside.{IsPlaceInside}
 use Rattle.oa_simulation.proofs.sim_steps.Exchanges.Exchanging.{IsAtHand, hand_resident, PlaceOffered, Offers, word_agrees}
 use Rattle.oa_simulation.proofs.sim_steps.Exchanges.Writing.{Links, fine_linked, goes_linked, fine_linked_root, goes_linked_root}
 use Rattle.oa_simulation.proofs.sim_steps.Exchanges.Entering.{written, Writes}
+use Rattle.norm_lang.specs.declared.text.Text.{Text}
 
 -- ---- the place
 
@@ -132,7 +133,7 @@ makes t s mirror entry after is = by_found (found_at t.text.fields entry.place m
 -- where a value is found the place is there
 pub place_there : (t : Plan) (s : Shared) (c : ℕ) (core mirror : Registers) (e : ℕ) (p : Place) (kind : FieldKind) (found : Value) → SharedHolds t s → PlaceOffered t s c core mirror e p → IsPlaceInside t.text s.source mirror p
     → place_kind t.text.fields t.text.roots p ≡ Some kind → found_at t.text.fields p mirror s.source ≡ Some found → PlaceThere t s c mirror p
-place_there t s c core mirror e (places.Root z) kind found f place inside is finds = is_within s.source.nodes (root_kinds t.text) s.source.roots z kind f.typed.roots (root_at t.text z kind is)
+place_there t s c core mirror e (places.Root z) kind found f place inside is finds = values_inside s.source.nodes (root_kinds t.text) s.source.roots z kind f.typed.roots (root_at t.text z kind is)
 place_there t s c core mirror e (places.Field a g) kind found f place inside is finds = of (fields_named (reference_in mirror a).node s.source.nodes) refl finds where
   of : (o : Option (List Value)) → fields_named (reference_in mirror a).node s.source.nodes ≡ o → option_map (λ values. value_at values (place_of t.text.fields g)) o ≡ Some found → PlaceThere t s c mirror (places.Field a g)
   of None fields at = absurd (let never : None ≡ Some found = at in cc)
@@ -176,6 +177,11 @@ words_written t s c core mirror entry w made = by_place entry.place w.place made
       ∙ (ap (λ (j : ℕ). store s.memory (FieldOf j (place_of t.text.fields f)) (word_in core entry.replacement)) place.0.0 ∙ ap (store s.memory (FieldOf (t.home (reference_in mirror a).node) (place_of t.text.fields f))) new))
 
 -- ---- no name is retired twice
+
+-- to retire a name leaves what memory holds
+pub typed_before : (text : Text) (n : ℕ) (memory : Memory) → IsTyped text (with_name_retired n memory) → IsTyped text memory
+typed_before text zero memory typed = typed
+typed_before text (suc n) memory typed = record { roots = typed.roots; nodes = typed.nodes; null = typed.null }
 
 pub once_new : (ns : List ℕ) (m : ℕ) → IsOnce (ns ++ m ∷ []) → has m ns ≡ false
 once_new [] m once = refl

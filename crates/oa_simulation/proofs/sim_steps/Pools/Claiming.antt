@@ -1,9 +1,8 @@
 -- The claim of a `new`: looks, sweeps, the slot that it takes, and the call that it gives up.
-use Rattle.std.proofs.Common.{ℕ, zero, suc, ◌≡◌, ◌≢◌, ◌==◌, ◌≤◌, ◌<◌, ◌∙◌, Bool, true, false, List, [], ◌∷◌, ◌++◌, map, length, Option, Some, None, arith, ⊎_elim, sym, ap, subst, refl, if◌then◌else◌, set, inl}
+use Rattle.std.proofs.Common.{ℕ, zero, suc, ◌≡◌, ◌==◌, ◌≤◌, ◌<◌, ◌∙◌, Bool, true, false, List, [], ◌∷◌, ◌++◌, map, length, Option, Some, None, arith, sym, ap, subst, refl, if◌then◌else◌, set, inl}
 use Rattle.source_machine.specs.declared.state.Memory.{Memory}
 use Rattle.std.specs.Prelude.{slice_get, slice_index}
 use Rattle.std.proofs.lemmas.List.{map-append}
-use Rattle.std.proofs.lemmas.Bool.{cases_eq}
 use Rattle.std.proofs.lemmas.Bool.Decides.{nat_tests}
 use Rattle.norm_lang.specs.declared.text.Instr.TheVariants as instr
 use Rattle.target_code.specs.declared.target.TargetInstr.TheVariants.{Plain}
@@ -22,12 +21,9 @@ use Rattle.phase_pools.specs.declared.stages.ClaimStage.TheVariants as claims
 use Rattle.phase_pools.specs.Accesses.{word_of}
 use Rattle.phase_pools.specs.Pools.{Claim, Sweep, claim_wants_at, claim_accepts_at, claim_goes, claim_ends, look_ended, look_begun, look_took, takes_at, sweep_ended, sweep_follows, sweep_accepts_at, sweep_wants_at}
 use Rattle.source_machine.specs.declared.event.SourceEvent.TheVariants as events
-use Rattle.source_machine.specs.declared.event.SourceReply.{SourceReply}
+use Rattle.norm_lang.specs.declared.reply.SourceReply.{SourceReply}
 use Rattle.source_machine.specs.Step.{caller_turn, give_up_reply, replied}
-use Rattle.source_machine.specs.MethodRuns.{run_after, put}
-use Rattle.caller_parts.specs.declared.call.Reply.{Reply}
-use Rattle.caller_parts.specs.declared.call.Reply.TheVariants as core_replies
-use Rattle.caller_parts.specs.declared.call.Replied.{Replied}
+use Rattle.source_machine.specs.MethodRuns.{run_after}
 use Rattle.caller_parts.specs.declared.routine.Routine.TheVariants.{At, Claims, Zeroes}
 use Rattle.caller_steps.specs.Entries.{one_more, instr_in, new_number}
 use Rattle.caller_parts.specs.Operands.{is_new_at}
@@ -40,23 +36,22 @@ use Rattle.run_ahead.specs.Standing.{Call, caller_of}
 use Rattle.run_ahead.proofs.Ends.{giving_up_is_followed}
 use Rattle.run_ahead.specs.Ahead.{IsErased}
 use Rattle.caller_steps.specs.Signs.{GivesUp, quiet, told}
-use Rattle.caller_parts.specs.Pairing.{replied_by}
+use Rattle.caller_parts.specs.Pairing.{replied_by, reply_of}
 use Rattle.caller_parts.proofs.News.{new_there}
-use Rattle.oa_simulation.specs.sim_relation.Views.{Plan, Pool, Held, Shared, Caller, settled_names}
+use Rattle.oa_simulation.specs.sim_relation.Views.{Plan, Held, Shared, Caller, settled_names}
 use Rattle.oa_simulation.specs.sim_relation.Shared.{SharedHolds}
 use Rattle.oa_simulation.specs.sim_relation.Points.{done, point}
 use Rattle.oa_simulation.proofs.sim_relation.Playing.{plays_none, plays_one, points_same}
 use Rattle.oa_simulation.proofs.sim_steps.Walks.Replying.{follows_of}
-use Rattle.oa_simulation.specs.sim_relation.Callers.{Calm, Base, Trail, AtNew, Empty, ClaimAt, spot_of, source_reply, replies_of, call_of}
+use Rattle.oa_simulation.specs.sim_relation.Callers.{Calm, Base, Trail, AtNew, Empty, ClaimAt, spot_of, call_of}
 use Rattle.oa_simulation.specs.sim_relation.Naming.{freed_in}
 use Rattle.oa_simulation.specs.sim_relation.Steps.{KeptNaming, Kept, TakenIsReady, GoesForAll, after_access, moved, cradled}
 use Rattle.oa_simulation.proofs.sim_relation.Words.{store_idle}
 use Rattle.oa_simulation.proofs.sim_relation.Moving.{base_moved, new_moved, own_base, own_new, goes_same, new_cradled, base_cradled, base_settled, settled_is, names_settle, same_names}
-use Rattle.oa_simulation.proofs.sim_steps.Pools.Slots.{in_pool, taken, apart, with_status}
+use Rattle.oa_simulation.proofs.sim_steps.Pools.Slots.{in_pool, taken, cradle_taken, with_status}
 use Rattle.source_machine.specs.Proper.{has}
-use Rattle.source_machine.proofs.Places.{put_same, put_other}
-use Rattle.oa_simulation.proofs.sim_relation.Lists.{index_set, index_set_other}
-use Rattle.oa_simulation.proofs.sim_steps.Pools.Phases.{with_chain, head_stored, fine_chain, goes_chain}
+use Rattle.oa_simulation.proofs.sim_relation.Lists.{index_set}
+use Rattle.oa_simulation.proofs.sim_steps.Pools.Phases.{with_words, fine_risen, goes_risen, head_risen}
 use Rattle.oa_simulation.proofs.sim_steps.Pools.Sweeping.{Warns, SweepNext, sweep_step}
 use Rattle.oa_simulation.proofs.sim_relation.Codes.{instr_is}
 use Rattle.caller_parts.specs.declared.setting.Reclamation.TheVariants.{Optimistic}
@@ -81,17 +76,8 @@ own_claiming t c s s' x null_home g f f' w = record {
 
 -- ---- the call is given up
 
--- the reply that tells why
-abbrev pub given_up : Option ℕ → Reply
-given_up None = core_replies.Full
-given_up (Some p) = core_replies.Phases p
-
-same_reply : (phase : Option ℕ) → source_reply (given_up phase) ≡ give_up_reply phase
-same_reply None = refl
-same_reply (Some p) = refl
-
 pub gave_up : (t : Plan) (c : ℕ) (s s' : Shared) (x : Caller) (phase : Option ℕ) (takes : Bool) (memory' : Word → ℕ) (present' : ℕ → ℕ) → IsErased t.target t.text → SharedHolds t s → SharedHolds t s' → GoesForAll t s s' → s'.source ≡ s.source → s'.unused ≡ s.unused → s'.memory ≡ memory' → s'.present ≡ present' → Claiming t s c x
-    → KeptNaming t c s x memory' (told (GivesUp phase ∷ []) (quiet (entry_replied (given_up phase) (with_routine (claim_counted takes (counted x.entry)) At)))) present'
+    → KeptNaming t c s x memory' (told (GivesUp phase ∷ []) (quiet (entry_replied (give_up_reply phase) (with_routine (claim_counted takes (counted x.entry)) At)))) present'
 gave_up t c s s' x phase takes memory' present' erased f f' g source unused memory present w =
     let m : Trail t = w.running.0 in
     let walks = w.running.1 in
@@ -100,7 +86,7 @@ gave_up t c s s' x phase takes memory' present' erased f f' g source unused memo
     let turns = giving_up_is_followed (Calm s c x) t.target t.text erased t.home m.walk m.path (spot_of x.entry.hand) m.mirror x.entry.hand.accessed x.source (follows_of t s c x m walks w.running.2) new.0 new.1 is c phase s.source in
     let x' : Caller = record x {
       names = settled_names x.names;
-      entry = entry_replied (given_up phase) (with_routine (claim_counted takes (counted x.entry)) At);
+      entry = entry_replied (give_up_reply phase) (with_routine (claim_counted takes (counted x.entry)) At);
       source = (caller_turn t.text (events.GiveUp c phase) s.source x.source).caller;
       watch = run_after t.text (events.GiveUp c phase) s.source x.source x.watch;
     } in
@@ -123,10 +109,10 @@ gave_up t c s s' x phase takes memory' present' erased f f' g source unused memo
       };
     }
   where
-    idle : (call : Call) → call ≡ call_of x.entry → replied (give_up_reply phase) (caller_of call) ≡ record { replies = map (λ (r : Replied). source_reply r.reply) (x.entry.replies ++ replied_by (given_up phase) (record x.entry.running { steps = one_more x.entry.running.steps }) ∷ []); running = None }
+    idle : (call : Call) → call ≡ call_of x.entry → replied (give_up_reply phase) (caller_of call) ≡ record { replies = map reply_of (x.entry.replies ++ replied_by (give_up_reply phase) (record x.entry.running { steps = one_more x.entry.running.steps }) ∷ []); running = None }
     idle call is = ap (λ call. replied (give_up_reply phase) (caller_of call)) is
-        ∙ ap (λ (rs : List SourceReply). record { replies = rs; running = None }) (ap (λ (r : SourceReply). replies_of x.entry ++ r ∷ []) (sym (same_reply phase))
-        ∙ sym (map-append (λ (r : Replied). source_reply r.reply) x.entry.replies (replied_by (given_up phase) (record x.entry.running { steps = one_more x.entry.running.steps }) ∷ [])))
+        ∙ ap (λ (rs : List SourceReply). record { replies = rs; running = None })
+        (sym (map-append reply_of x.entry.replies (replied_by (give_up_reply phase) (record x.entry.running { steps = one_more x.entry.running.steps }) ∷ [])))
 
 -- ---- the claim goes on
 
@@ -210,7 +196,7 @@ took t c s x claim j p q null_home f w some lt is =
       retires = λ n is. inl is;
       caller_holds = record {
         base = base_moved t _ c (cradled x cradles) (one_more x.entry.running.steps) (claim_counted false x.entry).counts (Zeroes k 0)
-            (base_cradled t _ c x cradles (cradle k refl) w'.base);
+            (base_cradled t _ c x cradles (cradle_taken s c k j x.entry.cradles lt pool.0 w.base.cradle) w'.base);
         spot = (
           (λ z. omega (arith, some, there, z)),
           ((λ none. absurd (omega (arith, none))), (λ g none. absurd (omega (arith, none)))),
@@ -220,16 +206,6 @@ took t c s x claim j p q null_home f w some lt is =
         );
       };
     }
-  where
-    cradle : (k : ℕ) → k ≡ new_number t.target x.entry → (i : ℕ) → slice_index (set x.entry.cradles k j) i ≢ 0 → put s.owner j (Held c k) (slice_index (set x.entry.cradles k j) i) ≡ Held c i
-    cradle k here i full = ⊎_elim
-        (λ (e : i ≡ k). rw e (ap (λ (n : ℕ). put s.owner j (Held c k) n) (index_set x.entry.cradles k j (subst (λ (n : ℕ). n < length x.entry.cradles) (sym here) lt)) ∙ put_same s.owner j (Held c k)))
-        (λ (ne : i ≢ k).
-        let same : slice_index (set x.entry.cradles k j) i ≡ slice_index x.entry.cradles i = index_set_other x.entry.cradles k j i ne in
-        let own : s.owner (slice_index x.entry.cradles i) ≡ Held c i = w.base.cradle i (λ z. full (same ∙ z)) in
-        let pool = in_pool (s.owner j) p (s.memory (Status j)) (s.present j) (s.tag (s.present j)) (has (s.present j) s.source.retired) (s.public (s.present j)) is (f.slot j) in
-        ap (λ (n : ℕ). put s.owner j (Held c k) n) same ∙ (put_other s.owner j (slice_index x.entry.cradles i) (Held c k) (apart s (slice_index x.entry.cradles i) j (Held c i) Pool own pool.0 (λ e. cc)) ∙ own))
-        (cases_eq i k)
 
 -- ---- a slot is taken from the chain
 
@@ -240,7 +216,8 @@ takes t c s x claim j q next erased null_home f w some = of (s.memory (Head clai
       (claimed Optimistic t.target (if b then claim_goes claim (claims.StoreUsed q j) else claim_goes claim claims.ReadHead) (claim_counted b (counted x.entry)))
   of true =
       let memory' : Word → ℕ = store s.memory (Head claim.kind) (head_word q next) in
-      claim_kept t c s (with_chain s memory') x (record claim { stage = claims.StoreUsed q j }) None true memory' s.present erased null_home f (fine_chain t s memory' f) (goes_chain t s memory') refl refl (head_stored s.memory claim.kind (head_word q next)) refl w some
+      let r = head_risen s.memory claim.kind (head_word q next) f.warning in
+      claim_kept t c s (with_words s memory') x (record claim { stage = claims.StoreUsed q j }) None true memory' s.present erased null_home f (fine_risen t s memory' r f) (goes_risen t s memory' r) refl refl refl refl w some
   of false = claim_kept t c s s x (record claim { stage = claims.ReadHead }) None false _ s.present erased null_home f f (goes_same t s) refl refl (store_idle s.memory (Head claim.kind)) refl w tt
 
 -- its sweeps warn the callers

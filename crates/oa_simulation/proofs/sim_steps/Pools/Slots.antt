@@ -1,61 +1,37 @@
 -- Slots change hands: a claim takes one, the retire routine tags and marks one, a sweep frees one.
-use Rattle.std.proofs.Common.{ℕ, ◌≡◌, ◌≢◌, ◌==◌, ◌*◌, ◌≤◌, ◌<◌, ◌⊎◌, ◌∙◌, Bool, true, false, List, Option, Some, None, arith, inl, inr, ⊎_elim, sym, ap, subst, refl}
+use Rattle.std.proofs.Common.{ℕ, ◌≡◌, ◌≢◌, ◌==◌, ◌≤◌, ◌<◌, ◌⊎◌, ◌∙◌, Bool, true, false, List, length, set, Option, Some, None, arith, inl, inr, ⊎_elim, sym, ap, subst, refl}
+use Rattle.std.specs.Prelude.{slice_index}
 use Rattle.std.proofs.lemmas.Bool.{cases_eq}
 use Rattle.std.proofs.lemmas.Bool.Decides.{eqb_tells}
-use Rattle.oa_words.specs.declared.packed.Kind.{Kind}
 use Rattle.oa_words.specs.declared.packed.Kind.TheVariants as kinds
 use Rattle.oa_words.specs.Words.{Phase, Warning, Status, FieldOf}
 use Rattle.oa_words.specs.Memories.{store}
-use Rattle.oa_words.specs.Packed.{StatusParts, status_word, status_parts}
-use Rattle.oa_words.proofs.Parts.{status_back}
-use Rattle.guard_words.specs.Guards.{has_slot}
+use Rattle.oa_words.specs.Packed.{status_word}
+use Rattle.chain_laws.proofs.Routines.{status_tells, kinds_apart}
 use Rattle.source_machine.specs.Proper.{has, field_of}
 use Rattle.source_machine.specs.declared.state.Value.{Value}
 use Rattle.source_machine.specs.Memory.{fields_named}
 use Rattle.source_machine.specs.MethodRuns.{put}
-use Rattle.source_machine.proofs.Places.{each_put, put_other}
-use Rattle.oa_simulation.specs.sim_relation.Views.{Plan, Owner, Null, Pool, Held, Living, Retiring, Dead, Shared, Resident, word_for, value_count}
-use Rattle.oa_simulation.specs.sim_relation.Shared.{Slot, SharedHolds}
-use Rattle.oa_simulation.specs.sim_relation.Callers.{IsRetiring, Sweeps}
+use Rattle.source_machine.proofs.Places.{each_put, put_same, put_other}
+use Rattle.oa_simulation.specs.sim_relation.Views.{Plan, Owner, Null, Pool, Held, Retiring, Dead, Shared, Resident, word_for, value_count}
+use Rattle.oa_simulation.specs.sim_relation.Shared.{Slot, SlotAt, SharedHolds}
+use Rattle.oa_simulation.specs.sim_relation.Callers.{IsRetiring}
 use Rattle.oa_simulation.specs.sim_relation.MayChange.{MayChange}
 use Rattle.oa_simulation.specs.sim_relation.Steps.{GoesForAll}
 use Rattle.oa_simulation.proofs.sim_relation.Names.{slot_by, null_private}
-
-abbrev phase_in : Option StatusParts → ℕ
-phase_in None = 0
-phase_in (Some parts) = parts.phase
-
-abbrev kind_in : Option StatusParts → Kind
-kind_in None = kinds.Ready
-kind_in (Some parts) = parts.kind
-
--- one status word tells one phase and kind
-pub status_tells : (p q : ℕ) (k l : Kind) → status_word p k ≡ status_word q l → (p ≡ q) × (k ≡ l)
-status_tells p q k l e = (
-  sym (ap phase_in (status_back p k)) ∙ (ap (λ (w : ℕ). phase_in (status_parts w)) e ∙ ap phase_in (status_back q l)),
-  sym (ap kind_in (status_back p k)) ∙ (ap (λ (w : ℕ). kind_in (status_parts w)) e ∙ ap kind_in (status_back q l)),
-)
-
-kinds_apart : (P : Type 0) (p q : ℕ) (k l : Kind) (word : ℕ) → (k ≡ l → ⊥) → word ≡ status_word p k → word ≡ status_word q l → P
-kinds_apart P p q k l word ne a b = absurd (ne (status_tells p q k l (sym a ∙ b)).1)
+use Rattle.oa_simulation.proofs.sim_relation.Lists.{index_set, index_set_other}
 
 -- a ready slot is in the pool
 pub in_pool : (o : Owner) (q word n : ℕ) (tag : Option ℕ) (rt pb : Bool) → word ≡ status_word q kinds.Ready → Slot o word n tag rt pb → (o ≡ Pool) × (n ≡ 0)
-in_pool Null q word n tag rt pb is slot = kinds_apart _ q slot.0.0 kinds.Ready kinds.Used word (λ e. cc) is slot.0.1
 in_pool Pool q word n tag rt pb is slot = (refl, slot.1)
-in_pool (Held c k) q word n tag rt pb is slot = kinds_apart _ q slot.0.0 kinds.Ready kinds.Used word (λ e. cc) is slot.0.1
-in_pool Living q word n tag rt pb is slot = kinds_apart _ q slot.0.0 kinds.Ready kinds.Used word (λ e. cc) is slot.0.1
-in_pool (Retiring c) q word n tag rt pb is slot = kinds_apart _ q slot.0.0 kinds.Ready kinds.Used word (λ e. cc) is slot.0.1
 in_pool Dead q word n tag rt pb is slot = kinds_apart _ q slot.0 kinds.Ready kinds.Retired word (λ e. cc) is slot.1
+in_pool _ q word n tag rt pb is slot = kinds_apart _ q slot.0.0 kinds.Ready kinds.Used word (λ e. cc) is slot.0.1
 
 -- a slot with status retired has a name with that tag
 pub is_dead : (o : Owner) (q word n : ℕ) (tag : Option ℕ) (rt pb : Bool) → word ≡ status_word q kinds.Retired → Slot o word n tag rt pb → (o ≡ Dead) × (tag ≡ Some q) × (n ≢ 0)
-is_dead Null q word n tag rt pb is slot = kinds_apart _ q slot.0.0 kinds.Retired kinds.Used word (λ e. cc) is slot.0.1
 is_dead Pool q word n tag rt pb is slot = kinds_apart _ q slot.0.0 kinds.Retired kinds.Ready word (λ e. cc) is slot.0.1
-is_dead (Held c k) q word n tag rt pb is slot = kinds_apart _ q slot.0.0 kinds.Retired kinds.Used word (λ e. cc) is slot.0.1
-is_dead Living q word n tag rt pb is slot = kinds_apart _ q slot.0.0 kinds.Retired kinds.Used word (λ e. cc) is slot.0.1
-is_dead (Retiring c) q word n tag rt pb is slot = kinds_apart _ q slot.0.0 kinds.Retired kinds.Used word (λ e. cc) is slot.0.1
 is_dead Dead q word n tag rt pb is slot = let e : slot.0 ≡ q = (status_tells slot.0 q kinds.Retired kinds.Retired (sym slot.1 ∙ is)).0 in (refl, slot.2 ∙ ap Some e, slot.3)
+is_dead _ q word n tag rt pb is slot = kinds_apart _ q slot.0.0 kinds.Retired kinds.Used word (λ e. cc) is slot.0.1
 
 -- a slot with another owner is another slot
 pub apart : (s : Shared) (i j : ℕ) (o x : Owner) → s.owner i ≡ o → s.owner j ≡ x → (o ≡ x → ⊥) → i ≢ j
@@ -122,6 +98,17 @@ taken t s c k j p q null_home f is =
         retiring = λ i d ne own. (put_other s.owner j i (Held c k) (apart s i j (Retiring d) Pool own pool.0 (λ e. cc)) ∙ own, refl, refl);
       },
     )
+
+-- and puts it into a cradle
+pub cradle_taken : (s : Shared) (c k j : ℕ) (cradles : List ℕ) → k < length cradles → s.owner j ≡ Pool → ((i : ℕ) → slice_index cradles i ≢ 0 → s.owner (slice_index cradles i) ≡ Held c i)
+    → (i : ℕ) → slice_index (set cradles k j) i ≢ 0 → put s.owner j (Held c k) (slice_index (set cradles k j) i) ≡ Held c i
+cradle_taken s c k j cradles lt pool held i full = ⊎_elim
+    (λ (e : i ≡ k). rw e (ap (λ (n : ℕ). put s.owner j (Held c k) n) (index_set cradles k j lt) ∙ put_same s.owner j (Held c k)))
+    (λ (ne : i ≢ k).
+    let same : slice_index (set cradles k j) i ≡ slice_index cradles i = index_set_other cradles k j i ne in
+    let own : s.owner (slice_index cradles i) ≡ Held c i = held i (λ z. full (same ∙ z)) in
+    ap (λ (n : ℕ). put s.owner j (Held c k) n) same ∙ (put_other s.owner j (slice_index cradles i) (Held c k) (apart s (slice_index cradles i) j (Held c i) Pool own pool (λ e. cc)) ∙ own))
+    (cases_eq i k)
 
 -- what the owner of a retiring slot knows
 pub slot_retiring : (t : Plan) (s : Shared) (c j : ℕ) → SharedHolds t s → s.owner j ≡ Retiring c → (s.present j ≢ 0) × (has (s.present j) s.source.retired ≡ true)
@@ -211,32 +198,22 @@ tagged t s c j n f r = (
       (λ (ne : s.present i ≢ n). subst (λ (o : Option ℕ). Slot (s.owner i) (s.memory (Status i)) (s.present i) o (has (s.present i) s.source.retired) (s.public (s.present i))) (sym (put_other s.tag n (s.present i) (Some (s.memory Phase)) ne)) (f.slot i))
       (cases_eq (s.present i) n)
 
--- a slot may be freed: a sweep has gone over all guards and none names it
-pub record Freed (t : Plan) (s : Shared) (p j q : ℕ) (g : List ℕ) : Type 0 where
+-- a slot may be freed: it was retired before low, no caller is warned below that, and no validated guard names it
+pub record Freed (t : Plan) (s : Shared) (low j q : ℕ) : Type 0 where
   pub word : s.memory (Status j) ≡ status_word q kinds.Retired
-  pub below : q < p
-  pub away : has_slot g j ≡ false
-  pub sweeps : Sweeps t s p t.setting.sizes.callers (8 * t.setting.sizes.callers) g
+  pub below : q < low
+  pub warned : (c : ℕ) → c < t.setting.sizes.callers → low ≤ s.memory (Warning c)
+  pub spared : (d r : ℕ) → s.protects d r ≢ 0 → t.home (s.protects d r) ≢ j
 
+-- it gets the phase to which the sweep raised
 abbrev pub freed : Shared → ℕ → ℕ → Shared
-freed s j p = with_slot_at s j Pool (status_word p kinds.Ready) 0
+freed s j bound = with_slot_at s j Pool (status_word bound kinds.Ready) 0
 
-dead_slot : (t : Plan) (s : Shared) (p j q : ℕ) (g : List ℕ) → SharedHolds t s → Freed t s p j q g → (s.owner j ≡ Dead) × (s.tag (s.present j) ≡ Some q) × (s.present j ≢ 0)
-dead_slot t s p j q g f w = is_dead (s.owner j) q (s.memory (Status j)) (s.present j) (s.tag (s.present j)) (has (s.present j) s.source.retired) (s.public (s.present j)) w.word (f.slot j)
+pub dead_slot : (s : Shared) (j q : ℕ) → SlotAt s j → s.memory (Status j) ≡ status_word q kinds.Retired → (s.owner j ≡ Dead) × (s.tag (s.present j) ≡ Some q) × (s.present j ≢ 0)
+dead_slot s j q slot word = is_dead (s.owner j) q (s.memory (Status j)) (s.present j) (s.tag (s.present j)) (has (s.present j) s.source.retired) (s.public (s.present j)) word slot
 
--- no validated guard names it
-pub unguarded : (t : Plan) (s : Shared) (p j q : ℕ) (g : List ℕ) → SharedHolds t s → Freed t s p j q g → (d r : ℕ) → s.protects d r ≢ 0 → t.home (s.protects d r) ≢ j
-unguarded t s p j q g f w d r some at =
-    let gd = f.guard d r some in
-    let named : s.present j ≡ s.protects d r = ap s.present (sym at) ∙ gd.resident in
-    let lt : d < t.setting.sizes.callers = gd.caller in
-    let lt8 : r < 8 = gd.register in
-    let is : has_slot g (t.home (s.protects d r)) ≡ true = w.sweeps.gathered d r q (omega (arith, lt, lt8)) some (ap s.tag (sym named) ∙ (dead_slot t s p j q g f w).1) w.below in
-    let clash : true ≡ false = sym is ∙ (ap (λ (n : ℕ). has_slot g n) at ∙ w.away) in
-    cc
-
-pub fine_freed : (t : Plan) (s : Shared) (p j q : ℕ) (g : List ℕ) → SharedHolds t s → Freed t s p j q g → SharedHolds t (freed s j p)
-fine_freed t s p j q g f w = record {
+pub fine_freed : (t : Plan) (s : Shared) (low bound j q : ℕ) → SharedHolds t s → Freed t s low j q → SharedHolds t (freed s j bound)
+fine_freed t s low bound j q f w = record {
   warning = f.warning;
   tag = f.tag;
   tagged = f.tagged;
@@ -259,12 +236,12 @@ fine_freed t s p j q g f w = record {
   };
   home = each_put (λ i (n : ℕ). n ≢ 0 → t.home n ≡ i) s.present j 0 (λ some. absurd (some refl)) (λ i ne. f.home i);
   slot = λ i. ⊎_elim
-      (λ (e : ((i == j) ≡ true) × (i ≡ j)). rw e.0 ((p, refl), refl))
+      (λ (e : ((i == j) ≡ true) × (i ≡ j)). rw e.0 ((bound, refl), refl))
       (λ (e : ((i == j) ≡ false) × (i ≢ j)). rw e.0 (f.slot i))
       (eqb_tells i j);
   gone = λ n o d is away lt. ⊎_elim
       (λ (e : t.home n ≡ j). ⊎_elim
-      (λ (same : s.present j ≡ n). let x : q ≡ o = cc (dead.1, ap s.tag same, is) in omega (arith, x, w.below, w.sweeps.warned d lt))
+      (λ (same : s.present j ≡ n). let x : q ≡ o = cc (dead.1, ap s.tag same, is) in omega (arith, x, w.below, w.warned d lt))
       (λ (ne : s.present j ≢ n). f.gone n o d is (λ z. ne (ap s.present (sym e) ∙ z)) lt)
       (cases_eq (s.present j) n))
       (λ (ne : t.home n ≢ j). f.gone n o d is (λ z. away (put_other s.present j (t.home n) 0 ne ∙ z)) lt)
@@ -278,13 +255,13 @@ fine_freed t s p j q g f w = record {
       (cases_eq (t.home n) j);
   guard = λ d r some.
       let gd = f.guard d r some in
-      record { resident = put_other s.present j (t.home (s.protects d r)) 0 (unguarded t s p j q g f w d r some) ∙ gd.resident; word = gd.word; caller = gd.caller; register = gd.register };
+      record { resident = put_other s.present j (t.home (s.protects d r)) 0 (w.spared d r some) ∙ gd.resident; word = gd.word; caller = gd.caller; register = gd.register };
 } where
   dead : (s.owner j ≡ Dead) × (s.tag (s.present j) ≡ Some q) × (s.present j ≢ 0)
-  dead = dead_slot t s p j q g f w
+  dead = dead_slot s j q (f.slot j) w.word
 
-pub goes_freed : (t : Plan) (s : Shared) (p j q : ℕ) (g : List ℕ) → SharedHolds t s → Freed t s p j q g → GoesForAll t s (freed s j p)
-goes_freed t s p j q g f w y = record {
+pub goes_freed : (t : Plan) (s : Shared) (low bound j q : ℕ) → SharedHolds t s → Freed t s low j q → GoesForAll t s (freed s j bound)
+goes_freed t s low bound j q f w y = record {
   phase = omega arith;
   warning = λ d. omega arith;
   tag = λ n q is. inl is;
@@ -297,4 +274,4 @@ goes_freed t s p j q g f w y = record {
   retiring = λ i d ne own. let x : i ≢ j = apart s i j (Retiring d) Dead own dead.0 (λ e. cc) in (put_other s.owner j i Pool x ∙ own, put_other s.present j i 0 x, ap s.tag refl);
 } where
   dead : (s.owner j ≡ Dead) × (s.tag (s.present j) ≡ Some q) × (s.present j ≢ 0)
-  dead = dead_slot t s p j q g f w
+  dead = dead_slot s j q (f.slot j) w.word

@@ -1,10 +1,9 @@
 -- The stages of a sweep: what each makes of what is shared, and what the sweep knows at the next.
-use Rattle.std.proofs.Common.{ℕ, zero, suc, ◌≡◌, ◌≢◌, ◌==◌, ◌+◌, ◌-◌, ◌*◌, ◌≤◌, ◌<◌, ◌⊎◌, ◌∙◌, ◌&&◌, ◌||◌, not, Bool, true, false, List, [], ◌∷◌, Option, Some, None, arith, inl, inr, ⊎_elim, sym, ap, subst, refl, max, if◌then◌else◌}
+use Rattle.std.proofs.Common.{ℕ, zero, suc, ◌≡◌, ◌≢◌, ◌==◌, ◌+◌, ◌-◌, ◌*◌, ◌≤◌, ◌<◌, ◌⊎◌, ◌∙◌, ◌||◌, Bool, true, false, List, [], ◌∷◌, Option, Some, None, arith, inl, inr, ⊎_elim, sym, ap, subst, refl, max, if◌then◌else◌}
 use Rattle.std.specs.Prelude.{nat_lt}
 use Rattle.std.proofs.lemmas.Bool.{cases_lt}
 use Rattle.std.proofs.lemmas.Bool.Decides.{nat_tests}
 use Rattle.std.proofs.lemmas.List.Folds.{list_any-append}
-use Rattle.oa_words.specs.declared.packed.Kind.{Kind}
 use Rattle.oa_words.specs.declared.packed.Kind.TheVariants as kinds
 use Rattle.oa_words.specs.Words.{Word, Phase, Warning, Hazard, Status, Head, Link, slot_range}
 use Rattle.oa_words.specs.SlotKinds.{kind_of}
@@ -17,7 +16,8 @@ use Rattle.phase_pools.specs.declared.stages.Scheme.TheVariants.{Warned}
 use Rattle.phase_pools.specs.declared.stages.SweepStage.{SweepStage}
 use Rattle.phase_pools.specs.declared.stages.SweepStage.TheVariants as sweeps
 use Rattle.phase_pools.specs.Accesses.{word_of}
-use Rattle.phase_pools.specs.Pools.{Sweep, SweepTurn, sweep_wants_at, sweep_accepts_at, sweep_goes, sweep_ends, sweep_on, has_lower, phase_read, hazard_next, hazard_read, freeing, status_read, made_ready, push_read, pushed}
+use Rattle.phase_pools.specs.Pools.{Sweep, SweepTurn, sweep_wants_at, sweep_accepts_at, sweep_goes, sweep_ends, sweep_on, phase_read, hazard_next, hazard_read, status_read, made_ready, push_read, pushed}
+use Rattle.phase_pools.proofs.Statuses.{from_slot, from_status}
 use Rattle.source_machine.specs.MethodRuns.{put}
 use Rattle.oa_simulation.specs.sim_relation.Views.{Plan, Shared}
 use Rattle.oa_simulation.specs.sim_relation.Shared.{SharedHolds}
@@ -27,8 +27,8 @@ use Rattle.oa_simulation.specs.sim_relation.Steps.{GoesForAll, after_access}
 use Rattle.oa_simulation.proofs.sim_relation.Names.{has_slot_of}
 use Rattle.oa_simulation.proofs.sim_relation.Words.{store_idle, each_warning}
 use Rattle.oa_simulation.proofs.sim_relation.Moving.{goes_same}
-use Rattle.oa_simulation.proofs.sim_steps.Pools.Phases.{with_phase, fine_phase, goes_phase, with_warning, fine_warning, goes_warning, with_chain, head_stored, link_stored, fine_chain, goes_chain}
-use Rattle.oa_simulation.proofs.sim_steps.Pools.Slots.{Freed, freed, fine_freed, goes_freed}
+use Rattle.oa_simulation.proofs.sim_steps.Pools.Phases.{Risen, with_words, fine_risen, goes_risen, phase_risen, warning_risen, head_risen, link_risen}
+use Rattle.oa_simulation.proofs.sim_steps.Pools.Slots.{Freed, freed, dead_slot, fine_freed, goes_freed}
 
 -- a sweep that raises the callers' warnings to its phase, and recycles what was retired before it
 pub record Warns (sweep : Sweep) : Type 0 where
@@ -53,27 +53,18 @@ pub record Swept (t : Plan) (s : Shared) (memory' : Word → ℕ) (turn : SweepT
 unchanged : (t : Plan) (s : Shared) (w : Word) (turn : SweepTurn) → SharedHolds t s → SweepNext t s turn.sweep turn.ended → Swept t s (store s.memory w (s.memory w)) turn s.present
 unchanged t s w turn f next = record { s' = s; memory = store_idle s.memory w; present = refl; source = refl; unused = refl; shared_holds = f; goes = goes_same t s; next = next }
 
+-- the phase, a warning, the head or a link is stored
+risen : (t : Plan) (s : Shared) (m : Word → ℕ) (turn : SweepTurn) → Risen s.memory m → SharedHolds t s → SweepNext t (with_words s m) turn.sweep turn.ended → Swept t s m turn s.present
+risen t s m turn r f next = record { s' = with_words s m; memory = refl; present = refl; source = refl; unused = refl; shared_holds = fine_risen t s m r f; goes = goes_risen t s m r; next = next }
+
 on_next : (t : Plan) (s : Shared) (sweep : Sweep) (j : ℕ) → Sweeps t s sweep.bound t.setting.sizes.callers (8 * t.setting.sizes.callers) sweep.gathered
     → SweepNext t s (sweep_on t.setting.sizes sweep j).sweep (sweep_on t.setting.sizes sweep j).ended
-on_next t s sweep j w = of (has_lower t.setting.sizes j) where
-  of : (b : Bool) → SweepNext t s (if b then sweep_goes sweep (sweeps.ReadStatus (j - 1)) else sweep_ends sweep swept.Swept).sweep (if b then sweep_goes sweep (sweeps.ReadStatus (j - 1)) else sweep_ends sweep swept.Swept).ended
-  of true = w
-  of false = tt
-
-freeing_next : (t : Plan) (s : Shared) (sweep : Sweep) (j q : ℕ) (kind : Kind) → Warns sweep → Sweeps t s sweep.bound t.setting.sizes.callers (8 * t.setting.sizes.callers) sweep.gathered
-    → SweepNext t s (freeing t.setting.sizes sweep j q kind).sweep (freeing t.setting.sizes sweep j q kind).ended
-freeing_next t s sweep j q kinds.Ready own w = on_next t s sweep j w
-freeing_next t s sweep j q kinds.Used own w = on_next t s sweep j w
-freeing_next t s sweep j q kinds.Retired own w = of (nat_lt q sweep.low && not (has_slot sweep.gathered j)) refl where
-  of : (b : Bool) → (nat_lt q sweep.low && not (has_slot sweep.gathered j)) ≡ b
-      → SweepNext t s (if b then sweep_goes sweep (sweeps.MakeReady j q) else sweep_on t.setting.sizes sweep j).sweep (if b then sweep_goes sweep (sweeps.MakeReady j q) else sweep_on t.setting.sizes sweep j).ended
-  of true is = let low = own.low in (let lt : q < sweep.low = grind (arith, nat_tests) in (w, omega (arith, lt, low), grind (arith, nat_tests)))
-  of false is = on_next t s sweep j w
+on_next t s sweep j w = from_slot (λ turn. SweepNext t s turn.sweep turn.ended) t.setting.sizes sweep j (λ more. w) tt
 
 status_next : (t : Plan) (s : Shared) (sweep : Sweep) (j : ℕ) (parts : Option StatusParts) → Warns sweep → Sweeps t s sweep.bound t.setting.sizes.callers (8 * t.setting.sizes.callers) sweep.gathered
     → SweepNext t s (status_read t.setting.sizes sweep j parts).sweep (status_read t.setting.sizes sweep j parts).ended
-status_next t s sweep j None own w = on_next t s sweep j w
-status_next t s sweep j (Some parts) own w = freeing_next t s sweep j parts.phase parts.kind own w
+status_next t s sweep j parts own w = from_status (λ turn. SweepNext t s turn.sweep turn.ended) t.setting.sizes sweep j parts (on_next t s sweep j w)
+    (λ p is below away. let low = own.low in (w, omega (arith, below, low), away))
 
 -- ---- hazard words
 
@@ -120,7 +111,7 @@ hazard_on t s p x k g lx lk w = of (nat_lt (k + 1) 8) refl where
 
 -- ---- warnings
 
-warned_more : (t : Plan) (s : Shared) (p x : ℕ) (g : List ℕ) → Sweeps t s p x 0 g → Sweeps t (with_warning s x p) p (x + 1) 0 g
+warned_more : (t : Plan) (s : Shared) (p x : ℕ) (g : List ℕ) → Sweeps t s p x 0 g → Sweeps t (with_words s (store s.memory (Warning x) (max (s.memory (Warning x)) p))) p (x + 1) 0 g
 warned_more t s p x g w = record {
   raised = w.raised;
   warned = each_warning (λ d n. d < x + 1 → p ≤ n) s.memory x (max (s.memory (Warning x)) p) (λ lt. omega arith) (λ d ne lt. w.warned d (omega arith));
@@ -135,6 +126,19 @@ warned_next t s p x g lx w = of (nat_lt (x + 1) t.setting.sizes.callers) refl wh
 
 -- ---- each stage
 
+-- what a sweep that is about to free a slot knows of it: its name is under no validated guard, since all were gathered
+pub may_free : (t : Plan) (s : Shared) (low j q : ℕ) (g : List ℕ) → SharedHolds t s → SweepAt t s low g (sweeps.MakeReady j q) → s.memory (Status j) ≡ status_word q kinds.Retired → Freed t s low j q
+may_free t s low j q g f w word = record { word = word; below = w.1; warned = w.0.warned; spared = spared } where
+  spared : (d r : ℕ) → s.protects d r ≢ 0 → t.home (s.protects d r) ≢ j
+  spared d r some at =
+      let gd = f.guard d r some in
+      let named : s.present j ≡ s.protects d r = ap s.present (sym at) ∙ gd.resident in
+      let lt : d < t.setting.sizes.callers = gd.caller in
+      let lt8 : r < 8 = gd.register in
+      let is : has_slot g (t.home (s.protects d r)) ≡ true = w.0.gathered d r q (omega (arith, lt, lt8)) some (ap s.tag (sym named) ∙ (dead_slot s j q (f.slot j) word).1) w.1 in
+      let clash : true ≡ false = sym is ∙ (ap (λ (n : ℕ). has_slot g n) at ∙ w.2) in
+      cc
+
 frees : (t : Plan) (s : Shared) (sweep : Sweep) (j q : ℕ) → SharedHolds t s → SweepAt t s sweep.bound sweep.gathered (sweeps.MakeReady j q)
     → Swept t s (after_access s.memory (sweep_wants_at sweep.scheme (sweeps.MakeReady j q) sweep.bound)) (made_ready t.setting.sizes sweep j q (s.memory (Status j))) (freed_at (sweeps.MakeReady j q) s.memory s.present)
 frees t s sweep j q f w = of (s.memory (Status j) == status_word q kinds.Retired) refl where
@@ -142,37 +146,25 @@ frees t s sweep j q f w = of (s.memory (Status j) == status_word q kinds.Retired
       → Swept t s (store s.memory (Status j) (if b then status_word sweep.bound kinds.Ready else s.memory (Status j))) (if b then sweep_goes sweep (sweeps.PushHead (kind_of t.setting.sizes j) j) else sweep_on t.setting.sizes sweep j) (if b then put s.present j 0 else s.present)
   of false is = unchanged t s (Status j) (sweep_on t.setting.sizes sweep j) f (on_next t s sweep j w.0)
   of true is =
-      let k : Freed t s sweep.bound j q sweep.gathered = record { word = grind (arith, nat_tests); below = w.1; away = w.2; sweeps = w.0 } in
+      let word : s.memory (Status j) ≡ status_word q kinds.Retired = grind (arith, nat_tests) in
+      let k = may_free t s sweep.bound j q sweep.gathered f w word in
       record {
         s' = freed s j sweep.bound;
         memory = refl;
         present = refl;
         source = refl;
         unused = refl;
-        shared_holds = fine_freed t s sweep.bound j q sweep.gathered f k;
-        goes = goes_freed t s sweep.bound j q sweep.gathered f k;
+        shared_holds = fine_freed t s sweep.bound sweep.bound j q f k;
+        goes = goes_freed t s sweep.bound sweep.bound j q f k;
         next = w.0;
       }
-
--- the head or a link is stored, and what the sweep knows doesn't change by it
-chain_changed : (t : Plan) (s : Shared) (memory' : Word → ℕ) (turn : SweepTurn) → (with_chain s memory').memory ≡ memory' → SharedHolds t s → SweepNext t (with_chain s memory') turn.sweep turn.ended → Swept t s memory' turn s.present
-chain_changed t s memory' turn is f next = record {
-  s' = with_chain s memory';
-  memory = is;
-  present = refl;
-  source = refl;
-  unused = refl;
-  shared_holds = fine_chain t s memory' f;
-  goes = goes_chain t s memory';
-  next = next;
-}
 
 pushes : (t : Plan) (s : Shared) (sweep : Sweep) (kind j q top : ℕ) → SharedHolds t s → Sweeps t s sweep.bound t.setting.sizes.callers (8 * t.setting.sizes.callers) sweep.gathered
     → Swept t s (after_access s.memory (sweep_wants_at sweep.scheme (sweeps.PushTop kind j q top) sweep.bound)) (pushed t.setting.sizes sweep j q top (s.memory (Head kind))) s.present
 pushes t s sweep kind j q top f w = of (s.memory (Head kind) == head_word q top) where
   of : (b : Bool) → Swept t s (store s.memory (Head kind) (if b then head_word (max q sweep.bound) j else s.memory (Head kind))) (if b then sweep_on t.setting.sizes sweep j else sweep_goes sweep (sweeps.PushHead (kind_of t.setting.sizes j) j)) s.present
-  of true = chain_changed t s (store s.memory (Head kind) (head_word (max q sweep.bound) j)) (sweep_on t.setting.sizes sweep j) (head_stored s.memory kind (head_word (max q sweep.bound) j)) f
-      (on_next t (with_chain s (store s.memory (Head kind) (head_word (max q sweep.bound) j))) sweep j w)
+  of true = risen t s (store s.memory (Head kind) (head_word (max q sweep.bound) j)) (sweep_on t.setting.sizes sweep j) (head_risen s.memory kind (head_word (max q sweep.bound) j) f.warning) f
+      (on_next t (with_words s (store s.memory (Head kind) (head_word (max q sweep.bound) j))) sweep j w)
   of false = unchanged t s (Head kind) (sweep_goes sweep (sweeps.PushHead (kind_of t.setting.sizes j) j)) f w
 
 pub sweep_step : (t : Plan) (s : Shared) (sweep : Sweep) (stage : SweepStage) → 1 ≤ t.setting.sizes.callers → SharedHolds t s → Warns sweep → SweepAt t s sweep.bound sweep.gathered stage
@@ -186,30 +178,15 @@ sweep_step t s sweep (sweeps.RaisePhase p) some f own w =
     let le : p ≤ s.memory Phase = w in
     let up : s.memory Phase ≤ (if s.memory Phase == p then p + 1 else s.memory Phase) = grind (arith, nat_tests) in
     let to : p + 1 ≤ (if s.memory Phase == p then p + 1 else s.memory Phase) = grind (arith, nat_tests) in
-    record {
-      s' = with_phase s (if s.memory Phase == p then p + 1 else s.memory Phase);
-      memory = refl;
-      present = refl;
-      source = refl;
-      unused = refl;
-      shared_holds = fine_phase t s _ up f;
-      goes = goes_phase t s _ up;
-      next = (record { raised = to; warned = λ d lt. absurd (omega arith); gathered = λ d r q lt. absurd (omega arith) }, some);
-    }
-sweep_step t s sweep (sweeps.Warn c) some f own w = rw own.scheme (record {
-  s' = with_warning s c sweep.bound;
-  memory = refl;
-  present = refl;
-  source = refl;
-  unused = refl;
-  shared_holds = fine_warning t s c sweep.bound w.0.raised f;
-  goes = goes_warning t s c sweep.bound;
-  next = warned_next t (with_warning s c sweep.bound) sweep.bound c sweep.gathered w.1 (warned_more t s sweep.bound c sweep.gathered w.0);
-})
+    risen t s (store s.memory Phase (if s.memory Phase == p then p + 1 else s.memory Phase)) _ (phase_risen s.memory _ up f.warning) f
+    (record { raised = to; warned = λ d lt. absurd (omega arith); gathered = λ d r q lt. absurd (omega arith) }, some)
+sweep_step t s sweep (sweeps.Warn c) some f own w =
+    let m : Word → ℕ = store s.memory (Warning c) (max (s.memory (Warning c)) sweep.bound) in
+    rw own.scheme (risen t s m _ (warning_risen s.memory c sweep.bound w.0.raised f.warning) f (warned_next t (with_words s m) sweep.bound c sweep.gathered w.1 (warned_more t s sweep.bound c sweep.gathered w.0)))
 sweep_step t s sweep (sweeps.ReadHazard c r) some f own w = unchanged t s (Hazard c r) (hazard_read t.setting.sizes sweep c r (s.memory (Hazard c r))) f
     (hazard_on t s sweep.bound c r (with_slot sweep.gathered (s.memory (Hazard c r))) w.1 w.2 (gathers t s sweep.bound t.setting.sizes.callers c r sweep.gathered f w.2 w.0))
 sweep_step t s sweep (sweeps.ReadStatus j) some f own w = unchanged t s (Status j) (status_read t.setting.sizes sweep j (status_parts (s.memory (Status j)))) f (status_next t s sweep j (status_parts (s.memory (Status j))) own w)
 sweep_step t s sweep (sweeps.MakeReady j q) some f own w = frees t s sweep j q f w
 sweep_step t s sweep (sweeps.PushHead kind j) some f own w = unchanged t s (Head kind) (push_read sweep j (head_parts (s.memory (Head kind)))) f w
-sweep_step t s sweep (sweeps.PushLink j q top) some f own w = chain_changed t s (store s.memory (Link j) top) (sweep_goes sweep (sweeps.PushTop (kind_of t.setting.sizes j) j q top)) (link_stored s.memory j top) f w
+sweep_step t s sweep (sweeps.PushLink j q top) some f own w = risen t s (store s.memory (Link j) top) (sweep_goes sweep (sweeps.PushTop (kind_of t.setting.sizes j) j q top)) (link_risen s.memory j top f.warning) f w
 sweep_step t s sweep (sweeps.PushTop kind j q top) some f own w = pushes t s sweep kind j q top f w

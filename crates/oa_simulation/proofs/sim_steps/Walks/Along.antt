@@ -35,9 +35,7 @@ null_apart t s c e n null_home f some z same = absurd (has_slot_of t s (s.protec
 
 pub undone : (was : GuardState) (mirror : Registers) (row : GuardRow) (r : ℕ) → GuardStands (dropped was) mirror row r
 undone Free mirror row r = tt
-undone Published mirror row r = tt
-undone Validated mirror row r = tt
-undone Dropped mirror row r = tt
+undone _ mirror row r = tt
 
 pub stands_still : (was : GuardState) (mirror mirror' : Registers) (row : GuardRow) (r : ℕ) → node_in mirror' r ≡ node_in mirror r → GuardStands was mirror row r → GuardStands was mirror' row r
 stands_still Free mirror mirror' row r same g = tt

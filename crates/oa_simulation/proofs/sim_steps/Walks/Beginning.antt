@@ -10,10 +10,8 @@ use Rattle.target_code.specs.declared.target.TargetOp.{TargetOp}
 use Rattle.target_code.specs.Erasing.{ErasesTo, erased_op}
 use Rattle.target_code.specs.Keeping.{keeps}
 use Rattle.guard_words.specs.Guards.{is_spared, next_to_clear}
-use Rattle.source_machine.specs.declared.event.SourceReply.{SourceReply}
+use Rattle.norm_lang.specs.declared.reply.SourceReply.{SourceReply}
 use Rattle.source_machine.specs.Proper.{has}
-use Rattle.caller_parts.specs.declared.call.Reply.{Reply}
-use Rattle.caller_parts.specs.declared.call.Replied.{Replied}
 use Rattle.caller_parts.specs.declared.routine.MethodStart.TheVariants as starts
 use Rattle.caller_parts.specs.declared.routine.AfterClear.TheVariants as clears
 use Rattle.caller_parts.specs.declared.routine.Routine.TheVariants.{LoadSeen, Clears}
@@ -30,9 +28,9 @@ use Rattle.run_ahead.proofs.Getting.{start_got}
 use Rattle.target_laws.proofs.ErasedPlaces.{erased_is}
 use Rattle.oa_simulation.specs.sim_relation.Views.{Plan, Shared, Caller}
 use Rattle.oa_simulation.specs.sim_relation.Shared.{SharedHolds}
-use Rattle.oa_simulation.specs.sim_relation.Callers.{Calm, Base, Running, Begins, EmptyBut, Settled, HasReplied, spared, first_of, source_reply, call_of}
+use Rattle.oa_simulation.specs.sim_relation.Callers.{Calm, Base, Running, Begins, EmptyBut, Settled, HasReplied, spared, first_of, call_of}
 use Rattle.caller_steps.specs.Signs.{Moved, quiet}
-use Rattle.caller_parts.specs.Pairing.{replied_by}
+use Rattle.caller_parts.specs.Pairing.{replied_by, reply_of}
 use Rattle.oa_simulation.specs.sim_relation.Points.{done, point}
 use Rattle.oa_simulation.proofs.sim_relation.Playing.{plays_from, points_same}
 use Rattle.oa_simulation.specs.sim_relation.Steps.{Ends, NamesStay, is_between, is_over}
@@ -160,7 +158,7 @@ cleared_again t s c x walk b is begins = of (clear_next t.target clears.Again x.
   of (Some r) some = ends_quiet t s c x (Clears clears.Again) b (walk, begins_moved t s c x walk x.entry.running.steps x.entry.counts (Clears clears.Again) begins, is)
 
 -- at the reply
-pub cleared_reply : (t : Plan) (s : Shared) (c : ℕ) (x : Caller) (reply : Reply) → Base t s c x → HasReplied x (source_reply reply) → Settled x → Ends t s c x (quiet (cleared t.target t.setting.sizes (clears.Reply reply) x.entry))
+pub cleared_reply : (t : Plan) (s : Shared) (c : ℕ) (x : Caller) (reply : SourceReply) → Base t s c x → HasReplied x reply → Settled x → Ends t s c x (quiet (cleared t.target t.setting.sizes (clears.Reply reply) x.entry))
 cleared_reply t s c x reply b replied settled = of (clear_next t.target (clears.Reply reply) x.entry) refl where
   of : (o : Option ℕ) → clear_next t.target (clears.Reply reply) x.entry ≡ o → Ends t s c x (quiet (clear_on t.target t.setting.sizes (clears.Reply reply) o x.entry))
   of None none = record {
@@ -175,7 +173,7 @@ cleared_reply t s c x reply b replied settled = of (clear_next t.target (clears.
         none_out x.entry.hand.guards none,
         settled,
         replied ∙ ap (λ (rs : List SourceReply). record { replies = rs; running = None })
-            (sym (map-append (λ (r : Replied). source_reply r.reply) x.entry.replies (replied_by reply x.entry.running ∷ []))),
+            (sym (map-append reply_of x.entry.replies (replied_by reply x.entry.running ∷ []))),
       );
     };
   }

@@ -7,7 +7,7 @@ use Rattle.norm_lang.specs.declared.registers.Registers.{Registers}
 use Rattle.norm_lang.specs.Grammar.{is_new}
 use Rattle.norm_lang.specs.Local.{Spot, local_step, go_on}
 use Rattle.target_code.specs.declared.target.TargetInstr.{TargetInstr}
-use Rattle.target_code.specs.declared.target.TargetInstr.TheVariants.{Plain, Check, Guard}
+use Rattle.target_code.specs.declared.target.TargetInstr.TheVariants.{Plain}
 use Rattle.target_code.specs.LocalCode.{target_run, target_local_at as core_local_at}
 use Rattle.caller_steps.specs.Entries.{code_in as core_code}
 use Rattle.norm_lang.specs.declared.text.Reg.{Reg}
@@ -18,7 +18,7 @@ use Rattle.target_code.specs.Paths.{TargetPath}
 use Rattle.run_ahead.specs.Agreeing.{node_in}
 use Rattle.target_code.specs.PathStates.{is_fresh_along}
 use Rattle.target_laws.proofs.FreshRules.{open_reads_are_not_fresh}
-use Rattle.target_laws.specs.Methods.{code_in}
+use Rattle.target_laws.specs.Methods.{code_in, Method}
 use Rattle.run_ahead.proofs.Local.{local_mirrors, local_held, mirrored_keeps}
 use Rattle.run_ahead.proofs.Getting.{local_got}
 use Rattle.run_ahead.specs.Ahead.{IsErased, erasing}
@@ -29,8 +29,10 @@ use Rattle.oa_simulation.specs.sim_relation.Steps.{walked}
 use Rattle.oa_simulation.specs.sim_relation.WasSet.{set_by, set_if_local, set_on}
 use Rattle.oa_simulation.proofs.sim_steps.Walks.Along.{walks_along, gets_along, guards_along}
 use Rattle.oa_simulation.proofs.sim_relation.Codes.{code_is, blank}
+use Rattle.target_code.specs.declared.target.Target.{Target}
+use Rattle.norm_lang.specs.declared.text.Text.{Text}
 
-local_is_old : (i : Instr) (at : ℕ) (registers : Registers) (next : Spot) → local_step i at registers ≡ Some next → is_new i ≡ false
+pub local_is_old : (i : Instr) (at : ℕ) (registers : Registers) (next : Spot) → local_step i at registers ≡ Some next → is_new i ≡ false
 local_is_old (instr.New d kind) at registers next is = absurd (let z : None ≡ Some next = is in cc)
 local_is_old _ at registers next is = refl
 
@@ -47,12 +49,12 @@ local_opens (instr.Commit entries) at registers next r is read = absurd (let z :
 local_opens _ at registers next r is read = read
 
 -- so what it puts into a register isn't the caller's own
-local_shown : (t : Plan) (s : Shared) (c : ℕ) (x : Caller) (m : Trail t) (i : Instr) (core next : Spot) (given : ℕ) → IsErased t.target t.text → slice_get (code_in m.walk.method) core.at ≡ Some (Plain i) → local_step i core.at core.registers ≡ Some next
-    → TargetPath (code_in m.walk.method) m.path core.at → ((r : ℕ) → is_fresh_along (code_in m.walk.method) m.path (Ref r) ≡ false → Shown s (node_in m.mirror r))
-    → (given ≡ 0) ⊎ ((r : ℕ) × IsTrue (reads (Ref r) i) × (node_in m.mirror r ≡ given)) → Shown s given
-local_shown t s c x m i core next given erased is step leads shown (inl z) = inl z
-local_shown t s c x m i core next given erased is step leads shown (inr read) = subst (λ (n : ℕ). Shown s n) read.2
-    (shown read.0 (open_reads_are_not_fresh t.target t.text erased.normal erased.erases m.walk.method m.path core.at i (Ref read.0) (record { leads = leads; stands = is }) (local_opens i core.at core.registers next (Ref read.0) step read.1)))
+pub local_shown : {target : Target} {text : Text} (s : Shared) (method : Method target text) (path : List ℕ) (mirror : Registers) (i : Instr) (core next : Spot) (given : ℕ) → IsErased target text → slice_get (code_in method) core.at ≡ Some (Plain i) → local_step i core.at core.registers ≡ Some next
+    → TargetPath (code_in method) path core.at → ((r : ℕ) → is_fresh_along (code_in method) path (Ref r) ≡ false → Shown s (node_in mirror r))
+    → (given ≡ 0) ⊎ ((r : ℕ) × IsTrue (reads (Ref r) i) × (node_in mirror r ≡ given)) → Shown s given
+local_shown s method path mirror i core next given erased is step leads shown (inl z) = inl z
+local_shown {target = target} {text = text} s method path mirror i core next given erased is step leads shown (inr read) = subst (λ (n : ℕ). Shown s n) read.2
+    (shown read.0 (open_reads_are_not_fresh target text erased.normal erased.erases method path core.at i (Ref read.0) (record { leads = leads; stands = is }) (local_opens i core.at core.registers next (Ref read.0) step read.1)))
 
 pub local_goes : (t : Plan) (s : Shared) (c : ℕ) (x : Caller) (core next : Spot) → IsPlan t → SharedHolds t s → core_local_at (slice_get (core_code t.target x.entry) core.at) core.at core.registers ≡ Some next
     → Running t s c x core → Running t s c (at_spot (having_set x (set_by (slice_get (core_code t.target x.entry) core.at) x.was_set)) next) next
@@ -61,9 +63,6 @@ local_goes t s c x core next plan f goes walk = of (slice_get (core_code t.targe
   m = walk.0
 
   of : (o : Option TargetInstr) → slice_get (core_code t.target x.entry) core.at ≡ o → core_local_at o core.at core.registers ≡ Some next → Running t s c (at_spot (having_set x (set_by o x.was_set)) next) next
-  of None there step = absurd (let z : None ≡ Some next = step in cc)
-  of (Some Check) there step = absurd (let z : None ≡ Some next = step in cc)
-  of (Some (Guard r)) there step = absurd (let z : None ≡ Some next = step in cc)
   of (Some (Plain i)) there step =
       let w : Walks t s c x core walk.0 = walk.1 in
       let is : slice_get (code_in walk.0.walk.method) core.at ≡ Some (Plain i) = sym (ap (λ (code : List TargetInstr). slice_get code core.at) (code_is t s c x core walk.0 w)) ∙ there in
@@ -76,9 +75,10 @@ local_goes t s c x core next plan f goes walk = of (slice_get (core_code t.targe
             ahead w,
         walk.2,
         gets_along t s c x core next walk.0 i made.given (λ A. A) made.mirror' walk.0.there x.entry.hand.accessed x.held is (local_is_old i core.at core.registers next step) made.changes got (λ n is. is) (λ n k is held here. is)
-            (λ gen r set. local_shown t s c x walk.0 i core next made.given (erasing plan.compiled) is step walk.1.ahead.path_is (walk.3.shown gen) made.known) walk.3,
+            (λ gen r set. local_shown s walk.0.walk.method walk.0.path walk.0.mirror i core next made.given (erasing plan.compiled) is step walk.1.ahead.path_is (walk.3.shown gen) made.known) walk.3,
         guards_along t s c x core next walk.0 i made.given (λ A. A) made.mirror' walk.0.there x.entry.hand.accessed x.held is (local_is_old i core.at core.registers next step) made.changes walk.4,
       )
+  of _ there step = absurd (let z : None ≡ Some next = step in cc)
 
 pub local_runs : (t : Plan) (s : Shared) (c : ℕ) (x : Caller) (n : ℕ) (spot : Spot) → IsPlan t → SharedHolds t s → Running t s c (at_spot x spot) spot
     → Running t s c (at_spot (having_set x (set_on (core_code t.target x.entry) n x.was_set spot)) (target_run (core_code t.target x.entry) n spot)) (target_run (core_code t.target x.entry) n spot)

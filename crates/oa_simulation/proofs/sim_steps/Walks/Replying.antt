@@ -13,7 +13,7 @@ use Rattle.source_machine.specs.declared.state.SourceCaller.{SourceCaller}
 use Rattle.source_machine.specs.Step.{caller_turn, replied}
 use Rattle.source_machine.specs.MethodRuns.{run_begun, run_after}
 use Rattle.source_machine.specs.Proper.{runs_method}
-use Rattle.caller_parts.specs.declared.call.Reply.{Reply}
+use Rattle.norm_lang.specs.declared.reply.SourceReply.{SourceReply}
 use Rattle.caller_parts.specs.declared.routine.AfterClear.TheVariants as clears
 use Rattle.caller_steps.specs.Signs.{Accesses, quiet, told}
 use Rattle.caller_steps.specs.After.{cleared, owed}
@@ -27,7 +27,7 @@ use Rattle.run_ahead.proofs.Ends.{ends_are_followed}
 use Rattle.run_ahead.proofs.Starting.{generator_start}
 use Rattle.oa_simulation.specs.sim_relation.Views.{Plan, IsPlan, Shared, Caller, settled_names}
 use Rattle.oa_simulation.specs.sim_relation.Shared.{SharedHolds}
-use Rattle.oa_simulation.specs.sim_relation.Callers.{Calm, Base, Trail, Walks, Stands, Begins, source_reply, call_of, spot_of, first_of}
+use Rattle.oa_simulation.specs.sim_relation.Callers.{Calm, Base, Trail, Walks, Stands, Begins, call_of, spot_of, first_of}
 use Rattle.oa_simulation.specs.sim_relation.Points.{point}
 use Rattle.oa_simulation.specs.sim_relation.Steps.{Ends}
 use Rattle.oa_simulation.proofs.sim_relation.Playing.{plays_first}
@@ -52,7 +52,7 @@ follows_of t s c x m w stands = record {
 }
 
 -- only a wrap-up ends so
-in_wrap_up : (wrapup : Bool) (i : Instr) → IsTrue (is_end i) → is_end_of_other wrapup i ≡ false → wrapup ≡ true
+pub in_wrap_up : (wrapup : Bool) (i : Instr) → IsTrue (is_end i) → is_end_of_other wrapup i ≡ false → wrapup ≡ true
 in_wrap_up true i ends own = refl
 in_wrap_up false (instr.Return a) ends own = absurd (let z : true ≡ false = own in cc)
 in_wrap_up false instr.ReturnNone ends own = absurd (let z : true ≡ false = own in cc)
@@ -93,15 +93,15 @@ owes : (t : Plan) (s : Shared) (c : ℕ) (x : Caller) (next : _) → x.entry.han
 owes t s c x next wrap by = subst (λ (b : Bool). Ends t s c x (told (if b && x.entry.hand.accessed then Accesses ∷ [] else []) (quiet (cleared t.target t.setting.sizes next x.entry)))) (sym wrap) (by x.entry.hand.accessed refl)
 
 -- the call ends with a reply
-pub reply_ends : (t : Plan) (s : Shared) (c : ℕ) (x : Caller) (m : Trail t) (i : Instr) (reply : Reply) → IsPlan t → SharedHolds t s → Base t s c x → Walks t s c x (spot_of x.entry.hand) m → Stands t x m
-    → slice_get (code_in m.walk.method) x.entry.hand.at ≡ Some (Plain i) → IsTrue (is_end i) → ended_at m.walk.method.op i x.entry.hand.registers m.walk.call ≡ replied (source_reply reply) (caller_of m.walk.call)
+pub reply_ends : (t : Plan) (s : Shared) (c : ℕ) (x : Caller) (m : Trail t) (i : Instr) (reply : SourceReply) → IsPlan t → SharedHolds t s → Base t s c x → Walks t s c x (spot_of x.entry.hand) m → Stands t x m
+    → slice_get (code_in m.walk.method) x.entry.hand.at ≡ Some (Plain i) → IsTrue (is_end i) → ended_at m.walk.method.op i x.entry.hand.registers m.walk.call ≡ replied reply (caller_of m.walk.call)
     → Ends t s c x (told (owed x.entry.hand) (quiet (cleared t.target t.setting.sizes (clears.Reply reply) x.entry)))
 reply_ends t s c x m i reply plan f b w stands is ends leaves = owes t s c x (clears.Reply reply) (w.wrapup ∙ wrapup_is t s c x m i plan.sane w is ends) by where
   e : WalkEnds m.walk.method m.walk.call (spot_of x.entry.hand) x.entry.hand.accessed x.source i
   e = walk_ends t s c x m i plan w stands is ends
 
-  replies : ended_at m.walk.method.op i x.entry.hand.registers m.walk.call ≡ replied (source_reply reply) (caller_of (call_of x.entry))
-  replies = leaves ∙ ap (λ (call : Call). replied (source_reply reply) (caller_of call)) w.call
+  replies : ended_at m.walk.method.op i x.entry.hand.registers m.walk.call ≡ replied reply (caller_of (call_of x.entry))
+  replies = leaves ∙ ap (λ (call : Call). replied reply (caller_of call)) w.call
 
   by : (accessed : Bool) → x.entry.hand.accessed ≡ accessed → Ends t s c x (told (if accessed then Accesses ∷ [] else []) (quiet (cleared t.target t.setting.sizes (clears.Reply reply) x.entry)))
   by false none = ends_from t s c x (settled_caller x) _ refl refl refl (names_settle x.names _ (over_after t.target t.setting.sizes (clears.Reply reply) x.entry refl)) (cleared_reply t s c (settled_caller x) reply (base_settled t s c x b) (e.ended none ∙ replies) (λ r invalid. settled_is x r invalid))

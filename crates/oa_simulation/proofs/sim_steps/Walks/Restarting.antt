@@ -69,11 +69,8 @@ op_or n (Some running) = running.op
 
 -- wherever the source's caller stands it runs the call's operation, if any
 end_number : (op : Op) (i : Option Instr) (running : Running) (caller : SourceCaller) → op_or running.op (wrap_up_end op i running caller).running ≡ running.op
-end_number op None running caller = refl
 end_number op (Some (instr.Return a)) running caller = refl
-end_number op (Some instr.ReturnNone) running caller = refl
-end_number op (Some instr.Again) running caller = refl
-end_number op (Some _) running caller = refl
+end_number op _ running caller = refl
 
 stand_number : (op : Op) (wrapup : Bool) (started : Registers) (accessed : Bool) (call : Call) (there : Spot) → op_or call.number (stands_at op wrapup started accessed call there).running ≡ call.number
 stand_number op false started accessed call there = refl

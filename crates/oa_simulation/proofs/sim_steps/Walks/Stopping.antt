@@ -5,7 +5,7 @@ use Rattle.norm_lang.specs.declared.text.Instr.{Instr}
 use Rattle.norm_lang.specs.declared.text.Instr.TheVariants as instr
 use Rattle.norm_lang.specs.Local.{Spot}
 use Rattle.target_code.specs.declared.target.TargetInstr.{TargetInstr}
-use Rattle.target_code.specs.declared.target.TargetInstr.TheVariants.{Plain, Check, Guard}
+use Rattle.target_code.specs.declared.target.TargetInstr.TheVariants.{Plain}
 use Rattle.target_code.specs.Erasing.{source_place}
 use Rattle.caller_parts.specs.declared.routine.Routine.TheVariants.{At, InList, Restarts}
 use Rattle.target_code.specs.LocalCode.{target_run}
@@ -15,7 +15,7 @@ use Rattle.caller_steps.specs.After.{with_routine, plain_stop, stops, stopped, s
 use Rattle.target_laws.specs.Methods.{code_in}
 use Rattle.run_ahead.specs.Standing.{stands_in_list}
 use Rattle.norm_lang.specs.Registers.{number_in}
-use Rattle.caller_parts.specs.declared.call.Reply.TheVariants as core_replies
+use Rattle.norm_lang.specs.declared.reply.SourceReply.TheVariants as core_replies
 use Rattle.caller_steps.specs.Clearing.{restart_next}
 use Rattle.caller_steps.specs.After.{restart_on, restarted}
 use Rattle.run_ahead.specs.Following.{Walk}
@@ -66,10 +66,8 @@ stopped_ends t s c x plan f b walk = by_instr (instr_in t.target x.entry) refl w
   by_plain _ is = here
 
   by_instr : (o : Option TargetInstr) → instr_in t.target x.entry ≡ o → Ends t s c x (stops Optimistic t.target t.setting.sizes o x.entry)
-  by_instr None is = here
-  by_instr (Some Check) is = here
-  by_instr (Some (Guard r)) is = here
   by_instr (Some (Plain i)) is = by_plain i is
+  by_instr _ is = here
 
 -- local code from a spot, to where it stops
 pub settles_ends : (t : Plan) (s : Shared) (c : ℕ) (x : Caller) (spot : Spot) → IsPlan t → SharedHolds t s → Base t s c (at_spot x spot) → Running t s c (at_spot x spot) spot

@@ -9,5 +9,5 @@ returns c =
     subst
     (λ (p : Paired).
     let of = replay_for p.target c.args.setting.now c.args.scripts.now c.args.fuel c.args.limit in
-    IsLogged of c.args.normal.now (replayed of c.args.schedule.now) c.log_from.result)
-    c.new.ensures (c.log_from.ensures.each _ c.in_ok-now.ensures)
+    IsLogged of c.args.normal.now (replayed of c.args.schedule.now) c.log_prepared.result)
+    c.new-prepared.ensures c.log_prepared.ensures

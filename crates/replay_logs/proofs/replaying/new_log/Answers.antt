@@ -12,7 +12,7 @@ pub returns-clause-made : goal.returns-clause-made
 returns-clause-made c =
     subst (λ (x : Recording). IfOk c.new.result (λ log. log ≡ x))
     (log_starts c.args.terms.now _ _ _ c.requires.suits (ap (λ (t : Terms). t.text) c.terms.view_is)
-    (c.callers-callers-2.ensures.same ∙ (ap (λ (s : Sizes). s.callers) c.shape-2.ensures ∙ ap (λ (t : Terms). t.setting.sizes.callers) c.terms.view_is))
+    (c.callers-callers.ensures.same ∙ (ap (λ (s : Sizes). s.callers) c.shape.ensures ∙ ap (λ (t : Terms). t.setting.sizes.callers) c.terms.view_is))
     (ap length c.items.ensures
     ∙ (ap (λ (t : Target). length t.nodes) c.target.ensures.same
     ∙ (ap (λ (p : Paired). length p.target.nodes) c.barred.ensures ∙ ap (λ (t : Terms). length t.pair.target.nodes) c.terms.view_is))))

@@ -1,6 +1,8 @@
 use Rattle.std.proofs.Common.{◌≡◌, ◌+◌, length}
-use Rattle.oa_text.specs.Lines.{lines_of, numbered}
-use Rattle.norm_parser.specs.FrontRead.{from_line}
+use Rattle.std.specs.Prelude.{option_map}
+use Rattle.oa_text.specs.Lines.{lines_of}
+use Rattle.oa_text.specs.Shown.{line_shown}
+use Rattle.norm_parser.specs.Cursors.{with_next, IsLast}
 use Rattle.target_reader.specs.TargetGrammar.{no_ops, ops_read}
 use Rattle.target_reader.specs.OpsShown.{draft_shown}
 use Rattle.target_reader.proofs.Ordered.{AreUpTo}
@@ -9,10 +11,11 @@ use Rattle.target_reader.proofs.reader.add_ops.Given as goal
 abbrev pub invariant-lines : goal.invariant-lines
 invariant-lines l = record {
   same :
-      ops_read l.head.kinds l.head.fields l.head.roots l.past (draft_shown l.draft) l.rest
-      ≡ ops_read l.head.kinds l.head.fields l.head.roots (length (lines_of l.input) + 1) no_ops (from_line l.first (numbered 1 (lines_of l.input)));
-  ordered : AreUpTo l.past l.rest;
+      ops_read l.head.kinds l.head.fields l.head.roots (length (lines_of l.input) + 1) (draft_shown l.draft) (with_next (option_map line_shown l.next) l.rest)
+      ≡ ops_read l.head.kinds l.head.fields l.head.roots (length (lines_of l.input) + 1) no_ops l.fn.cursor.lines;
+  ordered : AreUpTo (length (lines_of l.input) + 1) (with_next (option_map line_shown l.next) l.rest);
+  last : IsLast (option_map line_shown l.next) l.rest;
 }
 
 abbrev pub decreases-lines : goal.decreases-lines
-decreases-lines l = length l.rest
+decreases-lines l = length (with_next (option_map line_shown l.next) l.rest)

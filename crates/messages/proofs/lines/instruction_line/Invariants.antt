@@ -1,6 +1,0 @@
-use Rattle.std.proofs.Common.{◌≡◌, filter, slice_get}
-use Rattle.messages.specs.Places.{is_instruction_after, line_that}
-use Rattle.messages.proofs.lines.instruction_line.Given as goal
-
-abbrev pub invariant-loop-line : goal.invariant-loop-line
-invariant-loop-line l = slice_get (filter (is_instruction_after l.after) l.line-iterator) l.left ≡ line_that (is_instruction_after l.after) l.bytes l.fn.at

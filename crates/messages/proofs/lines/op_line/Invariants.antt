@@ -1,6 +1,0 @@
-use Rattle.std.proofs.Common.{◌≡◌, filter, slice_get}
-use Rattle.messages.specs.Places.{declares_op, line_that}
-use Rattle.messages.proofs.lines.op_line.Given as goal
-
-abbrev pub invariant-loop-line : goal.invariant-loop-line
-invariant-loop-line l = slice_get (filter (declares_op l.name) l.line-iterator) 0 ≡ line_that (declares_op l.name) l.bytes 0

@@ -1,0 +1,48 @@
+-- Where a rule is broken, and the sentence on it.
+use Rattle.std.specs.Prelude.{ℕ, Bool, true, false, List, [], ◌∷◌, Option, Some, None, codes, decimal}
+use Rattle.std.specs.List.{concat}
+use Rattle.oa_text.specs.Lines.{TextLine}
+use Rattle.norm_lang.specs.declared.text.Reg.{Reg}
+use Rattle.norm_lang.specs.declared.text.Reg.TheVariants.{Num, Ref}
+use Rattle.norm_check.specs.declared.refusal.Refusal.{Refusal}
+use Rattle.statuses.specs.Explanations.{rule_words, method_words}
+use Rattle.message_words.specs.Mends.{rule_mend}
+use Rattle.message_lines.specs.Places.{◌>>=◌, word_at, trimmed, begins_after, is_instruction_after, line_that}
+
+-- the line of an operation, and that of one of its instructions
+pub record FoundLines : Type 0 where
+  pub op : TextLine
+  pub at : TextLine
+
+-- the line with which a method begins
+abbrev pub method_start : Bool → List ℕ
+method_start false = codes "gen"
+method_start true = codes "wrap"
+
+-- where the instruction stands that breaks a rule. Operations are counted by their `op` lines, and the instructions of a method by the
+-- lines after its `gen` or `wrap` that aren't skipped and are no entries of a commit
+abbrev pub refused_lines : List ℕ → Refusal → Option FoundLines
+refused_lines bytes refusal = do
+  op ← line_that (begins_after 0 (codes "op")) bytes refusal.op
+  method ← line_that (begins_after op.number (method_start refusal.wrapup)) bytes 0
+  at ← line_that (is_instruction_after method.number) bytes refusal.at
+  Some (record { op = op; at = at })
+
+-- what stands before the number of a register that is named, and the number
+unfoldable pub register_before : Option Reg → List ℕ
+register_before None = []
+register_before (Some (Num n)) = codes ", at n"
+register_before (Some (Ref n)) = codes ", at r"
+
+unfoldable pub register_number : Option Reg → List ℕ
+register_number None = []
+register_number (Some (Num n)) = decimal n
+register_number (Some (Ref n)) = decimal n
+
+-- which rule is broken, by which line, the instruction and the register there, what the rule says, and how to mend it
+abbrev pub refused_sentence : FoundLines → Refusal → Option Reg → List ℕ
+refused_sentence found refusal named = concat (
+    codes "oa: line " ∷ decimal found.at.number ∷ codes ": rule N" ∷ decimal refusal.rule ∷ codes " is broken by '" ∷ trimmed found.at
+    ∷ codes "', instruction " ∷ decimal refusal.at ∷ method_words refusal.wrapup ∷ codes " of '" ∷ word_at found.op 1 ∷ codes "' (counted from 0)"
+    ∷ register_before named ∷ register_number named ∷ codes ": "
+    ∷ rule_words refusal.rule ∷ codes ". " ∷ rule_mend refusal.rule ∷ codes "; see 'N" ∷ decimal refusal.rule ∷ codes "' in docs/language.md.\n" ∷ [])

@@ -1,0 +1,8 @@
+//! What is said of a broken rule.
+#![tactic(auto)]
+
+mod named;
+mod refused;
+
+pub use named::named_for;
+pub use refused::{RefusedLines, refused_lines, write_refused};

@@ -1,0 +1,144 @@
+-- What is found out tells which register is at fault.
+use Rattle.std.proofs.Common.{◌≡◌, ◌↔◌, ℕ, zero, suc, ◌<◌, ◌⊎◌, inl, inr, ⊎_elim, Bool, true, false, not, ◌&&◌, ◌||◌, List, find, Option, Some, None, refl, sym, ap, subst, ◌∙◌, arith}
+use Rattle.std.specs.Prelude.{slice_get, nat_lt, IsTrue, IsSomeAnd}
+use Rattle.std.proofs.lemmas.Option.{same_Some}
+use Rattle.std.proofs.lemmas.Bool.Decides.{nat_tests}
+use Rattle.norm_lang.specs.declared.text.Reg.{Reg}
+use Rattle.norm_lang.specs.declared.text.Reg.TheVariants.{Num, Ref}
+use Rattle.norm_lang.specs.declared.text.Instr.{Instr}
+use Rattle.norm_lang.specs.declared.text.Op.{Op}
+use Rattle.norm_lang.specs.declared.text.Text.{Text}
+use Rattle.norm_lang.specs.Freshness.{MayBeFresh, IsSurelyFresh}
+use Rattle.norm_lang.specs.Kept.{code_of, IsKept}
+use Rattle.norm_lang.specs.Limits.{is_register}
+use Rattle.norm_lang.specs.NormalForm.{Rule, N1, N2, N3, N4, N5, N6, N7, N8, N9, N10, N11, N12, N13, N14, N15, rule_number}
+use Rattle.norm_lang.specs.PathRules.{reads_openly, is_commit, follows, exchanges}
+use Rattle.norm_lang.specs.RegisterUse.{reads, sets}
+use Rattle.norm_paths.specs.Found.{Found, AreKept, all_registers, is_fresh_by, is_surely_fresh_by, is_kept_by}
+use Rattle.norm_paths.specs.OpFound.{IsSite, may_be_unset_by}
+use Rattle.norm_paths.proofs.Within.{and_left, and_right, and_both}
+use Rattle.norm_paths.proofs.RuleLemmas.{or_left, or_cases, unset_is}
+use Rattle.norm_paths.proofs.Starting.{or_right, not_true, true_not}
+use Rattle.kind_rules.specs.declared.facts.KindFacts.{KindFacts}
+use Rattle.kind_rules.specs.Asking.{mixes_from, IsKindSite}
+use Rattle.kind_rules.proofs.Mixing.{mixes_there}
+use Rattle.norm_check.specs.declared.refusal.Refusal.{Refusal}
+use Rattle.rule_registers.specs.AtFault.{is_put_into, is_put, is_shown, IsLeaked, IsOtherKindIn, IsAtFault}
+use Rattle.rule_registers.specs.Blamed.{is_put_wrongly_by, is_leaked_by, is_other_kind_by, is_blamed}
+use Rattle.rule_registers.specs.First.{AtFault, IsFirst, IsFirstAtFault}
+use Rattle.rule_registers.proofs.Finding.{first_found}
+
+-- ---- tests and what they decide
+
+itself : (b : Bool) → IsTrue b ↔ IsTrue b
+itself b = ((λ is. is), λ is. is)
+
+both : (a b : Bool) (A : Type 0) → IsTrue b ↔ A → IsTrue (a && b) ↔ (IsTrue a × A)
+both a b A decides = ((λ is. (and_left a b is, decides.0 (and_right a b is))), λ holds. and_both a b holds.0 (decides.1 holds.1))
+
+either : (a b : Bool) (A B : Type 0) → IsTrue a ↔ A → IsTrue b ↔ B → IsTrue (a || b) ↔ (A ⊎ B)
+either a b A B one other = (
+  (λ is. ⊎_elim (λ (first : IsTrue a). inl (one.0 first)) (λ (second : IsTrue b). inr (other.0 second)) (or_cases a b is)),
+  λ holds. ⊎_elim (λ (first : A). or_left a b (one.1 first)) (λ (second : B). or_right a b (other.1 second)) holds,
+)
+
+negated : (a : Bool) (A : Type 0) → IsTrue a ↔ A → IsTrue (not a) ↔ (¬ A)
+negated a A decides = ((λ isnt holds. true_not a isnt (decides.1 holds)), λ never. not_true a (λ is. never (decides.0 is)))
+
+some_and : {X : Type 0} (o : Option X) (x : X) (P : X → Type 0) → o ≡ Some x → P x ↔ IsSomeAnd o P
+some_and None x P is = let no : None ≡ Some x = is in cc
+some_and (Some y) x P is = let same : y ≡ x = same_Some y x is in ((λ holds. subst P (sym same) holds), λ holds. subst P same holds)
+
+none_and : {X : Type 0} (o : Option X) (P : X → Type 0) → o ≡ None → ¬ IsSomeAnd o P
+none_and None P is holds = absurd holds
+none_and (Some y) P is holds = let no : Some y ≡ None = is in cc
+
+-- ---- each rule
+
+module _ (text : Text) (op : Op) (wrapup : Bool) (at : ℕ) (i : Instr) (found : Found) (kept : List Bool) (kinds : List KindFacts)
+    (site : IsSite op wrapup at i found) (are : AreKept op kept) (kind_site : IsKindSite text op wrapup at i kinds) where
+  fresh_is : (r : Reg) → IsTrue (is_register r) → IsTrue (is_fresh_by found.facts r at) ↔ MayBeFresh (code_of op wrapup) r at
+  fresh_is r register = (site.true_of.held r register).fresh at
+
+  surely_is : (r : Reg) → IsTrue (is_register r) → IsTrue (is_surely_fresh_by found.facts r at) ↔ IsSurelyFresh (code_of op wrapup) r at
+  surely_is r register = (site.true_of.held r register).surely at
+
+  kept_rule : (test : Bool) (r : Reg) → IsTrue (wrapup && (test && is_kept_by kept r)) ↔ (IsTrue wrapup × IsTrue test × IsKept op r)
+  kept_rule test r =
+      let keeps = is_kept_by kept r in (
+        (λ is. let rest = and_right wrapup (test && keeps) is in (and_left wrapup (test && keeps) is, and_left test keeps rest, (are r).0 (and_right test keeps rest))),
+        λ holds. and_both wrapup (test && keeps) holds.0 (and_both test keeps holds.1 ((are r).1 holds.2)),
+      )
+
+  leaked_is : (r : Reg) → IsTrue (is_register r) → IsTrue (is_leaked_by at i found kept r) ↔ IsLeaked op wrapup at i r
+  leaked_is r register =
+      let openly = reads_openly r i in
+      let keeps = is_commit i && is_kept_by kept r in
+      let fresh = is_fresh_by found.facts r at in (
+        (λ is.
+            let so = (fresh_is r register).0 (and_right (openly || keeps) fresh is) in
+            ⊎_elim
+            (λ (one : IsTrue openly). inl (one, so))
+            (λ (two : IsTrue keeps). inr (and_left (is_commit i) (is_kept_by kept r) two, (are r).0 (and_right (is_commit i) (is_kept_by kept r) two), so))
+            (or_cases openly keeps (and_left (openly || keeps) fresh is))),
+        λ leaks. ⊎_elim
+            (λ (one : IsTrue openly × MayBeFresh (code_of op wrapup) r at). and_both (openly || keeps) fresh (or_left openly keeps one.0) ((fresh_is r register).1 one.1))
+            (λ (two : IsTrue (is_commit i) × IsKept op r × MayBeFresh (code_of op wrapup) r at).
+            and_both (openly || keeps) fresh (or_right openly keeps (and_both (is_commit i) (is_kept_by kept r) two.0 ((are r).1 two.1))) ((fresh_is r register).1 two.2))
+            leaks,
+      )
+
+  other_kind_is : (r : Reg) → IsTrue (is_register r) → IsTrue (is_other_kind_by text.fields text.roots wrapup at i kinds r) ↔ IsOtherKindIn text op wrapup at i r
+  other_kind_is (Num n) register = ((λ is. let no : false ≡ true = is in cc), λ holds. absurd holds)
+  other_kind_is (Ref n) register = mixes_there text op wrapup at i kinds n (grind (arith, nat_tests)) kind_site
+
+  never : IsTrue false ↔ ⊥
+  never = ((λ is. let no : false ≡ true = is in cc), λ holds. absurd holds)
+
+  blamed_is : (rule : Rule) (r : Reg) → IsTrue (is_register r) → IsTrue (is_blamed (rule_number rule) text.fields text.roots wrapup at i found kept kinds r) ↔ IsAtFault rule text op wrapup at i r
+  blamed_is N1 r register = itself _
+  blamed_is N2 r register = itself _
+  blamed_is N3 r register = never
+  blamed_is N4 r register =
+      both (not wrapup) _ _
+      (either _ _ _ _
+      (both (is_put_into r i) _ _ (negated (is_surely_fresh_by found.facts r at) (IsSurelyFresh (code_of op wrapup) r at) (surely_is r register)))
+      (both (is_put r i) _ _ (fresh_is r register)))
+  blamed_is N5 r register = both (is_shown r i) _ _ (fresh_is r register)
+  blamed_is N6 r register = leaked_is r register
+  blamed_is N7 r register = never
+  blamed_is N8 r register = never
+  blamed_is N9 r register = kept_rule (sets r i) r
+  blamed_is N10 r register = kept_rule (follows r i) r
+  blamed_is N11 r register = kept_rule (exchanges r i) r
+  blamed_is N12 r register = itself _
+  blamed_is N13 r register = never
+  blamed_is N14 r register = both (reads r i) (may_be_unset_by found r at) _ (unset_is op wrapup found r at site.true_of register)
+  blamed_is N15 r register = other_kind_is r register
+
+  -- in its text
+  blamed_there : (number : ℕ) → slice_get text.ops number ≡ Some op → (rule : Rule) (r : Reg) → IsTrue (is_register r)
+      → IsTrue (is_blamed (rule_number rule) text.fields text.roots wrapup at i found kept kinds r) ↔ AtFault rule text number wrapup at r
+  blamed_there number stands rule r register =
+      let here = blamed_is rule r register in
+      let inside = some_and (slice_get (code_of op wrapup) at) i (λ j. IsAtFault rule text op wrapup at j r) site.stands in
+      let outside = some_and (slice_get text.ops number) op (λ o. IsSomeAnd (slice_get (code_of o wrapup) at) (λ j. IsAtFault rule text o wrapup at j r)) stands in
+      ((λ is. outside.0 (inside.0 (here.0 is))), λ holds. here.1 (inside.1 (outside.1 holds)))
+
+pub first_at_fault : (text : Text) (op : Op) (i : Instr) (refusal : Refusal) (found : Found) (kept : List Bool) (kinds : List KindFacts) (result : Option Reg)
+    → IsSite op refusal.wrapup refusal.at i found → AreKept op kept → IsKindSite text op refusal.wrapup refusal.at i kinds → slice_get text.ops refusal.op ≡ Some op
+    → result ≡ find (is_blamed refusal.rule text.fields text.roots refusal.wrapup refusal.at i found kept kinds) all_registers
+    → IsFirstAtFault text refusal result
+first_at_fault text op i refusal found kept kinds result site are kind_site stands is rule same =
+    first_found (is_blamed (rule_number rule) text.fields text.roots refusal.wrapup refusal.at i found kept kinds) (AtFault rule text refusal.op refusal.wrapup refusal.at)
+    (blamed_there text op refusal.wrapup refusal.at i found kept kinds site are kind_site refusal.op stands rule) result
+    (is ∙ ap (λ (n : ℕ). find (is_blamed n text.fields text.roots refusal.wrapup refusal.at i found kept kinds) all_registers) (sym same))
+
+-- a text without the operation, or without the instruction, has no register there
+pub no_operation : (text : Text) (refusal : Refusal) → slice_get text.ops refusal.op ≡ None → IsFirstAtFault text refusal None
+no_operation text refusal none rule same k r is holds = none_and (slice_get text.ops refusal.op) _ none holds
+
+pub no_instruction : (text : Text) (op : Op) (refusal : Refusal) → slice_get text.ops refusal.op ≡ Some op → slice_get (code_of op refusal.wrapup) refusal.at ≡ None → IsFirstAtFault text refusal None
+no_instruction text op refusal stands none rule same k r is holds =
+    let outside = some_and (slice_get text.ops refusal.op) op (λ o. IsSomeAnd (slice_get (code_of o refusal.wrapup) refusal.at) (λ j. IsAtFault rule text o refusal.wrapup refusal.at j r)) stands in
+    none_and (slice_get (code_of op refusal.wrapup) refusal.at) _ none (outside.1 holds)

@@ -1,0 +1,3 @@
+pub mod AtFault
+pub mod Blamed
+pub mod First

@@ -1,0 +1,8 @@
+//! Which register is at fault where an instruction breaks a rule.
+#![tactic(auto)]
+
+mod blaming;
+mod misplaced;
+mod search;
+
+pub use search::register_at_fault;

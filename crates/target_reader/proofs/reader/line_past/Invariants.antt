@@ -1,6 +1,0 @@
-use Rattle.std.proofs.Common.{◌≡◌, ◌+◌, length}
-use Rattle.oa_text.specs.Lines.{lines_of}
-use Rattle.target_reader.proofs.reader.line_past.Given as goal
-
-abbrev pub invariant-loop : goal.invariant-loop
-invariant-loop l = l.past + length l.iterator' ≡ length (lines_of l.input) + 1
