@@ -5,12 +5,12 @@ usage: bench/histories.py [SECONDS [PROGRAM [SEED [JUDGE [SLOTS [COMMAND]]]]]]
 
 The documents are run by the command `run`, or by COMMAND, which is `epochs`. Eight callers share a row with few slots to spare, three in most documents, or SLOTS
 in each if that isn't 0. In a third of them calls have little fuel, so that
-callers stop in the middle of a call and stand still, with the guards and cradles that they have, while the others go on. A run is legal where the
+callers stop in the middle of a call and stand still, with the guards and cradles that they have, while the others go on. A run is legal if the
 calls can be put in one order, each caller's in its own, in which each reply is that of a set, a queue or two stacks. A call that is printed as `spent` may
 have had its effect or not; one that is `full`, `phases` or `unreached` has none.
 
 Half of the documents have ten calls at most. Runs of these on sets and queues are judged by the proved program `history_rows` (JUDGE), and by the search of this script as
-well; larger ones by that search alone. The status is 1 where a run has no legal order, answers anything else, or is judged otherwise by the one than by the
+well; larger ones by that search alone. The status is 1 if a run has no legal order, answers anything else, or is judged otherwise by the one than by the
 other. Where too many orders would have to be looked at, the run is left open, and counted.
 """
 import os
@@ -110,7 +110,7 @@ def is_stuck(scripts, answers, places, state):
 
 
 def is_legal(model, scripts, answers):
-    """Returns whether the calls can be put in one order in which each has its answer, or None where the search grows too large."""
+    """Returns whether the calls can be put in one order in which each has its answer, or None if the search grows too large."""
     start = (0,) * CALLERS, {"set": frozenset(), "queue": (), "stacks": ((), ())}[model]
     seen, left = {start}, [start]
     while left:
@@ -153,7 +153,7 @@ def is_legal_by(judge, model, scripts, answers):
 
 
 def answers_in(output, scripts):
-    """Returns the answers by caller and call, or None where the lines aren't those of the scripts."""
+    """Returns the answers by caller and call, or None if the lines aren't those of the scripts."""
     lines = iter(output.splitlines())
     found = []
     for caller, script in enumerate(scripts):

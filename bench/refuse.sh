@@ -1,6 +1,6 @@
 #!/usr/bin/env bash
 # Refuses each request for memory of the program in turn, one a run: of each command on the list, the queue, a document of eight callers and one of
-# 100 KB, and of workloads of two callers and of eight. Such a run has to end with the line `memory` and its status, or, where what was refused isn't
+# 100 KB, and of workloads of two callers and of eight. Such a run has to end with the line `memory` and its status, or, if what was refused isn't
 # needed (the buffer of the output, say), as the run does in which nothing is refused. With a standard output that can't be written it has to end with
 # the status 8; that is tried on the list, the queue and the workloads. Nothing may be left allocated at the end. It writes for each document and
 # command how many requests there were, and how the runs ended. `bench/refuse.sh EVERY DOCUMENT..` refuses each EVERY-th request alone, of some of

@@ -1,10 +1,10 @@
 #!/usr/bin/env bash
 # Follows docs/tutorial.md to the letter, and examples/*.out: writes the files that the page shows, runs each command, and compares what it writes
-# with what stands below it. The program is the argument, or ./oa. The status is 0 where all is as shown, 1 where anything isn't, and else 2.
+# with what stands below it. The program is the argument, or ./oa. The status is 0 if all is as shown, 1 if anything isn't, and else 2.
 #
-# A block of the page, which is what stands indented by 4, is a file where it begins with `# NAME.oa:` or `/* NAME.c:`, and a transcript where it
-# begins with `$ `; an .out file is a transcript. One that calls `cc` is passed over where there is no C compiler. A line `$ COMMAND` of a transcript
-# is run with the status of the one before in `$?`. What it writes to standard error is compared where a line that begins with `oa: ` is shown.
+# A block of the page, which is what stands indented by 4, is a file if it begins with `# NAME.oa:` or `/* NAME.c:`, and a transcript if it
+# begins with `$ `; an .out file is a transcript. One that calls `cc` is passed over if there is no C compiler. A line `$ COMMAND` of a transcript
+# is run with the status of the one before in `$?`. What it writes to standard error is compared if a line that begins with `oa: ` is shown.
 set -u
 top=$(cd "$(dirname "$0")/.." && pwd) || exit 2
 program=${1-$top/oa}

@@ -12,7 +12,7 @@
  *     same CHANGE,READ    each READ answers the same number
  *     swap SWAP           two calls swap their arguments
  *
- * All but the first three take SEED CALLS CALLERS KEYS and a count of slots for each kind. The status is 1 where an answer is wrong, or is short. Built with
+ * All but the first three take SEED CALLS CALLERS KEYS and a count of slots for each kind. The status is 1 if an answer is wrong, or is short. Built with
  * OA_REPLAY they make the callers' steps on one thread, in an order that follows from the seed.
  * `replay`, `log` and `run` read from standard input what tools/test_oa2c makes of the end of a document:
  *     slots S ..   phases F L   fuel N   script   call OP ARGUMENT ..   turn step|op|load|check|exchange C N
@@ -276,7 +276,7 @@ static void make_turn(const a_turn *t) {
   }
 }
 
-/* Bursts of steps, most of them short, so that a caller may stand still while others go far. Returns 0 where they don't come to an end. */
+/* Bursts of steps, most of them short, so that a caller may stand still while others go far. Returns 0 if they don't come to an end. */
 static int make_steps_at_random(void) {
   begin_scripts();
   for (unsigned left = callers; left > 0;) {
@@ -384,7 +384,7 @@ static int check_own(void) {
   return 0;
 }
 
-/* The numbers that calls of `take` answered were put, by a call that was made, and each is taken once; in order where `ordered`. */
+/* The numbers that calls of `take` answered were put, by a call that was made, and each is taken once; in order if `ordered`. */
 static int check_taken(unsigned put, unsigned take, int ordered, int once) {
   static uint8_t *seen[MOST_CALLERS];
   for (unsigned c = 0; c < callers; c++) memset(seen[c] = room_for(NULL, script[c].count + 1), 0, script[c].count + 1);

@@ -1,8 +1,8 @@
 /* oa_rt.h: the memory of optimistic access in C11, for the headers that tools/oa2c writes. It is tested, and not proved.
  *
  * The routines make the accesses of docs/scheme.md ("A caller of compiled code"), one by one and in its order. Nodes stand in a row of slots, from 1
- * on; slot 0 is null, its fields read 0 and nothing is written there. A reference is the word 2 * slot + mark. A slot's status is 4 * phase + kind,
- * where the kind is 0 for ready, 1 for used and 2 for retired. The head of a chain of ready slots is a phase and the slot on top in one word.
+ * on; slot 0 is null, its fields read 0 and nothing is written there. A reference is the word 2 * slot + mark. A slot's status is 4 * phase, and
+ * 1 more if it is used, 2 more if it is retired. The head of a chain of ready slots is a phase and the slot on top in one word.
  *
  * How to use it (tools/README.md has a whole program):
  *     oa_pool pool;
@@ -83,7 +83,7 @@ enum { OA_REGISTERS = 8, OA_NEWS = 4, OA_MOST_KINDS = 4, OA_LINE = 64 };
 #ifndef OA_ORDER_TOP /* load of a head: sees the link of the slot on top, and the warnings before it was pushed. Acquire. */
 #define OA_ORDER_TOP memory_order_seq_cst
 #endif
-#ifndef OA_ORDER_LINK /* load and store of a link: between the accesses of the head. Relaxed, where those have their orders. */
+#ifndef OA_ORDER_LINK /* load and store of a link: between the accesses of the head. Relaxed, if those have their orders. */
 #define OA_ORDER_LINK memory_order_seq_cst
 #endif
 #ifndef OA_ORDER_PUSH /* exchange of a head by a sweep: shows the link, and the warnings. Release. */
@@ -292,7 +292,7 @@ static int oa_sweep(oa_caller *caller) {
   return OA_NONE;
 }
 
-/* Takes the slot on top of a chain. Returns 0 where there is none. */
+/* Takes the slot on top of a chain. Returns 0 if there is none. */
 static inline uint64_t oa_look(oa_caller *caller, unsigned kind) {
   oa_pool *pool = caller->pool;
   for (;;) {
@@ -414,8 +414,8 @@ static inline void oa_start_words(oa_pool *pool) {
   }
 }
 
-/* Opens a pool with so many slots of each kind, the last phase being `last` (0: the greatest there can be). Returns 0, and has nothing open, where the
- * slots are too few or too many, or where there is no memory. */
+/* Opens a pool with so many slots of each kind, the last phase being `last` (0: the greatest there can be). Returns 0, and has nothing open, if the
+ * slots are too few or too many, or if there is no memory. */
 static inline int oa_open(oa_pool *pool, const oa_layout *layout, const uint64_t *slots, unsigned callers, uint64_t last) {
   memset(pool, 0, sizeof *pool);
   pool->layout = layout;

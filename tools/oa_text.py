@@ -10,7 +10,7 @@ READS.update({"ifeq": [1, 2], "ifless": [1, 2], "ifmarked": [1], "return": [1]})
 
 
 class Exchange:
-    """An auxiliary exchange, or an entry of a commit. The object is None where the place is a root."""
+    """An auxiliary exchange, or an entry of a commit. The object is None if the place is a root."""
 
     def __init__(self, line, words):
         self.line = line

@@ -12,6 +12,7 @@ use Rattle.source_machine.specs.declared.event.SourceEvent.{SourceEvent}
 use Rattle.source_machine.specs.declared.event.SourceEvent.TheVariants as events
 use Rattle.norm_lang.specs.declared.reply.SourceReply.{SourceReply}
 use Rattle.norm_lang.specs.declared.reply.SourceReply.TheVariants as told
+use Rattle.norm_lang.specs.Arguments.{are_words, are_arguments}
 use Rattle.source_machine.specs.declared.state.Memory.{Memory}
 use Rattle.source_machine.specs.declared.state.Stand.{Stand}
 use Rattle.source_machine.specs.declared.state.Stand.TheVariants.{InGenerator, InList}
@@ -19,7 +20,7 @@ use Rattle.source_machine.specs.declared.state.Running.{Running}
 use Rattle.source_machine.specs.declared.state.SourceCaller.{SourceCaller}
 use Rattle.source_machine.specs.State.{first_memory}
 use Rattle.source_machine.specs.Step.{generator_at, generator_begun, performed}
-use Rattle.source_machine.specs.Run.{mover, are_words, are_arguments, is_enabled_by}
+use Rattle.source_machine.specs.Run.{mover, is_enabled_by}
 use Rattle.source_machine.specs.MethodRuns.{MethodRun}
 use Rattle.source_machine.specs.Proper.{has, runs_method, IsProperState, IsProper}
 use Rattle.source_machine.specs.Frames.{Kept}

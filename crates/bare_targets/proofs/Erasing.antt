@@ -2,6 +2,7 @@
 use Rattle.std.proofs.Common.{ℕ, zero, suc, ◌≡◌, ◌≤◌, ◌∙◌, Bool, true, false, List, [], ◌∷◌, map, length, Some, arith, ap, refl}
 use Rattle.std.specs.Prelude.{slice_get, nat_le}
 use Rattle.std.proofs.lemmas.Bool.Decides.{nat_tests}
+use Rattle.std.proofs.lemmas.Bool.{false_from_ne_true}
 use Rattle.norm_lang.specs.declared.text.Instr.{Instr}
 use Rattle.norm_lang.specs.declared.text.Instr.TheVariants as instr
 use Rattle.norm_lang.specs.declared.text.Op.{Op}
@@ -13,7 +14,6 @@ use Rattle.norm_lang.specs.NormalForm.{N13, IsNormal}
 use Rattle.target_code.specs.declared.target.TargetInstr.TheVariants.{Plain}
 use Rattle.target_code.specs.Erasing.{source_place, redirected, plain_code, erased_code, erased_op, ErasesTo}
 use Rattle.target_laws.proofs.local_laws.Settled.{keeps_rule}
-use Rattle.target_laws.proofs.TextRules.{is_false}
 use Rattle.bare_targets.specs.Bare.{bare_op, bare}
 
 place_same : (xs : List Instr) (l : ℕ) → l ≤ length xs → source_place (map Plain xs) l ≡ l
@@ -43,7 +43,7 @@ code_stays text number op wrapup normal there =
     let place = source_place (map Plain (code_of op wrapup)) in
     all_stay place (code_of op wrapup)
     (λ at i is. stays place text.roots i (length (code_of op wrapup)) (place_same (code_of op wrapup))
-    (is_false (has_wrong_range text.roots i (length (code_of op wrapup))) (λ wrong. keeps_rule text N13 number op wrapup at i normal there is wrong)))
+    (false_from_ne_true (has_wrong_range text.roots i (length (code_of op wrapup))) (λ wrong. keeps_rule text N13 number op wrapup at i normal there is wrong)))
 
 op_stays : (text : Text) (number : ℕ) (op : Op) → IsNormal text → slice_get text.ops number ≡ Some op → erased_op (bare_op op) ≡ op
 op_stays text number op normal there =

@@ -38,9 +38,7 @@ second_yes answers n0 agreed = (omega arith, agreed, earlier)
     earlier : (kind : FlawKind) → 2 ≤ kind_number kind → kind_number kind < 3 → answer_for answers kind ≡ false
     earlier ErasesDifferently least less = absurd (omega (arith, least))
     earlier UncheckedUse least less = n0
-    earlier Unguarded least less = absurd (omega (arith, less))
-    earlier GuardAfterCheck least less = absurd (omega (arith, less))
-    earlier GuardDropped least less = absurd (omega (arith, less))
+    earlier _ least less = absurd (omega (arith, less))
 
 pub third_yes : (answers : List Bool) → slice_index_or answers 0 false ≡ false → slice_index_or answers 1 false ≡ false → slice_index_or answers 2 false ≡ true
     → IsFirstKind answers (Some told.GuardAfterCheck)
@@ -67,10 +65,7 @@ fourth_yes answers n0 n1 n2 agreed = (omega arith, agreed, earlier)
 -- that a target erases differently is no flaw of an instruction
 of_instruction : (kind : FlawKind) (source : Op) (wrapup : Bool) (code : List TargetInstr) (at : ℕ) (i : TargetInstr) → IsFlawed kind source wrapup code at i → 2 ≤ kind_number kind
 of_instruction ErasesDifferently source wrapup code at i flawed = absurd flawed
-of_instruction UncheckedUse source wrapup code at i flawed = omega arith
-of_instruction Unguarded source wrapup code at i flawed = omega arith
-of_instruction GuardAfterCheck source wrapup code at i flawed = omega arith
-of_instruction GuardDropped source wrapup code at i flawed = omega arith
+of_instruction _ source wrapup code at i flawed = omega arith
 
 both_ways : (b : Bool) → b ≡ true → b ≡ false → ⊥
 both_ways b agreed denied = let never : false ≡ true = sym denied ∙ agreed in cc

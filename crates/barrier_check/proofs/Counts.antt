@@ -3,7 +3,7 @@ use Rattle.std.proofs.Common.{◌≡◌, ℕ, zero, suc, ◌+◌, ◌≤◌, Lis
 use Rattle.std.proofs.Math.ListN.{drop_of_length-le}
 use Rattle.std.specs.Prelude.{slice_get, unwrap_or, take}
 use Rattle.target_code.specs.declared.target.TargetInstr.{TargetInstr}
-use Rattle.target_code.specs.declared.target.TargetInstr.TheVariants.{Plain, Check, Guard}
+use Rattle.target_code.specs.declared.target.TargetInstr.TheVariants.{Plain}
 use Rattle.target_code.specs.Erasing.{plain_count, source_place}
 
 -- the counts before each of the instructions, where so many stand before the first
@@ -14,8 +14,7 @@ counts_from n (i ∷ code) = n ∷ counts_from (n + plain_count (i ∷ [])) code
 -- an instruction before others
 count_head : (i : TargetInstr) (code : List TargetInstr) → plain_count (i ∷ code) ≡ plain_count (i ∷ []) + plain_count code
 count_head (Plain i) code = omega arith
-count_head Check code = omega arith
-count_head (Guard r) code = omega arith
+count_head _ code = omega arith
 
 counted : (n : ℕ) (code : List TargetInstr) (at : ℕ) → unwrap_or (slice_get (counts_from n code) at) (n + plain_count code) ≡ n + plain_count (take at code)
 counted n [] zero = refl

@@ -46,10 +46,9 @@ in_wrapup target text number (Err e) alike generator wrapup = flawed_in_wrapup (
 -- texts with the same declarations and the same operations are the same
 same_option : (one other : Option Op) → option_map (part_of false) one ≡ option_map (part_of false) other → option_map (part_of true) one ≡ option_map (part_of true) other → one ≡ other
 same_option None None generator wrapup = refl
-same_option None (Some o) generator wrapup = cc
-same_option (Some o) None generator wrapup = cc
 same_option (Some one) (Some other) generator wrapup =
     ap Some (op_of_parts one other (same_Some (part_of false one) (part_of false other) generator) (same_Some (part_of true one) (part_of true other) wrapup))
+same_option _ _ generator wrapup = cc
 
 same_items : (xs ys : List Op) → ((n : ℕ) → slice_get xs n ≡ slice_get ys n) → xs ≡ ys
 same_items [] [] same = refl

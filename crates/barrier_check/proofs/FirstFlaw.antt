@@ -2,6 +2,7 @@
 use Rattle.std.proofs.Common.{◌≡◌, ℕ, inl, inr, Bool, true, false, length, refl, sym, ap, subst, ◌∙◌, arith}
 use Rattle.std.specs.Prelude.{[], ◌∷◌, slice_index_or, IsTrue}
 use Rattle.std.proofs.lemmas.Bool.Decides.{nat_tests}
+use Rattle.std.proofs.lemmas.Bool.{false_from_ne_true}
 use Rattle.norm_lang.specs.declared.text.Text.{Text}
 use Rattle.norm_lang.specs.NormalForm.{is_before, method_number}
 use Rattle.target_code.specs.declared.target.Target.{Target}
@@ -25,10 +26,9 @@ same_kind : (one other : FlawKind) → kind_number one ≡ kind_number other →
 same_kind one other is = sym (numbered one) ∙ ap kind_numbered is ∙ numbered other
 
 same_method : (one other : Bool) → method_number one ≡ method_number other → one ≡ other
-same_method false false is = refl
-same_method true true is = refl
 same_method false true is = cc
 same_method true false is = cc
+same_method _ _ is = refl
 
 flaw_at : FlawKind → ℕ → Bool → ℕ → Flaw
 flaw_at kind op wrapup at = record { kind = kind; op = op; wrapup = wrapup; at = at }
@@ -44,10 +44,6 @@ same_flaw one other first last =
     let same : flaw_at one.kind one.op one.wrapup one.at ≡ flaw_at other.kind other.op other.wrapup other.at
     = rw (same_kind one.kind other.kind kinds, ops.0, same_method one.wrapup other.wrapup methods.0, places.0) refl
     in same
-
-not_true : (b : Bool) → (IsTrue b → ⊥) → b ≡ false
-not_true false never = refl
-not_true true never = absurd (never refl)
 
 -- texts that differ somewhere aren't the same
 differ : (target : Target) (text : Text) (op : ℕ) (wrapup : Bool) → DiffersAt (erased target) text op wrapup → ¬ ErasesTo target text
@@ -71,14 +67,14 @@ none_earlier target text one other first last before =
 pub first_flaw_is_one : FirstFlawIsOne
 first_flaw_is_one target text one other (inl first) (inl last) =
     same_flaw one other
-    (not_true (flaw_before one other) (none_earlier target text one other first last))
-    (not_true (flaw_before other one) (none_earlier target text other one last first))
+    (false_from_ne_true (flaw_before one other) (none_earlier target text one other first last))
+    (false_from_ne_true (flaw_before other one) (none_earlier target text other one last first))
 first_flaw_is_one target text one other (inl first) (inr last) = absurd (differ target text one.op one.wrapup first.1 last.0)
 first_flaw_is_one target text one other (inr first) (inl last) = absurd (differ target text other.op other.wrapup last.1 first.0)
 first_flaw_is_one target text one other (inr first) (inr last) =
     same_flaw one other
-    (not_true (flaw_before one other) (λ before. last.2 one before first.1))
-    (not_true (flaw_before other one) (λ before. first.2 other before last.1))
+    (false_from_ne_true (flaw_before one other) (λ before. last.2 one before first.1))
+    (false_from_ne_true (flaw_before other one) (λ before. first.2 other before last.1))
 
 pub flawed_is_not_barred : FlawedIsNotBarred
 flawed_is_not_barred target text flaw (inl first) barred = differ target text flaw.op flaw.wrapup first.1 barred.erases

@@ -7,7 +7,8 @@ use Rattle.barrier_check.specs.declared.flaw.VerifyError.{VerifyError}
 use Rattle.barrier_check.specs.declared.flaw.VerifyError.TheVariants.{Memory, Flawed}
 use Rattle.barrier_check.specs.FlawsTold.{flaw_of}
 use Rattle.barrier_check.specs.Scopes.{AtPlace, InMethod, InOp, Anywhere, IsClear, IsFirstThere, IsFlawedThere, Judges}
-use Rattle.barrier_check.proofs.Placing.{less_or_same, generator_first, which, before_op, before_method, before_at}
+use Rattle.barrier_check.proofs.Placing.{which, before_op, before_method, before_at}
+use Rattle.norm_check.proofs.Placing.{generator_first, less_or_same}
 
 -- above an instruction of a method
 abbrev pub Above : ℕ → Bool → ℕ → Flaw → Type 0

@@ -11,8 +11,9 @@ use Rattle.target_code.specs.Paths.{target_code_of}
 use Rattle.target_code.specs.Barred.{FlawKind, Flaw, IsFlawed, HasFlaw}
 use Rattle.barrier_check.specs.Comparing.{IsSubject}
 use Rattle.barrier_check.specs.Scopes.{AtPlace, InMethod, Anywhere, IsClear}
-use Rattle.barrier_check.proofs.Placing.{some_and, and_some, less_or_more}
+use Rattle.barrier_check.proofs.Placing.{less_or_more}
 use Rattle.barrier_check.proofs.Parts.{Above, Earlier}
+use Rattle.norm_check.proofs.Placing.{and_some, some_and}
 
 -- a flaw of the instruction that may stand at a place of an operation
 abbrev FlawOfInstr : FlawKind → Op → TargetOp → Bool → ℕ → Type 0

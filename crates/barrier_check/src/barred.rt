@@ -5,7 +5,7 @@ ghost use Rattle.norm_lang.specs.declared.text.Reg.TheVariants.{Ref};
 ghost use Rattle.norm_lang.specs.Kept.{IsKept};
 ghost use Rattle.norm_lang.specs.Limits.{IsWithinLimits};
 ghost use Rattle.norm_lang.specs.NormalForm.{IsNormal};
-ghost use Rattle.norm_check.specs.KeptTable.{AreKeptOf, keeps_by};
+ghost use Rattle.norm_check.specs.KeptTable.{AreKeptOf};
 ghost use Rattle.target_code.specs.Barred.{IsBarred};
 ghost use Rattle.target_code.specs.TargetLimits.{IsTargetWithinLimits};
 ghost use Rattle.barrier_check.specs.Paired.{IsSound};
@@ -14,9 +14,9 @@ ghost use Rattle.barrier_check.specs.Verified.{IsVerified};
 use crate::erasing::compare;
 use crate::flaw::VerifyError;
 use crate::judge::judge_ops;
-use norm_check::Normal;
+use norm_check::{Normal, keeps};
 use norm_lang::list::Listed;
-use norm_lang::text::{Reg, Text};
+use norm_lang::text::Text;
 use norm_paths::Kept;
 use std::alloc::Global;
 use std::marker::Model;
@@ -81,7 +81,7 @@ pub fn verify(alloc: Global, target: Target, normal: &Normal) -> Result<Barred, 
 }
 
 impl Barred {
-    /// What every barred target keeps: a law for those who hold one. To read a field tells it.
+    /// What every barred target keeps: a law for those who hold one. Reading a field is what tells it.
     pub fn kept(&self)
         ensures { IsSound self.now }
     {
@@ -114,14 +114,5 @@ impl Barred {
         ensures { IsSomeAnd (slice_get self.now.source.ops op) (λ o. IsTrue result ↔ IsKept o (Ref register)) }
     {
         keeps(self.kept.items(), op as usize, register)
-    }
-}
-
-fn keeps(table: &[Kept], op: usize, register: u8) -> bool
-    ensures { result ≡ keeps_by table.now op register }
-{
-    match table.get(op) {
-        None => false,
-        Some(kept) => kept.has(Reg::Ref(register)),
     }
 }

@@ -1,6 +1,6 @@
 //! Whether erasing a target gives a text, and if not, where they differ first.
 
-ghost use Rattle.std.specs.Prelude.{◌≡◌, ◌≤◌, Some, slice_get, length, IfOk};
+ghost use Rattle.std.specs.Prelude.{◌≡◌, ◌≤◌, length, IfOk};
 ghost use Rattle.std.specs.Bool.{Decides};
 ghost use Rattle.target_code.specs.Erasing.{erased, erased_op, part_of, ErasesTo, AreAlike};
 ghost use Rattle.barrier_check.specs.declared.flaw.FlawKind.TheVariants.{ErasesDifferently};

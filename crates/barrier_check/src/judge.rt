@@ -1,6 +1,6 @@
 //! Judging the instructions of a target: one, a method, an operation, and all operations.
 
-ghost use Rattle.std.specs.Prelude.{◌≡◌, ◌≤◌, Bool, [], Some, slice_get, length, IfOk};
+ghost use Rattle.std.specs.Prelude.{◌≡◌, ◌≤◌, [], Some, slice_get, length, IfOk};
 ghost use Rattle.norm_lang.specs.Limits.{IsWithinLimits};
 ghost use Rattle.norm_check.specs.KeptTable.{AreKeptOf};
 ghost use Rattle.norm_paths.specs.Found.{AreKept, IsOpWithin};
@@ -21,18 +21,8 @@ use norm_lang::list::Listed;
 use norm_lang::text::Text;
 use norm_paths::{Kept, OpFacts};
 use std::alloc::Global;
-use target_code::target::{Target, TargetInstr, TargetOp};
+use target_code::target::{Target, TargetInstr, target_code_of};
 use target_flaws::{Needs, TargetFacts, flaws};
-
-fn code_of(op: &TargetOp, wrapup: bool) -> &[TargetInstr]
-    ensures { result.now ≡ target_code_of op.now wrapup }
-{
-    if wrapup {
-        op.wrapup.items()
-    } else {
-        op.generator.items()
-    }
-}
 
 /// The first kind of flaw whose answer is yes.
 #[tactic(auto, using(crate::proofs::Answering::none_yes, crate::proofs::Answering::first_yes, crate::proofs::Answering::second_yes, crate::proofs::Answering::third_yes, crate::proofs::Answering::fourth_yes))]
@@ -118,7 +108,7 @@ fn judge_method(
     requires needs { AreNeeds subject.now.source.now needs.now }
     ensures { Judges (HasFlaw subject.now.target.now subject.now.text.now) (InMethod subject.now.number wrapup) result }
 {
-    let code = code_of(subject.op, wrapup);
+    let code = target_code_of(subject.op, wrapup);
     let facts = TargetFacts::of_code(alloc, code)?;
     judge_code(subject, needs, &facts, wrapup, code)
 }
@@ -167,7 +157,7 @@ fn with_kept(
 }
 
 /// Judges an operation of a target, and answers which references the wrap-up of the text's operation keeps.
-#[tactic(auto, using(norm_check::proofs::Tables::sized))]
+#[tactic(auto, using(norm_paths::proofs::Founding::sized_within))]
 fn judge_op(alloc: Global, subject: &Subject) -> Result<Kept, VerifyError>
     requires subject { IsSubject subject.now.target.now subject.now.text.now subject.now.number subject.now.op.now subject.now.source.now }
     requires within { IsOpWithin subject.now.source.now }
@@ -182,7 +172,7 @@ fn judge_op(alloc: Global, subject: &Subject) -> Result<Kept, VerifyError>
 
 /// Judges a target for a text with as many operations, and adds which references the wrap-up of each of the text's
 /// operations keeps.
-#[tactic(auto, using(crate::proofs::Parts::none_earlier, crate::proofs::Parts::one_operation_further, crate::proofs::Whole::all_operations, crate::proofs::Parts::flawed_anywhere, norm_check::proofs::Tables::no_table, norm_check::proofs::Tables::one_kept_further, norm_check::proofs::Tables::all_kept, norm_check::proofs::Tables::op_within, norm_check::proofs::Tables::few_ops))]
+#[tactic(auto, using(crate::proofs::Parts::none_earlier, crate::proofs::Parts::one_operation_further, crate::proofs::Whole::all_operations, crate::proofs::Parts::flawed_anywhere, norm_check::proofs::Tables::no_table, norm_check::proofs::Tables::one_kept_further, norm_check::proofs::Tables::all_kept, norm_paths::proofs::Founding::op_within, norm_check::proofs::Tables::few_ops))]
 fn add_judged(
     table: &mut Listed<Kept>,
     alloc: Global,

@@ -1,4 +1,4 @@
-//! The verifier of compiled code: a target is accepted for a text exactly where erasing gives the text and no instruction
+//! The verifier of compiled code: a target is accepted for a text exactly if erasing gives the text and no instruction
 //! has a flaw, and a refusal names the first flaw. It never asks how the target was compiled.
 #![tactic(auto)]
 

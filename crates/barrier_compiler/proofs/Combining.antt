@@ -6,19 +6,21 @@ use Rattle.std.proofs.Common.{◌≡◌, ℕ, zero, suc, ◌+◌, ◌⊎◌, inl
 use Rattle.std.specs.Prelude.{slice_get, IsTrue, if◌then◌else◌}
 use Rattle.std.specs.List.{list_any}
 use Rattle.std.proofs.lemmas.Option.{same_Some}
+use Rattle.std.proofs.lemmas.Bool.{or_cases, or_left, or_right}
 use Rattle.norm_lang.specs.declared.text.Reg.{Reg}
 use Rattle.norm_lang.specs.declared.text.Instr.{Instr}
 use Rattle.norm_lang.specs.declared.text.Instr.TheVariants as instr
 use Rattle.norm_lang.specs.declared.text.Op.{Op}
 use Rattle.norm_lang.specs.RegisterUse.{same_register, is_register_named, registers_named, destination, reads, sets}
 use Rattle.norm_lang.specs.PathRules.{is_commit}
+use Rattle.norm_lang.specs.Flow.{is_end}
 use Rattle.norm_paths.proofs.Within.{register_same}
 use Rattle.target_code.specs.declared.target.TargetInstr.TheVariants.{Plain}
 use Rattle.target_code.specs.Flaws.{fetches, Uses}
 use Rattle.target_code.specs.Blocks.{Marked}
-use Rattle.target_code.specs.SecondScheme.{Due, none_due, is_any, is_due, ends, breaks, reads_some, needs_check, after_check, noted, left_due, jumps_to, meets_jump, next_due, marked, marks_from, second_marks}
+use Rattle.target_code.specs.SecondScheme.{Due, none_due, is_any, is_due, breaks, reads_some, needs_check, after_check, noted, left_due, jumps_to, meets_jump, next_due, marked, marks_from, second_marks}
 use Rattle.barrier_compiler.proofs.BlockPaths.{leads_on, jumps, AreStraight}
-use Rattle.barrier_compiler.proofs.Guarding.{IsAmong, or_left, or_right, or_cases, among_left, among_right, IsUnclean}
+use Rattle.barrier_compiler.proofs.Guarding.{IsAmong, among_left, among_right, IsUnclean}
 use Rattle.barrier_compiler.proofs.Flawless.{KnowsUnchecked, IsScheme}
 
 -- ---- what is due, by the order of the text
@@ -76,15 +78,15 @@ jumps_fetch_none : (i : Instr) → IsTrue (jumps i) → fetches i ≡ false
 jumps_fetch_none (instr.Cas entry l) is = cc
 jumps_fetch_none _ is = cc
 
-jumps_break : (i : Instr) → IsTrue (jumps i) → (breaks i ≡ true) × (ends i ≡ false)
+jumps_break : (i : Instr) → IsTrue (jumps i) → (breaks i ≡ true) × (is_end i ≡ false)
 jumps_break (instr.Cas entry l) is = (cc, cc)
 jumps_break _ is = (cc, cc)
 
-commit_breaks : (i : Instr) → IsTrue (is_commit i) → (breaks i ≡ true) × (ends i ≡ false)
+commit_breaks : (i : Instr) → IsTrue (is_commit i) → (breaks i ≡ true) × (is_end i ≡ false)
 commit_breaks (instr.Commit entries) is = (refl, refl)
 commit_breaks _ is = cc
 
-on_ends_not : (i : Instr) → IsTrue (leads_on i) → ends i ≡ false
+on_ends_not : (i : Instr) → IsTrue (leads_on i) → is_end i ≡ false
 on_ends_not (instr.Return a) is = cc
 on_ends_not instr.ReturnNone is = cc
 on_ends_not instr.Again is = cc
@@ -111,7 +113,7 @@ reading_checked false other true false true holds is = refl
 reading_checked false other false break true holds is = cc
 reading_checked last other due break false holds is = cc
 
-breaking_checked : (i : Instr) (due : Due) → (breaks i ≡ true) × (ends i ≡ false) → needs_check due i ≡ is_due due
+breaking_checked : (i : Instr) (due : Due) → (breaks i ≡ true) × (is_end i ≡ false) → needs_check due i ≡ is_due due
 breaking_checked i due how =
     ap (λ last. if last then reads_some i due.fetched || reads_some i due.others else is_due due && (breaks i || reads_some i due.fetched)) how.1
     ∙ (ap (λ break. is_due due && (break || reads_some i due.fetched)) how.0 ∙ and_true (is_due due))
@@ -126,14 +128,14 @@ uses_none op i due r unchecked among uses =
     elim uses [
       | inl reading ↦ (
           let checks : needs_check due i ≡ true =
-          reading_checked (ends i) (reads_some i due.others) (is_due due) (breaks i) (reads_some i due.fetched) due_there (among_reads r i due.fetched among reading) in
+          reading_checked (is_end i) (reads_some i due.others) (is_due due) (breaks i) (reads_some i due.fetched) due_there (among_reads r i due.fetched among reading) in
           let no : false ≡ true = sym unchecked ∙ checks in cc)
       | inr commits ↦ (let no : false ≡ true = sym unchecked ∙ (breaking_checked i due (commit_breaks i commits.0) ∙ due_there) in cc)
     ]
 
 -- what is noted as fetched after an instruction that isn't an end
-noted_fetched : (i : Instr) (due : Due) → ends i ≡ false → (noted i due).fetched ≡ (if fetches i then due.fetched ++ registers_named (destination i) else due.fetched)
-noted_fetched i due goes_on = by_bool (ends i) (fetches i) (is_due due) goes_on
+noted_fetched : (i : Instr) (due : Due) → is_end i ≡ false → (noted i due).fetched ≡ (if fetches i then due.fetched ++ registers_named (destination i) else due.fetched)
+noted_fetched i due goes_on = by_bool (is_end i) (fetches i) (is_due due) goes_on
   where
     by_bool : (last fetched is : Bool) → last ≡ false
         → (if last then none_due else if fetched then record due { fetched = due.fetched ++ registers_named (destination i) } else if is then record due { others = due.others ++ registers_named (destination i) } else due).fetched
@@ -148,7 +150,7 @@ after_due [] others = refl
 after_due (r ∷ rs) others = refl
 
 -- after a break that fetches nothing none is due
-breaks_settle : (i : Instr) (due : Due) → fetches i ≡ false → (breaks i ≡ true) × (ends i ≡ false) → is_due (left_due i due) ≡ false
+breaks_settle : (i : Instr) (due : Due) → fetches i ≡ false → (breaks i ≡ true) × (is_end i ≡ false) → is_due (left_due i due) ≡ false
 breaks_settle i due plain how =
     ap is_any
     (noted_fetched i (after_check (needs_check due i) due) how.1
@@ -181,7 +183,7 @@ named_among : (r : Reg) (named : Option Reg) → IsTrue (is_register_named r nam
 named_among r None is = cc
 named_among r (Some a) is = or_left (same_register r a) false is
 
-left_noted : (i : Instr) (due : Due) (r : Reg) → ends i ≡ false → (IsTrue (sets r i) × IsTrue (fetches i)) ⊎ ((needs_check due i ≡ false) × IsAmong r due.fetched) → IsAmong r (left_due i due).fetched
+left_noted : (i : Instr) (due : Due) (r : Reg) → is_end i ≡ false → (IsTrue (sets r i) × IsTrue (fetches i)) ⊎ ((needs_check due i ≡ false) × IsAmong r due.fetched) → IsAmong r (left_due i due).fetched
 left_noted i due r goes_on how =
     let before : List Reg = (after_check (needs_check due i) due).fetched in
     subst (IsAmong r) (sym (noted_fetched i (after_check (needs_check due i) due) goes_on)) (elim how [

@@ -3,6 +3,7 @@ use Rattle.std.proofs.Common.{◌≡◌, ℕ, zero, suc, ◌⊎◌, inl, inr, Bo
 use Rattle.std.specs.Prelude.{slice_get, option_map, IsSomeAnd, IsTrue, if◌then◌else◌}
 use Rattle.std.specs.List.{list_any, filter}
 use Rattle.std.proofs.lemmas.Option.{same_Some, slice_get-map, slice_get_within}
+use Rattle.std.proofs.lemmas.Bool.{or_left, or_right}
 use Rattle.norm_lang.specs.declared.text.Reg.{Reg}
 use Rattle.norm_lang.specs.declared.text.Instr.{Instr}
 use Rattle.norm_lang.specs.declared.text.Instr.TheVariants as instr
@@ -27,7 +28,8 @@ use Rattle.target_code.specs.Keeping.{keeps}
 use Rattle.target_code.specs.Blocks.{all_references, kept_at, to_guard, Marked, check_if, barrier, block, block_place, laid_out, scheme_op, scheme}
 use Rattle.barrier_compiler.proofs.BlocksInLists.{in_either, piece_of, run}
 use Rattle.barrier_compiler.proofs.BlockPaths.{leads_on, jumps, is_barrier, in_block, block_in, AreStraight, HandsOn, stands_there, leads_into}
-use Rattle.barrier_compiler.proofs.Guarding.{IsAmong, or_left, or_right, among_either, filtered_among, once_among, uses_same, unclean_barrier, IsUnclean, unclean_block, barrier_validates, needed}
+use Rattle.barrier_compiler.proofs.Guarding.{IsAmong, among_either, filtered_among, once_among, uses_same, unclean_barrier, IsUnclean, unclean_block, barrier_validates, needed}
+use Rattle.norm_check.proofs.Placing.{and_some}
 
 -- `keeps` finds each kept register
 abbrev pub FindsKept : Type 0
@@ -165,9 +167,6 @@ guards_among place op m r k j is guarding = elim (in_either (barrier m.before (t
 some_and : {X : Type 0} (o : Option X) (P : X → Type 0) → IsSomeAnd o P → (x : X) × (o ≡ Some x) × P x
 some_and None P holds = absurd holds
 some_and (Some x) P holds = (x, refl, holds)
-
-and_some : {X : Type 0} (o : Option X) (x : X) (P : X → Type 0) → o ≡ Some x → P x → IsSomeAnd o P
-and_some o x P is holds = subst (λ z. IsSomeAnd z P) (sym is) holds
 
 -- no instruction of a text in normal form breaks a rule
 none_broken : (text : Text) → IsNormal text → (number : ℕ) (op : Op) (wrapup : Bool) (at : ℕ) (i : Instr) (rule : Rule) → slice_get text.ops number ≡ Some op → slice_get (code_of op wrapup) at ≡ Some i

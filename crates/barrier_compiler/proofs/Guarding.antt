@@ -5,6 +5,7 @@ use Rattle.std.specs.Prelude.{slice_get, IsTrue, if◌then◌else◌}
 use Rattle.std.specs.List.{list_any, filter}
 use Rattle.std.proofs.lemmas.Bool.Decides.{nat_tests}
 use Rattle.std.proofs.lemmas.List.Folds.{list_any-append}
+use Rattle.std.proofs.lemmas.Bool.{or_cases, or_left, or_right}
 use Rattle.norm_lang.specs.declared.text.Reg.{Reg}
 use Rattle.norm_lang.specs.declared.text.Reg.TheVariants.{Num, Ref}
 use Rattle.norm_lang.specs.declared.text.Instr.{Instr}
@@ -26,18 +27,6 @@ use Rattle.barrier_compiler.proofs.BlocksInLists.{run, run_both}
 -- a register is one of a list
 abbrev pub IsAmong : Reg → List Reg → Type 0
 IsAmong r rs = IsTrue (list_any (same_register r) rs)
-
-pub or_left : (a b : Bool) → IsTrue a → IsTrue (a || b)
-or_left true b is = refl
-or_left false b is = cc
-
-pub or_right : (a b : Bool) → IsTrue b → IsTrue (a || b)
-or_right true b is = refl
-or_right false b is = is
-
-pub or_cases : (a b : Bool) → IsTrue (a || b) → IsTrue a ⊎ IsTrue b
-or_cases true b is = inl refl
-or_cases false b is = inr is
 
 same_both : (a b : Reg) → same_register a b ≡ false → same_register b a ≡ false
 same_both (Num a) (Num b) is = grind (arith, nat_tests)

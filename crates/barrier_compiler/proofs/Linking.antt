@@ -12,6 +12,7 @@ use Rattle.target_code.specs.Blocks.{to_guard, Marked, check_if, barrier, block,
 use Rattle.barrier_compiler.specs.Building.{kept_references, block_by, starts_from, start_of, AreNear, relocated}
 use Rattle.barrier_compiler.specs.Sized.{IsShort}
 use Rattle.barrier_compiler.proofs.Gathering.{guarded_is}
+use Rattle.norm_paths.proofs.Starting.{zero_plus}
 
 map_append : {X Y : Type 0} (f : X → Y) (xs ys : List X) → map f (xs ++ ys) ≡ map f xs ++ map f ys
 map_append f [] ys = refl
@@ -65,16 +66,13 @@ start_counted kept n (i ∷ code) (suc at) =
     further : (behind : List TargetInstr) → n + length (block_by kept i ++ behind) ≡ (n + length (block_by kept i)) + length behind
     further behind = let counted : length (block_by kept i ++ behind) ≡ length (block_by kept i) + length behind = length-append (block_by kept i) behind in omega (arith, counted)
 
-from_nothing : (n : ℕ) → 0 + n ≡ n
-from_nothing n = omega arith
-
 starts_are : (op : Op) (code : List Marked) (at : ℕ)
     → start_of (starts_from (kept_references op) 0 code) (length (flat_map (block_by (kept_references op)) code)) at ≡ block_place op code at
 starts_are op code at =
     let blocks : List Marked → List TargetInstr = flat_map (block_by (kept_references op)) in
-    ap (λ t. start_of (starts_from (kept_references op) 0 code) t at) (sym (from_nothing (length (blocks code))))
+    ap (λ t. start_of (starts_from (kept_references op) 0 code) t at) (sym (zero_plus (length (blocks code))))
     ∙ start_counted (kept_references op) 0 code at
-    ∙ from_nothing (length (blocks (take at code)))
+    ∙ zero_plus (length (blocks (take at code)))
     ∙ same_length (λ l. l) op (take at code)
 
 -- a prefix isn't longer

@@ -3,7 +3,8 @@
 ghost use Rattle.std.specs.Prelude.{◌≡◌, ◌<◌, ◌++◌, length, IfOk};
 ghost use Rattle.std.specs.List.{list_any};
 ghost use Rattle.norm_lang.specs.RegisterUse.{registers_named, destination};
-ghost use Rattle.target_code.specs.SecondScheme.{none_due, is_due, ends, breaks, reads_some, needs_check, noted, left_due, jumps_to, meets_jump, next_due, marked};
+ghost use Rattle.norm_lang.specs.Flow.{is_end};
+ghost use Rattle.target_code.specs.SecondScheme.{none_due, is_due, breaks, reads_some, needs_check, noted, left_due, jumps_to, meets_jump, next_due, marked};
 
 use norm_lang::text::{Instr, Reg};
 use norm_paths::uses::{destination, reads};
@@ -33,8 +34,8 @@ pub(crate) struct Checks {
     pub after: bool,
 }
 
-fn ends(instr: &Instr) -> bool
-    ensures { result ≡ ends instr.now }
+fn is_end(instr: &Instr) -> bool
+    ensures { result ≡ is_end instr.now }
 {
     matches!(instr, Instr::Return(_) | Instr::ReturnNone | Instr::Again)
 }
@@ -110,7 +111,7 @@ impl Notes {
     fn needs_check(&self, instr: &Instr) -> bool
         ensures { result ≡ needs_check self.now instr.now }
     {
-        if ends(instr) {
+        if is_end(instr) {
             return reads_some(instr, &self.fetched) || reads_some(instr, &self.others);
         }
         self.is_due() && (breaks(instr) || reads_some(instr, &self.fetched))
@@ -126,7 +127,7 @@ impl Notes {
     fn note(&mut self, instr: &Instr) -> Result<(), AllocError>
         ensures { IfOk result (λ _. self.new ≡ noted instr.now self.old) }
     {
-        if ends(instr) {
+        if is_end(instr) {
             self.clear();
             return Ok(());
         }

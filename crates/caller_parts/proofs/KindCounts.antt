@@ -3,10 +3,9 @@ use Rattle.std.proofs.Common.{◌≡◌, ℕ, zero, suc, ◌<◌, ◌≤◌, Boo
 use Rattle.std.specs.Prelude.{slice_index, nat_lt, nat_le}
 use Rattle.std.proofs.lemmas.Bool.{ltb-true, ltb-false, leb-true, and_parts}
 use Rattle.norm_lang.specs.declared.text.FieldDecl.{FieldDecl}
-use Rattle.target_code.specs.declared.target.Target.{Target}
 use Rattle.oa_words.specs.Words.{Sizes}
 use Rattle.oa_words.specs.SlotKinds.{slots_of}
-use Rattle.caller_parts.specs.KindCounts.{field_count, greatest_of, greatest_count}
+use Rattle.caller_parts.specs.KindCounts.{field_count, greatest_of}
 use Rattle.caller_parts.specs.Settings.{HaveSlots, have_slots}
 
 -- the greatest count is at least each of them
@@ -16,9 +15,6 @@ greatest_holds fields (suc k) t lt = by (nat_lt t k) refl (λ before. greatest_h
   by : (b : Bool) → nat_lt t k ≡ b → (t < k → field_count fields t ≤ greatest_of fields k) → field_count fields t ≤ greatest_of fields (suc k)
   by true before so_far = let rest = so_far (ltb-true t k before) in omega (arith, rest)
   by false not_before so_far = let last : t ≡ k = (let later = ltb-false t k not_before in omega (arith, later, lt)) in rw last (omega arith)
-
-pub no_kind_has_more : (target : Target) (t : ℕ) → t < length target.kinds → field_count target.fields t ≤ greatest_count target
-no_kind_has_more target t lt = greatest_holds target.fields (length target.kinds) t lt
 
 -- where each of the first so many kinds has slots for its initial nodes, it has
 slots_for : (sizes : Sizes) (nodes : List ℕ) (kinds : ℕ) → have_slots sizes nodes kinds ≡ true → (t : ℕ) → t < kinds → slice_index nodes t ≤ slots_of sizes t

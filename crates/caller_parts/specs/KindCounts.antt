@@ -23,6 +23,10 @@ greatest_count target = greatest_of target.fields (length target.kinds)
 abbrev pub node_count : List NodeDecl → ℕ → ℕ
 node_count nodes t = length (filter (λ node. node.owner == t) nodes)
 
--- the same for four kinds. No node is of a kind that the target doesn't have
+-- how many initial nodes each of four kinds has
+abbrev pub kind_nodes : List NodeDecl → List ℕ
+kind_nodes nodes = node_count nodes 0 ∷ node_count nodes 1 ∷ node_count nodes 2 ∷ node_count nodes 3 ∷ []
+
+-- the same of a target. No node is of a kind that the target doesn't have
 abbrev pub node_counts : Target → List ℕ
-node_counts target = node_count target.nodes 0 ∷ node_count target.nodes 1 ∷ node_count target.nodes 2 ∷ node_count target.nodes 3 ∷ []
+node_counts target = kind_nodes target.nodes

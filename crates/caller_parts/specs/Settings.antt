@@ -1,10 +1,11 @@
 -- What a run is told once.
-use Rattle.std.specs.Prelude.{◌≡◌, ℕ, zero, suc, ◌≤◌, ◌<◌, ◌^◌, Bool, true, ◌&&◌, List, nat_le, if◌then◌else◌, Result, Ok, Err, length, slice_index}
+use Rattle.std.specs.Prelude.{◌≡◌, ℕ, zero, suc, ◌≤◌, ◌<◌, Bool, true, ◌&&◌, List, nat_le, if◌then◌else◌, Result, Ok, Err, length, slice_index}
 use Rattle.oa_words.specs.Words.{Sizes}
 use Rattle.oa_words.specs.SlotKinds.{slots_of}
 use Rattle.oa_words.specs.Within.{AreSizes}
 use Rattle.target_code.specs.declared.target.Target.{Target}
 use Rattle.caller_parts.specs.KindCounts.{greatest_count, node_counts}
+use Rattle.caller_parts.specs.declared.limits.TheConstants.{MOST_PHASES}
 use Rattle.caller_parts.specs.declared.setting.Reclamation.{Reclamation}
 use Rattle.caller_parts.specs.declared.setting.Reclamation.TheVariants.{Optimistic, Epochs}
 use Rattle.caller_parts.specs.declared.setting.SettingFault.{SettingFault}
@@ -40,11 +41,11 @@ pub record IsSetting (setting : Setting) : Type 0 where
   pub sizes : AreSizes setting.sizes
   pub first : 1 ≤ setting.first
   pub phases : setting.first ≤ setting.last
-  pub last : setting.last ≤ 2 ^ 50
+  pub last : setting.last ≤ MOST_PHASES
   pub nodes : HaveSlots setting.sizes setting.nodes
 
 abbrev pub are_phases : ℕ → ℕ → Bool
-are_phases first last = nat_le 1 first && (nat_le first last && nat_le last (2 ^ 50))
+are_phases first last = nat_le 1 first && (nat_le first last && nat_le last MOST_PHASES)
 
 -- whether none of the first so many kinds has more initial nodes than slots
 abbrev pub have_slots : Sizes → List ℕ → ℕ → Bool

@@ -1,14 +1,13 @@
-//! What a setting is to say of a target.
+//! How many fields and initial nodes each kind has that is declared so, in a text or in a target.
 
-ghost use Rattle.std.specs.Prelude.{◌≡◌, ◌<◌, ◌≤◌, ◌^◌, length};
-ghost use Rattle.caller_parts.specs.KindCounts.{greatest_of, greatest_count, node_count, node_counts};
+ghost use Rattle.std.specs.Prelude.{◌≡◌, ◌<◌, ◌^◌, length};
+ghost use Rattle.caller_parts.specs.KindCounts.{greatest_of, node_count, kind_nodes};
 
 use norm_lang::fields::count_of;
 use norm_lang::text::{FieldDecl, NodeDecl};
-use target_code::target::Target;
 
-/// The greatest count of fields that one of the first so many kinds has.
-fn greatest_of(fields: &[FieldDecl], kinds: u8) -> usize
+/// The greatest count of fields that one of the first so many kinds has. Of all kinds: so many fields each slot has.
+pub fn greatest_of(fields: &[FieldDecl], kinds: u8) -> usize
     ensures { result ≡ greatest_of fields.now kinds }
 {
     let mut greatest = 0;
@@ -16,14 +15,6 @@ fn greatest_of(fields: &[FieldDecl], kinds: u8) -> usize
         greatest = greatest.max(count_of(fields, kind));
     }
     greatest
-}
-
-/// The greatest count of fields that a kind of the target has: so many fields each slot has.
-pub fn greatest_count(target: &Target) -> usize
-    requires { length target.now.kinds < 256 }
-    ensures { result ≡ greatest_count target.now }
-{
-    greatest_of(target.fields.items(), target.kinds.items().len() as u8)
 }
 
 /// How many initial nodes a kind has.
@@ -35,11 +26,10 @@ fn node_count(nodes: &[NodeDecl], kind: u8) -> u32
 }
 
 /// How many initial nodes each of four kinds has.
-pub fn node_counts(target: &Target) -> [u32; 4]
-    requires { length target.now.nodes < 2 ^ 32 }
-    ensures { result ≡ node_counts target.now }
+pub fn kind_nodes(nodes: &[NodeDecl]) -> [u32; 4]
+    requires { length nodes.now < 2 ^ 32 }
+    ensures { result ≡ kind_nodes nodes.now }
 {
-    let nodes = target.nodes.items();
     [
         node_count(nodes, 0),
         node_count(nodes, 1),

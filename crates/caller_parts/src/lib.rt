@@ -6,6 +6,7 @@ pub mod call;
 pub mod code;
 pub mod counts;
 pub mod fields;
+pub mod limits;
 pub mod local;
 pub mod operands;
 pub mod program;

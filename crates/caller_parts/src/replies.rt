@@ -31,6 +31,9 @@ impl Model for Replies {
 
 impl Replies {
     /// No replies, with room for so many.
+    ///
+    /// # Errors
+    /// Memory ran out.
     pub fn with_room(alloc: Global, room: usize) -> Result<Replies, AllocError>
         ensures { IfOk result (λ r. r ≡ record { items = []; room = room }) }
     {

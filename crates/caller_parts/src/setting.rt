@@ -1,8 +1,10 @@
 //! What a run is told once.
 
-ghost use Rattle.std.specs.Prelude.{◌≡◌, ◌≤◌, ◌^◌, length};
+ghost use Rattle.std.specs.Prelude.{◌≡◌, ◌≤◌, length};
+ghost use Rattle.caller_parts.specs.declared.limits.TheConstants.{MOST_PHASES};
 ghost use Rattle.caller_parts.specs.Settings.{setting_or_fault, have_slots, HaveSlots, IsSetting};
 
+use crate::limits::MOST_PHASES;
 use oa_words::shape::Shape;
 use std::marker::Model;
 
@@ -75,7 +77,7 @@ impl Setting {
         if !have_slots(&shape, &nodes) {
             return Err(SettingFault::Nodes);
         }
-        if !(1 <= first_phase && first_phase <= last_phase && last_phase <= 1 << 50) {
+        if !(1 <= first_phase && first_phase <= last_phase && last_phase <= MOST_PHASES) {
             return Err(SettingFault::Phases);
         }
         Ok(Setting {
@@ -109,7 +111,7 @@ impl Setting {
         )
     }
 
-    /// What every setting keeps: a law for those who hold one. To read a field tells it.
+    /// What every setting keeps: a law for those who hold one. Reading a field is what tells it.
     pub fn kept(&self)
         ensures { IsSetting self.now }
     {
@@ -133,7 +135,7 @@ impl Setting {
     /// The first phase.
     pub fn first_phase(&self) -> u64
         ensures same { result ≡ self.now.first }
-        ensures few { result ≤ 2 ^ 50 }
+        ensures few { result ≤ MOST_PHASES }
     {
         self.first
     }
@@ -141,7 +143,7 @@ impl Setting {
     /// The last phase.
     pub fn last_phase(&self) -> u64
         ensures same { result ≡ self.now.last }
-        ensures few { result ≤ 2 ^ 50 }
+        ensures few { result ≤ MOST_PHASES }
     {
         self.last
     }

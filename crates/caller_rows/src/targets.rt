@@ -6,7 +6,7 @@ ghost use Rattle.caller_parts.specs.Settings.{Fits};
 
 use barrier_check::{Barred, verify};
 use barrier_compiler::compile;
-use caller_parts::counts::{greatest_count, node_counts};
+use caller_parts::counts::{greatest_of, kind_nodes};
 use norm_check::{Normal, check};
 use norm_lang::Text;
 use norm_parser::parse;
@@ -64,9 +64,10 @@ fn suits(target: &Target, setting: &Setting) -> bool
 {
     let shape = setting.shape();
     shape.kinds() as usize == target.kinds.items().len()
-        && shape.fields() as usize == greatest_count(target)
+        && shape.fields() as usize
+            == greatest_of(target.fields.items(), target.kinds.items().len() as u8)
         && shape.cells() as usize == target.roots.items().len()
-        && same_counts(setting.nodes(), node_counts(target))
+        && same_counts(setting.nodes(), kind_nodes(target.nodes.items()))
 }
 
 fn fits(barred: &Barred, setting: &Setting) -> bool
@@ -84,11 +85,11 @@ fn made_for(target: &Target, numbers: &[u64]) -> Option<Setting>
     let ([callers, slots, first, last] | [callers, slots, first, last, _]) = numbers else {
         return None;
     };
-    let kinds = target.kinds.items().len() as u64;
-    let fields = greatest_count(target) as u64;
+    let kinds = target.kinds.items().len();
+    let fields = greatest_of(target.fields.items(), kinds as u8) as u64;
     let roots = target.roots.items().len() as u64;
-    let shape = Shape::of_kinds(*callers, [*slots; 4], kinds, fields, roots).ok()?;
-    Setting::new(shape, *first, *last, node_counts(target)).ok()
+    let shape = Shape::of_kinds(*callers, [*slots; 4], kinds as u64, fields, roots).ok()?;
+    Setting::new(shape, *first, *last, kind_nodes(target.nodes.items())).ok()
 }
 
 fn made(barred: &Barred, numbers: &[u64]) -> Option<Setting> {

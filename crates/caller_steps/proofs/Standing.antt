@@ -1,5 +1,5 @@
 -- A caller that stands at an access of its method.
-use Rattle.std.proofs.Common.{◌≡◌, ℕ, zero, suc, ◌+◌, ◌<◌, true, false, List, length, Option, Some, None, refl, ◌∙◌, ap}
+use Rattle.std.proofs.Common.{◌≡◌, ℕ, zero, suc, true, false, List, Option, Some, None, refl, ap}
 use Rattle.std.specs.Prelude.{slice_get}
 use Rattle.norm_lang.specs.declared.registers.Registers.{Registers}
 use Rattle.norm_lang.specs.Local.{Spot}
@@ -13,14 +13,12 @@ use Rattle.caller_parts.specs.declared.routine.Routine.TheVariants.{At}
 use Rattle.caller_parts.specs.Settings.{Setting}
 use Rattle.caller_parts.specs.declared.setting.Reclamation.{Reclamation}
 use Rattle.caller_parts.specs.declared.setting.Reclamation.TheVariants.{Optimistic, Epochs}
-use Rattle.phase_pools.specs.Ranges.{HasOwn}
-use Rattle.caller_steps.specs.Belongs.{scheme_of}
 use Rattle.norm_lang.specs.declared.text.Instr.{Instr}
 use Rattle.norm_lang.specs.declared.text.Instr.TheVariants as instr
-use Rattle.caller_steps.specs.Entries.{Entry, code_in, instr_in}
+use Rattle.caller_steps.specs.Entries.{Entry, instr_in}
 use Rattle.caller_steps.specs.Stands.{is_stop, leaves}
 use Rattle.caller_steps.specs.Wants.{wants, wanted, instr_wanted}
-use Rattle.caller_steps.specs.After.{after, accepted, counted, instr_accepted, stop_at, stops, goes_on, hand_at, with_hand, with_routine}
+use Rattle.caller_steps.specs.After.{after, accepted, counted, instr_accepted, stop_at, stops, with_routine}
 
 -- what it wants
 pub wants_at : (target : Target) (e : Entry) → e.routine ≡ At → wants target e ≡ instr_wanted target.fields e.number (instr_in target e) e.hand.registers
@@ -46,14 +44,6 @@ stops_at : (by : Reclamation) (target : Target) (sizes : Sizes) (o : Option Targ
 stops_at by target sizes (Some (Plain i)) e stop = absurd (let no : false ≡ true = stop in cc)
 stops_at by target sizes _ e stop = refl
 
--- where one comes next, the caller stands there
-pub stop_next : (by : Reclamation) (target : Target) (sizes : Sizes) (e : Entry) → is_stop (slice_get (code_in target e) (e.hand.at + 1)) ≡ true
-    → (goes_on by target sizes e.hand.registers e).entry ≡ with_routine (with_hand e (record e.hand { at = e.hand.at + 1 })) At
-stop_next by target sizes e stop =
-    let next : Spot = record { at = e.hand.at + 1; registers = e.hand.registers } in
-    ap (λ (spot : Spot). (stops by target sizes (slice_get (code_in target e) spot.at) (with_hand e (hand_at e.hand spot))).entry) (stays (code_in target e) (length (code_in target e)) next stop)
-    ∙ stops_at by target sizes (slice_get (code_in target e) (e.hand.at + 1)) (with_hand e (hand_at e.hand next)) stop
-
 -- nor does a caller go on to something else at an access or local code
 pub stands_there : (by : Reclamation) (target : Target) (sizes : Sizes) (i : Instr) (e : Entry) → leaves i ≡ false → (stop_at by target sizes i e).entry ≡ with_routine e At
 stands_there by target sizes (instr.New d kind) e h = absurd (let wrong : true ≡ false = h in cc)
@@ -63,8 +53,3 @@ stands_there by target sizes instr.ReturnNone e h = absurd (let wrong : true ≡
 stands_there by target sizes instr.Again e h = absurd (let wrong : true ≡ false = h in cc)
 stands_there Optimistic target sizes _ e h = refl
 stands_there Epochs target sizes _ e h = refl
-
--- the caller's number is one of the row's
-pub own_there : (by : Reclamation) (sizes : Sizes) (c : ℕ) → c < sizes.callers → HasOwn sizes (scheme_of by c)
-own_there Optimistic sizes c within = tt
-own_there Epochs sizes c within = within

@@ -1,13 +1,13 @@
 //! An entry after its wanted access found a word: one small function for each routine state and each instruction.
 
-ghost use Rattle.std.specs.Prelude.{◌≡◌, ◌<◌, ◌≤◌, ◌^◌, length, slice_get, Some, None};
-ghost use Rattle.phase_pools.specs.Ranges.{HasOwn, ClaimInRange, ClaimTold, RetireTold};
+ghost use Rattle.std.specs.Prelude.{◌≡◌, ◌<◌, ◌^◌, length, slice_get};
+ghost use Rattle.phase_pools.specs.Ranges.{HasOwn};
 ghost use Rattle.caller_parts.specs.Codes.{code_shown, shown_at};
 ghost use Rattle.caller_parts.specs.declared.routine.Routine.TheVariants.{At};
 ghost use Rattle.caller_steps.specs.Entries.{code_in, instr_in};
 ghost use Rattle.caller_parts.specs.Operands.{list_of, AreSlots};
 ghost use Rattle.caller_steps.specs.Clearing.{restart_next, clear_next, unguarded};
-ghost use Rattle.caller_steps.specs.After.{seen_loaded, with_restart, check_passed, check_failed, checked, guarded, loaded, put_made, list_on, list_goes, onward_goes, retires_then, cas_ended, cas_made, plain_accepted, checked_by, guarded_by, instr_accepted, with_published, list_failed, entry_ended, entry_made, list_accepted, restart_cleared, then_cleared, claim_counted, slot_claimed, slot_swept, slot_gained, claim_ended, node_made, zeroed, announced, after};
+ghost use Rattle.caller_steps.specs.After.{seen_loaded, with_restart, check_passed, check_failed, checked, guarded, loaded, list_on, list_goes, onward_goes, retires_then, cas_ended, cas_made, plain_accepted, checked_by, guarded_by, instr_accepted, with_published, list_failed, entry_made, list_accepted, restart_cleared, then_cleared, claim_counted, slot_claimed, slot_swept, slot_gained, claim_ended, node_made, zeroed, announced, after};
 ghost use Rattle.caller_steps.specs.Belongs.{scheme_of};
 ghost use Rattle.caller_steps.specs.Asking.{NewsFit, IsNear, IsRegister, InstrAccepts, CanAccept};
 

@@ -86,6 +86,9 @@ pub fn one_more(count: u64) -> u64
 
 impl Entry {
     /// An idle entry of a caller, with room for so many replies.
+    ///
+    /// # Errors
+    /// Memory ran out.
     pub fn new(alloc: Global, number: u32, room: usize) -> Result<Entry, AllocError>
         ensures { IfOk result (λ e. e ≡ record { core = idle_entry number; room = room }) }
     {

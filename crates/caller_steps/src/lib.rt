@@ -1,4 +1,5 @@
-//! One caller of the core: the one access that it makes next, and what becomes of it once a word was found.
+//! One caller of the core: the one access that it makes next, and what becomes of it once a word was found. It is larger than other crates,
+//! as each of both halves has a case for each routine, and a change of one is a change of the other.
 #![tactic(auto)]
 
 mod accepting;

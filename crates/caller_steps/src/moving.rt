@@ -1,6 +1,6 @@
 //! What an entry becomes: clears, ends, local code and method runs, one small function for each definition.
 
-ghost use Rattle.std.specs.Prelude.{◌≡◌, ◌<◌, ◌≤◌, ◌+◌, ◌^◌, length, slice_get, slice_index, Some, None, IfSome};
+ghost use Rattle.std.specs.Prelude.{◌≡◌, ◌<◌, ◌^◌, length, slice_get, IfSome};
 ghost use Rattle.phase_pools.specs.Pools.{claim_begun};
 ghost use Rattle.phase_pools.specs.Ranges.{HasOwn};
 ghost use Rattle.caller_parts.specs.Codes.{code_shown, shown_at};
@@ -9,8 +9,8 @@ ghost use Rattle.caller_steps.specs.Asking.{NewsFit};
 ghost use Rattle.caller_steps.specs.Belongs.{scheme_of};
 ghost use Rattle.caller_steps.specs.Clearing.{restart_next, clear_next};
 ghost use Rattle.caller_steps.specs.Stands.{is_stop, leaves};
-ghost use Rattle.caller_parts.specs.declared.routine.Routine.TheVariants.{At, Clears, Announces};
-ghost use Rattle.caller_steps.specs.After.{with_routine, replied, new_on, new_begun, then_goes, clear_on, cleared, wrap_up_hand, list_ended, list_begun, ended, plain_stop, wrap_up_stop, wrap_up_stopped, wrap_up_begun, announced_list, announced_stop, stop_at, stopped, settles, goes_on, first_spot, method_begun, restarted, generator_begun};
+ghost use Rattle.caller_parts.specs.declared.routine.Routine.TheVariants.{At, Clears};
+ghost use Rattle.caller_steps.specs.After.{with_routine, replied, new_on, new_begun, then_goes, cleared, wrap_up_hand, list_ended, list_begun, plain_stop, wrap_up_stop, wrap_up_stopped, wrap_up_begun, announced_list, announced_stop, stop_at, stopped, settles, goes_on, first_spot, method_begun, restarted, generator_begun};
 
 use crate::entry::Entry;
 use crate::stand::Stand;

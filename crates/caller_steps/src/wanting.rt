@@ -1,6 +1,6 @@
 //! The one access that an entry makes next.
 
-ghost use Rattle.std.specs.Prelude.{◌≡◌, ◌<◌, ◌≤◌, slice_get, Some, None};
+ghost use Rattle.std.specs.Prelude.{◌≡◌, ◌<◌, ◌≤◌, slice_get};
 ghost use Rattle.caller_parts.specs.Codes.{shown_at};
 ghost use Rattle.phase_pools.specs.Accesses.{located};
 ghost use Rattle.caller_parts.specs.declared.routine.Routine.TheVariants.{At};

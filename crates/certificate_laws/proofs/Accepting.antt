@@ -1,10 +1,8 @@
 -- The judge accepts the image of each complete run of scripts of a proper text.
-use Rattle.std.proofs.Common.{◌≡◌, ◌≤◌, ◌<◌, ℕ, ◌+◌, ◌⊎◌, inl, inr, Bool, true, false, List, [], ◌∷◌, ◌++◌, length, map, get_or, Option, Some, None, refl, sym, ap, ◌∙◌, subst, arith}
+use Rattle.std.proofs.Common.{◌≡◌, ◌≤◌, ◌<◌, ℕ, ◌+◌, ◌⊎◌, inl, inr, Bool, true, false, List, length, get_or, Option, Some, None, refl, sym, ap, ◌∙◌, subst, arith}
 use Rattle.std.proofs.lemmas.List.{length-map, length-replicate}
 use Rattle.std.proofs.lemmas.Option.{slice_get-map, slice_get_past, slice_get_cases}
 use Rattle.std.specs.Prelude.{slice_get, option_map, replicate, is_none, unwrap_or}
-use Rattle.norm_lang.specs.declared.text.Text.{Text}
-use Rattle.target_code.specs.declared.target.Target.{Target}
 use Rattle.target_laws.specs.target_runs.Runnable.{IsRunnable}
 use Rattle.source_machine.specs.declared.event.SourceEvent.{SourceEvent}
 use Rattle.norm_lang.specs.declared.reply.SourceReply.{SourceReply}
@@ -15,26 +13,25 @@ use Rattle.source_machine.specs.Run.{IsSourceRun, source_replies}
 use Rattle.source_machine.specs.Proper.{IsProper}
 use Rattle.documents.specs.declared.document.ScriptCall.{ScriptCall}
 use Rattle.caller_parts.specs.declared.call.Call.{Call}
-use Rattle.caller_parts.specs.declared.call.Replied.{Replied}
 use Rattle.caller_parts.specs.declared.routine.Routine.{Routine}
 use Rattle.caller_parts.specs.declared.routine.Routine.TheVariants.{Idle}
 use Rattle.caller_parts.specs.Settings.{Setting, Fits, IsSetting}
 use Rattle.caller_steps.specs.Entries.{Entry, idle_entry, is_idle as rests}
 use Rattle.core_runs.specs.Machine.{CoreState, CoreEvent}
-use Rattle.core_runs.specs.Scripts.{IsCompleteRun, script_of}
+use Rattle.core_runs.specs.Scripts.{IsCompleteRun}
 use Rattle.barrier_check.specs.Paired.{Paired, IsSound}
 use Rattle.oa_simulation.specs.sim_relation.Views.{Plan, Shared, Caller}
 use Rattle.oa_simulation.specs.sim_relation.Callers.{HoldsAt, CallerHolds, replies_of}
-use Rattle.oa_simulation.specs.Shadow.{Shadow, shadow, image}
+use Rattle.oa_simulation.specs.Shadow.{shadow, image}
 use Rattle.oa_simulation.specs.Statements.{AgreesWith}
 use Rattle.oa_simulation.proofs.Lifting.{machine_is}
 use Rattle.oa_simulation.proofs.Refining.{Stood, stands, plan_of, refines}
 use Rattle.event_judge.specs.declared.verdict.Verdict.TheVariants.{Accepted}
 use Rattle.event_judge.specs.Calls.{listed, script_of as lines_of}
 use Rattle.event_judge.specs.Judging.{is_idle, verdict_on}
-use Rattle.event_judge.specs.JudgingLaws.{calls_begun, are_first_calls, BeginInOrder, AllEnded, LastIsOpen, Agrees, AgreesAfter, IsTrueRun}
+use Rattle.event_judge.specs.JudgingLaws.{calls_begun, are_first_calls, Agrees, AgreesAfter, IsTrueRun}
 use Rattle.event_judge.proofs.Verdicts.{accepted_is_true}
-use Rattle.certificate_laws.specs.Certified.{replies_in, spells, Spell, RunsAreAccepted}
+use Rattle.certificate_laws.specs.Certified.{replies_in, Spell, RunsAreAccepted}
 use Rattle.certificate_laws.proofs.Beginning.{begins_first, idle_count, busy_count, none_begun}
 use Rattle.caller_parts.specs.declared.setting.Reclamation.TheVariants.{Optimistic}
 

@@ -1,10 +1,9 @@
 -- The calls that a run begins are the first of each script, and are as many as its replies and the call that runs.
-use Rattle.std.proofs.Common.{◌≡◌, ◌≤◌, ◌<◌, ◌==◌, ◌&&◌, ℕ, zero, suc, ◌+◌, Bool, true, false, List, [], ◌∷◌, ◌++◌, inl, inr, length, map, take, Option, Some, None, refl, sym, ap, ◌∙◌, subst, arith, if◌then◌else◌}
+use Rattle.std.proofs.Common.{◌≡◌, ◌≤◌, ◌==◌, ◌&&◌, ℕ, zero, suc, ◌+◌, Bool, true, false, List, [], ◌∷◌, ◌++◌, inl, inr, length, map, take, Option, Some, None, refl, sym, ap, ◌∙◌, subst, arith, if◌then◌else◌}
 use Rattle.std.proofs.lemmas.Bool.{and_parts}
 use Rattle.std.proofs.lemmas.Bool.Decides.{nat_tests, eqb_tells}
-use Rattle.std.proofs.lemmas.List.{append-nil, take_all, length-map, length-set}
-use Rattle.std.proofs.lemmas.Option.{slice_get_past, slice_get_within}
-use Rattle.std.specs.Prelude.{slice_get, slice_set, replicate}
+use Rattle.std.proofs.lemmas.List.{append-nil, take_all, length-map}
+use Rattle.std.specs.Prelude.{slice_get, slice_set}
 use Rattle.norm_lang.specs.declared.text.Op.{Op}
 use Rattle.norm_lang.specs.declared.text.Text.{Text}
 use Rattle.target_code.specs.declared.target.Target.{Target}
@@ -26,7 +25,7 @@ use Rattle.core_runs.specs.Histories.{running_of, calls_of, calls_in}
 use Rattle.core_runs.specs.Scripts.{IsCompleteRun, script_of, last_steps, HasEnded}
 use Rattle.core_runs.proofs.Keeping.{kept_calls}
 use Rattle.oa_simulation.specs.Shadow.{image}
-use Rattle.run_laws.specs.begin_laws.Begins.{begun_by, begun_in, call_replied, started_of, started, BeginsScript}
+use Rattle.run_laws.specs.begin_laws.Begins.{begun_in, call_replied, started_of, started, BeginsScript}
 use Rattle.run_laws.proofs.begin_laws.RunsBegun.{calls_of_run}
 use Rattle.run_laws.proofs.begin_laws.ScriptsBegun.{scripts_begin}
 use Rattle.event_judge.specs.Calls.{is_call_of_op}
@@ -54,19 +53,17 @@ same_begun c (events.GiveUp d phase ∷ events) = same_begun c events
 -- ---- the first calls of a script
 
 first_calls : (ops : List Op) (n : ℕ) (lines : List ScriptCall) (script : List Call) → spells ops lines script ≡ true → are_first_calls ops (map begun_of (take n script)) lines ≡ true
-first_calls ops zero lines script is = refl
-first_calls ops (suc n) lines [] is = refl
 first_calls ops (suc n) [] (call ∷ script) is = absurd (let no : false ≡ true = is in cc)
 first_calls ops (suc n) (line ∷ lines) (call ∷ script) is =
     let parts = and_parts (is_call_of_op line call.args (slice_get ops call.op)) (spells ops lines script) is in
     ap (λ (b : Bool). b && are_first_calls ops (map begun_of (take n script)) lines) parts.0 ∙ first_calls ops n lines script parts.1
+first_calls ops _ lines _ is = refl
 
 -- ---- of a complete run
 
 last_is : (xs : List Running) (r : Running) → last_steps (xs ++ r ∷ []) ≡ r.steps
-last_is [] r = refl
-last_is (x ∷ []) r = refl
 last_is (x ∷ y ∷ xs) r = last_is (y ∷ xs) r
+last_is _ r = refl
 
 one_call_more : (xs : List Replied) (call : Call) → length (map call_replied xs ++ call ∷ []) ≡ length xs + 1
 one_call_more [] call = refl
@@ -122,11 +119,9 @@ module _ (target : Target) (text : Text) (setting : Setting) (optimistic : setti
 -- ---- a caller that doesn't exist begins nothing
 
 set_none : (xs : List SourceCaller) (k c : ℕ) (x : SourceCaller) → slice_get xs c ≡ None → slice_get (slice_set xs k x) c ≡ None
-set_none [] k c x none = none
 set_none (y ∷ ys) zero zero x none = absurd (let no : Some y ≡ None = none in cc)
-set_none (y ∷ ys) zero (suc c) x none = none
-set_none (y ∷ ys) (suc k) zero x none = none
 set_none (y ∷ ys) (suc k) (suc c) x none = set_none ys k c x none
+set_none _ _ _ x none = none
 
 step_none : (text : Text) (event : SourceEvent) (o : Option SourceCaller) (state : SourceMachine) (c : ℕ) → slice_get state.callers c ≡ None → slice_get (step_of text event o state).callers c ≡ None
 step_none text event None state c none = none

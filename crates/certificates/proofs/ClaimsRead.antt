@@ -1,28 +1,26 @@
 -- Replies that are spelled, and read back.
-use Rattle.std.specs.Prelude.{◌≡◌, ℕ, zero, suc, ◌+◌, ◌-◌, ◌<◌, ◌≤◌, ◌&&◌, Bool, true, false, List, [], ◌∷◌, ◌++◌, map, length, replicate, Some, slice_get, slice_set, Result, Ok, Err, codes, decimal, nat_lt, nat_le}
+use Rattle.std.specs.Prelude.{◌≡◌, ℕ, zero, suc, ◌+◌, ◌-◌, ◌<◌, ◌≤◌, true, false, List, [], ◌∷◌, ◌++◌, map, length, replicate, Some, slice_get, slice_set, Result, Ok, codes, decimal}
 use Rattle.std.specs.List.{list_all}
-use Rattle.std.proofs.Common.{refl, ap, sym, ◌∙◌, subst, arith, append_assoc, length-append}
+use Rattle.std.proofs.Common.{refl, ap, sym, ◌∙◌, arith, append_assoc, length-append}
 use Rattle.std.proofs.Math.Seq.{set-append_seam}
 use Rattle.std.proofs.lemmas.Bool.{and_parts, lt-ltb, le-leb, ltb-true, false_from_ne_true}
 use Rattle.std.proofs.lemmas.Slice.Eq.{bytes_eq-Decides}
 use Rattle.std.specs.Str.{bytes_eq}
 use Rattle.oa_text.specs.Numbers.{is_numeral}
-use Rattle.text_laws.proofs.SpelledWords.{decimal_numeral}
+use Rattle.oa_text.proofs.Again.{decimal_numeral}
 use Rattle.std.proofs.lemmas.List.{append-nil}
 use Rattle.norm_lang.specs.declared.text.Op.{Op}
-use Rattle.norm_lang.specs.Limits.{is_number}
+use Rattle.norm_lang.specs.Limits.{is_number, is_reply}
 use Rattle.line_words.specs.Lines.{first_word}
 use Rattle.source_machine.specs.declared.event.SourceEvent.{SourceEvent}
 use Rattle.norm_lang.specs.declared.reply.SourceReply.{SourceReply}
 use Rattle.norm_lang.specs.declared.reply.SourceReply.TheVariants as replies
 use Rattle.text_laws.proofs.WordsRead.{number_read}
 use Rattle.certificates.specs.declared.account.Account.{Account}
-use Rattle.certificates.specs.declared.replies.Claim.{Claim}
 use Rattle.certificates.specs.EventLines.{Spelled, reply_by, claim_line}
 use Rattle.certificates.specs.Accounts.{grown, list_at, with_claim, after_words}
 use Rattle.certificates.specs.CertificateSpelling.{reply_words, spelled_reply, replies_lines}
 use Rattle.certificates.proofs.Tables.{grown_whole}
-use Rattle.certificates.specs.CertificateLaws.{is_reply}
 use Rattle.certificates.proofs.EventsRead.{after_told, line_then}
 
 -- behind the events, and these replies
@@ -49,15 +47,12 @@ claim_read : (scripts so_far c : ℕ) (reply : SourceReply) → c < scripts → 
 claim_read scripts so_far c (replies.Number n) below rising few is =
     let small : is_number c ≡ true = lt-ltb c _ (omega (arith, below, few)) in
     rw (number_read c small, reply_number n is, lt-ltb c scripts below, le-leb so_far (c + 1) rising) refl
-claim_read scripts so_far c replies.Nothing below rising few is =
-    let small : is_number c ≡ true = lt-ltb c _ (omega (arith, below, few)) in
-    rw (number_read c small, lt-ltb c scripts below, le-leb so_far (c + 1) rising) refl
-claim_read scripts so_far c replies.Full below rising few is =
-    let small : is_number c ≡ true = lt-ltb c _ (omega (arith, below, few)) in
-    rw (number_read c small, lt-ltb c scripts below, le-leb so_far (c + 1) rising) refl
 claim_read scripts so_far c (replies.Phases p) below rising few is =
     let small : is_number c ≡ true = lt-ltb c _ (omega (arith, below, few)) in
     rw (number_read c small, number_read p is, lt-ltb c scripts below, le-leb so_far (c + 1) rising) refl
+claim_read scripts so_far c _ below rising few is =
+    let small : is_number c ≡ true = lt-ltb c _ (omega (arith, below, few)) in
+    rw (number_read c small, lt-ltb c scripts below, le-leb so_far (c + 1) rising) refl
 
 reply_read : (ops : List Op) (scripts : ℕ) (events : List SourceEvent) (lists : List (List SourceReply)) (c : ℕ) (reply : SourceReply) → c < scripts → length lists ≤ c + 1 → scripts ≤ 256 → is_reply reply ≡ true
     → after_words ops scripts (with_lists events lists) (first_word (spelled_reply c reply)) ≡ Ok (with_lists events (with_claim (record { caller = c; reply = reply }) lists))

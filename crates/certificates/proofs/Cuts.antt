@@ -1,5 +1,5 @@
 -- Lines that are cut: none has more bytes than there are, and the bytes before one have no more lines than all.
-use Rattle.std.proofs.Common.{ℕ, zero, suc, ◌+◌, ◌<◌, ◌≤◌, ◌≡◌, ◌==◌, ◌∙◌, ◌&&◌, ◌||◌, Bool, true, false, cond, List, [], ◌∷◌, length, take, Option, Some, None, sym, ap, refl, subst, arith}
+use Rattle.std.proofs.Common.{ℕ, suc, ◌+◌, ◌≤◌, ◌≡◌, ◌==◌, ◌&&◌, ◌||◌, Bool, true, false, cond, List, [], ◌∷◌, length, take, Some, None, ap, arith}
 use Rattle.std.specs.Prelude.{is_none, codes}
 use Rattle.oa_text.specs.Lines.{TextLine, onto, lines_of, numbered}
 use Rattle.certificates.specs.CertificateRead.{word_of, begins_with, room_of, Cut, cut_from}
@@ -48,10 +48,9 @@ onto_fewer b (x ∷ xs) (y ∷ ys) h = h
 
 -- first bytes have no more lines than all
 pub fewer_lines : (n : ℕ) (bytes : List ℕ) → length (lines_of (take n bytes)) ≤ length (lines_of bytes)
-fewer_lines zero bytes = omega arith
-fewer_lines (suc n) [] = omega arith
 fewer_lines (suc n) (b ∷ bytes) = of (b == 10) (fewer_lines n bytes) where
   of : (t : Bool) → length (lines_of (take n bytes)) ≤ length (lines_of bytes)
       → length (cond t ([] ∷ lines_of (take n bytes)) (onto b (lines_of (take n bytes)))) ≤ length (cond t ([] ∷ lines_of bytes) (onto b (lines_of bytes)))
   of true more = omega (arith, more)
   of false more = onto_fewer b (lines_of (take n bytes)) (lines_of bytes) more
+fewer_lines _ _ = omega arith

@@ -1,18 +1,15 @@
 -- Where the document of a spelled certificate ends.
-use Rattle.std.specs.Prelude.{◌≡◌, ℕ, zero, suc, ◌+◌, ◌≤◌, ◌&&◌, ◌||◌, not, Bool, true, false, List, [], ◌∷◌, ◌++◌, map, length, Option, Some, None, Result, Ok, Err, codes, decimal}
-use Rattle.std.specs.List.{list_all, flat_map, AllByRecursion}
+use Rattle.std.specs.Prelude.{◌≡◌, ℕ, ◌+◌, ◌||◌, Bool, true, false, List, [], ◌∷◌, ◌++◌, map, length, Some, None, codes, decimal}
+use Rattle.std.specs.List.{flat_map, AllByRecursion}
 use Rattle.std.specs.Str.{bytes_eq}
-use Rattle.std.proofs.Common.{refl, ap, sym, ◌∙◌, cond, arith, append_assoc, length-append}
-use Rattle.std.proofs.lemmas.Bool.{and_parts, or_parts}
+use Rattle.std.proofs.Common.{refl, ap, ◌∙◌, cond, arith, length-append}
+use Rattle.std.proofs.lemmas.Bool.{or_parts}
 use Rattle.std.proofs.lemmas.Grind.{flat_map-append}
 use Rattle.oa_text.specs.Lines.{TextLine}
-use Rattle.norm_lang.specs.declared.text.Text.{Text}
 use Rattle.norm_lang.specs.Grammar.{is_comment}
-use Rattle.norm_lang.specs.Limits.{is_within_limits}
-use Rattle.norm_lang.specs.Declarations.{is_reserved}
 use Rattle.norm_lang.specs.Spelling.{joined_words, line_bytes, spelled}
 use Rattle.line_words.specs.Lines.{first_word}
-use Rattle.norm_parser.specs.FrontRead.{front_of, ends_text, names_text}
+use Rattle.norm_parser.specs.FrontRead.{front_of}
 use Rattle.schedule_turns.specs.declared.turn.Turn.{Turn}
 use Rattle.schedule_turns.specs.declared.turn.Turn.TheVariants as turns
 use Rattle.documents.specs.declared.document.ScriptCall.{ScriptCall}
@@ -23,7 +20,7 @@ use Rattle.document_spelling.proofs.JoinedWords.{IsPlain}
 use Rattle.document_spelling.proofs.DocumentParts.{IsCall, IsScript, IsStated}
 use Rattle.document_spelling.proofs.OwnLines.{all_both, own_lines, own_free, IsFree}
 use Rattle.document_spelling.proofs.SpelledFront.{found_from}
-use Rattle.certificates.specs.CertificateRead.{word_in, word_of, begins_with, Cut, cut_from}
+use Rattle.certificates.specs.CertificateRead.{word_in, word_of, cut_from}
 
 -- ---- the word that a spelled line begins with
 
@@ -123,8 +120,7 @@ first_other document is =
 
 turn_other : (turn : Turn) → IsOther (codes "events") (spelled_turn turn)
 turn_other (turns.Step caller count) = refl
-turn_other (turns.Upto caller kind count) = refl
-turn_other (turns.Ops caller count) = refl
+turn_other _ = refl
 
 turns_other : (schedule : List Turn) → AllByRecursion (IsOther (codes "events")) (map spelled_turn schedule)
 turns_other [] = tt

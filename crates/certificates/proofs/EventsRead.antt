@@ -1,21 +1,21 @@
 -- Events that are spelled, and read back.
-use Rattle.std.specs.Prelude.{◌≡◌, ℕ, zero, suc, ◌+◌, ◌^◌, ◌<◌, ◌≤◌, ◌&&◌, ◌==◌, Bool, true, false, List, [], ◌∷◌, ◌++◌, map, length, take, drop, Option, Some, None, slice_get, Result, Ok, Err, codes, decimal, nat_lt, nat_le}
+use Rattle.std.specs.Prelude.{◌≡◌, ℕ, zero, suc, ◌+◌, ◌^◌, ◌≤◌, ◌==◌, Bool, true, false, List, [], ◌∷◌, ◌++◌, map, length, take, drop, Option, Some, None, slice_get, Result, Ok, Err, decimal, nat_lt}
 use Rattle.std.specs.List.{list_all, AllByRecursion}
 use Rattle.std.proofs.Common.{refl, ap, sym, ◌∙◌, subst, arith, append_assoc}
-use Rattle.std.proofs.lemmas.Bool.{and_parts, eqb-true, eq-eqb, leb-true}
+use Rattle.std.proofs.lemmas.Bool.{and_parts, eqb-true, eq-eqb}
 use Rattle.std.proofs.lemmas.Bool.Decides.{nat_tests}
 use Rattle.std.proofs.lemmas.List.{append-nil}
 use Rattle.norm_lang.specs.declared.text.Op.{Op}
 use Rattle.norm_lang.specs.declared.text.Text.{Text}
 use Rattle.norm_lang.specs.Faults.{◌>>=◌, at_line}
-use Rattle.norm_lang.specs.LineWords.{is_name, number_in}
+use Rattle.norm_lang.specs.LineWords.{is_name}
 use Rattle.norm_lang.specs.Limits.{is_number, is_op, is_within_limits}
 use Rattle.norm_lang.specs.Spelling.{joined_words}
 use Rattle.line_words.specs.Lines.{first_word}
 use Rattle.source_machine.specs.declared.event.SourceEvent.{SourceEvent}
 use Rattle.source_machine.specs.declared.event.SourceEvent.TheVariants as events
-use Rattle.norm_lang.specs.declared.reply.SourceReply.{SourceReply}
-use Rattle.source_machine.specs.Run.{are_words, are_arguments, is_call_of, is_call}
+use Rattle.norm_lang.specs.Arguments.{are_words, are_arguments}
+use Rattle.source_machine.specs.Run.{is_call_of, is_call}
 use Rattle.text_laws.proofs.WordsRead.{number_read, named_at}
 use Rattle.text_laws.proofs.WithinLimits.{OpParts, op_parts_of, parts_of}
 use Rattle.text_laws.proofs.TextsSaid.{no_fault}
@@ -75,12 +75,8 @@ pub record Four (words : List ℕ) : Type 0 where
   pub same : words ≡ a ∷ b ∷ c ∷ d ∷ []
 
 pub four : (words : List ℕ) → length words ≡ 4 → Four words
-four [] e = absurd (omega (arith, e))
-four (a ∷ []) e = absurd (omega (arith, e))
-four (a ∷ b ∷ []) e = absurd (omega (arith, e))
-four (a ∷ b ∷ c ∷ []) e = absurd (omega (arith, e))
 four (a ∷ b ∷ c ∷ d ∷ []) e = record { a = a; b = b; c = c; d = d; same = refl }
-four (a ∷ b ∷ c ∷ d ∷ more ∷ rest) e = absurd (omega (arith, e))
+four _ e = absurd (omega (arith, e))
 
 -- the words of the arguments are read as they are
 pub Reads : ℕ → List ℕ → Type 0

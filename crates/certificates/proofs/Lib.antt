@@ -7,4 +7,3 @@ mod ClaimsRead
 mod CutsFound
 mod ReadBack
 mod WhatIsRead
-mod Digits

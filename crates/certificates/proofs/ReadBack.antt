@@ -1,44 +1,44 @@
 -- What is read of the spelling of a certificate is the same certificate, but for the lines of its document's calls.
-use Rattle.std.specs.Prelude.{◌≡◌, ℕ, zero, suc, ◌+◌, ◌^◌, ◌<◌, ◌≤◌, ◌&&◌, ◌==◌, Bool, true, false, List, [], ◌∷◌, ◌++◌, map, length, take, drop, Option, Some, None, slice_get, Result, Ok, codes, decimal, nat_lt, nat_le}
+use Rattle.std.specs.Prelude.{◌≡◌, ℕ, suc, ◌+◌, ◌^◌, ◌≤◌, ◌&&◌, ◌==◌, true, false, List, [], ◌∷◌, ◌++◌, map, length, take, drop, Option, Some, None, slice_get, Ok, codes, decimal, nat_lt, nat_le}
 use Rattle.std.specs.List.{list_all, flat_map, AllByRecursion}
-use Rattle.std.proofs.Common.{refl, ap, sym, ◌∙◌, subst, arith, append_assoc, length-append}
+use Rattle.std.proofs.Common.{refl, ap, sym, ◌∙◌, subst, arith, append_assoc}
 use Rattle.std.proofs.lemmas.List.{length-map}
 use Rattle.std.proofs.lemmas.Bool.{and_parts, ltb-true, lt-ltb, leb-true, eqb-true}
 use Rattle.std.proofs.lemmas.Grind.{flat_map-append}
-use Rattle.oa_text.specs.Lines.{TextLine, lines_of, numbered}
+use Rattle.oa_text.specs.Lines.{lines_of, numbered}
 use Rattle.norm_lang.specs.declared.text.Op.{Op}
 use Rattle.norm_lang.specs.declared.text.Text.{Text}
 use Rattle.norm_lang.specs.declared.text.Version.TheVariants.{Second}
 use Rattle.norm_lang.specs.LineWords.{is_name, end_at}
-use Rattle.norm_lang.specs.Limits.{is_number, is_op, is_within_limits}
+use Rattle.norm_lang.specs.Limits.{is_number, is_op, is_within_limits, is_reply}
 use Rattle.norm_lang.specs.Spelling.{joined_words, line_bytes, spelled}
 use Rattle.norm_lang.proofs.SpelledLines.{is_visible, IsWord}
 use Rattle.source_machine.specs.declared.event.SourceEvent.{SourceEvent}
 use Rattle.source_machine.specs.declared.event.SourceEvent.TheVariants as events
 use Rattle.norm_lang.specs.declared.reply.SourceReply.{SourceReply}
 use Rattle.norm_lang.specs.declared.reply.SourceReply.TheVariants as replies
-use Rattle.source_machine.specs.Run.{are_words, is_call_of, is_call}
+use Rattle.norm_lang.specs.Arguments.{are_words}
+use Rattle.source_machine.specs.Run.{is_call_of, is_call}
 use Rattle.documents.specs.declared.document.ScriptCall.{ScriptCall}
 use Rattle.documents.specs.declared.document.Document.{Document}
-use Rattle.documents.specs.DocumentRead.{document_read, IsDocument}
+use Rattle.documents.specs.DocumentRead.{document_read}
 use Rattle.text_laws.proofs.LinesSpelled.{version_is, kind_line_is}
 use Rattle.text_laws.proofs.SpelledWords.{decimal_word}
 use Rattle.text_laws.proofs.TextsSaid.{no_fault}
 use Rattle.text_laws.proofs.WithinLimits.{KindParts, OpParts, op_parts_of, parts_of}
-use Rattle.document_spelling.specs.Spelling.{setting_lines, scripts_lines, spelled_turn, turn_lines, document_lines, spelling_with}
+use Rattle.document_spelling.specs.Spelling.{setting_lines, scripts_lines, spelled_turn, document_lines, spelling_with}
 use Rattle.document_spelling.specs.SpellingLaws.{placeless, AreAlike}
 use Rattle.document_spelling.proofs.JoinedWords.{IsPlain, line_is_plain, lines_found}
 use Rattle.document_spelling.proofs.DocumentParts.{IsStated, is_stated}
 use Rattle.document_spelling.proofs.OwnLines.{all_both, own_lines, own_are, lines_are_plain}
 use Rattle.document_spelling.proofs.SpelledFront.{found_from}
-use Rattle.document_spelling.proofs.TailPlain.{tail_lines, tail_plain}
+use Rattle.document_spelling.proofs.TailPlain.{tail_plain}
 use Rattle.document_spelling.proofs.SpellingsRead.{spellings_are_read}
 use Rattle.certificates.specs.declared.account.Account.{Account}
-use Rattle.certificates.specs.declared.certificate.Certificate.{Certificate}
 use Rattle.certificates.specs.Accounts.{grown, no_account, after_lines}
-use Rattle.certificates.specs.CertificateRead.{Cut, cut_from, events_line, certificate_of, certificate_read, IsCertificate}
-use Rattle.certificates.specs.CertificateSpelling.{call_words, spelled_event, reply_words, spelled_reply, replies_lines, account_lines, certificate_lines, certificate_spelling}
-use Rattle.certificates.specs.CertificateLaws.{is_caller, is_event, is_reply, IsTold, AreLike, CertificatesAreRead}
+use Rattle.certificates.specs.CertificateRead.{Cut, cut_from, events_line, certificate_of, certificate_read}
+use Rattle.certificates.specs.CertificateSpelling.{call_words, spelled_event, spelled_reply, replies_lines, certificate_lines, certificate_spelling}
+use Rattle.certificates.specs.CertificateLaws.{is_caller, is_event, CertificatesAreRead}
 use Rattle.certificates.proofs.EventsRead.{passes_at, after_told, line_then, lines_read, small, with_events, events_read}
 use Rattle.certificates.proofs.ClaimsRead.{with_lists, Read, lists_read}
 use Rattle.certificates.proofs.CutsFound.{first_lines, cut_found}
@@ -74,16 +74,14 @@ four_words one two three four first second third fourth =
     line_is_plain (one ∷ two ∷ three ∷ four ∷ []) (record { few = omega arith; word = (first, (second, (third, (fourth, tt)))) })
 
 taken_words : (n : ℕ) (words : List ℕ) → list_all is_number words ≡ true → AllByRecursion IsWord (map decimal (take n words))
-taken_words zero words all = tt
-taken_words (suc n) [] all = tt
 taken_words (suc n) (w ∷ words) all =
     let parts = and_parts (is_number w) (list_all is_number words) all in
     (number_word w parts.0, taken_words n words parts.1)
+taken_words _ _ all = tt
 
 taken_few : (n : ℕ) (words : List ℕ) → length (map decimal (take n words)) ≤ length words
-taken_few zero words = omega arith
-taken_few (suc n) [] = omega arith
 taken_few (suc n) (w ∷ words) = let more : length (map decimal (take n words)) ≤ length words = taken_few n words in omega (arith, more)
+taken_few _ _ = omega arith
 
 begin_plain : (text : Text) → is_within_limits text ≡ true → (c op : ℕ) (words : List ℕ) (o : Option Op) → slice_get text.ops op ≡ o → is_caller c ≡ true → is_call_of o words ≡ true
     → IsPlain (codes "begin" ∷ decimal c ∷ call_words o words)

@@ -1,5 +1,5 @@
 -- Lists of replies that grow.
-use Rattle.std.proofs.Common.{ℕ, zero, suc, ◌+◌, ◌-◌, ◌<◌, ◌≤◌, ◌≡◌, ◌∙◌, ◌++◌, List, [], ◌∷◌, length, replicate, sym, ap, refl, arith, append_assoc, length-append}
+use Rattle.std.proofs.Common.{ℕ, suc, ◌-◌, ◌<◌, ◌≤◌, ◌≡◌, ◌∙◌, ◌++◌, List, [], ◌∷◌, length, replicate, sym, ap, arith, append_assoc, length-append}
 use Rattle.std.proofs.lemmas.List.{append-nil}
 use Rattle.norm_lang.specs.declared.reply.SourceReply.{SourceReply}
 use Rattle.certificates.specs.Accounts.{grown}

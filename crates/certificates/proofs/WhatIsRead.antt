@@ -1,10 +1,10 @@
 -- A certificate that is read is one that can be told: its numbers are numbers of their types, its begins are of calls of the text, and it has a
 -- list of replies for each script.
-use Rattle.std.specs.Prelude.{◌≡◌, ℕ, zero, suc, ◌+◌, ◌-◌, ◌^◌, ◌<◌, ◌≤◌, ◌&&◌, ◌==◌, not, Bool, true, false, cond, List, [], ◌∷◌, ◌++◌, map, length, take, drop, replicate, Option, Some, None, slice_get, slice_set, Result, Ok, Err, IfOk, codes, nat_lt, nat_le}
+use Rattle.std.specs.Prelude.{◌≡◌, ℕ, zero, suc, ◌+◌, ◌-◌, ◌<◌, ◌≤◌, ◌&&◌, ◌==◌, not, Bool, true, false, cond, List, [], ◌∷◌, ◌++◌, length, take, drop, replicate, Option, Some, None, slice_get, slice_set, Result, Ok, Err, IfOk, codes, nat_lt, nat_le}
 use Rattle.std.specs.List.{list_all, position_or_len}
 use Rattle.std.specs.Str.{bytes_eq}
-use Rattle.std.proofs.Common.{refl, ap, sym, ◌∙◌, subst, arith, append_assoc, length-append}
-use Rattle.std.proofs.lemmas.Bool.{and_parts, and_from, eqb-true, eq-eqb, ltb-true, leb-true}
+use Rattle.std.proofs.Common.{refl, ap, sym, ◌∙◌, subst, arith, length-append}
+use Rattle.std.proofs.lemmas.Bool.{and_parts, and_from, eqb-true, eq-eqb, ltb-true}
 use Rattle.std.proofs.lemmas.Bool.Decides.{nat_tests}
 use Rattle.std.proofs.lemmas.List.{length-set, length-replicate}
 use Rattle.std.proofs.lemmas.List.Folds.{list_all-append}
@@ -12,29 +12,29 @@ use Rattle.oa_text.specs.Lines.{TextLine, lines_of, numbered}
 use Rattle.norm_lang.specs.declared.text.Op.{Op}
 use Rattle.norm_lang.specs.declared.text.Text.{Text}
 use Rattle.norm_lang.specs.Faults.{form_fault, number_fault, unknown_name, ◌>>=◌, LineFault, demand, or_fault, at_line}
-use Rattle.norm_lang.specs.LineWords.{number_in, number_at, end_at, word_at, value_of}
-use Rattle.norm_lang.specs.Limits.{is_number, is_op, is_within_limits}
+use Rattle.norm_lang.specs.LineWords.{number_in, end_at, word_at, value_of}
+use Rattle.norm_lang.specs.Limits.{is_number, is_op, is_within_limits, is_reply}
 use Rattle.line_words.specs.Lines.{words_in, first_word}
 use Rattle.source_machine.specs.declared.event.SourceEvent.{SourceEvent}
 use Rattle.source_machine.specs.declared.event.SourceEvent.TheVariants as events
 use Rattle.norm_lang.specs.declared.reply.SourceReply.{SourceReply}
-use Rattle.norm_lang.specs.declared.reply.SourceReply.TheVariants as replies
-use Rattle.source_machine.specs.Run.{are_words, are_arguments, is_call_of, is_call}
+use Rattle.norm_lang.specs.Arguments.{are_words}
+use Rattle.source_machine.specs.Run.{is_call_of, is_call}
 use Rattle.documents.specs.declared.document.Document.{Document}
 use Rattle.documents.specs.DocumentRead.{document_read}
 use Rattle.text_laws.proofs.Readings.{then_has, anyhow, demanded, either}
 use Rattle.text_laws.proofs.LineLimits.{Fits, number_in_fits, number_then, name_then, value_then, up_to_then}
 use Rattle.text_laws.proofs.DraftLimits.{at_line_has}
 use Rattle.text_laws.proofs.WithinLimits.{OpParts, op_parts_of, parts_of}
-use Rattle.document_spelling.proofs.DocumentParts.{IsStated, is_stated}
+use Rattle.document_spelling.proofs.DocumentParts.{is_stated}
 use Rattle.certificates.specs.declared.account.Account.{Account}
 use Rattle.certificates.specs.declared.certificate.Certificate.{Certificate}
 use Rattle.certificates.specs.declared.numbers.Numbers.{Numbers}
 use Rattle.certificates.specs.declared.replies.Claim.{Claim}
 use Rattle.certificates.specs.EventLines.{caller_in, no_numbers, counted, with_number, numbers_from, op_named, may_take, may_take_at, begin_line, access_line, lone_caller, phases_line, event_line, ReplyWord, Spelled, Nothing, Full, Phases, reply_by, reply_of, may_reply, claim_line}
-use Rattle.certificates.specs.Accounts.{grown, list_at, with_claim, no_account, in_events, in_claims, after_word, after_words, after_line, after_lines}
-use Rattle.certificates.specs.CertificateRead.{Cut, cut_from, events_line, ends_early, certificate_of, whole, read_at, certificate_read}
-use Rattle.certificates.specs.CertificateLaws.{is_caller, is_event, is_reply, IsTold, WhatIsReadIsTold}
+use Rattle.certificates.specs.Accounts.{grown, list_at, with_claim, no_account, after_word, after_words, after_line, after_lines}
+use Rattle.certificates.specs.CertificateRead.{Cut, cut_from, events_line, certificate_of, whole, read_at, certificate_read}
+use Rattle.certificates.specs.CertificateLaws.{is_caller, is_event, IsTold, WhatIsReadIsTold}
 use Rattle.certificates.proofs.EventsRead.{passes_at}
 
 -- ---- numbers
@@ -201,9 +201,8 @@ word_told word rest =
 
 reply_told : (word : ReplyWord) → IsSpelled word → IfOk (reply_of word) (λ reply. is_reply reply ≡ true)
 reply_told (Spelled number) fits = value_then number _ (λ reply. is_reply reply ≡ true) fits λ n is. is
-reply_told Nothing fits = refl
-reply_told Full fits = refl
 reply_told (Phases phase) fits = value_then phase _ (λ reply. is_reply reply ≡ true) fits λ p is. is
+reply_told _ fits = refl
 
 record IsClaim (scripts : ℕ) (claim : Claim) : Type 0 where
   below : claim.caller < scripts

@@ -8,7 +8,7 @@
 --   a reply's caller told as too large                                no_such_caller
 --   a reply put in another caller's list                              later_caller
 --   `events` taken for the end of a document in a script              call_of_events
-use Rattle.std.specs.Prelude.{◌≡◌, ℕ, ◌++◌, List, [], ◌∷◌, Option, Some, None, Result, Ok, Err, codes, refl}
+use Rattle.std.specs.Prelude.{◌≡◌, ℕ, ◌++◌, List, [], ◌∷◌, Some, None, Result, Ok, Err, codes, refl}
 use Rattle.norm_lang.specs.declared.text.Instr.TheVariants.{Commit, ReturnNone}
 use Rattle.norm_lang.specs.declared.text.Op.{Op}
 use Rattle.norm_lang.specs.Faults.{LineFault}

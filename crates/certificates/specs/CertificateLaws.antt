@@ -2,11 +2,9 @@
 use Rattle.std.specs.Prelude.{◌≡◌, ℕ, Bool, true, ◌&&◌, List, length, Some, None, nat_le}
 use Rattle.std.specs.List.{list_all}
 use Rattle.norm_lang.specs.declared.text.Text.{Text}
-use Rattle.norm_lang.specs.Limits.{is_number}
+use Rattle.norm_lang.specs.Limits.{is_number, is_reply}
 use Rattle.source_machine.specs.declared.event.SourceEvent.{SourceEvent}
 use Rattle.source_machine.specs.declared.event.SourceEvent.TheVariants as events
-use Rattle.norm_lang.specs.declared.reply.SourceReply.{SourceReply}
-use Rattle.norm_lang.specs.declared.reply.SourceReply.TheVariants as replies
 use Rattle.source_machine.specs.Run.{is_call}
 use Rattle.documents.specs.DocumentLimits.{most_caller}
 use Rattle.documents.specs.DocumentRead.{IsDocument}
@@ -26,12 +24,6 @@ is_event text (events.Access c name) = is_caller c && is_number name
 is_event text (events.Restart c) = is_caller c
 is_event text (events.GiveUp c None) = is_caller c
 is_event text (events.GiveUp c (Some phase)) = is_caller c && is_number phase
-
-abbrev pub is_reply : SourceReply → Bool
-is_reply (replies.Number n) = is_number n
-is_reply replies.Nothing = true
-is_reply replies.Full = true
-is_reply (replies.Phases p) = is_number p
 
 -- a certificate of a document for which bytes stand, with such events and replies, and a list of replies for each script
 pub record IsTold (certificate : Certificate) : Type 0 where

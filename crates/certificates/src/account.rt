@@ -1,6 +1,6 @@
 //! What the lines behind `events` say so far.
 
-ghost use Rattle.std.specs.Prelude.{◌≡◌, ◌≤◌, ◌<◌, length};
+ghost use Rattle.std.specs.Prelude.{◌≡◌, ◌<◌, length};
 ghost use Rattle.oa_text.specs.Shown.{line_shown};
 ghost use Rattle.norm_lang.specs.Faults.{at_line};
 ghost use Rattle.line_words.specs.Answered.{Gives, Answers};

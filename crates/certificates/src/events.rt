@@ -1,6 +1,6 @@
 //! The lines of events, each after its first word.
 
-ghost use Rattle.std.specs.Prelude.{◌≡◌, ◌≤◌, ◌<◌, length, IfSome, option_copied, slice_get};
+ghost use Rattle.std.specs.Prelude.{◌≡◌, ◌<◌, length, option_copied};
 ghost use Rattle.line_words.specs.Answered.{Reads};
 ghost use Rattle.certificates.specs.EventLines.{op_named, may_take, may_take_at, caller_in, begin_line, access_line, lone_caller, phases_line, event_line};
 

@@ -1,17 +1,18 @@
 //! The canonical spelling of a certificate.
 
-ghost use Rattle.std.specs.Prelude.{◌≡◌, ◌<◌, ◌∷◌, ◌++◌, OnOk, IfOk, [], codes, map, decimal, take, option_copied, slice_get};
+ghost use Rattle.std.specs.Prelude.{◌≡◌, ◌∷◌, ◌++◌, OnOk, IfOk, [], codes, map, decimal, take, option_copied};
 ghost use Rattle.std.specs.List.{flat_map};
 ghost use Rattle.norm_lang.specs.Spelling.{spaced, line_bytes};
-ghost use Rattle.certificates.specs.CertificateSpelling.{owed_lines, call_words, spelled_event, reply_words, spelled_reply, replies_lines, account_lines, certificate_spelling};
+ghost use Rattle.certificates.specs.CertificateSpelling.{owed_lines, call_words, spelled_event, spelled_reply, replies_lines, account_lines, certificate_spelling};
 ghost use Rattle.source_machine.specs.declared.event.SourceEvent.TheVariants as events;
 
 use crate::certificate::{Certificate, ReplyList};
 use document_spelling::show_document;
 use norm_lang::list::Listed;
-use norm_lang::spelling::put_line;
+use norm_lang::spelling::{put_line, put_numbers};
 use norm_lang::text::{ByteText, Op};
 use norm_lang::word::Word::{Bytes, Number};
+use oa_text::put_decimal;
 use schedule_turns::Turn;
 use source_machine::{SourceEvent, SourceReply};
 use std::alloc::{AllocError, Global};
@@ -25,37 +26,6 @@ fn put_owed(alloc: Global, out: &mut Vec<u8>, schedule: &[Turn]) -> Result<(), A
     } else {
         Ok(())
     }
-}
-
-/// A number of one digit, for which no memory is taken but that of the output.
-#[tactic(auto, using(crate::proofs::Digits::one_digit))]
-fn put_digit(out: &mut Vec<u8>, n: u8) -> Result<(), AllocError>
-    requires { n < 10 }
-    ensures { OnOk result (out.new.items ≡ out.old.items ++ decimal n) }
-{
-    out.push(b'0' + n)?;
-    Ok(())
-}
-
-fn put_number(alloc: Global, out: &mut Vec<u8>, n: u64) -> Result<(), AllocError>
-    ensures { OnOk result (out.new.items ≡ out.old.items ++ decimal n) }
-{
-    if n < 10 {
-        return put_digit(out, n as u8);
-    }
-    let digits = n.to_string(alloc)?;
-    out.extend_from_slice(digits.as_bytes())
-}
-
-/// Each number after a space.
-fn put_numbers(alloc: Global, out: &mut Vec<u8>, numbers: &[u64]) -> Result<(), AllocError>
-    ensures { OnOk result (out.new.items ≡ out.old.items ++ spaced (map decimal numbers.now)) }
-{
-    for n in numbers {
-        out.push(b' ')?;
-        put_number(alloc, out, *n)?;
-    }
-    Ok(())
 }
 
 /// The first words, as many as an operation takes.
@@ -99,7 +69,7 @@ fn put_begin(
     ensures { OnOk result (out.new.items ≡ out.old.items ++ line_bytes (codes "begin" ∷ decimal caller ∷ call_words (option_copied op.entry) words.now)) }
 {
     out.extend_from_slice(b"begin ")?;
-    put_number(alloc, out, caller as u64)?;
+    put_decimal(alloc, out, caller as u64)?;
     put_call(alloc, out, op, words)?;
     out.push(b'\n')?;
     Ok(())
@@ -110,9 +80,9 @@ fn put_access(alloc: Global, out: &mut Vec<u8>, caller: u32, name: u64) -> Resul
     ensures { OnOk result (out.new.items ≡ out.old.items ++ line_bytes (codes "access" ∷ decimal caller ∷ decimal name ∷ [])) }
 {
     out.extend_from_slice(b"access ")?;
-    put_number(alloc, out, caller as u64)?;
+    put_decimal(alloc, out, caller as u64)?;
     out.push(b' ')?;
-    put_number(alloc, out, name)?;
+    put_decimal(alloc, out, name)?;
     out.push(b'\n')?;
     Ok(())
 }

@@ -58,28 +58,18 @@ slot_up range stamped stamped' phase phase' j word word' (Retired tag) le up sam
 -- a slot of the chain is none of null
 in_chain : (range : SlotRange) (stamped phase j word : ℕ) (o : Owner) → once o ≢ 0 → SlotHolds range stamped phase j word o → IsSlot range j
 in_chain range stamped phase j word Chained some is = is.0
-in_chain range stamped phase j word (Taken c) some is = absurd (some refl)
-in_chain range stamped phase j word (Pushing c s) some is = absurd (some refl)
-in_chain range stamped phase j word Outside some is = absurd (some refl)
-in_chain range stamped phase j word (Retiring c tag) some is = absurd (some refl)
-in_chain range stamped phase j word (Retired tag) some is = absurd (some refl)
+in_chain range stamped phase j word _ some is = absurd (some refl)
 
 -- and a caller has none of null
 pub is_callers : (range : SlotRange) (stamped phase j word c : ℕ) (o : Owner) → caller_of o ≡ Some c → SlotHolds range stamped phase j word o → IsSlot range j
-is_callers range stamped phase j word c Chained is slot = absurd (let z : None ≡ Some c = is in cc)
 is_callers range stamped phase j word c (Taken x) is slot = slot.0
 is_callers range stamped phase j word c (Pushing x s) is slot = slot.0
-is_callers range stamped phase j word c Outside is slot = absurd (let z : None ≡ Some c = is in cc)
 is_callers range stamped phase j word c (Retiring x tag) is slot = slot.0
-is_callers range stamped phase j word c (Retired tag) is slot = absurd (let z : None ≡ Some c = is in cc)
+is_callers range stamped phase j word c _ is slot = absurd (let z : None ≡ Some c = is in cc)
 
 pub is_chained : (o : Owner) → once o ≢ 0 → o ≡ Chained
 is_chained Chained some = refl
-is_chained (Taken c) some = absurd (some refl)
-is_chained (Pushing c s) some = absurd (some refl)
-is_chained Outside some = absurd (some refl)
-is_chained (Retiring c tag) some = absurd (some refl)
-is_chained (Retired tag) some = absurd (some refl)
+is_chained _ some = absurd (some refl)
 
 -- a slot that stands in the chain of a kind is of the kind
 pub in_kind : (n : Sizes) (k j : ℕ) (o : Owner) → once_in n k j o ≢ 0 → (o ≡ Chained) × (kind_of n j ≡ k)
@@ -132,11 +122,7 @@ only_mine c d (Retired tag) mine is = absurd (let z : None ≡ Some d = is in cc
 
 mine_apart : (c : ℕ) (o : Owner) → IsMine c o → once o ≡ 0
 mine_apart c Chained mine = absurd mine
-mine_apart c (Taken d) mine = refl
-mine_apart c (Pushing d s) mine = refl
-mine_apart c Outside mine = refl
-mine_apart c (Retiring d tag) mine = refl
-mine_apart c (Retired tag) mine = refl
+mine_apart c _ mine = refl
 
 -- what isn't c's is another slot than one that is
 apart : (c : ℕ) (owner : ℕ → Owner) (i j : ℕ) (o : Owner) → owner i ≡ o → IsMine c (owner j) → (IsMine c o → ⊥) → i ≢ j

@@ -41,11 +41,6 @@ has_none h c j x o mine none = each_put (λ i (a : Owner). caller_of a ≡ Some 
 pub sweep_has : (n : Sizes) (last c : ℕ) (m : Word → ℕ) (h : Hands) (sweep : Sweep) (stage : SweepStage) → PoolHolds n m h → HasOnly h c (slot_of_sweep stage)
     → HasOnly (sweep_hands c sweep.bound stage m h) c (slot_after_sweep (sweep_accepts_at n last sweep (m (word_of (sweep_wants_at sweep.scheme stage sweep.bound))) stage).sweep.stage
     (sweep_accepts_at n last sweep (m (word_of (sweep_wants_at sweep.scheme stage sweep.bound))) stage).ended)
-sweep_has n last c m h sweep sweeps.ReadPhase f mine = λ j own. none_has n m h c _ f mine j own
-sweep_has n last c m h sweep (sweeps.RaisePhase p) f mine = λ j own. none_has n m h c _ f mine j own
-sweep_has n last c m h sweep (sweeps.Warn d) f mine = λ j own. none_has n m h c _ f mine j own
-sweep_has n last c m h sweep (sweeps.ReadHazard d r) f mine = λ j own. none_has n m h c _ f mine j own
-sweep_has n last c m h sweep (sweeps.ReadStatus i) f mine = λ j own. none_has n m h c _ f mine j own
 sweep_has n last c m h sweep (sweeps.MakeReady i q) f mine = of (m (Status i) == status_word q kinds.Retired) where
   of : (b : Bool) → HasOnly (if b then handed h i (Pushing c sweep.bound) else h) c (slot_after_sweep (if b then sweep_goes sweep (sweeps.PushHead (kind_of n i) i) else sweep_on n sweep i).sweep.stage (if b then sweep_goes sweep (sweeps.PushHead (kind_of n i) i) else sweep_on n sweep i).ended)
   of true = now_has n m h c i (Pushing c sweep.bound) i f mine refl
@@ -57,6 +52,7 @@ sweep_has n last c m h sweep (sweeps.PushTop k i q t) f mine = of (m (Head k) ==
       (slot_after_sweep (if b then sweep_on n sweep i else sweep_goes sweep (sweeps.PushHead (kind_of n i) i)).sweep.stage (if b then sweep_on n sweep i else sweep_goes sweep (sweeps.PushHead (kind_of n i) i)).ended)
   of true = has_none h c i _ Chained mine refl
   of false = mine
+sweep_has n last c m h sweep _ f mine = λ j own. none_has n m h c _ f mine j own
 
 -- after a sweep that goes on, or has ended
 sweep_ends_has : (h : Hands) (c : ℕ) (claim : Claim) (sweep : Sweep) (end : Option SweepEnd) → claim.stage ≡ claims.Sweeps → HasOnly h c (slot_after_sweep sweep.stage end)

@@ -1,5 +1,5 @@
 -- Each step of a claim, a sweep and a retirement.
-use Rattle.std.proofs.Common.{ℕ, zero, suc, ◌≡◌, ◌≢◌, ◌==◌, ◌+◌, ◌≤◌, ◌<◌, ◌⊎◌, ◌∙◌, Bool, true, false, Option, Some, None, arith, inl, inr, sym, ap, subst, refl, max, length, if◌then◌else◌}
+use Rattle.std.proofs.Common.{ℕ, zero, ◌≡◌, ◌≢◌, ◌==◌, ◌+◌, ◌≤◌, ◌<◌, ◌⊎◌, ◌∙◌, Bool, true, false, Option, Some, None, arith, inl, inr, sym, ap, subst, refl, max, length, if◌then◌else◌}
 use Rattle.std.specs.Prelude.{nat_lt}
 use Rattle.std.proofs.lemmas.Bool.Decides.{nat_tests}
 use Rattle.oa_words.specs.declared.packed.Kind.{Kind}
@@ -80,9 +80,8 @@ status_next n m h c sweep j parts up le = from_status (λ turn. SweepNext n m h 
 hazard_on : (n : Sizes) (m : Word → ℕ) (h : Hands) (c s low d r : ℕ) → (s ≤ m Phase) × (low ≤ s) → SweepStands n m h c s low (hazard_next n d r)
 hazard_on n m h c s low d r up = of (nat_lt (r + 1) 8) (nat_lt (d + 1) n.callers) where
   of : (a b : Bool) → SweepStands n m h c s low (if a then sweeps.ReadHazard d (r + 1) else (if b then sweeps.ReadHazard (d + 1) 0 else sweeps.ReadStatus n.slots))
-  of true b = up
-  of false true = up
   of false false = (up.0, up.1, omega arith)
+  of _ _ = up
 
 all_warned : (n : Sizes) (m : Word → ℕ) (h : Hands) (c s low : ℕ) (scheme : Scheme) → (s ≤ m Phase) × (low ≤ s) → SweepStands n m h c s low (warned_all n scheme)
 all_warned n m h c s low Warned up = up
@@ -187,9 +186,8 @@ sweep_step n last c m h sweep (sweeps.PushTop k j q t) most f w = pushes n c m h
 look_ends : (n : Sizes) (m : Word → ℕ) (h : Hands) (c : ℕ) (claim : Claim) → claim.kind < length n.kinds → ClaimNext n m h c (look_ended claim).claim (look_ended claim).ended
 look_ends n m h c claim lt = of (claim.sweeps == 2) where
   follows : (scheme : Scheme) (made : ℕ) → ClaimNext n m h c (sweep_follows scheme made claim).claim (sweep_follows scheme made claim).ended
-  follows Warned made = (lt, tt)
   follows (Announced own) zero = (lt, tt)
-  follows (Announced own) (suc made) = (lt, tt)
+  follows _ _ = (lt, tt)
 
   of : (b : Bool) → ClaimNext n m h c (if b then claim_ends claim ends.Full else sweep_follows claim.sweep.scheme claim.sweeps claim).claim (if b then claim_ends claim ends.Full else sweep_follows claim.sweep.scheme claim.sweeps claim).ended
   of true = tt

@@ -2,6 +2,7 @@
 use Rattle.std.proofs.Common.{ℕ, suc, ◌≡◌, ◌≢◌, ◌≤◌, ◌<◌, ◌⊎◌, ◌∙◌, ◌&&◌, Bool, true, false, List, [], ◌∷◌, Option, Some, None, arith, inl, inr, ⊎_elim, sym, subst, refl, if◌then◌else◌}
 use Rattle.std.specs.Prelude.{nat_le, nat_lt, length}
 use Rattle.std.proofs.lemmas.Bool.Decides.{nat_tests}
+use Rattle.std.proofs.lemmas.Bool.{and_parts}
 use Rattle.oa_words.specs.Words.{Word, Link, Sizes, slot_range}
 use Rattle.oa_words.specs.SlotKinds.{kind_of}
 use Rattle.oa_words.specs.Within.{AreKinds}
@@ -10,7 +11,7 @@ use Rattle.phase_pools.specs.Accesses.{word_of}
 use Rattle.phase_pools.specs.Pools.{Claim, claim_begun, claim_wants, claim_accepts, Retirement, retire_begun, retire_wants, retire_accepts}
 use Rattle.oa_words.specs.Memories.{store}
 use Rattle.chain_laws.specs.Memories.{put, after_access}
-use Rattle.chain_laws.specs.Chains.{Owner, Chained, Taken, Pushing, Outside, Retiring, Retired, Hands, handed, stamp}
+use Rattle.chain_laws.specs.Chains.{Owner, Chained, Taken, Outside, Retiring, Hands, handed, stamp}
 use Rattle.chain_laws.specs.Standing.{ComesAbove, Gone, MayMove, PoolKept, ClaimNext, RetireNext, HasOnly, slot_after_claim, slot_after_retirement}
 use Rattle.chain_laws.specs.Machine.{Standing, Elsewhere, Claims, Retires, slot_of, PoolState, PoolEvent, BeginsClaim, BeginsRetirement, Steps, Writes, is_other, is_outside, is_slot, claim_left, retirement_left, begins, stepped, pool_event, run_on, pool_run, claim_hands, retire_hands}
 use Rattle.chain_laws.specs.Laws.{StandsAt, Holds}
@@ -68,25 +69,15 @@ some_state a b is = cc
 
 begun : (standing : Standing) (state later : PoolState) → begins standing state ≡ Some later → (standing ≡ Elsewhere) × (state ≡ later)
 begun Elsewhere state later is = (refl, some_state state later is)
-begun (Claims claim) state later is = absurd (let z : None ≡ Some later = is in cc)
-begun (Retires retirement) state later is = absurd (let z : None ≡ Some later = is in cc)
+begun _ state later is = absurd (let z : None ≡ Some later = is in cc)
 
 tested : (b : Bool) (o : Option PoolState) (later : PoolState) → (if b then o else None) ≡ Some later → (b ≡ true) × (o ≡ Some later)
 tested true o later is = (refl, is)
 tested false o later is = absurd (let z : None ≡ Some later = is in cc)
 
 outside : (o : Owner) → is_outside o ≡ true → o ≡ Outside
-outside Chained is = absurd (let z : false ≡ true = is in cc)
-outside (Taken c) is = absurd (let z : false ≡ true = is in cc)
-outside (Pushing c s) is = absurd (let z : false ≡ true = is in cc)
 outside Outside is = refl
-outside (Retiring c tag) is = absurd (let z : false ≡ true = is in cc)
-outside (Retired tag) is = absurd (let z : false ≡ true = is in cc)
-
-both : (a b : Bool) → (a && b) ≡ true → (a ≡ true) × (b ≡ true)
-both true true is = (refl, refl)
-both true false is = absurd (let z : false ≡ true = is in cc)
-both false b is = absurd (let z : false ≡ true = is in cc)
+outside _ is = absurd (let z : false ≡ true = is in cc)
 
 same_again : (m : Word → ℕ) → Same m m
 same_again m = record { phase = omega arith; head = λ k. refl; link = λ i. refl; status = λ i. refl }
@@ -125,8 +116,8 @@ event_kept n last state later (BeginsClaim c k scheme) are most w is =
 event_kept n last state later (BeginsRetirement c j) are most w is =
     let begin : PoolState = record state { hands = handed state.hands j (Retiring c None); who = put state.who c (Retires (retire_begun j)) } in
     let test = tested (is_slot (slot_range n) j && is_outside (state.hands.owner j)) (begins (state.who c) begin) later is in
-    let parts = both (is_slot (slot_range n) j) (is_outside (state.hands.owner j)) test.0 in
-    let range = both (nat_le 1 j) (nat_le j n.slots) parts.0 in
+    let parts = and_parts (is_slot (slot_range n) j) (is_outside (state.hands.owner j)) test.0 in
+    let range = and_parts (nat_le 1 j) (nat_le j n.slots) parts.0 in
     let start = begun (state.who c) begin later test.1 in
     subst (λ (x : PoolState). EventKept n state x) start.1
     (steps_on n c state state.memory (handed state.hands j (Retiring c None)) (Retires (retire_begun j)) _ w

@@ -22,41 +22,25 @@ use Rattle.chain_laws.proofs.Tops.{chains_stand, not_gone}
 
 at_most_one : (o : Owner) → once o ≤ 1
 at_most_one Chained = omega arith
-at_most_one (Taken c) = omega arith
-at_most_one (Pushing c s) = omega arith
-at_most_one Outside = omega arith
-at_most_one (Retiring c tag) = omega arith
-at_most_one (Retired tag) = omega arith
+at_most_one _ = omega arith
 
 -- what a caller has isn't in the chain
 not_chained : (c : ℕ) (o : Owner) → caller_of o ≡ Some c → once o ≡ 0
 not_chained c Chained is = absurd (let z : None ≡ Some c = is in cc)
-not_chained c (Taken d) is = refl
-not_chained c (Pushing d s) is = refl
-not_chained c Outside is = refl
-not_chained c (Retiring d tag) is = refl
-not_chained c (Retired tag) is = refl
+not_chained c _ is = refl
 
 -- ---- the slot of a caller is its own
 
 sweep_owner : (n : Sizes) (m : Word → ℕ) (h : Hands) (c s low : ℕ) (stage : SweepStage) (j : ℕ) → SweepStands n m h c s low stage → j ≢ 0 → slot_of_sweep stage ≡ j → caller_of (h.owner j) ≡ Some c
-sweep_owner n m h c s low sweeps.ReadPhase j w some is = absurd (some (sym is))
-sweep_owner n m h c s low (sweeps.RaisePhase p) j w some is = absurd (some (sym is))
-sweep_owner n m h c s low (sweeps.Warn d) j w some is = absurd (some (sym is))
-sweep_owner n m h c s low (sweeps.ReadHazard d r) j w some is = absurd (some (sym is))
-sweep_owner n m h c s low (sweeps.ReadStatus i) j w some is = absurd (some (sym is))
-sweep_owner n m h c s low (sweeps.MakeReady i q) j w some is = absurd (some (sym is))
 sweep_owner n m h c s low (sweeps.PushHead k i) j w some is = ap (λ (a : ℕ). caller_of (h.owner a)) (sym is) ∙ ap caller_of w.2
 sweep_owner n m h c s low (sweeps.PushLink i q t) j w some is = ap (λ (a : ℕ). caller_of (h.owner a)) (sym is) ∙ ap caller_of w.2
 sweep_owner n m h c s low (sweeps.PushTop k i q t) j w some is = ap (λ (a : ℕ). caller_of (h.owner a)) (sym is) ∙ ap caller_of w.2
+sweep_owner n m h c s low _ j w some is = absurd (some (sym is))
 
 claim_owner : (n : Sizes) (m : Word → ℕ) (h : Hands) (c k : ℕ) (sweep : Sweep) (stage : ClaimStage) (j : ℕ) → ClaimStands n m h c k sweep stage → j ≢ 0 → slot_of_claim sweep stage ≡ j → caller_of (h.owner j) ≡ Some c
-claim_owner n m h c k sweep claims.ReadHead j w some is = absurd (some (sym is))
-claim_owner n m h c k sweep (claims.ReadLink q t) j w some is = absurd (some (sym is))
-claim_owner n m h c k sweep (claims.Take q t next) j w some is = absurd (some (sym is))
 claim_owner n m h c k sweep (claims.StoreUsed q t) j w some is = ap (λ (a : ℕ). caller_of (h.owner a)) (sym is) ∙ ap caller_of w.0
-claim_owner n m h c k sweep (claims.Withdraw own) j w some is = absurd (some (sym is))
 claim_owner n m h c k sweep claims.Sweeps j w some is = sweep_owner n m h c sweep.bound sweep.low sweep.stage j w some is
+claim_owner n m h c k sweep _ j w some is = absurd (some (sym is))
 
 retire_owner : (h : Hands) (c j : ℕ) (stage : RetireStage) → RetireStands h c j stage → (tag : Option ℕ) × (h.owner j ≡ Retiring c tag)
 retire_owner h c j retires.ReadPhase w = (None, w)
@@ -79,23 +63,15 @@ retiring : (n : Sizes) (m : Word → ℕ) (h : Hands) (c j : ℕ) (tag : Option 
 retiring n m h c j tag Elsewhere w some is own = let same : 0 ≡ j = is in let z : ⊥ = omega (arith, same, some) in absurd z
 retiring n m h c j tag (Claims claim) w some is own = absurd (in_claim claim.stage w.1 is) where
   in_sweep : (s low : ℕ) (stage : SweepStage) → SweepStands n m h c s low stage → slot_of_sweep stage ≡ j → ⊥
-  in_sweep s low sweeps.ReadPhase w is = let same : 0 ≡ j = is in omega (arith, same, some)
-  in_sweep s low (sweeps.RaisePhase p) w is = let same : 0 ≡ j = is in omega (arith, same, some)
-  in_sweep s low (sweeps.Warn d) w is = let same : 0 ≡ j = is in omega (arith, same, some)
-  in_sweep s low (sweeps.ReadHazard d r) w is = let same : 0 ≡ j = is in omega (arith, same, some)
-  in_sweep s low (sweeps.ReadStatus i) w is = let same : 0 ≡ j = is in omega (arith, same, some)
-  in_sweep s low (sweeps.MakeReady i q) w is = let same : 0 ≡ j = is in omega (arith, same, some)
   in_sweep s low (sweeps.PushHead k i) w is = let z : Pushing c s ≡ Retiring c tag = sym w.2 ∙ (ap h.owner is ∙ own) in cc
   in_sweep s low (sweeps.PushLink i q t) w is = let z : Pushing c s ≡ Retiring c tag = sym w.2 ∙ (ap h.owner is ∙ own) in cc
   in_sweep s low (sweeps.PushTop k i q t) w is = let z : Pushing c s ≡ Retiring c tag = sym w.2 ∙ (ap h.owner is ∙ own) in cc
+  in_sweep s low _ w is = let same : 0 ≡ j = is in omega (arith, same, some)
 
   in_claim : (stage : ClaimStage) → ClaimStands n m h c claim.kind claim.sweep stage → slot_of_claim claim.sweep stage ≡ j → ⊥
-  in_claim claims.ReadHead w is = let same : 0 ≡ j = is in omega (arith, same, some)
-  in_claim (claims.ReadLink q t) w is = let same : 0 ≡ j = is in omega (arith, same, some)
-  in_claim (claims.Take q t next) w is = let same : 0 ≡ j = is in omega (arith, same, some)
   in_claim (claims.StoreUsed q t) w is = let z : Taken c ≡ Retiring c tag = sym w.0 ∙ (ap h.owner is ∙ own) in cc
-  in_claim (claims.Withdraw withdraws) w is = let same : 0 ≡ j = is in omega (arith, same, some)
   in_claim claims.Sweeps w is = in_sweep claim.sweep.bound claim.sweep.low claim.sweep.stage w is
+  in_claim _ w is = let same : 0 ≡ j = is in omega (arith, same, some)
 retiring n m h c j tag (Retires retirement) w some is own = (retirement, refl, is)
 
 -- ---- statuses

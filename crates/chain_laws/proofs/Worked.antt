@@ -111,15 +111,13 @@ are_kinds : AreKinds two_kinds
 unfolding two_kinds
 are_kinds = record { some = omega arith; few = omega arith; each = each; whole = refl } where
   each : (k : ℕ) → k < 2 → 1 ≤ slots_of two_kinds k
-  each zero lt = omega arith
-  each (suc zero) lt = omega arith
   each (suc (suc k)) lt = absurd (omega (arith, lt))
+  each _ lt = omega arith
 
 nodes_fit : NodesFit two_kinds a_node_each
 unfolding two_kinds a_node_each
-nodes_fit zero lt = omega arith
-nodes_fit (suc zero) lt = omega arith
 nodes_fit (suc (suc k)) lt = absurd (omega (arith, lt))
+nodes_fit _ lt = omega arith
 
 -- what is seen of a state: both heads and both chains, and the status and the owner of slot 3
 record BothSeen : Type 0 where

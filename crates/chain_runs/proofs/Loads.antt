@@ -1,6 +1,6 @@
 -- An exchange on a kind's head word expects what its caller's last load of it found: where a caller stands in a look or a push, its last
 -- load found the phase and the top that it has.
-use Rattle.std.proofs.Common.{ℕ, zero, suc, ◌≡◌, ◌≢◌, ◌+◌, ◌-◌, ◌<◌, ◌∙◌, ◌++◌, ◌==◌, Bool, true, false, List, [], ◌∷◌, Option, Some, None, arith, ⊎_elim, sym, ap, subst, refl, append_assoc, append-nil, if◌then◌else◌}
+use Rattle.std.proofs.Common.{ℕ, zero, ◌≡◌, ◌≢◌, ◌+◌, ◌<◌, ◌∙◌, ◌++◌, ◌==◌, Bool, true, false, List, [], ◌∷◌, Option, Some, None, arith, ⊎_elim, sym, ap, subst, refl, append_assoc, append-nil, if◌then◌else◌}
 use Rattle.std.specs.Prelude.{nat_lt}
 use Rattle.std.proofs.Math.Seq.{append_snoc}
 use Rattle.target_code.specs.declared.target.Target.{Target}
@@ -26,7 +26,7 @@ use Rattle.phase_pools.proofs.Statuses.{from_slot, from_status}
 use Rattle.chain_laws.specs.Machine.{Elsewhere}
 use Rattle.chain_laws.proofs.Lists.{each_put}
 use Rattle.caller_parts.specs.declared.routine.Routine.{Routine}
-use Rattle.caller_parts.specs.declared.routine.Routine.TheVariants.{Idle, LoadSeen, At, InList, Retires, Restarts, Clears, Claims, Zeroes, Announces}
+use Rattle.caller_parts.specs.declared.routine.Routine.TheVariants.{Retires, Claims}
 use Rattle.caller_parts.specs.declared.setting.Reclamation.{Reclamation}
 use Rattle.caller_parts.specs.declared.setting.Reclamation.TheVariants.{Optimistic, Epochs}
 use Rattle.caller_parts.specs.Settings.{Setting}
@@ -109,35 +109,20 @@ module _ (target : Target) (setting : Setting) where
 
   -- a push goes to the head of its slot's kind
   abbrev AtSweep : List CoreEvent → ℕ → SweepStage → Type 0
-  AtSweep events c sweeps.ReadPhase = Unit {0}
-  AtSweep events c (sweeps.RaisePhase p) = Unit {0}
-  AtSweep events c (sweeps.Warn d) = Unit {0}
-  AtSweep events c (sweeps.ReadHazard d r) = Unit {0}
-  AtSweep events c (sweeps.ReadStatus j) = Unit {0}
-  AtSweep events c (sweeps.MakeReady j q) = Unit {0}
   AtSweep events c (sweeps.PushHead i j) = i ≡ kind_of setting.sizes j
   AtSweep events c (sweeps.PushLink j q t) = Found events c (kind_of setting.sizes j) q t
   AtSweep events c (sweeps.PushTop i j q t) = Found events c i q t
+  AtSweep events c _ = Unit {0}
 
   abbrev AtStage : List CoreEvent → ℕ → ℕ → Sweep → ClaimStage → Type 0
-  AtStage events c i sweep claims.ReadHead = Unit {0}
   AtStage events c i sweep (claims.ReadLink q t) = Found events c i q t
   AtStage events c i sweep (claims.Take q t next) = Found events c i q t
-  AtStage events c i sweep (claims.StoreUsed q t) = Unit {0}
-  AtStage events c i sweep (claims.Withdraw own) = Unit {0}
   AtStage events c i sweep claims.Sweeps = AtSweep events c sweep.stage
+  AtStage events c i sweep _ = Unit {0}
 
   abbrev AtRoutine : List CoreEvent → ℕ → Routine → Type 0
-  AtRoutine events c Idle = Unit {0}
-  AtRoutine events c (LoadSeen why) = Unit {0}
-  AtRoutine events c At = Unit {0}
-  AtRoutine events c (InList k) = Unit {0}
-  AtRoutine events c (Retires retirement go) = Unit {0}
-  AtRoutine events c Restarts = Unit {0}
-  AtRoutine events c (Clears next) = Unit {0}
   AtRoutine events c (Claims claim) = AtStage events c claim.kind claim.sweep claim.stage
-  AtRoutine events c (Zeroes k field) = Unit {0}
-  AtRoutine events c (Announces announcing) = Unit {0}
+  AtRoutine events c _ = Unit {0}
 
   -- what a caller that doesn't move keeps
   module _ (past more : List CoreEvent) (c : ℕ) (keep : (i q t : ℕ) → Found past c i q t → Found more c i q t) where
@@ -219,9 +204,8 @@ module _ (target : Target) (setting : Setting) where
     sweep_onwards last sweep (sweeps.PushTop i j q x) t k = either_way IsSwept (memory (Head i) == head_word q x) (sweep_on n sweep j) (sweep_goes sweep (sweeps.PushHead (kind_of n j) j)) (sweep_onward sweep j) refl
 
     follows_onward : (claim : Claim) (scheme : Scheme) (made : ℕ) → IsClaimed (sweep_follows scheme made claim)
-    follows_onward claim Warned made = tt
     follows_onward claim (Announced own) zero = tt
-    follows_onward claim (Announced own) (suc made) = tt
+    follows_onward claim _ _ = tt
 
     look_onward : (claim : Claim) → IsClaimed (look_ended claim)
     look_onward claim = either_way IsClaimed (claim.sweeps == 2) (claim_ends claim ends.Full) (sweep_follows claim.sweep.scheme claim.sweeps claim) tt (follows_onward claim claim.sweep.scheme claim.sweeps)

@@ -156,10 +156,8 @@ module _ (target : Target) (sizes : Sizes) (j : ℕ) (some : 1 ≤ j) where
   stopped_avoids : (by : Reclamation) (e : Entry) → IsFree j e → EntryAvoids j (stopped by target sizes e).entry
   stopped_avoids by e f = of (instr_in target e) where
     of : (o : Option TargetInstr) → EntryAvoids j (stops by target sizes o e).entry
-    of None = to e At f tt
-    of (Some Check) = to e At f tt
-    of (Some (Guard r)) = to e At f tt
     of (Some (Plain i)) = stop_at_avoids by i e f
+    of _ = to e At f tt
 
   settles_avoids : (by : Reclamation) (spot : Spot) (e : Entry) → IsFree j e → RegistersAvoid j spot.registers → EntryAvoids j (settles by target sizes spot e).entry
   settles_avoids by spot e f s = stopped_avoids by (run_to target spot e) (run_free spot e f s)
@@ -291,9 +289,8 @@ module _ (target : Target) (sizes : Sizes) (j : ℕ) (some : 1 ≤ j) where
     cradles i = cradle_put j some e.cradles (new_number target e) k i other (f.cradles i)
 
     of : (by : Reclamation) (swept : ℕ) → EntryAvoids j (slot_gained by target swept k e)
-    of Optimistic swept = record { registers = f.registers; started = f.started; guards = f.guards; cradles = cradles; routine = tt }
     of Epochs zero = record { registers = f.registers; started = f.started; guards = f.guards; cradles = cradles; routine = tt }
-    of Epochs (suc swept) = record { registers = f.registers; started = f.started; guards = f.guards; cradles = cradles; routine = tt }
+    of _ _ = record { registers = f.registers; started = f.started; guards = f.guards; cradles = cradles; routine = tt }
 
   claim_avoids : (by : Reclamation) (claim : Claim) (o : Option ClaimEnd) (e : Entry) → IsFree j e → ClaimAvoids j claim o → EntryAvoids j (claim_on by target claim o e).entry
   claim_avoids by claim None e f a = to e (Claims claim) f a

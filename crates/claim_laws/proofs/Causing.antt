@@ -7,7 +7,7 @@ use Rattle.phase_pools.specs.declared.access.ClaimEnd.{ClaimEnd}
 use Rattle.phase_pools.specs.declared.access.ClaimEnd.TheVariants as ends
 use Rattle.phase_pools.specs.Pools.{Claim, ClaimTurn, claim_takes, claim_accepts}
 use Rattle.caller_parts.specs.declared.routine.Routine.{Routine}
-use Rattle.caller_parts.specs.declared.routine.Routine.TheVariants.{Idle, LoadSeen, At, InList, Retires, Restarts, Clears, Claims, Zeroes, Announces}
+use Rattle.caller_parts.specs.declared.routine.Routine.TheVariants.{Idle, At, Clears, Claims, Announces}
 use Rattle.caller_parts.specs.Pairing.{replied_by}
 use Rattle.caller_parts.specs.Settings.{Setting}
 use Rattle.caller_steps.specs.Entries.{Entry, is_idle}
@@ -64,8 +64,7 @@ module _ (setting : Setting) (steps : List StepMade) (s : StepMade) where
   answer_caused : (reply : SourceReply) → IsAnswer reply → FoundNeither setting more → IsCaused setting reply more
   answer_caused (replies.Number n) is f = record { phases = λ p. ((λ e. absurd cc), (λ found. absurd (f.phases p found))); full = ((λ e. absurd cc), (λ failed. absurd (f.full failed))) }
   answer_caused replies.Nothing is f = record { phases = λ p. ((λ e. absurd cc), (λ found. absurd (f.phases p found))); full = ((λ e. absurd cc), (λ failed. absurd (f.full failed))) }
-  answer_caused replies.Full is f = absurd is
-  answer_caused (replies.Phases p) is f = absurd is
+  answer_caused _ is f = absurd is
 
 -- what a step makes of a call: it runs on, or it gets a reply that its steps caused
 abbrev pub GoesOn : Setting → Entry → List StepMade → Entry → Type 0
@@ -106,15 +105,9 @@ module _ (target : Target) (setting : Setting) (e : Entry) (steps : List StepMad
   by_routine : (later : Entry) (routine : Routine) → later.routine ≡ routine → StandsAfter setting.sizes (counted e) later routine → (is_idle later.routine ≡ false → later.replies ≡ e.replies)
       → FoundNeither setting all → Outcome setting e all later
   by_routine later Idle is stands stay neither = inr (ap is_idle is, stands.0, stands.2, answer_caused setting steps s stands.0 stands.1 neither)
-  by_routine later (Claims began) is stands stay neither = runs_on later (Claims began) is refl tt (stay (ap is_idle is)) neither
   by_routine later (Clears next) is stands stay neither = runs_on later (Clears next) is refl stands (stay (ap is_idle is)) neither
-  by_routine later (LoadSeen why) is stands stay neither = runs_on later (LoadSeen why) is refl tt (stay (ap is_idle is)) neither
-  by_routine later At is stands stay neither = runs_on later At is refl tt (stay (ap is_idle is)) neither
-  by_routine later (InList k) is stands stay neither = runs_on later (InList k) is refl tt (stay (ap is_idle is)) neither
-  by_routine later (Retires retirement go) is stands stay neither = runs_on later (Retires retirement go) is refl tt (stay (ap is_idle is)) neither
-  by_routine later Restarts is stands stay neither = runs_on later Restarts is refl tt (stay (ap is_idle is)) neither
   by_routine later (Announces announcing) is stands stay neither = runs_on later (Announces announcing) is refl stands (stay (ap is_idle is)) neither
-  by_routine later (Zeroes k field) is stands stay neither = runs_on later (Zeroes k field) is refl tt (stay (ap is_idle is)) neither
+  by_routine later routine is stands stay neither = runs_on later routine is refl tt (stay (ap is_idle is)) neither
 
   plain_step : IsNoClaim e.routine → is_idle e.routine ≡ false → Outcome setting e all (after target setting e word)
   plain_step plain busy =
@@ -177,11 +170,4 @@ module _ (target : Target) (setting : Setting) (e : Entry) (steps : List StepMad
     of : (routine : Routine) → e.routine ≡ routine → Outcome setting e all (after target setting e word)
     of Idle is = absurd (let z : true ≡ false = sym (ap is_idle is) ∙ busy in cc)
     of (Claims claim) is = claim_step claim is
-    of (LoadSeen why) is = plain (LoadSeen why) is tt
-    of At is = plain At is tt
-    of (InList k) is = plain (InList k) is tt
-    of (Retires retirement go) is = plain (Retires retirement go) is tt
-    of Restarts is = plain Restarts is tt
-    of (Clears next) is = plain (Clears next) is tt
-    of (Zeroes k field) is = plain (Zeroes k field) is tt
-    of (Announces announcing) is = plain (Announces announcing) is tt
+    of routine is = plain routine is tt

@@ -1,5 +1,5 @@
 -- One step of a claim: how the claim ends, and what the step then found.
-use Rattle.std.proofs.Common.{◌≡◌, ℕ, zero, suc, ◌==◌, Bool, true, false, Option, Some, None, refl, ◌∙◌, ap, arith, if◌then◌else◌}
+use Rattle.std.proofs.Common.{◌≡◌, ℕ, zero, ◌==◌, Bool, true, false, Option, Some, None, refl, ◌∙◌, ap, arith, if◌then◌else◌}
 use Rattle.std.proofs.lemmas.Bool.Decides.{nat_tests}
 use Rattle.oa_words.specs.declared.packed.Kind.TheVariants as kinds
 use Rattle.oa_words.specs.Words.{Phase}
@@ -64,9 +64,8 @@ module _ (setting : Setting) (s : StepMade) (claim : Claim) (there : s.entry.rou
   GivesAt (Some (ends.PhasesOver p)) = (p ≡ setting.last) × (s.found ≡ p) × (claim_wants claim ≡ Loads Phase)
 
   follows_gives : (scheme : Scheme) (made : ℕ) → GivesAt (sweep_follows scheme made claim).ended
-  follows_gives Warned made = tt
   follows_gives (Announced own) zero = tt
-  follows_gives (Announced own) (suc made) = tt
+  follows_gives _ _ = tt
 
   begun_gives : claim.stage ≡ claims.ReadHead → GivesAt (look_begun claim (head_parts s.found)).ended
   begun_gives is = of ((head_parts s.found).top == 0) refl (claim.sweeps == 2) refl where
@@ -78,10 +77,9 @@ module _ (setting : Setting) (s : StepMade) (claim : Claim) (there : s.entry.rou
     of false none d two = tt
 
   swept_gives : (next : Sweep) (end : Option SweepEnd) → claim.stage ≡ claims.Sweeps → SweepGives setting claim.sweep.stage s.found end → GivesAt (sweep_ended claim next end).ended
-  swept_gives next None is gives = tt
-  swept_gives next (Some swept.Swept) is gives = tt
   swept_gives next (Some (swept.PhasesOver p)) is gives =
       (gives.0, gives.1, ap (claim_wants_at claim.kind claim.sweep) is ∙ ap (λ (stage : SweepStage). sweep_wants_at claim.sweep.scheme stage claim.sweep.bound) gives.2)
+  swept_gives next _ is gives = tt
 
   stage_gives : (stage : ClaimStage) → claim.stage ≡ stage → GivesAt (claim_accepts_at setting.sizes setting.last claim s.found stage).ended
   stage_gives claims.ReadHead is = begun_gives is

@@ -12,7 +12,8 @@ use Rattle.target_code.specs.TargetLimits.{IsTargetWithinLimits}
 use Rattle.norm_lang.specs.declared.text.Text.{Text}
 use Rattle.norm_lang.specs.declared.reply.SourceReply.TheVariants as replies
 use Rattle.target_laws.specs.target_runs.Runnable.{IsRunnable}
-use Rattle.target_laws.proofs.target_runs.Limited.{parts, roots_are}
+use Rattle.target_laws.proofs.target_runs.Limited.{parts}
+use Rattle.target_laws.proofs.OneKind.{roots_are}
 use Rattle.oa_words.specs.declared.packed.Kind.TheVariants as statuses
 use Rattle.oa_words.specs.Words.{Word, Hazard, Status, FieldOf, Cell, IsSlot, in_row}
 use Rattle.oa_words.specs.SlotKinds.{together, kind_in, sum_before, slots_of, first_of, range_of, kind_of, range_at}
@@ -51,22 +52,14 @@ use Rattle.claim_laws.proofs.Pooling.{NoneFull, KindTouched, CallerPool, Pool, I
 -- ---- the start
 
 none_there : (n k : ℕ) → slice_index (replicate n 0) k ≡ 0
-none_there zero k = refl
-none_there (suc n) zero = refl
 none_there (suc n) (suc k) = none_there n k
+none_there _ _ = refl
 
 idle_avoids : (j c : ℕ) → 1 ≤ j → EntryAvoids j (idle_entry c)
 idle_avoids j c some = record { registers = first_avoid j some []; started = first_avoid j some []; guards = guards; cradles = cradles; routine = tt } where
   guards : (r : ℕ) → guard_at no_guards r ≢ j
-  guards zero = null j some
-  guards (suc zero) = null j some
-  guards (suc (suc zero)) = null j some
-  guards (suc (suc (suc zero))) = null j some
-  guards (suc (suc (suc (suc zero)))) = null j some
-  guards (suc (suc (suc (suc (suc zero))))) = null j some
-  guards (suc (suc (suc (suc (suc (suc zero)))))) = null j some
   guards (suc (suc (suc (suc (suc (suc (suc zero))))))) = null j some
-  guards (suc (suc (suc (suc (suc (suc (suc (suc r)))))))) = null j some
+  guards _ = null j some
 
   cradles : (k : ℕ) → slice_index (idle_entry c).cradles k ≢ j
   cradles k = subst (λ (n : ℕ). n ≢ j) (sym (none_there cradle_count k)) (null j some)

@@ -11,7 +11,7 @@ use Rattle.norm_lang.specs.declared.text.Start.{Start}
 use Rattle.norm_lang.specs.declared.text.Start.TheVariants as starts
 use Rattle.norm_lang.specs.InstructionRules.{field_kind, root_kind}
 use Rattle.norm_lang.specs.Limits.{is_start, are_starts, is_root}
-use Rattle.target_laws.proofs.target_runs.Limited.{root_start, start_known}
+use Rattle.target_laws.proofs.OneKind.{root_start, start_known}
 use Rattle.oa_words.specs.Words.{Sizes}
 use Rattle.oa_words.specs.SlotKinds.{together, kind_in, slots_of, range_of, kind_of, range_at}
 use Rattle.oa_words.specs.Starts.{first_home, first_ready}

@@ -34,9 +34,8 @@ AreCaused setting (reply ∷ rest) (steps ∷ calls) = IsCaused setting reply.re
 one_more_caused : (setting : Setting) (given : List Replied) (calls : List (List StepMade)) (reply : Replied) (steps : List StepMade) → AreCaused setting given calls → IsCaused setting reply.reply steps
     → AreCaused setting (given ++ reply ∷ []) (calls ++ steps ∷ [])
 one_more_caused setting [] [] reply steps are is = (is, tt)
-one_more_caused setting [] (x ∷ calls) reply steps are is = absurd are
-one_more_caused setting (r ∷ given) [] reply steps are is = absurd are
 one_more_caused setting (r ∷ given) (x ∷ calls) reply steps are is = (are.0, one_more_caused setting given calls reply steps are.1 is)
+one_more_caused setting _ _ reply steps are is = absurd are
 
 caused_at : (setting : Setting) (given : List Replied) (calls more : List (List StepMade)) (i : ℕ) (reply : Replied) → AreCaused setting given calls → slice_get given i ≡ Some reply
     → IsCaused setting reply.reply (slice_index_or (calls ++ more) i [])
@@ -47,9 +46,8 @@ caused_at setting (r ∷ given) (x ∷ calls) more (suc i) reply are is = caused
 
 last_at : (setting : Setting) (given : List Replied) (calls : List (List StepMade)) (steps : List StepMade) → AreCaused setting given calls → slice_index_or (calls ++ steps ∷ []) (length given) [] ≡ steps
 last_at setting [] [] steps are = refl
-last_at setting [] (x ∷ calls) steps are = absurd are
-last_at setting (r ∷ given) [] steps are = absurd are
 last_at setting (r ∷ given) (x ∷ calls) steps are = last_at setting given calls steps are.1
+last_at setting _ _ steps are = absurd are
 
 -- the entry's calls with their steps; the last of one that runs hasn't got its reply
 abbrev Follows : Setting → Entry → List (List StepMade) → Bool → Type 0
@@ -63,9 +61,8 @@ Following setting state c calls = (e : Entry) × (slice_get state.entries c ≡ 
 -- ---- a step
 
 pub with_last : (before : List (List StepMade)) (steps more : List StepMade) → with_steps (before ++ steps ∷ []) more ≡ before ++ (steps ++ more) ∷ []
-with_last [] steps more = refl
-with_last (x ∷ []) steps more = refl
 with_last (x ∷ y ∷ rest) steps more = ap (λ (l : List (List StepMade)). x ∷ l) (with_last (y ∷ rest) steps more)
+with_last _ steps more = refl
 
 module _ (target : Target) (setting : Setting) where
   step_follows : (e : Entry) (word : ℕ) (calls : List (List StepMade)) → is_idle e.routine ≡ false → Follows setting e calls false
@@ -127,8 +124,7 @@ module _ (target : Target) (setting : Setting) where
         → (if i && b then Some (record state { entries = slice_set state.entries k (taken setting.reclamation call d) }) else None) ≡ Some mid → Following setting mid c (event_steps target setting c state (Takes k call) calls)
     by d at true idle true is became = one_changes state mid state.words k c d (taken setting.reclamation call d) e calls (calls ++ [] ∷ []) (some_is _ mid became) at there follows
         (λ same. subst (λ (x : Entry). let begun = taken setting.reclamation call x in Follows setting begun (calls ++ [] ∷ []) (is_idle begun.routine)) (sym same) (take_follows e call calls (subst (Follows setting e calls) (sym (ap (λ (x : Entry). is_idle x.routine) same) ∙ idle) follows)))
-    by d at true idle false is became = absurd (let z : None ≡ Some mid = became in cc)
-    by d at false idle b is became = absurd (let z : None ≡ Some mid = became in cc)
+    by d at _ idle _ is became = absurd (let z : None ≡ Some mid = became in cc)
 
     of : (o : Option Entry) → slice_get state.entries k ≡ o → event_by target setting state (Takes k call) o ≡ Some mid → Following setting mid c (event_steps target setting c state (Takes k call) calls)
     of None at became = absurd (let z : None ≡ Some mid = became in cc)

@@ -3,6 +3,7 @@ use Rattle.std.proofs.Common.{◌≡◌, ◌≢◌, ℕ, zero, suc, ◌+◌, ◌
 use Rattle.std.specs.Prelude.{slice_get, nat_le, nat_lt, option_map}
 use Rattle.std.specs.List.{All, list_any, list_all}
 use Rattle.std.proofs.lemmas.Bool.Decides.{nat_tests}
+use Rattle.std.proofs.lemmas.Bool.{or_parts, not-false, and_parts}
 use Rattle.norm_lang.specs.declared.text.Reg.{Reg}
 use Rattle.norm_lang.specs.declared.text.FieldKind.{FieldKind}
 use Rattle.norm_lang.specs.declared.text.FieldKind.TheVariants as holdings
@@ -56,11 +57,10 @@ use Rattle.target_laws.specs.target_runs.Sane.{SaneAt}
 use Rattle.core_runs.proofs.caller_laws.Methods.{Methods}
 use Rattle.core_runs.proofs.caller_laws.Stopping.{Here, site_of}
 use Rattle.core_runs.proofs.caller_laws.Going.{pick_kind, remainder_below}
-use Rattle.core_runs.proofs.caller_laws.Instructions.{parts}
 use Rattle.core_runs.proofs.caller_laws.Fields.{HasField, declared, owner_there}
 use Rattle.core_runs.proofs.caller_laws.Asked.{object_has}
 use Rattle.core_runs.proofs.caller_laws.Values.{entry_asks_object, commit_asks}
-use Rattle.core_runs.proofs.caller_laws.Safety.{all_true, below, list_there, neither, put_finds, unnegated}
+use Rattle.core_runs.proofs.caller_laws.Safety.{all_true, below, list_there, put_finds}
 use Rattle.claim_laws.specs.Untouched.{ValueAvoids, WordAvoids, RegistersAvoid, StageAvoids, RoutineAvoids, EntryAvoids}
 use Rattle.claim_laws.proofs.Naming.{alike_avoids, null, names_other, worded, register_avoids, zero_avoids, gathered}
 use Rattle.claim_laws.proofs.Avoiding.{LoadAvoids, InstrAvoids, ClaimAvoids, StepAvoids}
@@ -80,12 +80,8 @@ LeavesOther target n j (Some a) = (found : ℕ) → WordAvoids target n j (word_
 
 -- the step's exchange doesn't take the slot
 abbrev pub TakesOther : ℕ → ClaimStage → ℕ → Type 0
-TakesOther j claims.ReadHead word = Unit {0}
-TakesOther j (claims.ReadLink q t) word = Unit {0}
 TakesOther j (claims.Take q t next) word = (word == head_word q t) ≡ true → t ≢ j
-TakesOther j (claims.StoreUsed q t) word = Unit {0}
-TakesOther j (claims.Withdraw own) word = Unit {0}
-TakesOther j claims.Sweeps word = Unit {0}
+TakesOther j _ word = Unit {0}
 
 abbrev pub ClaimsOther : ℕ → ℕ → Routine → Type 0
 ClaimsOther j word (Claims claim) = TakesOther j claim.stage word
@@ -96,8 +92,8 @@ at_least a b e = grind (arith, nat_tests)
 
 any_false : {X : Type 0} (p : X → Bool) (xs : List X) (k : ℕ) (x : X) → list_any p xs ≡ false → slice_get xs k ≡ Some x → p x ≡ false
 any_false p [] k x none is = absurd cc
-any_false p (y ∷ ys) zero x none is = let same : y ≡ x = cc in subst (λ z. p z ≡ false) same (neither (p y) (list_any p ys) none).0
-any_false p (y ∷ ys) (suc k) x none is = any_false p ys k x (neither (p y) (list_any p ys) none).1 is
+any_false p (y ∷ ys) zero x none is = let same : y ≡ x = cc in subst (λ z. p z ≡ false) same (or_parts (p y) (list_any p ys) none).0
+any_false p (y ∷ ys) (suc k) x none is = any_false p ys k x (or_parts (p y) (list_any p ys) none).1 is
 
 -- a field that is declared, of a slot that has it
 abbrev IsFieldOf : Target → Setting → ℕ → ℕ → Type 0
@@ -126,9 +122,8 @@ module _ (target : Target) (setting : Setting) (sane : Methods target) (j : ℕ)
   -- ---- fields
 
   other_node : (kind : Option FieldKind) (word : ℕ) → slot_part word ≢ j → ValueAvoids j kind word
-  other_node None word other = tt
-  other_node (Some holdings.Number) word other = tt
   other_node (Some (holdings.Reference k)) word other = other
+  other_node _ word other = tt
 
   -- a field that was found and one that is written, by what its declaration says
   field_found : (slot f word : ℕ) → IsFieldOf target setting slot f → WordAvoids target setting.sizes j (FieldOf slot (place_of target.fields f)) word → ValueAvoids j (field_kind target.fields f) word
@@ -151,18 +146,18 @@ module _ (target : Target) (setting : Setting) (sane : Methods target) (j : ℕ)
       worded j some e.hand.registers (root_kind target.roots x) d word s told (site_of target e (Plain (instr.LoadRoot d x)) sane c.reached is).own.form.kinds
   plain_found e (instr.LoadPick d x n a) word c is s told =
       let site = site_of target e (Plain (instr.LoadPick d x n a)) sane c.reached is in
-      let limits = parts (is_register d) (nat_lt x (length target.roots) && ((nat_le 1 n && nat_le n 256) && is_register a)) site.limits in
-      let limits2 = parts (nat_lt x (length target.roots)) ((nat_le 1 n && nat_le n 256) && is_register a) limits.1 in
-      let limits3 = parts (nat_le 1 n && nat_le n 256) (is_register a) limits2.1 in
-      let limits4 = parts (nat_le 1 n) (nat_le n 256) limits3.0 in
-      let one = unnegated (are_roots_of_one_kind target.roots x n) site.own.form.range in
+      let limits = and_parts (is_register d) (nat_lt x (length target.roots) && ((nat_le 1 n && nat_le n 256) && is_register a)) site.limits in
+      let limits2 = and_parts (nat_lt x (length target.roots)) ((nat_le 1 n && nat_le n 256) && is_register a) limits.1 in
+      let limits3 = and_parts (nat_le 1 n && nat_le n 256) (is_register a) limits2.1 in
+      let limits4 = and_parts (nat_le 1 n) (nat_le n 256) limits3.0 in
+      let one = not-false (are_roots_of_one_kind target.roots x n) site.own.form.range in
       let same = pick_kind target.roots x n (remainder (number_in e.hand.registers a) n) one (remainder_below (number_in e.hand.registers a) n (at_least 1 n limits4.0)) in
       worded j some e.hand.registers (root_kind target.roots x) d word s (alike_avoids j (root_kind target.roots x) (root_kind target.roots (x + remainder (number_in e.hand.registers a) n)) word same.0 told) site.own.form.kinds
   plain_found e (instr.LoadField d a f) word c is s told =
-      let limits = parts (is_register d) (is_register a && nat_lt f (length target.fields)) (site_of target e (Plain (instr.LoadField d a f)) sane c.reached is).limits in
-      let limit = below f (length target.fields) (parts (is_register a) (nat_lt f (length target.fields)) limits.1).1 in
+      let limits = and_parts (is_register d) (is_register a && nat_lt f (length target.fields)) (site_of target e (Plain (instr.LoadField d a f)) sane c.reached is).limits in
+      let limit = below f (length target.fields) (and_parts (is_register a) (nat_lt f (length target.fields)) limits.1).1 in
       worded j some e.hand.registers (field_kind target.fields f) d word s (field_found (slot_in e.hand.registers a) f word (limit, object_has target setting e (instr.LoadField d a f) a f sane c is (λ r k asked. asked)) told)
-      (neither (holds_number a) (is_unlike (field_kind target.fields f) d) (site_of target e (Plain (instr.LoadField d a f)) sane c.reached is).own.form.kinds).1
+      (or_parts (holds_number a) (is_unlike (field_kind target.fields f) d) (site_of target e (Plain (instr.LoadField d a f)) sane c.reached is).own.form.kinds).1
   plain_found e _ word c is s told = tt
 
   instr_found : (e : Entry) (o : Option TargetInstr) (word : ℕ) → Here target setting e → instr_in target e ≡ o → RegistersAvoid j e.hand.registers
@@ -207,9 +202,8 @@ module _ (target : Target) (setting : Setting) (sane : Methods target) (j : ℕ)
   Goes turn = ClaimAvoids j turn.claim turn.ended
 
   follows_goes : (claim : Claim) (scheme : Scheme) (made : ℕ) → Others claim.sweep.gathered → Goes (sweep_follows scheme made claim)
-  follows_goes claim Warned made all = (none_gathered, tt)
   follows_goes claim (Announced own) zero all = (all, tt)
-  follows_goes claim (Announced own) (suc made) all = (none_gathered, tt)
+  follows_goes claim _ _ all = (none_gathered, tt)
 
   begun_goes : (claim : Claim) (head : HeadParts) → Others claim.sweep.gathered → Goes (look_begun claim head)
   begun_goes claim head all = of (head.top == 0) (claim.sweeps == 2) where
@@ -261,8 +255,8 @@ module _ (target : Target) (setting : Setting) (sane : Methods target) (j : ℕ)
   text_exchange exchange registers s kinds has =
       of exchange.place has
       (register_avoids j some registers (place_kind target.fields target.roots exchange.place) exchange.replacement s
-      (neither (is_unlike (place_kind target.fields target.roots exchange.place) exchange.expected) (is_unlike (place_kind target.fields target.roots exchange.place) exchange.replacement)
-      (neither (has_wrong_object exchange.place) (is_unlike (place_kind target.fields target.roots exchange.place) exchange.expected || is_unlike (place_kind target.fields target.roots exchange.place) exchange.replacement) kinds).1).1) where
+      (or_parts (is_unlike (place_kind target.fields target.roots exchange.place) exchange.expected) (is_unlike (place_kind target.fields target.roots exchange.place) exchange.replacement)
+      (or_parts (has_wrong_object exchange.place) (is_unlike (place_kind target.fields target.roots exchange.place) exchange.expected || is_unlike (place_kind target.fields target.roots exchange.place) exchange.replacement) kinds).1).1) where
         object : (k f : ℕ) → IsFieldOf target setting k f → ValueAvoids j (field_kind target.fields f) (word_in registers exchange.replacement)
             → LeavesOther target setting.sizes j (Some (object_exchange k (place_of target.fields f) (word_in registers exchange.expected) (word_in registers exchange.replacement)))
         object zero f has other = λ found was. was
@@ -278,27 +272,27 @@ module _ (target : Target) (setting : Setting) (sane : Methods target) (j : ℕ)
   exchange_object : (e : Entry) (i : Instr) (exchange : CasEntry) → Here target setting e → instr_in target e ≡ Some (Plain i) → is_entry (length target.fields) (length target.roots) exchange ≡ true
       → ((r k : ℕ) → asks_object target.fields exchange.place r k ≡ true → asks target.fields target.roots i r k ≡ true) → ObjectHas target setting exchange.place e.hand.registers
   exchange_object e i exchange c is limits asked =
-      of exchange.place (parts (is_place (length target.fields) (length target.roots) exchange.place) (is_register exchange.expected && (is_register exchange.replacement && is_retire exchange.retire)) limits).0 asked where
+      of exchange.place (and_parts (is_place (length target.fields) (length target.roots) exchange.place) (is_register exchange.expected && (is_register exchange.replacement && is_retire exchange.retire)) limits).0 asked where
         of : (place : Place) → is_place (length target.fields) (length target.roots) place ≡ true → ((r k : ℕ) → asks_object target.fields place r k ≡ true → asks target.fields target.roots i r k ≡ true)
             → ObjectHas target setting place e.hand.registers
         of (places.Root x) limit asked = tt
-        of (places.Field a f) limit asked = (below f (length target.fields) (parts (is_register a) (nat_lt f (length target.fields)) limit).1, object_has target setting e i a f sane c is asked)
+        of (places.Field a f) limit asked = (below f (length target.fields) (and_parts (is_register a) (nat_lt f (length target.fields)) limit).1, object_has target setting e i a f sane c is asked)
 
   plain_leaves : (e : Entry) (i : Instr) → Here target setting e → instr_in target e ≡ Some (Plain i) → RegistersAvoid j e.hand.registers → LeavesOther target setting.sizes j (plain_wanted target.fields i e.hand.registers)
   plain_leaves e (instr.LoadRoot d x) c is s = λ found was. was
   plain_leaves e (instr.LoadPick d x n a) c is s = λ found was. was
   plain_leaves e (instr.LoadField d a f) c is s = λ found was. was
   plain_leaves e (instr.Put a f b) c is s = λ found was.
-      let limits = parts (is_register a) (nat_lt f (length target.fields) && is_register b) (site_of target e (Plain (instr.Put a f b)) sane c.reached is).limits in
-      let limit = below f (length target.fields) (parts (nat_lt f (length target.fields)) (is_register b) limits.1).0 in
+      let limits = and_parts (is_register a) (nat_lt f (length target.fields) && is_register b) (site_of target e (Plain (instr.Put a f b)) sane c.reached is).limits in
+      let limit = below f (length target.fields) (and_parts (nat_lt f (length target.fields)) (is_register b) limits.1).0 in
       field_written (slot_in e.hand.registers a) f (word_in e.hand.registers b) (put_finds target e a b f sane c.reached is)
       (limit, object_has target setting e (instr.Put a f b) a f sane c is (λ r k asked. put_asks target a f b r k asked))
       (register_avoids j some e.hand.registers (field_kind target.fields f) b s
-      (neither (holds_number a) (is_unlike (field_kind target.fields f) b) (site_of target e (Plain (instr.Put a f b)) sane c.reached is).own.form.kinds).1)
+      (or_parts (holds_number a) (is_unlike (field_kind target.fields f) b) (site_of target e (Plain (instr.Put a f b)) sane c.reached is).own.form.kinds).1)
   plain_leaves e (instr.Cas exchange l) c is s =
       let site = site_of target e (Plain (instr.Cas exchange l)) sane c.reached is in
       text_exchange exchange e.hand.registers s site.own.form.kinds
-      (exchange_object e (instr.Cas exchange l) exchange c is (parts (is_entry (length target.fields) (length target.roots) exchange) (nat_le l 65535) site.limits).0 (λ r k asked. entry_asks_object target.fields target.roots exchange r k asked))
+      (exchange_object e (instr.Cas exchange l) exchange c is (and_parts (is_entry (length target.fields) (length target.roots) exchange) (nat_le l 65535) site.limits).0 (λ r k asked. entry_asks_object target.fields target.roots exchange r k asked))
   plain_leaves e _ c is s = tt
 
   instr_leaves : (e : Entry) (o : Option TargetInstr) → Here target setting e → instr_in target e ≡ o → RegistersAvoid j e.hand.registers
@@ -324,7 +318,7 @@ module _ (target : Target) (setting : Setting) (sane : Methods target) (j : ℕ)
     of None none = tt
     of (Some exchange) is = text_exchange exchange e.hand.registers s (any_false (has_wrong_operand target.fields target.roots) there.0 k exchange site.own.form.kinds (sym same ∙ is))
         (exchange_object e (instr.Commit there.0) exchange c there.1
-        (all_true (is_entry (length target.fields) (length target.roots)) there.0 k exchange (parts (nat_le (length there.0) 4) (list_all (is_entry (length target.fields) (length target.roots)) there.0) site.limits).1 (sym same ∙ is))
+        (all_true (is_entry (length target.fields) (length target.roots)) there.0 k exchange (and_parts (nat_le (length there.0) 4) (list_all (is_entry (length target.fields) (length target.roots)) there.0) site.limits).1 (sym same ∙ is))
         (λ r i asked. commit_asks target.fields target.roots there.0 k exchange r i (sym same ∙ is) (entry_asks_object target.fields target.roots exchange r i asked)))
 
   clear_leaves : (c : ℕ) (o : Option ℕ) → LeavesOther target setting.sizes j (clear_wanted c o)
@@ -350,8 +344,7 @@ module _ (target : Target) (setting : Setting) (sane : Methods target) (j : ℕ)
 
   announcing_leaves : (c : ℕ) (announcing : Announcing) → LeavesOther target setting.sizes j (Some (announcing_wanted c announcing))
   announcing_leaves c (announces.Loads why) = λ found was. tt
-  announcing_leaves c (announces.Stores why phase) = λ found was. tt
-  announcing_leaves c (announces.Leaves reply) = λ found was. tt
+  announcing_leaves c _ = λ found was. tt
 
   leaves_step : (e : Entry) (routine : Routine) → Belongs target setting e → RunsAt target e routine → RunsWithKinds target setting e routine → Stands target setting e routine → RegistersAvoid j e.hand.registers → LeavesOther target setting.sizes j (wanted target e routine)
   leaves_step e Idle b reaches kinds stands s = tt

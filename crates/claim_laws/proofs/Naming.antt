@@ -60,15 +60,8 @@ module _ (j : ℕ) (some : 1 ≤ j) where
   worded registers (Some (holdings.Reference k)) (Ref d) word s other like = referred registers (Ref d) (unpacked word) s other
 
   pub first_avoid : (args : List ℕ) → RegistersAvoid j (first_registers args)
-  first_avoid args zero = null
-  first_avoid args (suc zero) = null
-  first_avoid args (suc (suc zero)) = null
-  first_avoid args (suc (suc (suc zero))) = null
-  first_avoid args (suc (suc (suc (suc zero)))) = null
-  first_avoid args (suc (suc (suc (suc (suc zero))))) = null
-  first_avoid args (suc (suc (suc (suc (suc (suc zero)))))) = null
   first_avoid args (suc (suc (suc (suc (suc (suc (suc zero))))))) = null
-  first_avoid args (suc (suc (suc (suc (suc (suc (suc (suc r)))))))) = null
+  first_avoid args _ = null
 
   -- ---- local code
 
@@ -108,16 +101,14 @@ module _ (j : ℕ) (some : 1 ≤ j) where
   packed_slot node false = let e : (2 * node + 0) / 2 ≡ node = omega arith in e
 
   pub register_avoids : (registers : Registers) (kind : Option FieldKind) (b : Reg) → RegistersAvoid j registers → is_unlike kind b ≡ false → ValueAvoids j kind (word_in registers b)
-  register_avoids registers None b s like = tt
-  register_avoids registers (Some holdings.Number) b s like = tt
   register_avoids registers (Some (holdings.Reference k)) (Num b) s like = absurd (let z : true ≡ false = like in cc)
   register_avoids registers (Some (holdings.Reference k)) (Ref b) s like =
       subst (λ (n : ℕ). n ≢ j) (sym (packed_slot (reference_in registers (Ref b)).node (reference_in registers (Ref b)).marked)) (s b)
+  register_avoids registers _ b s like = tt
 
   pub zero_avoids : (kind : Option FieldKind) → ValueAvoids j kind 0
-  zero_avoids None = tt
-  zero_avoids (Some holdings.Number) = tt
   zero_avoids (Some (holdings.Reference k)) = null
+  zero_avoids _ = tt
 
   pub retires_other : (retire : Option Reg) (registers : Registers) → RegistersAvoid j registers → to_retire retire registers ≢ j
   retires_other None registers s = null
@@ -129,11 +120,9 @@ module _ (j : ℕ) (some : 1 ≤ j) where
   guard_put guards r slot k g other = set_keeps (λ (x : ℕ). x ≢ j) guards.slots r slot 0 k other (g k)
 
   pub cradle_put : (xs : List ℕ) (i x r : ℕ) → x ≢ j → slice_index xs r ≢ j → slice_index (set xs i x) r ≢ j
-  cradle_put [] i x r p q = q
   cradle_put (y ∷ ys) zero x zero p q = p
-  cradle_put (y ∷ ys) zero x (suc r) p q = q
-  cradle_put (y ∷ ys) (suc i) x zero p q = q
   cradle_put (y ∷ ys) (suc i) x (suc r) p q = cradle_put ys i x r p q
+  cradle_put _ _ x _ p q = q
 
   pub cradle_emptied : (slot : ℕ) (xs : List ℕ) (k : ℕ) → slice_index xs k ≢ j → slice_index (map (emptied slot) xs) k ≢ j
   cradle_emptied slot [] k other = other

@@ -198,10 +198,8 @@ module _ (target : Target) (sizes : Sizes) where
   stopped_moves : (by : Reclamation) (e : Entry) → Moves target sizes e (stopped by target sizes e).entry
   stopped_moves by e = of (instr_in target e) where
     of : (o : Option TargetInstr) → Moves target sizes e (stops by target sizes o e).entry
-    of None = here e
-    of (Some Check) = here e
-    of (Some (Guard r)) = here e
     of (Some (Plain i)) = stop_at_moves by i e
+    of _ = here e
 
   settles_moves : (by : Reclamation) (spot : Spot) (e : Entry) → Moves target sizes e (settles by target sizes spot e).entry
   settles_moves by spot e = stopped_moves by (run_to target spot e)
@@ -429,9 +427,8 @@ pub record Gains (target : Target) (j : ℕ) (e later : Entry) : Type 0 where
   pub cradles : later.cradles ≡ slice_set e.cradles (new_number target e) j
 
 pub slot_gains : (by : Reclamation) (target : Target) (swept j : ℕ) (e : Entry) → Gains target j e (slot_gained by target swept j e)
-slot_gains Optimistic target swept j e = record { busy = refl; before = tt; other = tt; replies = refl; claims = refl; running = refl; cradles = refl }
 slot_gains Epochs target zero j e = record { busy = refl; before = tt; other = tt; replies = refl; claims = refl; running = refl; cradles = refl }
-slot_gains Epochs target (suc swept) j e = record { busy = refl; before = tt; other = tt; replies = refl; claims = refl; running = refl; cradles = refl }
+slot_gains _ target _ j e = record { busy = refl; before = tt; other = tt; replies = refl; claims = refl; running = refl; cradles = refl }
 
 step_answers : (by : Reclamation) (target : Target) (setting : Setting) (word : ℕ) (e : Entry) (routine : Routine) → e.routine ≡ routine → IsBefore routine → IsNoClaim routine
     → Answers setting.sizes e (accepted by target setting word e routine).entry

@@ -161,8 +161,7 @@ module _ (target : Target) (setting : Setting) (Rests : Entry → Type 0) (Runs 
           → AllStand (past ++ Takes k call ∷ []) later
       by d at true idle true became = one_changes past (Takes k call) state later state.words k d (taken setting.reclamation call d) (λ (l : List (List StepMade)). l ++ [] ∷ []) (some_is _ later became) at all
           (λ c. steps_more target setting c past (Takes k call) state later came goes) (take_stands d call (call_steps target setting past k) (subst (Stands d (call_steps target setting past k)) idle (all k d at)))
-      by d at true idle false became = absurd (let z : None ≡ Some later = became in cc)
-      by d at false idle b became = absurd (let z : None ≡ Some later = became in cc)
+      by d at _ idle _ became = absurd (let z : None ≡ Some later = became in cc)
 
       of : (o : Option Entry) → slice_get state.entries k ≡ o → event_by target setting state (Takes k call) o ≡ Some later → AllStand (past ++ Takes k call ∷ []) later
       of None at became = absurd (let z : None ≡ Some later = became in cc)

@@ -58,15 +58,11 @@ one_more_grows n le = omega (arith, le)
 taken_counts : (routine : Routine) (word n : ℕ) → IsCount n → Grows n (length (taken_in routine word)) (count_after (takes_in routine word) n)
 taken_counts (Claims claim) word n le = of claim.stage where
   of : (stage : ClaimStage) → Grows n (length (taken_at stage word)) (count_after (takes_at stage word) n)
-  of claims.ReadHead = stays_count n le
-  of (claims.ReadLink q t) = stays_count n le
   of (claims.Take q t next) = by (word == head_word q t) where
     by : (b : Bool) → Grows n (length (if b then t ∷ [] else [])) (count_after b n)
     by true = one_more_grows n le
     by false = stays_count n le
-  of (claims.StoreUsed q t) = stays_count n le
-  of (claims.Withdraw own) = stays_count n le
-  of claims.Sweeps = stays_count n le
+  of _ = stays_count n le
 taken_counts _ word n le = stays_count n le
 
 module _ (target : Target) (setting : Setting) where
@@ -194,15 +190,11 @@ module _ (target : Target) (text : Text) (setting : Setting) (runs : IsRunnable 
   not_claimed : (j word : ℕ) (routine : Routine) → has_slot (taken_in routine word) j ≡ false → ClaimsOther j word routine
   not_claimed j word (Claims claim) none = of claim.stage none where
     of : (stage : ClaimStage) → has_slot (taken_at stage word) j ≡ false → TakesOther j stage word
-    of claims.ReadHead none = tt
-    of (claims.ReadLink q t) none = tt
     of (claims.Take q t next) none = by (word == head_word q t) none where
       by : (b : Bool) → has_slot (if b then t ∷ [] else []) j ≡ false → b ≡ true → t ≢ j
       by true none took same = let own : (t == j) ≡ true = grind (arith, nat_tests) in let z : true ≡ false = sym (ap (λ (d : Bool). d || false) own) ∙ none in cc
       by false none took same = let z : false ≡ true = took in cc
-    of (claims.StoreUsed q t) none = tt
-    of (claims.Withdraw own) none = tt
-    of claims.Sweeps none = tt
+    of _ none = tt
   not_claimed j word _ none = tt
 
   module _ (j : ℕ) (past : HeldNone setting j) (le : j ≤ setting.sizes.slots) where

@@ -119,8 +119,7 @@ module _ (target : Target) (setting : Setting) (j : ℕ) where
 
   announcing_leaves : (c : ℕ) (announcing : Announcing) → Leaves (Some (announcing_wanted c announcing))
   announcing_leaves c (announces.Loads why) is = refl
-  announcing_leaves c (announces.Stores why phase) is = absurd cc
-  announcing_leaves c (announces.Leaves reply) is = absurd cc
+  announcing_leaves c _ is = absurd cc
 
   leaves_step : (e : Entry) (routine : Routine) → RoutineAvoids j routine → Leaves (wanted target e routine)
   leaves_step e Idle a = tt

@@ -1,8 +1,9 @@
 -- Where fields, roots and new nodes are of the first kind, no register of references may have another, so that N15 is kept.
-use Rattle.std.proofs.Common.{◌≡◌, ℕ, zero, suc, ◌<◌, ◌⊎◌, ⊎_elim, inl, inr, Bool, true, false, ◌&&◌, ◌||◌, not, List, [], ◌∷◌, take, drop, Option, Some, None, refl, sym, ap, ◌∙◌, arith}
+use Rattle.std.proofs.Common.{◌≡◌, ℕ, zero, suc, ◌<◌, ⊎_elim, Bool, true, false, ◌&&◌, ◌||◌, not, List, [], ◌∷◌, take, drop, Option, Some, None, refl, sym, ap, ◌∙◌, arith}
 use Rattle.std.specs.Prelude.{slice_get, ◌==◌, IsTrue, if◌then◌else◌}
 use Rattle.std.specs.List.{list_any, list_all}
 use Rattle.std.proofs.lemmas.Bool.Decides.{nat_tests}
+use Rattle.std.proofs.lemmas.Bool.{or_cases, and_from}
 use Rattle.norm_lang.specs.declared.text.Reg.{Reg}
 use Rattle.norm_lang.specs.declared.text.Reg.TheVariants.{Num, Ref}
 use Rattle.norm_lang.specs.declared.text.FieldKind.{FieldKind}
@@ -29,10 +30,6 @@ use Rattle.closed_tables.proofs.Tests.{and_left, and_right}
 
 never : {P : Type 0} → false ≡ true → P
 never is = absurd (let no : false ≡ true = is in cc)
-
-or_cases : (a b : Bool) → (a || b) ≡ true → (a ≡ true) ⊎ (b ≡ true)
-or_cases true b is = inl refl
-or_cases false b is = inr is
 
 -- ---- what fields and roots refer to
 
@@ -69,14 +66,10 @@ any_first (root ∷ roots) t all is = ⊎_elim
     (λ (rest : list_any (root_refers t) roots ≡ true). any_first roots t (and_right (is_first_root root) (list_all is_first_root roots) all) rest)
     (or_cases (root_refers t root) (list_any (root_refers t) roots) is)
 
-all_and : (a b : Bool) → a ≡ true → b ≡ true → (a && b) ≡ true
-all_and true b is other = other
-all_and false b is other = never is
-
 all_taken : (p : RootDecl → Bool) (n : ℕ) (roots : List RootDecl) → list_all p roots ≡ true → list_all p (take n roots) ≡ true
 all_taken p zero roots all = refl
 all_taken p (suc n) [] all = refl
-all_taken p (suc n) (root ∷ roots) all = all_and (p root) (list_all p (take n roots)) (and_left (p root) (list_all p roots) all) (all_taken p n roots (and_right (p root) (list_all p roots) all))
+all_taken p (suc n) (root ∷ roots) all = and_from (p root) (list_all p (take n roots)) (and_left (p root) (list_all p roots) all) (all_taken p n roots (and_right (p root) (list_all p roots) all))
 
 all_dropped : (p : RootDecl → Bool) (n : ℕ) (roots : List RootDecl) → list_all p roots ≡ true → list_all p (drop n roots) ≡ true
 all_dropped p zero roots all = all

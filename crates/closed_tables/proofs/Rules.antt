@@ -2,6 +2,7 @@
 use Rattle.std.proofs.Common.{◌≡◌, ℕ, ◌⊎◌, inl, inr, Bool, true, false, not, ◌&&◌, ◌||◌, List, Option, Some, None, refl, sym, ap, ◌∙◌}
 use Rattle.std.specs.Prelude.{slice_get, IsTrue}
 use Rattle.std.specs.List.{list_all}
+use Rattle.std.proofs.lemmas.Bool.{or_cases}
 use Rattle.norm_lang.specs.declared.text.Reg.{Reg}
 use Rattle.norm_lang.specs.declared.text.Reg.TheVariants.{Num}
 use Rattle.norm_lang.specs.declared.text.Instr.{Instr}
@@ -94,13 +95,9 @@ commits_set op t r closed is at entries get path leads =
     let here = all_places (λ at i. not (is_commit i) || (is_argument op r || among r (registers_at t.generator.set at))) op.generator at (instr.Commit entries) is get in
     set_at op t r at path (is_argument op r) closed leads here
 
-either_is : (a b : Bool) → (a || b) ≡ true → (a ≡ true) ⊎ (b ≡ true)
-either_is true b e = inl refl
-either_is false b e = inr e
-
 starts_by : (op : Op) (t : OpTables) (wrapup : Bool) (r : Reg) → is_closed t.generator op.generator ≡ true → starts_set op t wrapup r ≡ true → StartsSet op wrapup r
 starts_by op t false r closed is = is
-starts_by op t true r closed is = elim (either_is (same_register r (Num 7)) (is_set_at_commits op t r) is) [ inl same ↦ inl same | inr set ↦ inr (commits_set op t r closed set) ]
+starts_by op t true r closed is = elim (or_cases (same_register r (Num 7)) (is_set_at_commits op t r) is) [ inl same ↦ inl same | inr set ↦ inr (commits_set op t r closed set) ]
 
 -- each register that is read is set at the start or on every path
 pub reads_set : (op : Op) (t : OpTables) (wrapup : Bool) (at : ℕ) (i : Instr) → is_closed t.generator op.generator ≡ true → is_closed (tables_of t wrapup) (code_of op wrapup) ≡ true
@@ -109,7 +106,7 @@ reads_set op t wrapup at i made closed test broken =
     let r = broken.0 in
     let unset = broken.2.0 in
     let path = broken.2.1 in
-    elim (either_is (starts_set op t wrapup r) (among r (registers_at (tables_of t wrapup).set at))
+    elim (or_cases (starts_set op t wrapup r) (among r (registers_at (tables_of t wrapup).set at))
     (all_among (λ s. starts_set op t wrapup s || among s (registers_at (tables_of t wrapup).set at)) (sources i) r test broken.1)) [
       | inl starts ↦ unset (starts_by op t wrapup r made starts)
       | inr set ↦ (let z : false ≡ true = sym path.2 ∙ set_along (tables_of t wrapup) (code_of op wrapup) r closed path.0 at path.1 set in cc)

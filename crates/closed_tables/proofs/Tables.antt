@@ -3,6 +3,7 @@ use Rattle.std.proofs.Common.{◌≡◌, ℕ, ◌≤◌, ◌<◌, Bool, true, fa
 use Rattle.std.specs.Prelude.{slice_get, IsTrue, nat_le, nat_lt, if◌then◌else◌}
 use Rattle.std.specs.List.{list_all}
 use Rattle.std.proofs.lemmas.Bool.Decides.{nat_tests}
+use Rattle.std.proofs.lemmas.Bool.{or_right, not-true}
 use Rattle.norm_lang.specs.declared.text.Reg.{Reg}
 use Rattle.norm_lang.specs.declared.text.Instr.{Instr}
 use Rattle.norm_lang.specs.Grammar.{is_new}
@@ -57,14 +58,6 @@ nothing_in registers r all is = let e : false ≡ true = all_among (λ s. false)
 set_named : (test : Reg → Bool) (r : Reg) (d : Option Reg) → list_all test (registers_named d) ≡ true → is_register_named r d ≡ true → test r ≡ true
 set_named test r None all is = absurd (let z : false ≡ true = is in cc)
 set_named test r (Some d) all is = all_among test (d ∷ []) r all (ap (λ b. b || false) is)
-
-or_right : (a b : Bool) → b ≡ true → (a || b) ≡ true
-or_right true b is = refl
-or_right false b is = is
-
-not_true_is : (b : Bool) → not b ≡ true → b ≡ false
-not_true_is true e = absurd (let z : false ≡ true = e in cc)
-not_true_is false e = refl
 
 pub not_or : (a b : Bool) → (not a || b) ≡ true → a ≡ true → b ≡ true
 not_or true b e is = e
@@ -191,7 +184,7 @@ rank_by : (t : Tables) (code : List Instr) → is_closed t code ≡ true → (at
 rank_by t code closed at next None get goes blind = absurd (let z : false ≡ true = goes in cc)
 rank_by t code closed at next (Some i) get goes blind =
     lt_from (number_at t.rank at) (number_at t.rank next)
-    (other_holds (looks i) (nat_lt (number_at t.rank at) (number_at t.rank next)) (keeps_at t code closed at next i get goes).rank (not_true_is (looks i) blind))
+    (other_holds (looks i) (nat_lt (number_at t.rank at) (number_at t.rank next)) (keeps_at t code closed at next i get goes).rank (not-true (looks i) blind))
 
 at_most : (a b : ℕ) → a < b → a ≤ b
 at_most a b lt = omega (arith, lt)

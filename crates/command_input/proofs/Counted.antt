@@ -9,8 +9,7 @@ use Rattle.command_input.specs.Commands.{count_in}
 
 choose : (b c : Bool) (n m : ℕ) → Some (Some m) ≡ (if b then Some (if c then Some n else None) else None) → (b ≡ true) × (m ≡ n)
 choose true true n m same = (refl, ap (λ (o : Option (Option ℕ)). unwrap_or (unwrap_or o None) 0) same)
-choose true false n m same = cc
-choose false c n m same = cc
+choose _ _ n m same = cc
 
 pub counted : (most : ℕ) (word : List ℕ) (n : ℕ) (answer : Option ℕ) → Some (Some n) ≡ (if is_numeral word then Some (fitting (number_of word)) else None)
     → answer ≡ (if is_count most n then Some n else None) → answer ≡ count_in most word
@@ -20,8 +19,7 @@ counted most word n answer read is =
 
 none_fits : (b c : Bool) (n : ℕ) → Some None ≡ (if b then Some (if c then Some n else None) else None) → c ≡ false
 none_fits true false n same = refl
-none_fits true true n same = cc
-none_fits false c n same = cc
+none_fits _ _ n same = cc
 
 large : (most n : ℕ) → most < 2 ^ 32 → nat_lt n (2 ^ 64) ≡ false → is_count most n ≡ false
 large most n few over = grind (arith, nat_tests)

@@ -1,6 +1,6 @@
 //! The words of the command line.
 
-ghost use Rattle.std.specs.Prelude.{◌≡◌, ◌<◌, ◌^◌, ◌∷◌, map, IfSome, Some, None, if◌then◌else◌};
+ghost use Rattle.std.specs.Prelude.{◌≡◌, map, IfSome, Some, None, if◌then◌else◌};
 ghost use Rattle.std.specs.String.{string_bytes};
 ghost use Rattle.oa_words.specs.Within.{is_count};
 ghost use Rattle.command_input.specs.Commands.{command_named, count_in, workload_in, judge_named, judge_in, request_of, IsInRange};

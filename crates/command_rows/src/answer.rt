@@ -1,7 +1,7 @@
 //! What the top call answers to a row.
 
 use crate::world::World;
-use oa_cli::{RememberingSource, Status, explain_read, oa_main, status_number};
+use oa_cli::{RememberingSource, Status, explain_status, oa_main, status_number};
 use oa_text::{MemorySink, MemorySource, OpenGate};
 use row_spelling::{NamedLines, RowError, one_line, spelled};
 use std::alloc::{AllocError, Global};
@@ -31,7 +31,7 @@ fn message(
     source: &RememberingSource<MemorySource>,
 ) -> Result<String, AllocError> {
     let mut errors = MemorySink::new(alloc, 4096, Vec::new(alloc));
-    match explain_read(&mut errors, source, status) {
+    match explain_status(&mut errors, source, status) {
         Ok(()) => one_line(alloc, errors.bytes()),
         Err(_) => one_line(alloc, errors.bytes()),
     }

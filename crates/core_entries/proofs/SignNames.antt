@@ -28,7 +28,7 @@ use Rattle.caller_parts.specs.declared.routine.Routine.TheVariants.{Idle, LoadSe
 use Rattle.caller_parts.specs.Settings.{Setting}
 use Rattle.caller_parts.specs.Operands.{succeeds, to_retire, list_of, with_word, with_new, register_number, slot_in}
 use Rattle.caller_steps.specs.Entries.{Entry, code_in, instr_in, cradle_of}
-use Rattle.caller_steps.specs.Signs.{Accesses, Moved, quiet}
+use Rattle.caller_steps.specs.Signs.{Accesses, quiet}
 use Rattle.caller_steps.specs.Signs as steps
 use Rattle.caller_steps.specs.After.{plain_stop, wrap_up_stops, wrap_up_hand, wrap_up_begun, run_to, announced_stop, stop_at, stops, settles, list_goes, list_failed, retires_then, cas_ended, plain_accepted, instr_accepted, checked, restart_on, seen_loaded, entry_ended, list_accepted, retired_on, claim_counted, claim_on, zeroed, accepted, counted, signs, with_access, with_published, with_hand, with_routine, with_restart, hand_at, first_spot, goes_on, method_begun, generator_begun, announced}
 use Rattle.guard_words.specs.Guards.{with_guard, pass_check}
@@ -36,7 +36,7 @@ use Rattle.caller_steps.specs.Clearing.{restart_next, unguarded}
 use Rattle.target_code.specs.LocalCode.{target_run}
 use Rattle.core_entries.specs.declared.signs.Sign.{Sign}
 use Rattle.core_entries.specs.declared.signs.Run.{Run}
-use Rattle.core_entries.specs.StepSigns.{is_plain, is_of_text, named, all_named, step_signs}
+use Rattle.core_entries.specs.StepSigns.{is_plain_at, is_of_text, named, all_named, step_signs}
 use Rattle.core_entries.specs.StepRuns.{next_run, method_run, start_named, check_named, instr_named, list_named, end_named, stores_more, fresh_named, announcing_named, first_sign, restart_run, check_run, retire_run, cas_run, plain_run, instr_run, retired_run, restart_after, zeroed_run, announcing_run, run_after, plain_ends, stop_ends, run_ends, end_signs, signs_of}
 
 -- an access that the source owes, or none
@@ -172,7 +172,7 @@ module _ (target : Target) (sizes : Sizes) (word : ℕ) where
   plain_is by (instr.Cas exchange l) e = tells_first true steps.Accesses _ _ (cas_owes by exchange l e _ refl)
   plain_is by _ e = refl
 
-  instr_is : (by : Reclamation) (i : Option TargetInstr) (e : Entry) → all_named (is_plain i) (instr_accepted by target sizes i word e).signs ≡ signs_of (instr_named by i e.hand.seen word) (ends_of e (instr_run by target e i word))
+  instr_is : (by : Reclamation) (i : Option TargetInstr) (e : Entry) → all_named (is_plain_at i) (instr_accepted by target sizes i word e).signs ≡ signs_of (instr_named by i e.hand.seen word) (ends_of e (instr_run by target e i word))
   instr_is by None e = refl
   instr_is by (Some (Plain i)) e = plain_is by i e
   instr_is Optimistic (Some Check) e = check_is _ e refl

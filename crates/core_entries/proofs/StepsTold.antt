@@ -119,10 +119,6 @@ both : (b : Bool) → b && b ≡ b
 both true = refl
 both false = refl
 
-none_owed : (b : Bool) → b && false ≡ false
-none_owed true = refl
-none_owed false = refl
-
 module _ (target : Target) (setting : Setting) (words later : List ℕ) (e e' : RoomyEntry) (optimistic : setting.reclamation ≡ Optimistic) (step : StepIs target setting words later e e') (at : e.core.routine ≡ At) where
   abbrev old : Entry
   old = e.core

@@ -15,16 +15,16 @@ use Rattle.core_entries.specs.declared.signs.Sign.{Sign}
 use Rattle.core_entries.specs.declared.signs.Sign.TheVariants.{Begin, Access, Fresh, Restart, End, Full, Phases}
 
 -- the access that the entry makes next is one of the text
-abbrev pub is_plain : Option TargetInstr → Bool
-is_plain None = false
-is_plain (Some (Plain i)) = true
-is_plain (Some Check) = false
-is_plain (Some (Guard r)) = false
+abbrev pub is_plain_at : Option TargetInstr → Bool
+is_plain_at None = false
+is_plain_at (Some (Plain i)) = true
+is_plain_at (Some Check) = false
+is_plain_at (Some (Guard r)) = false
 
 abbrev pub is_of_text : Target → Entry → Routine → Bool
 is_of_text target e Idle = false
 is_of_text target e (LoadSeen why) = false
-is_of_text target e At = is_plain (instr_in target e)
+is_of_text target e At = is_plain_at (instr_in target e)
 is_of_text target e (InList k) = true
 is_of_text target e (Retires retirement go) = false
 is_of_text target e Restarts = false

@@ -1,4 +1,4 @@
-//! Entries of the core and the words on which they step: what a caller of a barred target, or of a text as it is, does next, and its step on plain words.
+//! What a caller of a barred target, or of a text as it is, does next, and its step on plain words.
 #![tactic(auto)]
 
 pub mod entry;

@@ -1,6 +1,6 @@
 //! Where the slots of each kind begin and end, and where the initial nodes stand.
 
-ghost use Rattle.std.specs.Prelude.{◌≡◌, ◌≤◌, ◌<◌, ◌*◌, ◌+◌, ◌^◌, length, slice_index, option_copied, option_map, nat_lt};
+ghost use Rattle.std.specs.Prelude.{◌≡◌, ◌≤◌, ◌<◌, ◌+◌, ◌^◌, length, slice_index, option_copied, option_map, nat_lt};
 ghost use Rattle.oa_words.specs.SlotKinds.{first_of, range_of, range_at, kind_of, sum_before};
 ghost use Rattle.oa_words.specs.Starts.{first_ready, slot_or_none, start_node};
 ghost use Rattle.core_runs.specs.Machine.{node_words};

@@ -35,9 +35,8 @@ unfolding wants
 idle_wants target e a idle want = wanted_idle target e a e.routine idle want
 
 pub bumped_last : (xs : List Running) (x : Running) → bumped (xs ++ x ∷ []) ≡ xs ++ record x { steps = one_more x.steps } ∷ []
-bumped_last [] x = refl
-bumped_last (y ∷ []) x = refl
 bumped_last (y ∷ z ∷ ys) x = ap (λ (l : List Running). y ∷ l) (bumped_last (z ∷ ys) x)
+bumped_last _ x = refl
 
 -- a step of a call that runs
 pub step_keeps : (target : Target) (setting : Setting) (e : Entry) (w : ℕ) → is_idle e.routine ≡ false → calls_of (after target setting e w) ≡ bumped (calls_of e)
@@ -75,11 +74,9 @@ got_same (x ∷ xs) zero a b e = refl
 got_same (x ∷ xs) (suc i) a b e = got_same xs i a b e
 
 pub got_other : (l : List Entry) (i j : ℕ) (a : Entry) → j ≢ i → slice_get (set l i a) j ≡ slice_get l j
-got_other [] i j a n = refl
 got_other (x ∷ xs) zero zero a n = absurd (n refl)
-got_other (x ∷ xs) zero (suc j) a n = refl
-got_other (x ∷ xs) (suc i) zero a n = refl
 got_other (x ∷ xs) (suc i) (suc j) a n = got_other xs i j a (λ e. n (ap suc e))
+got_other _ _ _ a n = refl
 
 -- one entry changes, to one with these calls
 one_changes : (state mid : CoreState) (words : List ℕ) (k c : ℕ) (d new e : Entry) (f : List Running → List Running) → record { words = words; entries = slice_set state.entries k new } ≡ mid
@@ -100,8 +97,7 @@ event_keeps target setting state mid (Takes k call) c e goes there = of (slice_g
   by : (d : Entry) → slice_get state.entries k ≡ Some d → (i : Bool) → is_idle d.routine ≡ i → (b : Bool) → is_call target call ≡ b
       → (if i && b then Some (record state { entries = slice_set state.entries k (taken setting.reclamation call d) }) else None) ≡ Some mid → Keeping mid c (with_event c (Takes k call) (calls_of e))
   by d at true idle true is became = one_changes state mid state.words k c d (taken setting.reclamation call d) e (λ (l : List Running). l ++ record { call = call; steps = 0 } ∷ []) (some_is _ mid became) at there (take_keeps setting.reclamation d call idle)
-  by d at true idle false is became = absurd (let z : None ≡ Some mid = became in cc)
-  by d at false idle b is became = absurd (let z : None ≡ Some mid = became in cc)
+  by d at _ idle _ is became = absurd (let z : None ≡ Some mid = became in cc)
 
   of : (o : Option Entry) → slice_get state.entries k ≡ o → event_by target setting state (Takes k call) o ≡ Some mid → Keeping mid c (with_event c (Takes k call) (calls_of e))
   of None at became = absurd (let z : None ≡ Some mid = became in cc)

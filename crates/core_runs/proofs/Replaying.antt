@@ -19,7 +19,7 @@ use Rattle.caller_steps.specs.Entries.{Entry, one_more, is_idle}
 use Rattle.caller_parts.specs.Calls.{is_call}
 use Rattle.caller_steps.specs.Wants.{wants}
 use Rattle.caller_steps.specs.After.{after, taken}
-use Rattle.core_runs.specs.Machine.{CoreState, CoreEvent, Takes, Steps, mover, core_event, core_run, run_on, core_start, event_by, stepped, found_by}
+use Rattle.core_runs.specs.Machine.{CoreState, CoreEvent, Takes, Steps, core_mover, core_event, core_run, run_on, core_start, event_by, stepped, found_by}
 use Rattle.core_runs.specs.Histories.{bumped, with_event, with_events, running_of, calls_of, calls_in}
 use Rattle.core_runs.specs.Scripts.{script_of, AreOfScript, last_steps, HasEnded, IsCompleteRun, SuitScripts}
 use Rattle.core_runs.specs.Replays.{Replay, Replaying, Refusal, StepOfNobody, LongReplay, replay_start, is_spent, take_events, caller_events, next_events, stepped_to, step_by, one_step, go_further, most_steps, wants_kind, steps_made, upto_made, ended_calls, ops_made, turn_made, turns_made, ended_or, caller_ended, callers_ended, replayed, steps_in, ReplaysReach}
@@ -56,9 +56,8 @@ of_script_last fuel [] (taken ∷ more) x of = absurd of
 of_script_last fuel (call ∷ script) (taken ∷ more) x of = of_script_last fuel script more x of.2
 
 last_is : (calls : List Running) (x : Running) → last_steps (calls ++ x ∷ []) ≡ x.steps
-last_is [] x = refl
-last_is (y ∷ []) x = refl
 last_is (y ∷ z ∷ ys) x = last_is (z ∷ ys) x
+last_is _ x = refl
 
 mapped : (l : List Replied) → length (map run_of l) ≡ length l
 mapped [] = refl
@@ -128,7 +127,7 @@ stepped_ok p c r r' ok = of (next_events p c r) refl ok where
 -- all events are of one caller
 abbrev OfOne : ℕ → List CoreEvent → Type 0
 OfOne c [] = Unit {0}
-OfOne c (event ∷ events) = (mover event ≡ c) × OfOne c events
+OfOne c (event ∷ events) = (core_mover event ≡ c) × OfOne c events
 
 steps_both : (events more : List CoreEvent) → steps_in (events ++ more) ≡ steps_in events + steps_in more
 steps_both [] more = let e : steps_in more ≡ 0 + steps_in more = omega arith in e
@@ -156,7 +155,7 @@ next_are p c r events is = of (slice_get r.state.entries c) is where
 
 -- ---- other callers stay
 
-event_others : (target : Target) (setting : Setting) (state mid : CoreState) (event : CoreEvent) (k : ℕ) → core_event target setting state event ≡ Some mid → k ≢ mover event
+event_others : (target : Target) (setting : Setting) (state mid : CoreState) (event : CoreEvent) (k : ℕ) → core_event target setting state event ≡ Some mid → k ≢ core_mover event
     → slice_get mid.entries k ≡ slice_get state.entries k
 event_others target setting state mid (Takes c call) k goes other = of (slice_get state.entries c) goes where
   by : (d : Entry) (b : Bool) → (if b then Some (record state { entries = slice_set state.entries c (taken setting.reclamation call d) }) else None) ≡ Some mid → slice_get mid.entries k ≡ slice_get state.entries k

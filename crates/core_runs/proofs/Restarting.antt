@@ -13,7 +13,7 @@ use Rattle.phase_pools.specs.declared.access.ClaimEnd.TheVariants as ends
 use Rattle.phase_pools.specs.declared.access.SweepEnd.{SweepEnd}
 use Rattle.phase_pools.specs.declared.access.SweepEnd.TheVariants as swept
 use Rattle.phase_pools.specs.declared.stages.Scheme.{Scheme}
-use Rattle.phase_pools.specs.declared.stages.Scheme.TheVariants.{Warned, Announced}
+use Rattle.phase_pools.specs.declared.stages.Scheme.TheVariants.{Announced}
 use Rattle.phase_pools.specs.declared.stages.ClaimStage.{ClaimStage}
 use Rattle.phase_pools.specs.declared.stages.ClaimStage.TheVariants as claims
 use Rattle.phase_pools.specs.Accesses.{WordAccess}
@@ -43,15 +43,12 @@ use Rattle.core_runs.proofs.caller_laws.Routed.{HoldsAtStarts, step_routed}
 
 -- it doesn't end with a slot
 abbrev NoSlot : Option ClaimEnd → Type 0
-NoSlot None = Unit {0}
 NoSlot (Some (ends.Claimed j)) = ⊥
-NoSlot (Some ends.Full) = Unit {0}
-NoSlot (Some (ends.PhasesOver p)) = Unit {0}
+NoSlot _ = Unit {0}
 
 follows_no_slot : (scheme : Scheme) (made : ℕ) (claim : Claim) → NoSlot (sweep_follows scheme made claim).ended
-follows_no_slot Warned made claim = tt
 follows_no_slot (Announced own) zero claim = tt
-follows_no_slot (Announced own) (suc made) claim = tt
+follows_no_slot _ _ claim = tt
 
 ended_no_slot : (claim : Claim) → NoSlot (look_ended claim).ended
 ended_no_slot claim = of (claim.sweeps == 2) where
@@ -72,9 +69,8 @@ took_no_slot claim q t word = of (word == head_word q t) where
   of false = tt
 
 swept_no_slot : (claim : Claim) (sweep : Sweep) (end : Option SweepEnd) → NoSlot (sweep_ended claim sweep end).ended
-swept_no_slot claim sweep None = tt
 swept_no_slot claim sweep (Some swept.Swept) = tt
-swept_no_slot claim sweep (Some (swept.PhasesOver p)) = tt
+swept_no_slot claim sweep _ = tt
 
 -- ---- what a claim's step leaves
 
@@ -180,15 +176,7 @@ step_leaves : (target : Target) (setting : Setting) (word : ℕ) (e : Entry) (ro
 step_leaves target setting word e (Claims claim) is =
     counted_leaves (ends_swept (Claims claim)) (claim_takes claim word) e (accepted Epochs target setting word e (Claims claim)).entry
     (claim_leaves target setting.sizes setting.last claim word claim.stage (claim_counted (claim_takes claim word) e))
-step_leaves target setting word e Idle is = other_leaves target setting word e Idle is (λ claim no. cc)
-step_leaves target setting word e (LoadSeen why) is = other_leaves target setting word e (LoadSeen why) is (λ claim no. cc)
-step_leaves target setting word e At is = other_leaves target setting word e At is (λ claim no. cc)
-step_leaves target setting word e (InList k) is = other_leaves target setting word e (InList k) is (λ claim no. cc)
-step_leaves target setting word e (Retires retirement go) is = other_leaves target setting word e (Retires retirement go) is (λ claim no. cc)
-step_leaves target setting word e Restarts is = other_leaves target setting word e Restarts is (λ claim no. cc)
-step_leaves target setting word e (Clears next) is = other_leaves target setting word e (Clears next) is (λ claim no. cc)
-step_leaves target setting word e (Zeroes k field) is = other_leaves target setting word e (Zeroes k field) is (λ claim no. cc)
-step_leaves target setting word e (Announces announcing) is = other_leaves target setting word e (Announces announcing) is (λ claim no. cc)
+step_leaves target setting word e routine is = other_leaves target setting word e routine is (λ claim no. cc)
 
 after_leaves : (target : Target) (setting : Setting) → setting.reclamation ≡ Epochs → (e : Entry) (word : ℕ) → Leaves (ends_swept e.routine) e (after target setting e word)
 unfolding after

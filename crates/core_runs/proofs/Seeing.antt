@@ -4,6 +4,7 @@ use Rattle.std.specs.Prelude.{slice_get, slice_index, unwrap_or}
 use Rattle.std.proofs.Math.Path.{fun_ext}
 use Rattle.std.proofs.lemmas.Bool.Decides.{eqb_tells}
 use Rattle.std.proofs.lemmas.Option.{slice_get_within}
+use Rattle.std.proofs.lemmas.Bool.{and_from}
 use Rattle.target_code.specs.declared.target.Target.{Target}
 use Rattle.oa_words.specs.Words.{Word, Sizes, address_of, in_row, word_count}
 use Rattle.oa_words.proofs.Places.{within, apart}
@@ -42,11 +43,9 @@ same_entry (x ∷ xs) zero e f lt = refl
 same_entry (x ∷ xs) (suc c) e f lt = same_entry xs c e f (omega (arith, lt))
 
 other_entry : (es : List Entry) (c d : ℕ) (e f : Entry) → d ≢ c → unwrap_or (slice_get (set es c e) d) f ≡ unwrap_or (slice_get es d) f
-other_entry [] c d e f isnt = refl
 other_entry (x ∷ xs) zero zero e f isnt = absurd (isnt refl)
-other_entry (x ∷ xs) zero (suc d) e f isnt = refl
-other_entry (x ∷ xs) (suc c) zero e f isnt = refl
 other_entry (x ∷ xs) (suc c) (suc d) e f isnt = other_entry xs c d e f (λ is. isnt (ap suc is))
+other_entry _ _ _ e f isnt = refl
 
 abbrev pub who_of : List Entry → ℕ → Entry
 who_of es c = unwrap_or (slice_get es c) (idle_entry c)
@@ -62,9 +61,6 @@ there_is : (es : List Entry) (c : ℕ) → c < length es → (e : Entry) × (sli
 there_is [] c lt = absurd (omega (arith, lt))
 there_is (e ∷ es) zero lt = (e, refl)
 there_is (e ∷ es) (suc c) lt = there_is es c (omega (arith, lt))
-
-both : (a b : Bool) → a ≡ true → b ≡ true → (a && b) ≡ true
-both a b p q = rw (p, q) refl
 
 pub found_is : (setting : Setting) (state : CoreState) (a : WordAccess) → in_row setting.sizes (word_of a) ≡ true → seen setting.sizes state.words (word_of a) ≡ found_by setting state a
 found_is setting state a row = ap (λ (b : Bool). if b then found_by setting state a else 0) row
@@ -108,8 +104,7 @@ module _ {target : Target} {setting : Setting} where
         → (if i && k then Some (record state { entries = set state.entries c (taken setting.reclamation call e) }) else None) ≡ Some later → Moves target setting (view setting state) (Takes c call) (view setting later)
     by e at true idle true call_is became =
         subst (λ (x : CoreState). Moves target setting (view setting state) (Takes c call) (view setting x)) (some_is (record state { entries = set state.entries c (taken setting.reclamation call e) }) later became) (take_moves state c call e s at idle call_is)
-    by e at true idle false call_is became = absurd cc
-    by e at false idle k call_is became = absurd cc
+    by e at _ idle _ call_is became = absurd cc
 
     of : (o : Option Entry) → slice_get state.entries c ≡ o → event_by target setting state (Takes c call) o ≡ Some later → Moves target setting (view setting state) (Takes c call) (view setting later)
     of None at became = absurd cc
@@ -137,7 +132,7 @@ module _ {target : Target} {setting : Setting} where
   can_take state c call s lt idle is =
       let e = who_of state.entries c in
       let later : CoreState = record state { entries = set state.entries c (taken setting.reclamation call e) } in
-      (later, ap (event_by target setting state (Takes c call)) (caller_there state c s lt) ∙ ap (λ (b : Bool). if b then Some later else None) (both (is_idle e.routine) (is_call target call) idle is))
+      (later, ap (event_by target setting state (Takes c call)) (caller_there state c s lt) ∙ ap (λ (b : Bool). if b then Some later else None) (and_from (is_idle e.routine) (is_call target call) idle is))
 
   can_step : (state : CoreState) (c : ℕ) (a : WordAccess) → IsShaped target setting state → c < setting.sizes.callers → wants target (who_of state.entries c) ≡ Some a
       → (later : CoreState) × (core_event target setting state (Steps c) ≡ Some later)

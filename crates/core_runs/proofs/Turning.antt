@@ -104,10 +104,8 @@ module _ (target : Target) (sizes : Sizes) where
   wrap_up_stopped_turns : (e : Entry) → Turns e (wrap_up_stopped target e).entry
   wrap_up_stopped_turns e = of (instr_in target e) where
     of : (o : Option TargetInstr) → Turns e (wrap_up_stops o e).entry
-    of None = stays e At refl
-    of (Some Check) = stays e At refl
-    of (Some (Guard r)) = stays e At refl
     of (Some (Plain i)) = wrap_up_turns i e
+    of _ = stays e At refl
 
   wrap_up_begun_turns : (made : ℕ) (e : Entry) → Turns e (wrap_up_begun target made e).entry
   wrap_up_begun_turns made e =
@@ -130,10 +128,8 @@ module _ (target : Target) (sizes : Sizes) where
   stopped_turns : (by : Reclamation) (e : Entry) → Turns e (stopped by target sizes e).entry
   stopped_turns by e = of (instr_in target e) where
     of : (o : Option TargetInstr) → Turns e (stops by target sizes o e).entry
-    of None = stays e At refl
-    of (Some Check) = stays e At refl
-    of (Some (Guard r)) = stays e At refl
     of (Some (Plain i)) = stop_turns by i e
+    of _ = stays e At refl
 
   settles_turns : (by : Reclamation) (spot : Spot) (e : Entry) → Turns e (settles by target sizes spot e).entry
   settles_turns by spot e = stopped_turns by (run_to target spot e)
@@ -242,9 +238,8 @@ module _ (target : Target) (sizes : Sizes) where
   retired_turns by go (Some retirement) e = (refl, inl (refl, refl, refl), refl)
 
   gained_turns : (by : Reclamation) (made j : ℕ) (e : Entry) → Turned e (slot_gained by target made j e)
-  gained_turns Optimistic made j e = (refl, inl (refl, refl, refl))
   gained_turns Epochs zero j e = (refl, inl (refl, refl, refl))
-  gained_turns Epochs (suc swept) j e = (refl, inl (refl, refl, refl))
+  gained_turns _ _ j e = (refl, inl (refl, refl, refl))
 
   claim_turns : (by : Reclamation) (claim : Claim) (o : Option ClaimEnd) (e : Entry) → Turned e (claim_on by target claim o e).entry
   claim_turns by claim None e = (refl, inl (refl, refl, refl))

@@ -95,13 +95,13 @@ event_by target setting state event None = None
 event_by target setting state (Takes c call) (Some e) = takes setting.reclamation target state c call e
 event_by target setting state (Steps c) (Some e) = stepped target setting state c e (wants target e)
 
-abbrev pub mover : CoreEvent → ℕ
-mover (Takes c call) = c
-mover (Steps c) = c
+abbrev pub core_mover : CoreEvent → ℕ
+core_mover (Takes c call) = c
+core_mover (Steps c) = c
 
 -- one event, where it is enabled; all other words and entries stay
 abbrev pub core_event : Target → Setting → CoreState → CoreEvent → Option CoreState
-core_event target setting state event = event_by target setting state event (slice_get state.entries (mover event))
+core_event target setting state event = event_by target setting state event (slice_get state.entries (core_mover event))
 
 -- ---- runs
 

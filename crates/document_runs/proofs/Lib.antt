@@ -4,3 +4,4 @@ mod Answering
 mod Totals
 mod PlanLaws
 mod EpochLaws
+mod Halting

@@ -4,3 +4,4 @@ pub mod Runs
 pub mod Blanks
 pub mod PlanRuns
 pub mod Epochs
+pub mod Stops

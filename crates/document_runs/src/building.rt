@@ -2,7 +2,6 @@
 
 ghost use Rattle.std.specs.Prelude.{◌≡◌, ◌<◌, ◌^◌, ◌++◌, length, map, option_copied, slice_get, IfOk};
 ghost use Rattle.std.specs.List.{sum_by};
-ghost use Rattle.caller_parts.specs.Pairing.{reply_of};
 ghost use Rattle.oa_core.specs.Finals.{core_part, core_of};
 ghost use Rattle.documents.specs.DocumentLimits.{AreShort};
 ghost use Rattle.document_runs.specs.declared.report.Answer.TheVariants as answers;

@@ -7,8 +7,10 @@ mod epochs;
 mod printing;
 mod report;
 mod running;
+mod stopping;
 
 pub use epochs::epoch_document;
 pub use printing::{count_short, is_partial, show_report};
 pub use report::{Answer, Report, ReportLine, ReportLines};
 pub use running::{replay_document, run_document};
+pub use stopping::whole_turns;

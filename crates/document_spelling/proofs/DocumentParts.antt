@@ -1,5 +1,5 @@
 -- What each document has for which bytes stand, part by part.
-use Rattle.std.specs.Prelude.{◌≡◌, ℕ, zero, suc, ◌+◌, ◌^◌, ◌≤◌, ◌&&◌, Bool, true, false, List, [], ◌∷◌, ◌++◌, map, length, set, replicate, Option, Some, None, Result, Ok, Err, IfOk, codes, decimal, nat_lt, nat_le, if◌then◌else◌}
+use Rattle.std.specs.Prelude.{◌≡◌, ℕ, zero, suc, ◌+◌, ◌^◌, ◌≤◌, ◌&&◌, Bool, true, false, List, [], ◌∷◌, ◌++◌, map, length, set, Option, Some, None, Result, Ok, Err, IfOk, codes, decimal, nat_lt, nat_le, if◌then◌else◌}
 use Rattle.std.specs.List.{list_all, AllByRecursion}
 use Rattle.std.specs.Str.{bytes_eq}
 use Rattle.std.proofs.Common.{refl, ◌∙◌, sym, arith, length-append}
@@ -27,13 +27,14 @@ use Rattle.documents.specs.declared.document.ScriptCall.{ScriptCall}
 use Rattle.documents.specs.declared.document.Document.{Document}
 use Rattle.documents.specs.DocumentLimits.{count_of}
 use Rattle.documents.specs.TailLines.{Counts, Phases, is_from, is_number as is_the_number, slots_line, fuel_line, phases_line, script_line, values_in, arguments_at, call_line, step_kind_at, counts_of, counts_at, upto_line, turn_line}
-use Rattle.documents.specs.DocumentRead.{Stage, AfterText, AfterPhases, AfterFuel, InScript, InSchedule, Tail, default_slots, empty_tail, is_after_text, may_set_fuel, whole_scripts_in, whole_scripts, with_script, with_schedule, with_slots, begins, in_settings, in_calls, in_schedule, in_stage, after_words, after_line, after_lines, document_of, document_read, IsDocument}
+use Rattle.documents.specs.DocumentRead.{Stage, AfterPhases, AfterFuel, InScript, InSchedule, Tail, default_slots, empty_tail, is_after_text, may_set_fuel, whole_scripts_in, whole_scripts, with_script, with_schedule, with_slots, begins, in_settings, in_calls, in_schedule, in_stage, after_words, after_line, after_lines, document_of, document_read, IsDocument}
 use Rattle.text_laws.specs.StandsFor.{is_plain_byte, is_plain_line}
 use Rattle.text_laws.proofs.Readings.{then_has, anyhow, demanded, either}
 use Rattle.text_laws.proofs.LineLimits.{number_then, positive_then, value_then, value_above_then, up_to_then, Fits, FitsAbove}
 use Rattle.text_laws.proofs.WordsSaid.{numeral_said}
 use Rattle.text_laws.proofs.DraftLimits.{Kept, at_line_has, lines_kept as drafts_kept, nothing_declared, finished_is}
 use Rattle.text_laws.proofs.TextsSaid.{line_plain}
+use Rattle.text_laws.proofs.FieldGroups.{all_repeated}
 use Rattle.document_spelling.specs.Spelling.{spelled_call}
 use Rattle.document_spelling.proofs.JoinedWords.{words_no_longer}
 
@@ -92,10 +93,6 @@ set_passes test (x ∷ xs) zero n all passes = and_from (test n) (list_all test 
 set_passes test (x ∷ xs) (suc i) n all passes =
     let parts = and_parts (test x) (list_all test xs) all in
     and_from (test x) (list_all test (set xs i n)) parts.0 (set_passes test xs i n parts.1 passes)
-
-copies_pass : (test : ℕ → Bool) (count n : ℕ) → test n ≡ true → list_all test (replicate count n) ≡ true
-copies_pass test zero n passes = refl
-copies_pass test (suc count) n passes = and_from (test n) (list_all test (replicate count n)) passes (copies_pass test count n passes)
 
 -- ---- calls
 
@@ -197,26 +194,17 @@ no_calls : IsScript []
 no_calls = record { few = omega arith; each = tt }
 
 all_scripts : (stage : Stage) (scripts : List (List ScriptCall)) (script : List ScriptCall) → AllByRecursion IsScript scripts → IsScript script → AllByRecursion IsScript (whole_scripts_in stage scripts script)
-all_scripts AfterText scripts script all last = all
-all_scripts AfterPhases scripts script all last = all
-all_scripts AfterFuel scripts script all last = all
 all_scripts InScript scripts script all last = pushed IsScript scripts script all last
-all_scripts InSchedule scripts script all last = all
+all_scripts _ scripts script all last = all
 
 -- another script in the place of the last one
 same_count : (stage : Stage) (scripts : List (List ScriptCall)) (script other : List ScriptCall) → length (whole_scripts_in stage scripts script) ≡ length (whole_scripts_in stage scripts other)
-same_count AfterText scripts script other = refl
-same_count AfterPhases scripts script other = refl
-same_count AfterFuel scripts script other = refl
 same_count InScript scripts script other = one_more scripts script ∙ sym (one_more scripts other)
-same_count InSchedule scripts script other = refl
+same_count _ scripts script other = refl
 
 own_count : (stage : Stage) (scripts : List (List ScriptCall)) (script : List ScriptCall) → length scripts ≤ length (whole_scripts_in stage scripts script)
-own_count AfterText scripts script = omega arith
-own_count AfterPhases scripts script = omega arith
-own_count AfterFuel scripts script = omega arith
 own_count InScript scripts script = omega (arith, one_more scripts script)
-own_count InSchedule scripts script = omega arith
+own_count _ scripts script = omega arith
 
 scripts_kept : (kinds : ℕ) (tail : Tail) → IsKept kinds tail → AllByRecursion IsScript (whole_scripts tail)
 scripts_kept kinds tail kept = all_scripts tail.stage tail.scripts tail.script kept.scripts kept.script
@@ -379,11 +367,9 @@ turns_kept kinds tail word rest kept =
 
 stage_kept : (kinds : ℕ) (stage : Stage) (tail : Tail) (line : ℕ) (word : List ℕ) (rest : List (List ℕ)) → length (joined_words (word ∷ rest)) ≤ 200 → IsKept kinds tail
     → IfOk (in_stage stage tail line word rest) (IsKept kinds)
-stage_kept kinds AfterText tail line word rest short kept = settings_kept kinds tail word rest kept
-stage_kept kinds AfterPhases tail line word rest short kept = settings_kept kinds tail word rest kept
-stage_kept kinds AfterFuel tail line word rest short kept = settings_kept kinds tail word rest kept
 stage_kept kinds InScript tail line word rest short kept = calls_kept kinds tail line word rest short kept
 stage_kept kinds InSchedule tail line word rest short kept = turns_kept kinds tail word rest kept
+stage_kept kinds _ tail line word rest short kept = settings_kept kinds tail word rest kept
 
 words_kept : (kinds : ℕ) (tail : Tail) (line : ℕ) (words : List (List ℕ)) → length (joined_words words) ≤ 200 → IsKept kinds tail → IfOk (after_words tail line (first_word words)) (IsKept kinds)
 words_kept kinds tail line [] short kept = kept
@@ -413,7 +399,7 @@ lines_kept kinds tail (line ∷ lines) kept =
 empty_kept : (version : Version) (kinds : List (List ℕ)) → IsKept (length kinds) (empty_tail version kinds)
 empty_kept version kinds = record {
   slots = length-replicate (length kinds) default_slots;
-  counts = copies_pass is_number (length kinds) default_slots refl;
+  counts = all_repeated is_number (length kinds) default_slots refl;
   first = refl;
   last = refl;
   fuel = refl;

@@ -6,6 +6,7 @@ use Rattle.std.proofs.lemmas.Bool.{and_from, and_parts, lt-ltb, ltb-true}
 use Rattle.std.proofs.lemmas.Bool.Decides.{nat_tests}
 use Rattle.std.proofs.lemmas.List.{append-nil, length-map}
 use Rattle.oa_text.specs.Numbers.{is_numeral}
+use Rattle.oa_text.proofs.Again.{decimal_numeral, number_of_decimal}
 use Rattle.norm_lang.specs.declared.text.Text.{Text}
 use Rattle.norm_lang.specs.LineWords.{is_lower, is_name_byte, is_name}
 use Rattle.norm_lang.specs.Grammar.{is_comment}
@@ -18,7 +19,6 @@ use Rattle.schedule_turns.specs.declared.turn.Turn.TheVariants as turns
 use Rattle.documents.specs.declared.document.ScriptCall.{ScriptCall}
 use Rattle.documents.specs.TailLines.{values_in, arguments_at, step_kind_at, counts_at, upto_line}
 use Rattle.documents.specs.DocumentRead.{InScript, InSchedule, Tail, after_words, document_of}
-use Rattle.text_laws.proofs.SpelledWords.{decimal_numeral, decimal_value}
 use Rattle.text_laws.proofs.WordsRead.{number_read}
 use Rattle.document_spelling.specs.Spelling.{spelled_call, script_lines, scripts_lines, step_kind_word, spelled_turn, turn_lines, schedule_lines}
 use Rattle.document_spelling.specs.SpellingLaws.{calls_from, scripts_from}
@@ -37,7 +37,7 @@ values_read : (args : List ℕ) → list_all is_number args ≡ true → values_
 values_read [] all = refl
 values_read (n ∷ args) all =
     let parts = and_parts (is_number n) (list_all is_number args) all in
-    rw (decimal_value n (ltb-true n (2 ^ 64) parts.0), parts.0, values_read args parts.1) refl
+    rw (number_of_decimal n (ltb-true n (2 ^ 64) parts.0), parts.0, values_read args parts.1) refl
 
 arguments_read : (args : List ℕ) → list_all is_number args ≡ true → arguments_at (map decimal args) ≡ Ok args
 arguments_read args all = rw (numerals args all) (values_read args all)
@@ -59,8 +59,7 @@ counts_read caller count is =
 
 kind_read : (kind : StepKind) (rest : List (List ℕ)) → step_kind_at (step_kind_word kind ∷ rest) ≡ Ok (kind, rest)
 kind_read steps.Load rest = refl
-kind_read steps.Check rest = refl
-kind_read steps.Exchange rest = refl
+kind_read _ rest = refl
 
 upto_read : (caller : ℕ) (kind : StepKind) (count : ℕ) → IsCount caller count → upto_line (decimal caller ∷ step_kind_word kind ∷ decimal count ∷ []) ≡ Ok (turns.Upto caller kind count)
 upto_read caller kind count is =
@@ -203,9 +202,8 @@ module _ (kinds : List (List ℕ)) (slots : List ℕ) (first last fuel : ℕ) wh
 
   schedule_said : (always : Bool) (scripts : List (List ScriptCall)) (schedule : List Turn) (tail : Tail) (n : ℕ) → IsBehind scripts tail → AllByRecursion IsTurn schedule → length schedule ≤ 100000
       → Says tail n (schedule_lines always schedule) scripts schedule
-  schedule_said true scripts schedule tail n is are few = turn_lines_said scripts schedule tail n is are few
   schedule_said false scripts [] tail n is are few = record { said = tail; read = refl; same = no_schedule scripts tail is }
-  schedule_said false scripts (turn ∷ schedule) tail n is are few = turn_lines_said scripts (turn ∷ schedule) tail n is are few
+  schedule_said _ scripts x tail n is are few = turn_lines_said scripts x tail n is are few
 
   -- the scripts and the schedule
   pub tail_said : (always : Bool) (scripts : List (List ScriptCall)) (schedule : List Turn) (n : ℕ) → AllByRecursion IsScript scripts → length scripts ≤ 256 → AllByRecursion IsTurn schedule

@@ -106,9 +106,8 @@ turns_plain [] are = tt
 turns_plain (turn ∷ schedule) are = (turn_plain turn are.0, turns_plain schedule are.1)
 
 schedule_plain : (always : Bool) (schedule : List Turn) → AllByRecursion IsTurn schedule → AllByRecursion IsPlain (schedule_lines always schedule)
-schedule_plain true schedule are = (one_word (codes "schedule") (keyword (codes "schedule") refl), turns_plain schedule are)
 schedule_plain false [] are = tt
-schedule_plain false (turn ∷ schedule) are = (one_word (codes "schedule") (keyword (codes "schedule") refl), turns_plain (turn ∷ schedule) are)
+schedule_plain _ x are = (one_word (codes "schedule") (keyword (codes "schedule") refl), turns_plain x are)
 
 -- the lines behind the text
 abbrev pub tail_lines : Bool → Document → List (List (List ℕ))

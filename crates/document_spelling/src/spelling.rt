@@ -1,14 +1,14 @@
 //! The canonical spelling of a document.
 
-ghost use Rattle.std.specs.Prelude.{◌≡◌, ◌∷◌, ◌++◌, OnOk, IfOk, map, slice_index, decimal, false};
+ghost use Rattle.std.specs.Prelude.{◌≡◌, ◌++◌, OnOk, IfOk, map, slice_index, false};
 ghost use Rattle.std.specs.List.{flat_map};
-ghost use Rattle.norm_lang.specs.Spelling.{spaced, line_bytes};
-ghost use Rattle.document_spelling.specs.Spelling.{slots_lines, setting_lines, spelled_call, script_lines, scripts_lines, step_kind_word, spelled_turn, turn_lines, schedule_lines, document_spelling};
+ghost use Rattle.norm_lang.specs.Spelling.{line_bytes};
+ghost use Rattle.document_spelling.specs.Spelling.{slots_lines, setting_lines, spelled_call, script_lines, scripts_lines, step_kind_word, spelled_turn, schedule_lines, document_spelling};
 
 use documents::{Document, Script, ScriptCall};
 use norm_lang::list::Listed;
 use norm_lang::show;
-use norm_lang::spelling::put_line;
+use norm_lang::spelling::{put_line, put_numbers};
 use norm_lang::text::{ByteText, Name};
 use norm_lang::word::Word::{Bytes, Number};
 use schedule_turns::{StepKind, Turn};
@@ -51,24 +51,6 @@ fn put_settings(alloc: Global, out: &mut Vec<u8>, document: &Document) -> Result
     let phases = [Number(document.first), Number(document.last)];
     put_line(alloc, out, b"phases", &phases)?;
     put_line(alloc, out, b"fuel", &[Number(document.fuel)])
-}
-
-fn put_number(alloc: Global, out: &mut Vec<u8>, n: u64) -> Result<(), AllocError>
-    ensures { OnOk result (out.new.items ≡ out.old.items ++ decimal n) }
-{
-    let digits = n.to_string(alloc)?;
-    out.extend_from_slice(digits.as_bytes())
-}
-
-// Each number after a space.
-fn put_numbers(alloc: Global, out: &mut Vec<u8>, numbers: &[u64]) -> Result<(), AllocError>
-    ensures { OnOk result (out.new.items ≡ out.old.items ++ spaced (map decimal numbers.now)) }
-{
-    for n in numbers {
-        out.push(b' ')?;
-        put_number(alloc, out, *n)?;
-    }
-    Ok(())
 }
 
 fn put_call(alloc: Global, out: &mut Vec<u8>, call: &ScriptCall) -> Result<(), AllocError>

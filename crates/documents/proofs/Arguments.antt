@@ -27,9 +27,8 @@ arguments_start words = ap (λ read. demand form_fault (list_all is_numeral word
 -- one more argument before what is read is one more after those so far
 settled_more : (args : List ℕ) (value : ℕ) (great : Bool) (read : Result (List ℕ) ℕ)
     → settled args great (read >>= λ rest. Ok (value ∷ rest)) ≡ settled (args ++ value ∷ []) great read
-settled_more args value true read = refl
 settled_more args value false (Ok rest) = rw (append_assoc args (value ∷ []) rest) refl
-settled_more args value false (Err fault) = refl
+settled_more args value _ _ = refl
 
 settled_great : (args : List ℕ) (great : Bool) (read : Result (List ℕ) ℕ) → settled args great (Err number_fault) ≡ settled args true read
 settled_great args true read = refl

@@ -19,7 +19,7 @@ use Rattle.schedule_turns.specs.declared.turn.Turn.TheVariants as turns
 use Rattle.documents.specs.declared.document.ScriptCall.{ScriptCall}
 use Rattle.documents.specs.declared.document.Document.{Document}
 use Rattle.documents.specs.TailLines.{slots_line, fuel_line, phases_line, script_line, call_line, arguments_at, Phases, Counts, counts_of, counts_at, step_kind_at, upto_line, turn_line}
-use Rattle.documents.specs.DocumentRead.{Stage, is_after_text, may_set_fuel, AfterText, AfterPhases, AfterFuel, InScript, InSchedule, Tail, default_slots, empty_tail, with_slots, whole_scripts_in, with_script, with_schedule, whole_scripts, begins, in_settings, in_calls, in_schedule, in_stage, after_words, after_line, after_lines, document_of, document_read}
+use Rattle.documents.specs.DocumentRead.{Stage, is_after_text, may_set_fuel, AfterPhases, AfterFuel, InScript, InSchedule, Tail, default_slots, empty_tail, with_slots, whole_scripts_in, with_script, with_schedule, whole_scripts, begins, in_settings, in_calls, in_schedule, in_stage, after_words, after_line, after_lines, document_of, document_read}
 use Rattle.documents.specs.DocumentLimits.{most_calls, AreShort, count_of, AreTurns, IsWithinDocumentLimits}
 
 abbrev Holds : {A E : Type 0} → (A → Type 0) → Result A E → Type 0
@@ -62,11 +62,8 @@ record IsKept (n : ℕ) (tail : Tail) : Type 0 where
   turns : AreTurns tail.schedule
 
 whole : (stage : Stage) (scripts : List (List ScriptCall)) (script : List ScriptCall) → AreShort scripts → length script ≤ 100000 → AreShort (whole_scripts_in stage scripts script)
-whole AfterText scripts script short last = short
-whole AfterPhases scripts script short last = short
-whole AfterFuel scripts script short last = short
 whole InScript scripts script short last = All-push (λ (script : List ScriptCall). length script ≤ most_calls) scripts script short last
-whole InSchedule scripts script short last = short
+whole _ scripts script short last = short
 
 scripts_kept : (n : ℕ) (tail : Tail) → IsKept n tail → AreShort (whole_scripts tail)
 scripts_kept n tail kept = whole tail.stage tail.scripts tail.script kept.scripts kept.script
@@ -184,11 +181,9 @@ schedule_kept n tail word rest kept =
     })))
 
 stage_kept : (n : ℕ) (stage : Stage) (tail : Tail) (line : ℕ) (word : List ℕ) (rest : List (List ℕ)) → IsKept n tail → Finds (IsKept n) (in_stage stage tail line word rest)
-stage_kept n AfterText tail line word rest kept = settings_kept n tail word rest kept
-stage_kept n AfterPhases tail line word rest kept = settings_kept n tail word rest kept
-stage_kept n AfterFuel tail line word rest kept = settings_kept n tail word rest kept
 stage_kept n InScript tail line word rest kept = calls_kept n tail line word rest kept
 stage_kept n InSchedule tail line word rest kept = schedule_kept n tail word rest kept
+stage_kept n _ tail line word rest kept = settings_kept n tail word rest kept
 
 words_kept : (n : ℕ) (tail : Tail) (line : ℕ) (words : Option (List ℕ × List (List ℕ))) → IsKept n tail → Finds (IsKept n) (after_words tail line words)
 words_kept n tail line None kept = found (IsKept n) tail kept

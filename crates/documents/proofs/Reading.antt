@@ -1,11 +1,8 @@
 -- The lines of a document after its text, one by one.
 use Rattle.std.proofs.Common.{◌≡◌, ℕ, ◌≤◌, List, [], ◌∷◌, length, Result, Ok, Err, refl, sym, ap, ◌∙◌}
-use Rattle.std.specs.Prelude.{nat_le, codes}
-use Rattle.std.proofs.lemmas.Bool.{and_parts, leb-true}
+use Rattle.std.specs.Prelude.{codes}
 use Rattle.oa_text.specs.Lines.{TextLine}
 use Rattle.norm_lang.specs.declared.text.Text.{Text}
-use Rattle.norm_lang.specs.Bounds.{most_kinds}
-use Rattle.norm_lang.specs.Limits.{has_between, are_kinds, IsWithinLimits}
 use Rattle.norm_lang.specs.Faults.{LineFault, at_line}
 use Rattle.norm_lang.specs.declared.text.Version.{Version}
 use Rattle.line_words.specs.declared.fault.ParseError.{ParseError}
@@ -21,13 +18,6 @@ use Rattle.documents.specs.DocumentRead.{Tail, empty_tail, after_line, after_lin
 -- the text before the lines, as it is kept, has few kinds
 pub few_kinds : (text kept : Text) → kept ≡ text → length text.kinds ≤ 4 → length kept.kinds ≤ 4
 few_kinds text kept same few = rw same few
-
--- a text within the limits has at most 4 kinds
-pub kinds_within : (text : Text) → IsWithinLimits text → length text.kinds ≤ 4
-kinds_within text within =
-    let kinds = and_parts (are_kinds text.kinds) _ within in
-    let counted = and_parts (has_between 1 most_kinds text.kinds) _ kinds.0 in
-    leb-true _ _ (and_parts (nat_le 1 (length text.kinds)) (nat_le (length text.kinds) most_kinds) counted.0).1
 
 -- ---- what is said after a text, line by line
 

@@ -87,8 +87,7 @@ opens_named : (next : Draft) (named : Bool) (read : Result Version ℕ)
     → (if named then (read >>= λ version. Ok (draft_at version Opening)) else Err form_fault) ≡ Ok next
     → (version : Version) × (next ≡ draft_at version Opening) × ((if named then (read >>= λ version. Ok (Some version)) else Err form_fault) ≡ Ok (Some version))
 opens_named next true (Ok version) same = (version, sym (ap (given next) same), refl)
-opens_named next true (Err fault) same = absurd (let f : ⊥ = cc in f)
-opens_named next false read same = absurd (let f : ⊥ = cc in f)
+opens_named next _ _ same = absurd (let f : ⊥ = cc in f)
 
 opens_words : (next : Draft) (word : List ℕ) (rest : List (List ℕ)) (skipped : Bool)
     → (if skipped then Ok (draft_at Second Start) else in_start (draft_at Second Start) word rest) ≡ Ok next

@@ -11,7 +11,7 @@ use Rattle.norm_lang.specs.declared.text.Version.{Version}
 use Rattle.norm_lang.specs.declared.text.Version.TheVariants.{First, Second}
 use Rattle.norm_lang.specs.Faults.{form_fault, ◌>>=◌, at_line}
 use Rattle.norm_lang.specs.Declarations.{use_line}
-use Rattle.norm_lang.specs.Grammar.{Section, Start, Opening, Kinds, Fields, Counts, Nodes, Roots, Begun, Generator, WrapUp, Shipped, Draft, first_declared, in_section, in_place, is_comment, plain, after_words as words_drafted, after_line as line_drafted, after_lines as lines_drafted}
+use Rattle.norm_lang.specs.Grammar.{Section, Opening, Shipped, Draft, first_declared, in_section, in_place, is_comment, plain, after_words as words_drafted, after_line as line_drafted, after_lines as lines_drafted}
 use Rattle.line_words.specs.Lines.{first_word}
 use Rattle.norm_parser.specs.FrontRead.{front_of, line_word, ends_text, names_text, text_lines, after_text}
 use Rattle.documents.specs.DocumentRead.{Tail, after_words, after_line, after_lines}
@@ -51,17 +51,8 @@ first_refused Second draft rest =
 
 -- wherever a text's line stands, it begins with none of these words
 refused : (section : Section) (draft : Draft) (rest : List (List ℕ)) (word : List ℕ) → ends_text word ≡ true → in_section section draft word rest ≡ form
-refused Start draft rest = five (λ word. in_section Start draft word rest ≡ form) refl refl refl refl refl
 refused Opening draft rest = first_refused draft.version draft rest
-refused Kinds draft rest = five (λ word. in_section Kinds draft word rest ≡ form) refl refl refl refl refl
-refused Fields draft rest = five (λ word. in_section Fields draft word rest ≡ form) refl refl refl refl refl
-refused Counts draft rest = five (λ word. in_section Counts draft word rest ≡ form) refl refl refl refl refl
-refused Nodes draft rest = five (λ word. in_section Nodes draft word rest ≡ form) refl refl refl refl refl
-refused Roots draft rest = five (λ word. in_section Roots draft word rest ≡ form) refl refl refl refl refl
-refused Begun draft rest = five (λ word. in_section Begun draft word rest ≡ form) refl refl refl refl refl
-refused Generator draft rest = five (λ word. in_section Generator draft word rest ≡ form) refl refl refl refl refl
-refused WrapUp draft rest = five (λ word. in_section WrapUp draft word rest ≡ form) refl refl refl refl refl
-refused Shipped draft rest = five (λ word. in_section Shipped draft word rest ≡ form) refl refl refl refl refl
+refused section draft rest = five (λ word. in_section section draft word rest ≡ form) refl refl refl refl refl
 
 refused_at : (left : ℕ) (draft : Draft) (rest : List (List ℕ)) (word : List ℕ) → ends_text word ≡ true → in_place left draft word rest ≡ form
 refused_at zero draft rest = refused draft.section draft rest
@@ -95,16 +86,7 @@ used Opening draft next rest left read = go (use_line rest) read
     go : (r : Result Text ℕ) → (r >>= λ text. Ok (record draft { section = Shipped; text = text })) ≡ Ok next → IsWhole next
     go (Ok text) read = let e : record draft { section = Shipped; text = text } ≡ next = ap (given next) read in rw (← e) (refl, left)
     go (Err fault) read = absurd (let f : ⊥ = cc in f)
-used Start draft next rest left read = impossible next read
-used Kinds draft next rest left read = impossible next read
-used Fields draft next rest left read = impossible next read
-used Counts draft next rest left read = impossible next read
-used Nodes draft next rest left read = impossible next read
-used Roots draft next rest left read = impossible next read
-used Begun draft next rest left read = impossible next read
-used Generator draft next rest left read = impossible next read
-used WrapUp draft next rest left read = impossible next read
-used Shipped draft next rest left read = impossible next read
+used _ draft next rest left read = impossible next read
 
 used_at : (left : ℕ) (draft next : Draft) (rest : List (List ℕ)) → draft.left ≡ left → in_place left draft (codes "use") rest ≡ Ok next → IsWhole next
 used_at zero draft next rest same read = used draft.section draft next rest same read

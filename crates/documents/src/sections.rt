@@ -1,7 +1,6 @@
 //! What a line after a document's text says, by where it stands.
 
 ghost use Rattle.std.specs.Prelude.{◌≡◌, ◌≤◌, length};
-ghost use Rattle.norm_lang.specs.Declarations.{is_reserved};
 ghost use Rattle.line_words.specs.Answered.{Gives};
 ghost use Rattle.documents.specs.DocumentRead.{begins, in_settings, in_calls, in_schedule, in_stage};
 ghost use Rattle.documents.specs.TailShown.{tail_shown};
@@ -12,7 +11,7 @@ use crate::schedule::turn;
 use crate::settings::{both_phases, fuel, slots_of_kind};
 use crate::tail::{Stage, Tail};
 use line_words::fault::{Fault, Stop};
-use line_words::words::Words;
+use line_words::words::{Words, is_reserved};
 use std::alloc::Global;
 
 /// The next script, or the schedule.
@@ -59,13 +58,6 @@ fn in_settings(tail: &mut Tail, alloc: Global, word: &[u8], words: &mut Words) -
     }
 }
 
-/// Whether a line that begins with this word begins the next script or the schedule, and is no call.
-fn reserved(word: &[u8]) -> bool
-    ensures { result ≡ is_reserved word.now }
-{
-    word == b"script".as_slice() || word == b"schedule".as_slice()
-}
-
 /// A call, or what ends the script.
 fn in_calls(
     tail: &mut Tail,
@@ -77,7 +69,7 @@ fn in_calls(
     ensures says { Gives (λ _. tail_shown tail.new) result (in_calls (tail_shown tail.old) line word.now words.old) }
     ensures kept { tail.new.text ≡ tail.old.text }
 {
-    if reserved(word) {
+    if is_reserved(word) {
         return begins(tail, alloc, word, words);
     }
     let call = call(alloc, line, tail.script.items().len(), word, words)?;

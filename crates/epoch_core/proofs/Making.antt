@@ -1,7 +1,7 @@
 -- A shape and a setting whose numbers are in their ranges are made.
-use Rattle.std.proofs.Common.{◌≡◌, ℕ, zero, suc, ◌≤◌, ◌<◌, ◌^◌, Bool, true, false, ◌&&◌, length, Result, Ok, Err, refl, sym, ap, ◌∙◌, arith}
+use Rattle.std.proofs.Common.{◌≡◌, ℕ, zero, suc, ◌≤◌, ◌<◌, ◌^◌, true, ◌&&◌, length, Ok, Err, refl, ap, ◌∙◌, arith}
 use Rattle.std.proofs.lemmas.Bool.Decides.{nat_tests}
-use Rattle.std.specs.Prelude.{List, [], ◌∷◌, nat_le, slice_index, take, if◌then◌else◌, IsTrue}
+use Rattle.std.specs.Prelude.{List, [], ◌∷◌, nat_le, slice_index, take, IsTrue}
 use Rattle.std.specs.List.{list_all}
 use Rattle.norm_lang.specs.declared.text.Text.{Text}
 use Rattle.oa_words.specs.Words.{Sizes}
@@ -9,8 +9,7 @@ use Rattle.oa_words.specs.SlotKinds.{slots_of, together}
 use Rattle.oa_words.specs.Within.{AreSizes, is_count, sizes_of_kinds, sizes_or_fault}
 use Rattle.oa_words.specs.declared.shape.ShapeFault.{ShapeFault}
 use Rattle.caller_parts.specs.declared.setting.SettingFault.{SettingFault}
-use Rattle.caller_parts.specs.declared.setting.SettingFault.TheVariants as faults
-use Rattle.caller_parts.specs.Settings.{Setting, HaveSlots, IsSetting, are_phases, have_slots, setting_or_fault}
+use Rattle.caller_parts.specs.Settings.{Setting, IsSetting, are_phases, have_slots, setting_or_fault}
 use Rattle.norm_lang.specs.Limits.{IsWithinLimits, has_between, are_kinds, are_fields, are_nodes, are_roots, are_ops, owners_of}
 use Rattle.norm_paths.proofs.Within.{and_left, and_right}
 
@@ -54,12 +53,8 @@ none_past (k ∷ kinds) (suc t) le = none_past kinds t (omega (arith, le))
 
 -- the first four numbers of a list of at most four, cut to its length
 four : (kinds : List ℕ) → length kinds ≤ 4 → take (length kinds) (slice_index kinds 0 ∷ slice_index kinds 1 ∷ slice_index kinds 2 ∷ slice_index kinds 3 ∷ []) ≡ kinds
-four [] le = refl
-four (a ∷ []) le = refl
-four (a ∷ b ∷ []) le = refl
-four (a ∷ b ∷ c ∷ []) le = refl
-four (a ∷ b ∷ c ∷ d ∷ []) le = refl
 four (a ∷ b ∷ c ∷ d ∷ e ∷ more) le = absurd (omega (arith, le))
+four _ le = refl
 
 count : (most n : ℕ) → 1 ≤ n → n ≤ most → is_count most n ≡ true
 count most n some few = rw (test 1 n some, test n most few) refl

@@ -1,37 +1,22 @@
 //! The setting of a run under epochs.
 
-ghost use Rattle.std.specs.Prelude.{◌≡◌, ◌<◌, ◌^◌, length, slice_index};
+ghost use Rattle.std.specs.Prelude.{◌≡◌, slice_index};
 ghost use Rattle.bare_targets.specs.Bare.{bare};
-ghost use Rattle.oa_words.specs.Within.{AreSizes};
-ghost use Rattle.caller_parts.specs.KindCounts.{node_count, node_counts};
+ghost use Rattle.caller_parts.specs.KindCounts.{node_counts};
 ghost use Rattle.caller_parts.specs.Settings.{IsSetting};
 ghost use Rattle.epoch_core.specs.Settings.{epoch_setting};
 
+use caller_parts::counts::kind_nodes;
 use caller_parts::{Reclamation, Setting};
 use norm_check::Normal;
-use norm_lang::text::NodeDecl;
 use oa_words::shape::Shape;
-
-/// How many initial nodes a kind has.
-fn node_count(nodes: &[NodeDecl], kind: u8) -> u32
-    requires { length nodes.now < 2 ^ 32 }
-    ensures { result ≡ node_count nodes.now kind }
-{
-    nodes.iter().filter(|node| node.owner == kind).count() as u32
-}
 
 /// How many initial nodes each of four kinds of the text has.
 #[tactic(auto, using(crate::proofs::Making::few_nodes))]
 fn node_counts(normal: &Normal) -> [u32; 4]
     ensures { result ≡ node_counts (bare normal.now) }
 {
-    let nodes = normal.text().nodes.items();
-    [
-        node_count(nodes, 0),
-        node_count(nodes, 1),
-        node_count(nodes, 2),
-        node_count(nodes, 3),
-    ]
+    kind_nodes(normal.text().nodes.items())
 }
 
 /// The setting of epochs with the text's initial nodes. Its numbers are in their ranges.

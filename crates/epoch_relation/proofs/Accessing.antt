@@ -8,6 +8,7 @@ use Rattle.norm_lang.specs.declared.registers.Registers.{Registers}
 use Rattle.norm_lang.specs.Grammar.{is_new}
 use Rattle.norm_lang.specs.Kept.{code_of}
 use Rattle.norm_lang.specs.Local.{Spot}
+use Rattle.norm_lang.specs.Registers.{node_in}
 use Rattle.target_laws.specs.local_laws.Settling.{is_access}
 use Rattle.target_code.specs.declared.target.TargetInstr.TheVariants.{Plain}
 use Rattle.target_laws.specs.Methods.{code_in}
@@ -16,11 +17,10 @@ use Rattle.source_machine.specs.declared.state.SourceCaller.{SourceCaller}
 use Rattle.source_machine.specs.declared.state.Value.{Value}
 use Rattle.source_machine.specs.declared.state.Value.TheVariants.{Number, Node}
 use Rattle.source_machine.specs.Memory.{access_at, access_by, value_at}
-use Rattle.source_machine.specs.MethodRuns.{run_with, name_got, run_after}
+use Rattle.source_machine.specs.MethodRuns.{run_with, name_got, run_after, name_in}
 use Rattle.source_machine.specs.Proper.{has, field_of, Reaches, itself, onward, runs_method}
 use Rattle.source_machine.specs.Run.{is_name, is_new_at, is_enabled_for}
 use Rattle.source_machine.specs.Step.{is_access_at, Turn, caller_turn}
-use Rattle.run_ahead.specs.Agreeing.{node_in}
 use Rattle.run_ahead.specs.Known.{IsGot, is_set_in}
 use Rattle.run_ahead.specs.Standing.{Call, stands_at, run_from}
 use Rattle.run_ahead.specs.Typed.{AreAsked}
@@ -31,7 +31,7 @@ use Rattle.run_ahead.proofs.Accessing.{still_new}
 use Rattle.run_ahead.proofs.Enabled.{access_is_enabled}
 use Rattle.run_ahead.proofs.Standing.{access_at_is, accesses}
 use Rattle.run_ahead.proofs.Watched.{access_watched}
-use Rattle.oa_simulation.specs.sim_relation.Views.{Plan, Shared, name_of, link, top}
+use Rattle.oa_simulation.specs.sim_relation.Views.{Plan, Shared, link, top}
 use Rattle.oa_simulation.specs.sim_relation.Points.{IsProperPoint}
 use Rattle.oa_simulation.proofs.sim_relation.Codes.{blank}
 use Rattle.oa_simulation.proofs.sim_steps.Walks.Accessing.{access_in_method}
@@ -124,14 +124,14 @@ clear_safe t s c x n (inl z) shown = inl z
 clear_safe t s c x n (inr clear) (inl z) = inl z
 clear_safe t s c x n (inr clear) (inr public) = inr (inr (public, clear n (itself n)))
 
-named : (v : Value) → (name_of v ≡ 0) ⊎ ((reference : Reference) × (v ≡ Node reference) × (reference.node ≡ name_of v))
+named : (v : Value) → (name_in v ≡ 0) ⊎ ((reference : Reference) × (v ≡ Node reference) × (reference.node ≡ name_in v))
 named (Number n) = inl refl
 named (Node reference) = inr (reference, refl, refl)
 
 -- from a root
 pub root_clear : (t : Plan) (s : Shared) (since : ℕ → ℕ) (c : ℕ) (x : Caller) (z : ℕ) → Base t s since c x → IsProperPoint t.text (point_at s x) → Clear s x (top s z)
 root_clear t s since c x z base proper = of (named (value_at s.source.roots z)) where
-  of : (name_of (value_at s.source.roots z) ≡ 0) ⊎ ((reference : Reference) × (value_at s.source.roots z ≡ Node reference) × (reference.node ≡ name_of (value_at s.source.roots z))) → Clear s x (top s z)
+  of : (name_in (value_at s.source.roots z) ≡ 0) ⊎ ((reference : Reference) × (value_at s.source.roots z ≡ Node reference) × (reference.node ≡ name_in (value_at s.source.roots z))) → Clear s x (top s z)
   of (inl none) = inl none
   of (inr node) = inr (λ other reaches. not_old x.old s.source.retired other (base.before other) (proper.roots z other node.0 node.1 (subst (λ (n : ℕ). Reaches s.source n other) (sym node.2) reaches)))
 
@@ -151,7 +151,7 @@ module _ (t : Plan) (s : Shared) (since : ℕ → ℕ) (c : ℕ) (x : Caller) (m
   pub link_clear : (n g : ℕ) → Clear s x n → Clear s x (link s n g)
   link_clear n g (inl z) = inl (ap (λ (n : ℕ). link s n g) z ∙ null_link t s since g w.standing.holds)
   link_clear n g (inr clear) = of (named (field_of s.source n g)) where
-    of : (name_of (field_of s.source n g) ≡ 0) ⊎ ((reference : Reference) × (field_of s.source n g ≡ Node reference) × (reference.node ≡ name_of (field_of s.source n g))) → Clear s x (link s n g)
+    of : (name_in (field_of s.source n g) ≡ 0) ⊎ ((reference : Reference) × (field_of s.source n g ≡ Node reference) × (reference.node ≡ name_in (field_of s.source n g))) → Clear s x (link s n g)
     of (inl none) = inl none
     of (inr node) = inr (λ other reaches. clear other (onward n node.0.node other (g, node.0.marked, node.1) (subst (λ (k : ℕ). Reaches s.source k other) (sym node.2) reaches)))
 

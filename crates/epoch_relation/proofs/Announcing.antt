@@ -14,7 +14,7 @@ use Rattle.oa_simulation.proofs.sim_relation.Words.{each_warning}
 use Rattle.epoch_relation.specs.Reckoned.{reckoned_at, reckoned_words, reckoned, EpochHolds}
 use Rattle.epoch_relation.specs.Callers.{Caller, Base, IsAnnounced, Changes}
 use Rattle.epoch_relation.specs.Laws.{SafeIsResident, RegistersAreResident}
-use Rattle.run_ahead.specs.Agreeing.{node_in}
+use Rattle.norm_lang.specs.Registers.{node_in}
 use Rattle.oa_simulation.proofs.sim_relation.Names.{null_resident}
 use Rattle.oa_simulation.proofs.sim_steps.Pools.Phases.{fine_risen, goes_risen}
 use Rattle.epoch_relation.proofs.Rising.{own_risen}

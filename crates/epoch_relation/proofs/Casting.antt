@@ -11,6 +11,7 @@ use Rattle.norm_lang.specs.declared.text.Reg.TheVariants.{Num, Ref}
 use Rattle.norm_lang.specs.InstructionRules.{has_wrong_operand}
 use Rattle.norm_lang.specs.Local.{Spot}
 use Rattle.norm_lang.specs.RegisterUse.{same_register, operands_of, registers_named}
+use Rattle.norm_lang.specs.Registers.{node_in}
 use Rattle.target_code.specs.declared.target.TargetInstr.TheVariants.{Plain}
 use Rattle.target_laws.specs.Methods.{code_in}
 use Rattle.target_laws.proofs.Entries.{reads_entry}
@@ -23,6 +24,7 @@ use Rattle.source_machine.specs.declared.state.Memory.{Memory}
 use Rattle.source_machine.specs.Memory.{value_in, exchange, auxiliary}
 use Rattle.source_machine.specs.Proper.{IsOnce}
 use Rattle.source_machine.specs.Step.{caller_turn}
+use Rattle.source_machine.specs.MethodRuns.{name_in}
 use Rattle.caller_parts.specs.Operands.{to_retire}
 use Rattle.caller_parts.specs.declared.routine.AfterRetire.TheVariants as onward
 use Rattle.caller_steps.specs.Wants.{exchange_wanted}
@@ -32,14 +34,14 @@ use Rattle.caller_steps.specs.Entries.{Entry}
 use Rattle.caller_steps.specs.Signs.{Moved, quiet, told}
 use Rattle.caller_steps.specs.After.{counted, with_access, with_routine, retires_then, cas_failed, goes_on, plain_accepted}
 use Rattle.caller_parts.specs.declared.setting.Reclamation.TheVariants.{Epochs}
-use Rattle.run_ahead.specs.Agreeing.{Changes, node_in}
+use Rattle.run_ahead.specs.Agreeing.{Changes}
 use Rattle.run_ahead.specs.Known.{IsGot}
 use Rattle.run_ahead.specs.Standing.{stands_at, run_from}
 use Rattle.run_ahead.proofs.Changing.{nothing_changes}
-use Rattle.oa_simulation.specs.sim_relation.Views.{Plan, Shared, Resident, Apart, name_of, link}
+use Rattle.oa_simulation.specs.sim_relation.Views.{Plan, Shared, Resident, Apart, link}
 use Rattle.oa_simulation.specs.sim_relation.Callers.{Shown, spot_of, IsRetiring}
 use Rattle.oa_simulation.specs.sim_relation.Points.{IsProperPoint, StaysProper, played, makes as plays_makes, done}
-use Rattle.oa_simulation.specs.sim_relation.Steps.{after_access}
+use Rattle.chain_laws.specs.Memories.{after_access}
 use Rattle.oa_simulation.proofs.sim_relation.Names.{KeepsNames, residents_apart, shown_kept}
 use Rattle.oa_simulation.proofs.sim_relation.Playing.{plays_first}
 use Rattle.oa_simulation.proofs.sim_steps.Exchanges.Entering.{published_if, public_still}
@@ -74,7 +76,7 @@ operand_shown t s since c x m entry l r w is operand = by_method m.walk.method.w
   by_method true wrap = got_shown wrap (node_in m.mirror r) (operand_got t s since c x m entry l r w is operand)
 
 value_shown : (t : Plan) (s : Shared) (since : ℕ → ℕ) (c : ℕ) (x : Caller) (m : Trail t) (entry : CasEntry) (l : ℕ) (r : Reg) → Owing t s since c x m → slice_get (code_in m.walk.method) x.entry.hand.at ≡ Some (Plain (instr.Cas entry l))
-    → IsTrue (list_any (same_register r) (operands_of entry)) → Shown s (name_of (value_in m.mirror r))
+    → IsTrue (list_any (same_register r) (operands_of entry)) → Shown s (name_in (value_in m.mirror r))
 value_shown t s since c x m entry l (Num r) w is operand = inl refl
 value_shown t s since c x m entry l (Ref r) w is operand = operand_shown t s since c x m entry l r w is operand
 
@@ -118,7 +120,7 @@ module _ (t : Plan) (c : ℕ) (s : Shared) (since : ℕ → ℕ) (x : Caller) (e
       offers = offered;
       right = right;
       publishes = inl refl;
-      known = shown_kept s (published_if t s 0) (name_of (value_in r.0.mirror entry.replacement)) (public_still t s 0) (value_shown t s since c x r.0 entry l entry.replacement owes is (replacement_at entry.place entry));
+      known = shown_kept s (published_if t s 0) (name_in (value_in r.0.mirror entry.replacement)) (public_still t s 0) (value_shown t s since c x r.0 entry l entry.replacement owes is (replacement_at entry.place entry));
       object = λ k g at. operand_shown t s since c x r.0 entry l k owes is (object_is (Ref k) g entry at);
       kin = (instructions_are_in_form t.target t.text plan.normal plan.erases r.0.walk.method x.entry.hand.at i is).retired;
       makes = some;

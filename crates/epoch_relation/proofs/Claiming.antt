@@ -47,7 +47,8 @@ use Rattle.run_ahead.proofs.Enabled.{gives_up}
 use Rattle.oa_simulation.specs.sim_relation.Views.{Plan, Pool, Held, Shared}
 use Rattle.oa_simulation.specs.sim_relation.Callers.{call_of, spot_of}
 use Rattle.oa_simulation.specs.sim_relation.Points.{done}
-use Rattle.oa_simulation.specs.sim_relation.Steps.{after_access, TakenIsReady}
+use Rattle.chain_laws.specs.Memories.{after_access}
+use Rattle.oa_simulation.specs.sim_relation.Steps.{TakenIsReady}
 use Rattle.oa_simulation.specs.sim_relation.Naming.{freed_in}
 use Rattle.oa_simulation.proofs.sim_relation.Playing.{plays_none, plays_one, points_same}
 use Rattle.oa_simulation.proofs.sim_relation.Words.{store_idle}

@@ -48,7 +48,8 @@ use Rattle.caller_parts.specs.declared.setting.Reclamation.TheVariants.{Epochs}
 use Rattle.oa_simulation.specs.sim_relation.Views.{Plan, Shared}
 use Rattle.oa_simulation.specs.sim_relation.Naming.{present_at}
 use Rattle.oa_simulation.specs.sim_relation.Points.{StaysProper, DrawsHome, IsProperPoint, done}
-use Rattle.oa_simulation.specs.sim_relation.Steps.{TakesReady, after_access}
+use Rattle.chain_laws.specs.Memories.{after_access}
+use Rattle.oa_simulation.specs.sim_relation.Steps.{TakesReady}
 use Rattle.caller_parts.proofs.News.{new_there}
 use Rattle.oa_simulation.proofs.sim_steps.Exchanges.Offering.{none_passes}
 use Rattle.oa_simulation.proofs.sim_steps.Accesses.Objects.{object_openly}

@@ -6,6 +6,7 @@ use Rattle.norm_lang.specs.declared.text.CasEntry.{CasEntry}
 use Rattle.norm_lang.specs.declared.text.Place.TheVariants as places
 use Rattle.norm_lang.specs.declared.text.Reg.TheVariants.{Ref}
 use Rattle.norm_lang.specs.InstructionRules.{is_stranger}
+use Rattle.norm_lang.specs.Registers.{node_in}
 use Rattle.oa_words.specs.Words.{Warning}
 use Rattle.phase_pools.specs.Accesses.{word_of}
 use Rattle.phase_pools.specs.Pools.{retire_begun}
@@ -13,7 +14,7 @@ use Rattle.source_machine.specs.declared.event.SourceEvent.TheVariants as events
 use Rattle.source_machine.specs.declared.state.SourceCaller.{SourceCaller}
 use Rattle.source_machine.specs.declared.state.Memory.{Memory}
 use Rattle.source_machine.specs.Memory.{value_in, exchange}
-use Rattle.source_machine.specs.MethodRuns.{MethodRun, run_begun, run_after}
+use Rattle.source_machine.specs.MethodRuns.{MethodRun, run_begun, run_after, name_in}
 use Rattle.source_machine.specs.Proper.{has, IsOnce}
 use Rattle.source_machine.specs.Run.{is_enabled_for}
 use Rattle.source_machine.specs.Step.{caller_turn}
@@ -27,14 +28,13 @@ use Rattle.caller_steps.specs.Entries.{Entry, instr_in}
 use Rattle.caller_steps.specs.Signs.{Moved, quiet, told}
 use Rattle.caller_steps.specs.After.{counted, with_routine, wrap_up_begun, with_published, retires_then, onward_goes, entry_made}
 use Rattle.caller_parts.specs.declared.setting.Reclamation.TheVariants.{Epochs}
-use Rattle.run_ahead.specs.Agreeing.{node_in}
 use Rattle.run_ahead.specs.MethodLaws.{Turns}
 use Rattle.run_ahead.specs.Standing.{stands_in_list, wrap_up_after}
 use Rattle.run_ahead.proofs.Lists.{lists_are_made}
-use Rattle.oa_simulation.specs.sim_relation.Views.{Plan, Held, Shared, Resident, Apart, link, name_of}
+use Rattle.oa_simulation.specs.sim_relation.Views.{Plan, Held, Shared, Resident, Apart, link}
 use Rattle.oa_simulation.specs.sim_relation.Callers.{Shown, spot_of, IsRetiring}
 use Rattle.oa_simulation.specs.sim_relation.Points.{IsProperPoint, StaysProper, played, makes as plays_makes, done}
-use Rattle.oa_simulation.specs.sim_relation.Steps.{after_access}
+use Rattle.chain_laws.specs.Memories.{after_access}
 use Rattle.oa_simulation.proofs.sim_relation.Names.{residents_apart, slot_by, shown_kept}
 use Rattle.oa_simulation.proofs.sim_relation.Playing.{plays_first}
 use Rattle.oa_simulation.proofs.sim_steps.Exchanges.Exchanging.{Offers}
@@ -61,7 +61,7 @@ module _ (t : Plan) (s : Shared) (since : ℕ → ℕ) (c : ℕ) (x : Caller) (k
   f = w.holds
 
   abbrev n : ℕ
-  n = name_of (value_in m.mirror entry.replacement)
+  n = name_in (value_in m.mirror entry.replacement)
 
   listed : Listed t s c x (spot_of x.entry.hand) m
   listed = w.executes.1

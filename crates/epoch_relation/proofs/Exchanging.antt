@@ -13,15 +13,17 @@ use Rattle.norm_lang.specs.declared.text.Text.{Text}
 use Rattle.norm_lang.specs.declared.registers.Registers.{Registers}
 use Rattle.norm_lang.specs.InstructionRules.{place_kind, has_wrong_operand, has_wrong_object, is_unlike}
 use Rattle.norm_lang.specs.KindFields.{place_of}
+use Rattle.norm_lang.specs.Registers.{node_in}
 use Rattle.oa_words.specs.Words.{Word}
 use Rattle.phase_pools.specs.Accesses.{word_of}
 use Rattle.source_machine.specs.Memory.{value_in, exchange}
+use Rattle.source_machine.specs.MethodRuns.{name_in}
 use Rattle.caller_parts.specs.Operands.{word_in, slot_in, succeeds}
 use Rattle.caller_steps.specs.Wants.{object_exchange, place_exchange, exchange_wanted}
-use Rattle.run_ahead.specs.Agreeing.{Agree, node_in}
+use Rattle.run_ahead.specs.Agreeing.{Agree}
 use Rattle.run_ahead.specs.Typed.{IsRegisterFor, AreAskedBy}
 use Rattle.run_ahead.proofs.TypedMemory.{register_for}
-use Rattle.oa_simulation.specs.sim_relation.Views.{Plan, Shared, Apart, link, top, name_of}
+use Rattle.oa_simulation.specs.sim_relation.Views.{Plan, Shared, Apart, link, top}
 use Rattle.oa_simulation.proofs.sim_steps.Exchanges.Exchanging.{IsAtHand, PlaceOffered, Offers, tests_agree}
 use Rattle.oa_simulation.proofs.sim_steps.Exchanges.Offering.{same_kind, found_right, entry_object}
 use Rattle.oa_simulation.proofs.sim_steps.Inside.{place_inside}
@@ -36,21 +38,21 @@ at_hand t s since d x n st (inl z) = inl z
 at_hand t s since d x n st (inr (inl own)) = inr (own.2, inr (own.0, own.1))
 at_hand t s since d x n st (inr (inr public)) = inr (safe_here t s since d x n st (inr (inr public)), inl public.0)
 
-pub registers_safe : (t : Plan) (s : Shared) (d : ℕ) (x : Caller) (mirror : Registers) (r : Reg) → ((i : ℕ) → IsSafe t s d x (node_in mirror i)) → IsSafe t s d x (name_of (value_in mirror r))
+pub registers_safe : (t : Plan) (s : Shared) (d : ℕ) (x : Caller) (mirror : Registers) (r : Reg) → ((i : ℕ) → IsSafe t s d x (node_in mirror i)) → IsSafe t s d x (name_in (value_in mirror r))
 registers_safe t s d x mirror (Num r) safe = inl refl
 registers_safe t s d x mirror (Ref r) safe = safe r
 
 -- registers are safe, and what the place holds is apart from what is expected
 pub offers : (t : Plan) (s : Shared) (since : ℕ → ℕ) (d : ℕ) (x : Caller) (mirror : Registers) (entry : CasEntry) → Standing t s since d x → ((r : Reg) → Agree t.home x.entry.hand.registers mirror r) → ((r : ℕ) → IsSafe t s d x (node_in mirror r)) → has_wrong_operand t.text.fields t.text.roots entry ≡ false
     → AreAskedBy t.text entry s.source.nodes mirror
-    → ((z : ℕ) → entry.place ≡ places.Root z → IsSafe t s d x (top s z)) → ((r f : ℕ) → entry.place ≡ places.Field (Ref r) f → Apart t (link s (node_in mirror r) (place_of t.text.fields f)) (name_of (value_in mirror entry.expected)))
+    → ((z : ℕ) → entry.place ≡ places.Root z → IsSafe t s d x (top s z)) → ((r f : ℕ) → entry.place ≡ places.Field (Ref r) f → Apart t (link s (node_in mirror r) (place_of t.text.fields f)) (name_in (value_in mirror entry.expected)))
     → Offers t s d x.entry.hand.registers mirror entry
 offers t s since d x mirror entry st agree safe right asked roots links = record {
   place = place entry.place refl;
   expected = agree entry.expected;
   replacement = agree entry.replacement;
-  resident = safe_here t s since d x (name_of (value_in mirror entry.expected)) st (registers_safe t s d x mirror entry.expected safe);
-  new = at_hand t s since d x (name_of (value_in mirror entry.replacement)) st (registers_safe t s d x mirror entry.replacement safe);
+  resident = safe_here t s since d x (name_in (value_in mirror entry.expected)) st (registers_safe t s d x mirror entry.expected safe);
+  new = at_hand t s since d x (name_in (value_in mirror entry.replacement)) st (registers_safe t s d x mirror entry.replacement safe);
   asked = asked;
   fields = ap (λ (text : Text). text.fields) st.plan.erases;
   inside = place_inside t.text s.source mirror entry.place kind.0 st.holds.holds.typed (entry_object t.text entry s.source.nodes mirror asked) kind.1;
@@ -59,8 +61,8 @@ offers t s since d x mirror entry st agree safe right asked roots links = record
   kind : (kind : FieldKind) × (place_kind t.text.fields t.text.roots entry.place ≡ Some kind) × IsRegisterFor kind entry.expected
   kind = register_for (place_kind t.text.fields t.text.roots entry.place) entry.expected (or_parts (is_unlike (place_kind t.text.fields t.text.roots entry.place) entry.expected) _ (or_parts (has_wrong_object entry.place) _ right).1).0
 
-  place : (p : Place) → entry.place ≡ p → PlaceOffered t s d x.entry.hand.registers mirror (name_of (value_in mirror entry.expected)) p
-  place (places.Root z) is = safe_apart t s since d x (top s z) (name_of (value_in mirror entry.expected)) st (roots z is) (registers_safe t s d x mirror entry.expected safe)
+  place : (p : Place) → entry.place ≡ p → PlaceOffered t s d x.entry.hand.registers mirror (name_in (value_in mirror entry.expected)) p
+  place (places.Root z) is = safe_apart t s since d x (top s z) (name_in (value_in mirror entry.expected)) st (roots z is) (registers_safe t s d x mirror entry.expected safe)
   place (places.Field (Num a) f) is = ((sym st.plan.null, refl), inl refl, (λ some. absurd (some refl)))
   place (places.Field (Ref a) f) is = (agree (Ref a), at_hand t s since d x (node_in mirror a) st (safe a), (λ some. links a f is))
 
@@ -77,7 +79,7 @@ reckoned_offers t s since d core mirror entry w = record {
   fields = w.fields;
   alike = w.alike;
 } where
-  of : (p : Place) → PlaceOffered t s d core mirror (name_of (value_in mirror entry.expected)) p → PlaceOffered t (reckoned s since) d core mirror (name_of (value_in mirror entry.expected)) p
+  of : (p : Place) → PlaceOffered t s d core mirror (name_in (value_in mirror entry.expected)) p → PlaceOffered t (reckoned s since) d core mirror (name_in (value_in mirror entry.expected)) p
   of (places.Root z) w = w
   of (places.Field a f) w = w
 

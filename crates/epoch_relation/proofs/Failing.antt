@@ -17,6 +17,7 @@ use Rattle.source_machine.specs.declared.event.SourceEvent.TheVariants as events
 use Rattle.source_machine.specs.declared.state.Memory.{Memory}
 use Rattle.source_machine.specs.Memory.{exchange, auxiliary, value_in}
 use Rattle.source_machine.specs.Step.{caller_turn}
+use Rattle.source_machine.specs.MethodRuns.{name_in}
 use Rattle.caller_parts.specs.Operands.{succeeds, to_retire}
 use Rattle.caller_parts.specs.declared.routine.AfterRetire.TheVariants as onward
 use Rattle.caller_steps.specs.Wants.{exchange_wanted}
@@ -25,16 +26,17 @@ use Rattle.caller_steps.specs.Entries.{Entry}
 use Rattle.caller_steps.specs.Signs.{told}
 use Rattle.caller_steps.specs.After.{counted, with_access, retires_then, cas_failed, plain_accepted}
 use Rattle.caller_parts.specs.declared.setting.Reclamation.TheVariants.{Epochs}
-use Rattle.run_ahead.specs.Agreeing.{Changes, node_in}
+use Rattle.run_ahead.specs.Agreeing.{Changes}
 use Rattle.run_ahead.specs.Known.{IsGot, is_set_in}
 use Rattle.run_ahead.proofs.Changing.{nothing_changes}
-use Rattle.oa_simulation.specs.sim_relation.Views.{Plan, Shared, link, top, name_of}
+use Rattle.oa_simulation.specs.sim_relation.Views.{Plan, Shared, link, top}
 use Rattle.oa_simulation.specs.sim_relation.Points.{IsProperPoint}
-use Rattle.oa_simulation.specs.sim_relation.Steps.{after_access}
+use Rattle.chain_laws.specs.Memories.{after_access}
 use Rattle.oa_simulation.proofs.sim_relation.Playing.{PlaysEvent, plays_first}
 use Rattle.oa_simulation.proofs.sim_steps.Exchanges.Offering.{any_before, object_is}
 use Rattle.oa_simulation.proofs.sim_steps.Exchanges.Exchanging.{Offers}
 use Rattle.norm_lang.specs.KindFields.{place_of}
+use Rattle.norm_lang.specs.Registers.{node_in}
 use Rattle.run_ahead.specs.Typed.{AreAskedBy}
 use Rattle.oa_simulation.proofs.sim_steps.Accesses.Failing.{fails_stay}
 use Rattle.oa_simulation.specs.sim_relation.Callers.{spot_of}
@@ -69,7 +71,7 @@ operand_got t s since c x m entry l r w is operand = by_method m.walk.method.wra
 pub cas_offers : (t : Plan) (s : Shared) (since : ℕ → ℕ) (c : ℕ) (x : Caller) (m : Trail t) (entry : CasEntry) (l : ℕ) → Owing t s since c x m → slice_get (code_in m.walk.method) x.entry.hand.at ≡ Some (Plain (instr.Cas entry l)) → AreAskedBy t.text entry s.source.nodes m.mirror → Offers t s c x.entry.hand.registers m.mirror entry
 cas_offers t s since c x m entry l w is asked = offers t s since c x m.mirror entry w.standing w.walks.agree w.walks.safe (kind_right m.walk.method (erased_of t w.standing.plan) x.entry.hand.at (instr.Cas entry l) is) asked
     (λ z root. clear_safe t s c x (top s z) (root_clear t s since c x z w.standing.base w.proper) (w.standing.holds.holds.store.top z))
-    (λ r f field. safe_apart t s since c x (link s (node_in m.mirror r) (place_of t.text.fields f)) (name_of (value_in m.mirror entry.expected)) w.standing
+    (λ r f field. safe_apart t s since c x (link s (node_in m.mirror r) (place_of t.text.fields f)) (name_in (value_in m.mirror entry.expected)) w.standing
     (link_safe t s since c x m w (node_in m.mirror r) (place_of t.text.fields f) (got_clear t s since c x m w (node_in m.mirror r) (operand_got t s since c x m entry l r w is (object_is (Ref r) f entry field))))
     (value_safe t s c x (spot_of x.entry.hand) m entry.expected w.walks))
 

@@ -7,6 +7,7 @@ use Rattle.oa_words.specs.Starts.{Suits}
 use Rattle.phase_pools.specs.Accesses.{WordAccess, word_of}
 use Rattle.phase_pools.specs.Pools.{Retirement}
 use Rattle.chain_laws.specs.Machine as pool
+use Rattle.chain_laws.specs.Memories.{after_access}
 use Rattle.source_machine.specs.Proper.{IsProper}
 use Rattle.source_machine.proofs.Places.{each_put}
 use Rattle.caller_parts.specs.declared.call.Call.{Call}
@@ -34,7 +35,7 @@ use Rattle.oa_simulation.specs.Shadow.{Shadow, shadow_run}
 use Rattle.oa_simulation.specs.sim_relation.Callers.{IsRetiring}
 use Rattle.oa_simulation.specs.sim_relation.Naming.{present_at}
 use Rattle.oa_simulation.specs.sim_relation.Points.{DrawsHome}
-use Rattle.oa_simulation.specs.sim_relation.Steps.{TakesReady, after_access}
+use Rattle.oa_simulation.specs.sim_relation.Steps.{TakesReady}
 use Rattle.oa_simulation.specs.sim_relation.Views.{Plan, Shared, Retiring}
 use Rattle.oa_simulation.proofs.Homes.{draws_home}
 use Rattle.oa_simulation.proofs.Induction.{along_run, belongs_seen, busy, call_stays, idle_is, present_more, called_put, entry_put}

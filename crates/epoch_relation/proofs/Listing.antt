@@ -8,7 +8,7 @@ use Rattle.norm_lang.specs.InstructionRules.{has_wrong_operand}
 use Rattle.phase_pools.specs.Accesses.{word_of}
 use Rattle.source_machine.specs.declared.event.SourceEvent.TheVariants as events
 use Rattle.source_machine.specs.Memory.{value_in, exchange}
-use Rattle.source_machine.specs.MethodRuns.{MethodRun, run_begun, run_after}
+use Rattle.source_machine.specs.MethodRuns.{MethodRun, run_begun, run_after, name_in}
 use Rattle.source_machine.specs.Proper.{has}
 use Rattle.source_machine.specs.Run.{is_enabled_for}
 use Rattle.source_machine.specs.Step.{caller_turn}
@@ -21,16 +21,16 @@ use Rattle.caller_steps.specs.Signs.{told}
 use Rattle.caller_steps.specs.After.{counted, wrap_up_begun, with_published, retires_then, entry_made}
 use Rattle.caller_parts.specs.declared.setting.Reclamation.TheVariants.{Epochs}
 use Rattle.run_ahead.specs.MethodLaws.{Turns}
-use Rattle.run_ahead.specs.Agreeing.{node_in}
 use Rattle.run_ahead.specs.Standing.{stands_in_list, wrap_up_after}
 use Rattle.run_ahead.proofs.Lists.{lists_are_made}
-use Rattle.oa_simulation.specs.sim_relation.Views.{Plan, Shared, Apart, link, top, name_of}
+use Rattle.oa_simulation.specs.sim_relation.Views.{Plan, Shared, Apart, link, top}
 use Rattle.oa_simulation.specs.sim_relation.Points.{IsProperPoint}
-use Rattle.oa_simulation.specs.sim_relation.Steps.{after_access}
+use Rattle.chain_laws.specs.Memories.{after_access}
 use Rattle.oa_simulation.proofs.sim_relation.Playing.{plays_first}
 use Rattle.oa_simulation.proofs.sim_steps.Accesses.Failing.{fails_stay}
 use Rattle.oa_simulation.proofs.sim_steps.Exchanges.Exchanging.{Offers}
 use Rattle.norm_lang.specs.KindFields.{place_of}
+use Rattle.norm_lang.specs.Registers.{node_in}
 use Rattle.run_ahead.specs.Typed.{AreAskedBy}
 use Rattle.run_ahead.specs.TypedCallers.{IsTypedCaller}
 use Rattle.run_ahead.proofs.Asked.{lists_find_kinds}
@@ -68,7 +68,7 @@ module _ (t : Plan) (s : Shared) (since : ℕ → ℕ) (c : ℕ) (x : Caller) (k
   standing = record { plan = w.plan; holds = w.holds; base = w.base; below = w.below; announced = w.executes.4 }
 
   -- what a field of a register names is apart from what a register holds
-  pair_at : (r f : ℕ) (e : Reg) → Apart t (link s (node_in m.mirror r) f) (name_of (value_in m.mirror e))
+  pair_at : (r f : ℕ) (e : Reg) → Apart t (link s (node_in m.mirror r) f) (name_in (value_in m.mirror e))
   pair_at r f (Ref e) same = w.executes.5 r e f same
   pair_at r f (Num e) same = of (w.holds.holds.store.link (node_in m.mirror r) f) where
     of : (link s (node_in m.mirror r) f ≡ 0) ⊎ (s.public (link s (node_in m.mirror r) f) ≡ true) → link s (node_in m.mirror r) f ≡ 0

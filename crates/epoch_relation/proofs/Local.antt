@@ -16,7 +16,7 @@ use Rattle.target_code.specs.LocalCode.{target_local_at, target_run}
 use Rattle.target_code.specs.Paths.{target_goes_from}
 use Rattle.target_code.specs.PathStates.{over_plain, is_fresh_along}
 use Rattle.target_laws.specs.Methods.{code_in, source_in}
-use Rattle.run_ahead.specs.Agreeing.{Agree, Changes, node_in}
+use Rattle.run_ahead.specs.Agreeing.{Agree, Changes}
 use Rattle.run_ahead.proofs.Mirroring.{mirrored}
 use Rattle.oa_simulation.specs.sim_relation.Views.{Plan, Shared, Resident}
 use Rattle.oa_simulation.proofs.sim_steps.Walks.Along.{made_before}
@@ -26,6 +26,7 @@ use Rattle.epoch_relation.specs.Callers.{Caller, Base, IsSafe, IsAnnounced}
 use Rattle.epoch_relation.specs.Walking.{IsPlan, Trail, Walks, Gets}
 use Rattle.epoch_relation.proofs.Bare.{in_source, instr_is, undirected, local_none}
 use Rattle.norm_lang.specs.Flow.{goes_to}
+use Rattle.norm_lang.specs.Registers.{node_in}
 use Rattle.oa_simulation.specs.sim_relation.Callers.{Own, Shown}
 use Rattle.oa_simulation.proofs.sim_relation.Codes.{blank}
 use Rattle.run_ahead.specs.Ahead.{IsErased}

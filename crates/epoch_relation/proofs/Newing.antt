@@ -11,7 +11,7 @@ use Rattle.norm_lang.specs.declared.registers.Registers.{Registers}
 use Rattle.norm_lang.specs.Flow.{passed}
 use Rattle.norm_lang.specs.Freshness.{fresh_after}
 use Rattle.norm_lang.specs.Local.{Spot}
-use Rattle.norm_lang.specs.Registers.{with_reference}
+use Rattle.norm_lang.specs.Registers.{with_reference, node_in}
 use Rattle.norm_lang.specs.RegisterUse.{sets}
 use Rattle.target_code.specs.declared.target.TargetInstr.{TargetInstr}
 use Rattle.target_code.specs.declared.target.TargetInstr.TheVariants.{Plain}
@@ -23,7 +23,7 @@ use Rattle.oa_words.specs.Memories.{store}
 use Rattle.source_machine.specs.declared.event.SourceEvent.TheVariants as events
 use Rattle.source_machine.specs.declared.state.Value.{Value}
 use Rattle.source_machine.specs.Memory.{fields_named, blank_fields, value_at}
-use Rattle.source_machine.specs.MethodRuns.{run_with, with_name, put}
+use Rattle.source_machine.specs.MethodRuns.{run_with, with_name, put, name_in}
 use Rattle.source_machine.specs.Proper.{has}
 use Rattle.source_machine.specs.Step.{caller_turn}
 use Rattle.source_machine.proofs.Places.{put_same, put_other, fields_new, fields_new_other}
@@ -37,12 +37,12 @@ use Rattle.caller_steps.specs.Entries.{instr_in, zero_count, cradle_of}
 use Rattle.caller_steps.specs.Signs.{quiet, told}
 use Rattle.caller_steps.specs.After.{counted, with_routine, goes_on, node_made, zeroed as core_zeroed}
 use Rattle.caller_parts.specs.declared.setting.Reclamation.TheVariants.{Epochs}
-use Rattle.run_ahead.specs.Agreeing.{Agree, Changes, node_in}
+use Rattle.run_ahead.specs.Agreeing.{Agree, Changes}
 use Rattle.run_ahead.specs.Known.{IsGot, AreGot, is_set_in}
 use Rattle.run_ahead.proofs.Changing.{reference_changes, put_stands}
 use Rattle.run_ahead.proofs.Quiet.{goes_next}
 use Rattle.run_ahead.proofs.TypedMemory.{new_typed}
-use Rattle.oa_simulation.specs.sim_relation.Views.{Plan, Held, Null, Shared, Resident, link, name_of}
+use Rattle.oa_simulation.specs.sim_relation.Views.{Plan, Held, Null, Shared, Resident, link}
 use Rattle.oa_simulation.specs.sim_relation.Callers.{Own, Shown, spot_of, Zeroed}
 use Rattle.oa_simulation.specs.sim_relation.MayChange.{MayChange}
 use Rattle.oa_simulation.specs.sim_relation.Shared.{SharedHolds}
@@ -368,10 +368,10 @@ module _ (t : Plan) (s : Shared) (since : ℕ → ℕ) (c : ℕ) (x : Caller) (m
 
   -- what is linked is null or was retired after the announcement or not at all, as before; and the new node links nothing
   link_old : (n i : ℕ) → n ≢ s.unused → link s' n i ≡ link s n i
-  link_old n i ne = ap (λ (o : Option (List Value)). name_of (value_at (unwrap_or o []) i)) (fields_new_other s.unused kind n (blank_fields t.text kind) s.source.nodes ne)
+  link_old n i ne = ap (λ (o : Option (List Value)). name_in (value_at (unwrap_or o []) i)) (fields_new_other s.unused kind n (blank_fields t.text kind) s.source.nodes ne)
 
   link_new : (i : ℕ) → link s' s.unused i ≡ 0
-  link_new i = ap (λ (o : Option (List Value)). name_of (value_at (unwrap_or o []) i)) (fields_new s.unused kind (blank_fields t.text kind) s.source.nodes) ∙ (blank_value t (fields_of kind t.text.fields) i plan.null).1
+  link_new i = ap (λ (o : Option (List Value)). name_in (value_at (unwrap_or o []) i)) (fields_new s.unused kind (blank_fields t.text kind) s.source.nodes) ∙ (blank_value t (fields_of kind t.text.fields) i plan.null).1
 
   public_safe : (n : ℕ) → (n ≡ 0) ⊎ ((s.public n ≡ true) × (has n x.old ≡ false)) → IsSafe t s' c x n
   public_safe n (inl z) = inl z

@@ -70,8 +70,7 @@ phase_loaded t c s since x why f b w = record {
 } where
   begins : (why : AnnounceReason) → BeginsAt t x why → BeginsAt t (becomes x (with_routine (counted x.entry) (Announces (announces.Stores why (s.memory Phase))))) why
   begins Begin w = w
-  begins Again w = w
-  begins Swept w = w
+  begins _ w = w
 
 -- ---- the method run that the store begins
 
@@ -201,8 +200,7 @@ phase_announced t c s since x why p plan f b below loaded w = record {
 
   unused : (why : AnnounceReason) → s.unused ≡ unused_after (announced_sign why (counted x.entry)) s.unused
   unused Begin = refl
-  unused Again = refl
-  unused Swept = refl
+  unused _ = refl
 
 -- ---- the end of the call
 

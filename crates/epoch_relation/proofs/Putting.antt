@@ -16,6 +16,7 @@ use Rattle.norm_lang.specs.Kinds.{asks_object}
 use Rattle.oa_simulation.proofs.sim_steps.Inside.{field_inside}
 use Rattle.norm_lang.specs.Local.{Spot}
 use Rattle.norm_lang.specs.RegisterUse.{destination}
+use Rattle.norm_lang.specs.Registers.{node_in}
 use Rattle.target_code.specs.declared.target.TargetInstr.TheVariants.{Plain}
 use Rattle.target_laws.specs.Methods.{code_in}
 use Rattle.target_laws.proofs.FreshRules.{puts_go_to_fresh}
@@ -26,16 +27,17 @@ use Rattle.source_machine.specs.declared.event.SourceEvent.TheVariants as events
 use Rattle.source_machine.specs.declared.state.Value.{Value}
 use Rattle.source_machine.specs.Memory.{value_in, fields_named}
 use Rattle.source_machine.specs.Step.{caller_turn}
+use Rattle.source_machine.specs.MethodRuns.{name_in}
 use Rattle.caller_parts.specs.Operands.{word_in, slot_in}
 use Rattle.caller_steps.specs.Signs.{Accesses}
 use Rattle.caller_steps.specs.Entries.{Entry}
 use Rattle.caller_steps.specs.After.{counted, goes_on, plain_accepted}
 use Rattle.caller_parts.specs.declared.setting.Reclamation.TheVariants.{Epochs}
-use Rattle.run_ahead.specs.Agreeing.{Changes, node_in}
+use Rattle.run_ahead.specs.Agreeing.{Changes}
 use Rattle.run_ahead.proofs.Changing.{nothing_changes}
 use Rattle.run_ahead.proofs.Quiet.{goes_next}
 use Rattle.run_ahead.proofs.TypedMemory.{register_for, put_typed}
-use Rattle.oa_simulation.specs.sim_relation.Views.{Plan, Held, Null, Shared, Apart, link, name_of, word_for}
+use Rattle.oa_simulation.specs.sim_relation.Views.{Plan, Held, Null, Shared, Apart, link, word_for}
 use Rattle.oa_simulation.specs.sim_relation.Points.{IsProperPoint}
 use Rattle.oa_simulation.proofs.sim_relation.Names.{KeepsNames, own_private}
 use Rattle.oa_simulation.proofs.sim_relation.Playing.{plays_first}
@@ -58,11 +60,11 @@ use Rattle.epoch_relation.proofs.Storing.{holds_stored, goes_words, reckoned_fie
 use Rattle.epoch_relation.proofs.Same.{walks_kept, gets_kept}
 use Rattle.epoch_relation.proofs.Accessing.{Turned, turns, asked_at, stands_marked, Owing, got_clear, register_got, link_safe}
 
-value_shown : (t : Plan) (s : Shared) (c : ℕ) (x : Caller) (core : Spot) (m : Trail t) (b : Reg) → Walks t s c x core m → m.walk.method.wrapup ≡ false → is_fresh_along (code_in m.walk.method) m.path b ≡ false → Shown s (name_of (value_in m.mirror b))
+value_shown : (t : Plan) (s : Shared) (c : ℕ) (x : Caller) (core : Spot) (m : Trail t) (b : Reg) → Walks t s c x core m → m.walk.method.wrapup ≡ false → is_fresh_along (code_in m.walk.method) m.path b ≡ false → Shown s (name_in (value_in m.mirror b))
 value_shown t s c x core m (Num r) g gen shut = inl refl
 value_shown t s c x core m (Ref r) g gen shut = g.shown gen r shut
 
-pub value_safe : (t : Plan) (s : Shared) (c : ℕ) (x : Caller) (core : Spot) (m : Trail t) (b : Reg) → Walks t s c x core m → IsSafe t s c x (name_of (value_in m.mirror b))
+pub value_safe : (t : Plan) (s : Shared) (c : ℕ) (x : Caller) (core : Spot) (m : Trail t) (b : Reg) → Walks t s c x core m → IsSafe t s c x (name_in (value_in m.mirror b))
 value_safe t s c x core m (Num r) w = inl refl
 value_safe t s c x core m (Ref r) w = w.safe r
 
@@ -174,8 +176,8 @@ put_kept t c s since x r f b plan fine base below w proper is word = record {
   walks = walks_on t s c x (spot_of x.entry.hand) next w.0 i 0 w.0.mirror plan is refl (goes_next x.entry.hand.at) changes (λ k set. inl refl) (λ gen k set. inl refl) w.1
 
   pairs : (a e g : ℕ) → Apart t (link (linked t s (node_in w.0.mirror r) (place_of t.text.fields f) (value_in w.0.mirror b)) (node_in w.0.mirror a) g) (node_in w.0.mirror e)
-  pairs a e g = each_written (λ n g' (value : Value). n ≡ node_in w.0.mirror a → Apart t (name_of value) (node_in w.0.mirror e)) s.source o (place_of t.text.fields f) v links.values links.fields links.within
-      (λ same. safe_apart t s since c x (name_of v) (node_in w.0.mirror e) st (value_safe t s c x (spot_of x.entry.hand) w.0 b w.1) (w.1.safe e))
+  pairs a e g = each_written (λ n g' (value : Value). n ≡ node_in w.0.mirror a → Apart t (name_in value) (node_in w.0.mirror e)) s.source o (place_of t.text.fields f) v links.values links.fields links.within
+      (λ same. safe_apart t s since c x (name_in v) (node_in w.0.mirror e) st (value_safe t s c x (spot_of x.entry.hand) w.0 b w.1) (w.1.safe e))
       (λ n g' ne same. safe_apart t s since c x (link s n g') (node_in w.0.mirror e) st (subst (λ (j : ℕ). IsSafe t s c x (link s j g')) (sym same)
       (link_safe t s since c x w.0 owes (node_in w.0.mirror a) g' (got_clear t s since c x w.0 owes (node_in w.0.mirror a) (register_got t s since c x w.0 owes rules.0 a)))) (w.1.safe e))
       (node_in w.0.mirror a) g refl

@@ -8,6 +8,7 @@ use Rattle.norm_lang.specs.declared.text.Reg.TheVariants.{Ref}
 use Rattle.norm_lang.specs.declared.registers.Registers.{Registers}
 use Rattle.norm_lang.specs.Local.{Spot}
 use Rattle.norm_lang.specs.RegisterUse.{destination, sets}
+use Rattle.norm_lang.specs.Registers.{node_in}
 use Rattle.target_code.specs.declared.target.TargetInstr.TheVariants.{Plain}
 use Rattle.target_code.specs.Erasing.{redirected}
 use Rattle.target_laws.specs.Methods.{code_in}
@@ -16,8 +17,6 @@ use Rattle.oa_words.specs.Words.{Word}
 use Rattle.oa_words.specs.Memories.{store}
 use Rattle.source_machine.specs.declared.event.SourceEvent.TheVariants as events
 use Rattle.source_machine.specs.declared.state.SourceCaller.{SourceCaller}
-use Rattle.source_machine.specs.declared.state.Value.{Value}
-use Rattle.source_machine.specs.declared.state.Value.TheVariants.{Number, Node}
 use Rattle.source_machine.specs.Memory.{loaded, access_by, with_value}
 use Rattle.source_machine.specs.MethodRuns.{run_with, with_name, name_got, name_in}
 use Rattle.source_machine.specs.Proper.{has}
@@ -29,11 +28,11 @@ use Rattle.caller_steps.specs.Entries.{Entry}
 use Rattle.caller_steps.specs.Signs.{Moved}
 use Rattle.caller_steps.specs.After.{counted, with_access, goes_on, plain_accepted, loaded as core_loaded}
 use Rattle.caller_parts.specs.declared.setting.Reclamation.TheVariants.{Epochs}
-use Rattle.run_ahead.specs.Agreeing.{Changes, node_in}
-use Rattle.run_ahead.specs.Known.{IsGot, AreGot}
+use Rattle.run_ahead.specs.Agreeing.{Changes}
+use Rattle.run_ahead.specs.Known.{AreGot}
 use Rattle.run_ahead.specs.Standing.{loads_into}
 use Rattle.run_ahead.proofs.Accesses.{is_load, IsLoad, value_changes}
-use Rattle.oa_simulation.specs.sim_relation.Views.{Plan, Held, Null, Shared, Resident, name_of}
+use Rattle.oa_simulation.specs.sim_relation.Views.{Plan, Held, Null, Shared, Resident}
 use Rattle.oa_simulation.specs.sim_relation.Callers.{Shown, spot_of, HasMade}
 use Rattle.oa_simulation.specs.sim_relation.Points.{IsProperPoint}
 use Rattle.oa_simulation.proofs.sim_relation.Names.{own_private}
@@ -54,10 +53,6 @@ use Rattle.epoch_relation.proofs.Moving.{changed, base_changed, walks_changed}
 use Rattle.epoch_relation.proofs.Settling.{settles_ends}
 use Rattle.epoch_relation.proofs.Sweeping.{changes_same}
 use Rattle.epoch_relation.proofs.Accessing.{Turned, turns, asked_at, stands_marked, Clear, Owing, got_clear, register_got, pairs_clear, clear_safe}
-
-same_name : (v : Value) → name_in v ≡ name_of v
-same_name (Number n) = refl
-same_name (Node y) = refl
 
 -- ---- the run gets it
 
@@ -118,7 +113,7 @@ load_kept t c s since x i d w plan f b below r proper is loads looks = subst (λ
   l = is_load t.text i d loads
 
   n : ℕ
-  n = name_of (loaded t.text i r.0.mirror s.source)
+  n = name_in (loaded t.text i r.0.mirror s.source)
 
   mirror' : Registers
   mirror' = with_value r.0.mirror d (loaded t.text i r.0.mirror s.source)
@@ -145,11 +140,8 @@ load_kept t c s since x i d w plan f b below r proper is loads looks = subst (λ
   found : Found t s c x r.0 i d w
   found = finds t s since c x r.0 i d w (record { owes = owes; here = is; asked = asked_at t s c x r.0 i plan r.1 r.3 is l.access proper }) loads looks
 
-  safe : IsSafe t s c x (name_of (loaded t.text i r.0.mirror s.source))
+  safe : IsSafe t s c x (name_in (loaded t.text i r.0.mirror s.source))
   safe = clear_safe t s c x n found.clear found.shown
-
-  new : name_in (loaded t.text i r.0.mirror s.source) ≡ name_of (loaded t.text i r.0.mirror s.source)
-  new = same_name (loaded t.text i r.0.mirror s.source)
 
   changes : Changes t.home (λ A. A) (destination i) (name_in (loaded t.text i r.0.mirror s.source)) x.entry.hand.registers r.0.mirror (with_word x.entry.hand.registers d (s.memory w)) (with_value r.0.mirror d (loaded t.text i r.0.mirror s.source))
   changes = subst (λ registers. Changes t.home (λ A. A) (destination i) (name_in (loaded t.text i r.0.mirror s.source)) x.entry.hand.registers r.0.mirror registers mirror') (sym (word_put x.entry.hand.registers d (s.memory w)))
@@ -164,17 +156,17 @@ load_kept t c s since x i d w plan f b below r proper is loads looks = subst (λ
 
   walks : Walks t s c x (record { at = x.entry.hand.at + 1; registers = with_word x.entry.hand.registers d (s.memory w) }) (record { walk = r.0.walk; path = x.entry.hand.at ∷ r.0.path; mirror = with_value r.0.mirror d (loaded t.text i r.0.mirror s.source) })
   walks = walks_on t s c x (spot_of x.entry.hand) next r.0 i (name_in (loaded t.text i r.0.mirror s.source)) mirror' plan is l.old (l.next x.entry.hand.at) changes
-      (λ k set. subst (λ (j : ℕ). IsSafe t s c x j) (sym new) safe) (λ gen k set. subst (λ (j : ℕ). Shown s j) (sym new) found.shown) r.1
+      (λ k set. safe) (λ gen k set. found.shown) r.1
 
-  got : AreGot r.0.walk.method (x.entry.hand.at ∷ r.0.path) r.0.walk.started (with_value r.0.mirror d (loaded t.text i r.0.mirror s.source)) (with_name (name_of (loaded t.text i r.0.mirror s.source)) x.watch.got)
+  got : AreGot r.0.walk.method (x.entry.hand.at ∷ r.0.path) r.0.walk.started (with_value r.0.mirror d (loaded t.text i r.0.mirror s.source)) (with_name (name_in (loaded t.text i r.0.mirror s.source)) x.watch.got)
   got = plain_got r.0.walk.method t.home (λ A. A) r.0.path x.entry.hand.at i (name_in (loaded t.text i r.0.mirror s.source)) x.entry.hand.registers r.0.mirror next.registers mirror' r.0.walk.started x.watch.got (with_name n x.watch.got) is changes
-      (λ k set. subst (IsGot (with_name n x.watch.got)) (sym new) (given_got n x.watch.got)) (λ k. more_got n x.watch.got k) r.2.got
+      (λ k set. given_got n x.watch.got) (λ k. more_got n x.watch.got k) r.2.got
 
   all_clear : r.0.walk.method.wrapup ≡ false → (k : ℕ) (b : Bool) → sets (Ref k) i ≡ b → Clear s x (node_in (with_value r.0.mirror d (loaded t.text i r.0.mirror s.source)) k)
-  all_clear gen k true set = ⊎_elim (λ (z : node_in mirror' k ≡ 0). inl z) (λ (g : node_in mirror' k ≡ name_in (loaded t.text i r.0.mirror s.source)). subst (λ (j : ℕ). Clear s x j) (sym (g ∙ new)) found.clear) (changes.gives k set)
+  all_clear gen k true set = ⊎_elim (λ (z : node_in mirror' k ≡ 0). inl z) (λ (g : node_in mirror' k ≡ name_in (loaded t.text i r.0.mirror s.source)). subst (λ (j : ℕ). Clear s x j) (sym g) found.clear) (changes.gives k set)
   all_clear gen k false unset = subst (λ (j : ℕ). Clear s x j) (sym (changes.leaves k unset)) (got_clear t s since c x r.0 owes (node_in r.0.mirror k) (register_got t s since c x r.0 owes gen k))
 
-  comes : Comes t s since c (changed x (with_access (counted x.entry)) (caller_turn t.text (events.Access c 0) s.source x.source).caller (run_with (name_of (loaded t.text i r.0.mirror s.source)) x.watch)) (record { at = x.entry.hand.at + 1; registers = with_word x.entry.hand.registers d (s.memory w) })
+  comes : Comes t s since c (changed x (with_access (counted x.entry)) (caller_turn t.text (events.Access c 0) s.source x.source).caller (run_with (name_in (loaded t.text i r.0.mirror s.source)) x.watch)) (record { at = x.entry.hand.at + 1; registers = with_word x.entry.hand.registers d (s.memory w) })
       (record { walk = r.0.walk; path = x.entry.hand.at ∷ r.0.path; mirror = with_value r.0.mirror d (loaded t.text i r.0.mirror s.source) })
   comes = record {
     plan = plan;
@@ -187,15 +179,15 @@ load_kept t c s since x i d w plan f b below r proper is loads looks = subst (λ
     pairs = λ gen. pairs_clear t s since c x r.0 owes mirror' (λ k. all_clear gen k (sets (Ref k) i) refl) walks.safe;
   }
 
-  ended : Ends t s since c (changed x (with_access (counted x.entry)) (caller_turn t.text (events.Access c 0) s.source x.source).caller (run_with (name_of (loaded t.text i r.0.mirror s.source)) x.watch)) (goes_on Epochs t.target t.setting.sizes (with_word x.entry.hand.registers d (s.memory w)) (with_access (counted x.entry)))
+  ended : Ends t s since c (changed x (with_access (counted x.entry)) (caller_turn t.text (events.Access c 0) s.source x.source).caller (run_with (name_in (loaded t.text i r.0.mirror s.source)) x.watch)) (goes_on Epochs t.target t.setting.sizes (with_word x.entry.hand.registers d (s.memory w)) (with_access (counted x.entry)))
   ended = settles_ends t s since c y next m' comes (turn.stands ∙ stands_marked r.0.walk.method.op r.0.walk.method.wrapup r.0.walk.started x.entry.hand.wrapup r.0.walk.call _ (λ wrap. r.1.wrapup ∙ wrap))
 
-  event : PlaysEvent t.text (events.Access c 0) s.source x.source x.watch s.source (caller_turn t.text (events.Access c 0) s.source x.source).caller (run_with (name_of (loaded t.text i r.0.mirror s.source)) x.watch)
+  event : PlaysEvent t.text (events.Access c 0) s.source x.source x.watch s.source (caller_turn t.text (events.Access c 0) s.source x.source).caller (run_with (name_in (loaded t.text i r.0.mirror s.source)) x.watch)
   event = (
     turn.enabled,
     (
       sym (turn.memory ∙ undo (λ j. (access_by t.text 0 j x.entry.hand.at r.0.mirror s.source).memory ≡ s.source) (l.memory (λ at. at) 0 x.entry.hand.at r.0.mirror s.source)),
       refl,
-      sym (turn.watch ∙ ap (λ (k : ℕ). run_with k x.watch) (undo (λ j. name_got t.text 0 (Some j) r.0.mirror s.source ≡ name_in (loaded t.text i r.0.mirror s.source)) (l.gets (λ at. at) 0 r.0.mirror s.source) ∙ new)),
+      sym (turn.watch ∙ ap (λ (k : ℕ). run_with k x.watch) (undo (λ j. name_got t.text 0 (Some j) r.0.mirror s.source ≡ name_in (loaded t.text i r.0.mirror s.source)) (l.gets (λ at. at) 0 r.0.mirror s.source))),
     ),
   )

@@ -2,6 +2,7 @@
 use Rattle.std.proofs.Common.{ℕ, ◌≡◌, ◌+◌, ◌<◌, Bool, true, false, List, length, Some, inl, inr, refl}
 use Rattle.std.specs.Prelude.{nat_lt}
 use Rattle.norm_lang.specs.Local.{Spot}
+use Rattle.norm_lang.specs.Registers.{node_in}
 use Rattle.source_machine.specs.Proper.{has}
 use Rattle.caller_parts.specs.declared.routine.AfterRetire.{AfterRetire}
 use Rattle.caller_parts.specs.declared.routine.AfterRetire.TheVariants as onward
@@ -9,7 +10,6 @@ use Rattle.caller_parts.specs.Operands.{list_of}
 use Rattle.caller_steps.specs.declared.entry.Counts.{Counts}
 use Rattle.caller_parts.specs.declared.routine.Routine.{Routine}
 use Rattle.caller_steps.specs.Entries.{instr_in, cradle_of}
-use Rattle.run_ahead.specs.Agreeing.{node_in}
 use Rattle.target_laws.specs.Methods.{code_in}
 use Rattle.oa_simulation.specs.sim_relation.Views.{Plan, Shared}
 use Rattle.oa_simulation.specs.sim_relation.Callers.{Known, HasMade, spot_of}

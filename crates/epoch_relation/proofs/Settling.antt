@@ -8,7 +8,7 @@ use Rattle.norm_lang.specs.declared.text.Instr.{Instr}
 use Rattle.norm_lang.specs.declared.text.Instr.TheVariants as instr
 use Rattle.norm_lang.specs.Kept.{code_of}
 use Rattle.norm_lang.specs.Local.{Spot, local_run}
-use Rattle.norm_lang.specs.Registers.{with_count}
+use Rattle.norm_lang.specs.Registers.{with_count, node_in}
 use Rattle.norm_lang.specs.RegisterUse.{same_register}
 use Rattle.target_code.specs.declared.target.TargetInstr.{TargetInstr}
 use Rattle.target_code.specs.declared.target.TargetInstr.TheVariants.{Plain}
@@ -27,7 +27,7 @@ use Rattle.caller_steps.specs.Entries.{Entry, instr_in, cradle_of, new_kind, new
 use Rattle.caller_steps.specs.Signs.{Moved, quiet, told}
 use Rattle.caller_steps.specs.After.{with_routine, with_hand, run_to, wrap_up_stopped, wrap_up_hand, wrap_up_begun, new_on, new_begun, announced_stop, stops, stopped, settles}
 use Rattle.caller_parts.specs.declared.setting.Reclamation.TheVariants.{Epochs}
-use Rattle.run_ahead.specs.Agreeing.{Agree, Changes, node_in}
+use Rattle.run_ahead.specs.Agreeing.{Agree, Changes}
 use Rattle.run_ahead.specs.Known.{AreGot}
 use Rattle.run_ahead.specs.MethodLaws.{Turns}
 use Rattle.run_ahead.specs.Following.{Walk, wrapup_walk}

@@ -6,7 +6,7 @@ use Rattle.phase_pools.specs.declared.stages.SweepStage.TheVariants as sweeps
 use Rattle.phase_pools.specs.Pools.{Sweep}
 use Rattle.phase_pools.specs.declared.stages.ClaimStage.{ClaimStage}
 use Rattle.phase_pools.specs.declared.stages.ClaimStage.TheVariants as claims
-use Rattle.run_ahead.specs.Agreeing.{node_in}
+use Rattle.norm_lang.specs.Registers.{node_in}
 use Rattle.caller_parts.specs.declared.routine.Announcing.{Announcing}
 use Rattle.caller_parts.specs.declared.routine.Announcing.TheVariants as announces
 use Rattle.caller_parts.specs.declared.routine.Routine.{Routine}
@@ -87,9 +87,8 @@ module _ (t : Plan) (c d : ℕ) (s : Shared) (since : ℕ → ℕ) (s' : Shared)
   stable_loaded p w = (w.0, let up = b.goes.goes.phase in let le = w.1 in omega (arith, up, le))
 
   stable_announces : (announcing : Announcing) → AnnouncesAt t s x announcing → AnnouncesAt t s' x announcing
-  stable_announces (announces.Loads why) w = w
   stable_announces (announces.Stores why p) w = (w.0, stable_loaded p w.1)
-  stable_announces (announces.Leaves reply) w = w
+  stable_announces _ w = w
 
   stable_spot : (r : Routine) → HoldsAt t s since d x r → HoldsAt t s' since' d x r
   stable_spot Idle w = w

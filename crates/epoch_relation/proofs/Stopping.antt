@@ -1,5 +1,5 @@
 -- Where local code stops: what the entry comes to want, and where the source stands then.
-use Rattle.std.proofs.Common.{ℕ, ◌≡◌, ◌∙◌, ◌&&◌, Bool, true, false, [], ◌∷◌, Option, Some, None, sym, ap, subst, refl, if◌then◌else◌}
+use Rattle.std.proofs.Common.{ℕ, ◌≡◌, ◌∙◌, ◌&&◌, Bool, true, false, [], ◌∷◌, Option, Some, sym, ap, subst, refl, if◌then◌else◌}
 use Rattle.std.specs.Prelude.{slice_get, IsTrue}
 use Rattle.norm_lang.specs.declared.text.Instr.{Instr}
 use Rattle.norm_lang.specs.declared.text.Instr.TheVariants as instr
@@ -9,13 +9,13 @@ use Rattle.norm_lang.specs.InstructionRules.{is_end_of_other}
 use Rattle.norm_lang.specs.Kept.{code_of}
 use Rattle.norm_lang.specs.Local.{Spot}
 use Rattle.norm_lang.specs.Registers.{number_in}
-use Rattle.target_laws.specs.local_laws.Settling.{is_end}
 use Rattle.target_code.specs.declared.target.TargetInstr.{TargetInstr}
-use Rattle.target_code.specs.declared.target.TargetInstr.TheVariants.{Plain, Check, Guard}
+use Rattle.target_code.specs.declared.target.TargetInstr.TheVariants.{Plain}
 use Rattle.target_laws.specs.Methods.{code_in}
 use Rattle.target_laws.proofs.Forms.{instructions_are_in_form}
 use Rattle.source_machine.specs.declared.event.SourceEvent.TheVariants as events
 use Rattle.norm_lang.specs.declared.reply.SourceReply.TheVariants as replies
+use Rattle.norm_lang.specs.Flow.{is_end}
 use Rattle.source_machine.specs.declared.state.SourceCaller.{SourceCaller}
 use Rattle.source_machine.specs.declared.state.Stand.TheVariants.{InWrapUp}
 use Rattle.source_machine.specs.MethodRuns.{MethodRun, run_after}
@@ -147,7 +147,5 @@ pub wrap_up_stops_ends : (t : Plan) (s : Shared) (since : ℕ → ℕ) (c : ℕ)
     → Ends t s since c x (wrap_up_stopped t.target x.entry)
 wrap_up_stops_ends t s since c x m w at = of (instr_in t.target x.entry) (sym (core_instr_is t s c x (spot_of x.entry.hand) m w.walks)) where
   of : (o : Option TargetInstr) → slice_get (code_in m.walk.method) x.entry.hand.at ≡ o → Ends t s since c x (wrap_up_stops o x.entry)
-  of None is = stays t s since c x m w at
-  of (Some Check) is = stays t s since c x m w at
-  of (Some (Guard r)) is = stays t s since c x m w at
   of (Some (Plain i)) is = wrap_up_stop_ends t s since c x m i w at is
+  of _ is = stays t s since c x m w at

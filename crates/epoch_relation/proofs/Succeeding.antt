@@ -6,7 +6,7 @@ use Rattle.norm_lang.specs.declared.text.Reg.TheVariants.{Ref}
 use Rattle.norm_lang.specs.declared.text.Place.{Place}
 use Rattle.norm_lang.specs.declared.text.Place.TheVariants as places
 use Rattle.norm_lang.specs.declared.registers.Registers.{Registers}
-use Rattle.norm_lang.specs.Registers.{reference_in}
+use Rattle.norm_lang.specs.Registers.{reference_in, node_in}
 use Rattle.norm_lang.specs.InstructionRules.{has_wrong_operand, is_stranger}
 use Rattle.norm_lang.specs.KindFields.{place_of}
 use Rattle.oa_words.specs.Words.{Word, Phase, Warning}
@@ -15,12 +15,12 @@ use Rattle.source_machine.specs.declared.state.Memory.{Memory}
 use Rattle.source_machine.specs.declared.state.Value.{Value}
 use Rattle.source_machine.specs.Memory.{value_in, exchange}
 use Rattle.source_machine.specs.Proper.{IsOnce}
+use Rattle.source_machine.specs.MethodRuns.{name_in}
 use Rattle.caller_parts.specs.Operands.{succeeds, to_retire}
 use Rattle.caller_steps.specs.Wants.{exchange_wanted}
-use Rattle.run_ahead.specs.Agreeing.{node_in}
-use Rattle.oa_simulation.specs.sim_relation.Views.{Plan, Held, Shared, Resident, link, name_of, word_for}
+use Rattle.oa_simulation.specs.sim_relation.Views.{Plan, Held, Shared, Resident, link, word_for}
 use Rattle.oa_simulation.specs.sim_relation.Callers.{Shown, IsRetiring}
-use Rattle.oa_simulation.specs.sim_relation.Steps.{after_access}
+use Rattle.chain_laws.specs.Memories.{after_access}
 use Rattle.oa_simulation.proofs.sim_steps.Pools.Phases.{with_words}
 use Rattle.oa_simulation.proofs.sim_steps.Exchanges.Exchanging.{IsAtHand, Offers}
 use Rattle.oa_simulation.proofs.sim_steps.Exchanges.Entering.{published_if}
@@ -54,7 +54,7 @@ pub record Tries (t : Plan) (s : Shared) (since : ℕ → ℕ) (c : ℕ) (x : Ca
   pub offers : Offers t s c x.entry.hand.registers mirror entry
   pub right : has_wrong_operand t.text.fields t.text.roots entry ≡ false
   pub publishes : IsAtHand t s c p
-  pub known : (name_of (value_in mirror entry.replacement) ≡ 0) ⊎ ((published_if t s p).public (name_of (value_in mirror entry.replacement)) ≡ true)
+  pub known : (name_in (value_in mirror entry.replacement) ≡ 0) ⊎ ((published_if t s p).public (name_in (value_in mirror entry.replacement)) ≡ true)
   pub object : (r f : ℕ) → entry.place ≡ places.Field (Ref r) f → Shown s (node_in mirror r)
   pub kin : is_stranger entry entry.retire ≡ false
   pub makes : exchange t.text.fields entry mirror s.source ≡ Some after

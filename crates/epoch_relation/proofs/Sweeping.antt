@@ -20,7 +20,7 @@ use Rattle.phase_pools.proofs.Statuses.{from_slot, from_status}
 use Rattle.source_machine.specs.MethodRuns.{put}
 use Rattle.oa_simulation.specs.sim_relation.Views.{Plan, Shared}
 use Rattle.oa_simulation.specs.sim_relation.Naming.{freed_at}
-use Rattle.oa_simulation.specs.sim_relation.Steps.{after_access}
+use Rattle.chain_laws.specs.Memories.{after_access}
 use Rattle.oa_simulation.proofs.sim_relation.Words.{store_idle}
 use Rattle.oa_simulation.proofs.sim_relation.Moving.{goes_same}
 use Rattle.epoch_relation.specs.Reckoned.{reckoned_at, reckoned_words, reckoned, EpochHolds}

@@ -10,11 +10,12 @@ use Rattle.caller_steps.specs.Wants.{wants}
 use Rattle.caller_steps.specs.After.{taken}
 use Rattle.caller_steps.specs.After.{moved as after_moves}
 use Rattle.caller_steps.specs.Belongs.{Belongs}
-use Rattle.run_ahead.specs.Agreeing.{node_in}
+use Rattle.norm_lang.specs.Registers.{node_in}
 use Rattle.oa_simulation.specs.sim_relation.Views.{Plan, Shared, Resident}
 use Rattle.oa_simulation.specs.sim_relation.Points.{StaysProper, DrawsHome}
 use Rattle.oa_simulation.specs.sim_relation.Naming.{present_at}
-use Rattle.oa_simulation.specs.sim_relation.Steps.{TakesReady, after_access}
+use Rattle.chain_laws.specs.Memories.{after_access}
+use Rattle.oa_simulation.specs.sim_relation.Steps.{TakesReady}
 use Rattle.epoch_relation.specs.Reckoned.{EpochHolds}
 use Rattle.epoch_relation.specs.Callers.{Caller, Base, IsAnnounced, IsSafe}
 use Rattle.epoch_relation.specs.Walking.{IsPlan, IsIdle, Running, CallerHolds}

@@ -17,7 +17,7 @@ use Rattle.norm_lang.specs.declared.registers.Registers.{Registers}
 use Rattle.norm_lang.specs.Limits.{IsWithinLimits}
 use Rattle.norm_lang.specs.Local.{Spot}
 use Rattle.norm_lang.specs.NormalForm.{IsNormal}
-use Rattle.norm_lang.specs.Registers.{first_registers}
+use Rattle.norm_lang.specs.Registers.{first_registers, node_in}
 use Rattle.target_code.specs.Erasing.{ErasesTo}
 use Rattle.target_code.specs.Paths.{TargetPath}
 use Rattle.target_code.specs.PathStates.{is_fresh_along}
@@ -26,7 +26,7 @@ use Rattle.norm_lang.specs.declared.reply.SourceReply.{SourceReply}
 use Rattle.source_machine.specs.Proper.{has}
 use Rattle.caller_parts.specs.declared.setting.Reclamation.TheVariants.{Epochs}
 use Rattle.caller_parts.specs.Settings.{Fits, IsSetting}
-use Rattle.run_ahead.specs.Agreeing.{Agree, HaveSameSize, node_in}
+use Rattle.run_ahead.specs.Agreeing.{Agree, HaveSameSize}
 use Rattle.run_ahead.specs.Known.{AreGot}
 use Rattle.run_ahead.specs.Standing.{caller_of, stands_at, stands_in_list, wrap_up_after, begins_at, run_from}
 use Rattle.run_ahead.specs.Following.{Walk}

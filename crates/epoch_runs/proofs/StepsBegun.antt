@@ -167,16 +167,8 @@ module _ (target : Target) (setting : Setting) (epochs : setting.reclamation ≡
   goes_at : (r : Routine) → e.routine ≡ r → is_idle r ≡ false → MadeAt r e.running.steps → Goes target setting e word
   goes_at Idle is busy n = absurd (let z : true ≡ false = busy in cc)
   goes_at (LoadSeen starts.Begin) is busy n = absurd n
-  goes_at (LoadSeen starts.WrapUp) is busy n = onward (LoadSeen starts.WrapUp) is (λ announcing at. cc) refl n
-  goes_at (LoadSeen starts.Again) is busy n = onward (LoadSeen starts.Again) is (λ announcing at. cc) refl n
-  goes_at At is busy n = onward At is (λ announcing at. cc) refl n
-  goes_at (InList k) is busy n = onward (InList k) is (λ announcing at. cc) refl n
-  goes_at (Retires retirement go) is busy n = onward (Retires retirement go) is (λ announcing at. cc) refl n
-  goes_at Restarts is busy n = onward Restarts is (λ announcing at. cc) refl n
-  goes_at (Clears next) is busy n = onward (Clears next) is (λ announcing at. cc) refl n
-  goes_at (Claims claim) is busy n = onward (Claims claim) is (λ announcing at. cc) refl n
-  goes_at (Zeroes k field) is busy n = onward (Zeroes k field) is (λ announcing at. cc) refl n
   goes_at (Announces announcing) is busy n = announced_goes announcing is n
+  goes_at r is busy n = onward r is (λ announcing at. cc) refl n
 
 -- ---- along a run
 

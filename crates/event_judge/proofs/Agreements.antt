@@ -1,8 +1,8 @@
 -- Replies that agree.
-use Rattle.std.proofs.Common.{ℕ, zero, suc, ◌+◌, ◌<◌, ◌≤◌, ◌≡◌, ◌==◌, ◌&&◌, ◌||◌, ◌∙◌, ◌++◌, ◌⊎◌, inl, inr, ◌↔◌, Bool, true, false, cond, List, [], ◌∷◌, length, take, Option, Some, None, sym, ap, refl, subst, arith}
+use Rattle.std.proofs.Common.{ℕ, zero, suc, ◌+◌, ◌<◌, ◌≤◌, ◌≡◌, ◌==◌, ◌&&◌, ◌||◌, ◌∙◌, ◌++◌, inl, inr, ◌↔◌, Bool, true, false, cond, List, [], ◌∷◌, length, take, Option, Some, None, sym, ap, refl, subst, arith}
 use Rattle.std.specs.Bool.{Decides}
 use Rattle.std.specs.Cmp.Lexicographic.{pointwise_decides}
-use Rattle.std.proofs.lemmas.Bool.{eq-eqb, eqb-true}
+use Rattle.std.proofs.lemmas.Bool.{eq-eqb, eqb-true, and_parts, or_cases, or_left, or_right, and_from}
 use Rattle.std.specs.Prelude.{slice_get}
 use Rattle.norm_lang.specs.declared.reply.SourceReply.{SourceReply}
 use Rattle.norm_lang.specs.declared.reply.SourceReply.TheVariants as replies
@@ -12,25 +12,6 @@ use Rattle.event_judge.specs.declared.verdict.Verdict.TheVariants.{Accepted, Rej
 use Rattle.event_judge.specs.declared.judging.Progress.{Progress}
 use Rattle.event_judge.specs.Judging.{is_same_reply, are_same, is_one_more, agrees, agrees_after, found_from}
 use Rattle.event_judge.specs.JudgingLaws.{AllEnded, LastIsOpen, Agrees}
-
-both : (a b : Bool) → (a && b) ≡ true → (a ≡ true) × (b ≡ true)
-both true true e = (refl, refl)
-both true false e = absurd (let z : false ≡ true = e in cc)
-both false b e = absurd (let z : false ≡ true = e in cc)
-
-either : (a b : Bool) → (a || b) ≡ true → (a ≡ true) ⊎ (b ≡ true)
-either true b e = inl refl
-either false b e = inr e
-
-yes_first : (a b : Bool) → a ≡ true → (a || b) ≡ true
-yes_first a b e = ap (λ t. t || b) e
-
-yes_second : (a b : Bool) → b ≡ true → (a || b) ≡ true
-yes_second true b e = refl
-yes_second false b e = e
-
-yes_both : (a b : Bool) → a ≡ true → b ≡ true → (a && b) ≡ true
-yes_both a b e f = ap (λ t. t && b) e ∙ f
 
 -- ---- the same replies
 
@@ -79,12 +60,12 @@ longer (first ∷ claimed) reply = let more : length (claimed ++ reply ∷ []) �
 
 pub is_one_behind : (made claimed : List SourceReply) → is_one_more made claimed ≡ true → (reply : SourceReply) × (made ≡ claimed ++ reply ∷ [])
 is_one_behind made claimed e =
-    let parts = both (length made == length claimed + 1) (are_same (take (length claimed) made) claimed) e in
+    let parts = and_parts (length made == length claimed + 1) (are_same (take (length claimed) made) claimed) e in
     one_behind made claimed (eqb-true (length made) (length claimed + 1) parts.0) ((same_replies (take (length claimed) made) claimed).0 parts.1)
 
 pub one_behind_is : (made claimed : List SourceReply) (reply : SourceReply) → made ≡ claimed ++ reply ∷ [] → is_one_more made claimed ≡ true
 one_behind_is made claimed reply e = subst (λ xs. is_one_more xs claimed ≡ true) (sym e)
-    (yes_both (length (claimed ++ reply ∷ []) == length claimed + 1) (are_same (take (length claimed) (claimed ++ reply ∷ [])) claimed)
+    (and_from (length (claimed ++ reply ∷ []) == length claimed + 1) (are_same (take (length claimed) (claimed ++ reply ∷ [])) claimed)
     (eq-eqb (length (claimed ++ reply ∷ [])) (length claimed + 1) (longer claimed reply))
     ((same_replies (take (length claimed) (claimed ++ reply ∷ [])) claimed).1 (taken claimed reply)))
 
@@ -92,16 +73,16 @@ one_behind_is made claimed reply e = subst (λ xs. is_one_more xs claimed ≡ tr
 
 module _ (begun : ℕ) (idle : Bool) (made claimed : List SourceReply) where
   pub agrees_is : agrees begun idle made claimed ≡ true → Agrees begun idle made claimed
-  agrees_is e = elim (either (begun == length claimed && (idle && are_same made claimed)) (begun == length claimed + 1 && (are_same made claimed || is_one_more made claimed)) e) [
+  agrees_is e = elim (or_cases (begun == length claimed && (idle && are_same made claimed)) (begun == length claimed + 1 && (are_same made claimed || is_one_more made claimed)) e) [
     | inl ended ↦
-        let count = both (begun == length claimed) (idle && are_same made claimed) ended in
-        let rest = both idle (are_same made claimed) count.1 in
+        let count = and_parts (begun == length claimed) (idle && are_same made claimed) ended in
+        let rest = and_parts idle (are_same made claimed) count.1 in
         inl (record { counted = eqb-true begun (length claimed) count.0; is_idle = rest.0; same = (same_replies made claimed).0 rest.1 })
     | inr last ↦
-        let count = both (begun == length claimed + 1) (are_same made claimed || is_one_more made claimed) last in
+        let count = and_parts (begun == length claimed + 1) (are_same made claimed || is_one_more made claimed) last in
         inr (record {
           counted = eqb-true begun (length claimed + 1) count.0;
-          same = elim (either (are_same made claimed) (is_one_more made claimed) count.1) [
+          same = elim (or_cases (are_same made claimed) (is_one_more made claimed) count.1) [
             | inl same ↦ inl ((same_replies made claimed).0 same)
             | inr more ↦ inr (is_one_behind made claimed more)
           ];
@@ -110,14 +91,14 @@ module _ (begun : ℕ) (idle : Bool) (made claimed : List SourceReply) where
 
   pub is_agrees : Agrees begun idle made claimed → agrees begun idle made claimed ≡ true
   is_agrees a = elim a [
-    | inl ended ↦ yes_first (begun == length claimed && (idle && are_same made claimed)) (begun == length claimed + 1 && (are_same made claimed || is_one_more made claimed))
-        (yes_both (begun == length claimed) (idle && are_same made claimed) (eq-eqb begun (length claimed) ended.counted)
-        (yes_both idle (are_same made claimed) ended.is_idle ((same_replies made claimed).1 ended.same)))
-    | inr last ↦ yes_second (begun == length claimed && (idle && are_same made claimed)) (begun == length claimed + 1 && (are_same made claimed || is_one_more made claimed))
-        (yes_both (begun == length claimed + 1) (are_same made claimed || is_one_more made claimed) (eq-eqb begun (length claimed + 1) last.counted)
+    | inl ended ↦ or_left (begun == length claimed && (idle && are_same made claimed)) (begun == length claimed + 1 && (are_same made claimed || is_one_more made claimed))
+        (and_from (begun == length claimed) (idle && are_same made claimed) (eq-eqb begun (length claimed) ended.counted)
+        (and_from idle (are_same made claimed) ended.is_idle ((same_replies made claimed).1 ended.same)))
+    | inr last ↦ or_right (begun == length claimed && (idle && are_same made claimed)) (begun == length claimed + 1 && (are_same made claimed || is_one_more made claimed))
+        (and_from (begun == length claimed + 1) (are_same made claimed || is_one_more made claimed) (eq-eqb begun (length claimed + 1) last.counted)
         (elim last.same [
-          | inl same ↦ yes_first (are_same made claimed) (is_one_more made claimed) ((same_replies made claimed).1 same)
-          | inr more ↦ yes_second (are_same made claimed) (is_one_more made claimed) (one_behind_is made claimed more.0 more.1)
+          | inl same ↦ or_left (are_same made claimed) (is_one_more made claimed) ((same_replies made claimed).1 same)
+          | inr more ↦ or_right (are_same made claimed) (is_one_more made claimed) (one_behind_is made claimed more.0 more.1)
         ]))
   ]
 

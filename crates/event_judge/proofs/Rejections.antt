@@ -1,6 +1,7 @@
 -- What each rejection means.
 use Rattle.std.proofs.Common.{ℕ, zero, suc, ◌+◌, ◌<◌, ◌≤◌, ◌≡◌, ◌∙◌, ◌++◌, ◌⊎◌, inl, inr, ◌↔◌, Bool, true, false, cond, List, [], ◌∷◌, length, take, drop, Option, Some, None, sym, ap, refl, subst, arith}
 use Rattle.std.specs.Prelude.{Result, Ok, Err, slice_get}
+use Rattle.std.proofs.lemmas.Bool.{false_from_ne_true, true_from_ne_false}
 use Rattle.norm_lang.specs.declared.text.Text.{Text}
 use Rattle.source_machine.specs.declared.event.SourceEvent.{SourceEvent}
 use Rattle.norm_lang.specs.declared.reply.SourceReply.{SourceReply}
@@ -186,14 +187,6 @@ module _ (progress : Progress) where
 
 -- ---- the whole
 
-no_from_not : (b : Bool) → (b ≡ true → ⊥) → b ≡ false
-no_from_not true never = absurd (never refl)
-no_from_not false never = refl
-
-yes_from_not : (b : Bool) → (b ≡ false → ⊥) → b ≡ true
-yes_from_not true never = refl
-yes_from_not false never = absurd (never refl)
-
 not_both : (b : Bool) → b ≡ false → b ≡ true → ⊥
 not_both b isnt is = let z : false ≡ true = sym isnt ∙ is in let f : ⊥ = cc in f
 
@@ -236,7 +229,7 @@ module _ (text : Text) (scripts : List (List ScriptCall)) (events : List SourceE
   one_is at h =
       let w = is_walk text scripts (take at events) h.state h.before in
       let right : begins_other text.ops scripts w.0.begun h.event ≡ false
-      = no_from_not (begins_other text.ops scripts w.0.begun h.event) (λ wrong. breaks_order text scripts (take at events) h.event w.0 w.1 wrong h.order) in
+      = false_from_ne_true (begins_other text.ops scripts w.0.begun h.event) (λ wrong. breaks_order text scripts (take at events) h.event w.0 w.1 wrong h.order) in
       let refused : is_enabled text w.0.state h.event ≡ false = ap (λ s. is_enabled text s h.event) w.2 ∙ h.refused in
       decides at 1 h.event w.0 w.1 h.stands
       (ap (λ b. cond b (Some 2) (cond (is_enabled text w.0.state h.event) None (Some 1))) right ∙ ap (λ b. cond b None (Some 1)) refused)
@@ -245,7 +238,7 @@ module _ (text : Text) (scripts : List (List ScriptCall)) (events : List SourceE
   two_is at h =
       let w = is_walk text scripts (take at events) h.state h.before in
       let wrong : begins_other text.ops scripts w.0.begun h.event ≡ true
-      = yes_from_not (begins_other text.ops scripts w.0.begun h.event) (λ right. h.other (keeps_order text scripts (take at events) h.event w.0 w.1 right)) in
+      = true_from_ne_false (begins_other text.ops scripts w.0.begun h.event) (λ right. h.other (keeps_order text scripts (take at events) h.event w.0 w.1 right)) in
       decides at 2 h.event w.0 w.1 h.stands (ap (λ b. cond b (Some 2) (cond (is_enabled text w.0.state h.event) None (Some 1))) wrong)
 
   three_is : (c : ℕ) → IsOtherReplyOf text scripts events claims c → verdict_on text scripts events claims ≡ Rejected 3 c
@@ -260,7 +253,7 @@ module _ (text : Text) (scripts : List (List ScriptCall)) (events : List SourceE
       (λ k below. subst (λ d. agrees_after w.0 d (listed (slice_get claims k)) ≡ true) (sym (zero_on k))
       (so_agrees text scripts events w.0 k (listed (slice_get claims k)) (counted text scripts events w.0 walk k) (agree k below)))
       (subst (λ d. agrees_after w.0 d (listed (slice_get claims c)) ≡ false) (sym (zero_on c))
-      (no_from_not (agrees_after w.0 c (listed (slice_get claims c)))
+      (false_from_ne_true (agrees_after w.0 c (listed (slice_get claims c)))
       (λ yes. other (agrees_so text scripts events w.0 c (listed (slice_get claims c)) (counted text scripts events w.0 walk c) yes))))
       ∙ ap (Rejected 3) (zero_on c)
 

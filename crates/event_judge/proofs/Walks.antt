@@ -1,7 +1,7 @@
 -- Events walked through one by one: where they lead is where a run leads, and their begins are counted.
-use Rattle.std.proofs.Common.{ℕ, zero, suc, ◌+◌, ◌<◌, ◌≤◌, ◌≡◌, ◌≢◌, ◌==◌, ◌&&◌, ◌∙◌, ◌++◌, ◌⊎◌, inl, inr, Bool, true, false, cond, not, List, [], ◌∷◌, length, get_or, take, drop, replicate, Option, Some, None, sym, ap, refl, subst, arith}
+use Rattle.std.proofs.Common.{ℕ, zero, suc, ◌+◌, ◌<◌, ◌≤◌, ◌≡◌, ◌≢◌, ◌==◌, ◌&&◌, ◌∙◌, ◌++◌, ◌⊎◌, inl, inr, Bool, true, false, cond, List, [], ◌∷◌, length, get_or, take, drop, replicate, Option, Some, None, sym, ap, refl, subst, arith}
 use Rattle.std.proofs.lemmas.List.{get_or-set_same, get_or-set_other, get_or-replicate, length-set, length-replicate}
-use Rattle.std.proofs.lemmas.Bool.{eq-eqb}
+use Rattle.std.proofs.lemmas.Bool.{eq-eqb, not-true, not-false}
 use Rattle.std.proofs.lemmas.Bool.Decides.{eqb_tells}
 use Rattle.std.specs.Prelude.{Result, Ok, Err, slice_get, slice_set, slice_index}
 use Rattle.norm_lang.specs.declared.text.Op.{Op}
@@ -24,14 +24,6 @@ left scripts begun c = drop (slice_index begun c) (script_of scripts c)
 
 plus_one : (n : ℕ) → n + 1 ≡ suc n
 plus_one n = omega arith
-
-not_yes : (b : Bool) → not b ≡ true → b ≡ false
-not_yes true e = sym e
-not_yes false e = refl
-
-not_no : (b : Bool) → not b ≡ false → b ≡ true
-not_no true e = refl
-not_no false e = sym e
 
 -- ---- a call that is begun
 
@@ -73,7 +65,7 @@ module _ (ops : List Op) (scripts : List (List ScriptCall)) (begun : List ℕ) (
       → are_first_calls ops (calls_begun c (event ∷ events)) (left scripts begun c) ≡ are_first_calls ops (calls_begun c events) (left scripts (begun_with begun event) c)
   event_keeps (events.Begin d op words) events c e =
       let b : Begun = record { op = op; words = words } in
-      let right : is_call_so ops (next_call scripts begun d) op words ≡ true = not_no (is_call_so ops (next_call scripts begun d) op words) e in
+      let right : is_call_so ops (next_call scripts begun d) op words ≡ true = not-false (is_call_so ops (next_call scripts begun d) op words) e in
       let next : List ℕ = slice_set begun d (slice_index begun d + 1) in
       let told : Bool → Bool = λ t. are_first_calls ops (cond t (b ∷ calls_begun c events) (calls_begun c events)) (left scripts begun c) in
       elim (eqb_tells d c) [
@@ -96,7 +88,7 @@ module _ (ops : List Op) (scripts : List (List ScriptCall)) (begun : List ℕ) (
         ap told (eq-eqb d d refl)
             ∙ first_call ops b (calls_begun d events) (script_of scripts d) (slice_index begun d)
             ∙ ap (λ t. t && are_first_calls ops (calls_begun d events) (drop (suc (slice_index begun d)) (script_of scripts d)))
-            (not_yes (is_call_so ops (next_call scripts begun d) op words) e),
+            (not-true (is_call_so ops (next_call scripts begun d) op words) e),
       )
   other_fails (events.Access d name) events e = absurd (let z : false ≡ true = e in cc)
   other_fails (events.Restart d) events e = absurd (let z : false ≡ true = e in cc)
@@ -107,7 +99,7 @@ module _ (ops : List Op) (scripts : List (List ScriptCall)) (begun : List ℕ) (
       → slice_index (begun_with begun event) c + length (calls_begun c events) ≡ slice_index begun c + length (calls_begun c (event ∷ events))
   event_counts (events.Begin d op words) events c e =
       let b : Begun = record { op = op; words = words } in
-      let right : is_call_so ops (next_call scripts begun d) op words ≡ true = not_no (is_call_so ops (next_call scripts begun d) op words) e in
+      let right : is_call_so ops (next_call scripts begun d) op words ≡ true = not-false (is_call_so ops (next_call scripts begun d) op words) e in
       let below : d < length begun = subst (λ n. d < n) (sym many) (has_script ops scripts d (slice_index begun d) op words right) in
       let next : List ℕ = slice_set begun d (slice_index begun d + 1) in
       let told : Bool → ℕ = λ t. slice_index begun c + length (cond t (b ∷ calls_begun c events) (calls_begun c events)) in

@@ -1,14 +1,11 @@
 -- Which call of its script a caller is to begin next.
-use Rattle.std.specs.Prelude.{◌≡◌, ℕ, ◌+◌, Bool, true, false, not, ◌&&◌, ◌==◌, List, [], ◌∷◌, length, Option, Some, None, slice_get, slice_set, slice_index}
+use Rattle.std.specs.Prelude.{◌≡◌, ℕ, ◌+◌, Bool, true, false, not, ◌&&◌, ◌==◌, List, [], length, Option, Some, None, slice_get, slice_set, slice_index}
 use Rattle.std.specs.Str.{bytes_eq}
 use Rattle.norm_lang.specs.declared.text.Op.{Op}
+use Rattle.norm_lang.specs.Arguments.{padded}
 use Rattle.source_machine.specs.declared.event.SourceEvent.{SourceEvent}
 use Rattle.source_machine.specs.declared.event.SourceEvent.TheVariants as events
 use Rattle.documents.specs.declared.document.ScriptCall.{ScriptCall}
-
--- four words: the arguments, and 0 past them
-abbrev pub padded : List ℕ → List ℕ
-padded args = slice_index args 0 ∷ slice_index args 1 ∷ slice_index args 2 ∷ slice_index args 3 ∷ []
 
 -- a call is one of this operation with these words: it names the operation, it has as many arguments as that takes, and the
 -- words are its arguments with 0 past them

@@ -1,7 +1,8 @@
 //! Which call of its script a caller is to begin next.
 
 ghost use Rattle.std.specs.Prelude.{◌≡◌, ◌+◌, option_copied, slice_get, slice_index};
-ghost use Rattle.event_judge.specs.Calls.{padded, is_call_of_op, is_call_so, listed, IsCounted, Counts};
+ghost use Rattle.norm_lang.specs.Arguments.{padded};
+ghost use Rattle.event_judge.specs.Calls.{is_call_of_op, is_call_so, listed, IsCounted, Counts};
 
 use documents::{Script, ScriptCall};
 use norm_lang::list::Listed;

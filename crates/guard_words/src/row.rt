@@ -27,7 +27,7 @@ impl Model for GuardRow {
 }
 
 impl GuardRow {
-    /// A row has eight slots and eight flags: a law for those who hold one. To read a field tells it.
+    /// A row has eight slots and eight flags: a law for those who hold one. Reading a field is what tells it.
     pub fn kept(&self)
         ensures { IsRow self.now }
     {

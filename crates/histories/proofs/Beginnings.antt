@@ -3,7 +3,7 @@ use Rattle.std.proofs.Common.{◌≡◌, ℕ, zero, suc, ◌+◌, ◌<◌, ◌�
 use Rattle.std.specs.Prelude.{◌==◌, slice_index_or, if◌then◌else◌}
 use Rattle.std.specs.List.{list_any, remove}
 use Rattle.std.specs.Bool.{Decides}
-use Rattle.std.proofs.lemmas.Bool.{cases_eq}
+use Rattle.std.proofs.lemmas.Bool.{cases_eq, or_parts}
 use Rattle.std.proofs.lemmas.Bool.Decides.{nat_tests}
 use mathlib.Core.Logic.{◌⊎◌, inl, inr}
 use Rattle.histories.specs.declared.call.Call.{Call}
@@ -16,10 +16,6 @@ same_caller a = grind (arith, nat_tests)
 -- two callers are not both this one
 not_both : (a b c : ℕ) → (a == b) ≡ false → (a == c) ≡ true → (b == c) ≡ false
 not_both a b c other same = grind (arith, nat_tests)
-
-neither : (a b : Bool) → (a || b) ≡ false → (a ≡ false) × (b ≡ false)
-neither true b is = grind arith
-neither false b is = (refl, is)
 
 pub true_is_no : {A : Type 0} → true ≡ false → A
 true_is_no e = grind arith
@@ -40,7 +36,7 @@ pub first_taken : (left : List Call) (at : ℕ) (call : Call) (caller : ℕ) →
 first_taken [] at call caller lt is first = let impossible : ⊥ = omega (arith, lt) in absurd impossible
 first_taken (x ∷ xs) zero call caller lt is first = ap (λ (c : Call). if c.caller == caller then c ∷ calls_of caller xs else calls_of caller xs) is
 first_taken (x ∷ xs) (suc n) call caller lt is first =
-    let parts = neither (x.caller == call.caller) (list_any (λ it. it.caller == call.caller) (take n xs)) first in
+    let parts = or_parts (x.caller == call.caller) (list_any (λ it. it.caller == call.caller) (take n xs)) first in
     let lower : n < length xs = omega (arith, lt) in
     passed x call (calls_of caller xs) (calls_of caller (remove xs n)) (x.caller == caller) (call.caller == caller) (not_both x.caller call.caller caller parts.0) (first_taken xs n call caller lower is parts.1)
 

@@ -22,6 +22,9 @@ pub enum Judgement {
 
 /// Looks for an order of a history's calls, each caller's in its own, in which a set and a queue that are empty at first give each
 /// answer. A history of more than ten calls isn't searched.
+///
+/// # Errors
+/// Memory ran out.
 pub fn judge(alloc: Global, history: &[Call]) -> Result<Judgement, AllocError>
     ensures { IfOk result (IsJudged history.now) }
 {

@@ -1,7 +1,7 @@
 -- What a register may have is closed under the steps of a path.
 use Rattle.std.proofs.Common.{◌≡◌, ℕ, inl, inr, Bool, true, false, List, [], ◌∷◌, Option, Some, refl, sym, ap, ◌∙◌}
 use Rattle.std.specs.Prelude.{slice_get}
-use Rattle.norm_lang.specs.declared.text.Reg.TheVariants.{Num, Ref}
+use Rattle.norm_lang.specs.declared.text.Reg.TheVariants.{Ref}
 use Rattle.norm_lang.specs.declared.text.FieldDecl.{FieldDecl}
 use Rattle.norm_lang.specs.declared.text.RootDecl.{RootDecl}
 use Rattle.norm_lang.specs.declared.text.CasEntry.{CasEntry}
@@ -11,7 +11,7 @@ use Rattle.norm_lang.specs.Flow.{passed}
 use Rattle.norm_lang.specs.RegisterUse.{sets}
 use Rattle.norm_lang.specs.Kinds.{none_held, given_kinds, kinds_after}
 use Rattle.target_code.specs.declared.target.TargetInstr.{TargetInstr}
-use Rattle.target_code.specs.declared.target.TargetInstr.TheVariants.{Plain, Check, Guard}
+use Rattle.target_code.specs.declared.target.TargetInstr.TheVariants.{Plain}
 use Rattle.target_code.specs.declared.target.TargetOp.{TargetOp}
 use Rattle.target_code.specs.Paths.{TargetPath, IsTargetSuccessor, target_code_of, target_sets}
 use Rattle.target_code.specs.PathStates.{over_plain}
@@ -24,19 +24,15 @@ longer fields roots start code path at i is r t = ap (λ (o : Option TargetInstr
 
 unset_keeps : (fields : List FieldDecl) (roots : List RootDecl) (i : TargetInstr) (held : ℕ → ℕ → Bool) (r t : ℕ) → target_sets (Ref r) i ≡ false → over_plain (kinds_after fields roots) i held r t ≡ held r t
 unset_keeps fields roots (Plain i) held r t isnt = rw isnt refl
-unset_keeps fields roots Check held r t isnt = refl
-unset_keeps fields roots (Guard a) held r t isnt = refl
+unset_keeps fields roots _ held r t isnt = refl
 
 set_gives : (fields : List FieldDecl) (roots : List RootDecl) (i : Instr) (held : ℕ → ℕ → Bool) (r t : ℕ) → sets (Ref r) i ≡ true → kinds_after fields roots i held r t ≡ given_kinds fields roots i held t
 set_gives fields roots i held r t is = rw is refl
 
 -- what an instruction gives whatever registers have, it gives
 given_anyway : (fields : List FieldDecl) (roots : List RootDecl) (i : Instr) (held : ℕ → ℕ → Bool) (t : ℕ) → given_kinds fields roots i none_held t ≡ true → given_kinds fields roots i held t ≡ true
-given_anyway fields roots (instr.Mov d (Num a)) held t is = is
 given_anyway fields roots (instr.Mov d (Ref a)) held t is = absurd (let no : false ≡ true = is in cc)
-given_anyway fields roots (instr.Mark d (Num a)) held t is = is
 given_anyway fields roots (instr.Mark d (Ref a)) held t is = absurd (let no : false ≡ true = is in cc)
-given_anyway fields roots (instr.Unmark d (Num a)) held t is = is
 given_anyway fields roots (instr.Unmark d (Ref a)) held t is = absurd (let no : false ≡ true = is in cc)
 given_anyway fields roots _ held t is = is
 

@@ -9,6 +9,7 @@ use Rattle.norm_lang.specs.declared.text.Instr.TheVariants as instr
 use Rattle.norm_lang.specs.declared.text.Text.{Text}
 use Rattle.norm_lang.specs.Kinds.{none_held, kinds_after, kinds_along, CommitPath, MayStart, MayHaveKind, asks}
 use Rattle.norm_lang.specs.NormalForm.{N15, IsNormal}
+use Rattle.norm_lang.specs.Registers.{node_in}
 use Rattle.target_code.specs.declared.target.TargetInstr.TheVariants.{Plain}
 use Rattle.target_code.specs.declared.target.Target.{Target}
 use Rattle.target_code.specs.Erasing.{source_place, redirected, ErasesTo}
@@ -17,7 +18,7 @@ use Rattle.target_laws.specs.Places.{IgnoresJumps, source_path}
 use Rattle.target_laws.proofs.ErasedPlaces.{erased_here}
 use Rattle.target_laws.proofs.InText.{paths_are_in_text, states_are_same}
 use Rattle.target_laws.proofs.TextRules.{keeps_at}
-use Rattle.kind_laws.specs.TargetKinds.{target_kinds_along, TargetCommit, MayStartInTarget, MayHaveInTarget, node_in}
+use Rattle.kind_laws.specs.TargetKinds.{target_kinds_along, TargetCommit, MayStartInTarget, MayHaveInTarget}
 use Rattle.kind_laws.specs.TextKinds.{KindsAreInText, AskedKindsAreOne, AskedKindsAreOneInTarget, AskedKindsAreNamed}
 
 -- it doesn't matter to kinds where jumps lead

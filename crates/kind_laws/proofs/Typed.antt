@@ -12,7 +12,7 @@ use Rattle.norm_lang.specs.declared.text.Instr.{Instr}
 use Rattle.norm_lang.specs.declared.text.Instr.TheVariants as instr
 use Rattle.norm_lang.specs.declared.registers.Reference.{Reference}
 use Rattle.norm_lang.specs.declared.registers.Registers.{Registers}
-use Rattle.norm_lang.specs.Registers.{no_reference, number_in, reference_in, with_number, with_reference, moved}
+use Rattle.norm_lang.specs.Registers.{no_reference, number_in, reference_in, with_number, with_reference, moved, node_in}
 use Rattle.norm_lang.specs.Local.{Spot, local_step}
 use Rattle.norm_lang.specs.RegisterUse.{is_register_named, destination, sets}
 use Rattle.norm_lang.specs.InstructionRules.{are_of_two_kinds, holds_number, has_wrong_kind}
@@ -21,7 +21,7 @@ use Rattle.norm_lang.specs.Kinds.{none_held, given_kinds}
 use Rattle.target_code.specs.declared.target.TargetInstr.TheVariants.{Plain}
 use Rattle.target_code.specs.declared.target.TargetOp.{TargetOp}
 use Rattle.target_code.specs.Paths.{TargetPath, IsTargetSuccessor, target_code_of}
-use Rattle.kind_laws.specs.TargetKinds.{MayHaveInTarget, CopiesFrom, node_in, AreTyped}
+use Rattle.kind_laws.specs.TargetKinds.{MayHaveInTarget, CopiesFrom, AreTyped}
 use Rattle.kind_laws.specs.Laws.{LocalCodeKeepsKinds, LoadsKeepKinds, NewNodesKeepKinds, CommitsCarryKinds, RestartsKeepKinds}
 use Rattle.kind_laws.proofs.Closed.{kept_kind, given_kind, copied_kind, carried_kind}
 
@@ -35,15 +35,9 @@ set_at (y ∷ ys) (suc i) x zero is = let no : ⊥ = omega (arith, is) in absurd
 set_at (y ∷ ys) (suc i) x (suc r) is = set_at ys i x r (omega (arith, is))
 
 set_misses : (xs : List Reference) (i : ℕ) (x : Reference) (r : ℕ) → r ≢ i → unwrap_or (slice_get (set xs i x) r) no_reference ≡ unwrap_or (slice_get xs r) no_reference
-set_misses [] i x r ne = refl
 set_misses (y ∷ ys) zero x zero ne = absurd (ne refl)
-set_misses (y ∷ ys) zero x (suc r) ne = refl
-set_misses (y ∷ ys) (suc i) x zero ne = refl
 set_misses (y ∷ ys) (suc i) x (suc r) ne = set_misses ys i x r (λ is. ne (ap suc is))
-
-number_leaves : (registers : Registers) (d : Reg) (n r : ℕ) → node_in (with_number registers d n) r ≡ node_in registers r
-number_leaves registers (Num d) n r = refl
-number_leaves registers (Ref d) n r = refl
+set_misses _ _ x _ ne = refl
 
 same_number : (r d : ℕ) → r ≡ d → (r == d) ≡ true
 same_number r d is = grind (arith, nat_tests)
@@ -143,17 +137,15 @@ module _ (kind_of : ℕ → ℕ) (fields : List FieldDecl) (roots : List RootDec
 
   mark_leaves : (d a : Reg) (registers : Registers) → (holds_number d || holds_number a) ≡ false
       → Leaves kind_of fields roots (instr.Mark d a) registers (with_reference registers d (record { node = (reference_in registers a).node; marked = true }))
-  mark_leaves (Num d) a registers right = absurd (let no : true ≡ false = right in cc)
-  mark_leaves (Ref d) (Num a) registers right = absurd (let no : true ≡ false = right in cc)
   mark_leaves (Ref d) (Ref a) registers right =
       puts_reference (instr.Mark (Ref d) (Ref a)) (Ref d) (record { node = (reference_in registers (Ref a)).node; marked = true }) registers refl (inr (inr (a, (λ held t. refl), refl)))
+  mark_leaves _ _ registers right = absurd (let no : true ≡ false = right in cc)
 
   unmark_leaves : (d a : Reg) (registers : Registers) → (holds_number d || holds_number a) ≡ false
       → Leaves kind_of fields roots (instr.Unmark d a) registers (with_reference registers d (record { node = (reference_in registers a).node; marked = false }))
-  unmark_leaves (Num d) a registers right = absurd (let no : true ≡ false = right in cc)
-  unmark_leaves (Ref d) (Num a) registers right = absurd (let no : true ≡ false = right in cc)
   unmark_leaves (Ref d) (Ref a) registers right =
       puts_reference (instr.Unmark (Ref d) (Ref a)) (Ref d) (record { node = (reference_in registers (Ref a)).node; marked = false }) registers refl (inr (inr (a, (λ held t. refl), refl)))
+  unmark_leaves _ _ registers right = absurd (let no : true ≡ false = right in cc)
 
   -- a local instruction whose registers are of the right kinds: one of another kind keeps what it holds, though the instruction sets it
   local_leaves : (i : Instr) (place : ℕ) (registers : Registers) → has_wrong_kind fields roots i ≡ false → IfSome (local_step i place registers) (λ (spot : Spot). Leaves kind_of fields roots i registers spot.registers)
@@ -203,9 +195,8 @@ commits_carry kind_of fields roots op at registers entries is typed r = ⊎_elim
     (typed r)
 
 all_null : (n r : ℕ) → unwrap_or (slice_get (replicate n no_reference) r) no_reference ≡ no_reference
-all_null zero r = refl
-all_null (suc n) zero = refl
 all_null (suc n) (suc r) = all_null n r
+all_null _ _ = refl
 
 pub restarts_keep : RestartsKeepKinds
 restarts_keep kind_of fields roots op wrapup at args r = inl (ap (λ (x : Reference). x.node) (all_null 8 r))

@@ -17,7 +17,7 @@ use Rattle.norm_lang.specs.LineWords.{item_kind}
 use Rattle.norm_lang.specs.Flow.{IsPath}
 use Rattle.norm_lang.specs.Kinds.{none_held, kinds_along, MayHaveKind, HasOtherKind, MixesKinds}
 use Rattle.norm_lang.specs.NormalForm.{IsNormal}
-use Rattle.norm_lang.specs.Registers.{first_registers, with_reference}
+use Rattle.norm_lang.specs.Registers.{first_registers, with_reference, node_in}
 use Rattle.closed_tables.specs.Tables.{OpTables}
 use Rattle.closed_tables.proofs.Normal.{tables_show_normal}
 use Rattle.target_code.specs.declared.target.TargetInstr.{TargetInstr}
@@ -26,7 +26,7 @@ use Rattle.target_code.specs.declared.target.Target.{Target}
 use Rattle.target_code.specs.Erasing.{ErasesTo}
 use Rattle.target_code.specs.Paths.{IsTargetSuccessor, target_goes_from}
 use Rattle.target_laws.specs.Methods.{Method}
-use Rattle.kind_laws.specs.TargetKinds.{MayHaveInTarget, node_in, AreTyped}
+use Rattle.kind_laws.specs.TargetKinds.{MayHaveInTarget, AreTyped}
 use Rattle.kind_laws.proofs.InText.{kinds_are_in_text, asked_kinds_are_one, asked_kinds_are_named}
 
 -- fields and roots of which each refers to nodes of a kind, and the fields' nodes are of it
@@ -102,14 +102,8 @@ registers = with_reference (first_registers []) (Ref 0) (record { node = 1; mark
 
 typed : AreTyped kind_of target.fields target.roots generating.compiled false 2 registers
 typed zero = inr may
-typed (suc zero) = inl refl
-typed (suc (suc zero)) = inl refl
-typed (suc (suc (suc zero))) = inl refl
-typed (suc (suc (suc (suc zero)))) = inl refl
-typed (suc (suc (suc (suc (suc zero))))) = inl refl
-typed (suc (suc (suc (suc (suc (suc zero)))))) = inl refl
 typed (suc (suc (suc (suc (suc (suc (suc zero))))))) = inl refl
-typed (suc (suc (suc (suc (suc (suc (suc (suc r)))))))) = inl refl
+typed _ = inl refl
 
 named : (node_in registers 0 ≡ 0) ⊎ (kind_of (node_in registers 0) ≡ 0)
 named = asked_kinds_are_named kind_of target one normal erases generating 2 (LoadField (Ref 1) (Ref 0) 0) registers 0 0 refl refl typed

@@ -1,14 +1,13 @@
 -- The kinds that registers may have along the paths of a target's methods, where checks and guards change nothing, and registers
 -- that have no others.
 use Rattle.std.specs.Prelude.{◌≡◌, ℕ, ◌⊎◌, Bool, true, false, List, Some, slice_get, IsTrue}
-use Rattle.norm_lang.specs.declared.text.Reg.TheVariants.{Ref}
 use Rattle.norm_lang.specs.declared.text.FieldDecl.{FieldDecl}
 use Rattle.norm_lang.specs.declared.text.RootDecl.{RootDecl}
 use Rattle.norm_lang.specs.declared.text.CasEntry.{CasEntry}
 use Rattle.norm_lang.specs.declared.text.Instr.{Instr}
 use Rattle.norm_lang.specs.declared.text.Instr.TheVariants as instr
 use Rattle.norm_lang.specs.declared.registers.Registers.{Registers}
-use Rattle.norm_lang.specs.Registers.{reference_in}
+use Rattle.norm_lang.specs.Registers.{node_in}
 use Rattle.norm_lang.specs.Flow.{state_along}
 use Rattle.norm_lang.specs.Kinds.{none_held, given_kinds, kinds_after}
 use Rattle.target_code.specs.declared.target.TargetInstr.{TargetInstr}
@@ -41,10 +40,6 @@ pub record MayHaveInTarget (fields : List FieldDecl) (roots : List RootDecl) (op
 -- the instruction copies a register of references: what it gives is what that one has
 abbrev pub CopiesFrom : List FieldDecl → List RootDecl → ℕ → Instr → Type 0
 CopiesFrom fields roots a i = (held : ℕ → ℕ → Bool) (t : ℕ) → given_kinds fields roots i held t ≡ held a t
-
--- the node that a register of references names
-abbrev pub node_in : Registers → ℕ → ℕ
-node_in registers r = (reference_in registers (Ref r)).node
 
 -- each register of references names null, or a node of a kind that it may have at a place
 abbrev pub AreTyped : (ℕ → ℕ) → List FieldDecl → List RootDecl → TargetOp → Bool → ℕ → Registers → Type 0

@@ -6,11 +6,12 @@ use Rattle.norm_lang.specs.declared.text.Text.{Text}
 use Rattle.norm_lang.specs.declared.registers.Registers.{Registers}
 use Rattle.norm_lang.specs.Kinds.{MayHaveKind, asks, MixesKinds}
 use Rattle.norm_lang.specs.NormalForm.{IsNormal}
+use Rattle.norm_lang.specs.Registers.{node_in}
 use Rattle.target_code.specs.declared.target.TargetInstr.TheVariants.{Plain}
 use Rattle.target_code.specs.declared.target.Target.{Target}
 use Rattle.target_code.specs.Erasing.{source_place, ErasesTo}
 use Rattle.target_laws.specs.Methods.{Method, code_in}
-use Rattle.kind_laws.specs.TargetKinds.{MayHaveInTarget, node_in, AreTyped}
+use Rattle.kind_laws.specs.TargetKinds.{MayHaveInTarget, AreTyped}
 
 -- a kind that a register may have at a place of a target it may have at the place's source
 abbrev pub KindsAreInText : Type 0

@@ -215,20 +215,16 @@ compared breaks = ⊎_elim
 
 -- no place goes on to the commit
 never_there : (from : ℕ) → goes_from (slice_get reaches_none from) from 2 ≡ true → ⊥
-never_there zero goes = impossible goes
-never_there (suc zero) goes = impossible goes
 never_there (suc (suc zero)) goes = impossible goes
-never_there (suc (suc (suc from))) goes = impossible goes
+never_there _ goes = impossible goes
 
 no_commit_at : (at : ℕ) (path : List ℕ) → IsPath reaches_none path at → at ≡ 2 → ⊥
 no_commit_at at [] leads is = omega (arith, leads, is)
 no_commit_at at (from ∷ path) leads is = never_there from (subst (λ (to : ℕ). goes_from (slice_get reaches_none from) from to ≡ true) is leads.0.0)
 
 commit_place : (at : ℕ) (entries : List _) → slice_get reaches_none at ≡ Some (instr.Commit entries) → at ≡ 2
-commit_place zero entries is = cc
-commit_place (suc zero) entries is = cc
 commit_place (suc (suc zero)) entries is = refl
-commit_place (suc (suc (suc at))) entries is = cc
+commit_place _ entries is = cc
 
 no_commit : ¬ CommitPath reaches_none
 no_commit c = no_commit_at c.at c.path c.leads (commit_place c.at c.entries c.stands)

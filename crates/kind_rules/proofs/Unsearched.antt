@@ -1,7 +1,8 @@
 -- A kind that no instruction of an operation gives is held by no register.
-use Rattle.std.proofs.Common.{◌≡◌, ◌↔◌, ℕ, zero, suc, Bool, true, false, ◌||◌, List, [], ◌∷◌, Some, None, refl, sym, ap, subst, ◌∙◌}
+use Rattle.std.proofs.Common.{◌≡◌, ℕ, zero, suc, Bool, true, false, List, [], ◌∷◌, Some, None, sym, ap, subst, ◌∙◌}
 use Rattle.std.specs.Prelude.{slice_get, IsTrue}
 use Rattle.std.specs.List.{list_any}
+use Rattle.std.proofs.lemmas.Bool.{or_left, or_right}
 use Rattle.norm_lang.specs.declared.text.FieldDecl.{FieldDecl}
 use Rattle.norm_lang.specs.declared.text.RootDecl.{RootDecl}
 use Rattle.norm_lang.specs.declared.text.Instr.{Instr}
@@ -12,7 +13,7 @@ use Rattle.origin_facts.specs.Steps.{holds_by}
 use Rattle.kind_rules.specs.declared.facts.KindFacts.{KindFacts}
 use Rattle.kind_rules.specs.Effects.{gives, some_give}
 use Rattle.kind_rules.specs.KindsFound.{AreRight, AreKindFacts}
-use Rattle.kind_rules.proofs.Mixing.{or_left, or_right, may_given}
+use Rattle.kind_rules.proofs.Mixing.{may_given}
 
 one_of : (p : Instr → Bool) (code : List Instr) (at : ℕ) (i : Instr) → slice_get code at ≡ Some i → p i ≡ true → list_any p code ≡ true
 one_of p [] at i is has = absurd (let no : None ≡ Some i = is in cc)

@@ -68,9 +68,8 @@ front_and_last (x ∷ []) some = refl
 front_and_last (x ∷ y ∷ rest) some = ap (λ (steps : List StepMade). x ∷ steps) (front_and_last (y ∷ rest) refl)
 
 last_snoc : (before : List StepMade) (step : StepMade) → last_of (before ++ step ∷ []) ≡ step
-last_snoc [] step = refl
-last_snoc (x ∷ []) step = refl
 last_snoc (x ∷ y ∷ rest) step = last_snoc (y ∷ rest) step
+last_snoc _ step = refl
 
 member : (P : StepMade → Type 0) (before : List StepMade) (step : StepMade) (later : List StepMade) → AllByRecursion P (before ++ step ∷ later) → P step
 member P [] step later all = all.0

@@ -19,10 +19,9 @@ seen_each words all (w ∷ ws) each (suc by) v is = seen_each words all ws each.
 
 -- the words but the places are the core's
 same_words : (one two : ℕ) (e : Entry) (i : ℕ) → ¬ IsPlace 2 i → slice_index (table_words one two 0) i ≡ slice_index (core_with e).words i
-same_words one two e zero free = refl
 same_words one two e (suc zero) free = absurd (free (omega arith, omega arith))
 same_words one two e (suc (suc zero)) free = absurd (free (omega arith, omega arith))
-same_words one two e (suc (suc (suc i))) free = refl
+same_words one two e _ free = refl
 
 -- of both callers
 abbrev Both : (ℕ → Type 0) → Type 0

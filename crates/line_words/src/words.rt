@@ -1,9 +1,10 @@
 //! The words of a line, taken one by one.
 
-ghost use Rattle.std.specs.Prelude.{◌≡◌, ◌-◌, ◌≤◌, ◌<◌, slice_get, length, [], ◌∷◌, Ok, Err, IfOk, MatchOption, drop};
+ghost use Rattle.std.specs.Prelude.{◌≡◌, ◌-◌, ◌≤◌, ◌<◌, slice_get, length, [], ◌∷◌, IfOk, MatchOption, drop};
 ghost use Rattle.std.specs.List.{list_all};
 ghost use Rattle.oa_text.specs.Shown.{line_shown};
 ghost use Rattle.norm_lang.specs.LineWords.{is_lower, is_name_byte, is_name, word_at, end_at, name_at, number_at, is_positive, positive_at, value_of, up_to, register_of, register_in, register_at, owner_at, holding_at, kind_of_holding, spelled_kind, node_in, start_in, start_at, is_great, node_of, start_of, is_owner, is_match};
+ghost use Rattle.norm_lang.specs.Declarations.{is_reserved};
 ghost use Rattle.norm_lang.specs.Grammar.{is_comment, fault_number};
 ghost use Rattle.line_words.specs.Answered.{Reads};
 ghost use Rattle.line_words.specs.Faults.{number_of_fault};
@@ -304,6 +305,13 @@ pub fn value_of(n: Option<u64>) -> Result<u64, Fault>
     ensures { Reads (λ n. n) result (value_of n) }
 {
     n.ok_or(Fault::Number)
+}
+
+/// Whether a line that begins with this word begins a part of a document, so that no operation may have the name.
+pub fn is_reserved(name: &[u8]) -> bool
+    ensures { result ≡ is_reserved name.now }
+{
+    name == b"script".as_slice() || name == b"schedule".as_slice()
 }
 
 /// A number up to a limit.

@@ -1,12 +1,10 @@
 //! The words of a line, by their places.
 
-ghost use Rattle.std.specs.Prelude.{◌≡◌, [], map, get_or, drop};
-ghost use Rattle.std.specs.List.{prefix_len};
+ghost use Rattle.std.specs.Prelude.{◌≡◌, [], map, get_or};
 ghost use Rattle.oa_text.specs.Shown.{line_shown};
-ghost use Rattle.oa_text.specs.Tokens.{is_blank};
 ghost use Rattle.message_lines.specs.Places.{word_at, trimmed, is_said};
 
-use oa_text::{Line, Tokens, tokens};
+use oa_text::{Line, Tokens, blanks_in_front, tokens};
 
 /// The bytes of the token at a place, from 0: none where there are fewer.
 #[tactic(auto, using(crate::proofs::Searches::word_found, crate::proofs::Searches::word_passed, crate::proofs::Searches::word_missed))]
@@ -31,19 +29,6 @@ pub fn word_at<'a>(line: Line<'a>, at: usize) -> &'a [u8]
         Ok(tokens) => nth_token(tokens, at),
         Err(_) => b"",
     }
-}
-
-fn blank(b: u8) -> bool
-    ensures { result ≡ is_blank b }
-{
-    b == b' ' || b == b'\t'
-}
-
-/// How many blanks come first.
-fn blanks_in_front(bytes: &[u8]) -> usize
-    ensures { result ≡ prefix_len is_blank bytes.now }
-{
-    bytes.iter().take_while(|b| blank(**b)).count()
 }
 
 /// A line as it is spelled, from its first word on.

@@ -2,7 +2,9 @@
 #![tactic(auto)]
 
 mod forms;
+mod limits;
 mod mends;
 
 pub use forms::line_form;
+pub use limits::{Limit, limit_words};
 pub use mends::rule_mend;

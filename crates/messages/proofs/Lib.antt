@@ -1,2 +1,1 @@
 mod Lasts
-mod Stopping

@@ -53,7 +53,8 @@ root_named bytes line =
     else (if is_declared bytes line.number (word_at line 3) then Node 4
     else Kind 3))
 
--- what a line names that may be undeclared, by its first word: which sort of thing, and its word's place. A `node` line may name several
+-- what a line names that may be undeclared, by its first word: which sort of thing, and its word's place. A `node` line may name several, of which
+-- `stray_word` is the first that there isn't
 abbrev pub named_word : List ℕ → TextLine → NamedWord
 named_word bytes line =
     if begins (codes "load") line then Field 3
@@ -67,10 +68,10 @@ named_word bytes line =
     else (if begins (codes "root") line then root_named bytes line
     else Unknown))))))))
 
--- which name of a line isn't declared, of a thing of this sort
-abbrev pub unknown_sentence : TextLine → List ℕ → ℕ → List ℕ
-unknown_sentence line sort at = concat (
-    codes "oa: line " ∷ decimal line.number ∷ codes " is at fault: it names the " ∷ sort ∷ codes " '" ∷ word_at line at
+-- which word of a line names nothing that is declared, of this sort
+abbrev pub unknown_sentence : TextLine → List ℕ → List ℕ → List ℕ
+unknown_sentence line sort word = concat (
+    codes "oa: line " ∷ decimal line.number ∷ codes " is at fault: it names the " ∷ sort ∷ codes " '" ∷ word
     ∷ codes "', which is not declared. Declare it above, or spell it as it is declared; see 'Faults' in docs/language.md.\n" ∷ [])
 
 -- ---- a name that is declared again

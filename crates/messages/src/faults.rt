@@ -167,14 +167,14 @@ pub(crate) fn named_word(bytes: &[u8], line: Line) -> NamedWord
     }
 }
 
-/// Writes which name of a line isn't declared.
+/// Writes which word of a line names nothing that is declared.
 pub(crate) fn write_unknown<'a, K: Sink>(
     errors: &mut K,
     line: Line<'a>,
     sort: &'a [u8],
-    at: usize,
+    word: &'a [u8],
 ) -> Result<(), Failed>
-    ensures bytes { Writes (K.written errors.old) (K.written errors.new) (unknown_sentence (line_shown line.entry) sort.now at) result }
+    ensures bytes { Writes (K.written errors.old) (K.written errors.new) (unknown_sentence (line_shown line.entry) sort.now word.now) result }
     ensures cause { HasCause (K.faults errors.old) (K.faults errors.new) result }
 {
     write_pieces(
@@ -185,7 +185,7 @@ pub(crate) fn write_unknown<'a, K: Sink>(
             Piece::Bytes(b" is at fault: it names the "),
             Piece::Bytes(sort),
             Piece::Bytes(b" '"),
-            Piece::Bytes(word_at(line, at)),
+            Piece::Bytes(word),
             Piece::Bytes(
                 b"', which is not declared. Declare it above, or spell it as it is declared; see 'Faults' in docs/language.md.\n",
             ),

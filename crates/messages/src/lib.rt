@@ -10,3 +10,4 @@ mod turns;
 
 pub use message::explain_read;
 pub use remembering::RememberingSource;
+pub use turns::StoppedTurn;

@@ -1,12 +1,12 @@
 //! What a line that may not stand where it does should have been.
 
-ghost use Rattle.std.specs.Prelude.{◌≡◌, ◌+◌, ◌<◌, ◌^◌, length, find, map, option_map, is_none, None, Some, MatchOption};
+ghost use Rattle.std.specs.Prelude.{◌≡◌, ◌+◌, ◌<◌, ◌^◌, length, find, map, option_map, None, Some, MatchOption};
 ghost use Rattle.oa_text.specs.Causes.{HasCause};
 ghost use Rattle.oa_text.specs.Lines.{lines_of};
 ghost use Rattle.oa_text.specs.Shown.{line_shown};
 ghost use Rattle.oa_text.specs.Written.{Writes};
-ghost use Rattle.messages.specs.Owed.{last_that, is_said_above, is_lower_word, is_mark_above, ends_text, ends_text_above, owed_after, owed_by, is_commit_above, is_entry_between, lacks_of, lacks_after, lacks_entry, begins_part, is_part_above, owed_behind, owed_at, ends_method, is_node_word, is_odd_word, odd_word, is_hash_word, owed_sentence, odd_sentence, form_sentence, end_sentence, form_message, word_message, form_of, script_form, misplaced_by, misplaced_message, end_message};
-ghost use Rattle.message_lines.specs.Places.{number_said, line_that};
+ghost use Rattle.messages.specs.Owed.{last_that, is_said_above, is_lower_word, is_mark_above, ends_text, ends_text_above, owed_after, owed_by, is_commit_above, is_entry_between, lacks_of, lacks_entry, begins_part, is_part_above, owed_behind, owed_at, ends_method, is_node_word, is_odd_word, odd_word, is_hash_word, owed_sentence, odd_sentence, form_sentence, end_sentence, form_message, word_message, form_of, script_form, misplaced_by, misplaced_message, end_message};
+ghost use Rattle.message_lines.specs.Places.{line_that};
 
 use line_words::words::name;
 use message_lines::lines::{begins, entry};

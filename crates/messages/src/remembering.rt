@@ -63,7 +63,7 @@ impl<S: Source> RememberingSource<S> {
     }
 
     /// What the bytes are kept by.
-    pub(crate) fn alloc(&self) -> Global {
+    pub fn alloc(&self) -> Global {
         self.alloc
     }
 

@@ -5,7 +5,6 @@ ghost use Rattle.oa_text.specs.Causes.{HasCause};
 ghost use Rattle.oa_text.specs.Lines.{lines_of};
 ghost use Rattle.oa_text.specs.Shown.{line_shown};
 ghost use Rattle.oa_text.specs.Written.{Writes};
-ghost use Rattle.message_lines.specs.Places.{begins_after, line_that};
 ghost use Rattle.messages.specs.Shapes.{if_above, slots_line, counted_line, shape_line, shape_hint, shape_at_sentence, arguments_sentence};
 
 use message_lines::lines::{line_beginning, numbered_line, wrong_slots_line};

@@ -1,11 +1,11 @@
 -- Where a field stands among those of its kind.
-use Rattle.std.specs.Prelude.{◌≡◌, ℕ, zero, suc, ◌<◌, ◌≤◌, ◌⊎◌, Bool, true, false, List, [], ◌∷◌, length, take, option_map, Option, Some, None, slice_get, ◌==◌}
+use Rattle.std.specs.Prelude.{◌≡◌, ℕ, zero, suc, ◌<◌, ◌⊎◌, true, false, List, [], ◌∷◌, length, take, Some, None, slice_get, ◌==◌}
 use Rattle.std.specs.List.{list_all}
-use Rattle.std.proofs.Common.{refl, ap, ◌∙◌, sym, arith, inl, inr}
+use Rattle.std.proofs.Common.{refl, ap, ◌∙◌, sym, inl, inr}
 use Rattle.std.proofs.lemmas.Bool.{and_parts, cases_Bool, eqb-true, eq-eqb}
 use Rattle.std.proofs.lemmas.Option.{slice_get_within}
 use Rattle.norm_lang.specs.declared.text.FieldDecl.{FieldDecl}
-use Rattle.norm_lang.specs.KindFields.{fields_of, owner_of, place_among, place_of}
+use Rattle.norm_lang.specs.KindFields.{fields_of, place_of}
 
 -- among the fields of a kind one of them has as many before it as stand before it among all
 found_among : (owner : ℕ) (fields : List FieldDecl) (f : ℕ) (field : FieldDecl) → slice_get fields f ≡ Some field → (field.owner == owner) ≡ true
@@ -54,11 +54,3 @@ owner_at (x ∷ fields) zero field all found =
 owner_at (x ∷ fields) (suc f) field all found =
     let parts = and_parts (x.owner == 0) (list_all (λ (field : FieldDecl). field.owner == 0) fields) all in
     owner_at fields f field parts.1 found
-
--- where all fields are of the first kind, each stands at its number, one that isn't declared too
-pub place_of_one : (fields : List FieldDecl) (f : ℕ) → list_all (λ (field : FieldDecl). field.owner == 0) fields ≡ true → place_of fields f ≡ f
-place_of_one fields f all = go (slice_get fields f) refl
-  where
-    go : (o : Option FieldDecl) → slice_get fields f ≡ o → place_of fields f ≡ f
-    go (Some field) found = place_known fields f field found ∙ ap (λ k. length (fields_of k (take f fields))) (owner_at fields f field all found) ∙ before_all fields f field all found
-    go None found = rw found refl

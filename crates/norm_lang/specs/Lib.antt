@@ -24,3 +24,4 @@ pub mod PathRules
 pub mod NormalForm
 pub mod Kinds
 pub mod KindFields
+pub mod Arguments

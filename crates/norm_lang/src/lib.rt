@@ -1,4 +1,5 @@
-//! Texts: operations in normal form over a row of nodes and a list of roots, after Timnat and Petrank (PPoPP 2014).
+//! Texts: operations in normal form over a row of nodes and a list of roots, after Timnat and Petrank (PPoPP 2014). It is larger than
+//! other crates, as the canonical spelling and the shipped texts belong to what a text is.
 #![tactic(auto)]
 
 pub mod duplicate;

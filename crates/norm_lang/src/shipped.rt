@@ -4,7 +4,7 @@ ghost use Rattle.std.specs.Prelude.{◌≡◌, ◌≤◌, ◌<◌, [], ◌∷◌
 ghost use Rattle.norm_lang.specs.Bounds.{most_buckets};
 ghost use Rattle.norm_lang.specs.Limits.{IsWithinLimits};
 ghost use Rattle.norm_lang.specs.LineWords.{item_kind};
-ghost use Rattle.norm_lang.specs.Shipped.{number_field, reference_field, sentinel, reference_root, next_entry, root_entry, retiring, bucket, buckets_from, search_code, answer_code, insert_code, remove_code, change_wrap_up, insert_op, remove_op, contains_op, set_text, enqueue_generator, enqueue_wrap_up, dequeue_generator, dequeue_wrap_up, enqueue_op, dequeue_op, queue_text};
+ghost use Rattle.norm_lang.specs.Shipped.{number_field, reference_field, sentinel, reference_root, next_entry, root_entry, bucket, buckets_from, search_code, answer_code, insert_code, remove_code, change_wrap_up, insert_op, remove_op, contains_op, set_text, enqueue_generator, enqueue_wrap_up, dequeue_generator, dequeue_wrap_up, enqueue_op, dequeue_op, queue_text};
 
 use crate::list::Listed;
 use crate::text::{
@@ -265,6 +265,9 @@ fn bucket_roots(alloc: Global, buckets: u32) -> Result<Roots, AllocError>
 /// The operations are `insert`, `remove` and `contains`, each with a number as its argument. They reply 1 where they
 /// inserted, removed or found it, and else 0. Each bucket is a list of Michael (SPAA 2002), whose removed nodes have the
 /// reference to the next one marked.
+///
+/// # Errors
+/// Memory ran out.
 pub fn shipped_set(alloc: Global, buckets: u32) -> Result<Text, AllocError>
     requires some { 1 ≤ buckets }
     requires most { buckets ≤ most_buckets }
@@ -375,6 +378,9 @@ fn queue_root(alloc: Global, name: &[u8]) -> Result<RootDecl, AllocError>
 ///
 /// `enqueue` has a number as its argument and replies it. `dequeue` replies the number that was put in first of those
 /// that are left, or nothing.
+///
+/// # Errors
+/// Memory ran out.
 #[tactic(auto, using(crate::proofs::ShippedLimits::queue_answered))]
 pub fn shipped_queue(alloc: Global) -> Result<Text, AllocError>
     ensures text { IfOk result (λ text. text ≡ queue_text) }

@@ -129,9 +129,6 @@ pub record IsPassed (whole left : LinesLeft) (number : ℕ) : Type 0 where
   pub reached : left.number ≤ number
   pub ordered : AreFrom number left.lines
 
-pub passed_none : (bytes : List ℕ) (all : LinesLeft) → all ≡ all_lines bytes → IsPassed all all 1
-passed_none bytes all same = record { rest = rest_of_all all; reached = let e : all.number ≡ 1 = ap (λ (ls : LinesLeft). ls.number) same in omega (arith, e); ordered = rw same (numbered_from 1 (lines_of bytes)) }
-
 ordered_passed : (n number : ℕ) (lines : List TextLine) → AreFrom number lines → AreFrom (number + 1) (rest_in n lines).lines
 ordered_passed n number [] from = refl
 ordered_passed n number (line ∷ lines) from = from_next number (number + 1) line lines (line ∷ lines) refl refl from

@@ -77,10 +77,8 @@ head_is draft (line ∷ lines) past = go (ends_head (line_word line)) (names_tex
     go : (ended named : Bool) → names_text (line_word line) ≡ named → ((next : Draft) → head_from next lines past ≡ head_ends next lines past)
         → (if named then Err (end_before line) else (if ended then with_end (end_before line) draft else (at_line line.number (after_line draft line) >>= λ next. head_from next lines past)))
         ≡ (after_lines draft (if ended || named then [] else line ∷ head_lines lines) >>= λ next. before_op next (if ended || named then line ∷ lines else after_head lines) past)
-    go true true is rest = sym (ap (λ b. stopped b draft line) is)
-    go true false is rest = sym (ap (λ b. stopped b draft line) is)
-    go false true is rest = sym (ap (λ b. stopped b draft line) is)
     go false false is rest = head_then (at_line line.number (after_line draft line)) lines past rest
+    go _ _ is rest = sym (ap (λ b. stopped b draft line) is)
 
 -- a line before the first is passed
 pub earlier : (start : ℕ) (line : TextLine) (lines : List TextLine) → line.number < start → from_line start (line ∷ lines) ≡ from_line start lines

@@ -9,7 +9,7 @@ use Rattle.norm_lang.specs.Faults.{LineFault, form_fault, at_line, ◌>>=◌}
 use Rattle.norm_lang.specs.declared.text.Text.{Text}
 use Rattle.norm_lang.specs.declared.text.Version.{Version}
 use Rattle.norm_lang.specs.declared.text.Version.TheVariants.{Second}
-use Rattle.norm_lang.specs.Grammar.{Section, Draft, Start, Opening, Kinds, Fields, Counts, Nodes, Roots, Begun, Generator, WrapUp, Shipped, draft_at, after_line, after_lines, finished, text_read}
+use Rattle.norm_lang.specs.Grammar.{Section, Draft, Start, Opening, Roots, draft_at, after_line, after_lines, finished, text_read}
 use Rattle.norm_lang.specs.Limits.{IsWithinLimits, is_within_limits}
 use Rattle.text_laws.proofs.DraftLimits.{Kept, Keeps, roots_within, nothing_declared, line_kept, lines_kept, finished_is}
 use Rattle.text_laws.proofs.FewDeclared.{few_declared, few_promised}
@@ -112,17 +112,8 @@ past_first lines all same = let k = length_numbered 1 lines in rw same (omega (a
 
 -- declarations that end are those of a text within the limits
 whole_within : (section : Section) (draft : Draft) → Keeps section draft → IfOk (whole_in section draft) IsHeadWithinLimits
-whole_within Start draft h = tt
-whole_within Opening draft h = tt
-whole_within Kinds draft h = tt
-whole_within Fields draft h = tt
-whole_within Counts draft h = tt
-whole_within Nodes draft h = tt
 whole_within Roots draft h = demanded form_fault (nat_lt 0 (length draft.text.roots)) _ _ λ some. roots_within draft h some
-whole_within Begun draft h = tt
-whole_within Generator draft h = tt
-whole_within WrapUp draft h = tt
-whole_within Shipped draft h = tt
+whole_within _ draft h = tt
 
 pub head_is_within : (lines : List TextLine) (past : ℕ) (draft : Draft) (end : LineFault) (head : Head) → head_end lines past ≡ Ok (draft, end) → whole_head draft ≡ Ok head
     → IsHeadWithinLimits head
@@ -134,9 +125,8 @@ head_is_within lines past draft end head read ended = go (after_lines (draft_at 
 
     go : (r : Result Draft LineFault) → after_lines (draft_at Second Opening) (head_lines lines) ≡ r → (behind : List TextLine)
         → (r >>= λ next. before_op next behind past) ≡ with_end end draft → IsHeadWithinLimits head
-    go (Ok next) same [] read = absurd (let f : ⊥ = cc in f)
     go (Ok next) same (line ∷ behind) read =
         let e : next ≡ draft = ends next (names_text (line_word line)) line read in
         let kept : Kept draft = rw e at (lines_within (draft_at Second Opening) next (head_lines lines) (nothing_declared Second) same) in
         IfOk-at_ok IsHeadWithinLimits ended (whole_within draft.section draft kept)
-    go (Err fault) same behind read = absurd (let f : ⊥ = cc in f)
+    go _ same _ read = absurd (let f : ⊥ = cc in f)

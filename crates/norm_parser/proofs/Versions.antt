@@ -1,5 +1,5 @@
 -- The lines before a version line.
-use Rattle.std.specs.Prelude.{◌≡◌, ℕ, ◌+◌, List, [], ◌∷◌, Some, None, Result, Ok, Err}
+use Rattle.std.specs.Prelude.{◌≡◌, ℕ, ◌+◌, List, ◌∷◌, Some, None, Result, Ok, Err}
 use Rattle.std.proofs.Common.{refl, sym, ap, ◌∙◌}
 use Rattle.oa_text.specs.Lines.{TextLine}
 use Rattle.norm_lang.specs.declared.text.Version.{Version}

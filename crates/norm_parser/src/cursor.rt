@@ -95,6 +95,7 @@ impl<'a> Cursor<'a> {
         self.pass();
         line
     }
+
     /// The next line, and those after it.
     pub fn split(self) -> (Option<Line<'a>>, Lines<'a>)
         ensures { MatchOption result.0 ((self.entry.lines ≡ []) × (result.1 ≡ [])) (λ line. self.entry.lines ≡ line_shown line ∷ result.1) }

@@ -1,6 +1,6 @@
 //! What the lines of a text have declared so far.
 
-ghost use Rattle.std.specs.Prelude.{◌≡◌, ◌≤◌, ◌<◌, length, replicate, [], ◌∷◌, ◌++◌, Ok, IfOk};
+ghost use Rattle.std.specs.Prelude.{◌≡◌, ◌≤◌, ◌<◌, length, replicate, [], ◌∷◌, ◌++◌, IfOk};
 ghost use Rattle.norm_lang.specs.LineWords.{item_kind};
 ghost use Rattle.norm_lang.specs.Grammar.{no_op, first_kinds, draft_at, news_in, news_of, code_so_far, with_instr, with_kind, with_field, with_count, with_node, with_root, with_op, with_whole_op, with_entries, finished, among_counts, among_nodes};
 ghost use Rattle.line_words.specs.Answered.{Gives};

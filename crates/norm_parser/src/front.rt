@@ -1,35 +1,14 @@
 //! Where a text within a document ends, and a target's declarations.
 
 ghost use Rattle.std.specs.Prelude.{◌≡◌, ◌||◌};
-ghost use Rattle.std.specs.List.{prefix_len};
 ghost use Rattle.oa_text.specs.Shown.{line_shown};
-ghost use Rattle.oa_text.specs.Tokens.{is_blank, is_ink, words_of, line_fault};
+ghost use Rattle.oa_text.specs.Tokens.{words_of, line_fault};
 ghost use Rattle.line_words.specs.Faults.{number_of_fault};
 ghost use Rattle.norm_parser.specs.FrontRead.{front_of, ends_text, names_text, ends_head, misplaced};
 
 use line_words::fault::Fault;
 use line_words::words::Words;
-use oa_text::Line;
-
-fn blank(b: u8) -> bool
-    ensures { result ≡ is_blank b }
-{
-    b == b' ' || b == b'\t'
-}
-
-/// How many blanks come first.
-fn blanks_in_front(bytes: &[u8]) -> usize
-    ensures { result ≡ prefix_len is_blank bytes.now }
-{
-    bytes.iter().take_while(|b| blank(**b)).count()
-}
-
-/// How many bytes stand before the first blank.
-fn ink_in_front(bytes: &[u8]) -> usize
-    ensures { result ≡ prefix_len is_ink bytes.now }
-{
-    bytes.iter().take_while(|b| !blank(**b)).count()
-}
+use oa_text::{Line, blanks_in_front, ink_in_front};
 
 /// The first word of a line's bytes, also where the line has a fault: no bytes where it has no word.
 #[tactic(auto, using(crate::proofs::FrontWords::fronts, crate::proofs::FrontWords::front_word))]

@@ -1,4 +1,5 @@
-//! The reader of texts: what lines declare, instructions, and the first fault.
+//! The reader of texts: what lines declare, instructions, and the first fault. It is larger than other crates, as all lines of a text are
+//! read into one draft, which no other crate sees.
 #![tactic(auto)]
 
 mod cursor;

@@ -23,7 +23,7 @@ use line_words::fault::{Fault, ParseError, ParseFault, Stop};
 use norm_lang::text::{Text, Version};
 use std::alloc::Global;
 
-/// A draft, if its lines were read. It stands alone, since to drop a draft is proved on each way out.
+/// A draft, if its lines were read. It stands alone, since dropping a draft is proved on each way out.
 fn draft_if(draft: Draft, read: Result<(), ParseError>) -> Result<Draft, ParseError>
     ensures { result ≡ draft_if draft read }
 {

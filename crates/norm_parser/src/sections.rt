@@ -15,7 +15,7 @@ use norm_lang::text::{Instr, Version};
 use std::alloc::Global;
 use text_lines::{Step, declarations, read_entry, read_step};
 
-/// Puts another draft in the place of one. It stands alone, since to drop a draft is proved on each way out.
+/// Puts another draft in the place of one. It stands alone, since dropping a draft is proved on each way out.
 fn replace(draft: &mut Draft, new: Draft)
     ensures { draft_shown draft.new ≡ draft_shown new }
 {

@@ -1,5 +1,5 @@
 -- That all is answered which nothing refuses.
-use Rattle.std.proofs.Common.{◌≡◌, ℕ, ◌<◌, ◌⊎◌, Bool, true, false, List, [], ◌++◌, length, Option, Some, None, Result, Ok, Err, inl, inr, ⊎_elim, refl, sym, ap, subst, ◌∙◌, arith}
+use Rattle.std.proofs.Common.{◌≡◌, ℕ, ◌⊎◌, Bool, true, false, List, Option, Some, None, Result, Ok, Err, inl, inr, ⊎_elim, refl, sym, ap, subst, ◌∙◌}
 use Rattle.std.proofs.lemmas.Bool.{false≢true}
 use Rattle.std.specs.Prelude.{IsTrue, if◌then◌else◌}
 use Rattle.oa_text.specs.Causes.{Rose}
@@ -79,14 +79,10 @@ has_shape _ document number at accepted refused = absurd refused
 bytes_answered : (command : Command) (bytes : List ℕ) (document : Document) (verdict : Verdict) → IsDocument bytes document → IsAccepted command document
     → IsOfBytes command bytes verdict → IsAnsweredStatus (status_for verdict)
 bytes_answered command bytes document (verdicts.Answered report) is accepted judged = done_or_partial (is_partial report)
-bytes_answered command bytes document (verdicts.Worked report) is accepted judged = absurd judged.2
 bytes_answered command bytes document verdicts.Accepted is accepted judged = inl refl
 bytes_answered command bytes document (verdicts.Shown spelling) is accepted judged = inl refl
 bytes_answered command bytes document (verdicts.Compiled spelling) is accepted judged = inl refl
 bytes_answered command bytes document (verdicts.Certified spelling partial) is accepted judged = done_or_partial partial
-bytes_answered command bytes document verdicts.Usage is accepted judged = absurd judged.2
-bytes_answered command bytes document verdicts.ReadFault is accepted judged = absurd judged.2
-bytes_answered command bytes document verdicts.LongInput is accepted judged = absurd judged.2
 bytes_answered command bytes document (verdicts.BadDocument fault) is accepted judged = absurd (not_faulty bytes document _ is judged)
 bytes_answered command bytes document (verdicts.Refused text refusal) is accepted judged =
     let same : judged.0 ≡ document = one_document bytes document judged.0 is judged.1 in
@@ -95,7 +91,7 @@ bytes_answered command bytes document (verdicts.Refused text refusal) is accepte
 bytes_answered command bytes document (verdicts.BadShape number at) is accepted (other, also, refused) =
     absurd (has_shape command document number at accepted (subst (λ (d : Document). IsShapeRefused command d (faults.Shape number at)) (one_document bytes document other is also) refused))
 bytes_answered command bytes document verdicts.Memory is accepted judged = inr (inr refl)
-bytes_answered command bytes document (verdicts.Rejected number at) is accepted judged = absurd judged.2
+bytes_answered command bytes document _ is accepted judged = absurd judged.2
 
 source_answered : (command : Command) (old new : Option (List ℕ)) (before now : ℕ) (verdict : Verdict) → HasAccepted command old → ¬ Rose before now
     → IsOfSource DOCUMENT_LIMIT (IsOfBytes command) old new before now verdict → IsAnsweredStatus (status_for verdict)
@@ -144,20 +140,9 @@ read_found bytes certificate verdict is runnable (other, also, found) =
 
 bytes_found : (bytes : List ℕ) (certificate : Certificate) (verdict : Verdict) → IsCertificate bytes certificate → IsRunnable certificate.document
     → IsOfCertificateBytes bytes verdict → IsFoundStatus certificate (status_for verdict)
-bytes_found bytes certificate (verdicts.Answered report) is runnable judged = read_found bytes certificate (verdicts.Answered report) is runnable judged
-bytes_found bytes certificate (verdicts.Worked report) is runnable judged = read_found bytes certificate (verdicts.Worked report) is runnable judged
-bytes_found bytes certificate verdicts.Accepted is runnable judged = read_found bytes certificate verdicts.Accepted is runnable judged
-bytes_found bytes certificate (verdicts.Shown spelling) is runnable judged = read_found bytes certificate (verdicts.Shown spelling) is runnable judged
-bytes_found bytes certificate (verdicts.Compiled spelling) is runnable judged = read_found bytes certificate (verdicts.Compiled spelling) is runnable judged
-bytes_found bytes certificate (verdicts.Certified spelling partial) is runnable judged = read_found bytes certificate (verdicts.Certified spelling partial) is runnable judged
-bytes_found bytes certificate verdicts.Usage is runnable judged = read_found bytes certificate verdicts.Usage is runnable judged
-bytes_found bytes certificate verdicts.ReadFault is runnable judged = read_found bytes certificate verdicts.ReadFault is runnable judged
-bytes_found bytes certificate verdicts.LongInput is runnable judged = read_found bytes certificate verdicts.LongInput is runnable judged
 bytes_found bytes certificate (verdicts.BadDocument fault) is runnable judged = absurd (not_certified bytes certificate _ is judged)
-bytes_found bytes certificate (verdicts.Refused text refusal) is runnable judged = read_found bytes certificate (verdicts.Refused text refusal) is runnable judged
-bytes_found bytes certificate (verdicts.BadShape number at) is runnable judged = read_found bytes certificate (verdicts.BadShape number at) is runnable judged
 bytes_found bytes certificate verdicts.Memory is runnable judged = inr refl
-bytes_found bytes certificate (verdicts.Rejected number at) is runnable judged = read_found bytes certificate (verdicts.Rejected number at) is runnable judged
+bytes_found bytes certificate verdict is runnable judged = read_found bytes certificate verdict is runnable judged
 
 certificate_answered : (old new : Option (List ℕ)) (before now : ℕ) (verdict : Verdict) → (has : HasCertificate old) → ¬ Rose before now
     → IsOfSource CERTIFICATE_LIMIT IsOfCertificateBytes old new before now verdict → IsFoundStatus has.certificate (status_for verdict)

@@ -53,14 +53,10 @@ bytes_told : (command : Command) (bytes : List ℕ) (document : Document) (verdi
     → status_for verdict ≢ statuses.Memory → IsOfBytes command bytes verdict → IsReport command document verdict
 bytes_told command bytes document (verdicts.Answered report) makes is accepted memory (other, also, answered) =
     record { report = report; same = refl; answered = subst (λ (d : Document). IsAnswered command d report) (one_document bytes document other is also) answered }
-bytes_told command bytes document (verdicts.Worked report) makes is accepted memory judged = absurd judged.2
 bytes_told command bytes document verdicts.Accepted makes is accepted memory (other, also, found) = other_command command commands.Check makes found.0 (λ none. none)
 bytes_told command bytes document (verdicts.Shown spelling) makes is accepted memory (other, also, found) = writes_none command other spelling makes found
 bytes_told command bytes document (verdicts.Compiled spelling) makes is accepted memory (other, also, found) = other_command command commands.Compile makes found.0 (λ none. none)
 bytes_told command bytes document (verdicts.Certified spelling partial) makes is accepted memory (other, also, found) = other_command command commands.Certify makes found.0 (λ none. none)
-bytes_told command bytes document verdicts.Usage makes is accepted memory judged = absurd judged.2
-bytes_told command bytes document verdicts.ReadFault makes is accepted memory judged = absurd judged.2
-bytes_told command bytes document verdicts.LongInput makes is accepted memory judged = absurd judged.2
 bytes_told command bytes document (verdicts.BadDocument fault) makes is accepted memory judged = absurd (not_faulty bytes document _ is judged)
 bytes_told command bytes document (verdicts.Refused text refusal) makes is accepted memory judged =
     let same : judged.0 ≡ document = one_document bytes document judged.0 is judged.1 in
@@ -69,7 +65,7 @@ bytes_told command bytes document (verdicts.Refused text refusal) makes is accep
 bytes_told command bytes document (verdicts.BadShape number at) makes is accepted memory (other, also, refused) =
     absurd (has_shape command document number at accepted (subst (λ (d : Document). IsShapeRefused command d (faults.Shape number at)) (one_document bytes document other is also) refused))
 bytes_told command bytes document verdicts.Memory makes is accepted memory judged = absurd (memory refl)
-bytes_told command bytes document (verdicts.Rejected number at) makes is accepted memory judged = absurd judged.2
+bytes_told command bytes document _ makes is accepted memory judged = absurd judged.2
 
 source_told : (command : Command) (old new : Option (List ℕ)) (before now : ℕ) (verdict : Verdict) → MakesCalls command → (has : HasAccepted command old) → ¬ Rose before now → status_for verdict ≢ statuses.Memory
     → IsOfSource DOCUMENT_LIMIT (IsOfBytes command) old new before now verdict → IsReport command has.document verdict

@@ -32,5 +32,4 @@ certify_refused document (faults.Shape number at) is = is
 
 pub certificate_refused : (certificate : Certificate) (fault : RunFault) → IsFaultOf certificate.document fault → IsFoundOfCertificate certificate (fault_verdict fault)
 certificate_refused certificate faults.Memory is = tt
-certificate_refused certificate (faults.Refused refusal) is = is
-certificate_refused certificate (faults.Shape number at) is = is
+certificate_refused certificate _ is = is

@@ -59,17 +59,7 @@ said_of limit Says old new before now bytes verdict told (same, read, all, says)
 -- the verdict on a source without a fault that tells fewer bytes than the limit is what is said of these, or that memory ran out
 pub told : (limit : ℕ) (Says : List ℕ → Verdict → Type 0) (old new : Option (List ℕ)) (before now : ℕ) (bytes : List ℕ) (verdict : Verdict) → old ≡ Some bytes
     → length bytes < limit → ¬ Rose before now → IsOfSource limit Says old new before now verdict → (status_for verdict ≡ statuses.Memory) ⊎ Says bytes verdict
-told limit Says old new before now bytes (verdicts.Answered report) is short kept judged = inr (said_of limit Says old new before now bytes (verdicts.Answered report) is judged)
-told limit Says old new before now bytes (verdicts.Worked report) is short kept judged = inr (said_of limit Says old new before now bytes (verdicts.Worked report) is judged)
-told limit Says old new before now bytes verdicts.Accepted is short kept judged = inr (said_of limit Says old new before now bytes verdicts.Accepted is judged)
-told limit Says old new before now bytes (verdicts.Shown spelling) is short kept judged = inr (said_of limit Says old new before now bytes (verdicts.Shown spelling) is judged)
-told limit Says old new before now bytes (verdicts.Compiled spelling) is short kept judged = inr (said_of limit Says old new before now bytes (verdicts.Compiled spelling) is judged)
-told limit Says old new before now bytes (verdicts.Certified spelling partial) is short kept judged = inr (said_of limit Says old new before now bytes (verdicts.Certified spelling partial) is judged)
-told limit Says old new before now bytes verdicts.Usage is short kept judged = inr (said_of limit Says old new before now bytes verdicts.Usage is judged)
 told limit Says old new before now bytes verdicts.ReadFault is short kept judged = absurd (kept judged.0)
 told limit Says old new before now bytes verdicts.LongInput is short kept judged = absurd (not_long limit bytes judged.1 old new is short judged.2 judged.3)
-told limit Says old new before now bytes (verdicts.BadDocument fault) is short kept judged = inr (said_of limit Says old new before now bytes (verdicts.BadDocument fault) is judged)
-told limit Says old new before now bytes (verdicts.Refused text refusal) is short kept judged = inr (said_of limit Says old new before now bytes (verdicts.Refused text refusal) is judged)
-told limit Says old new before now bytes (verdicts.BadShape number at) is short kept judged = inr (said_of limit Says old new before now bytes (verdicts.BadShape number at) is judged)
 told limit Says old new before now bytes verdicts.Memory is short kept judged = inl refl
-told limit Says old new before now bytes (verdicts.Rejected number at) is short kept judged = inr (said_of limit Says old new before now bytes (verdicts.Rejected number at) is judged)
+told limit Says old new before now bytes verdict is short kept judged = inr (said_of limit Says old new before now bytes verdict is judged)

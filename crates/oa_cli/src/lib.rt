@@ -8,9 +8,9 @@ mod rules;
 mod top;
 pub mod verdicts;
 
-pub use crate::verdicts::{conclude, finish};
+pub use crate::verdicts::{conclude, explain_status, finish};
 pub use command_input::input;
-pub use messages::{RememberingSource, explain_read};
+pub use messages::RememberingSource;
 pub use program::{run_program, serve};
 pub use statuses::{Refusal, Status, explain, status_number};
 pub use top::oa_main;

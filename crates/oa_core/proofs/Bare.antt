@@ -6,17 +6,12 @@ use Rattle.schedule_turns.specs.declared.turn.Turn.TheVariants as turns
 use Rattle.schedule_turns.specs.declared.turn.StepKind.{StepKind}
 use Rattle.core_runs.specs.Machine.{CoreState, CoreEvent, core_run}
 use Rattle.core_runs.specs.Replays.{Replay, Replaying, Refusal, LongReplay, next_events, stepped_to, step_by, one_step, go_further, most_steps, wants_kind, steps_made, upto_made, ended_calls, ops_made, turn_made, turns_made, ended_or, caller_ended, callers_ended}
+use Rattle.replay_steps.specs.Turns.{made_to, refused}
 use Rattle.oa_core.specs.Shown.{bare, bared}
 
 -- what follows is the same without the events that led there
 pub record Blind (next : Replaying → Result Replaying Refusal) : Type 0 where
   pub each : (r : Replaying) → bared (next r) ≡ bared (next (bare r))
-
-abbrev pub made_to : Replaying → Result Replaying Refusal
-made_to r = Ok r
-
-abbrev pub refused : Refusal → Result Replaying Refusal
-refused refusal = Err refusal
 
 same_ok : (x y : Replaying) → made_to x ≡ made_to y → x ≡ y
 same_ok x y is = cc

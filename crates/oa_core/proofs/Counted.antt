@@ -1,29 +1,27 @@
--- The kind of access that a caller wants, where its entry was looked up.
-use Rattle.std.proofs.Common.{◌≡◌, ℕ, Bool, false, List, Option, Some, None, sym, ap, ◌∙◌, subst}
-use Rattle.std.specs.Prelude.{slice_get, option_map}
-use Rattle.std.proofs.lemmas.Option.{slice_get-map}
+-- What was looked up among the code's entries is what the replay has.
+use Rattle.std.proofs.Common.{◌≡◌, ℕ, Bool, List, map, sym, ap, ◌∙◌, subst}
+use Rattle.std.specs.Prelude.{slice_get}
 use Rattle.schedule_turns.specs.declared.turn.StepKind.{StepKind}
 use Rattle.caller_steps.specs.Entries.{RoomyEntry}
-use Rattle.core_runs.specs.Replays.{kind_wanted, is_of_kind, entry_wants_kind, wants_kind}
-use Rattle.core_entries.specs.Callers.{BelongsTo}
-use Rattle.oa_core.specs.Finals.{core_part}
+use Rattle.core_runs.specs.Replays.{entry_wants_kind, entry_ended, wants_kind, ended_calls}
+use Rattle.replay_steps.specs.Entries.{core_part, AllBelongTo}
 use Rattle.oa_core.specs.Shown.{Terms, Progress, replay_by, shown, IsUnderWay}
 
--- the entry that was looked up in the code's list
-entry_in : (inside now : Progress) (entries : List RoomyEntry) (c : ℕ) (o : Option RoomyEntry) → inside ≡ now → entries ≡ inside.entries → o ≡ slice_get entries c → slice_get now.entries c ≡ o
-entry_in inside now entries c o same those at = ap (λ (n : Progress). slice_get n.entries c) (sym same) ∙ (ap (λ (l : List RoomyEntry). slice_get l c) (sym those) ∙ sym at)
+-- the code's list
+entries_are : (inside now : Progress) (entries : List RoomyEntry) → inside ≡ now → entries ≡ inside.entries → entries ≡ now.entries
+entries_are inside now entries same those = those ∙ ap (λ (n : Progress). n.entries) same
 
-pub wants_of : (t : Terms) (inside now : Progress) (entries : List RoomyEntry) (c : ℕ) (kind : StepKind) (e : RoomyEntry) (result : Bool) → inside ≡ now → entries ≡ inside.entries → Some e ≡ slice_get entries c
-    → result ≡ is_of_kind kind (kind_wanted t.pair.target e.core) → result ≡ wants_kind (replay_by t) c kind (shown now)
-wants_of t inside now entries c kind e result same those at is =
-    is ∙ sym (ap (entry_wants_kind t.pair.target kind) (slice_get-map core_part now.entries c ∙ ap (option_map core_part) (entry_in inside now entries c (Some e) same those at)))
+pub belong_in : (t told : Terms) (inside now : Progress) (entries : List RoomyEntry) → told ≡ t → inside ≡ now → IsUnderWay t now → entries ≡ inside.entries → AllBelongTo told.pair told.setting entries
+belong_in t told inside now entries same seen way those =
+    subst (λ (x : Terms). AllBelongTo x.pair x.setting entries) (sym same)
+    (subst (λ (l : List RoomyEntry). AllBelongTo t.pair t.setting l) (sym (entries_are inside now entries seen those)) way.belong)
 
-pub wants_of_none : (t : Terms) (inside now : Progress) (entries : List RoomyEntry) (c : ℕ) (kind : StepKind) → inside ≡ now → entries ≡ inside.entries → None ≡ slice_get entries c
-    → false ≡ wants_kind (replay_by t) c kind (shown now)
-wants_of_none t inside now entries c kind same those at =
-    sym (ap (entry_wants_kind t.pair.target kind) (slice_get-map core_part now.entries c ∙ ap (option_map core_part) (entry_in inside now entries c None same those at)))
+pub wants_in : (t told : Terms) (inside now : Progress) (entries : List RoomyEntry) (c : ℕ) (kind : StepKind) (result : Bool) → told ≡ t → inside ≡ now → entries ≡ inside.entries
+    → result ≡ entry_wants_kind told.pair.target kind (slice_get (map core_part entries) c) → result ≡ wants_kind (replay_by t) c kind (shown now)
+wants_in t told inside now entries c kind result same seen those is =
+    is
+    ∙ (ap (λ (x : Terms). entry_wants_kind x.pair.target kind (slice_get (map core_part entries) c)) same
+    ∙ ap (λ (l : List RoomyEntry). entry_wants_kind t.pair.target kind (slice_get (map core_part l) c)) (entries_are inside now entries seen those))
 
-pub belongs_at : (t told : Terms) (inside now : Progress) (entries : List RoomyEntry) (c : ℕ) (e : RoomyEntry) → told ≡ t → inside ≡ now → IsUnderWay t now → entries ≡ inside.entries → Some e ≡ slice_get entries c
-    → BelongsTo told.pair told.setting e.core
-belongs_at t told inside now entries c e same seen way those at =
-    subst (λ (x : Terms). BelongsTo x.pair x.setting e.core) (sym same) (way.belong.each c e (entry_in inside now entries c (Some e) seen those at))
+pub ended_in : (inside now : Progress) (entries : List RoomyEntry) (c result : ℕ) → inside ≡ now → entries ≡ inside.entries → result ≡ entry_ended (slice_get (map core_part entries) c) → result ≡ ended_calls c (shown now)
+ended_in inside now entries c result seen those is = is ∙ ap (λ (l : List RoomyEntry). entry_ended (slice_get (map core_part l) c)) (entries_are inside now entries seen those)

@@ -15,10 +15,11 @@ use Rattle.run_laws.proofs.Following.{follows}
 use Rattle.oa_core.specs.States.{RunsInRow}
 use Rattle.oa_core.specs.declared.progress.Stop.{Stop}
 use Rattle.oa_core.specs.declared.progress.Stop.TheVariants as stops
-use Rattle.oa_core.specs.Finals.{Final, core_of, replay_limit, replay_of, LeadsTo, Answers, EndsRun, HasRooms}
+use Rattle.oa_core.specs.Finals.{Final, core_of, replay_limit, replay_of, LeadsTo, Answers, EndsRun}
+use Rattle.replay_steps.specs.Entries.{HasRooms}
+use Rattle.replay_steps.specs.Turns.{made_to, refused}
 use Rattle.oa_core.specs.declared.replaying.ReplayError.{ReplayError}
 use Rattle.oa_core.specs.Shown.{Terms, Progress, replay_by, shown, bare, bared, told, refusal_of, error_of, final_of, answer_of}
-use Rattle.oa_core.proofs.Bare.{made_to, refused}
 use Rattle.core_entries.proofs.Calling.{runnable}
 
 complete_end : (pair : Paired) (setting : Setting) (scripts : List (List Call)) (fuel : ℕ) (schedule : List Turn) (r : Replaying) (final : Final) → IsSound pair → IsSetting setting → Fits pair.target setting

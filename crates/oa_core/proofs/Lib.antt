@@ -4,3 +4,5 @@ mod Ending
 mod Entering
 mod Looping
 mod Moving
+mod Halting
+mod Longer

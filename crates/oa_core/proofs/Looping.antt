@@ -7,8 +7,9 @@ use Rattle.schedule_turns.specs.declared.turn.Turn.{Turn}
 use Rattle.schedule_turns.specs.declared.turn.StepKind.{StepKind}
 use Rattle.core_runs.specs.Machine.{CoreEvent}
 use Rattle.core_runs.specs.Replays.{Replay, Replaying, Refusal, one_step, next_events, go_further, most_steps, wants_kind, steps_made, upto_made, ended_calls, ops_made, turn_made, turns_made, ended_or, caller_ended, callers_ended}
-use Rattle.oa_core.specs.Shown.{Progress, shown, bared, left_after}
-use Rattle.oa_core.proofs.Bare.{Blind, made_to, refused, goes_alike, steps_blind, upto_blind, ops_blind, turns_blind, caller_blind, callers_blind}
+use Rattle.replay_steps.specs.Turns.{left_after, made_to, refused}
+use Rattle.oa_core.specs.Shown.{Progress, shown, bared}
+use Rattle.oa_core.proofs.Bare.{Blind, goes_alike, steps_blind, upto_blind, ops_blind, turns_blind, caller_blind, callers_blind}
 
 -- after what was made, the rest is as from there
 pub goes : (o : Result Replaying Refusal) (next : Replaying → Result Replaying Refusal) (now : Progress) → Blind next → made_to (shown now) ≡ bared o → bared (go_further o next) ≡ bared (next (shown now))

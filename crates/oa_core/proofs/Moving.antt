@@ -1,18 +1,16 @@
 -- One step of a caller in its place among the entries.
 use Rattle.std.proofs.Common.{◌≡◌, ◌<◌, ◌+◌, ◌&&◌, ℕ, zero, suc, ◌⊎◌, inl, inr, ⊎_elim, Bool, true, false, List, [], ◌∷◌, map, set, length, Option, Some, None, refl, sym, ap, ◌∙◌, subst, arith, if◌then◌else◌}
 use Rattle.std.specs.Prelude.{slice_get, slice_set, option_map, is_some, nat_le, Err}
-use Rattle.std.proofs.lemmas.List.{map-set, set-set}
+use Rattle.std.proofs.lemmas.List.{set-set}
 use Rattle.std.proofs.lemmas.Option.{slice_get-map, slice_get_within}
 use Rattle.target_code.specs.declared.target.Target.{Target}
-use Rattle.phase_pools.specs.Accesses.{WordAccess}
 use Rattle.caller_parts.specs.declared.call.Call.{Call}
 use Rattle.caller_parts.specs.Settings.{Setting}
 use Rattle.caller_parts.specs.declared.setting.Reclamation.{Reclamation}
 use Rattle.caller_steps.specs.Entries.{Entry, RoomyEntry, is_idle}
 use Rattle.caller_parts.specs.Calls.{is_call}
-use Rattle.caller_steps.specs.Wants.{wants}
-use Rattle.caller_steps.specs.After.{after, taken}
-use Rattle.core_runs.specs.Machine.{CoreState, CoreEvent, Takes, Steps, core_event, core_run, run_on, event_by, stepped, found_by, made}
+use Rattle.caller_steps.specs.After.{taken}
+use Rattle.core_runs.specs.Machine.{CoreState, CoreEvent, Steps, core_run, run_on}
 use Rattle.core_runs.specs.Scripts.{script_of}
 use Rattle.core_runs.specs.Replays.{LongReplay, is_spent, take_events, caller_events, entry_events, next_events, stepped_to, step_by, one_step}
 use Rattle.core_runs.proofs.Keeping.{got_same}
@@ -20,10 +18,12 @@ use Rattle.barrier_check.specs.Paired.{Paired}
 use Rattle.oa_core.specs.declared.progress.Move.{Move}
 use Rattle.oa_core.specs.declared.progress.Move.TheVariants as moves
 use Rattle.core_entries.specs.Callers.{BelongsTo}
-use Rattle.oa_core.specs.Finals.{core_part, HasRooms}
+use Rattle.replay_steps.specs.Entries.{core_part, HasRooms, AllBelongTo}
+use Rattle.replay_steps.specs.Turns.{made_to, refused}
+use Rattle.replay_steps.proofs.Rooms.{set_got, set_rooms}
+use Rattle.replay_steps.proofs.Events.{core_at, set_core, take_event, step_run}
 use Rattle.core_entries.specs.Steps.{StepIs, WordsSound}
-use Rattle.oa_core.specs.Shown.{Terms, Progress, replay_by, shown, bared, next_of, next_for, next_in, events_of, begun, CanMove, CanMoveAt, EntryMoves, MovesAt, AllBelongTo, IsUnderWay}
-use Rattle.oa_core.proofs.Bare.{made_to, refused}
+use Rattle.oa_core.specs.Shown.{Terms, Progress, replay_by, shown, bared, next_of, next_for, next_in, events_of, begun, CanMove, CanMoveAt, EntryMoves, MovesAt, IsUnderWay}
 
 -- ---- an entry is there
 
@@ -41,14 +41,6 @@ no_entry target next entries count c is none can = of (slice_get entries c) refl
   of None at can = can
   of (Some e) at can = let lt = slice_get_within entries c e at in let no : false ≡ true = none (omega (arith, lt, is)) in cc
 
--- one entry changes
-set_got : (es : List RoomyEntry) (k d : ℕ) (e f : RoomyEntry) → slice_get (set es k e) d ≡ Some f → ((d ≡ k) × (f ≡ e)) ⊎ (slice_get es d ≡ Some f)
-set_got [] k d e f is = inr is
-set_got (x ∷ xs) zero zero e f is = inl (refl, cc)
-set_got (x ∷ xs) zero (suc d) e f is = inr is
-set_got (x ∷ xs) (suc k) zero e f is = inr is
-set_got (x ∷ xs) (suc k) (suc d) e f is = ⊎_elim (λ (t : (d ≡ k) × (f ≡ e)). inl (ap suc t.0, t.1)) (λ (t : slice_get xs d ≡ Some f). inr t) (set_got xs k d e f is)
-
 pub set_belong : (pair : Paired) (setting : Setting) (entries : List RoomyEntry) (c : ℕ) (e : RoomyEntry) → AllBelongTo pair setting entries → BelongsTo pair setting e.core → AllBelongTo pair setting (slice_set entries c e)
 set_belong pair setting entries c e all b = record {
   each = λ k f is. ⊎_elim
@@ -59,36 +51,8 @@ set_belong pair setting entries c e all b = record {
 
 -- ---- its events
 
-step_event : (target : Target) (setting : Setting) (state : CoreState) (c : ℕ) (e : Entry) (a : WordAccess) → slice_get state.entries c ≡ Some e → wants target e ≡ Some a
-    → core_event target setting state (Steps c) ≡ Some (record { words = made setting state a; entries = slice_set state.entries c (after target setting e (found_by setting state a)) })
-step_event target setting state c e a at want = ap (event_by target setting state (Steps c)) at ∙ ap (stepped target setting state c e) want
-
-take_event : (target : Target) (setting : Setting) (state : CoreState) (c : ℕ) (call : Call) (e : Entry) → slice_get state.entries c ≡ Some e → is_idle e.routine ≡ true → is_call target call ≡ true
-    → core_event target setting state (Takes c call) ≡ Some (record state { entries = slice_set state.entries c (taken setting.reclamation call e) })
-take_event target setting state c call e at idle is =
-    ap (event_by target setting state (Takes c call)) at
-    ∙ (ap (λ (b : Bool). if b && is_call target call then Some (record state { entries = slice_set state.entries c (taken setting.reclamation call e) }) else None) idle
-    ∙ ap (λ (b : Bool). if b then Some (record state { entries = slice_set state.entries c (taken setting.reclamation call e) }) else None) is)
-
-core_at : (entries : List RoomyEntry) (c : ℕ) (e : RoomyEntry) → slice_get entries c ≡ Some e → slice_get (map core_part entries) c ≡ Some e.core
-core_at entries c e at = slice_get-map core_part entries c ∙ ap (option_map core_part) at
-
 abbrev state_of : List ℕ → List RoomyEntry → CoreState
 state_of words entries = record { words = words; entries = map core_part entries }
-
--- a step alone, of an entry that may have been changed in its place before
-step_run : (target : Target) (setting : Setting) (words later : List ℕ) (c : ℕ) (cores : List Entry) (entries : List RoomyEntry) (e moved : RoomyEntry) → slice_get cores c ≡ Some e.core
-    → StepIs target setting words later e moved → slice_set cores c moved.core ≡ map core_part (slice_set entries c moved)
-    → core_run target setting (Steps c ∷ []) (record { words = words; entries = cores }) ≡ Some (state_of later (slice_set entries c moved))
-step_run target setting words later c cores entries e moved at step same =
-    let now : CoreState = record { words = words; entries = cores } in
-    ap (λ (o : Option CoreState). run_on o (core_run target setting [])) (step_event target setting now c e.core step.access at step.wanted)
-    ∙ (ap (λ (l : List ℕ). Some (record { words = l; entries = slice_set cores c (after target setting e.core (found_by setting now step.access)) })) (sym step.left)
-    ∙ (ap (λ (x : RoomyEntry). Some (record { words = later; entries = slice_set cores c x.core })) (sym step.entry)
-    ∙ ap (λ (l : List Entry). Some (record { words = later; entries = l })) same))
-
-set_core : (entries : List RoomyEntry) (c : ℕ) (e : RoomyEntry) → slice_set (map core_part entries) c e.core ≡ map core_part (slice_set entries c e)
-set_core entries c e = sym (map-set core_part entries c e)
 
 move_run : (target : Target) (setting : Setting) (words later : List ℕ) (next : Move) (c : ℕ) (entries : List RoomyEntry) (e moved : RoomyEntry) → slice_get entries c ≡ Some e → CanMove target next e
     → StepIs target setting words later (begun setting.reclamation next e) moved → core_run target setting (events_of c next) (state_of words entries) ≡ Some (state_of later (slice_set entries c moved))
@@ -121,14 +85,9 @@ moves_rooms : (target : Target) (setting : Setting) (scripts : List (List Call))
 moves_rooms target setting scripts words later next c entries others rooms moves = of (slice_get entries c) refl moves where
   of : (o : Option RoomyEntry) → slice_get entries c ≡ o → MovesAt target setting words later next c entries others o → HasRooms scripts others
   of None at moves = absurd moves
-  of (Some e) at moves = λ k f is. ⊎_elim
-      (λ (t : (k ≡ c) × (f ≡ moves.moved)).
-      let room : f.room ≡ e.room = ap (λ (x : RoomyEntry). x.room) (t.1 ∙ moves.step.entry) ∙ begun_room setting.reclamation next e in
-      let exact : e.room ≡ length (script_of scripts c) = rooms c e at in
-      let same : length (script_of scripts k) ≡ length (script_of scripts c) = ap (λ (d : ℕ). length (script_of scripts d)) t.0 in
-      omega (arith, room, exact, same))
-      (λ (t : slice_get entries k ≡ Some f). rooms k f t)
-      (set_got entries c k moves.moved f (ap (λ (l : List RoomyEntry). slice_get l k) (sym moves.left) ∙ is))
+  of (Some e) at moves =
+      subst (λ (l : List RoomyEntry). (k : ℕ) (f : RoomyEntry) → slice_get l k ≡ Some f → f.room ≡ length (script_of scripts k)) (sym moves.left)
+      (set_rooms scripts entries c e moves.moved rooms at (ap (λ (x : RoomyEntry). x.room) moves.step.entry ∙ begun_room setting.reclamation next e))
 
 pub moves_under_way : (t : Terms) (old new : Progress) (next : Move) (c : ℕ) → IsUnderWay t old → MovesAt t.pair.target t.setting old.words new.words next c old.entries new.entries (slice_get old.entries c)
     → AllBelongTo t.pair t.setting new.entries → WordsSound t.pair.target t.setting new.words → IsUnderWay t new
@@ -193,6 +152,10 @@ pub has_none : (t : Terms) (c : ℕ) (now : Progress) → next_in t c now ≡ No
 has_none t c now none = ap is_some (events_in t c now ∙ ap (option_map (events_of c)) none)
 
 -- ---- the step
+
+-- the test of the limit, on what the code reads
+pub limit_read : (seen t : Terms) (inside now : Progress) (b : Bool) → seen ≡ t → inside ≡ now → b ≡ nat_le seen.limit inside.steps → nat_le t.limit now.steps ≡ b
+limit_read seen t inside now b is at test = sym (test ∙ (ap (λ (x : Terms). nat_le x.limit inside.steps) is ∙ ap (λ (n : Progress). nat_le t.limit n.steps) at))
 
 pub step_is_long : (t : Terms) (c : ℕ) (now : Progress) (next : Move) → next_in t c now ≡ Some next → nat_le t.limit now.steps ≡ true
     → refused (LongReplay now.steps) ≡ bared (one_step (replay_by t) c (shown now))

@@ -1,5 +1,5 @@
 -- The end of a run of scripts, and what a replay answers.
-use Rattle.std.specs.Prelude.{◌≡◌, ℕ, ◌≤◌, Bool, false, List, map, length, Option, Some, None, Result, Ok, Err, slice_get, slice_index}
+use Rattle.std.specs.Prelude.{◌≡◌, ℕ, Bool, false, List, map, Option, Some, None, Result, Ok, Err, slice_get, slice_index}
 use Rattle.schedule_turns.specs.declared.turn.Turn.{Turn}
 use Rattle.norm_lang.specs.declared.text.Text.{Text}
 use Rattle.target_code.specs.declared.target.Target.{Target}
@@ -7,13 +7,13 @@ use Rattle.source_machine.specs.Proper.{IsProper}
 use Rattle.caller_parts.specs.declared.call.Call.{Call}
 use Rattle.caller_parts.specs.Settings.{Setting}
 use Rattle.caller_parts.specs.declared.setting.Reclamation.TheVariants.{Optimistic}
-use Rattle.caller_steps.specs.Entries.{Entry, RoomyEntry}
+use Rattle.caller_steps.specs.Entries.{RoomyEntry}
 use Rattle.core_runs.specs.Machine.{CoreState}
-use Rattle.core_runs.specs.Scripts.{script_of, IsCompleteRun}
+use Rattle.core_runs.specs.Scripts.{IsCompleteRun}
 use Rattle.core_runs.specs.Replays.{Replay, Replaying, Refusal, StepOfNobody, LongReplay, is_spent, replayed}
 use Rattle.core_runs.specs.core_sound.Sound.{IsSound, StaysInRow}
 use Rattle.run_laws.specs.Source.{FollowsSource}
-use Rattle.documents.specs.DocumentLimits.{most_calls}
+pub use Rattle.replay_steps.specs.Entries.{core_part}
 use Rattle.oa_core.specs.declared.limits.TheConstants.{MOST_STEPS}
 use Rattle.oa_core.specs.declared.replaying.ReplayError.{ReplayError}
 use Rattle.oa_core.specs.declared.replaying.ReplayError.TheVariants as errors
@@ -23,9 +23,6 @@ pub record Final : Type 0 where
   pub words : List ℕ
   pub entries : List RoomyEntry
   pub fuel : ℕ
-
-abbrev pub core_part : RoomyEntry → Entry
-core_part e = e.core
 
 abbrev pub core_of : Final → CoreState
 core_of final = record { words = final.words; entries = map core_part final.entries }
@@ -43,14 +40,6 @@ abbrev pub is_spent_in : Final → ℕ → Bool
 is_spent_in final c = entry_spent final.fuel (slice_get final.entries c)
 
 -- ---- replays
-
--- no script has more calls
-abbrev pub IsShort : List Call → Type 0
-IsShort script = length script ≤ most_calls
-
--- each caller's entry has room for one reply to each call of its script
-abbrev pub HasRooms : List (List Call) → List RoomyEntry → Type 0
-HasRooms scripts entries = (c : ℕ) (e : RoomyEntry) → slice_get entries c ≡ Some e → e.room ≡ length (script_of scripts c)
 
 -- the most steps of a replay
 unfoldable pub replay_limit : ℕ

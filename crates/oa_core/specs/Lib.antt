@@ -1,3 +1,4 @@
 pub mod States
 pub mod Finals
+pub mod Stops
 pub mod Shown

@@ -1,26 +1,25 @@
 -- A replay under way as the code holds it: without its events.
-use Rattle.std.specs.Prelude.{◌≡◌, ℕ, ◌+◌, ◌-◌, ◌<◌, All, Bool, true, false, List, [], ◌∷◌, map, length, Option, Some, None, option_map, Result, Ok, Err, nat_le, if◌then◌else◌, slice_get, slice_set}
-use Rattle.schedule_turns.specs.declared.turn.Turn.{Turn}
+use Rattle.std.specs.Prelude.{◌≡◌, ℕ, ◌<◌, All, true, false, List, [], ◌∷◌, map, length, Option, Some, None, option_map, Result, Ok, Err, if◌then◌else◌, slice_get, slice_set}
 use Rattle.target_code.specs.declared.target.Target.{Target}
 use Rattle.caller_parts.specs.declared.call.Call.{Call}
 use Rattle.caller_parts.specs.Settings.{Setting, Fits}
 use Rattle.caller_parts.specs.declared.setting.Reclamation.{Reclamation}
-use Rattle.caller_steps.specs.Entries.{Entry, RoomyEntry, idle_entry, is_idle}
+use Rattle.caller_steps.specs.Entries.{Entry, RoomyEntry, is_idle}
 use Rattle.caller_parts.specs.Calls.{is_call, AreCalls}
 use Rattle.caller_steps.specs.After.{taken}
 use Rattle.core_runs.specs.Machine.{CoreEvent, Takes, Steps}
 use Rattle.core_runs.specs.Scripts.{script_of}
-use Rattle.core_runs.specs.Replays.{Replay, Replaying, Refusal, StepOfNobody, LongReplay, is_spent, go_further, turns_made, callers_ended}
+use Rattle.core_runs.specs.Replays.{Replay, Replaying, Refusal, StepOfNobody, LongReplay, is_spent}
 use Rattle.barrier_check.specs.Paired.{Paired}
 use Rattle.oa_core.specs.declared.progress.Move.{Move}
 use Rattle.oa_core.specs.declared.progress.Move.TheVariants as moves
 use Rattle.oa_core.specs.declared.progress.Stop.{Stop}
 use Rattle.oa_core.specs.declared.progress.Stop.TheVariants as stops
-use Rattle.core_entries.specs.Callers.{BelongsTo}
 use Rattle.core_entries.specs.Steps.{WordsSound, StepIs}
 use Rattle.oa_core.specs.declared.replaying.ReplayError.{ReplayError}
 use Rattle.oa_core.specs.declared.replaying.ReplayError.TheVariants as errors
-use Rattle.oa_core.specs.Finals.{Final, core_part, HasRooms, IsShort}
+use Rattle.replay_steps.specs.Entries.{core_part, IsShort, HasRooms, AllBelongTo}
+use Rattle.oa_core.specs.Finals.{Final}
 
 -- what is replayed
 pub record Terms : Type 0 where
@@ -102,15 +101,6 @@ abbrev pub MovesAt : Target → Setting → List ℕ → List ℕ → Move → �
 MovesAt target setting words later next c entries others None = ⊥
 MovesAt target setting words later next c entries others (Some e) = EntryMoves target setting words later next c entries others e
 
-pub record AllBelongTo (pair : Paired) (setting : Setting) (entries : List RoomyEntry) : Type 0 where
-  pub each : (c : ℕ) (e : RoomyEntry) → slice_get entries c ≡ Some e → BelongsTo pair setting e.core
-
--- ---- turns
-
--- how many accesses of the kind are left after a look at whether one is wanted; none where it is the last
-abbrev pub left_after : Bool → ℕ → Option ℕ
-left_after wanted left = if wanted then (if nat_le left 1 then None else Some (left - 1)) else Some left
-
 -- ---- what holds all the while
 
 pub record IsUnderWay (t : Terms) (now : Progress) : Type 0 where
@@ -121,25 +111,12 @@ pub record IsUnderWay (t : Terms) (now : Progress) : Type 0 where
 
 -- ---- the start and the whole
 
--- an idle entry with room for a script's replies
-abbrev pub fresh_entry : ℕ → List Call → RoomyEntry
-fresh_entry c script = record { core = idle_entry c; room = length script }
-
--- an idle entry for each script, from a number on
-abbrev pub fresh_entries : ℕ → List (List Call) → List RoomyEntry
-fresh_entries c [] = []
-fresh_entries c (script ∷ scripts) = fresh_entry c script ∷ fresh_entries (c + 1) scripts
-
 -- what the start needs
 pub record SuitsReplay (t : Terms) : Type 0 where
   pub fits : Fits t.pair.target t.setting
   pub count : length t.scripts ≡ t.setting.sizes.callers
   pub calls : All (AreCalls t.pair.target) t.scripts
   pub few : All IsShort t.scripts
-
--- the turns and then each caller to its end, from a state on
-abbrev pub replayed_from : Replay → List Turn → Replaying → Result Replaying Refusal
-replayed_from p turns r = go_further (turns_made p turns r) (callers_ended p 0 p.setting.sizes.callers)
 
 abbrev pub error_of : Stop → ReplayError
 error_of (stops.StepOfNobody steps) = errors.StepOfNobody steps

@@ -1,7 +1,8 @@
-//! Laws of every run of a barred target.
+//! Laws of every run of a barred target, and of replays.
 
 ghost use Rattle.caller_parts.specs.Settings.{Fits};
 ghost use Rattle.oa_core.specs.States.{RunsInRow};
+ghost use Rattle.oa_core.specs.Stops.{LongerStopsAlike};
 
 use barrier_check::Barred;
 use caller_steps::Setting;
@@ -17,3 +18,9 @@ pub fn runs_in_row(barred: &Barred, setting: &Setting)
     barred.kept();
     setting.kept();
 }
+
+/// Where a turn needs a step of nobody, a replay under a longer limit stops at the same turn: so what `whole_turns` answers holds of
+/// shorter ones too.
+pub fn longer_stops_alike()
+    ensures { LongerStopsAlike }
+{}

@@ -1,17 +1,20 @@
 //! A replay under way, and one step of it.
 
-ghost use Rattle.std.specs.Prelude.{◌≡◌, ◌<◌, ◌+◌, ◌^◌, Some, OnOk, length, option_copied, option_map, slice_get, nat_le};
+ghost use Rattle.std.specs.Prelude.{◌≡◌, ◌<◌, ◌+◌, Some, OnOk, length, option_map, slice_get};
 ghost use Rattle.core_runs.specs.Machine.{core_run};
 ghost use Rattle.core_runs.specs.Scripts.{script_of};
 ghost use Rattle.core_runs.specs.Replays.{one_step};
 ghost use Rattle.core_entries.specs.Callers.{BelongsTo};
 ghost use Rattle.core_entries.specs.Steps.{WordsSound, StepIs};
-ghost use Rattle.oa_core.specs.Shown.{replay_by, shown, bared, told, next_of, next_in, events_of, begun, CanMove, CanMoveAt, MovesAt, AllBelongTo, IsUnderWay};
+ghost use Rattle.replay_steps.specs.Entries.{AllBelongTo};
+ghost use Rattle.oa_core.specs.Shown.{replay_by, shown, bared, told, next_of, next_in, events_of, begun, CanMove, CanMoveAt, MovesAt, IsUnderWay};
 
 use crate::replaying::CallList;
 use caller_steps::{Call, Program, Setting};
 use core_entries::step::step_on;
 use core_entries::{Entry, PlainWords, Prepared, Runs};
+use replay_steps::counting::{is_at_limit, one_more};
+use replay_steps::looking::{call_at, script_at};
 use std::marker::Model;
 
 /// What a caller does next.
@@ -71,27 +74,6 @@ impl Model for Progress {
     ghost view = { λ p. record { words = p.words; entries = p.entries.items; steps = p.steps } };
 }
 
-fn call_at(script: &[Call], at: usize) -> Option<Call>
-    ensures { result ≡ slice_get script.now at }
-{
-    script.get(at).copied()
-}
-
-pub(crate) fn entry_at(entries: &[Entry], caller: u32) -> Option<&Entry>
-    ensures { option_copied result ≡ slice_get entries.now caller }
-{
-    entries.get(caller as usize)
-}
-
-fn script_at(scripts: &[CallList], caller: usize) -> &[Call]
-    ensures { result.now ≡ script_of scripts.now caller }
-{
-    match scripts.get(caller) {
-        None => &[],
-        Some(script) => script.items(),
-    }
-}
-
 fn next_call(entry: &Entry, script: &[Call]) -> Option<Move>
     ensures { result ≡ option_map Move.Takes (slice_get script.now (length entry.now.core.replies)) }
 {
@@ -113,14 +95,6 @@ fn next_of(fuel: u64, scripts: &[CallList], caller: u32, entry: &Entry) -> Optio
 }
 
 impl<'a> Terms<'a> {
-    /// The limit is a number of the machine: a law for those who hold one. To read a field tells it.
-    #[inline(always)]
-    fn kept(&self)
-        ensures { self.now.limit < 2 ^ 64 }
-    {
-        let _limit = self.limit;
-    }
-
     /// What a caller does next; nothing where it has no step to take, or doesn't exist.
     #[inline(always)]
     pub(crate) fn next_of(&self, now: &Progress, caller: u32) -> Option<Move>
@@ -204,16 +178,8 @@ impl<'a> Terms<'a> {
         ensures counted { now.new.steps ≡ now.old.steps + 1 }
         ensures under_way { IsUnderWay self.now now.new }
     {
-        self.kept();
         self.move_in(now, caller, next);
-        now.steps += 1;
-    }
-
-    /// Whether the limit of steps is reached.
-    fn is_at_limit(&self, now: &Progress) -> bool
-        ensures { result ≡ nat_le self.now.limit now.now.steps }
-    {
-        self.limit <= now.steps
+        now.steps = one_more(self.limit, now.steps);
     }
 
     /// The step that a caller has next.
@@ -229,7 +195,7 @@ impl<'a> Terms<'a> {
         ensures below { OnOk result (now.old.steps < self.now.limit) }
         ensures under_way { IsUnderWay self.now now.new }
     {
-        if self.is_at_limit(now) {
+        if is_at_limit(self.limit, now.steps) {
             return Err(Stop::LongReplay { steps: now.steps });
         }
         self.move_on(now, caller, next);

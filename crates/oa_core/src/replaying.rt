@@ -1,11 +1,13 @@
 //! Replay: the run of scripts that the turns of a schedule give.
 
-ghost use Rattle.std.specs.Prelude.{◌≡◌, ◌≤◌, ◌<◌, ◌++◌, ◌∷◌, [], IfOk, OnOk, All, length};
+ghost use Rattle.std.specs.Prelude.{◌≡◌, ◌≤◌, IfOk, All, length};
 ghost use Rattle.caller_parts.specs.Calls.{AreCalls};
 ghost use Rattle.caller_parts.specs.Settings.{Fits};
 ghost use Rattle.core_runs.specs.Replays.{replay_start, replayed};
-ghost use Rattle.oa_core.specs.Finals.{IsShort, phase_of, is_spent_in, replay_limit, replay_of, Answers, HasRooms, EndsRun};
-ghost use Rattle.oa_core.specs.Shown.{replay_by, shown, bared, told, fresh_entry, fresh_entries, replayed_from, error_of, final_of, answer_of, SuitsReplay, IsUnderWay};
+ghost use Rattle.replay_steps.specs.Entries.{IsShort, HasRooms};
+ghost use Rattle.replay_steps.specs.Turns.{replayed_from};
+ghost use Rattle.oa_core.specs.Finals.{phase_of, is_spent_in, replay_limit, replay_of, Answers, EndsRun};
+ghost use Rattle.oa_core.specs.Shown.{replay_by, shown, bared, told, error_of, final_of, answer_of, SuitsReplay, IsUnderWay};
 ghost use Rattle.oa_core.specs.States.{RunsInRow};
 
 use crate::limits::MOST_STEPS;
@@ -14,6 +16,7 @@ use barrier_check::Barred;
 use caller_steps::{Call, Setting};
 use core_entries::{Entry, PlainWords, Prepared};
 use norm_lang::list::Listed;
+use replay_steps::entries::put_entries;
 use schedule_turns::Turn;
 use std::alloc::{AllocError, Global};
 use std::marker::Model;
@@ -80,55 +83,8 @@ impl CoreState {
     }
 }
 
-/// An idle entry with room for a script's replies.
-fn add_entry(
-    alloc: Global,
-    entries: &mut Vec<Entry>,
-    number: u32,
-    script: &CallList,
-) -> Result<(), AllocError>
-    requires number { number < 8 }
-    requires short { IsShort script.now }
-    ensures { OnOk result (entries.new.items ≡ entries.old.items ++ fresh_entry number script.now ∷ []) }
-{
-    let entry = Entry::new(alloc, number, script.items().len() as u32)?;
-    entries.push(entry)?;
-    Ok(())
-}
-
-/// An idle entry for each script, after those that stand there.
-fn add_entries(
-    alloc: Global,
-    entries: &mut Vec<Entry>,
-    scripts: &[CallList],
-) -> Result<(), AllocError>
-    requires count { length scripts.now ≤ 8 }
-    requires few { All IsShort scripts.now }
-    ensures { OnOk result (entries.new.items ≡ entries.old.items ++ fresh_entries 0 scripts.now) }
-{
-    let mut number = 0;
-    for script in scripts {
-        add_entry(alloc, entries, number, script)?;
-        number += 1;
-    }
-    Ok(())
-}
-
-/// An idle entry for each script, with room for its replies.
-fn put_entries(alloc: Global, scripts: &[CallList]) -> Result<Vec<Entry>, AllocError>
-    requires count { length scripts.now ≤ 8 }
-    requires few { All IsShort scripts.now }
-    ensures { IfOk result (λ entries. entries.items ≡ fresh_entries 0 scripts.now) }
-{
-    let mut entries = Vec::new(alloc);
-    match add_entries(alloc, &mut entries, scripts) {
-        Err(error) => Err(error),
-        Ok(()) => Ok(entries),
-    }
-}
-
 /// The start of a replay.
-fn start(alloc: Global, terms: &Terms) -> Result<Progress, AllocError>
+pub(crate) fn start(alloc: Global, terms: &Terms) -> Result<Progress, AllocError>
     requires suits { SuitsReplay terms.now }
     ensures started { IfOk result (λ now. shown now ≡ replay_start (replay_by terms.now)) }
     ensures under_way { IfOk result (λ now. IsUnderWay terms.now now) }
@@ -165,7 +121,7 @@ fn error_of(stop: Stop) -> ReplayError
 }
 
 #[tactic(auto, unfolding(crate::specs::Finals::replay_limit))]
-fn replay_limit() -> u64
+pub(crate) fn replay_limit() -> u64
     ensures { result ≡ replay_limit }
 {
     MOST_STEPS

@@ -1,33 +1,13 @@
 //! The turns of a schedule, and each caller to its end.
 
 ghost use Rattle.std.specs.Prelude.{◌≡◌, ◌<◌, ◌+◌, ◌^◌};
-ghost use Rattle.core_runs.specs.Replays.{is_of_kind, wants_kind, most_steps, steps_made, upto_made, ended_calls, ops_made, turn_made, turns_made, caller_ended, callers_ended};
-ghost use Rattle.oa_core.specs.Shown.{replay_by, shown, bared, told, left_after, IsUnderWay};
+ghost use Rattle.core_runs.specs.Replays.{wants_kind, most_steps, steps_made, upto_made, ended_calls, ops_made, turn_made, turns_made, caller_ended, callers_ended};
+ghost use Rattle.oa_core.specs.Shown.{replay_by, shown, bared, told, IsUnderWay};
 
-use crate::progress::{Progress, Stop, Terms, entry_at};
+use crate::progress::{Progress, Stop, Terms};
+use replay_steps::counting::left_after;
+use replay_steps::looking::{ended_calls, wants_kind};
 use schedule_turns::{StepKind, Turn};
-
-/// Whether an access of this kind is wanted.
-fn is_of_kind(kind: StepKind, wanted: Option<StepKind>) -> bool
-    ensures { result ≡ is_of_kind kind wanted }
-{
-    match wanted {
-        None => false,
-        Some(StepKind::Load) => matches!(kind, StepKind::Load),
-        Some(StepKind::Check) => matches!(kind, StepKind::Check),
-        Some(StepKind::Exchange) => matches!(kind, StepKind::Exchange),
-    }
-}
-
-/// How many accesses of the kind are left after a look at whether one is wanted; none where it is the last.
-fn left_after(wanted: bool, left: u32) -> Option<u32>
-    ensures { result ≡ left_after wanted left }
-{
-    if !wanted {
-        return Some(left);
-    }
-    if left <= 1 { None } else { Some(left - 1) }
-}
 
 impl<'a> Terms<'a> {
     /// Whether a caller's next access is of this kind.
@@ -35,10 +15,7 @@ impl<'a> Terms<'a> {
         requires { IsUnderWay self.now now.now }
         ensures { result ≡ wants_kind (replay_by self.now) caller kind (shown now.now) }
     {
-        match entry_at(&now.entries, caller) {
-            None => false,
-            Some(entry) => is_of_kind(kind, entry.kind_wanted(self.prepared, self.setting)),
-        }
+        wants_kind(&now.entries, self.prepared, self.setting, caller, kind)
     }
 
     /// How many of a caller's calls have ended.
@@ -46,10 +23,7 @@ impl<'a> Terms<'a> {
         ensures count { result ≡ ended_calls caller (shown now.now) }
         ensures few { result < 2 ^ 62 }
     {
-        match now.entries.get(caller as usize) {
-            None => 0,
-            Some(entry) => entry.replies().len() as u64,
-        }
+        ended_calls(&now.entries, caller)
     }
 
     /// How many of a caller's calls have ended once so many more have.
@@ -107,7 +81,7 @@ impl<'a> Terms<'a> {
         Ok(())
     }
 
-    fn make_turn(&self, now: &mut Progress, turn: Turn) -> Result<(), Stop>
+    pub(crate) fn make_turn(&self, now: &mut Progress, turn: Turn) -> Result<(), Stop>
         requires under_way { IsUnderWay self.now now.old }
         ensures made { told result now.new ≡ bared (turn_made (replay_by self.now) turn (shown now.old)) }
         ensures under_way { IsUnderWay self.now now.new }

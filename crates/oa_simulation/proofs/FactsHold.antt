@@ -1,21 +1,16 @@
 -- The facts of the simulation hold of every state in the relation.
-use Rattle.std.proofs.Common.{ℕ, ◌≡◌, ◌≤◌, ◌<◌, [], Some, ⊎_elim, subst}
-use Rattle.oa_words.specs.Words.{Phase}
+use Rattle.std.proofs.Common.{ℕ, ◌≡◌, ◌<◌, [], subst}
 use Rattle.phase_pools.specs.declared.stages.ClaimStage.{ClaimStage}
 use Rattle.source_machine.specs.Proper.{itself}
 use Rattle.caller_parts.specs.declared.routine.Routine.{Routine}
 use Rattle.caller_parts.specs.declared.routine.Routine.TheVariants.{At, Claims}
-use Rattle.oa_simulation.specs.sim_relation.Views.{Plan, Shared}
+use Rattle.oa_simulation.specs.sim_relation.Views.{Plan}
 use Rattle.oa_simulation.specs.sim_relation.Callers.{HoldsAt, Running, ClaimAt, spot_of}
-use Rattle.oa_simulation.specs.sim_relation.MayChange.{MayChange}
 use Rattle.oa_simulation.specs.sim_relation.Points.{StaysProper, point, done}
 use Rattle.oa_simulation.specs.sim_relation.Worlds.{World, Holds}
 use Rattle.oa_simulation.proofs.sim_steps.Guards.Residents.{resident}
 use Rattle.oa_simulation.proofs.sim_steps.Accesses.Stepping.{proper_here}
-use Rattle.oa_simulation.specs.Facts.{Facts, TagIsNoLessThanThePhaseAtUnlinking}
-
-pub tags_are_no_less : (t : Plan) (c : ℕ) (s s' : Shared) → MayChange t c s s' → TagIsNoLessThanThePhaseAtUnlinking s s'
-tags_are_no_less t c s s' g n p new is = ⊎_elim (λ (old : s.tag n ≡ Some p). absurd (new old)) (λ (le : s.memory Phase ≤ p). le) (g.tag n p is)
+use Rattle.oa_simulation.specs.Facts.{Facts}
 
 pub facts_hold : (t : Plan) (w : World) → t.home 0 ≡ 0 → Holds t w → ((c : ℕ) → c < t.setting.sizes.callers → StaysProper t.text c (point w.shared (w.who c))) → Facts t w
 facts_hold t w null_home h proper = record {

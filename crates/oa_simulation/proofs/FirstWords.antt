@@ -29,6 +29,7 @@ use Rattle.source_machine.specs.declared.state.Value.{Value}
 use Rattle.source_machine.specs.State.{first_value, root_value, named_from, first_memory}
 use Rattle.source_machine.specs.Memory.{value_at, fields_named}
 use Rattle.source_machine.specs.Proper.{field_of}
+use Rattle.source_machine.specs.MethodRuns.{name_in}
 use Rattle.caller_parts.specs.KindCounts.{node_counts}
 use Rattle.caller_parts.specs.declared.setting.Reclamation.{Reclamation}
 use Rattle.caller_parts.specs.declared.setting.Reclamation.TheVariants.{Optimistic, Epochs}
@@ -41,8 +42,8 @@ use Rattle.core_runs.proofs.core_sound.Reached.{start_suits}
 use Rattle.target_laws.proofs.OneKind.{declared, nodes_are, roots_are, root_start, start_known}
 use Rattle.run_ahead.proofs.TypedStart.{first_typed}
 use Rattle.target_laws.specs.target_runs.Runnable.{IsRunnable}
-use Rattle.oa_simulation.specs.sim_relation.Views.{Plan, word_for, name_of}
-use Rattle.oa_simulation.specs.sim_relation.Shared.{IsOf}
+use Rattle.oa_simulation.specs.sim_relation.Views.{Plan, word_for}
+use Rattle.chain_laws.specs.Chains.{IsOf}
 use Rattle.oa_simulation.specs.FirstNames.{first_home}
 use Rattle.oa_simulation.specs.Present.{first_present}
 use Rattle.oa_simulation.proofs.FirstSlots.{NodesHaveKinds, Named, home_is as slot_home, node_present, node_within, slot_named, number_there, number_past, first_below, past_index}
@@ -73,18 +74,18 @@ module _ (home slots : ℕ → ℕ) (kinds : ℕ) (owners : List ℕ) (homes : (
   roots_right (root ∷ roots) (suc x) all = roots_right roots x (and_parts (is_root kinds owners root) (list_all (is_root kinds owners) roots) all).1
 
 -- a name among first values is null or an initial node's
-name_right : (owners : List ℕ) (kind : FieldKind) (start : Start) → is_start owners kind start ≡ true → name_of (first_value start) ≤ length owners
+name_right : (owners : List ℕ) (kind : FieldKind) (start : Start) → is_start owners kind start ≡ true → name_in (first_value start) ≤ length owners
 name_right owners holdings.Number (starts.Value v) is = omega arith
 name_right owners (holdings.Reference t) (starts.Node j) is = start_known owners t j is
 name_right owners _ _ is = absurd (let no : false ≡ true = is in cc)
 
-names_right : (owners : List ℕ) (fields : List FieldDecl) (values : List Start) (g : ℕ) → are_starts owners fields values ≡ true → name_of (value_at (map first_value values) g) ≤ length owners
+names_right : (owners : List ℕ) (fields : List FieldDecl) (values : List Start) (g : ℕ) → are_starts owners fields values ≡ true → name_in (value_at (map first_value values) g) ≤ length owners
 names_right owners [] [] g is = omega arith
 names_right owners (f ∷ fields) (v ∷ values) zero is = name_right owners f.kind v (and_parts (is_start owners f.kind v) (are_starts owners fields values) is).0
 names_right owners (f ∷ fields) (v ∷ values) (suc g) is = names_right owners fields values g (and_parts (is_start owners f.kind v) (are_starts owners fields values) is).1
 names_right owners _ _ g is = absurd (let no : false ≡ true = is in cc)
 
-tops_right : (kinds : ℕ) (owners : List ℕ) (roots : List RootDecl) (x : ℕ) → list_all (is_root kinds owners) roots ≡ true → name_of (value_at (map root_value roots) x) ≤ length owners
+tops_right : (kinds : ℕ) (owners : List ℕ) (roots : List RootDecl) (x : ℕ) → list_all (is_root kinds owners) roots ≡ true → name_in (value_at (map root_value roots) x) ≤ length owners
 tops_right kinds owners [] x all = omega arith
 tops_right kinds owners (root ∷ roots) zero all = name_right owners root.kind root.start (root_start kinds owners root (and_parts (is_root kinds owners root) (list_all (is_root kinds owners) roots) all).0)
 tops_right kinds owners (root ∷ roots) (suc x) all = tops_right kinds owners roots x (and_parts (is_root kinds owners root) (list_all (is_root kinds owners) roots) all).1
@@ -298,21 +299,21 @@ module _ (t : Plan) (runs : IsRunnable t.target t.text) (own : IsSetting t.setti
       let there = there_is t.text.nodes k.number (omega (arith, c, among)) in
       (firsts there.0, ap (λ (i : ℕ). fields_named i (first_memory t.text).nodes) k.is ∙ (found k.number ∙ ap (option_map firsts) there.1))
 
-  link_right : (n g : ℕ) (o : Option (List Value)) → fields_named n (first_memory t.text).nodes ≡ o → ((values : List Value) → o ≡ Some values → name_of (value_at values g) ≤ length t.text.nodes)
-      → name_of (value_at (unwrap_or o []) g) ≤ length t.text.nodes
+  link_right : (n g : ℕ) (o : Option (List Value)) → fields_named n (first_memory t.text).nodes ≡ o → ((values : List Value) → o ≡ Some values → name_in (value_at values g) ≤ length t.text.nodes)
+      → name_in (value_at (unwrap_or o []) g) ≤ length t.text.nodes
   link_right n g None is few = omega arith
   link_right n g (Some values) is few = few values refl
 
-  by_name : (n g : ℕ) (values : List Value) → fields_named n (first_memory t.text).nodes ≡ Some values → name_of (value_at values g) ≤ length t.text.nodes
+  by_name : (n g : ℕ) (values : List Value) → fields_named n (first_memory t.text).nodes ≡ Some values → name_in (value_at values g) ≤ length t.text.nodes
   by_name zero g values is = absurd (let z : None ≡ Some values = sym (named_before 0 1 t.text.nodes (omega arith)) ∙ is in cc)
   by_name (suc i) g values is = of (slice_get t.text.nodes i) refl where
-    of : (o : Option NodeDecl) → slice_get t.text.nodes i ≡ o → name_of (value_at values g) ≤ length t.text.nodes
+    of : (o : Option NodeDecl) → slice_get t.text.nodes i ≡ o → name_in (value_at values g) ≤ length t.text.nodes
     of None none = absurd (let z : None ≡ Some values = sym (ap (option_map firsts) none) ∙ (sym (found i) ∙ is) in cc)
     of (Some node) some =
         let same : Some (firsts node) ≡ Some values = sym (ap (option_map firsts) some) ∙ (sym (found i) ∙ is) in
         let equal : firsts node ≡ values = cc in
-        subst (λ (vs : List Value). name_of (value_at vs g) ≤ length t.text.nodes) equal
-        (subst (λ (n : ℕ). name_of (value_at (firsts node) g) ≤ n) (owners_count t.text.nodes) (names_right (owners_of t.text.nodes) (fields_of node.owner t.text.fields) node.values g (starts_at t.text runs.small i node some)))
+        subst (λ (vs : List Value). name_in (value_at vs g) ≤ length t.text.nodes) equal
+        (subst (λ (n : ℕ). name_in (value_at (firsts node) g) ≤ n) (owners_count t.text.nodes) (names_right (owners_of t.text.nodes) (fields_of node.owner t.text.fields) node.values g (starts_at t.text runs.small i node some)))
 
   pub first_words : IsFirst t (view t.setting (core_start t.target t.setting)).memory
   first_words = record {
@@ -327,8 +328,8 @@ module _ (t : Plan) (runs : IsRunnable t.target t.text) (own : IsSetting t.setti
     null_field = λ g. null_field g (in_row t.setting.sizes (FieldOf 0 g)) refl;
     node = λ n node. node_there n (numbered n node);
     null_node = named_before 0 1 t.text.nodes (omega arith);
-    link = λ n g. few_or_none (name_of (field_of (first_memory t.text) n g)) (link_right n g (fields_named n (first_memory t.text).nodes) refl (λ values is. by_name n g values is));
-    top = λ x. few_or_none (name_of (value_at (first_memory t.text).roots x)) (subst (λ (n : ℕ). name_of (value_at (first_memory t.text).roots x) ≤ n) (owners_count t.text.nodes) (tops_right (length t.text.kinds) (owners_of t.text.nodes) t.text.roots x (rooted t.text runs.small)));
+    link = λ n g. few_or_none (name_in (field_of (first_memory t.text) n g)) (link_right n g (fields_named n (first_memory t.text).nodes) refl (λ values is. by_name n g values is));
+    top = λ x. few_or_none (name_in (value_at (first_memory t.text).roots x)) (subst (λ (n : ℕ). name_in (value_at (first_memory t.text).roots x) ≤ n) (owners_count t.text.nodes) (tops_right (length t.text.kinds) (owners_of t.text.nodes) t.text.roots x (rooted t.text runs.small)));
     typed = first_typed t.text runs.small;
     home = λ j some. (let n = initial j some in
         homes (first_present t.setting j) (let le = named_among j n in omega (arith, le)) ∙ (slot_home t.setting own.sizes.8 own.nodes known (first_present t.setting j) (named_among j n)

@@ -33,7 +33,8 @@ use Rattle.target_laws.proofs.local_laws.Inside.{there_is}
 use Rattle.oa_simulation.specs.sim_relation.Views.{Plan, Shared, Caller}
 use Rattle.oa_simulation.specs.sim_relation.Callers.{CallerHolds, HoldsAt}
 use Rattle.oa_simulation.specs.sim_relation.Naming.{present_at}
-use Rattle.oa_simulation.specs.sim_relation.Steps.{KeptWith, Stepped, NamesAfter, TakeKept, TakesReady, StepsKeep, after_access}
+use Rattle.chain_laws.specs.Memories.{after_access}
+use Rattle.oa_simulation.specs.sim_relation.Steps.{KeptWith, Stepped, NamesAfter, TakeKept, TakesReady, StepsKeep}
 use Rattle.oa_simulation.specs.sim_relation.WasSet.{set_after_access}
 use Rattle.oa_simulation.specs.sim_relation.Worlds.{World}
 use Rattle.caller_steps.specs.Signs.{Moved}

@@ -10,6 +10,7 @@ use Rattle.phase_pools.specs.declared.stages.ClaimStage.TheVariants as claims
 use Rattle.phase_pools.specs.Pools.{Claim, Retirement}
 use Rattle.chain_laws.specs.Machine.{Elsewhere}
 use Rattle.chain_laws.specs.Machine as pool
+use Rattle.chain_laws.specs.Chains.{IsOf}
 use Rattle.caller_parts.specs.declared.routine.AfterRetire.{AfterRetire}
 use Rattle.caller_parts.specs.declared.routine.Routine.{Routine}
 use Rattle.caller_parts.specs.declared.routine.Routine.TheVariants.{Retires, Claims}
@@ -22,7 +23,7 @@ use Rattle.core_runs.specs.core_sound.Standing.{standing_of}
 use Rattle.core_runs.specs.core_pools.Pooled.{Pooled, RetiresUsed, standings}
 use Rattle.core_runs.proofs.core_pools.Pooling.{leads_tell, event_pooled}
 use Rattle.oa_simulation.specs.sim_relation.Views.{Plan, Retiring, Shared}
-use Rattle.oa_simulation.specs.sim_relation.Shared.{IsOf, SlotAt}
+use Rattle.oa_simulation.specs.sim_relation.Shared.{SlotAt}
 use Rattle.oa_simulation.specs.sim_relation.Callers.{HoldsAt, IsRetiring}
 use Rattle.oa_simulation.specs.sim_relation.Steps.{TakenIsReady, TakesReady}
 use Rattle.oa_simulation.proofs.sim_relation.Names.{slot_by}

@@ -29,7 +29,7 @@ use Rattle.target_laws.specs.target_runs.Runnable.{IsRunnable}
 use Rattle.target_laws.proofs.target_runs.SaneTargets.{runnable_is_sane}
 use Rattle.oa_simulation.specs.sim_relation.Views.{Plan, IsPlan, Shared}
 use Rattle.oa_simulation.specs.sim_relation.Callers.{CallerHolds, HoldsAt, SweepAt, ClaimAt}
-use Rattle.oa_simulation.specs.sim_relation.Steps.{after_access}
+use Rattle.chain_laws.specs.Memories.{after_access}
 use Rattle.oa_simulation.proofs.sim_relation.Words.{store_idle}
 use Rattle.oa_simulation.proofs.sim_steps.Pools.Sweeping.{may_free}
 use Rattle.oa_simulation.specs.sim_steps.Quiet.{is_quiet}

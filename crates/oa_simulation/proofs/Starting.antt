@@ -10,9 +10,11 @@ use Rattle.source_machine.specs.declared.state.Value.{Value}
 use Rattle.source_machine.specs.State.{first_memory}
 use Rattle.source_machine.specs.Memory.{value_at, fields_named}
 use Rattle.source_machine.specs.Proper.{field_of}
+use Rattle.source_machine.specs.MethodRuns.{name_in}
 use Rattle.run_ahead.specs.Typed.{IsTyped}
-use Rattle.oa_simulation.specs.sim_relation.Views.{Plan, Owner, Null, Pool, Living, Shared, word_for, name_of, value_count}
-use Rattle.oa_simulation.specs.sim_relation.Shared.{IsOf, Slot, SlotAt, SharedHolds}
+use Rattle.oa_simulation.specs.sim_relation.Views.{Plan, Owner, Null, Pool, Living, Shared, word_for, value_count}
+use Rattle.chain_laws.specs.Chains.{IsOf}
+use Rattle.oa_simulation.specs.sim_relation.Shared.{Slot, SlotAt, SharedHolds}
 use Rattle.oa_simulation.specs.Present.{first_present}
 
 -- whether a name is an initial node's
@@ -49,8 +51,8 @@ pub record IsFirst (t : Plan) (memory : Word → ℕ) : Type 0 where
   pub node : (n : ℕ) → is_node t n ≡ true → (values : List Value) × (fields_named n (first_memory t.text).nodes ≡ Some values)
   pub null_node : fields_named 0 (first_memory t.text).nodes ≡ None
   -- references of the text are to its initial nodes
-  pub link : (n g : ℕ) → (name_of (field_of (first_memory t.text) n g) ≡ 0) ⊎ (is_node t (name_of (field_of (first_memory t.text) n g)) ≡ true)
-  pub top : (x : ℕ) → (name_of (value_at (first_memory t.text).roots x) ≡ 0) ⊎ (is_node t (name_of (value_at (first_memory t.text).roots x)) ≡ true)
+  pub link : (n g : ℕ) → (name_in (field_of (first_memory t.text) n g) ≡ 0) ⊎ (is_node t (name_in (field_of (first_memory t.text) n g)) ≡ true)
+  pub top : (x : ℕ) → (name_in (value_at (first_memory t.text).roots x) ≡ 0) ⊎ (is_node t (name_in (value_at (first_memory t.text).roots x)) ≡ true)
   pub typed : IsTyped t.text (first_memory t.text)
   -- a slot with a name is the name's, which is an initial node's, and each of these has its slot
   pub home : (j : ℕ) → first_present t.setting j ≢ 0 → t.home (first_present t.setting j) ≡ j

@@ -1,14 +1,14 @@
 -- What was spelled is read again: lines that end in a newline, plain lines, and decimal numbers.
-use Rattle.std.proofs.Common.{◌≡◌, ℕ, zero, suc, ◌+◌, ◌/◌, ◌%◌, ◌<◌, ◌≤◌, ◌^◌, Bool, true, false, List, [], ◌∷◌, ◌++◌, length, get_or, eqb, Some, None, Ok, decimal, ⊎_elim, refl, arith}
-use Rattle.std.proofs.lemmas.Bool.{cases_lt, and_parts, and_from, le-ltb, lt-ltb}
+use Rattle.std.proofs.Common.{◌≡◌, ℕ, zero, suc, ◌+◌, ◌/◌, ◌%◌, ◌<◌, ◌≤◌, ◌^◌, Bool, true, false, List, [], ◌∷◌, ◌++◌, length, get_or, eqb, None, decimal, ⊎_elim, refl, arith}
+use Rattle.std.proofs.lemmas.Bool.{cases_lt, and_parts, and_from, le-ltb}
 use Rattle.std.proofs.lemmas.Bool.Decides.{nat_tests}
 use Rattle.std.proofs.lemmas.Fmt.{decimal_digit, decimal_step, first_decimal}
 use Rattle.std.proofs.lemmas.List.Folds.{list_all-append}
 use Rattle.std.proofs.lemmas.List.Sums.{fold_push}
 use Rattle.std.specs.List.{list_all}
 use Rattle.oa_text.specs.Lines.{TextLine, lines_of}
-use Rattle.oa_text.specs.Tokens.{is_ink, is_plain, odd_column_from, line_fault}
-use Rattle.oa_text.specs.Numbers.{is_digit, is_numeral, with_digit, number_of, number_read}
+use Rattle.oa_text.specs.Tokens.{is_plain, odd_column_from, line_fault}
+use Rattle.oa_text.specs.Numbers.{is_digit, is_numeral, with_digit, number_of}
 
 plain_inside : (b : ℕ) → is_plain b ≡ true → eqb b 10 ≡ false
 plain_inside b plain = grind (arith, nat_tests)
@@ -29,12 +29,6 @@ none_odd c (b ∷ bytes) plain =
 -- a plain line that isn't too long has no fault
 pub no_line_fault : (line : TextLine) → length line.bytes ≤ 200 → list_all is_plain line.bytes ≡ true → line_fault line ≡ None
 no_line_fault line short plain = rw (le-ltb 200 (length line.bytes) short, none_odd 1 line.bytes plain) refl
-
-digit_ink : (b : ℕ) → is_digit b ≡ true → is_ink b ≡ true
-digit_ink b digit = grind (arith, nat_tests)
-
-digit_plain : (b : ℕ) → is_digit b ≡ true → is_plain b ≡ true
-digit_plain b digit = grind (arith, nat_tests)
 
 a_digit : (d : ℕ) → d < 10 → is_digit (48 + d) ≡ true
 a_digit d lt = grind (arith, nat_tests)
@@ -71,12 +65,6 @@ decimal_digits n fits = (spelled_upto n n (omega arith) fits).0
 pub number_of_decimal : (n : ℕ) → n < 2 ^ 64 → number_of (decimal n) ≡ n
 number_of_decimal n fits = (spelled_upto n n (omega arith) fits).1
 
-pub decimal_inked : (n : ℕ) → n < 2 ^ 64 → list_all is_ink (decimal n) ≡ true
-decimal_inked n fits = list_all_by is_digit is_ink (decimal n) digit_ink (decimal_digits n fits)
-
-pub decimal_plain : (n : ℕ) → n < 2 ^ 64 → list_all is_plain (decimal n) ≡ true
-decimal_plain n fits = list_all_by is_digit is_plain (decimal n) digit_plain (decimal_digits n fits)
-
 numeral_from : (bytes : List ℕ) → 48 < get_or bytes 0 0 → list_all is_digit bytes ≡ true → is_numeral bytes ≡ true
 numeral_from [] first all = absurd (omega arith)
 numeral_from (b ∷ bytes) first all =
@@ -86,8 +74,3 @@ numeral_from (b ∷ bytes) first all =
 pub decimal_numeral : (n : ℕ) → n < 2 ^ 64 → is_numeral (decimal n) ≡ true
 decimal_numeral zero fits = rw (decimal_digit 0 (omega arith)) refl
 decimal_numeral (suc n) fits = numeral_from (decimal (suc n)) (first_decimal (suc n) (omega arith) fits) (decimal_digits (suc n) fits)
-
--- a number that was written in decimal is read again
-pub number_again : (line : TextLine) (column n : ℕ) → n < 2 ^ 64 → number_read line (record { column = column; bytes = decimal n }) ≡ Ok (Some n)
-number_again line column n fits =
-    rw (decimal_numeral n fits, number_of_decimal n fits, lt-ltb n (2 ^ 64) fits) refl

@@ -1,6 +1,6 @@
 -- One write after another: what each added joins to what all were to add.
 use Rattle.std.proofs.Common.{◌≡◌, ℕ, ◌+◌, ◌≤◌, min, arith, List, [], ◌++◌, length, take, drop, get_or, ◌<◌, Option, Some, None, Result, Ok, Err, sym, ap, ◌∙◌, subst, append_assoc}
-use Rattle.std.specs.Io.KnownBytes.{Appends, Keeps}
+use Rattle.std.specs.Io.KnownBytes.{Appends}
 use Rattle.std.proofs.lemmas.List.{append-nil, take-append-drop, take-append-le, take_min, drop_more, drop_all}
 use Rattle.std.proofs.Math.Seq.{take-append-add}
 use Rattle.std.specs.List.{flat_map}
@@ -17,12 +17,6 @@ appends_more (Some p) (Some q) (Some r) x y first next = next ∙ ap (λ l. l ++
 nothing : (a : Option (List ℕ)) → Appends a a []
 nothing None = tt
 nothing (Some p) = sym (append-nil p)
-
--- a fault that adds nothing is one in a prefix of any bytes
-pub writes_refused : {E : Type 0} (a b : Option (List ℕ)) (x : List ℕ) (e : E) → Keeps a b → Writes a b x (Err e)
-writes_refused None b x e keeps = (0, tt)
-writes_refused (Some p) None x e keeps = (0, absurd keeps)
-writes_refused (Some p) (Some q) x e keeps = (0, keeps ∙ sym (append-nil p))
 
 -- a piece that was added, and then the rest, which may have failed
 pub writes_more : {E : Type 0} (a b c : Option (List ℕ)) (x y : List ℕ) (r : Result (Unit {0}) E) → Appends a b x → Writes b c y r → Writes a c (x ++ y) r

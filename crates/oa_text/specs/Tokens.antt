@@ -1,6 +1,7 @@
 -- The tokens of a line, and what can be wrong with its bytes.
 use Rattle.std.specs.Prelude.{ℕ, ◌+◌, Bool, true, ◌||◌, ◌&&◌, not, List, [], ◌∷◌, map, length, Option, Some, None, nat_lt, nat_le, ◌==◌, if◌then◌else◌}
 use Rattle.oa_text.specs.Lines.{TextLine}
+use Rattle.oa_text.specs.declared.limits.TheConstants.{LONGEST_LINE}
 use Rattle.oa_text.specs.declared.fault.TextFault.{TextFault}
 use Rattle.oa_text.specs.declared.fault.TextFault.TheVariants as faults
 
@@ -59,8 +60,8 @@ abbrev pub byte_fault : ℕ → Option ℕ → Option TextFault
 byte_fault number None = None
 byte_fault number (Some column) = Some (faults.Byte number column)
 
--- what is wrong with a line's bytes: it has more than 200, or one that isn't plain
+-- what is wrong with a line's bytes: there are too many, or one isn't plain
 abbrev pub line_fault : TextLine → Option TextFault
 line_fault line =
-    if nat_lt 200 (length line.bytes) then Some (faults.LineLong line.number 201)
+    if nat_lt LONGEST_LINE (length line.bytes) then Some (faults.LineLong line.number (LONGEST_LINE + 1))
     else byte_fault line.number (odd_column_from 1 line.bytes)

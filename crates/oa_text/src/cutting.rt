@@ -31,14 +31,14 @@ fn blank(b: u8) -> bool
 }
 
 /// How many blanks come first.
-fn leading_blanks(bytes: &[u8]) -> usize
+pub fn blanks_in_front(bytes: &[u8]) -> usize
     ensures { result ≡ prefix_len is_blank bytes.now }
 {
     bytes.iter().take_while(|b| blank(**b)).count()
 }
 
 /// How many bytes stand before the first blank.
-fn leading_word(bytes: &[u8]) -> usize
+pub fn ink_in_front(bytes: &[u8]) -> usize
     ensures { result ≡ prefix_len is_ink bytes.now }
 {
     bytes.iter().take_while(|b| !blank(**b)).count()
@@ -51,12 +51,12 @@ pub(crate) fn first_token(column: u32, bytes: &[u8]) -> Option<(Token<'_>, &[u8]
     ensures first { MatchOption result (tokens_from column bytes.now ≡ []) (λ cut. tokens_from column bytes.now ≡ token_shown cut.0 ∷ tokens_from (end_column (token_shown cut.0)) cut.1.now) }
     ensures place { IfSome result (λ cut. end_column (token_shown cut.0) + length cut.1.now ≡ column + length bytes.now) }
 {
-    let skipped = leading_blanks(bytes);
+    let skipped = blanks_in_front(bytes);
     let (_, inked) = bytes.split_at(skipped);
     if inked.is_empty() {
         return None;
     }
-    let (word, rest) = inked.split_at(leading_word(inked));
+    let (word, rest) = inked.split_at(ink_in_front(inked));
     let token = Token {
         column: column + skipped as u32,
         bytes: word,

@@ -1,11 +1,12 @@
-//! Numbers in decimal, written with no memory taken.
+//! Numbers in decimal, with no leading zeros.
 
-ghost use Rattle.std.specs.Prelude.{◌≡◌, ◌≤◌, drop, decimal};
+ghost use Rattle.std.specs.Prelude.{◌≡◌, ◌≤◌, ◌<◌, ◌++◌, OnOk, drop, decimal};
 ghost use Rattle.oa_text.specs.Causes.{HasCause};
 ghost use Rattle.oa_text.specs.Written.{Writes};
 
 use crate::sink::{Sink, write_all};
 use crate::source::Failed;
+use std::alloc::{AllocError, Global};
 
 // Puts the digits of a number at the end of the buffer, and says where they begin.
 fn digits_into(buffer: &mut [u8; 20], n: u64) -> usize
@@ -24,7 +25,7 @@ fn digits_into(buffer: &mut [u8; 20], n: u64) -> usize
     at
 }
 
-/// Writes a number in decimal, with no leading zeros. At `Failed` a prefix of its digits was written.
+/// Writes a number in decimal, with no memory taken. At `Failed` a prefix of its digits was written.
 pub fn write_decimal<K: Sink>(out: &mut K, n: u64) -> Result<(), Failed>
     ensures bytes { Writes (K.written out.old) (K.written out.new) (decimal n) result }
     ensures cause { HasCause (K.faults out.old) (K.faults out.new) result }
@@ -32,4 +33,28 @@ pub fn write_decimal<K: Sink>(out: &mut K, n: u64) -> Result<(), Failed>
     let mut buffer = [0; 20];
     let at = digits_into(&mut buffer, n);
     write_all(out, &buffer[at..])
+}
+
+#[tactic(auto, using(std::proofs::lemmas::Fmt::decimal_digit))]
+fn put_digit(out: &mut Vec<u8>, n: u8) -> Result<(), AllocError>
+    requires { n < 10 }
+    ensures { OnOk result (out.new.items ≡ out.old.items ++ decimal n) }
+{
+    out.push(b'0' + n)?;
+    Ok(())
+}
+
+/// Adds a number in decimal. One of one digit, as most are, takes no memory but that of the output.
+///
+/// # Errors
+///
+/// `AllocError` where memory runs out.
+pub fn put_decimal(alloc: Global, out: &mut Vec<u8>, n: u64) -> Result<(), AllocError>
+    ensures { OnOk result (out.new.items ≡ out.old.items ++ decimal n) }
+{
+    if n < 10 {
+        return put_digit(out, n as u8);
+    }
+    let digits = n.to_string(alloc)?;
+    out.extend_from_slice(digits.as_bytes())
 }

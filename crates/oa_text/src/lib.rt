@@ -6,6 +6,7 @@ mod decimal;
 mod fault;
 mod gate;
 mod laws;
+pub mod limits;
 mod line;
 mod number;
 mod pieces;
@@ -16,7 +17,8 @@ mod standard;
 mod sure;
 mod token;
 
-pub use decimal::write_decimal;
+pub use cutting::{blanks_in_front, ink_in_front};
+pub use decimal::{put_decimal, write_decimal};
 pub use fault::TextFault;
 pub use gate::{Gate, OpenGate};
 pub use laws::{tokens_are_slices, tokens_hold_all};

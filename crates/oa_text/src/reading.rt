@@ -6,11 +6,9 @@ ghost use Rattle.oa_text.specs.Shown.{line_shown};
 ghost use Rattle.oa_text.specs.Tokens.{is_plain, line_fault, odd_column_from, tokens_of};
 
 use crate::fault::TextFault;
+use crate::limits::LONGEST_LINE;
 use crate::line::{Line, Lines};
 use crate::token::Tokens;
-
-/// The most bytes that a line may have, without its newline.
-const LONGEST_LINE: usize = 200;
 
 /// The lines of a text, numbered from 1. A line ends before a newline byte or at the end of the input; what follows
 /// the last newline is a line only if it isn't empty.
@@ -57,7 +55,7 @@ pub fn tokens(line: Line<'_>) -> Result<Tokens<'_>, TextFault>
     if line.bytes.len() > LONGEST_LINE {
         return Err(TextFault::LineLong {
             line: line.number,
-            column: 201,
+            column: LONGEST_LINE as u32 + 1,
         });
     }
     match odd_column(line.bytes) {

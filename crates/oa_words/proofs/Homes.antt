@@ -82,15 +82,3 @@ nodes_have_homes n start are suits = record {
 none_before : (counts : List ℕ) → sum_before counts 0 ≡ 0
 none_before [] = refl
 none_before (count ∷ counts) = refl
-
--- a node of the first kind stands in the slot of its number
-home_of_first : (n : Sizes) (counts : List ℕ) (t j : ℕ) → t ≡ 0 → first_of n t + (j - sum_before counts t) ≡ suc j
-home_of_first n counts zero j is = let a = none_before n.kinds in let b = none_before counts in omega (arith, a, b)
-home_of_first n counts (suc t) j is = absurd (omega (arith, is))
-
-pub first_kinds_home : (n : Sizes) (counts : List ℕ) (j : ℕ) → kind_in counts j ≡ 0 → first_home n counts j ≡ j
-first_kinds_home n counts zero is = refl
-first_kinds_home n counts (suc j) is = home_of_first n counts (kind_in counts (suc j)) j is
-
-pub one_home : (n : Sizes) (count j : ℕ) → first_home n (count ∷ []) j ≡ j
-one_home n count j = first_kinds_home n (count ∷ []) j refl

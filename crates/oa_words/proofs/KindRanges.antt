@@ -3,8 +3,8 @@ use Rattle.std.proofs.Common.{◌≡◌, ℕ, zero, suc, ◌+◌, ◌-◌, ◌�
 use Rattle.std.specs.Prelude.{nat_le, slice_index}
 use Rattle.std.proofs.lemmas.Bool.{cases_lt}
 use Rattle.std.proofs.lemmas.Bool.Decides.{nat_tests}
-use Rattle.oa_words.specs.Words.{Sizes, SlotRange, slot_range, IsSlot}
-use Rattle.oa_words.specs.SlotKinds.{together, sum_before, kind_in, slots_of, first_of, range_of, kind_of, range_at}
+use Rattle.oa_words.specs.Words.{Sizes, IsSlot}
+use Rattle.oa_words.specs.SlotKinds.{together, sum_before, kind_in, range_of, kind_of, range_at}
 use Rattle.oa_words.specs.Within.{AreKinds}
 use Rattle.oa_words.specs.Laws.{KindsHaveRanges}
 
@@ -90,24 +90,6 @@ range_is_within n t j are is =
     let low = is.0 in
     let high = is.1 in (omega (arith, low), omega (arith, whole, part, high))
 
--- the next slot of a range is of the same kind
-pub next_of_kind : (n : Sizes) (j : ℕ) → AreKinds n → 1 ≤ j → j ≤ n.slots → j + 1 ≤ (range_at n j).last → kind_of n (j + 1) ≡ kind_of n j
-next_of_kind n j are some few next =
-    let low = (of_kind_is_in_range n j are some few).0 in
-    in_range_is_of_kind n (kind_of n j) (j + 1) (kind_small n j are) (omega (arith, low), next)
-
--- a slot is in one range alone
-pub ranges_apart : (n : Sizes) (t u j : ℕ) → t < length n.kinds → u < length n.kinds → IsSlot (range_of n t) j → IsSlot (range_of n u) j → t ≡ u
-ranges_apart n t u j small less one two = sym (in_range_is_of_kind n t j small one) ∙ in_range_is_of_kind n u j less two
-
--- a range begins after the one before it
-pub ranges_follow : (n : Sizes) (t : ℕ) → (range_of n (suc t)).first ≡ suc (range_of n t).last
-ranges_follow n t = let is = parts_follow n.kinds t in omega (arith, is)
-
--- the first slot of each kind
-pub first_is_of_kind : (n : Sizes) (t : ℕ) → AreKinds n → t < length n.kinds → kind_of n (first_of n t) ≡ t
-first_is_of_kind n t are lt = let each = are.each t lt in in_range_is_of_kind n t (first_of n t) lt (omega arith, omega (arith, each))
-
 pub kinds_have_ranges : (n : Sizes) → AreKinds n → KindsHaveRanges n
 kinds_have_ranges n are = record {
   known = λ j. kind_small n j are;
@@ -129,15 +111,3 @@ single_kind n are one = single n.kinds one ∙ ap (λ (slots : ℕ). slots ∷ [
     single [] is = absurd (omega (arith, is))
     single (count ∷ []) is = let same : count ≡ count + 0 = omega arith in ap (λ (c : ℕ). c ∷ []) same
     single (count ∷ (next ∷ kinds)) is = absurd (omega (arith, is))
-
-same_range : (first last also end : ℕ) → first ≡ also → last ≡ end → ◌≡◌ {A = SlotRange} (record { first = first; last = last }) (record { first = also; last = end })
-same_range first last also end p q = cc
-
-pub one_range : (n : Sizes) → n.kinds ≡ n.slots ∷ [] → range_of n 0 ≡ slot_range n
-one_range n is =
-    let none : sum_before n.kinds 0 ≡ 0 = ap (λ (kinds : List ℕ). sum_before kinds 0) is in
-    let all : slots_of n 0 ≡ n.slots = ap (λ (kinds : List ℕ). slice_index kinds 0) is in
-    same_range (first_of n 0) (sum_before n.kinds 0 + slots_of n 0) 1 n.slots (omega (arith, none)) (omega (arith, none, all))
-
-pub one_range_at : (n : Sizes) (j : ℕ) → n.kinds ≡ n.slots ∷ [] → range_at n j ≡ slot_range n
-one_range_at n j is = ap (range_of n) (one_kind n n.slots j is) ∙ one_range n is

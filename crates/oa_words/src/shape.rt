@@ -158,7 +158,7 @@ impl Shape {
         })
     }
 
-    /// What every shape keeps: a law for those who hold one. To read a field tells it.
+    /// What every shape keeps: a law for those who hold one. Reading a field is what tells it.
     pub fn kept(&self)
         ensures { AreSizes self.now }
     {

@@ -15,15 +15,11 @@ use Rattle.path_facts.specs.Nodes.{node, fork_with, fork_behind, nodes_of}
 
 -- the fork of a node is that of its instruction with the state after it
 fork_of_node : (moves : List Move) (at state : ℕ) → state < 4 → slice_get (flat_map nodes_of moves) (node at state) ≡ option_map (λ move. fork_behind move state) (slice_get moves at)
-fork_of_node [] at state lt = refl
-fork_of_node (move ∷ moves) zero zero lt = refl
-fork_of_node (move ∷ moves) zero (suc zero) lt = refl
-fork_of_node (move ∷ moves) zero (suc (suc zero)) lt = refl
-fork_of_node (move ∷ moves) zero (suc (suc (suc zero))) lt = refl
 fork_of_node (move ∷ moves) zero (suc (suc (suc (suc state)))) lt = let no : ⊥ = omega arith in absurd no
 fork_of_node (move ∷ moves) (suc at) state lt =
     let further : node (suc at) state ≡ suc (suc (suc (suc (node at state)))) = omega arith in
     ap (slice_get (flat_map nodes_of (move ∷ moves))) further ∙ fork_of_node moves at state lt
+fork_of_node _ _ _ lt = refl
 
 length_nodes : (moves : List Move) → length (flat_map nodes_of moves) ≡ 4 * length moves
 length_nodes [] = refl
@@ -120,9 +116,8 @@ stands_there moves start at state lt stands =
     subst (λ (a : ℕ). ComesIn moves start a state) (sym same.0) (subst (ComesIn moves start stands.0) (sym same.1) stands.4)
 
 marked_option : (mark : Option Bool) → IsTrue (unwrap_or mark false) → mark ≡ Some true
-marked_option None is = cc
 marked_option (Some true) is = refl
-marked_option (Some false) is = cc
+marked_option _ is = cc
 
 option_marked : (mark : Option Bool) → mark ≡ Some true → IsTrue (unwrap_or mark false)
 option_marked mark is = rw is refl

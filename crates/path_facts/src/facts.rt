@@ -28,6 +28,9 @@ impl Model for Facts {
 impl Facts {
     /// The facts of a machine that begins in `start` at instruction 0. Its cost grows with the count of
     /// instructions alone, however many paths there are.
+    ///
+    /// # Errors
+    /// Memory ran out.
     pub fn of_moves(alloc: Global, moves: &[Move], start: u8) -> Result<Facts, AllocError>
         requires some { 0 < length moves.now }
         requires few { length moves.now < 2 ^ 30 }

@@ -1,5 +1,5 @@
 -- Which accesses of a sweep end its claim: the load of the phase alone, where it finds the last one.
-use Rattle.std.proofs.Common.{◌≡◌, ℕ, zero, suc, ◌&&◌, Bool, true, false, Option, Some, None, if◌then◌else◌, refl}
+use Rattle.std.proofs.Common.{◌≡◌, ℕ, zero, ◌&&◌, Bool, true, false, Option, Some, None, if◌then◌else◌, refl}
 use Rattle.std.specs.Prelude.{◌==◌}
 use Rattle.oa_words.specs.declared.packed.Kind.TheVariants as kinds
 use Rattle.oa_words.specs.Words.{Sizes}
@@ -11,7 +11,7 @@ use Rattle.phase_pools.specs.declared.stages.SweepStage.{SweepStage}
 use Rattle.phase_pools.specs.declared.stages.SweepStage.TheVariants as sweeps
 use Rattle.oa_words.specs.Packed.{HeadParts}
 use Rattle.phase_pools.specs.declared.stages.Scheme.{Scheme}
-use Rattle.phase_pools.specs.declared.stages.Scheme.TheVariants.{Warned, Announced}
+use Rattle.phase_pools.specs.declared.stages.Scheme.TheVariants.{Announced}
 use Rattle.phase_pools.specs.Pools.{sweep_follows, look_begun, Sweep, SweepTurn, sweep_goes, sweep_ends, sweep_on, sweep_accepts_at, sweep_accepts, Claim, look_ended, claim_sweeps, finds_last, phases_end}
 use Rattle.phase_pools.proofs.Statuses.{from_slot, from_status}
 
@@ -35,14 +35,10 @@ over sweep p claim false = refl
 at_stage : (n : Sizes) (last word : ℕ) (sweep : Sweep) (claim : Claim) (stage : SweepStage)
     → (claim_sweeps claim (sweep_accepts_at n last sweep word stage)).ended ≡ phases_end (finds_last last stage word) word
 at_stage n last word sweep claim sweeps.ReadPhase = over sweep word claim (word == last)
-at_stage n last word sweep claim (sweeps.RaisePhase p) = refl
-at_stage n last word sweep claim (sweeps.Warn c) = refl
-at_stage n last word sweep claim (sweeps.ReadHazard c r) = refl
 at_stage n last word sweep claim (sweeps.ReadStatus j) = from_status Onward n sweep j (status_parts word) (on n sweep j) (λ p is below away claim. refl) claim
 at_stage n last word sweep claim (sweeps.MakeReady j q) = either (word == status_word q kinds.Retired) _ _ (λ claim. refl) (on n sweep j) claim
-at_stage n last word sweep claim (sweeps.PushHead k j) = refl
-at_stage n last word sweep claim (sweeps.PushLink j q t) = refl
 at_stage n last word sweep claim (sweeps.PushTop k j q t) = either (word == head_word q t) _ _ (on n sweep j) (λ claim. refl) claim
+at_stage n last word sweep claim _ = refl
 
 pub sweep_end : (n : Sizes) (last word : ℕ) (claim : Claim) → (claim_sweeps claim (sweep_accepts n last claim.sweep word)).ended ≡ phases_end (finds_last last claim.sweep.stage word) word
 sweep_end n last word claim = at_stage n last word claim.sweep claim claim.sweep.stage
@@ -50,9 +46,8 @@ sweep_end n last word claim = at_stage n last word claim.sweep claim claim.sweep
 -- ---- looks
 
 follows : (scheme : Scheme) (made : ℕ) (claim : Claim) → (sweep_follows scheme made claim).ended ≡ None
-follows Warned made claim = refl
 follows (Announced own) zero claim = refl
-follows (Announced own) (suc made) claim = refl
+follows _ _ claim = refl
 
 abbrev full_end : Bool → Option ClaimEnd
 full_end over = if over then Some ends.Full else None

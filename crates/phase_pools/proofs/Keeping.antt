@@ -1,5 +1,5 @@
 -- What an access leaves of a sweep and of a claim: the scheme, the claim's kind, and that a push goes to its slot's kind.
-use Rattle.std.proofs.Common.{◌≡◌, ℕ, zero, suc, ◌+◌, ◌≤◌, Bool, true, false, Option, Some, None, if◌then◌else◌, refl, arith}
+use Rattle.std.proofs.Common.{◌≡◌, ℕ, zero, ◌+◌, ◌≤◌, Bool, true, false, Option, Some, if◌then◌else◌, refl, arith}
 use Rattle.std.specs.Prelude.{nat_lt, ◌==◌}
 use Rattle.oa_words.specs.declared.packed.Kind.TheVariants as kinds
 use Rattle.oa_words.specs.Words.{Sizes, slot_range}
@@ -80,9 +80,8 @@ same : (claim : Claim) (turn : ClaimTurn) → turn.claim.kind ≡ claim.kind →
 same claim turn kind scheme = record { kind = kind; scheme = scheme }
 
 follows : (claim : Claim) (scheme : Scheme) (made : ℕ) → StaysSame claim (sweep_follows scheme made claim)
-follows claim Warned made = record { kind = refl; scheme = refl }
 follows claim (Announced own) zero = record { kind = refl; scheme = refl }
-follows claim (Announced own) (suc made) = record { kind = refl; scheme = refl }
+follows claim _ _ = record { kind = refl; scheme = refl }
 
 ends_look : (claim : Claim) → StaysSame claim (look_ended claim)
 ends_look claim =
@@ -90,22 +89,19 @@ ends_look claim =
     (record { kind = refl; scheme = refl }) (follows claim claim.sweep.scheme claim.sweeps)
 
 ends_sweep : (claim : Claim) (sweep : Sweep) (ended : Option SweepEnd) → sweep.scheme ≡ claim.sweep.scheme → StaysSame claim (sweep_ended claim sweep ended)
-ends_sweep claim sweep None is = record { kind = refl; scheme = is }
 ends_sweep claim sweep (Some swept.Swept) is = record { kind = refl; scheme = is }
-ends_sweep claim sweep (Some (swept.PhasesOver p)) is = record { kind = refl; scheme = is }
+ends_sweep claim sweep _ is = record { kind = refl; scheme = is }
 
 stays_at : (n : Sizes) (last : ℕ) (claim : Claim) (word : ℕ) (stage : ClaimStage) → StaysSame claim (claim_accepts_at n last claim word stage)
 stays_at n last claim word claims.ReadHead =
     either (StaysSame claim) ((head_parts word).top == 0) (look_ended claim) (claim_goes claim (claims.ReadLink (head_parts word).phase (head_parts word).top))
     (ends_look claim) (record { kind = refl; scheme = refl })
-stays_at n last claim word (claims.ReadLink q t) = record { kind = refl; scheme = refl }
 stays_at n last claim word (claims.Take q t next) =
     either (StaysSame claim) (word == head_word q t) (claim_goes claim (claims.StoreUsed q t)) (claim_goes claim claims.ReadHead)
     (record { kind = refl; scheme = refl }) (record { kind = refl; scheme = refl })
-stays_at n last claim word (claims.StoreUsed q t) = record { kind = refl; scheme = refl }
-stays_at n last claim word (claims.Withdraw own) = record { kind = refl; scheme = refl }
 stays_at n last claim word claims.Sweeps =
     ends_sweep claim (sweep_accepts n last claim.sweep word).sweep (sweep_accepts n last claim.sweep word).ended (sweep_keeps n last claim.sweep word).scheme
+stays_at n last claim word _ = record { kind = refl; scheme = refl }
 
 pub claim_stays : (n : Sizes) (last : ℕ) (claim : Claim) (word : ℕ) → StaysSame claim (claim_accepts n last claim word)
 claim_stays n last claim word = stays_at n last claim word claim.stage

@@ -28,6 +28,5 @@ from_status P n sweep j (Some parts) on frees = of parts.kind where
   may false is = on
 
   of : (kind : Kind) → P (freeing n sweep j parts.phase kind)
-  of kinds.Ready = on
-  of kinds.Used = on
   of kinds.Retired = may (nat_lt parts.phase sweep.low && not (has_slot sweep.gathered j)) refl
+  of _ = on

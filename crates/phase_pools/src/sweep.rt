@@ -3,7 +3,6 @@
 
 ghost use Rattle.std.specs.Prelude.{◌≡◌, ◌≤◌, ◌<◌, ◌^◌, ◌+◌, ◌*◌, max, length, None};
 ghost use Rattle.oa_words.specs.Packed.{status_parts, head_word, head_parts};
-ghost use Rattle.oa_words.specs.SlotKinds.{kind_of};
 ghost use Rattle.oa_words.specs.Words.{Head};
 ghost use Rattle.phase_pools.specs.Accesses.{located, Exchanges, IsPhase, RaisesToPhase};
 ghost use Rattle.phase_pools.specs.Pools.{sweep_begun, sweep_wants, sweep_accepts, finds_last, sweep_on, phase_read, phase_raised, warn_wanted, warn_next, warned_all, warned, low_after, hazard_read, hazard_next, status_read, freeing, made_ready, push_read, pushed};

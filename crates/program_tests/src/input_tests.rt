@@ -1,7 +1,5 @@
 //! How many reads are made: none after the end, after a fault, or once the limit's bytes were read.
 
-ghost use Rattle.std.specs.Prelude.{◌<◌, ◌^◌};
-
 use oa_cli::input::{InputError, read_input};
 use oa_text::MemorySource;
 use std::process::Abort;

@@ -42,10 +42,7 @@ FitsClass T notes c arg n0 m0 phase FoundNone = (call : Started) × IsWorking T 
 
 abbrev pub class_runs : Class → Bool
 class_runs Rests = false
-class_runs Enqueues = true
-class_runs Helps = true
-class_runs Dequeues = true
-class_runs FoundNone = true
+class_runs _ = true
 
 abbrev pub Fits : Times (List ℕ) → Notes → ℕ → Load → Phase → Class → Type 0
 Fits T notes c q phase class = FitsClass T notes c (slice_index q.args 0) q.hand.n0 q.started.n0 phase class
@@ -97,54 +94,20 @@ notes_walked _ t notes = notes
 walk_notes : (c name t : ℕ) (notes : Notes) (place : Place) (q : Load) (after : SourceCaller) → is_walk place ≡ true
     → noted_of queue_rules (Access c name) t notes (shown place q).running after ≡ record { notes = notes_walked place t notes; deed = None }
 walk_notes c name t notes Idle q after e = absurd (let z : false ≡ true = e in cc)
-walk_notes c name t notes EnqTail q after e = refl
-walk_notes c name t notes EnqNext q after e = refl
-walk_notes c name t notes EnqSwing q after e = refl
-walk_notes c name t notes EnqNew q after e = refl
-walk_notes c name t notes EnqPut q after e = refl
 walk_notes c name t notes EnqLink q after e = absurd (let z : false ≡ true = e in cc)
-walk_notes c name t notes HelpTail q after e = refl
-walk_notes c name t notes HelpNext q after e = refl
-walk_notes c name t notes HelpSwing q after e = refl
 walk_notes c name t notes HelpReply q after e = absurd (let z : false ≡ true = e in cc)
-walk_notes c name t notes DeqHead q after e = refl
-walk_notes c name t notes DeqTail q after e = refl
-walk_notes c name t notes DeqNext q after e = refl
-walk_notes c name t notes DeqValue q after e = refl
 walk_notes c name t notes DeqTake q after e = absurd (let z : false ≡ true = e in cc)
-walk_notes c name t notes DeqSwing q after e = refl
 walk_notes c name t notes DeqNone q after e = absurd (let z : false ≡ true = e in cc)
+walk_notes c name t notes _ q after e = refl
 
 -- it ends no call
 walk_ends : (c name t : ℕ) (place : Place) (q : Load) (log : Log) → class_of place ≢ Rests → logged_by t (shown place q) (shown place q).running log ≡ log
 walk_ends c name t Idle q log ne = absurd (ne refl)
-walk_ends c name t EnqTail q log ne = refl
-walk_ends c name t EnqNext q log ne = refl
-walk_ends c name t EnqSwing q log ne = refl
-walk_ends c name t EnqNew q log ne = refl
-walk_ends c name t EnqPut q log ne = refl
-walk_ends c name t EnqLink q log ne = refl
-walk_ends c name t HelpTail q log ne = refl
-walk_ends c name t HelpNext q log ne = refl
-walk_ends c name t HelpSwing q log ne = refl
-walk_ends c name t HelpReply q log ne = refl
-walk_ends c name t DeqHead q log ne = refl
-walk_ends c name t DeqTail q log ne = refl
-walk_ends c name t DeqNext q log ne = refl
-walk_ends c name t DeqValue q log ne = refl
-walk_ends c name t DeqTake q log ne = refl
-walk_ends c name t DeqSwing q log ne = refl
-walk_ends c name t DeqNone q log ne = refl
+walk_ends c name t _ q log ne = refl
 
 -- no generator runs in a wrap-up
 help_generates : (place : Place) (q : Load) → class_of place ≡ Helps → generates (shown place q).running ≡ false
 help_generates Idle q e = let z : Rests ≡ Helps = e in cc
-help_generates EnqTail q e = let z : Enqueues ≡ Helps = e in cc
-help_generates EnqNext q e = let z : Enqueues ≡ Helps = e in cc
-help_generates EnqSwing q e = let z : Enqueues ≡ Helps = e in cc
-help_generates EnqNew q e = let z : Enqueues ≡ Helps = e in cc
-help_generates EnqPut q e = let z : Enqueues ≡ Helps = e in cc
-help_generates EnqLink q e = let z : Enqueues ≡ Helps = e in cc
 help_generates HelpTail q e = refl
 help_generates HelpNext q e = refl
 help_generates HelpSwing q e = refl
@@ -156,51 +119,39 @@ help_generates DeqValue q e = let z : Dequeues ≡ Helps = e in cc
 help_generates DeqTake q e = let z : Dequeues ≡ Helps = e in cc
 help_generates DeqSwing q e = let z : Dequeues ≡ Helps = e in cc
 help_generates DeqNone q e = let z : FoundNone ≡ Helps = e in cc
+help_generates _ q e = let z : Enqueues ≡ Helps = e in cc
 
 -- an access of a method begins no generator run
 walk_run : (c name : ℕ) (place on : Place) (q q' : Load) → is_walk place ≡ true → class_of on ≡ class_of place → begins_run (Access c name) (shown place q).running (shown on q').running ≡ false
 walk_run c name Idle on q q' e class = absurd (let z : false ≡ true = e in cc)
-walk_run c name EnqTail on q q' e class = refl
-walk_run c name EnqNext on q q' e class = refl
-walk_run c name EnqSwing on q q' e class = refl
-walk_run c name EnqNew on q q' e class = refl
-walk_run c name EnqPut on q q' e class = refl
 walk_run c name EnqLink on q q' e class = absurd (let z : false ≡ true = e in cc)
 walk_run c name HelpTail on q q' e class = help_generates on q' class
 walk_run c name HelpNext on q q' e class = help_generates on q' class
 walk_run c name HelpSwing on q q' e class = help_generates on q' class
 walk_run c name HelpReply on q q' e class = absurd (let z : false ≡ true = e in cc)
-walk_run c name DeqHead on q q' e class = refl
-walk_run c name DeqTail on q q' e class = refl
-walk_run c name DeqNext on q q' e class = refl
-walk_run c name DeqValue on q q' e class = refl
 walk_run c name DeqTake on q q' e class = absurd (let z : false ≡ true = e in cc)
-walk_run c name DeqSwing on q q' e class = refl
 walk_run c name DeqNone on q q' e class = absurd (let z : false ≡ true = e in cc)
+walk_run c name _ on q q' e class = refl
 
 walk_logs : (c name t : ℕ) (place on : Place) (q q' : Load) (log : Log) → is_walk place ≡ true → class_of on ≡ class_of place → class_of on ≢ Rests → logged (Access c name) t (shown place q).running (shown on q') log ≡ log
 walk_logs c name t place on q q' log e class ne =
     ap (λ x. log_again x t (logged_by t (shown on q') (shown on q').running log)) (walk_run c name place on q q' e class) ∙ walk_ends c name t on q' log ne
 
 walk_rests : (place : Place) → is_walk place ≡ true → class_of place ≢ Rests
-walk_rests Idle e same = let z : false ≡ true = e in cc
 walk_rests EnqTail e same = let z : Enqueues ≡ Rests = same in cc
 walk_rests EnqNext e same = let z : Enqueues ≡ Rests = same in cc
 walk_rests EnqSwing e same = let z : Enqueues ≡ Rests = same in cc
 walk_rests EnqNew e same = let z : Enqueues ≡ Rests = same in cc
 walk_rests EnqPut e same = let z : Enqueues ≡ Rests = same in cc
-walk_rests EnqLink e same = let z : false ≡ true = e in cc
 walk_rests HelpTail e same = let z : Helps ≡ Rests = same in cc
 walk_rests HelpNext e same = let z : Helps ≡ Rests = same in cc
 walk_rests HelpSwing e same = let z : Helps ≡ Rests = same in cc
-walk_rests HelpReply e same = let z : false ≡ true = e in cc
 walk_rests DeqHead e same = let z : Dequeues ≡ Rests = same in cc
 walk_rests DeqTail e same = let z : Dequeues ≡ Rests = same in cc
 walk_rests DeqNext e same = let z : Dequeues ≡ Rests = same in cc
 walk_rests DeqValue e same = let z : Dequeues ≡ Rests = same in cc
-walk_rests DeqTake e same = let z : false ≡ true = e in cc
 walk_rests DeqSwing e same = let z : Dequeues ≡ Rests = same in cc
-walk_rests DeqNone e same = let z : false ≡ true = e in cc
+walk_rests _ e same = let z : false ≡ true = e in cc
 
 -- the call goes on as it was
 goes_on : (T : Times (List ℕ)) (who : Option ℕ) (notes : Notes) (c arg n0 m0 : ℕ) (a : List ℕ) (phase : Phase) (class : Class) → a ≡ T.past T.time → class ≢ Rests → FitsClass T notes c arg n0 m0 phase class
@@ -213,31 +164,24 @@ goes_on T who notes c arg n0 m0 a phase FoundNone same ne (call, k, n, o, e) = s
 
 -- what is remembered matters only where the queue was found empty
 fits_walked : (T : Times (List ℕ)) (notes notes' : Notes) (c arg n0 m0 : ℕ) (phase : Phase) (class : Class) → class ≢ FoundNone → FitsClass T notes c arg n0 m0 phase class → FitsClass T notes' c arg n0 m0 phase class
-fits_walked T notes notes' c arg n0 m0 phase Rests ne k = k
-fits_walked T notes notes' c arg n0 m0 phase Enqueues ne k = k
-fits_walked T notes notes' c arg n0 m0 phase Helps ne k = k
-fits_walked T notes notes' c arg n0 m0 phase Dequeues ne k = k
 fits_walked T notes notes' c arg n0 m0 phase FoundNone ne k = absurd (ne refl)
+fits_walked T notes notes' c arg n0 m0 phase _ ne k = k
 
 walk_found : (place : Place) → is_walk place ≡ true → class_of place ≢ FoundNone
-walk_found Idle e same = let z : false ≡ true = e in cc
 walk_found EnqTail e same = let z : Enqueues ≡ FoundNone = same in cc
 walk_found EnqNext e same = let z : Enqueues ≡ FoundNone = same in cc
 walk_found EnqSwing e same = let z : Enqueues ≡ FoundNone = same in cc
 walk_found EnqNew e same = let z : Enqueues ≡ FoundNone = same in cc
 walk_found EnqPut e same = let z : Enqueues ≡ FoundNone = same in cc
-walk_found EnqLink e same = let z : false ≡ true = e in cc
 walk_found HelpTail e same = let z : Helps ≡ FoundNone = same in cc
 walk_found HelpNext e same = let z : Helps ≡ FoundNone = same in cc
 walk_found HelpSwing e same = let z : Helps ≡ FoundNone = same in cc
-walk_found HelpReply e same = let z : false ≡ true = e in cc
 walk_found DeqHead e same = let z : Dequeues ≡ FoundNone = same in cc
 walk_found DeqTail e same = let z : Dequeues ≡ FoundNone = same in cc
 walk_found DeqNext e same = let z : Dequeues ≡ FoundNone = same in cc
 walk_found DeqValue e same = let z : Dequeues ≡ FoundNone = same in cc
-walk_found DeqTake e same = let z : false ≡ true = e in cc
 walk_found DeqSwing e same = let z : Dequeues ≡ FoundNone = same in cc
-walk_found DeqNone e same = let z : false ≡ true = e in cc
+walk_found _ e same = let z : false ≡ true = e in cc
 
 -- an enqueue's step
 enqueue_step : (v : ℕ) (values : List ℕ) → enqueued (v == v) v values ≡ Some (values ++ v ∷ [])
@@ -519,12 +463,6 @@ open_restart : (event : SourceEvent) (c : ℕ) (place : Place) (q : Load) (s : S
     → event ≡ Restart c → class_of place ≢ Rests
 open_restart event c Idle q s e is same =
     let z : false ≡ true = ap (λ (x : SourceEvent). is_enabled_by queue_text x (performed queue_text (shown Idle q)) (memory_of (store_of s)) (shown Idle q)) (sym is) ∙ e in cc
-open_restart event c EnqTail q s e is same = let z : Enqueues ≡ Rests = same in cc
-open_restart event c EnqNext q s e is same = let z : Enqueues ≡ Rests = same in cc
-open_restart event c EnqSwing q s e is same = let z : Enqueues ≡ Rests = same in cc
-open_restart event c EnqNew q s e is same = let z : Enqueues ≡ Rests = same in cc
-open_restart event c EnqPut q s e is same = let z : Enqueues ≡ Rests = same in cc
-open_restart event c EnqLink q s e is same = let z : Enqueues ≡ Rests = same in cc
 open_restart event c HelpTail q s e is same = let z : Helps ≡ Rests = same in cc
 open_restart event c HelpNext q s e is same = let z : Helps ≡ Rests = same in cc
 open_restart event c HelpSwing q s e is same = let z : Helps ≡ Rests = same in cc
@@ -536,26 +474,11 @@ open_restart event c DeqValue q s e is same = let z : Dequeues ≡ Rests = same 
 open_restart event c DeqTake q s e is same = let z : Dequeues ≡ Rests = same in cc
 open_restart event c DeqSwing q s e is same = let z : Dequeues ≡ Rests = same in cc
 open_restart event c DeqNone q s e is same = let z : FoundNone ≡ Rests = same in cc
+open_restart event c _ q s e is same = let z : Enqueues ≡ Rests = same in cc
 
 shown_replies : (place : Place) (q : Load) → (shown place q).replies ≡ q.replies
 shown_replies Idle q = refl
-shown_replies EnqTail q = refl
-shown_replies EnqNext q = refl
-shown_replies EnqSwing q = refl
-shown_replies EnqNew q = refl
-shown_replies EnqPut q = refl
-shown_replies EnqLink q = refl
-shown_replies HelpTail q = refl
-shown_replies HelpNext q = refl
-shown_replies HelpSwing q = refl
-shown_replies HelpReply q = refl
-shown_replies DeqHead q = refl
-shown_replies DeqTail q = refl
-shown_replies DeqNext q = refl
-shown_replies DeqValue q = refl
-shown_replies DeqTake q = refl
-shown_replies DeqSwing q = refl
-shown_replies DeqNone q = refl
+shown_replies _ q = refl
 
 -- a call runs where a caller isn't idle
 runs_class : (T : Times (List ℕ)) (notes : Notes) (c arg n0 m0 : ℕ) (phase : Phase) (class : Class) → FitsClass T notes c arg n0 m0 phase class → phase_runs phase ≡ class_runs class
@@ -567,23 +490,7 @@ runs_class T notes c arg n0 m0 phase FoundNone (call, k, n, o, e) = ap phase_run
 
 shown_runs : (place : Place) (q : Load) → is_some (shown place q).running ≡ class_runs (class_of place)
 shown_runs Idle q = refl
-shown_runs EnqTail q = refl
-shown_runs EnqNext q = refl
-shown_runs EnqSwing q = refl
-shown_runs EnqNew q = refl
-shown_runs EnqPut q = refl
-shown_runs EnqLink q = refl
-shown_runs HelpTail q = refl
-shown_runs HelpNext q = refl
-shown_runs HelpSwing q = refl
-shown_runs HelpReply q = refl
-shown_runs DeqHead q = refl
-shown_runs DeqTail q = refl
-shown_runs DeqNext q = refl
-shown_runs DeqValue q = refl
-shown_runs DeqTake q = refl
-shown_runs DeqSwing q = refl
-shown_runs DeqNone q = refl
+shown_runs _ q = refl
 
 knows_runs : (s : Shared) (T : Times (List ℕ)) (notes : Notes) (phase : Phase) (c : ℕ) (caller : SourceCaller) → Knows s T notes phase c caller → is_some caller.running ≡ phase_runs phase
 knows_runs s T notes phase c caller k =

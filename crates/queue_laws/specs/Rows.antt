@@ -2,17 +2,15 @@
 use Rattle.std.specs.Prelude.{ℕ, ◌≡◌, List, [], ◌∷◌, Option, Some, None}
 use Rattle.norm_lang.specs.Shipped.{queue_text}
 use Rattle.source_machine.specs.declared.event.SourceEvent.{SourceEvent}
-use Rattle.source_machine.specs.declared.event.SourceEvent.TheVariants.{Begin, Access}
+use Rattle.source_machine.specs.declared.event.SourceEvent.TheVariants.{Access}
+use Rattle.source_machine.specs.Keeper.{begins}
 use Rattle.norm_lang.specs.declared.reply.SourceReply.{SourceReply}
 use Rattle.norm_lang.specs.declared.reply.SourceReply.TheVariants as replies
 use Rattle.source_histories.specs.declared.deed.Deed.{Deed}
 use Rattle.source_histories.specs.Books.{Started, Ended, Log, book_of}
 use Rattle.queue_laws.specs.Queues.{queue_rules, queue_deeds, QueueLegal}
 
--- a Begin with an argument, and a deed
-abbrev pub begins : ℕ → ℕ → ℕ → SourceEvent
-begins caller op argument = Begin caller op (argument ∷ 0 ∷ 0 ∷ 0 ∷ [])
-
+-- a deed
 abbrev pub deed : ℕ → ℕ → ℕ → Option ℕ → ℕ → Deed
 deed caller op arg reply moment = record { caller = caller; op = op; arg = arg; reply = reply; moment = moment }
 

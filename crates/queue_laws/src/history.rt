@@ -1,6 +1,6 @@
 //! The history of a queue.
 
-ghost use Rattle.std.specs.Prelude.{◌≡◌, ◌≤◌, IfOk};
+ghost use Rattle.std.specs.Prelude.{◌≤◌, IfOk};
 ghost use Rattle.queue_laws.specs.Queues.{IsQueueHistory, QueueLegal};
 
 use crate::reader::QueueReader;

@@ -4,6 +4,7 @@ use Rattle.std.specs.Prelude.{◌==◌}
 use Rattle.oa_text.specs.Lines.{TextLine, numbered}
 use Rattle.oa_text.specs.Tokens.{TextToken, is_blank, joined, tokens_from, words_of}
 use Rattle.norm_parser.specs.Instruction.{are_skipped, AreFrom}
+use Rattle.norm_parser.proofs.LinesLeft.{numbered_from}
 
 -- a byte that goes on to a token, or is one by itself, is the token's first
 chosen : (b : ℕ) (touches : Bool) (x y : List ℕ) (column : ℕ) (tokens others : List TextToken) → (b == 35) ≡ false
@@ -20,12 +21,8 @@ stands b bytes whole is blank other =
     let step : are_skipped (words_of (b ∷ bytes)) ≡ false = rw blank (begins b 1 (tokens_from 2 bytes) other) in
     rw is step
 
-numbered_again : (n : ℕ) (lines : List (List ℕ)) → AreFrom n (numbered n lines)
-numbered_again n [] = refl
-numbered_again n (line ∷ lines) = ap (λ rest. record { number = n; bytes = line } ∷ rest) (numbered_again (n + 1) lines)
-
 pub from_numbered : (n : ℕ) (lines : List (List ℕ)) (whole : List TextLine) → whole ≡ numbered n lines → AreFrom n whole
-from_numbered n lines whole is = rw is (numbered_again n lines)
+from_numbered n lines whole is = rw is (numbered_from n lines)
 
 length_numbered : (n : ℕ) (lines : List (List ℕ)) → length (numbered n lines) ≡ length lines
 length_numbered n [] = refl

@@ -1,5 +1,5 @@
 -- The rules over paths, at an instruction's place.
-use Rattle.std.proofs.Common.{◌≡◌, ℕ, Bool, true, false, Some, sym, subst}
+use Rattle.std.proofs.Common.{◌≡◌, ℕ, Bool, Some, sym, subst}
 use Rattle.std.specs.Prelude.{slice_get}
 use Rattle.norm_lang.specs.declared.text.Instr.{Instr}
 use Rattle.norm_lang.specs.declared.text.Op.{Op}
@@ -7,11 +7,7 @@ use Rattle.norm_lang.specs.Kept.{code_of}
 use Rattle.norm_paths.specs.declared.method.OpFacts.{OpFacts}
 use Rattle.norm_paths.specs.Found.{Found, IsFound, IsOpWithin}
 use Rattle.norm_paths.specs.OpFound.{AreOpFacts, IsSite, found_of}
-
--- what was found out about an operation is true of each method
-found_true : (op : Op) (facts : OpFacts) (wrapup : Bool) → AreOpFacts op facts → IsFound op wrapup (found_of facts wrapup)
-found_true op facts false are = are.generator
-found_true op facts true are = are.wrapup
+use Rattle.norm_check.proofs.Answering.{found_true}
 
 pub site_of : (op : Op) (facts : OpFacts) (wrapup : Bool) (at : ℕ) (i : Instr) (found : Found) → found ≡ found_of facts wrapup
     → IsOpWithin op → AreOpFacts op facts → slice_get (code_of op wrapup) at ≡ Some i → IsSite op wrapup at i found

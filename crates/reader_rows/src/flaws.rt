@@ -8,7 +8,7 @@ ghost use Rattle.reader_rows.specs.Answers.{needs_of, AreFlaws, IsFlawsAnswer};
 use crate::rules::listed;
 use row_spelling::RowError;
 use std::alloc::Global;
-use target_code::target::{TargetInstr, TargetOp};
+use target_code::target::{TargetInstr, TargetOp, target_code_of};
 use target_flaws::{Needs, TargetFacts, flaws};
 
 const FLAWS: [&str; 4] = ["unchecked", "unguarded", "late", "dropped"];
@@ -30,16 +30,6 @@ fn needs_of(carried: bool) -> Needs
     }
 }
 
-fn code_of(op: &TargetOp, wrapup: bool) -> &[TargetInstr]
-    ensures { result.now ≡ target_code_of op.now wrapup }
-{
-    if wrapup {
-        op.wrapup.items()
-    } else {
-        op.generator.items()
-    }
-}
-
 /// The flaws of an instruction of a method, at its place.
 fn found(
     alloc: Global,
@@ -53,7 +43,7 @@ fn found(
     ensures { IfOk result (λ found. AreFlaws (needs_of carried) wrapup (target_code_of op.now wrapup) at instr.now found) }
 {
     let needs = needs_of(carried);
-    let code = code_of(op, wrapup);
+    let code = target_code_of(op, wrapup);
     if code.is_empty() || 64 <= code.len() {
         return Err(RowError::Wrong);
     }
@@ -71,7 +61,7 @@ pub(crate) fn flaws_answer(
 ) -> Result<String, RowError>
     ensures { IfOk result (λ answer. IsFlawsAnswer (needs_of carried) wrapup (target_code_of op.now wrapup) at (string_bytes answer)) }
 {
-    let Some(instr) = code_of(op, wrapup).get(at) else {
+    let Some(instr) = target_code_of(op, wrapup).get(at) else {
         return Err(RowError::Wrong);
     };
     let found = found(alloc, op, carried, wrapup, at, instr)?;

@@ -12,11 +12,11 @@ use norm_check::kinds::{computes_on_reference, has_wrong_kind};
 use norm_check::ranges::has_wrong_range;
 use norm_check::retired::has_wrong_retire;
 use norm_lang::text::{Instr, Op, Text};
-use norm_paths::OpFacts;
 use norm_paths::path_rules::{
     exchanges_kept, follows_kept, has_wrong_put, leaks_fresh, loops_blindly, makes_nodes_again,
     reads_unset, sets_kept, shows_fresh,
 };
+use norm_paths::{OpFacts, code_of};
 use row_spelling::RowError;
 use std::alloc::{AllocError, Global};
 
@@ -57,16 +57,6 @@ fn is_sized(code: &[Instr]) -> bool
     ensures { IsTrue result → IsSized code.now }
 {
     0 < code.len() && code.len() < 256
-}
-
-fn code_of(op: &Op, wrapup: bool) -> &[Instr]
-    ensures { result.now ≡ code_of op.now wrapup }
-{
-    if wrapup {
-        op.wrapup.items()
-    } else {
-        op.generator.items()
-    }
 }
 
 /// Which rules over paths an instruction breaks at its place, by what was found out about its operation.

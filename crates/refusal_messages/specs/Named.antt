@@ -1,13 +1,13 @@
 -- The register that is named where a text is refused.
-use Rattle.std.specs.Prelude.{◌≡◌, ℕ, ◌+◌, ◌⊎◌, List, length, Option, Some, None, Result, Ok, codes}
+use Rattle.std.specs.Prelude.{◌≡◌, ℕ, ◌+◌, List, length, Option, Some, None, Result, Ok, Err, codes}
 use Rattle.oa_text.specs.Lines.{lines_of, numbered}
-use Rattle.norm_lang.specs.declared.text.Reg.{Reg}
-use Rattle.norm_lang.specs.declared.text.Reg.TheVariants.{Num, Ref}
 use Rattle.norm_lang.specs.declared.text.Text.{Text}
 use Rattle.norm_lang.specs.Faults.{LineFault, ◌>>=◌}
 use Rattle.norm_parser.specs.FrontRead.{front_read}
 use Rattle.norm_parser.specs.Version.{after_version}
 use Rattle.norm_check.specs.declared.refusal.Refusal.{Refusal}
+use Rattle.refusal_messages.specs.declared.named.Blame.{Blame}
+use Rattle.refusal_messages.specs.declared.named.Blame.TheVariants.{Found, NoMemory}
 use Rattle.rule_registers.specs.First.{IsFirstAtFault}
 use Rattle.statuses.specs.declared.status.Status.{Status}
 use Rattle.statuses.specs.declared.status.Status.TheVariants.{Refused}
@@ -19,14 +19,18 @@ text_in bytes = do
   front ← front_read next.1 bytes next.0
   Ok front.0
 
--- the first register that is at fault in a text. None is named where memory runs out
-abbrev pub IsNamedIn : Text → Refusal → Option Reg → Type 0
-IsNamedIn text refusal named = (named ≡ None) ⊎ IsFirstAtFault text refusal named
+-- what is found of the register to name, where this was read as a text: the first that is at fault, and none only where the rule blames none.
+-- Where a line has a fault there is no text that a rule could refuse, and none is named. Of a register for which there was no memory nothing
+-- is said here, and the message says that there was none
+abbrev pub IsNamedIn : Result Text LineFault → Refusal → Blame → Type 0
+IsNamedIn read refusal NoMemory = Unit {0}
+IsNamedIn (Ok text) refusal (Found register) = IsFirstAtFault text refusal register
+IsNamedIn (Err fault) refusal (Found register) = register ≡ None
 
--- the same in the text with which the bytes begin
-abbrev pub IsNamed : List ℕ → Refusal → Option Reg → Type 0
-IsNamed bytes refusal named = (text : Text) → text_in bytes ≡ Ok text → IsNamedIn text refusal named
+-- the same of the text with which the bytes begin
+abbrev pub IsNamed : List ℕ → Refusal → Blame → Type 0
+IsNamed bytes refusal named = IsNamedIn (text_in bytes) refusal named
 
 -- the same where this is remembered of what was read
-abbrev pub IsNamedFor : Option (List ℕ) → Status → Option Reg → Type 0
+abbrev pub IsNamedFor : Option (List ℕ) → Status → Blame → Type 0
 IsNamedFor read status named = (bytes : List ℕ) (refusal : Refusal) → read ≡ Some bytes → status ≡ Refused refusal → IsNamed bytes refusal named

@@ -2,11 +2,12 @@
 use Rattle.std.specs.Prelude.{ℕ, Bool, true, false, List, [], ◌∷◌, Option, Some, None, codes, decimal}
 use Rattle.std.specs.List.{concat}
 use Rattle.oa_text.specs.Lines.{TextLine}
-use Rattle.norm_lang.specs.declared.text.Reg.{Reg}
 use Rattle.norm_lang.specs.declared.text.Reg.TheVariants.{Num, Ref}
 use Rattle.norm_check.specs.declared.refusal.Refusal.{Refusal}
 use Rattle.statuses.specs.Explanations.{rule_words, method_words}
 use Rattle.message_words.specs.Mends.{rule_mend}
+use Rattle.refusal_messages.specs.declared.named.Blame.{Blame}
+use Rattle.refusal_messages.specs.declared.named.Blame.TheVariants.{Found, NoMemory}
 use Rattle.message_lines.specs.Places.{◌>>=◌, word_at, trimmed, begins_after, is_instruction_after, line_that}
 
 -- the line of an operation, and that of one of its instructions
@@ -28,19 +29,21 @@ refused_lines bytes refusal = do
   at ← line_that (is_instruction_after method.number) bytes refusal.at
   Some (record { op = op; at = at })
 
--- what stands before the number of a register that is named, and the number
-unfoldable pub register_before : Option Reg → List ℕ
-register_before None = []
-register_before (Some (Num n)) = codes ", at n"
-register_before (Some (Ref n)) = codes ", at r"
+-- what stands before the number of a register that is named, or that there was no memory to find it, and the number
+unfoldable pub register_before : Blame → List ℕ
+register_before (Found None) = []
+register_before (Found (Some (Num n))) = codes ", at n"
+register_before (Found (Some (Ref n))) = codes ", at r"
+register_before NoMemory = codes ", at a register, if any, that there was no memory to find"
 
-unfoldable pub register_number : Option Reg → List ℕ
-register_number None = []
-register_number (Some (Num n)) = decimal n
-register_number (Some (Ref n)) = decimal n
+unfoldable pub register_number : Blame → List ℕ
+register_number (Found None) = []
+register_number (Found (Some (Num n))) = decimal n
+register_number (Found (Some (Ref n))) = decimal n
+register_number NoMemory = []
 
 -- which rule is broken, by which line, the instruction and the register there, what the rule says, and how to mend it
-abbrev pub refused_sentence : FoundLines → Refusal → Option Reg → List ℕ
+abbrev pub refused_sentence : FoundLines → Refusal → Blame → List ℕ
 refused_sentence found refusal named = concat (
     codes "oa: line " ∷ decimal found.at.number ∷ codes ": rule N" ∷ decimal refusal.rule ∷ codes " is broken by '" ∷ trimmed found.at
     ∷ codes "', instruction " ∷ decimal refusal.at ∷ method_words refusal.wrapup ∷ codes " of '" ∷ word_at found.op 1 ∷ codes "' (counted from 0)"

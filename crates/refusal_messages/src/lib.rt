@@ -4,5 +4,5 @@
 mod named;
 mod refused;
 
-pub use named::named_for;
+pub use named::{Blame, named_for};
 pub use refused::{RefusedLines, refused_lines, write_refused};

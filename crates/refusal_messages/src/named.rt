@@ -1,7 +1,8 @@
 //! The register that is named where a text is refused.
 
-ghost use Rattle.std.specs.Prelude.{◌≡◌, ◌+◌, ◌<◌, ◌^◌, length, Some, Ok, IfOk};
+ghost use Rattle.std.specs.Prelude.{◌+◌, ◌<◌, ◌^◌, length, Some, Ok, IfOk};
 ghost use Rattle.oa_text.specs.Lines.{lines_of};
+ghost use Rattle.line_words.specs.Answered.{Answers};
 ghost use Rattle.norm_lang.specs.Limits.{IsWithinLimits};
 ghost use Rattle.refusal_messages.specs.Named.{text_in, IsNamedIn, IsNamed, IsNamedFor};
 
@@ -12,10 +13,19 @@ use rule_registers::register_at_fault;
 use statuses::{Refusal, Status};
 use std::alloc::Global;
 
+/// What is found of the register to name.
+#[derive(Clone, Copy)]
+pub enum Blame {
+    /// The first that is at fault; none if the rule blames none.
+    Found(Option<Reg>),
+    /// There was no memory to find it.
+    NoMemory,
+}
+
 /// The text with which bytes begin.
 fn text_in(alloc: Global, bytes: &[u8]) -> Result<Text, ParseError>
     requires { length (lines_of bytes.now) + 1 < 2 ^ 32 }
-    ensures exact { IfOk result (λ text. text_in bytes.now ≡ Ok text) }
+    ensures exact { Answers (λ text. text) result (text_in bytes.now) }
     ensures within { IfOk result (λ text. IsWithinLimits text) }
 {
     let mut cursor = Cursor::new(bytes);
@@ -24,36 +34,37 @@ fn text_in(alloc: Global, bytes: &[u8]) -> Result<Text, ParseError>
     Ok(text)
 }
 
-/// The first register that is at fault in a text, or none where memory runs out.
-fn register_in(alloc: Global, text: Text, refusal: Refusal) -> Option<Reg>
+/// The first register that is at fault in a text.
+fn register_in(alloc: Global, text: Text, refusal: Refusal) -> Blame
     requires within { IsWithinLimits text }
-    ensures { IsNamedIn text refusal result }
+    ensures { IsNamedIn (Ok text) refusal result }
 {
     match register_at_fault(alloc, &text, refusal) {
-        Ok(found) => found,
-        Err(_) => None,
+        Ok(found) => Blame::Found(found),
+        Err(_) => Blame::NoMemory,
     }
 }
 
-/// The same in the text with which bytes begin.
-fn named(alloc: Global, bytes: &[u8], refusal: Refusal) -> Option<Reg>
+/// The same in the text with which bytes begin; none where they are no text.
+fn named(alloc: Global, bytes: &[u8], refusal: Refusal) -> Blame
     requires { length (lines_of bytes.now) + 1 < 2 ^ 32 }
     ensures { IsNamed bytes.now refusal result }
 {
     match text_in(alloc, bytes) {
         Ok(text) => register_in(alloc, text, refusal),
-        Err(_) => None,
+        Err(ParseError::Fault(_)) => Blame::Found(None),
+        Err(ParseError::Memory) => Blame::NoMemory,
     }
 }
 
 /// The register that the message on a status names, where these bytes were read: the first that is at fault by the rule that is
-/// broken. None where memory runs out, or where no rule is broken.
-pub fn named_for(alloc: Global, bytes: &[u8], status: Status) -> Option<Reg>
+/// broken; none where the rule blames none, or where no rule is broken.
+pub fn named_for(alloc: Global, bytes: &[u8], status: Status) -> Blame
     requires { length (lines_of bytes.now) + 1 < 2 ^ 32 }
     ensures { IsNamedFor (Some bytes.now) status result }
 {
     match status {
         Status::Refused { refusal } => named(alloc, bytes, refusal),
-        _ => None,
+        _ => Blame::Found(None),
     }
 }

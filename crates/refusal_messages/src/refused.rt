@@ -8,6 +8,7 @@ ghost use Rattle.oa_text.specs.Shown.{line_shown};
 ghost use Rattle.oa_text.specs.Written.{Writes};
 ghost use Rattle.refusal_messages.specs.Refused.{refused_lines, method_start, register_before, register_number, refused_sentence};
 
+use crate::named::Blame;
 use message_lines::lines::{instruction_line, line_beginning};
 use message_lines::words::{trimmed, word_at};
 use message_words::rule_mend;
@@ -40,35 +41,38 @@ pub fn refused_lines<'a>(bytes: &'a [u8], refusal: Refusal) -> Option<RefusedLin
     Some(RefusedLines { op, at })
 }
 
-/// What stands before the number of a register that is named.
+/// What stands before the number of a register that is named, or that there was no memory to find it.
 #[tactic(auto, unfolding(crate::specs::Refused::register_before))]
-fn register_before(named: Option<Reg>) -> &'static [u8]
+fn register_before(named: Blame) -> &'static [u8]
     ensures { result.now ≡ register_before named }
 {
     match named {
-        None => b"",
-        Some(Reg::Num(_)) => b", at n",
-        Some(Reg::Ref(_)) => b", at r",
+        Blame::Found(None) => b"",
+        Blame::Found(Some(Reg::Num(_))) => b", at n",
+        Blame::Found(Some(Reg::Ref(_))) => b", at r",
+        Blame::NoMemory => b", at a register, if any, that there was no memory to find",
     }
 }
 
 /// The number of a register that is named.
 #[tactic(auto, unfolding(crate::specs::Refused::register_number))]
-fn register_number(named: Option<Reg>) -> Piece<'static>
+fn register_number(named: Blame) -> Piece<'static>
     ensures { piece_bytes result ≡ register_number named }
 {
     match named {
-        None => Piece::Bytes(b""),
-        Some(Reg::Num(number)) | Some(Reg::Ref(number)) => Piece::Number(number as u64),
+        Blame::Found(None) | Blame::NoMemory => Piece::Bytes(b""),
+        Blame::Found(Some(Reg::Num(number))) | Blame::Found(Some(Reg::Ref(number))) => {
+            Piece::Number(number as u64)
+        }
     }
 }
 
-/// Writes which rule is broken, by which line, at which register, if one is named, and how to mend it.
+/// Writes which rule is broken, by which line, at which register, if one is at fault and was found, and how to mend it.
 pub fn write_refused<K: Sink>(
     errors: &mut K,
     found: RefusedLines,
     refusal: Refusal,
-    named: Option<Reg>,
+    named: Blame,
 ) -> Result<(), Failed>
     ensures bytes { Writes (K.written errors.old) (K.written errors.new) (refused_sentence (record { op = line_shown found.entry.op; at = line_shown found.entry.at }) refusal named) result }
     ensures cause { HasCause (K.faults errors.old) (K.faults errors.new) result }

@@ -11,7 +11,8 @@ use Rattle.replay_logs.specs.declared.parts.Part.{Part}
 use Rattle.replay_logs.specs.declared.parts.Part.TheVariants.{End}
 use Rattle.replay_logs.specs.UnderWay.{Terms, Progress, replay_by, cores_of, IsUnderWay, Shows, Tells, Follows}
 use Rattle.replay_logs.specs.Parts.{caller_of, part_made, part_of, part_rest}
-use Rattle.replay_logs.proofs.Parting.{made_to, unrolled, unrolls, turn_is}
+use Rattle.replay_steps.specs.Turns.{made_to}
+use Rattle.replay_logs.proofs.Parting.{unrolled, unrolls, turn_is}
 
 abbrev pub Way : Type 0
 Way = Replaying → Result Replaying Refusal

@@ -7,15 +7,10 @@ use Rattle.schedule_turns.specs.declared.turn.Turn.{Turn}
 use Rattle.schedule_turns.specs.declared.turn.Turn.TheVariants as turns
 use Rattle.core_runs.specs.Machine.{CoreState, CoreEvent, core_run}
 use Rattle.core_runs.specs.Replays.{Replay, Replaying, Refusal, StepOfNobody, LongReplay, next_events, caller_events, stepped_to, step_by, one_step, go_further, most_steps, entry_wants_kind, entry_ended, upto_made, ops_made, turn_made, ended_or, caller_ended}
+use Rattle.replay_steps.specs.Turns.{made_to, refused}
 use Rattle.replay_logs.specs.declared.parts.Part.{Part}
 use Rattle.replay_logs.specs.declared.parts.Part.TheVariants.{Steps, Upto, Ops, End}
 use Rattle.replay_logs.specs.Parts.{caller_of, part_made, part_of, upto_rest, rest_if, part_rest}
-
-abbrev pub made_to : Replaying → Result Replaying Refusal
-made_to r = Ok r
-
-abbrev pub refused : Refusal → Result Replaying Refusal
-refused refusal = Err refusal
 
 no_step : {A : Type 0} (refusal : Refusal) (r : Replaying) → refused refusal ≡ made_to r → A
 no_step refusal r is = absurd (cc)

@@ -1,15 +1,14 @@
 -- The start of a replay, and its end.
-use Rattle.std.proofs.Common.{◌≡◌, ◌+◌, true, ℕ, zero, suc, List, [], ◌∷◌, map, length, Some, None, refl, sym, ap, ◌∙◌}
+use Rattle.std.proofs.Common.{◌≡◌, true, ℕ, List, [], ◌∷◌, map, length, refl, sym, ap, ◌∙◌}
 use Rattle.std.specs.Prelude.{slice_get, Result, Ok, Err}
 use Rattle.std.specs.List.{list_all}
 use Rattle.oa_words.specs.SlotKinds.{together}
 use Rattle.norm_lang.specs.declared.text.Text.{Text}
 use Rattle.norm_lang.specs.declared.reply.SourceReply.{SourceReply}
+use Rattle.norm_lang.specs.Limits.{is_reply}
 use Rattle.source_machine.specs.Calls.{IsOfSourceRun}
-use Rattle.caller_parts.specs.declared.call.Call.{Call}
-use Rattle.caller_steps.specs.Entries.{Entry, RoomyEntry, idle_entry}
+use Rattle.caller_steps.specs.Entries.{Entry, RoomyEntry}
 use Rattle.core_runs.specs.Machine.{CoreState, core_start, idle_from}
-use Rattle.core_runs.specs.Scripts.{script_of}
 use Rattle.core_runs.specs.Replays.{Replaying, Refusal, replay_start}
 use Rattle.core_runs.proofs.core_sound.Grouped.{nodes_together}
 use Rattle.core_runs.proofs.core_sound.StartSound.{stand}
@@ -17,23 +16,12 @@ use Rattle.oa_simulation.specs.sim_relation.Callers.{replies_of}
 use Rattle.oa_simulation.specs.Shadow.{shadow_start}
 use Rattle.run_logs.specs.Logged.{Recording, is_sized, recording_start}
 use Rattle.run_logs.specs.LogLaws.{recording}
-use Rattle.replay_logs.specs.declared.error.LogError.{LogError}
-use Rattle.replay_logs.specs.declared.error.LogError.TheVariants as errors
+use Rattle.replay_steps.specs.Entries.{core_part, fresh_entries}
+use Rattle.replay_steps.proofs.Fresh.{fresh_cores, fresh_rooms}
 use Rattle.replay_logs.specs.declared.replaying.LoggedRun.{LoggedRun}
-use Rattle.replay_logs.specs.UnderWay.{Terms, Progress, replay_by, core_part, entry_replies, fresh_entries, Suits, Starts, Shows, Tells, Follows}
-use Rattle.replay_logs.specs.Logged.{is_sized_reply, IsLogged, LogsFrom}
-use Rattle.replay_logs.proofs.Following.{Way, done, failed}
-
--- ---- entries
-
-fresh_cores : (c : ℕ) (scripts : List (List Call)) → map core_part (fresh_entries c scripts) ≡ idle_from c (length scripts)
-fresh_cores c [] = refl
-fresh_cores c (script ∷ scripts) = ap (λ (l : List Entry). idle_entry c ∷ l) (fresh_cores (c + 1) scripts)
-
-fresh_rooms : (c k : ℕ) (scripts : List (List Call)) (e : RoomyEntry) → slice_get (fresh_entries c scripts) k ≡ Some e → length (script_of scripts k) ≡ e.room
-fresh_rooms c k [] e is = absurd (let no : None ≡ Some e = is in cc)
-fresh_rooms c zero (script ∷ scripts) e is = let same : record { core = idle_entry c; room = length script } ≡ e = cc in ap (λ (x : RoomyEntry). x.room) same
-fresh_rooms c (suc k) (script ∷ scripts) e is = fresh_rooms (c + 1) k scripts e is
+use Rattle.replay_logs.specs.UnderWay.{Terms, Progress, replay_by, entry_replies, Suits, Starts, Shows, Tells, Follows}
+use Rattle.replay_logs.specs.Logged.{IsLogged, LogsFrom}
+use Rattle.replay_logs.proofs.Following.{Way, done}
 
 -- ---- the start
 
@@ -70,7 +58,7 @@ all_replies (e ∷ entries) = ap (λ (rest : List (List SourceReply)). replies_o
 
 -- what was written down is answered
 pub logs_so : (t : Terms) (old now : Progress) (next : Way) (u : Unit {0}) (run : LoggedRun) → Follows t old (done u) now next → run ≡ record { events = now.log.events; replies = map entry_replies now.entries }
-    → list_all is_sized run.events ≡ true → list_all (list_all is_sized_reply) run.replies ≡ true → LogsFrom t old next (Ok run)
+    → list_all is_sized run.events ≡ true → list_all (list_all is_reply) run.replies ≡ true → LogsFrom t old next (Ok run)
 logs_so t old now next u run follows is sized numbers = record { each = λ r shows. of (next r) refl (follows.each r shows) } where
   of : {r : Replaying} (o : Result Replaying Refusal) → next r ≡ o → Tells t (done u) now o → IsLogged (replay_by t) t.text (next r) (Ok run)
   of (Ok later) given shows = record {
@@ -82,12 +70,3 @@ logs_so t old now next u run follows is sized numbers = record { each = λ r sho
     numbers = numbers;
   }
   of (Err refusal) given none = absurd none
-
--- and so is why there is nothing
-pub logs_none : (t : Terms) (old now : Progress) (next : Way) (error : LogError) → Follows t old (failed error) now next → LogsFrom t old next (Err error)
-logs_none t old now next errors.Memory follows = record { each = λ r shows. tt }
-logs_none t old now next (errors.StepOfNobody steps) follows = record { each = λ r shows. follows.each r shows }
-logs_none t old now next (errors.LongReplay steps) follows = record { each = λ r shows. follows.each r shows }
-
-pub memory_none : (t : Terms) (old : Progress) (next : Way) → LogsFrom t old next (Err errors.Memory)
-memory_none t old next = record { each = λ r shows. tt }

@@ -1,16 +1,15 @@
 -- A step that is made and written down is the next of the replay.
 use Rattle.std.proofs.Common.{◌≡◌, ◌+◌, ℕ, Bool, true, false, List, [], ◌∷◌, ◌++◌, map, length, Option, Some, None, refl, sym, ap, ◌∙◌, subst, if◌then◌else◌}
-use Rattle.std.specs.Prelude.{slice_get, option_map, is_some, not, nat_le, Result, Err}
+use Rattle.std.specs.Prelude.{slice_get, option_map, nat_le, Result, Err}
 use Rattle.std.proofs.lemmas.Option.{slice_get-map}
 use Rattle.std.proofs.lemmas.List.{append_assoc}
 use Rattle.target_code.specs.declared.target.Target.{Target}
-use Rattle.caller_parts.specs.declared.call.Call.{Call}
 use Rattle.caller_parts.specs.Settings.{Setting}
-use Rattle.caller_steps.specs.Entries.{Entry, RoomyEntry, is_idle}
-use Rattle.core_runs.specs.Machine.{CoreState, CoreEvent, Takes, Steps, core_event, core_run, run_on, core_start}
+use Rattle.caller_steps.specs.Entries.{Entry, RoomyEntry}
+use Rattle.core_runs.specs.Machine.{CoreState, CoreEvent, core_event, core_run, run_on, core_start}
 use Rattle.core_runs.specs.RunSigns.{Signed, event_signs, signs_on, run_signs}
 use Rattle.core_runs.specs.Scripts.{script_of}
-use Rattle.core_runs.specs.Replays.{Replaying, Refusal, StepOfNobody, LongReplay, is_spent, take_events, caller_events, next_events, stepped_to, step_by, one_step}
+use Rattle.core_runs.specs.Replays.{Replaying, Refusal, LongReplay, caller_events, next_events, stepped_to, step_by, one_step}
 use Rattle.core_runs.proofs.Reaching.{run_both}
 use Rattle.core_runs.specs.core_sound.Sound.{IsSound}
 use Rattle.core_runs.proofs.core_sound.Reached.{states_are_sound}
@@ -23,11 +22,13 @@ use Rattle.oa_simulation.proofs.Homes.{run_append}
 use Rattle.run_logs.specs.Logged.{logged_all}
 use Rattle.run_logs.specs.LogLaws.{recording}
 use Rattle.run_logs.proofs.Following.{steps_are_shadows}
-use Rattle.replay_logs.specs.declared.error.LogError.TheVariants as errors
-use Rattle.replay_logs.specs.UnderWay.{Terms, Progress, replay_by, core_part, cores_of, core_in, has_next, has_next_for, has_next_in, begun, CanMoveAt, EntryMoves, MovesAt, Moves, Suits, Shows, IsUnderWay, Tells, Follows}
-use Rattle.replay_logs.proofs.Parting.{made_to}
-use Rattle.replay_logs.proofs.Following.{done, failed}
-use Rattle.replay_logs.proofs.Moving.{set_rooms, script_calls, step_run, Readies, readied}
+use Rattle.replay_steps.specs.Entries.{core_part, AllBelongTo}
+use Rattle.replay_steps.specs.Turns.{made_to}
+use Rattle.replay_steps.proofs.Events.{core_at, step_run}
+use Rattle.replay_steps.proofs.Rooms.{set_rooms, script_calls}
+use Rattle.replay_logs.specs.UnderWay.{Terms, Progress, replay_by, core_in, has_next, has_next_for, has_next_in, begun, CanMoveAt, EntryMoves, MovesAt, Moves, Suits, Shows, IsUnderWay, Tells, Follows}
+use Rattle.replay_logs.proofs.Following.{done}
+use Rattle.replay_logs.proofs.Moving.{Readies, readied}
 
 -- ---- the shadow of more events
 
@@ -57,11 +58,11 @@ is_sound t now r suits shows =
     states_are_sound t.pair.target t.pair.source t.setting (core_in now) (runnable t.pair suits.sound) suits.own suits.fits
     (record { events = r.events; runs = shows.runs ∙ ap (λ (s : CoreState). Some s) (sym shows.state) })
 
-core_at : (now : Progress) (c : ℕ) (e : RoomyEntry) → slice_get now.entries c ≡ Some e → slice_get (cores_of now) c ≡ Some e.core
-core_at now c e at = slice_get-map core_part now.entries c ∙ ap (option_map core_part) at
-
 pub belongs_in : (t : Terms) (now : Progress) (c : ℕ) (e : RoomyEntry) → IsUnderWay t now → slice_get now.entries c ≡ Some e → BelongsTo t.pair t.setting e.core
-belongs_in t now c e way at = record { fits = way.suits.fits; belongs = ((is_sound t now way.replaying way.suits way.shows).belong c e.core (core_at now c e at)).0 }
+belongs_in t now c e way at = record { fits = way.suits.fits; belongs = ((is_sound t now way.replaying way.suits way.shows).belong c e.core (core_at now.entries c e at)).0 }
+
+pub all_belong : (t : Terms) (now : Progress) → IsUnderWay t now → AllBelongTo t.pair t.setting now.entries
+all_belong t now way = record { each = λ c e at. belongs_in t now c e way at }
 
 pub words_in : (t : Terms) (now : Progress) → IsUnderWay t now → WordsSound t.pair.target t.setting now.words
 words_in t now way = let sound = is_sound t now way.replaying way.suits way.shows in record { count = sound.count; lawful = sound.lawful }
@@ -108,7 +109,7 @@ module _ (t : Terms) (c : ℕ) (old mid : Progress) (u : Unit {0}) (suits : Suit
   all_runs = run_both t.pair.target t.setting r.events ready.events (core_start t.pair.target t.setting) r.state shows.runs ∙ runs
 
   number : (begun t.setting.reclamation (script_of t.scripts c) e).core.number ≡ c
-  number = ready.number ∙ ((is_sound t old r suits shows).belong c e.core (core_at old c e at)).1
+  number = ready.number ∙ ((is_sound t old r suits shows).belong c e.core (core_at old.entries c e at)).1
 
   written : mid.log ≡ recording (shadow t.pair.target t.text t.setting (r.events ++ ready.events))
   written =
@@ -148,40 +149,6 @@ step_follows t c old mid new u suits has below moves is = of (slice_get old.entr
 
 -- ---- no step
 
-none_next : (c : ℕ) (idle : Bool) (o : Option Call) (spent : Bool) → (if idle then is_some o else not spent) ≡ false
-    → (if idle then take_events c o else (if spent then None else Some (Steps c ∷ []))) ≡ None
-none_next c true None spent none = refl
-none_next c true (Some call) spent none = absurd (let no : true ≡ false = none in cc)
-none_next c false o true none = refl
-none_next c false o false none = absurd (let no : true ≡ false = none in cc)
-
-some_next : (c : ℕ) (idle : Bool) (o : Option Call) (spent : Bool) → (if idle then is_some o else not spent) ≡ true
-    → (events : List CoreEvent) × ((if idle then take_events c o else (if spent then None else Some (Steps c ∷ []))) ≡ Some events)
-some_next c true None spent has = absurd (let no : false ≡ true = has in cc)
-some_next c true (Some call) spent has = (Takes c call ∷ Steps c ∷ [], refl)
-some_next c false o true has = absurd (let no : false ≡ true = has in cc)
-some_next c false o false has = (Steps c ∷ [], refl)
-
--- there is none
-pub none_follows : (t : Terms) (c : ℕ) (now : Progress) → has_next_in t c now ≡ false → Follows t now (failed (errors.StepOfNobody now.steps)) now (one_step (replay_by t) c)
-none_follows t c now none = record { each = λ r shows. of r shows (slice_get now.entries c) refl none } where
-  of : (r : Replaying) → Shows t now r → (o : Option RoomyEntry) → slice_get now.entries c ≡ o → has_next_for t c o ≡ false → one_step (replay_by t) c r ≡ Err (StepOfNobody now.steps)
-  of r shows None at none =
-      ap (step_by (replay_by t) r) (next_at t c now r None shows at) ∙ ap (λ (n : ℕ). Err (StepOfNobody n)) (sym shows.steps)
-  of r shows (Some e) at none =
-      ap (step_by (replay_by t) r)
-      (next_at t c now r (Some e) shows at
-      ∙ none_next c (is_idle e.core.routine) (slice_get (script_of t.scripts c) (length e.core.replies)) (is_spent t.fuel e.core) none)
-      ∙ ap (λ (n : ℕ). Err (StepOfNobody n)) (sym shows.steps)
-
--- or it is one too many
-pub long_follows : (t : Terms) (c : ℕ) (now : Progress) → has_next_in t c now ≡ true → nat_le t.limit now.steps ≡ true
-    → Follows t now (failed (errors.LongReplay now.steps)) now (one_step (replay_by t) c)
-long_follows t c now has past = record { each = λ r shows. of r shows (slice_get now.entries c) refl has } where
-  of : (r : Replaying) → Shows t now r → (o : Option RoomyEntry) → slice_get now.entries c ≡ o → has_next_for t c o ≡ true → one_step (replay_by t) c r ≡ Err (LongReplay now.steps)
-  of r shows None at has = absurd (let no : false ≡ true = has in cc)
-  of r shows (Some e) at has =
-      let next = some_next c (is_idle e.core.routine) (slice_get (script_of t.scripts c) (length e.core.replies)) (is_spent t.fuel e.core) has in
-      ap (step_by (replay_by t) r) (next_at t c now r (Some e) shows at ∙ next.1)
-      ∙ (ap (λ (n : ℕ). if nat_le t.limit n then Err (LongReplay n) else stepped_to r next.0 (core_run t.pair.target t.setting next.0 r.state)) (sym shows.steps)
-      ∙ ap (λ (b : Bool). if b then Err (LongReplay now.steps) else stepped_to r next.0 (core_run t.pair.target t.setting next.0 r.state)) past)
+-- the test of the limit, on what the code reads
+pub limit_read : (seen t : Terms) (inside now : Progress) (b : Bool) → seen ≡ t → inside ≡ now → b ≡ nat_le seen.limit inside.steps → nat_le t.limit now.steps ≡ b
+limit_read seen t inside now b is at test = sym (test ∙ (ap (λ (x : Terms). nat_le x.limit inside.steps) is ∙ ap (λ (n : Progress). nat_le t.limit n.steps) at))

@@ -1,15 +1,13 @@
 -- What is answered: a run written down, or why there is none.
-use Rattle.std.specs.Prelude.{◌≡◌, ℕ, Bool, true, List, map, Result, Ok, Err}
+use Rattle.std.specs.Prelude.{◌≡◌, ℕ, true, List, map, Result, Ok, Err}
 use Rattle.std.specs.List.{list_all}
 use Rattle.norm_lang.specs.declared.text.Text.{Text}
-use Rattle.norm_lang.specs.Limits.{is_number}
+use Rattle.norm_lang.specs.Limits.{is_reply}
 use Rattle.schedule_turns.specs.declared.turn.Turn.{Turn}
 use Rattle.target_code.specs.declared.target.Target.{Target}
 use Rattle.caller_parts.specs.declared.call.Call.{Call}
 use Rattle.caller_parts.specs.Settings.{Setting}
 use Rattle.core_runs.specs.Replays.{Replay, Replaying, Refusal, StepOfNobody, LongReplay, replayed}
-use Rattle.norm_lang.specs.declared.reply.SourceReply.{SourceReply}
-use Rattle.norm_lang.specs.declared.reply.SourceReply.TheVariants as replies
 use Rattle.run_logs.specs.Logged.{is_sized}
 use Rattle.oa_simulation.specs.sim_relation.Callers.{replies_of}
 use Rattle.oa_simulation.specs.Shadow.{image}
@@ -21,13 +19,6 @@ use Rattle.replay_logs.specs.UnderWay.{Terms, Progress, replay_by, Shows}
 abbrev pub replay_for : Target → Setting → List (List Call) → ℕ → ℕ → Replay
 replay_for target setting scripts fuel limit = record { target = target; setting = setting; scripts = scripts; fuel = fuel; limit = limit }
 
--- its number is one of its type
-abbrev pub is_sized_reply : SourceReply → Bool
-is_sized_reply (replies.Number n) = is_number n
-is_sized_reply replies.Nothing = true
-is_sized_reply replies.Full = true
-is_sized_reply (replies.Phases p) = is_number p
-
 -- the run that is given: its image, and the replies in which it ends
 pub record TellsRun (p : Replay) (text : Text) (given : Result Replaying Refusal) (run : LoggedRun) : Type 0 where
   pub replaying : Replaying
@@ -35,7 +26,7 @@ pub record TellsRun (p : Replay) (text : Text) (given : Result Replaying Refusal
   pub events : run.events ≡ image p.target text p.setting replaying.events
   pub replies : run.replies ≡ map replies_of replaying.state.entries
   pub sized : list_all is_sized run.events ≡ true
-  pub numbers : list_all (list_all is_sized_reply) run.replies ≡ true
+  pub numbers : list_all (list_all is_reply) run.replies ≡ true
 
 -- what is answered, by what is given; that memory ran out says nothing of it
 abbrev pub IsLogged : Replay → Text → Result Replaying Refusal → Result LoggedRun LogError → Type 0

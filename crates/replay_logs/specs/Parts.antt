@@ -1,10 +1,11 @@
 -- The parts of a replay, step by step.
-use Rattle.std.specs.Prelude.{ℕ, zero, suc, ◌+◌, ◌-◌, Bool, true, false, not, List, Option, Some, None, is_some, Result, nat_le, if◌then◌else◌, slice_get}
+use Rattle.std.specs.Prelude.{ℕ, zero, suc, ◌+◌, Bool, true, false, not, List, Option, Some, None, is_some, Result, nat_le, slice_get}
 use Rattle.schedule_turns.specs.declared.turn.StepKind.{StepKind}
 use Rattle.schedule_turns.specs.declared.turn.Turn.{Turn}
 use Rattle.schedule_turns.specs.declared.turn.Turn.TheVariants as turns
 use Rattle.caller_steps.specs.Entries.{Entry}
-use Rattle.core_runs.specs.Replays.{Replay, Replaying, Refusal, caller_events, go_further, most_steps, entry_wants_kind, entry_ended, steps_made, upto_made, ops_made, turns_made, caller_ended, callers_ended}
+use Rattle.core_runs.specs.Replays.{Replay, Replaying, Refusal, caller_events, most_steps, entry_wants_kind, entry_ended, steps_made, upto_made, ops_made, caller_ended}
+use Rattle.replay_steps.specs.Turns.{left_after}
 use Rattle.replay_logs.specs.declared.parts.Part.{Part}
 use Rattle.replay_logs.specs.declared.parts.Part.TheVariants.{Steps, Upto, Ops, End}
 
@@ -33,10 +34,6 @@ abbrev pub steps_rest : ℕ → ℕ → Option Part
 steps_rest c zero = None
 steps_rest c (suc n) = Some (Steps c n)
 
--- how many accesses of the kind are left after a look at whether one is wanted; none where it is the last
-abbrev pub left_after : Bool → ℕ → Option ℕ
-left_after wanted left = if wanted then (if nat_le left 1 then None else Some (left - 1)) else Some left
-
 abbrev pub upto_rest : ℕ → StepKind → Option ℕ → Option Part
 upto_rest c kind None = None
 upto_rest c kind (Some left) = Some (Upto c kind left)
@@ -50,9 +47,3 @@ part_rest p (Steps c n) entries = steps_rest c n
 part_rest p (Upto c kind left) entries = upto_rest c kind (left_after (entry_wants_kind p.target kind (slice_get entries c)) left)
 part_rest p (Ops c goal) entries = rest_if (not (nat_le goal (entry_ended (slice_get entries c)))) (Ops c goal)
 part_rest p (End c) entries = rest_if (is_some (caller_events p c (slice_get entries c))) (End c)
-
--- ---- the whole
-
--- the turns and then each caller to its end, from a state on
-abbrev pub replayed_from : Replay → List Turn → Replaying → Result Replaying Refusal
-replayed_from p schedule r = go_further (turns_made p schedule r) (callers_ended p 0 p.setting.sizes.callers)

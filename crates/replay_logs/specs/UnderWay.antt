@@ -1,15 +1,14 @@
 -- A replay under way that is written down, beside the replay that the turns give.
-use Rattle.std.specs.Prelude.{◌≡◌, ℕ, ◌≤◌, ◌+◌, All, Bool, true, false, not, List, [], ◌∷◌, map, length, Option, Some, None, is_some, Result, Ok, Err, if◌then◌else◌, slice_get, slice_set}
+use Rattle.std.specs.Prelude.{◌≡◌, ℕ, All, Bool, true, false, not, List, map, length, Option, Some, None, is_some, Result, Ok, Err, if◌then◌else◌, slice_get, slice_set}
 use Rattle.norm_lang.specs.declared.text.Text.{Text}
 use Rattle.barrier_check.specs.Paired.{Paired, IsSound}
 use Rattle.norm_lang.specs.declared.reply.SourceReply.{SourceReply}
 use Rattle.source_machine.specs.Calls.{IsOfSourceRun}
-use Rattle.documents.specs.DocumentLimits.{most_calls}
 use Rattle.caller_parts.specs.declared.call.Call.{Call}
 use Rattle.caller_parts.specs.Calls.{AreCalls}
 use Rattle.caller_parts.specs.Settings.{Setting, IsSetting, Fits}
 use Rattle.caller_parts.specs.declared.setting.Reclamation.{Reclamation}
-use Rattle.caller_steps.specs.Entries.{Entry, RoomyEntry, idle_entry, is_idle}
+use Rattle.caller_steps.specs.Entries.{Entry, RoomyEntry, is_idle}
 use Rattle.caller_steps.specs.After.{taken}
 use Rattle.core_runs.specs.Machine.{CoreState, core_start, core_run}
 use Rattle.core_runs.specs.Scripts.{script_of}
@@ -21,6 +20,7 @@ use Rattle.oa_simulation.specs.sim_relation.Callers.{replies_of}
 use Rattle.oa_simulation.specs.Shadow.{shadow}
 use Rattle.run_logs.specs.Logged.{Recording, logged_all}
 use Rattle.run_logs.specs.LogLaws.{recording}
+use Rattle.replay_steps.specs.Entries.{core_part, IsShort, HasRooms}
 use Rattle.replay_logs.specs.declared.error.LogError.{LogError}
 use Rattle.replay_logs.specs.declared.error.LogError.TheVariants as errors
 
@@ -42,9 +42,6 @@ pub record Progress : Type 0 where
   pub entries : List RoomyEntry
   pub log : Recording
   pub steps : ℕ
-
-abbrev pub core_part : RoomyEntry → Entry
-core_part e = e.core
 
 abbrev pub cores_of : Progress → List Entry
 cores_of now = map core_part now.entries
@@ -110,10 +107,6 @@ pub record Moves (t : Terms) (c : ℕ) (old new : Progress) : Type 0 where
 
 -- ---- what holds all the while
 
--- each caller's entry has room for one reply to each call of its script
-abbrev pub HasRooms : List (List Call) → List RoomyEntry → Type 0
-HasRooms scripts entries = (c : ℕ) (e : RoomyEntry) → slice_get entries c ≡ Some e → e.room ≡ length (script_of scripts c)
-
 pub record Suits (t : Terms) : Type 0 where
   pub sound : IsSound t.pair
   pub own : IsSetting t.setting
@@ -147,19 +140,6 @@ pub record Follows (t : Terms) (old : Progress) (result : Result (Unit {0}) LogE
   pub each : (r : Replaying) → Shows t old r → Tells t result new (next r)
 
 -- ---- the start
-
--- no script has more calls
-abbrev pub IsShort : List Call → Type 0
-IsShort script = length script ≤ most_calls
-
--- an idle entry with room for a script's replies
-abbrev pub fresh_entry : ℕ → List Call → RoomyEntry
-fresh_entry c script = record { core = idle_entry c; room = length script }
-
--- an idle entry for each script, from a number on
-abbrev pub fresh_entries : ℕ → List (List Call) → List RoomyEntry
-fresh_entries c [] = []
-fresh_entries c (script ∷ scripts) = fresh_entry c script ∷ fresh_entries (c + 1) scripts
 
 -- a caller for each script, none of which is too long
 pub record Starts (t : Terms) : Type 0 where

@@ -1,12 +1,14 @@
 //! The parts of a replay: the turns of its schedule, and each caller's way to its end.
 
 ghost use Rattle.std.specs.Prelude.{◌≡◌, ◌<◌, ◌^◌, slice_get};
-ghost use Rattle.core_runs.specs.Replays.{is_of_kind, entry_wants_kind, entry_ended, turns_made, callers_ended};
+ghost use Rattle.core_runs.specs.Replays.{entry_wants_kind, entry_ended, turns_made, callers_ended};
 ghost use Rattle.replay_logs.specs.UnderWay.{replay_by, cores_of, IsUnderWay, Follows};
-ghost use Rattle.replay_logs.specs.Parts.{left_after, caller_of, steps_rest, upto_rest, rest_if, part_of, part_rest, part_made};
+ghost use Rattle.replay_logs.specs.Parts.{caller_of, steps_rest, upto_rest, rest_if, part_of, part_rest, part_made};
 
 use crate::error::LogError;
-use crate::progress::{Progress, Terms, entry_at};
+use crate::progress::{Progress, Terms};
+use replay_steps::counting::left_after;
+use replay_steps::looking::{ended_calls, wants_kind};
 use schedule_turns::{StepKind, Turn};
 use std::alloc::Global;
 
@@ -44,28 +46,6 @@ fn caller_of(part: Part) -> u32
         Part::Ops { caller, .. } => caller,
         Part::End { caller } => caller,
     }
-}
-
-/// Whether an access of this kind is wanted.
-fn is_of_kind(kind: StepKind, wanted: Option<StepKind>) -> bool
-    ensures { result ≡ is_of_kind kind wanted }
-{
-    match wanted {
-        None => false,
-        Some(StepKind::Load) => matches!(kind, StepKind::Load),
-        Some(StepKind::Check) => matches!(kind, StepKind::Check),
-        Some(StepKind::Exchange) => matches!(kind, StepKind::Exchange),
-    }
-}
-
-/// How many accesses of the kind are left after a look at whether one is wanted; none where it is the last.
-fn left_after(wanted: bool, left: u32) -> Option<u32>
-    ensures { result ≡ left_after wanted left }
-{
-    if !wanted {
-        return Some(left);
-    }
-    if left <= 1 { None } else { Some(left - 1) }
 }
 
 /// What is left of so many steps after one more.
@@ -106,10 +86,7 @@ impl<'a> Terms<'a> {
         requires { IsUnderWay self.now now.now }
         ensures { result ≡ entry_wants_kind self.now.pair.target kind (slice_get (cores_of now.now) caller) }
     {
-        match entry_at(&now.entries, caller) {
-            None => false,
-            Some(entry) => is_of_kind(kind, entry.kind_wanted(self.prepared, self.setting)),
-        }
+        wants_kind(&now.entries, self.prepared, self.setting, caller, kind)
     }
 
     /// How many of a caller's calls have ended.
@@ -117,10 +94,7 @@ impl<'a> Terms<'a> {
         ensures count { result ≡ entry_ended (slice_get (cores_of now.now) caller) }
         ensures few { result < 2 ^ 62 }
     {
-        match now.entries.get(caller as usize) {
-            None => 0,
-            Some(entry) => entry.replies().len() as u64,
-        }
+        ended_calls(&now.entries, caller)
     }
 
     /// A turn, as it begins.

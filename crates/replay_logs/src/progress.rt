@@ -1,6 +1,6 @@
 //! A replay under way, and one step of it, written down.
 
-ghost use Rattle.std.specs.Prelude.{◌≡◌, ◌<◌, ◌+◌, ◌^◌, true, OnOk, length, is_some, nat_le, option_copied, slice_get};
+ghost use Rattle.std.specs.Prelude.{◌≡◌, ◌<◌, ◌+◌, true, OnOk, length, slice_get};
 ghost use Rattle.source_machine.specs.Calls.{IsOfSourceRun};
 ghost use Rattle.caller_parts.specs.Calls.{AreCalls};
 ghost use Rattle.core_runs.specs.Scripts.{script_of};
@@ -14,6 +14,8 @@ use caller_steps::{Call, Program, Setting};
 use core_entries::{Entry, PlainWords, Prepared, Runs};
 use norm_check::Normal;
 use norm_lang::list::Listed;
+use replay_steps::counting::{is_at_limit, one_more};
+use replay_steps::looking::{call_at, script_at};
 use run_logs::Log;
 use run_logs::steps::step_written;
 use std::alloc::{AllocError, Global};
@@ -60,27 +62,6 @@ impl Model for Progress {
     ghost view = { λ p. record { words = p.words; entries = p.entries.items; log = p.log; steps = p.steps } };
 }
 
-fn call_at(script: &[Call], at: usize) -> Option<Call>
-    ensures { result ≡ slice_get script.now at }
-{
-    script.get(at).copied()
-}
-
-pub(crate) fn entry_at(entries: &[Entry], caller: u32) -> Option<&Entry>
-    ensures { option_copied result ≡ slice_get entries.now caller }
-{
-    entries.get(caller as usize)
-}
-
-fn script_at(scripts: &[Listed<Call>], caller: usize) -> &[Call]
-    ensures { result.now ≡ script_of scripts.now caller }
-{
-    match scripts.get(caller) {
-        None => &[],
-        Some(script) => script.items(),
-    }
-}
-
 /// Whether a caller has a step to take: it runs a call that isn't spent, or its script has a further one.
 #[inline(always)]
 fn has_next(fuel: u64, scripts: &[Listed<Call>], caller: u32, entry: &Entry) -> bool
@@ -94,14 +75,6 @@ fn has_next(fuel: u64, scripts: &[Listed<Call>], caller: u32, entry: &Entry) -> 
 }
 
 impl<'a> Terms<'a> {
-    /// The limit is a number of the machine: a law for those who hold one. To read a field tells it.
-    #[inline(always)]
-    fn kept(&self)
-        ensures { self.now.limit < 2 ^ 64 }
-    {
-        let _limit = self.limit;
-    }
-
     /// Whether a caller has a step to take. One that doesn't exist has none.
     #[inline(always)]
     pub(crate) fn has_next(&self, now: &Progress, caller: u32) -> bool
@@ -200,20 +173,12 @@ impl<'a> Terms<'a> {
         )
     }
 
-    /// Whether the limit of steps is reached.
-    fn is_at_limit(&self, now: &Progress) -> bool
-        ensures { result ≡ nat_le self.now.limit now.now.steps }
-    {
-        self.limit <= now.steps
-    }
-
     /// Counts a step.
     fn count(&self, now: &mut Progress)
         requires { now.old.steps < self.now.limit }
         ensures { now.new ≡ record now.old { steps = now.old.steps + 1 } }
     {
-        self.kept();
-        now.steps += 1;
+        now.steps = one_more(self.limit, now.steps);
     }
 
     /// One step of a caller. That it has none to take is told before that the limit is reached.
@@ -235,7 +200,7 @@ impl<'a> Terms<'a> {
         if !self.has_next(now, caller) {
             return Err(LogError::StepOfNobody { steps: now.steps });
         }
-        if self.is_at_limit(now) {
+        if is_at_limit(self.limit, now.steps) {
             return Err(LogError::LongReplay { steps: now.steps });
         }
         self.move_in(alloc, now, caller)?;

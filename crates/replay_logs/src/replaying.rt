@@ -1,6 +1,6 @@
 //! Replay: the run of scripts that the turns of a schedule give, written down.
 
-ghost use Rattle.std.specs.Prelude.{◌≡◌, ◌≤◌, ◌<◌, ◌++◌, ◌∷◌, [], IfOk, OnOk, All, length, map, true};
+ghost use Rattle.std.specs.Prelude.{◌≡◌, IfOk, All, length, map, true};
 ghost use Rattle.std.specs.List.{list_all};
 ghost use Rattle.source_machine.specs.Calls.{IsOfSourceRun};
 ghost use Rattle.caller_parts.specs.Calls.{AreCalls};
@@ -9,18 +9,21 @@ ghost use Rattle.core_runs.specs.Replays.{replay_start};
 ghost use Rattle.oa_simulation.specs.Shadow.{shadow_start};
 ghost use Rattle.run_logs.specs.Logged.{is_sized};
 ghost use Rattle.run_logs.specs.LogLaws.{recording};
-ghost use Rattle.replay_logs.specs.UnderWay.{IsShort, entry_replies, fresh_entry, fresh_entries, replay_by, Suits, Starts, IsUnderWay, Shows, Follows};
-ghost use Rattle.replay_logs.specs.Parts.{replayed_from};
-ghost use Rattle.replay_logs.specs.Logged.{replay_for, is_sized_reply, IsLoggedBy, LogsFrom};
+ghost use Rattle.replay_logs.specs.UnderWay.{entry_replies, replay_by, Suits, Starts, IsUnderWay, Shows, Follows};
+ghost use Rattle.replay_steps.specs.Entries.{IsShort};
+ghost use Rattle.replay_steps.specs.Turns.{replayed_from};
+ghost use Rattle.norm_lang.specs.Limits.{is_reply};
+ghost use Rattle.replay_logs.specs.Logged.{replay_for, IsLoggedBy, LogsFrom};
 
 use crate::error::LogError;
 use crate::progress::{Progress, Terms};
 use crate::replies::all_replies;
 use barrier_check::Barred;
 use caller_steps::{Call, Setting};
-use core_entries::{Entry, PlainWords, Prepared};
+use core_entries::{PlainWords, Prepared};
 use norm_check::Normal;
 use norm_lang::list::Listed;
+use replay_steps::entries::put_entries;
 use run_logs::Log;
 use schedule_turns::Turn;
 use source_machine::{SourceEvent, SourceReply};
@@ -31,53 +34,6 @@ use std::alloc::{AllocError, Global};
 pub struct LoggedRun {
     pub events: Listed<SourceEvent>,
     pub replies: Listed<Listed<SourceReply>>,
-}
-
-/// An idle entry with room for a script's replies.
-fn add_entry(
-    alloc: Global,
-    entries: &mut Vec<Entry>,
-    number: u32,
-    script: &Listed<Call>,
-) -> Result<(), AllocError>
-    requires number { number < 8 }
-    requires short { IsShort script.now }
-    ensures { OnOk result (entries.new.items ≡ entries.old.items ++ fresh_entry number script.now ∷ []) }
-{
-    let entry = Entry::new(alloc, number, script.items().len() as u32)?;
-    entries.push(entry)?;
-    Ok(())
-}
-
-/// An idle entry for each script, after those that stand there.
-fn add_entries(
-    alloc: Global,
-    entries: &mut Vec<Entry>,
-    scripts: &[Listed<Call>],
-) -> Result<(), AllocError>
-    requires count { length scripts.now ≤ 8 }
-    requires few { All IsShort scripts.now }
-    ensures { OnOk result (entries.new.items ≡ entries.old.items ++ fresh_entries 0 scripts.now) }
-{
-    let mut number = 0;
-    for script in scripts {
-        add_entry(alloc, entries, number, script)?;
-        number += 1;
-    }
-    Ok(())
-}
-
-/// An idle entry for each script, with room for its replies.
-fn put_entries(alloc: Global, scripts: &[Listed<Call>]) -> Result<Vec<Entry>, AllocError>
-    requires count { length scripts.now ≤ 8 }
-    requires few { All IsShort scripts.now }
-    ensures { IfOk result (λ entries. entries.items ≡ fresh_entries 0 scripts.now) }
-{
-    let mut entries = Vec::new(alloc);
-    match add_entries(alloc, &mut entries, scripts) {
-        Err(error) => Err(error),
-        Ok(()) => Ok(entries),
-    }
 }
 
 /// The log before the first step.
@@ -122,7 +78,7 @@ fn run(alloc: Global, terms: &Terms, now: &mut Progress, schedule: &[Turn]) -> R
 fn logged(alloc: Global, now: Progress) -> Result<LoggedRun, AllocError>
     ensures same { IfOk result (λ run. run ≡ record { events = now.log.events; replies = map entry_replies now.entries }) }
     ensures sized { IfOk result (λ run. list_all is_sized run.events ≡ true) }
-    ensures numbers { IfOk result (λ run. list_all (list_all is_sized_reply) run.replies ≡ true) }
+    ensures numbers { IfOk result (λ run. list_all (list_all is_reply) run.replies ≡ true) }
 {
     let replies = all_replies(alloc, &now.entries)?;
     Ok(LoggedRun {

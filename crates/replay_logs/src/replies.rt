@@ -4,7 +4,7 @@ ghost use Rattle.std.specs.Prelude.{◌≡◌, true, map, IfOk};
 ghost use Rattle.std.specs.List.{list_all};
 ghost use Rattle.oa_simulation.specs.sim_relation.Callers.{replies_of};
 ghost use Rattle.replay_logs.specs.UnderWay.{entry_replies};
-ghost use Rattle.replay_logs.specs.Logged.{is_sized_reply};
+ghost use Rattle.norm_lang.specs.Limits.{is_reply};
 
 use core_entries::Entry;
 use norm_lang::list::Listed;
@@ -14,7 +14,7 @@ use std::alloc::{AllocError, Global};
 /// The same reply, whose number is one of its type.
 fn numbered(reply: SourceReply) -> SourceReply
     ensures same { result ≡ reply }
-    ensures sized { is_sized_reply result ≡ true }
+    ensures sized { is_reply result ≡ true }
 {
     reply
 }
@@ -22,7 +22,7 @@ fn numbered(reply: SourceReply) -> SourceReply
 /// Replies in order.
 fn copied(alloc: Global, replies: &[SourceReply]) -> Result<Listed<SourceReply>, AllocError>
     ensures same { IfOk result (λ list. list ≡ replies.now) }
-    ensures sized { IfOk result (λ list. list_all is_sized_reply list ≡ true) }
+    ensures sized { IfOk result (λ list. list_all is_reply list ≡ true) }
 {
     let mut list = Listed::empty(alloc);
     for reply in replies {
@@ -34,7 +34,7 @@ fn copied(alloc: Global, replies: &[SourceReply]) -> Result<Listed<SourceReply>,
 /// The replies of an entry.
 fn replies_of(alloc: Global, entry: &Entry) -> Result<Listed<SourceReply>, AllocError>
     ensures same { IfOk result (λ list. list ≡ replies_of entry.now.core) }
-    ensures sized { IfOk result (λ list. list_all is_sized_reply list ≡ true) }
+    ensures sized { IfOk result (λ list. list_all is_reply list ≡ true) }
 {
     copied(alloc, entry.replies())
 }
@@ -45,7 +45,7 @@ pub(crate) fn all_replies(
     entries: &[Entry],
 ) -> Result<Listed<Listed<SourceReply>>, AllocError>
     ensures same { IfOk result (λ lists. lists ≡ map entry_replies entries.now) }
-    ensures sized { IfOk result (λ lists. list_all (list_all is_sized_reply) lists ≡ true) }
+    ensures sized { IfOk result (λ lists. list_all (list_all is_reply) lists ≡ true) }
 {
     let mut lists = Listed::empty(alloc);
     for entry in entries {

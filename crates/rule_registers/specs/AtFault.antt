@@ -1,5 +1,5 @@
 -- Which register is at fault where an instruction breaks a rule, by the rule's own definition.
-use Rattle.std.specs.Prelude.{ℕ, Bool, true, false, ◌&&◌, ◌||◌, not, ◌⊎◌, List, Option, IsTrue}
+use Rattle.std.specs.Prelude.{ℕ, Bool, false, ◌&&◌, ◌||◌, not, ◌⊎◌, List, Option, IsTrue}
 use Rattle.std.specs.List.{list_any}
 use Rattle.norm_lang.specs.declared.text.Reg.{Reg}
 use Rattle.norm_lang.specs.declared.text.Reg.TheVariants.{Num, Ref}

@@ -1,5 +1,5 @@
 -- The register that is named where a text is refused.
-use Rattle.std.specs.Prelude.{◌≡◌, ℕ, ◌<◌, Bool, Option, Some, None, slice_get, IsSomeAnd}
+use Rattle.std.specs.Prelude.{◌≡◌, ℕ, ◌<◌, ◌⊎◌, Bool, Option, Some, None, slice_get, IsSomeAnd}
 use Rattle.norm_lang.specs.declared.text.Reg.{Reg}
 use Rattle.norm_lang.specs.declared.text.Text.{Text}
 use Rattle.norm_lang.specs.Kept.{code_of}
@@ -21,6 +21,12 @@ IsFirst P None = (k : ℕ) (r : Reg) → slice_get all_registers k ≡ Some r �
 IsFirst P (Some r) =
     (k : ℕ) × (slice_get all_registers k ≡ Some r) × P r × ((j : ℕ) (s : Reg) → j < k → slice_get all_registers j ≡ Some s → ¬ P s)
 
--- the first register that is at fault by the rule that a refusal names, at the instruction that it names
+-- no rule has this number
+abbrev pub IsNoRule : ℕ → Type 0
+IsNoRule n = (n ≡ 0) ⊎ (15 < n)
+
+-- the first register that is at fault by the rule that a refusal names, at the instruction that it names; none where it names no rule
 abbrev pub IsFirstAtFault : Text → Refusal → Option Reg → Type 0
-IsFirstAtFault text refusal found = (rule : Rule) → rule_number rule ≡ refusal.rule → IsFirst (AtFault rule text refusal.op refusal.wrapup refusal.at) found
+IsFirstAtFault text refusal found =
+    ((rule : Rule) → rule_number rule ≡ refusal.rule → IsFirst (AtFault rule text refusal.op refusal.wrapup refusal.at) found)
+    × (IsNoRule refusal.rule → found ≡ None)

@@ -1,3 +1,4 @@
 pub mod AtFault
 pub mod Blamed
 pub mod First
+pub mod Laws

@@ -2,6 +2,7 @@
 #![tactic(auto)]
 
 mod blaming;
+pub mod laws;
 mod misplaced;
 mod search;
 

@@ -4,9 +4,8 @@ ghost use Rattle.std.specs.Prelude.{◌≡◌};
 ghost use Rattle.std.specs.List.{list_any};
 ghost use Rattle.rule_registers.specs.AtFault.{is_number_at, is_reference_at, is_unlike_at, is_of_unlike_pair, is_wrong_object, is_wrong_operand, is_misplaced, is_computed_with, is_stranger_of, is_retired_wrongly, is_put_into, is_put, is_shown};
 
-use norm_check::kinds::{
-    are_of_two_kinds, field_kind, holds_number, is_unlike, place_kind, root_kind,
-};
+use kind_rules::kinds::{field_kind, place_kind, root_kind};
+use norm_check::kinds::{are_of_two_kinds, holds_number, is_unlike};
 use norm_check::retired::retires_stranger;
 use norm_lang::text::{CasEntry, FieldDecl, FieldKind, Instr, Place, Reg, RootDecl};
 use norm_paths::uses::{holds_reference, same_register};

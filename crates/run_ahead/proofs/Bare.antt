@@ -2,7 +2,7 @@
 use Rattle.std.proofs.Common.{ℕ, ◌≡◌, ◌<◌, ◌∙◌, Bool, true, false, ◌&&◌, List, map, length, Option, Some, sym, ap, subst}
 use Rattle.std.specs.Prelude.{slice_get, option_map, IsTrue}
 use Rattle.std.specs.List.{list_all}
-use Rattle.std.proofs.lemmas.Bool.{and_parts}
+use Rattle.std.proofs.lemmas.Bool.{and_parts, false_from_ne_true}
 use Rattle.std.proofs.lemmas.Option.{slice_get-map}
 use Rattle.norm_lang.specs.declared.text.Instr.{Instr}
 use Rattle.norm_lang.specs.declared.text.Op.{Op}
@@ -12,7 +12,7 @@ use Rattle.norm_lang.specs.InstructionRules.{has_wrong_kind, has_wrong_range}
 use Rattle.norm_lang.specs.Kept.{code_of}
 use Rattle.norm_lang.specs.Limits.{has_between, are_different, are_kinds, are_fields, are_nodes, are_roots, are_ops, owners_of, is_instr, is_method, is_op, IsWithinLimits}
 use Rattle.norm_lang.specs.NormalForm.{N1, N13, IsNormal}
-use Rattle.target_laws.proofs.local_laws.Inside.{refuted, stays_inside}
+use Rattle.target_laws.proofs.local_laws.Inside.{stays_inside}
 use Rattle.target_laws.proofs.local_laws.Settled.{keeps_rule}
 use Rattle.target_code.specs.declared.target.TargetInstr.{TargetInstr}
 use Rattle.target_code.specs.declared.target.TargetInstr.TheVariants.{Plain}
@@ -50,12 +50,12 @@ bare_goes text normal number op wrapup is at to i there goes = (
 
 -- N1
 pub kind_at : (text : Text) → IsNormal text → (number : ℕ) (op : Op) (wrapup : Bool) (at : ℕ) (i : Instr) → slice_get text.ops number ≡ Some op → slice_get (code_of op wrapup) at ≡ Some i → has_wrong_kind text.fields text.roots i ≡ false
-kind_at text normal number op wrapup at i is there = refuted _ (keeps_rule text N1 number op wrapup at i normal is there)
+kind_at text normal number op wrapup at i is there = false_from_ne_true _ (keeps_rule text N1 number op wrapup at i normal is there)
 
 -- and N13
 pub range_at : (text : Text) → IsNormal text → (number : ℕ) (op : Op) (wrapup : Bool) (at : ℕ) (i : Instr) → slice_get text.ops number ≡ Some op → slice_get (code_of op wrapup) at ≡ Some i
     → has_wrong_range text.roots i (length (code_of op wrapup)) ≡ false
-range_at text normal number op wrapup at i is there = refuted _ (keeps_rule text N13 number op wrapup at i normal is there)
+range_at text normal number op wrapup at i is there = false_from_ne_true _ (keeps_rule text N13 number op wrapup at i normal is there)
 
 -- the limits
 pub limits_at : (text : Text) → IsWithinLimits text → (number : ℕ) (op : Op) (wrapup : Bool) (at : ℕ) (i : Instr) → slice_get text.ops number ≡ Some op → slice_get (code_of op wrapup) at ≡ Some i

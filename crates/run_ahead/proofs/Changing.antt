@@ -9,8 +9,8 @@ use Rattle.norm_lang.specs.declared.text.Reg.TheVariants.{Num, Ref}
 use Rattle.norm_lang.specs.declared.registers.Reference.{Reference}
 use Rattle.norm_lang.specs.declared.registers.Registers.{Registers}
 use Rattle.norm_lang.specs.RegisterUse.{is_register_named}
-use Rattle.norm_lang.specs.Registers.{no_reference, number_in, reference_in, with_number, with_reference}
-use Rattle.run_ahead.specs.Agreeing.{StandsFor, Agree, HaveSameSize, node_in, Changes}
+use Rattle.norm_lang.specs.Registers.{no_reference, number_in, reference_in, with_number, with_reference, node_in}
+use Rattle.run_ahead.specs.Agreeing.{StandsFor, Agree, HaveSameSize, Changes}
 
 -- what is put at the same place of two lists of one length, or what stands past both
 put_both : {X Y : Type 0} (P : X → Y → Type 0) (xs : List X) (ys : List Y) (d : ℕ) (x z : X) (y w : Y) → length xs ≡ length ys → P x y → P z w → P (get_or (set xs d x) d z) (get_or (set ys d y) d w)

@@ -10,9 +10,9 @@ use Rattle.norm_lang.specs.declared.registers.Registers.{Registers}
 use Rattle.norm_lang.specs.Kept.{code_of}
 use Rattle.norm_lang.specs.Local.{Spot, local_step}
 use Rattle.norm_lang.specs.RegisterUse.{reads}
-use Rattle.target_laws.specs.local_laws.Settling.{is_end}
 use Rattle.source_machine.specs.declared.event.SourceEvent.TheVariants as events
 use Rattle.norm_lang.specs.declared.reply.SourceReply.TheVariants as replies
+use Rattle.norm_lang.specs.Flow.{is_end}
 use Rattle.source_machine.specs.MethodRuns.{run_begun, run_after}
 use Rattle.source_machine.specs.Run.{is_end_at, is_new_at, is_enabled_for}
 use Rattle.source_machine.specs.declared.state.Stand.TheVariants.{InWrapUp}

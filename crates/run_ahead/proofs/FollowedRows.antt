@@ -11,14 +11,13 @@ use Rattle.norm_lang.specs.declared.text.Text.{Text}
 use Rattle.norm_lang.specs.declared.registers.Registers.{Registers}
 use Rattle.norm_lang.specs.RegisterUse.{reads_at}
 use Rattle.norm_lang.specs.Flow.{state_along, IsPath}
-use Rattle.norm_lang.specs.InstructionRules.{has_wrong_kind}
-use Rattle.norm_lang.specs.Kept.{code_of, holds_reference, IsCarried, IsKept}
+use Rattle.norm_lang.specs.Kept.{holds_reference, IsCarried, IsKept}
 use Rattle.norm_lang.specs.Kinds.{kinds_along, MayHaveKind, MixesKinds}
 use Rattle.norm_lang.specs.LineWords.{item_kind}
 use Rattle.norm_lang.specs.Limits.{IsWithinLimits}
 use Rattle.norm_lang.specs.Local.{Spot}
-use Rattle.norm_lang.specs.NormalForm.{Rule, N1, N2, N3, N4, N5, N6, N7, N8, N9, N10, N11, N12, N13, N14, N15, BreaksRule, IsNormal}
-use Rattle.norm_lang.specs.Registers.{first_registers}
+use Rattle.norm_lang.specs.NormalForm.{IsNormal}
+use Rattle.norm_lang.specs.Registers.{first_registers, node_in}
 use Rattle.closed_tables.specs.Tables.{OpTables}
 use Rattle.closed_tables.proofs.Normal.{tables_show_normal}
 use Rattle.source_machine.specs.declared.event.SourceEvent.{SourceEvent}
@@ -35,7 +34,6 @@ use Rattle.target_code.specs.Barred.{FlawKind, ErasesDifferently, UncheckedUse, 
 use Rattle.target_code.specs.Paths.{TargetPath, target_code_of}
 use Rattle.target_code.specs.Flaws.{clean_after, IsHandedOver, Uses, MayBeUnchecked, NeedsGuard, GuardsKept}
 use Rattle.target_laws.specs.Methods.{Method}
-use Rattle.kind_laws.specs.TargetKinds.{node_in}
 use Rattle.run_ahead.specs.AccessLaws.{AccessFollows}
 use Rattle.run_ahead.specs.Ahead.{IsCompiled, erasing}
 use Rattle.run_ahead.specs.Following.{Walk, generator_walk, Follows}
@@ -46,7 +44,7 @@ use Rattle.run_ahead.proofs.Accesses.{loads_are_followed}
 use Rattle.run_ahead.proofs.Asked.{accesses_find_kinds}
 use Rattle.run_ahead.proofs.Begins.{begins_are_followed}
 use Rattle.run_ahead.proofs.LocalRuns.{passed_checks_confirm}
-use Rattle.run_ahead.proofs.TypedRows.{fields_of, roots, nodes, to, caller_in, some_run, asks_none, asked_of, same_as}
+use Rattle.run_ahead.proofs.TypedRows.{fields_of, roots, nodes, two_of, one_of, SameRegisters, KeepsKinds, two_is_normal, to, caller_in, some_run, asks_none, asked_of, same_as}
 use Rattle.run_ahead.proofs.TypedRuns.{memory_is_typed, callers_are_typed}
 
 -- ---- the text and the target
@@ -59,7 +57,7 @@ abbrev y : Op
 y = record { name = codes "y"; args = 0; generator = loads; wrapup = ReturnNone ∷ [] }
 
 abbrev two : Text
-two = record { kinds = item_kind ∷ codes "pair" ∷ []; fields = fields_of 1; roots = roots; nodes = nodes; ops = y ∷ [] }
+two = two_of y
 
 -- a check stands before the item is read
 abbrev checked : List TargetInstr
@@ -77,7 +75,7 @@ barred = record {
 -- ---- the text is in normal form
 
 abbrev one : Text
-one = record { kinds = item_kind ∷ []; fields = fields_of 0; roots = roots; nodes = []; ops = y ∷ [] }
+one = one_of y
 
 abbrev tables : OpTables
 tables = record {
@@ -108,15 +106,14 @@ mixes_none (suc (suc zero)) (inl several) = asks_none several
 mixes_none (suc (suc zero)) (inr other) = asks_none other.asks_it
 mixes_none (suc (suc (suc n))) mixes = absurd mixes
 
-keeps_kinds : (number : ℕ) (wrapup : Bool) (at : ℕ) → IsSomeAnd (slice_get two.ops number) (λ op. IsSomeAnd (slice_get (code_of op wrapup) at) (λ i. MixesKinds two op wrapup at i)) → ⊥
+keeps_kinds : KeepsKinds y
 keeps_kinds zero false at mixes = mixes_none at mixes
 keeps_kinds zero true zero (inl several) = asks_none several
 keeps_kinds zero true zero (inr other) = asks_none other.asks_it
 keeps_kinds zero true (suc n) mixes = absurd mixes
 keeps_kinds (suc n) wrapup at mixes = absurd mixes
 
-same_registers : (number : ℕ) (wrapup : Bool) (at : ℕ) → IsSomeAnd (slice_get two.ops number) (λ op. IsSomeAnd (slice_get (code_of op wrapup) at) (λ i. IsTrue (has_wrong_kind two.fields two.roots i)))
-    → IsSomeAnd (slice_get one.ops number) (λ op. IsSomeAnd (slice_get (code_of op wrapup) at) (λ i. IsTrue (has_wrong_kind one.fields one.roots i)))
+same_registers : SameRegisters y
 same_registers zero false zero is = is
 same_registers zero false (suc zero) is = is
 same_registers zero false (suc (suc zero)) is = is
@@ -126,24 +123,7 @@ same_registers zero true (suc n) is = absurd is
 same_registers (suc n) wrapup at is = absurd is
 
 two_normal : IsNormal two
-two_normal breach broken = by breach.rule broken
-  where
-    by : (rule : Rule) → IsSomeAnd (slice_get two.ops breach.op) (λ op. IsSomeAnd (slice_get (code_of op breach.wrapup) breach.at) (λ i. BreaksRule rule two op breach.wrapup breach.at i)) → ⊥
-    by N1 is = one_normal (record breach { rule = N1 }) (same_registers breach.op breach.wrapup breach.at is)
-    by N2 is = one_normal (record breach { rule = N2 }) is
-    by N3 is = one_normal (record breach { rule = N3 }) is
-    by N4 is = one_normal (record breach { rule = N4 }) is
-    by N5 is = one_normal (record breach { rule = N5 }) is
-    by N6 is = one_normal (record breach { rule = N6 }) is
-    by N7 is = one_normal (record breach { rule = N7 }) is
-    by N8 is = one_normal (record breach { rule = N8 }) is
-    by N9 is = one_normal (record breach { rule = N9 }) is
-    by N10 is = one_normal (record breach { rule = N10 }) is
-    by N11 is = one_normal (record breach { rule = N11 }) is
-    by N12 is = one_normal (record breach { rule = N12 }) is
-    by N13 is = one_normal (record breach { rule = N13 }) is
-    by N14 is = one_normal (record breach { rule = N14 }) is
-    by N15 is = keeps_kinds breach.op breach.wrapup breach.at is
+two_normal = two_is_normal y one_normal same_registers keeps_kinds
 
 within : IsWithinLimits two
 within = refl

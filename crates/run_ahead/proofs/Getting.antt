@@ -16,6 +16,7 @@ use Rattle.norm_lang.specs.Kept.{code_of, IsCarried}
 use Rattle.norm_lang.specs.Local.{Spot, local_step}
 use Rattle.norm_lang.specs.PathRules.{follows}
 use Rattle.norm_lang.specs.RegisterUse.{same_register, set_after, destination, sets, reads, reads_at, ComesUnset}
+use Rattle.norm_lang.specs.Registers.{node_in}
 use Rattle.source_machine.specs.MethodRuns.{with_name}
 use Rattle.source_machine.specs.Proper.{has}
 use Rattle.source_machine.proofs.Places.{same_test}
@@ -29,10 +30,11 @@ use Rattle.target_laws.specs.Places.{source_path}
 use Rattle.target_laws.proofs.InText.{paths_are_in_text, set_in_source}
 use Rattle.target_laws.proofs.KeptRules.{kept_are_left}
 use Rattle.target_laws.proofs.Redirected.{reads_redirected}
-use Rattle.run_ahead.specs.Agreeing.{node_in, Changes}
+use Rattle.run_ahead.specs.Agreeing.{Changes}
 use Rattle.run_ahead.specs.Ahead.{IsErased}
 use Rattle.run_ahead.specs.Known.{IsGot, is_set_in, AreGot}
 use Rattle.run_ahead.proofs.Plain.{at_place, kind_right}
+use Rattle.closed_tables.proofs.Tests.{other_holds}
 
 -- ---- lists of names
 
@@ -49,10 +51,6 @@ more_got (suc m) got n (inr among) = inr (or_right (suc m == n) (has n got) amon
 
 -- ---- an instruction of the source
 
-or_true : (a b : Bool) → (a || b) ≡ true → a ≡ false → b ≡ true
-or_true true b is other = absurd (let no : true ≡ false = other in cc)
-or_true false b is other = is
-
 set_after_plain : {target : Target} {text : Text} (method : Method target text) (path : List ℕ) (at : ℕ) (i : Instr) (r : ℕ) → slice_get (code_in method) at ≡ Some (Plain i) → is_set_in method (at ∷ path) r ≡ (sets (Ref r) i || is_set_in method path r)
 set_after_plain method path at i r is = ap (λ o. passed (over_plain (set_after (Ref r))) o (is_set_in method path r)) is
 
@@ -67,7 +65,7 @@ plain_got method home Set path at i given here mirror here' mirror' started got 
   where
     by_set : (r : ℕ) (b : Bool) → sets (Ref r) i ≡ b → (sets (Ref r) i || is_set_in method path r) ≡ true → IsGot got' (node_in mirror' r)
     by_set r true named was = elim (changes.gives r named) [ inl null ↦ inl null | inr same ↦ subst (IsGot got') (sym same) (given_is r named) ]
-    by_set r false named was = subst (IsGot got') (sym (changes.leaves r named)) (more (node_in mirror r) (a.set r (or_true (sets (Ref r) i) (is_set_in method path r) was named)))
+    by_set r false named was = subst (IsGot got') (sym (changes.leaves r named)) (more (node_in mirror r) (a.set r (other_holds (sets (Ref r) i) (is_set_in method path r) was named)))
 
 -- ---- a local instruction
 

@@ -11,6 +11,7 @@ use Rattle.norm_lang.specs.declared.registers.Registers.{Registers}
 use Rattle.norm_lang.specs.Flow.{passed}
 use Rattle.norm_lang.specs.Grammar.{is_new}
 use Rattle.norm_lang.specs.RegisterUse.{sets, destination}
+use Rattle.norm_lang.specs.Registers.{node_in}
 use Rattle.target_code.specs.declared.target.TargetInstr.{TargetInstr}
 use Rattle.target_code.specs.declared.target.TargetInstr.TheVariants.{Plain, Check, Guard}
 use Rattle.target_code.specs.declared.target.Target.{Target}
@@ -18,7 +19,7 @@ use Rattle.target_code.specs.Flaws.{GuardState, Free, Published, Validated, Drop
 use Rattle.target_code.specs.Paths.{target_sets}
 use Rattle.target_laws.specs.Methods.{Method, code_in}
 use Rattle.target_laws.specs.Uses.{guard_along}
-use Rattle.run_ahead.specs.Agreeing.{node_in, Changes}
+use Rattle.run_ahead.specs.Agreeing.{Changes}
 use Rattle.run_ahead.specs.Guards.{GuardRow, no_guards, validated, published, guards_after, GuardStands, GuardsStand}
 
 plain_stands : (set made : Bool) (was : GuardState) (registers registers' : Registers) (row : GuardRow) (r : ℕ) → (set ≡ false → node_in registers' r ≡ node_in registers r)

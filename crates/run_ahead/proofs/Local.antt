@@ -8,6 +8,7 @@ use Rattle.norm_lang.specs.declared.text.Text.{Text}
 use Rattle.norm_lang.specs.declared.registers.Registers.{Registers}
 use Rattle.norm_lang.specs.Local.{Spot, local_step, local_at}
 use Rattle.norm_lang.specs.RegisterUse.{destination}
+use Rattle.norm_lang.specs.Registers.{node_in}
 use Rattle.target_laws.specs.local_laws.Settling.{next_spot}
 use Rattle.target_laws.proofs.local_laws.Bounded.{settles_next}
 use Rattle.target_laws.proofs.local_laws.Settled.{step_goes}
@@ -16,7 +17,7 @@ use Rattle.target_code.specs.declared.target.Target.{Target}
 use Rattle.target_code.specs.Erasing.{source_place}
 use Rattle.target_laws.specs.Methods.{Method, code_in, source_in}
 use Rattle.target_laws.specs.Trusted.{Trusted, trust_in_set, trust_along}
-use Rattle.run_ahead.specs.Agreeing.{Mirrors, node_in, Changes}
+use Rattle.run_ahead.specs.Agreeing.{Mirrors, Changes}
 use Rattle.run_ahead.specs.Ahead.{AsTrusted, IsHeld, IsCompiled, erasing, Ahead}
 use Rattle.run_ahead.proofs.Mirroring.{mirrored}
 use Rattle.run_ahead.proofs.Plain.{at_place, kind_right, trusted_at, agrees_at, plain_keeps}

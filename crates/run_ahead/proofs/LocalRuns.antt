@@ -1,5 +1,5 @@
 -- The source's caller follows the core's local code, a check that passes, a guard and a warning.
-use Rattle.std.proofs.Common.{◌≡◌, ℕ, zero, suc, Bool, true, false, List, [], ◌∷◌, ◌++◌, length, Option, Some, None, refl, sym, ap, subst, ◌∙◌}
+use Rattle.std.proofs.Common.{◌≡◌, ℕ, zero, suc, Bool, false, List, [], ◌∷◌, ◌++◌, length, Option, Some, None, refl, sym, ap, subst, ◌∙◌}
 use Rattle.std.specs.Prelude.{slice_get, if◌then◌else◌}
 use Rattle.norm_lang.specs.declared.text.Instr.{Instr}
 use Rattle.norm_lang.specs.declared.text.Instr.TheVariants as instr
@@ -7,6 +7,7 @@ use Rattle.norm_lang.specs.declared.text.Text.{Text}
 use Rattle.norm_lang.specs.declared.registers.Registers.{Registers}
 use Rattle.norm_lang.specs.Grammar.{is_new}
 use Rattle.norm_lang.specs.Local.{Spot, go_on, local_step}
+use Rattle.norm_lang.specs.Registers.{node_in}
 use Rattle.source_machine.specs.declared.state.SourceCaller.{SourceCaller}
 use Rattle.target_code.specs.declared.target.TargetInstr.{TargetInstr}
 use Rattle.target_code.specs.declared.target.TargetInstr.TheVariants.{Plain, Check, Guard}
@@ -15,11 +16,9 @@ use Rattle.target_code.specs.LocalCode.{target_local_at, target_next_spot, targe
 use Rattle.target_laws.specs.Methods.{code_in}
 use Rattle.target_laws.proofs.InText.{paths_lead_inside}
 use Rattle.target_laws.proofs.TargetSettled.{target_code_settles, target_settles_inside}
-use Rattle.run_ahead.specs.Agreeing.{node_in}
 use Rattle.run_ahead.specs.Ahead.{IsCompiled, erasing, Ahead}
 use Rattle.run_ahead.specs.Following.{Walk, HasBegun, Follows}
 use Rattle.run_ahead.specs.Guards.{no_guards, GuardsStand}
-use Rattle.run_ahead.specs.Standing.{stands_at}
 use Rattle.run_ahead.specs.LocalLaws.{RunsTo, RunsOn, LocalRunsAreFollowed, PassedChecksConfirm, GuardsPublish, WarnedAreFollowed}
 use Rattle.run_ahead.proofs.Getting.{local_got, check_got, guard_got}
 use Rattle.run_ahead.proofs.GuardRows.{plain_guards, check_guards, guard_guards}
@@ -33,16 +32,6 @@ use Rattle.run_ahead.proofs.Telling.{told_hoped}
 pub same_stand : {target : Target} {text : Text} (walk : Walk target text) (home : ℕ → ℕ) (calm calm' : Type 0) (path path' : List ℕ) (core core' : Spot) (mirror mirror' : Registers) (accessed : Bool) (caller : SourceCaller)
     → (f : Follows walk home calm path core mirror accessed caller) → Ahead walk.method home calm' path' core' mirror' f.there → Follows walk home calm' path' core' mirror' accessed caller
 same_stand walk home calm calm' path path' core core' mirror mirror' accessed caller f ahead = record { there = f.there; begun = f.begun; stands = f.stands; unmoved = f.unmoved; ahead = ahead }
-
--- what the core keeps of accesses doesn't matter to a generator
-pub generator_keeps_none : {target : Target} {text : Text} (walk : Walk target text) (home : ℕ → ℕ) (calm : Type 0) (path : List ℕ) (core : Spot) (mirror : Registers) (accessed accessed' : Bool) (caller : SourceCaller)
-    → walk.method.wrapup ≡ false → Follows walk home calm path core mirror accessed caller → Follows walk home calm path core mirror accessed' caller
-generator_keeps_none walk home calm path core mirror accessed accessed' caller generator f =
-    record { there = f.there; begun = f.begun; ahead = f.ahead; stands = f.stands ∙ by walk.method.wrapup generator; unmoved = λ wrapup still. absurd (let never : true ≡ false = sym wrapup ∙ generator in cc) }
-  where
-    by : (b : Bool) → b ≡ false → stands_at walk.method.op b walk.started accessed walk.call f.there ≡ stands_at walk.method.op b walk.started accessed' walk.call f.there
-    by false is = refl
-    by true is = absurd (let never : true ≡ false = is in cc)
 
 -- a generator's walk begins without names
 pub walk_is_blank : {target : Target} {text : Text} (walk : Walk target text) (home : ℕ → ℕ) → HasBegun walk home → walk.method.wrapup ≡ false → (r : ℕ) → node_in walk.started r ≡ 0

@@ -10,12 +10,12 @@ use Rattle.norm_lang.specs.declared.text.Instr.{Instr}
 use Rattle.norm_lang.specs.declared.text.Instr.TheVariants as instr
 use Rattle.norm_lang.specs.declared.registers.Reference.{Reference}
 use Rattle.norm_lang.specs.declared.registers.Registers.{Registers}
-use Rattle.norm_lang.specs.Registers.{no_reference, number_in, reference_in, with_number, with_reference, same_bool, same_reference, are_equal}
+use Rattle.norm_lang.specs.Registers.{no_reference, number_in, reference_in, with_number, with_reference, same_bool, same_reference, are_equal, node_in}
 use Rattle.norm_lang.specs.Local.{Spot, goes, local_step, remainder}
 use Rattle.norm_lang.specs.InstructionRules.{has_wrong_kind}
 use Rattle.norm_lang.specs.RegisterUse.{same_register, destination, reads}
 use Rattle.target_code.specs.Erasing.{redirected}
-use Rattle.run_ahead.specs.Agreeing.{StandsFor, Agree, HaveSameSize, node_in, Changes, Mirrors}
+use Rattle.run_ahead.specs.Agreeing.{StandsFor, Agree, HaveSameSize, Changes, Mirrors}
 use Rattle.run_ahead.proofs.Changing.{nothing_changes, number_changes, put_same, reference_changes, put_stands}
 
 -- ---- what a register that agrees holds

@@ -12,6 +12,7 @@ use Rattle.norm_lang.specs.declared.text.Text.{Text}
 use Rattle.norm_lang.specs.Grammar.{is_new}
 use Rattle.norm_lang.specs.Kept.{IsKept}
 use Rattle.norm_lang.specs.NormalForm.{N3}
+use Rattle.norm_lang.specs.Registers.{node_in}
 use Rattle.target_code.specs.declared.target.TargetInstr.TheVariants.{Plain, Check, Guard}
 use Rattle.target_code.specs.declared.target.Target.{Target}
 use Rattle.target_code.specs.Keeping.{carries}
@@ -23,7 +24,6 @@ use Rattle.target_laws.specs.Uses.{is_clean_along}
 use Rattle.target_laws.proofs.TextRules.{keeps_at}
 use Rattle.target_laws.proofs.Trusts.{trust_is_known}
 use Rattle.target_laws.proofs.Used.{kept_are_not_guarded}
-use Rattle.run_ahead.specs.Agreeing.{node_in}
 use Rattle.run_ahead.specs.Ahead.{IsErased, erasing}
 use Rattle.run_ahead.specs.Guards.{no_guards}
 use Rattle.run_ahead.specs.Known.{IsGot, is_set_in, IsNameKept}

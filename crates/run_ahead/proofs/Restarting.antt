@@ -10,7 +10,8 @@ use Rattle.norm_lang.specs.declared.registers.Registers.{Registers}
 use Rattle.norm_lang.specs.Kept.{code_of}
 use Rattle.norm_lang.specs.Local.{Spot}
 use Rattle.norm_lang.specs.Registers.{first_registers}
-use Rattle.target_laws.specs.local_laws.Settling.{is_access, is_end, may_stop}
+use Rattle.norm_lang.specs.Flow.{is_end}
+use Rattle.target_laws.specs.local_laws.Settling.{is_access, may_stop}
 use Rattle.target_laws.proofs.local_laws.Inside.{settles_inside}
 use Rattle.source_machine.specs.declared.event.SourceEvent.TheVariants as events
 use Rattle.source_machine.specs.MethodRuns.{run_begun}

@@ -9,9 +9,10 @@ use Rattle.norm_lang.specs.declared.registers.Registers.{Registers}
 use Rattle.norm_lang.specs.Kept.{code_of}
 use Rattle.norm_lang.specs.Local.{Spot}
 use Rattle.norm_lang.specs.Registers.{first_registers}
-use Rattle.target_laws.specs.local_laws.Settling.{is_access, is_end}
+use Rattle.target_laws.specs.local_laws.Settling.{is_access}
 use Rattle.source_machine.specs.declared.event.SourceEvent.TheVariants as events
 use Rattle.norm_lang.specs.declared.reply.SourceReply.{SourceReply}
+use Rattle.norm_lang.specs.Flow.{is_end}
 use Rattle.source_machine.specs.Memory.{access_at}
 use Rattle.source_machine.specs.Run.{is_end_at}
 use Rattle.source_machine.specs.declared.state.Stand.{Stand}

@@ -10,7 +10,7 @@ use Rattle.norm_lang.specs.declared.text.Text.{Text}
 use Rattle.norm_lang.specs.declared.registers.Registers.{Registers}
 use Rattle.norm_lang.specs.Local.{Spot}
 use Rattle.norm_lang.specs.NormalForm.{IsNormal}
-use Rattle.norm_lang.specs.Registers.{no_reference, first_registers, with_count, reference_in}
+use Rattle.norm_lang.specs.Registers.{no_reference, first_registers, with_count, reference_in, node_in}
 use Rattle.norm_lang.specs.RegisterUse.{same_register}
 use Rattle.target_laws.proofs.local_laws.Settled.{local_code_settles}
 use Rattle.target_code.specs.declared.target.TargetInstr.TheVariants.{Plain}
@@ -18,7 +18,7 @@ use Rattle.target_code.specs.declared.target.Target.{Target}
 use Rattle.target_laws.specs.Methods.{Method, code_in, generator_of, wrapup_of}
 use Rattle.target_laws.specs.Trusted.{Trusted, Spoilt, trust_at_start, trust_along, carried_in}
 use Rattle.target_laws.proofs.Trusts.{carried_are_trusted}
-use Rattle.run_ahead.specs.Agreeing.{Agree, node_in, Changes}
+use Rattle.run_ahead.specs.Agreeing.{Agree, Changes}
 use Rattle.run_ahead.specs.Ahead.{AsTrusted, IsHeld, IsCompiled, IsStart, Ahead}
 use Rattle.run_ahead.specs.Standing.{first_spot, run_from}
 use Rattle.run_ahead.proofs.Changing.{number_changes, put_same}

@@ -9,7 +9,7 @@ use Rattle.norm_lang.specs.declared.text.Place.{Place}
 use Rattle.norm_lang.specs.declared.text.Place.TheVariants as places
 use Rattle.norm_lang.specs.declared.text.CasEntry.{CasEntry}
 use Rattle.norm_lang.specs.declared.registers.Registers.{Registers}
-use Rattle.norm_lang.specs.Registers.{reference_in}
+use Rattle.norm_lang.specs.Registers.{reference_in, node_in}
 use Rattle.norm_lang.specs.RegisterUse.{same_register, operands_of}
 use Rattle.source_machine.specs.Memory.{value_in, same_value, found_at, exchange_on, exchange}
 use Rattle.source_machine.specs.MethodRuns.{name_in}
@@ -18,7 +18,7 @@ use Rattle.source_machine.specs.declared.state.Value.TheVariants.{Number, Node}
 use Rattle.source_machine.specs.declared.state.Memory.{Memory}
 use Rattle.target_laws.proofs.Entries.{reads_entry, entries_are_validated}
 use Rattle.run_ahead.specs.AccessLaws.{has_null_object, succeeds_on, IsCompared, TestsAgree, OperandsAgree}
-use Rattle.run_ahead.specs.Agreeing.{Agree, AreApart, node_in}
+use Rattle.run_ahead.specs.Agreeing.{Agree, AreApart}
 use Rattle.run_ahead.specs.Guards.{GuardStands}
 use Rattle.run_ahead.specs.Standing.{ValuesAgree}
 use Rattle.run_ahead.proofs.Mirroring.{same_itself, same_test, same_references}
@@ -37,10 +37,6 @@ values_agree home (Number n) (Node y) here mirror expected found agree apart = a
 values_agree home (Node x) (Number m) here mirror expected found agree apart = absurd found
 
 -- ---- operands
-
--- the object is one
-object_is_operand : (a : Reg) (f : ℕ) (entry : CasEntry) → entry.place ≡ places.Field a f → IsTrue (list_any (same_register a) (operands_of entry))
-object_is_operand a f entry is = subst (λ (place : Place). IsTrue (list_any (same_register a) (operands_of (record entry { place = place })))) (sym is) (or_left (same_register a a) _ (same_itself a))
 
 -- and so is what is expected
 expected_at : (place : Place) (entry : CasEntry) → IsTrue (list_any (same_register entry.expected) (operands_of (record entry { place = place })))

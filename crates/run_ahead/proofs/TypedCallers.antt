@@ -1,8 +1,8 @@
 -- Registers stay typed along a method of a text in normal form: by local code, by accesses, over a commit.
 use Rattle.std.proofs.Common.{◌≡◌, ℕ, zero, suc, ◌+◌, ◌<◌, ◌⊎◌, inl, inr, ⊎_elim, ◌&&◌, ◌||◌, Bool, true, false, List, [], ◌∷◌, length, take, drop, Option, Some, None, refl, sym, ap, subst, ◌∙◌, arith}
-use Rattle.std.specs.Prelude.{slice_get, option_map, unwrap_or, ◌==◌, nat_le, nat_lt, not, IsTrue}
+use Rattle.std.specs.Prelude.{slice_get, option_map, unwrap_or, ◌==◌, nat_le, nat_lt, IsTrue}
 use Rattle.std.specs.List.{list_any}
-use Rattle.std.proofs.lemmas.Bool.{and_parts, or_left, or_right, eq-eqb, leb-true}
+use Rattle.std.proofs.lemmas.Bool.{and_parts, or_left, or_right, eq-eqb, leb-true, not-false}
 use Rattle.std.proofs.lemmas.Option.{same_Some}
 use Rattle.norm_lang.specs.declared.text.Reg.{Reg}
 use Rattle.norm_lang.specs.declared.text.Reg.TheVariants.{Num, Ref}
@@ -24,7 +24,7 @@ use Rattle.norm_lang.specs.Bounds.{most_picked}
 use Rattle.norm_lang.specs.Limits.{is_register, is_instr, IsWithinLimits}
 use Rattle.norm_lang.specs.Local.{Spot, remainder, local_at, local_run, go_on}
 use Rattle.norm_lang.specs.NormalForm.{IsNormal}
-use Rattle.norm_lang.specs.Registers.{no_reference, first_registers, number_in, with_reference, with_count}
+use Rattle.norm_lang.specs.Registers.{no_reference, first_registers, number_in, with_reference, with_count, node_in}
 use Rattle.norm_lang.specs.RegisterUse.{is_register_named, destination}
 use Rattle.target_laws.specs.local_laws.Settling.{next_spot}
 use Rattle.target_laws.proofs.local_laws.Settled.{next_goes}
@@ -41,7 +41,6 @@ use Rattle.kind_laws.specs.TargetKinds.{MayHaveInTarget}
 use Rattle.kind_laws.proofs.Closed.{kept_kind}
 use Rattle.kind_laws.proofs.InText.{asked_kinds_are_named}
 use Rattle.kind_laws.proofs.Typed.{local_code_keeps, loads_keep, new_nodes_keep, commits_carry, restarts_keep}
-use Rattle.run_ahead.specs.Agreeing.{node_in}
 use Rattle.bare_targets.specs.Bare.{bare_op, bare}
 use Rattle.run_ahead.specs.Typed.{IsNodeOf, IsOfKind, IsRegisterFor, IsTyped, KindsStay, AreAsked, AreAskedBy}
 use Rattle.run_ahead.specs.TypedCallers.{HasKinds, AreTypedAmong, StandsTyped}
@@ -114,10 +113,6 @@ taken_refers [] (suc n) j t lt is = absurd (let no : false ≡ true = is in cc)
 taken_refers (root ∷ roots) (suc n) zero t lt is = or_left (root_refers t root) (list_any (root_refers t) (take n roots)) is
 taken_refers (root ∷ roots) (suc n) (suc j) t lt is =
     let less : j < n = omega (arith, lt) in or_right (root_refers t root) (list_any (root_refers t) (take n roots)) (taken_refers roots n j t less is)
-
-not_false : (b : Bool) → not b ≡ false → b ≡ true
-not_false true is = refl
-not_false false is = absurd (let never : true ≡ false = is in cc)
 
 next_place : (at : ℕ) → (((at + 1) == (at + 1)) || false) ≡ true
 next_place at = or_left ((at + 1) == (at + 1)) false (eq-eqb (at + 1) (at + 1) refl)
@@ -273,7 +268,7 @@ module _ (text : Text) (normal : IsNormal text) (within : IsWithinLimits text) (
         stands = load_stands at i d (root_kind text.roots (x + remainder (number_in registers a) n)) (loaded text i registers memory) memory.nodes registers there (next_place at) refl
             (pick_gives d a x n (remainder (number_in registers a) n) (remains_below (number_in registers a) n some))
             (pick_finds text d x n a registers memory (kind_at text normal number op wrapup at i is there)
-            (not_false (are_roots_of_one_kind text.roots x n) (range_at text normal number op wrapup at i is there)) typed) stands;
+            (not-false (are_roots_of_one_kind text.roots x n) (range_at text normal number op wrapup at i is there)) typed) stands;
       }
   access_comes name (instr.LoadField d a f) at registers memory there named typed stands = record {
     typed = typed;

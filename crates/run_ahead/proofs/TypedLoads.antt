@@ -1,7 +1,8 @@
 -- What a load finds in typed memory is of its register's kind.
-use Rattle.std.proofs.Common.{◌≡◌, ℕ, ◌+◌, Bool, true, false, List, Option, Some, None, refl, subst}
-use Rattle.std.specs.Prelude.{slice_get, not}
+use Rattle.std.proofs.Common.{◌≡◌, ℕ, ◌+◌, List, Option, Some, None, subst}
+use Rattle.std.specs.Prelude.{slice_get}
 use Rattle.std.proofs.lemmas.Option.{same_Some}
+use Rattle.std.proofs.lemmas.Bool.{not-false}
 use Rattle.norm_lang.specs.declared.text.Reg.{Reg}
 use Rattle.norm_lang.specs.declared.text.Reg.TheVariants.{Num, Ref}
 use Rattle.norm_lang.specs.declared.text.FieldKind.{FieldKind}
@@ -38,10 +39,6 @@ of_kind nodes (holdings.Reference k) (Num d) v register value = absurd register
 found_for : (nodes : List NamedNode) (o : Option FieldKind) (d : Reg) (v : Value) → FindsFor nodes o d v → IsValueFor d v
 found_for nodes o d v finds = of_kind nodes finds.0 d v finds.2 finds.3
 
-not_false : (b : Bool) → not b ≡ false → b ≡ true
-not_false true is = refl
-not_false false is = absurd (let never : true ≡ false = is in cc)
-
 pub load_finds : {target : Target} {text : Text} (method : Method target text) → IsErased target text → (at : ℕ) (i : Instr) (d : Reg) (registers : Registers) (memory : Memory) → slice_get (code_in method) at ≡ Some (Plain i)
     → loads_into i ≡ Some d → IsTyped text memory → AreAsked text i memory.nodes registers → IsValueFor d (loaded text i registers memory)
 load_finds {target = target} {text = text} method erased at (instr.LoadRoot e x) d registers memory is loads typed asked =
@@ -51,7 +48,7 @@ load_finds {target = target} {text = text} method erased at (instr.LoadRoot e x)
 load_finds {target = target} {text = text} method erased at (instr.LoadPick e x n a) d registers memory is loads typed asked =
     let form = instructions_are_in_form target text erased.normal erased.erases method at (instr.LoadPick e x n a) is in
     subst (λ r. IsValueFor r (loaded text (instr.LoadPick e x n a) registers memory)) (same_Some e d loads)
-    (found_for memory.nodes (root_kind text.roots (x + remainder (number_in registers a) n)) e _ (pick_finds text e x n a registers memory form.kinds (not_false (are_roots_of_one_kind text.roots x n) form.range) typed))
+    (found_for memory.nodes (root_kind text.roots (x + remainder (number_in registers a) n)) e _ (pick_finds text e x n a registers memory form.kinds (not-false (are_roots_of_one_kind text.roots x n) form.range) typed))
 load_finds {target = target} {text = text} method erased at (instr.LoadField e a f) d registers memory is loads typed asked =
     let form = instructions_are_in_form target text erased.normal erased.erases method at (instr.LoadField e a f) is in
     subst (λ r. IsValueFor r (loaded text (instr.LoadField e a f) registers memory)) (same_Some e d loads)

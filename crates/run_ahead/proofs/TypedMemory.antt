@@ -22,7 +22,7 @@ use Rattle.norm_lang.specs.LineWords.{is_owner}
 use Rattle.norm_lang.specs.RegisterUse.{same_register}
 use Rattle.norm_lang.proofs.FieldPlaces.{place_finds}
 use Rattle.norm_lang.specs.declared.registers.Registers.{Registers}
-use Rattle.norm_lang.specs.Registers.{reference_in, number_in}
+use Rattle.norm_lang.specs.Registers.{reference_in, number_in, node_in}
 use Rattle.norm_lang.specs.Local.{remainder}
 use Rattle.norm_lang.specs.InstructionRules.{field_kind, root_kind, place_kind, is_unlike, has_wrong_object, has_wrong_operand, has_wrong_kind, are_roots_of_one_kind, is_of_kind, same_kind}
 use Rattle.norm_lang.specs.Grammar.{is_new}
@@ -34,7 +34,6 @@ use Rattle.source_machine.specs.declared.state.Memory.{Memory}
 use Rattle.source_machine.specs.Memory.{value_in, value_at, same_value, blank_of, blank_field, blank_fields, null_fields, fields_named, kind_named, with_field, with_place, found_at, with_name_retired, with_retired, exchange_on, exchange, auxiliary, access_by, loaded}
 use Rattle.source_machine.specs.Run.{is_name}
 use Rattle.source_machine.proofs.Places.{kinds_set, kind_new_other, kind_is_named}
-use Rattle.run_ahead.specs.Agreeing.{node_in}
 use Rattle.run_ahead.specs.Typed.{IsNodeOf, IsOfKind, AreOfKinds, IsRegisterFor, field_kinds, root_kinds, AreTypedNodes, IsTyped, KindsStay, AreAsked, AreAskedBy}
 
 -- ---- names keep their kinds

@@ -1,8 +1,8 @@
 -- Worked rows of typed memory on a text of two kinds, an item that refers to a pair: the laws' premises can be met, memory and
 -- registers that mix the kinds aren't typed, and what an access asks is told.
-use Rattle.std.proofs.Common.{◌≡◌, ◌≢◌, ℕ, zero, suc, ◌⊎◌, inl, inr, ⊎_elim, ◌&&◌, ◌||◌, Bool, true, false, List, [], ◌∷◌, Option, Some, None, refl, sym, ap, subst, ◌∙◌, arith}
+use Rattle.std.proofs.Common.{◌≡◌, ◌≢◌, ℕ, zero, suc, inl, inr, ⊎_elim, ◌&&◌, ◌||◌, Bool, true, false, List, [], ◌∷◌, Option, Some, None, refl, sym, ap, subst, ◌∙◌, arith}
 use Rattle.std.specs.Prelude.{codes, slice_get, unwrap_or, is_some, ◌==◌, IsTrue, IsSomeAnd}
-use Rattle.std.proofs.lemmas.Bool.{and_parts}
+use Rattle.std.proofs.lemmas.Bool.{and_parts, or_cases}
 use Rattle.std.proofs.lemmas.Bool.Decides.{nat_tests}
 use Rattle.std.proofs.lemmas.Option.{same_Some}
 use Rattle.norm_lang.specs.declared.text.Reg.TheVariants.{Num, Ref}
@@ -22,7 +22,7 @@ use Rattle.norm_lang.specs.declared.registers.Reference.{Reference}
 use Rattle.norm_lang.specs.Flow.{goes_from, IsPath}
 use Rattle.norm_lang.specs.InstructionRules.{has_wrong_kind}
 use Rattle.norm_lang.specs.Kept.{code_of}
-use Rattle.norm_lang.specs.Kinds.{none_held, kinds_along, asks, MayHaveKind, MixesKinds}
+use Rattle.norm_lang.specs.Kinds.{none_held, kinds_along, MayHaveKind, MixesKinds}
 use Rattle.norm_lang.specs.LineWords.{item_kind}
 use Rattle.norm_lang.specs.Limits.{IsWithinLimits}
 use Rattle.norm_lang.specs.NormalForm.{Rule, N1, N2, N3, N4, N5, N6, N7, N8, N9, N10, N11, N12, N13, N14, N15, BreaksRule, IsNormal}
@@ -66,8 +66,15 @@ x = record { name = codes "x"; args = 0; generator = makes; wrapup = ReturnNone 
 abbrev pub nodes : List NodeDecl
 nodes = record { owner = 0; values = starts.Node 2 ∷ [] } ∷ record { owner = 1; values = starts.Value 6 ∷ [] } ∷ []
 
+-- a text of the two kinds, and one of a single kind that is else the same
+abbrev pub two_of : Op → Text
+two_of op = record { kinds = item_kind ∷ codes "pair" ∷ []; fields = fields_of 1; roots = roots; nodes = nodes; ops = op ∷ [] }
+
+abbrev pub one_of : Op → Text
+one_of op = record { kinds = item_kind ∷ []; fields = fields_of 0; roots = roots; nodes = []; ops = op ∷ [] }
+
 abbrev two : Text
-two = record { kinds = item_kind ∷ codes "pair" ∷ []; fields = fields_of 1; roots = roots; nodes = nodes; ops = x ∷ [] }
+two = two_of x
 
 within : IsWithinLimits two
 within = refl
@@ -76,7 +83,36 @@ within = refl
 
 -- with one kind it would be, by tables; no rule but N15 asks for the node kind
 abbrev one : Text
-one = record { kinds = item_kind ∷ []; fields = fields_of 0; roots = roots; nodes = []; ops = x ∷ [] }
+one = one_of x
+
+abbrev pub SameRegisters : Op → Type 0
+SameRegisters op =
+    (number : ℕ) (wrapup : Bool) (at : ℕ) → IsSomeAnd (slice_get (two_of op).ops number) (λ o. IsSomeAnd (slice_get (code_of o wrapup) at) (λ i. IsTrue (has_wrong_kind (two_of op).fields (two_of op).roots i)))
+    → IsSomeAnd (slice_get (one_of op).ops number) (λ o. IsSomeAnd (slice_get (code_of o wrapup) at) (λ i. IsTrue (has_wrong_kind (one_of op).fields (one_of op).roots i)))
+
+abbrev pub KeepsKinds : Op → Type 0
+KeepsKinds op = (number : ℕ) (wrapup : Bool) (at : ℕ) → IsSomeAnd (slice_get (two_of op).ops number) (λ o. IsSomeAnd (slice_get (code_of o wrapup) at) (λ i. MixesKinds (two_of op) o wrapup at i)) → ⊥
+
+-- the rules but N1 and N15 find the same in both texts
+pub two_is_normal : (op : Op) → IsNormal (one_of op) → SameRegisters op → KeepsKinds op → IsNormal (two_of op)
+two_is_normal op one_is same keeps breach broken = by breach.rule broken
+  where
+    by : (rule : Rule) → IsSomeAnd (slice_get (two_of op).ops breach.op) (λ o. IsSomeAnd (slice_get (code_of o breach.wrapup) breach.at) (λ i. BreaksRule rule (two_of op) o breach.wrapup breach.at i)) → ⊥
+    by N1 is = one_is (record breach { rule = N1 }) (same breach.op breach.wrapup breach.at is)
+    by N2 is = one_is (record breach { rule = N2 }) is
+    by N3 is = one_is (record breach { rule = N3 }) is
+    by N4 is = one_is (record breach { rule = N4 }) is
+    by N5 is = one_is (record breach { rule = N5 }) is
+    by N6 is = one_is (record breach { rule = N6 }) is
+    by N7 is = one_is (record breach { rule = N7 }) is
+    by N8 is = one_is (record breach { rule = N8 }) is
+    by N9 is = one_is (record breach { rule = N9 }) is
+    by N10 is = one_is (record breach { rule = N10 }) is
+    by N11 is = one_is (record breach { rule = N11 }) is
+    by N12 is = one_is (record breach { rule = N12 }) is
+    by N13 is = one_is (record breach { rule = N13 }) is
+    by N14 is = one_is (record breach { rule = N14 }) is
+    by N15 is = keeps breach.op breach.wrapup breach.at is
 
 abbrev tables : OpTables
 tables = record {
@@ -132,10 +168,6 @@ asked_of r n c k is =
 pub same_as : (t k c : ℕ) → (c == t) ≡ true → c ≡ k → t ≢ k → ⊥
 same_as t k c held asked differs = let has : c ≡ t = grind (arith, nat_tests) in differs (sym has ∙ asked)
 
-either : (a b : Bool) → (a || b) ≡ true → (a ≡ true) ⊎ (b ≡ true)
-either true b is = inl refl
-either false b is = inr is
-
 pub asks_none : {P : Type 0} → false ≡ true → P
 asks_none is = absurd (let no : false ≡ true = is in cc)
 
@@ -156,7 +188,7 @@ mixes_none (suc (suc (suc zero))) (inr other) = ⊎_elim
     (λ (value : ((other.register == 2) && (1 == other.asked)) ≡ true).
     let asked = asked_of other.register 2 1 other.asked value in
     same_as other.kind other.asked 1 (held_there other.register 2 3 other.kind asked.0 other.may) asked.1 other.differs)
-    (either ((other.register == 1) && (0 == other.asked)) ((other.register == 2) && (1 == other.asked)) other.asks_it)
+    (or_cases ((other.register == 1) && (0 == other.asked)) ((other.register == 2) && (1 == other.asked)) other.asks_it)
 mixes_none (suc (suc (suc (suc zero)))) (inl several) = asks_none several
 mixes_none (suc (suc (suc (suc zero)))) (inr other) =
     let asked = asked_of other.register 2 1 other.asked other.asks_it in
@@ -170,9 +202,9 @@ mixes_none (suc (suc (suc (suc (suc zero))))) (inr other) = ⊎_elim
     ⊎_elim
     (λ (expected : (other.register == 0) ≡ true). let is : other.register ≡ 0 = grind (arith, nat_tests) in same_as other.kind other.asked 0 (held_there other.register 0 5 other.kind is other.may) first other.differs)
     (λ (replacement : (other.register == 1) ≡ true). let is : other.register ≡ 1 = grind (arith, nat_tests) in same_as other.kind other.asked 0 (held_there other.register 1 5 other.kind is other.may) first other.differs)
-    (either (other.register == 0) (other.register == 1) parts.0))
+    (or_cases (other.register == 0) (other.register == 1) parts.0))
     (λ (more : false ≡ true). asks_none more)
-    (either (((other.register == 0) || (other.register == 1)) && (0 == other.asked)) false other.asks_it)
+    (or_cases (((other.register == 0) || (other.register == 1)) && (0 == other.asked)) false other.asks_it)
 mixes_none (suc (suc (suc (suc (suc (suc n)))))) mixes = absurd mixes
 
 ends_alone : (at : ℕ) → IsSomeAnd (slice_get (ReturnNone ∷ []) at) (λ i. MixesKinds two x true at i) → ⊥
@@ -180,14 +212,12 @@ ends_alone zero (inl several) = asks_none several
 ends_alone zero (inr other) = asks_none other.asks_it
 ends_alone (suc n) mixes = absurd mixes
 
-keeps_kinds : (number : ℕ) (wrapup : Bool) (at : ℕ) → IsSomeAnd (slice_get two.ops number) (λ op. IsSomeAnd (slice_get (code_of op wrapup) at) (λ i. MixesKinds two op wrapup at i)) → ⊥
+keeps_kinds : KeepsKinds x
 keeps_kinds zero false at mixes = mixes_none at mixes
 keeps_kinds zero true at mixes = ends_alone at mixes
 keeps_kinds (suc n) wrapup at mixes = absurd mixes
 
--- the other rules find the same in both texts
-same_registers : (number : ℕ) (wrapup : Bool) (at : ℕ) → IsSomeAnd (slice_get two.ops number) (λ op. IsSomeAnd (slice_get (code_of op wrapup) at) (λ i. IsTrue (has_wrong_kind two.fields two.roots i)))
-    → IsSomeAnd (slice_get one.ops number) (λ op. IsSomeAnd (slice_get (code_of op wrapup) at) (λ i. IsTrue (has_wrong_kind one.fields one.roots i)))
+same_registers : SameRegisters x
 same_registers zero false zero is = is
 same_registers zero false (suc zero) is = is
 same_registers zero false (suc (suc zero)) is = is
@@ -200,24 +230,7 @@ same_registers zero true (suc n) is = absurd is
 same_registers (suc n) wrapup at is = absurd is
 
 two_normal : IsNormal two
-two_normal breach broken = by breach.rule broken
-  where
-    by : (rule : Rule) → IsSomeAnd (slice_get two.ops breach.op) (λ op. IsSomeAnd (slice_get (code_of op breach.wrapup) breach.at) (λ i. BreaksRule rule two op breach.wrapup breach.at i)) → ⊥
-    by N1 is = one_normal (record breach { rule = N1 }) (same_registers breach.op breach.wrapup breach.at is)
-    by N2 is = one_normal (record breach { rule = N2 }) is
-    by N3 is = one_normal (record breach { rule = N3 }) is
-    by N4 is = one_normal (record breach { rule = N4 }) is
-    by N5 is = one_normal (record breach { rule = N5 }) is
-    by N6 is = one_normal (record breach { rule = N6 }) is
-    by N7 is = one_normal (record breach { rule = N7 }) is
-    by N8 is = one_normal (record breach { rule = N8 }) is
-    by N9 is = one_normal (record breach { rule = N9 }) is
-    by N10 is = one_normal (record breach { rule = N10 }) is
-    by N11 is = one_normal (record breach { rule = N11 }) is
-    by N12 is = one_normal (record breach { rule = N12 }) is
-    by N13 is = one_normal (record breach { rule = N13 }) is
-    by N14 is = one_normal (record breach { rule = N14 }) is
-    by N15 is = keeps_kinds breach.op breach.wrapup breach.at is
+two_normal = two_is_normal x one_normal same_registers keeps_kinds
 
 -- ---- a run of one caller, which makes item 7
 

@@ -1,9 +1,8 @@
 -- The first memory of a text within the limits is typed.
-use Rattle.std.proofs.Common.{◌≡◌, ◌≢◌, ℕ, zero, suc, ◌+◌, ◌<◌, inl, inr, Bool, true, false, List, [], ◌∷◌, map, length, Some, None, refl, ap, ◌∙◌, arith}
+use Rattle.std.proofs.Common.{◌≡◌, ℕ, zero, suc, ◌+◌, ◌<◌, inl, inr, Bool, true, false, List, [], ◌∷◌, map, length, Some, None, refl, ap, ◌∙◌, arith}
 use Rattle.std.specs.Prelude.{slice_get, nat_lt, ◌==◌, if◌then◌else◌}
 use Rattle.std.specs.List.{list_all}
 use Rattle.std.proofs.lemmas.Bool.{and_parts, eqb-true, eq-eqb}
-use Rattle.std.proofs.lemmas.Bool.Decides.{nat_tests}
 use Rattle.norm_lang.specs.declared.text.FieldKind.{FieldKind}
 use Rattle.norm_lang.specs.declared.text.FieldKind.TheVariants as holdings
 use Rattle.norm_lang.specs.declared.text.Start.{Start}
@@ -18,13 +17,11 @@ use Rattle.norm_lang.specs.Limits.{is_root, is_start, are_starts, owners_of, is_
 use Rattle.source_machine.specs.declared.state.NamedNode.{NamedNode}
 use Rattle.source_machine.specs.Memory.{kind_named}
 use Rattle.source_machine.specs.State.{first_value, root_value, named_from, first_memory}
+use Rattle.source_machine.proofs.Places.{other_test}
 use Rattle.run_ahead.specs.Typed.{IsOfKind, AreOfKinds, AreTypedNodes, IsTyped}
 use Rattle.target_laws.proofs.OneKind.{declared, nodes_are, roots_are, root_start}
 
 -- ---- the names of the initial nodes
-
-other_number : (a b : ℕ) → a ≢ b → (a == b) ≡ false
-other_number a b isnt = grind (arith, nat_tests)
 
 -- the initial node with a number, counted from 0, has the name that is so many above the first
 named_at : (first : ℕ) (nodes : List NodeDecl) (j : ℕ) (k : ℕ) → is_owner (slice_get (owners_of nodes) j) k ≡ true → kind_named (first + j) (named_from first nodes) ≡ Some k
@@ -33,7 +30,7 @@ named_at first (node ∷ nodes) zero k is =
     let same : (first == (first + 0)) ≡ true = eq-eqb first (first + 0) (omega arith) in
     ap (λ (b : Bool). if b then Some node.owner else kind_named (first + 0) (named_from (first + 1) nodes)) same ∙ ap Some (eqb-true node.owner k is)
 named_at first (node ∷ nodes) (suc j) k is =
-    let other : (first == (first + suc j)) ≡ false = other_number first (first + suc j) (λ (same : first ≡ first + suc j). let no : ⊥ = omega (arith, same) in no) in
+    let other : (first == (first + suc j)) ≡ false = other_test first (first + suc j) (λ (same : first ≡ first + suc j). let no : ⊥ = omega (arith, same) in no) in
     let next : first + suc j ≡ (first + 1) + j = omega arith in
     ap (λ (b : Bool). if b then Some node.owner else kind_named (first + suc j) (named_from (first + 1) nodes)) other
     ∙ (ap (λ (n : ℕ). kind_named n (named_from (first + 1) nodes)) next ∙ named_at (first + 1) nodes j k is)
@@ -42,7 +39,7 @@ named_at first (node ∷ nodes) (suc j) k is =
 none_below : (first name : ℕ) (nodes : List NodeDecl) → name < first → kind_named name (named_from first nodes) ≡ None
 none_below first name [] lt = refl
 none_below first name (node ∷ nodes) lt =
-    let other : (first == name) ≡ false = other_number first name (λ (same : first ≡ name). let no : ⊥ = omega (arith, same, lt) in no) in
+    let other : (first == name) ≡ false = other_test first name (λ (same : first ≡ name). let no : ⊥ = omega (arith, same, lt) in no) in
     ap (λ (b : Bool). if b then Some node.owner else kind_named name (named_from (first + 1) nodes)) other ∙ none_below (first + 1) name nodes (omega (arith, lt))
 
 -- ---- first values

@@ -12,7 +12,7 @@ use Rattle.norm_lang.specs.declared.text.Text.{Text}
 use Rattle.norm_lang.specs.declared.text.FieldDecl.{FieldDecl}
 use Rattle.norm_lang.specs.declared.registers.Registers.{Registers}
 use Rattle.norm_lang.specs.Local.{Spot}
-use Rattle.norm_lang.specs.Registers.{reference_in, with_reference}
+use Rattle.norm_lang.specs.Registers.{reference_in, with_reference, node_in}
 use Rattle.norm_lang.specs.RegisterUse.{same_register, operands_of, entry_sources}
 use Rattle.source_machine.specs.declared.event.SourceEvent.{SourceEvent}
 use Rattle.source_machine.specs.declared.event.SourceEvent.TheVariants as events
@@ -27,7 +27,7 @@ use Rattle.target_code.specs.declared.target.Target.{Target}
 use Rattle.target_code.specs.declared.target.TargetInstr.TheVariants.{Plain}
 use Rattle.target_laws.specs.Methods.{code_in}
 use Rattle.target_laws.specs.Uses.{entries_of}
-use Rattle.run_ahead.specs.Agreeing.{Agree, AreApart, node_in}
+use Rattle.run_ahead.specs.Agreeing.{Agree, AreApart}
 use Rattle.run_ahead.specs.Ahead.{IsErased, IsCompiled}
 use Rattle.run_ahead.specs.Following.{Walk, Follows}
 use Rattle.run_ahead.specs.Guards.{GuardRow, guards_after, IsUnderGuard, GuardsStand}

@@ -5,7 +5,7 @@ use Rattle.norm_lang.specs.declared.text.Reg.TheVariants.{Num, Ref}
 use Rattle.norm_lang.specs.declared.text.Instr.{Instr}
 use Rattle.norm_lang.specs.declared.registers.Reference.{Reference}
 use Rattle.norm_lang.specs.declared.registers.Registers.{Registers}
-use Rattle.norm_lang.specs.Registers.{number_in, reference_in}
+use Rattle.norm_lang.specs.Registers.{number_in, reference_in, node_in}
 use Rattle.norm_lang.specs.RegisterUse.{is_register_named, destination, reads}
 use Rattle.norm_lang.specs.Local.{Spot, local_step}
 use Rattle.target_code.specs.Erasing.{redirected}
@@ -26,10 +26,6 @@ HaveSameSize here mirror = (length here.numbers ≡ length mirror.numbers) × (l
 -- names with a property have different homes
 abbrev pub AreApart : (ℕ → ℕ) → (ℕ → Type 0) → Type 0
 AreApart home P = (m n : ℕ) → P m → P n → home m ≡ home n → m ≡ n
-
--- the node that a register of references refers to: a slot of the core, a name of the source
-abbrev pub node_in : Registers → ℕ → ℕ
-node_in registers r = (reference_in registers (Ref r)).node
 
 -- both sides change one register at most, and the name that it then holds is null or the given one. `Set` is what is known
 -- of the changed register's agreement

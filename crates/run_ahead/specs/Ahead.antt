@@ -7,6 +7,7 @@ use Rattle.norm_lang.specs.declared.registers.Registers.{Registers}
 use Rattle.norm_lang.specs.Limits.{IsWithinLimits}
 use Rattle.norm_lang.specs.Local.{Spot}
 use Rattle.norm_lang.specs.NormalForm.{IsNormal}
+use Rattle.norm_lang.specs.Registers.{node_in}
 use Rattle.target_laws.specs.local_laws.Settling.{Settles}
 use Rattle.target_code.specs.declared.target.Target.{Target}
 use Rattle.target_code.specs.Barred.{IsBarred}
@@ -14,7 +15,7 @@ use Rattle.target_code.specs.Erasing.{source_place, ErasesTo}
 use Rattle.target_code.specs.Paths.{TargetPath}
 use Rattle.target_laws.specs.Methods.{Method, code_in, source_in}
 use Rattle.target_laws.specs.Trusted.{Trust, Trusted, Unchecked, Spoilt, trust_at_start, carried_in, trust_along}
-use Rattle.run_ahead.specs.Agreeing.{Agree, HaveSameSize, AreApart, node_in}
+use Rattle.run_ahead.specs.Agreeing.{Agree, HaveSameSize, AreApart}
 
 -- a text in normal form (Timnat and Petrank, PPoPP 2014), within the limits, and a target that erases to it
 pub record IsErased (target : Target) (text : Text) : Type 0 where

@@ -6,13 +6,13 @@ use Rattle.norm_lang.specs.declared.text.Reg.TheVariants.{Num, Ref}
 use Rattle.norm_lang.specs.declared.text.Text.{Text}
 use Rattle.norm_lang.specs.declared.registers.Registers.{Registers}
 use Rattle.norm_lang.specs.Grammar.{is_new}
+use Rattle.norm_lang.specs.Registers.{node_in}
 use Rattle.target_code.specs.declared.target.Target.{Target}
 use Rattle.target_code.specs.declared.target.TargetInstr.{TargetInstr}
 use Rattle.target_code.specs.declared.target.TargetInstr.TheVariants.{Plain, Check, Guard}
 use Rattle.target_code.specs.Flaws.{GuardState, Free, Published, Validated, Dropped}
 use Rattle.target_laws.specs.Methods.{Method, code_in}
 use Rattle.target_laws.specs.Uses.{guard_along}
-use Rattle.run_ahead.specs.Agreeing.{node_in}
 
 -- for each register of references the name that its guard publishes, 0 for none, and whether a check after it has passed
 pub record GuardRow : Type 0 where

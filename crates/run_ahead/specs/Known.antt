@@ -4,11 +4,11 @@ use Rattle.norm_lang.specs.declared.text.Reg.TheVariants.{Ref}
 use Rattle.norm_lang.specs.declared.text.Text.{Text}
 use Rattle.norm_lang.specs.declared.registers.Registers.{Registers}
 use Rattle.norm_lang.specs.Kept.{IsKept}
+use Rattle.norm_lang.specs.Registers.{node_in}
 use Rattle.source_machine.specs.Proper.{has}
 use Rattle.target_code.specs.declared.target.Target.{Target}
 use Rattle.target_laws.specs.Methods.{Method, code_in}
 use Rattle.target_code.specs.PathStates.{is_set_along}
-use Rattle.run_ahead.specs.Agreeing.{node_in}
 
 -- null, or a name that the run has got
 abbrev pub IsGot : List ℕ → ℕ → Type 0

@@ -11,10 +11,10 @@ use Rattle.norm_lang.specs.declared.registers.Registers.{Registers}
 use Rattle.norm_lang.specs.Local.{Spot}
 use Rattle.norm_lang.specs.NormalForm.{IsNormal}
 use Rattle.norm_lang.specs.Registers.{first_registers, number_in, with_count}
-use Rattle.target_laws.specs.local_laws.Settling.{is_end}
 use Rattle.source_machine.specs.declared.event.SourceEvent.{SourceEvent}
 use Rattle.source_machine.specs.declared.event.SourceEvent.TheVariants as events
 use Rattle.norm_lang.specs.declared.reply.SourceReply.TheVariants as replies
+use Rattle.norm_lang.specs.Flow.{is_end}
 use Rattle.source_machine.specs.Memory.{exchange}
 use Rattle.source_machine.specs.MethodRuns.{MethodRun, run_begun, run_after}
 use Rattle.source_machine.specs.Run.{is_call, is_enabled_for}

@@ -10,6 +10,7 @@ use Rattle.norm_lang.specs.Kept.{IsKept}
 use Rattle.norm_lang.specs.Limits.{IsWithinLimits}
 use Rattle.norm_lang.specs.Local.{Spot}
 use Rattle.norm_lang.specs.NormalForm.{IsNormal}
+use Rattle.norm_lang.specs.Registers.{node_in}
 use Rattle.target_laws.specs.local_laws.Settling.{is_access}
 use Rattle.source_machine.specs.declared.event.SourceEvent.{SourceEvent}
 use Rattle.source_machine.specs.Run.{IsSourceRun}
@@ -21,7 +22,6 @@ use Rattle.target_code.specs.declared.target.TargetInstr.{TargetInstr}
 use Rattle.target_code.specs.declared.target.TargetInstr.TheVariants.{Plain}
 use Rattle.target_laws.specs.Methods.{Method, code_in}
 use Rattle.target_laws.specs.Trusted.{trust_along}
-use Rattle.run_ahead.specs.Agreeing.{node_in}
 use Rattle.run_ahead.specs.Ahead.{IsHoped, IsErased, IsCompiled}
 use Rattle.run_ahead.specs.Following.{Walk, Follows}
 use Rattle.run_ahead.specs.Guards.{GuardRow, guards_after}

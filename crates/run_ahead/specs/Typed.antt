@@ -10,12 +10,12 @@ use Rattle.norm_lang.specs.declared.text.Text.{Text}
 use Rattle.norm_lang.specs.declared.registers.Registers.{Registers}
 use Rattle.norm_lang.specs.KindFields.{fields_of}
 use Rattle.norm_lang.specs.Kinds.{asks_entry, asks}
+use Rattle.norm_lang.specs.Registers.{node_in}
 use Rattle.source_machine.specs.declared.state.Value.{Value}
 use Rattle.source_machine.specs.declared.state.Value.TheVariants.{Number, Node}
 use Rattle.source_machine.specs.declared.state.NamedNode.{NamedNode}
 use Rattle.source_machine.specs.declared.state.Memory.{Memory}
 use Rattle.source_machine.specs.Memory.{kind_named}
-use Rattle.run_ahead.specs.Agreeing.{node_in}
 
 -- ---- values
 

@@ -1,5 +1,5 @@
 -- The certificate of a document is of the run that its turns give.
-use Rattle.std.proofs.Common.{◌≡◌, ◌∙◌, ◌≤◌, ℕ, List, [], ◌∷◌, length, Option, refl, sym, ap, subst, arith}
+use Rattle.std.proofs.Common.{◌≡◌, ◌∙◌, ◌≤◌, ℕ, List, [], length, refl, sym, ap, subst, arith}
 use Rattle.std.specs.Prelude.{Ok, Err}
 use Rattle.std.specs.List.{list_all}
 use Rattle.std.proofs.lemmas.List.{length-map}
@@ -16,17 +16,14 @@ use Rattle.core_runs.proofs.Replaying.{replays_reach}
 use Rattle.core_runs.proofs.core_sound.Reached.{states_are_sound}
 use Rattle.oa_core.specs.Finals.{replay_limit}
 use Rattle.documents.specs.declared.document.Document.{Document}
-use Rattle.script_plans.specs.declared.fault.ShapeFault.{ShapeFault}
-use Rattle.script_plans.specs.declared.fault.RunFault.{RunFault}
-use Rattle.script_plans.specs.declared.fault.RunFault.TheVariants as faults
 use Rattle.script_plans.specs.declared.plan.Plan.{Plan}
-use Rattle.script_plans.specs.Shapes.{first_of, setting_of}
-use Rattle.script_plans.specs.Plans.{target_of, calls_of, plan_for, IsFaultOf, IsRunnable, IsPlanned, IsReady}
+use Rattle.script_plans.specs.Shapes.{setting_of}
+use Rattle.script_plans.specs.Plans.{target_of, calls_of, plan_for, IsRunnable, IsPlanned, IsReady}
 use Rattle.replay_logs.specs.declared.error.LogError.{LogError}
 use Rattle.replay_logs.specs.declared.error.LogError.TheVariants as errors
 use Rattle.replay_logs.specs.declared.replaying.LoggedRun.{LoggedRun}
 use Rattle.replay_logs.specs.Logged.{TellsRun, IsLogged}
-use Rattle.document_runs.specs.Runs.{IsCompleteRunOf, refusal_fault}
+use Rattle.document_runs.specs.Runs.{IsCompleteRunOf}
 use Rattle.certificates.specs.declared.certificate.Certificate.{Certificate}
 use Rattle.certificates.specs.CertificateLaws.{IsTold}
 use Rattle.event_judge.specs.declared.verdict.Verdict.TheVariants.{Accepted}
@@ -37,20 +34,13 @@ use Rattle.run_judge.specs.Judged.{verdict_of}
 use Rattle.run_judge.specs.Made.{certificate_limit, certificate_replay, plan_logged, certificate_given, fault_of, IsMakingFaultOf, IsCertificateOf}
 use Rattle.run_judge.proofs.Lengthening.{replay_lasts}
 use Rattle.run_judge.proofs.Spelling.{spelled}
-use Rattle.run_judge.proofs.Telling.{begins_call, image_begins, events_so, lists_so}
+use Rattle.run_judge.proofs.Telling.{begins_call, image_begins, events_so}
 
 -- ---- faults
 
--- what is wrong with a document is wrong with its certificate
-pub is_making_fault : (document : Document) (fault : RunFault) → IsFaultOf document fault → IsMakingFaultOf document fault
-is_making_fault document faults.Memory is = tt
-is_making_fault document (faults.Refused refusal) is = is
-is_making_fault document (faults.Shape number at) is = (is.0, ap (λ (shape : Option ShapeFault). first_of (shape ∷ refusal_fault (certificate_given document) ∷ [])) is.1)
-
 not_logged : (document : Document) (text : Text) (error : LogError) → IsRunnable document → IsLogged (certificate_replay document) text (certificate_given document) (Err error) → IsMakingFaultOf document (fault_of error)
 not_logged document text errors.Memory runs given = tt
-not_logged document text (errors.StepOfNobody steps) runs given = (runs.normal, rw (runs.shape, given) refl)
-not_logged document text (errors.LongReplay steps) runs given = (runs.normal, rw (runs.shape, given) refl)
+not_logged document text _ runs given = (runs.normal, rw (runs.shape, given) refl)
 
 pub is_not_logged : (document : Document) (plan : Plan) (text : Text) (error : LogError) → IsPlanned document (Ok plan)
     → IsLogged (plan_logged plan) text (replayed (plan_logged plan) document.schedule) (Err error) → IsMakingFaultOf document (fault_of error)
@@ -97,7 +87,7 @@ module _ (document : Document) (run : LoggedRun) (runs : IsRunnable document) (r
             (stands (core_start (target_of document) (setting_of document)) (record { events = []; runs = refl }))
             (stands tells.replaying.state (record { events = tells.replaying.events; runs = complete.run.runs })));
         lists = lists;
-        replies = sym (lists_so run.replies) ∙ tells.numbers;
+        replies = tells.numbers;
       }
 
   pub certified : IsCertificateOf document (certificate_with document run)

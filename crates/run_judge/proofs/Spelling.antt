@@ -8,10 +8,11 @@ use Rattle.std.proofs.lemmas.List.Quantifiers.{position-Some}
 use Rattle.std.proofs.lemmas.Option.{slice_get_within, get_or_from_slice_get}
 use Rattle.std.proofs.lemmas.Slice.Eq.{bytes_eq-Decides}
 use Rattle.norm_lang.specs.declared.text.Op.{Op}
+use Rattle.norm_lang.specs.Arguments.{padded}
 use Rattle.documents.specs.declared.document.Document.{Document}
 use Rattle.documents.specs.declared.document.ScriptCall.{ScriptCall}
 use Rattle.script_plans.specs.declared.fault.ShapeFault.{ShapeFault}
-use Rattle.script_plans.specs.Shapes.{first_of, padded, op_number, call_fault_at, args_fault, call_fault, script_fault, scripts_fault, setting_fault}
+use Rattle.script_plans.specs.Shapes.{first_of, op_number, call_fault_at, args_fault, call_fault, script_fault, scripts_fault, setting_fault}
 use Rattle.script_plans.specs.Plans.{call_of, calls_of, IsRunnable}
 use Rattle.event_judge.specs.Calls.{is_call_of_op}
 use Rattle.certificate_laws.specs.Certified.{spells, Spell}

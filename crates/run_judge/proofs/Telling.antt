@@ -2,7 +2,7 @@
 use Rattle.std.proofs.Common.{◌≡◌, ◌≤◌, ◌<◌, ◌==◌, ◌&&◌, ◌++◌, ◌∙◌, ℕ, zero, suc, ◌+◌, Bool, true, false, List, [], ◌∷◌, length, take, Option, Some, None, refl, sym, ap, subst, arith, if◌then◌else◌}
 use Rattle.std.specs.Prelude.{slice_get, option_map, nat_lt, nat_le, All}
 use Rattle.std.specs.List.{list_all}
-use Rattle.std.proofs.lemmas.Bool.{and_parts}
+use Rattle.std.proofs.lemmas.Bool.{and_parts, and_from}
 use Rattle.std.proofs.lemmas.Bool.Decides.{nat_tests}
 use Rattle.std.proofs.lemmas.List.Folds.{list_all-append}
 use Rattle.std.proofs.lemmas.Option.{slice_get-map, slice_get_within, get_or_from_slice_get}
@@ -13,8 +13,6 @@ use Rattle.target_code.specs.declared.target.TargetOp.{TargetOp}
 use Rattle.target_code.specs.Erasing.{erased, erased_op}
 use Rattle.source_machine.specs.declared.event.SourceEvent.{SourceEvent}
 use Rattle.source_machine.specs.declared.event.SourceEvent.TheVariants as events
-use Rattle.norm_lang.specs.declared.reply.SourceReply.{SourceReply}
-use Rattle.norm_lang.specs.declared.reply.SourceReply.TheVariants as replies
 use Rattle.source_machine.specs.Run.{mover, is_enabled, is_call as is_source_call, is_call_of as is_source_call_of}
 use Rattle.caller_parts.specs.declared.call.Call.{Call}
 use Rattle.caller_parts.specs.Calls.{is_call, is_call_of, AreCalls}
@@ -32,8 +30,7 @@ use Rattle.oa_simulation.specs.Shadow.{Shadow, is_told, events_if, shadow_step, 
 use Rattle.run_laws.specs.begin_laws.Begins.{begun_by, begun_in, BeginsScript}
 use Rattle.run_laws.proofs.begin_laws.ScriptsBegun.{scripts_begin}
 use Rattle.run_logs.specs.Logged.{is_sized}
-use Rattle.replay_logs.specs.Logged.{is_sized_reply}
-use Rattle.certificates.specs.CertificateLaws.{is_event, is_reply}
+use Rattle.certificates.specs.CertificateLaws.{is_event}
 
 -- ---- the callers of events
 
@@ -47,12 +44,9 @@ event_mover : (c unused : ℕ) (sign : Sign) → mover (event_of c unused sign) 
 event_mover c unused (Begins call) = refl
 event_mover c unused _ = refl
 
-both_true : (a b : Bool) → a ≡ true → b ≡ true → a && b ≡ true
-both_true a b is too = ap (λ (x : Bool). x && b) is ∙ too
-
 added_below : (n : ℕ) (told : Bool) (before : List SourceEvent) (event : SourceEvent) → list_all (is_below n) before ≡ true → is_below n event ≡ true → list_all (is_below n) (events_if told before event) ≡ true
 added_below n false before event all one = all
-added_below n true before event all one = list_all-append (is_below n) before (event ∷ []) ∙ both_true (list_all (is_below n) before) (is_below n event && true) all (both_true (is_below n event) true one refl)
+added_below n true before event all one = list_all-append (is_below n) before (event ∷ []) ∙ and_from (list_all (is_below n) before) (is_below n event && true) all (and_from (is_below n event) true one refl)
 
 shadow_below : (text : Text) (n : ℕ) (xs : List Signed) (z : Shadow) → list_all (is_signed_below n) xs ≡ true → list_all (is_below n) z.events ≡ true → list_all (is_below n) (shadow_run text xs z).events ≡ true
 shadow_below text n [] z all so_far = so_far
@@ -64,7 +58,7 @@ shadow_below text n (x ∷ xs) z all so_far =
 
 signs_of_one : (n c : ℕ) (signs : List Sign) → nat_lt c n ≡ true → list_all (is_signed_below n) (signed c signs) ≡ true
 signs_of_one n c [] lt = refl
-signs_of_one n c (sign ∷ signs) lt = both_true (nat_lt c n) (list_all (is_signed_below n) (signed c signs)) lt (signs_of_one n c signs lt)
+signs_of_one n c (sign ∷ signs) lt = and_from (nat_lt c n) (list_all (is_signed_below n) (signed c signs)) lt (signs_of_one n c signs lt)
 
 -- each caller that has an entry is below
 record AreBelow (n : ℕ) (state : CoreState) : Type 0 where
@@ -96,7 +90,7 @@ signs_below target setting n (event ∷ events) state later below runs =
     of more None goes runs = absurd (let none : None ≡ Some later = runs in cc)
     of more (Some next) goes runs =
         list_all-append (is_signed_below n) (event_signs target setting state event) (run_signs target setting events next)
-        ∙ both_true (list_all (is_signed_below n) (event_signs target setting state event)) (list_all (is_signed_below n) (run_signs target setting events next)) (here event) (more next goes runs)
+        ∙ and_from (list_all (is_signed_below n) (event_signs target setting state event)) (list_all (is_signed_below n) (run_signs target setting events next)) (here event) (more next goes runs)
 
 none_begun : (c n : ℕ) (l : List SourceEvent) → list_all (is_below n) l ≡ true → n ≤ c → begun_in c l ≡ []
 none_begun c n [] all le = refl
@@ -115,9 +109,7 @@ none_begun c n (event ∷ l) all le =
 
 abbrev pub begins_call : Target → SourceEvent → Bool
 begins_call target (events.Begin c op args) = is_call target (record { op = op; args = args })
-begins_call target (events.Access c name) = true
-begins_call target (events.Restart c) = true
-begins_call target (events.GiveUp c phase) = true
+begins_call target _ = true
 
 -- of each caller they are calls of the target
 record BeginCalls (target : Target) (l : List SourceEvent) : Type 0 where
@@ -137,21 +129,18 @@ own_number d = grind (arith, nat_tests)
 begins_all : (target : Target) (l : List SourceEvent) → BeginCalls target l → list_all (begins_call target) l ≡ true
 begins_all target [] all = refl
 begins_all target (event ∷ l) all =
-    both_true (begins_call target event) (list_all (begins_call target) l) (one event all) (begins_all target l (begin_calls_after target event l all))
+    and_from (begins_call target event) (list_all (begins_call target) l) (one event all) (begins_all target l (begin_calls_after target event l all))
   where
     one : (event : SourceEvent) → BeginCalls target (event ∷ l) → begins_call target event ≡ true
     one (events.Begin d op args) all =
         all.each d 0 (record { op = op; args = args })
         (ap (λ (b : Bool). slice_get ((if b then record { op = op; args = args } ∷ [] else []) ++ begun_in d l) 0) (own_number d))
-    one (events.Access d name) all = refl
-    one (events.Restart d) all = refl
-    one (events.GiveUp d phase) all = refl
+    one _ all = refl
 
 taken_first : (n : ℕ) (script : List Call) (i : ℕ) (call : Call) → slice_get (take n script) i ≡ Some call → slice_get script i ≡ Some call
 taken_first zero script i call there = absurd (let none : None ≡ Some call = there in cc)
-taken_first (suc n) [] i call there = there
-taken_first (suc n) (x ∷ script) zero call there = there
 taken_first (suc n) (x ∷ script) (suc i) call there = taken_first n script i call there
+taken_first (suc n) _ _ call there = there
 
 call_is : (target : Target) (script : List Call) (i : ℕ) (call : Call) → AreCalls target script → slice_get script i ≡ Some call → is_call target call ≡ true
 call_is target script i call all there =
@@ -219,7 +208,7 @@ source_call target text op args erases =
     of (Some x) = refl
 
 event_so : (target : Target) (text : Text) (event : SourceEvent) → erased target ≡ text → is_sized event ≡ true → begins_call target event ≡ true → is_event text event ≡ true
-event_so target text (events.Begin c op args) erases sized call = both_true (nat_le c 4294967295) (is_source_call text op args) sized (sym (source_call target text op args erases) ∙ call)
+event_so target text (events.Begin c op args) erases sized call = and_from (nat_le c 4294967295) (is_source_call text op args) sized (sym (source_call target text op args erases) ∙ call)
 event_so target text _ erases sized call = sized
 
 pub events_so : (target : Target) (text : Text) (l : List SourceEvent) → erased target ≡ text → list_all is_sized l ≡ true → list_all (begins_call target) l ≡ true → list_all (is_event text) l ≡ true
@@ -227,16 +216,4 @@ events_so target text [] erases sized calls = refl
 events_so target text (event ∷ l) erases sized calls =
     let one = and_parts (is_sized event) (list_all is_sized l) sized in
     let begun = and_parts (begins_call target event) (list_all (begins_call target) l) calls in
-    both_true (is_event text event) (list_all (is_event text) l) (event_so target text event erases one.0 begun.0) (events_so target text l erases one.1 begun.1)
-
-reply_so : (reply : SourceReply) → is_sized_reply reply ≡ is_reply reply
-reply_so (replies.Number n) = refl
-reply_so _ = refl
-
-list_so : (l : List SourceReply) → list_all is_sized_reply l ≡ list_all is_reply l
-list_so [] = refl
-list_so (reply ∷ l) = ap (λ (b : Bool). b && list_all is_sized_reply l) (reply_so reply) ∙ ap (λ (b : Bool). is_reply reply && b) (list_so l)
-
-pub lists_so : (lists : List (List SourceReply)) → list_all (list_all is_sized_reply) lists ≡ list_all (list_all is_reply) lists
-lists_so [] = refl
-lists_so (l ∷ lists) = ap (λ (b : Bool). b && list_all (list_all is_sized_reply) lists) (list_so l) ∙ ap (λ (b : Bool). list_all is_reply l && b) (lists_so lists)
+    and_from (is_event text event) (list_all (is_event text) l) (event_so target text event erases one.0 begun.0) (events_so target text l erases one.1 begun.1)

@@ -1,7 +1,6 @@
 //! Making the certificate of a document.
 
 ghost use Rattle.std.specs.Prelude.{◌≡◌, Ok, IfOk};
-ghost use Rattle.norm_lang.specs.NormalForm.{IsNormal};
 ghost use Rattle.documents.specs.DocumentLimits.{IsWithinDocumentLimits};
 ghost use Rattle.script_plans.specs.Plans.{IsPlanned, IsReady};
 ghost use Rattle.replay_logs.specs.Logged.{IsLoggedBy};

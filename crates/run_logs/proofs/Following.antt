@@ -50,10 +50,8 @@ one_same : (text : Text) (c : ℕ) (call : Call) (own : Bool) (sign : Sign) (z :
 one_same text c call own (Begins x) z is = subst (λ (y : Call). logged text c y (recording z) Begin ≡ recording (shadow_step text z (record { caller = c; sign = Begins x }))) is.0 refl
 one_same text c call true Accesses z is = refl
 one_same text c call false Accesses z is = refl
-one_same text c call own (Draws slot) z is = refl
-one_same text c call own Renews z is = refl
 one_same text c call own (GivesUp None) z is = refl
-one_same text c call own (GivesUp (Some p)) z is = refl
+one_same text c call own _ z is = refl
 
 first_of : (call : Call) (sign : Sign) (rest : List Sign) → EachBegins call (sign ∷ rest) → EachBegins call (sign ∷ []) × EachBegins call rest
 first_of call (Begins x) rest each = ((each.0, tt), each.1)

@@ -10,13 +10,14 @@ use Rattle.norm_lang.specs.declared.text.Instr.{Instr}
 use Rattle.norm_lang.specs.declared.text.Op.{Op}
 use Rattle.norm_lang.specs.declared.text.Text.{Text}
 use Rattle.norm_lang.specs.RegisterUse.{registers_named, destination}
+use Rattle.norm_lang.specs.Flow.{is_end}
 use Rattle.target_code.specs.declared.target.TargetInstr.{TargetInstr}
 use Rattle.target_code.specs.declared.target.TargetInstr.TheVariants.{Plain, Check, Guard}
 use Rattle.target_code.specs.declared.target.TargetOp.{TargetOp}
 use Rattle.target_code.specs.Erasing.{redirected}
 use Rattle.target_code.specs.Flaws.{fetches}
 use Rattle.target_code.specs.Blocks.{to_guard, Marked, check_if, barrier, block, block_place, laid_out, scheme_op}
-use Rattle.target_code.specs.SecondScheme.{Due, none_due, is_any, is_due, ends, breaks, reads_some, needs_check, after_check, noted, left_due, jumps_to, meets_jump, next_due, marked, marks_from, second_marks, second_scheme}
+use Rattle.target_code.specs.SecondScheme.{Due, none_due, is_any, is_due, breaks, reads_some, needs_check, after_check, noted, left_due, jumps_to, meets_jump, next_due, marked, marks_from, second_marks, second_scheme}
 use Rattle.scheme_laws.specs.FirstScheme.{first_mark, first_marks, first_scheme}
 use Rattle.scheme_laws.specs.Compared.{checks_in, HasNoMoreChecks}
 
@@ -69,7 +70,7 @@ some_read i (r ∷ rs) is = refl
 
 needs_pending : (due : Due) (i : Instr) → needs_check due i ≡ true → pending due ≡ 1
 needs_pending due i needs =
-    by_bool (ends i) (reads_some i due.fetched) (reads_some i due.others) (is_any due.fetched) (is_any due.others) (breaks i)
+    by_bool (is_end i) (reads_some i due.fetched) (reads_some i due.others) (is_any due.fetched) (is_any due.others) (breaks i)
     (some_read i due.fetched) (some_read i due.others) needs
   where
     by_bool : (last reading other fetched others break : Bool) → (IsTrue reading → IsTrue fetched) → (IsTrue other → IsTrue others)
@@ -83,16 +84,14 @@ needs_pending due i needs =
 
 before_step : (c : Bool) (rs : List Reg) (due : Due) → (c ≡ true → pending due ≡ 1) → count_before c rs + pending (after_check c due) ≤ pending due + count_before false rs
 before_step true [] due needs = let full = needs refl in omega (arith, full)
-before_step false [] due needs = omega arith
-before_step true (r ∷ rs) due needs = omega arith
-before_step false (r ∷ rs) due needs = omega arith
+before_step _ _ due needs = omega arith
 
 one_most : (b : Bool) → one b ≤ 1
 one_most true = omega arith
 one_most false = omega arith
 
 noted_step : (i : Instr) (due : Due) → pending (noted i due) ≤ pending due + one (fetches i)
-noted_step i due = by_bool (ends i) (fetches i) (is_due due) refl
+noted_step i due = by_bool (is_end i) (fetches i) (is_due due) refl
   where
     by_bool : (last fetched is : Bool) → is_due due ≡ is
         → pending (
@@ -101,14 +100,13 @@ noted_step i due = by_bool (ends i) (fetches i) (is_due due) refl
         else if is then record due { others = due.others ++ registers_named (destination i) }
         else due)
         ≤ pending due + one fetched
-    by_bool true fetched is same = omega arith
     by_bool false true is same =
         let most = one_most (is_any (due.fetched ++ registers_named (destination i)) || is_any due.others) in omega (arith, most)
     by_bool false false true same =
         let before : pending due ≡ 1 = ap (λ b. one (b || is_any due.others)) same in
         let after : one (is_any due.fetched || is_any (due.others ++ registers_named (destination i))) ≡ 1 = ap (λ b. one (b || is_any (due.others ++ registers_named (destination i)))) same in
         omega (arith, before, after)
-    by_bool false false false same = omega arith
+    by_bool _ _ _ same = omega arith
 
 meets_step : (m : Bool) (due : Due) → (m ≡ true → is_due due ≡ true) → one m + pending (after_check m due) ≤ pending due
 meets_step true due meets = let full : pending due ≡ 1 = ap (λ b. one (b || is_any due.others)) (meets refl) in omega (arith, full)

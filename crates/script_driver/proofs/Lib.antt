@@ -3,3 +3,4 @@ mod Runnable
 mod Sequence
 mod Accepted
 mod Tallied
+mod Alike

@@ -1,5 +1,6 @@
-//! Laws over the documents of a workload.
+//! Laws over the documents of a workload, and over documents that differ only in the lines of their calls.
 
+ghost use Rattle.script_driver.specs.AlikeLaws.{AlikeDocumentsAreReplayedAlike};
 ghost use Rattle.script_driver.specs.Laws.{PartsCanBeRun, PartsAreWithinLimits, KeysAreOwn};
 
 use set_source::laws::set_is_normal;
@@ -22,4 +23,9 @@ pub fn parts_are_within_limits()
 /// The numbers of a caller's sequence, and that its keys are its own: no other caller has one of them.
 pub fn keys_are_own()
     ensures { KeysAreOwn }
+{}
+
+/// Documents that differ only in the lines of their calls are replayed alike: so is a document beside its canonical spelling.
+pub fn alike_documents_are_replayed_alike()
+    ensures { AlikeDocumentsAreReplayedAlike }
 {}

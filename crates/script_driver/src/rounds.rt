@@ -2,7 +2,7 @@
 
 ghost use Rattle.std.specs.Prelude.{◌≡◌, ◌<◌, ◌+◌, ◌/◌};
 ghost use Rattle.oa_words.specs.declared.limits.TheConstants.{MOST_CALLERS};
-ghost use Rattle.script_driver.specs.Workload.{next_seed, seed_at, key_from};
+ghost use Rattle.script_driver.specs.Workload.{next_seed, key_from};
 ghost use Rattle.script_driver.specs.Rounds.{round_at};
 
 /// Each number x of a caller's sequence gives the next, the remainder of 75 x + 74 by 65,537, which is a prime: a linear

@@ -4,8 +4,6 @@ ghost use Rattle.std.specs.Prelude.{◌≡◌, ◌++◌};
 ghost use Rattle.std.specs.List.{count_by};
 ghost use Rattle.oa_text.specs.Causes.{HasCause};
 ghost use Rattle.oa_text.specs.Written.{Writes};
-ghost use Rattle.oa_text.specs.Pieces.{piece_bytes};
-ghost use Rattle.document_runs.specs.Texts.{is_short_line};
 ghost use Rattle.script_driver.specs.WorkloadTexts.{is_number, is_number_line, tally_of, first_line, second_line, workload_text, is_short};
 
 use crate::workload::WorkloadReport;

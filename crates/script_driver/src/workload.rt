@@ -64,6 +64,9 @@ fn run_part<R: Threads + Sync, G: Gate + Sync>(
 
 /// Runs both documents of a workload, for 1 to 100,000 calls of each of 1 to 8 callers: the first by all callers on threads, as far
 /// as threads can be made, and then the second by one. The callers of both pass the gate before each call.
+///
+/// # Errors
+/// Memory ran out.
 pub fn run_workload<R: Threads + Sync, G: Gate + Sync>(
     rt: &R,
     alloc: Global,

@@ -1,21 +1,15 @@
--- Counts of fields, nodes and slots, kind by kind.
-use Rattle.std.proofs.Common.{◌≡◌, ℕ, zero, suc, ◌+◌, ◌-◌, ◌≤◌, ◌<◌, max, Bool, true, false, ◌&&◌, List, length, Option, Some, None, refl, sym, ap, ◌∙◌, subst, arith}
+-- The first kind with more initial nodes than slots.
+use Rattle.std.proofs.Common.{◌≡◌, ℕ, zero, suc, ◌+◌, ◌-◌, ◌≤◌, ◌<◌, Bool, true, false, List, length, Option, Some, None, refl, sym, ap, ◌∙◌, arith}
 use Rattle.std.proofs.lemmas.Bool.Decides.{nat_tests}
 use Rattle.std.specs.Prelude.{nat_le, slice_index, option_map, if◌then◌else◌}
 use Rattle.std.specs.Option.{option_or}
-use Rattle.norm_lang.specs.declared.text.FieldDecl.{FieldDecl}
 use Rattle.oa_words.specs.Words.{Sizes}
-use Rattle.caller_parts.specs.KindCounts.{field_count, greatest_of}
 use Rattle.caller_parts.specs.Settings.{have_slots}
 use Rattle.script_plans.specs.declared.fault.ShapeFault.{ShapeFault}
 use Rattle.script_plans.specs.Shapes.{first_crowded, nodes_fault}
 
 plus_one : (n : ℕ) → n + 1 ≡ suc n
 plus_one n = omega arith
-
--- one kind more
-pub greatest_more : (fields : List FieldDecl) (kind so_far count : ℕ) → so_far ≡ greatest_of fields kind → count ≡ field_count fields kind → max so_far count ≡ greatest_of fields (kind + 1)
-greatest_more fields kind so_far count was is = ap (λ (n : ℕ). max n count) was ∙ ap (max (greatest_of fields kind)) is ∙ ap (greatest_of fields) (sym (plus_one kind))
 
 -- ---- the first kind with more initial nodes than slots
 

@@ -1,5 +1,5 @@
 -- Plans under epochs, against what their parts are.
-use Rattle.std.proofs.Common.{◌≡◌, Option, None, Result, Ok, Err, subst}
+use Rattle.std.proofs.Common.{◌≡◌, None, Result, Ok, Err, subst}
 use Rattle.std.specs.Prelude.{List, IfOk}
 use Rattle.norm_lang.specs.declared.text.Text.{Text}
 use Rattle.norm_lang.specs.NormalForm.{IsNormal}

@@ -1,27 +1,28 @@
 -- What a plan keeps.
-use Rattle.std.proofs.Common.{◌≡◌, ℕ, zero, suc, ◌≤◌, ◌<◌, ◌^◌, Bool, true, false, ◌&&◌, List, [], ◌∷◌, map, length, drop, get_or, Option, Some, None, refl, arith}
+use Rattle.std.proofs.Common.{◌≡◌, ℕ, suc, ◌≤◌, ◌<◌, ◌^◌, Bool, true, false, ◌&&◌, List, [], ◌∷◌, map, length, drop, get_or, Option, Some, None, refl, arith}
 use Rattle.std.proofs.lemmas.Bool.{eqb-true, lt-ltb, and_from}
 use Rattle.std.proofs.lemmas.Bool.Decides.{nat_tests}
 use Rattle.std.proofs.lemmas.List.{drop_all, length-map}
 use Rattle.std.proofs.lemmas.List.Elements.{All-nil, All-cons, All-head, All-tail, All-map, All-get_or, All-from_get_or}
 use Rattle.std.proofs.lemmas.Option.{slice_get-map}
-use Rattle.std.specs.Prelude.{not, nat_le, nat_lt, ◌==◌, if◌then◌else◌, slice_get, slice_index, take}
+use Rattle.std.specs.Prelude.{nat_le, ◌==◌, if◌then◌else◌, slice_get, slice_index, take}
 use Rattle.std.specs.List.{All, list_all}
 use Rattle.std.specs.Option.{option_or, option_map}
 use Rattle.norm_lang.specs.declared.text.Op.{Op}
+use Rattle.norm_lang.specs.Arguments.{are_words, padded}
 use Rattle.target_code.specs.declared.target.TargetOp.{TargetOp}
 use Rattle.target_code.specs.Blocks.{scheme_op}
 use Rattle.target_code.specs.SecondScheme.{second_marks}
 use Rattle.oa_words.specs.Within.{is_count}
 use Rattle.caller_parts.specs.declared.call.Call.{Call}
 use Rattle.caller_parts.specs.Settings.{are_phases}
-use Rattle.caller_parts.specs.Calls.{are_words, is_call_of}
+use Rattle.caller_parts.specs.Calls.{is_call_of}
 use Rattle.documents.specs.declared.document.ScriptCall.{ScriptCall}
 use Rattle.documents.specs.declared.document.Document.{Document}
 use Rattle.documents.specs.DocumentLimits.{most_calls, AreShort, IsWithinDocumentLimits}
 use Rattle.script_plans.specs.declared.fault.ShapeFault.{ShapeFault}
 use Rattle.script_plans.specs.declared.limits.TheConstants.{MOST_FUEL}
-use Rattle.script_plans.specs.Shapes.{first_of, padded, kind_slots, kind_nodes, sizes_of, sizes_fault, nodes_fault, rest_fault, fault_unless, op_number, call_fault_at, args_fault, call_fault, script_fault, scripts_fault, setting_fault}
+use Rattle.script_plans.specs.Shapes.{first_of, kind_slots, kind_nodes, sizes_of, sizes_fault, nodes_fault, fault_unless, op_number, call_fault_at, args_fault, call_fault, script_fault, scripts_fault, setting_fault}
 use Rattle.bare_targets.specs.Bare.{bare_op}
 use Rattle.script_plans.specs.Plans.{call_of, calls_of, TakeWords, AllTakeWords, plan_for, IsRunnable, IsReady}
 use Rattle.script_plans.specs.EpochPlans.{epoch_plan_for, IsEpochReady}
@@ -38,11 +39,8 @@ passed number false none = cc
 -- ---- calls
 
 zeros : (args : List ℕ) → list_all (λ word. word == 0) (drop (length args) (padded args)) ≡ true
-zeros [] = refl
-zeros (a ∷ []) = refl
-zeros (a ∷ b ∷ []) = refl
-zeros (a ∷ b ∷ c ∷ []) = refl
 zeros (a ∷ b ∷ c ∷ d ∷ rest) = rw (drop_all (length (a ∷ b ∷ c ∷ d ∷ rest)) (a ∷ b ∷ c ∷ d ∷ []) (omega arith)) refl
+zeros _ = refl
 
 pub four_words : (a b c d : ℕ) → a < 2 ^ 64 → b < 2 ^ 64 → c < 2 ^ 64 → d < 2 ^ 64 → are_words (a ∷ b ∷ c ∷ d ∷ []) ≡ true
 four_words a b c d fits_a fits_b fits_c fits_d = rw (lt-ltb a (2 ^ 64) fits_a, lt-ltb b (2 ^ 64) fits_b, lt-ltb c (2 ^ 64) fits_c, lt-ltb d (2 ^ 64) fits_d) refl
@@ -110,9 +108,7 @@ fuelled document none =
     fourth : (a b c d : Option ShapeFault) → first_of (a ∷ b ∷ first_of (c ∷ d ∷ []) ∷ []) ≡ None → d ≡ None
     fourth None None None None none = refl
     fourth None None None (Some fault) none = cc
-    fourth None None (Some fault) d none = cc
-    fourth None (Some fault) c d none = cc
-    fourth (Some fault) b c d none = cc
+    fourth _ _ _ d none = cc
 
     first : (a b : Bool) → nat_le 1 document.fuel ≡ a → (a && b) ≡ true → 1 ≤ document.fuel
     first true b le is = grind (arith, nat_tests)
@@ -120,12 +116,8 @@ fuelled document none =
 
 -- four numbers are enough for the kinds
 four_are_enough : (kinds a b c d : ℕ) → kinds ≤ 4 → length (take kinds (a ∷ b ∷ c ∷ d ∷ [])) ≡ kinds
-four_are_enough zero a b c d few = refl
-four_are_enough (suc zero) a b c d few = refl
-four_are_enough (suc (suc zero)) a b c d few = refl
-four_are_enough (suc (suc (suc zero))) a b c d few = refl
-four_are_enough (suc (suc (suc (suc zero)))) a b c d few = refl
 four_are_enough (suc (suc (suc (suc (suc kinds))))) a b c d few = absurd (omega (arith, few))
+four_are_enough _ a b c d few = refl
 
 pub all_kinds : (document : Document) → length document.text.kinds ≤ 4 → length (kind_slots document) ≡ length document.text.kinds
 all_kinds document few =

@@ -1,11 +1,10 @@
 -- Settings and their faults, against what the makers of a shape and of a setting answer.
-use Rattle.std.proofs.Common.{◌≡◌, ℕ, Bool, true, false, ◌&&◌, List, [], ◌∷◌, length, take, Option, Some, None, Result, Ok, Err, refl, sym, ap, ◌∙◌, subst}
-use Rattle.std.specs.Prelude.{nat_le, if◌then◌else◌}
-use Rattle.std.specs.Option.{option_or}
+use Rattle.std.proofs.Common.{◌≡◌, ℕ, Bool, true, false, ◌&&◌, List, [], ◌∷◌, length, Option, Some, None, Result, Ok, Err, refl, sym, ap, ◌∙◌, subst}
+use Rattle.std.specs.Prelude.{if◌then◌else◌}
 use Rattle.oa_words.specs.declared.shape.ShapeFault.{ShapeFault as SizesFault}
 use Rattle.oa_words.specs.declared.shape.ShapeFault.TheVariants as sizes
 use Rattle.oa_words.specs.Words.{Sizes}
-use Rattle.oa_words.specs.Within.{is_count, are_slots, sizes_of_kinds, sizes_or_fault}
+use Rattle.oa_words.specs.Within.{is_count, are_slots, sizes_or_fault}
 use Rattle.caller_parts.specs.declared.setting.SettingFault.{SettingFault}
 use Rattle.caller_parts.specs.declared.setting.SettingFault.TheVariants as settings
 use Rattle.caller_parts.specs.Settings.{Setting, are_phases, have_slots, setting_or_fault}
@@ -13,7 +12,7 @@ use Rattle.caller_parts.specs.declared.setting.Reclamation.{Reclamation}
 use Rattle.documents.specs.declared.document.Document.{Document}
 use Rattle.script_plans.specs.declared.fault.ShapeFault.{ShapeFault}
 use Rattle.script_plans.specs.declared.limits.TheConstants.{MOST_FUEL}
-use Rattle.script_plans.specs.Shapes.{first_of, whole_fault, fault_unless, padded, kind_slots, kind_nodes, sizes_of, setting_with, setting_under, sizes_fault, nodes_fault, rest_fault, setting_fault}
+use Rattle.script_plans.specs.Shapes.{first_of, whole_fault, fault_unless, kind_slots, kind_nodes, sizes_of, setting_with, setting_under, sizes_fault, nodes_fault, rest_fault, setting_fault}
 use Rattle.script_plans.specs.Told.{sizes_number, or_fault}
 use Rattle.script_plans.proofs.Counting.{are_roomy}
 
@@ -26,12 +25,10 @@ told (Err fault) = Err (whole_fault (sizes_number fault))
 judged : (n : Sizes) (a b c d e : Bool)
     → told (if a then (if b then (if c then (if d then (if e then Ok n else Err sizes.Cells) else Err sizes.Fields) else Err sizes.Slots) else Err sizes.Kinds) else Err sizes.Callers)
     ≡ or_fault (first_of (fault_unless 1 a ∷ fault_unless 2 (b && c) ∷ fault_unless 3 d ∷ fault_unless 4 e ∷ [])) n
-judged n false b c d e = refl
-judged n true false c d e = refl
-judged n true true false d e = refl
 judged n true true true false e = refl
 judged n true true true true false = refl
 judged n true true true true true = refl
+judged n _ _ _ d e = refl
 
 shape_told : (kinds : ℕ) (n : Sizes) → told (sizes_or_fault kinds n) ≡ or_fault (sizes_fault kinds n) n
 shape_told kinds n = judged n (is_count 8 n.callers) (is_count 4 kinds) (are_slots n) (is_count 4 n.fields) (is_count 256 n.cells)
@@ -109,17 +106,15 @@ module _ (document : Document) where
       whole : (one two three : Option ShapeFault) → one ≡ None → two ≡ None → three ≡ first_of (one ∷ two ∷ three ∷ [])
       whole None None None never none = refl
       whole None None (Some fault) never none = refl
-      whole None (Some fault) three never none = cc
-      whole (Some fault) two three never none = cc
+      whole _ _ three never none = cc
 
   pub setting_crowded : (by : Reclamation) (shape : Sizes) (fault : ShapeFault) → Ok shape ≡ or_fault by_sizes (sizes_of document) → Some fault ≡ by_nodes
       → Err fault ≡ or_fault (setting_fault document) (setting_under by document)
   setting_crowded by shape fault made some = go by_sizes by_nodes (same_shape by_sizes (sizes_of document) shape made).1 some
     where
       go : (one two : Option ShapeFault) → one ≡ None → Some fault ≡ two → Err fault ≡ or_fault (first_of (one ∷ two ∷ rest_fault document ∷ [])) (setting_under by document)
-      go None None never some = cc
       go None (Some other) never some = let same : fault ≡ other = cc in ap (λ (f : ShapeFault). Err f) same
-      go (Some other) two never some = cc
+      go _ _ never some = cc
 
   pub setting_shapeless : (by : Reclamation) (fault : ShapeFault) → Err fault ≡ or_fault by_sizes (sizes_of document) → Err fault ≡ or_fault (setting_fault document) (setting_under by document)
   setting_shapeless by fault is = go by_sizes is

@@ -1,5 +1,5 @@
 -- The plan of a document under epochs: its callers run its text as it is.
-use Rattle.std.specs.Prelude.{◌≡◌, ℕ, ◌≤◌, length, Result, Ok, Err, All}
+use Rattle.std.specs.Prelude.{◌≡◌, ◌≤◌, length, Result, Ok, Err, All}
 use Rattle.bare_targets.specs.Bare.{bare}
 use Rattle.caller_parts.specs.Settings.{Fits}
 use Rattle.caller_parts.specs.declared.setting.Reclamation.TheVariants.{Epochs}

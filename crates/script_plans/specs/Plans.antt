@@ -1,20 +1,21 @@
 -- The plan of a document: what its callers run.
-use Rattle.std.specs.Prelude.{◌≡◌, ℕ, ◌≤◌, true, List, map, length, Some, None, Result, Ok, Err, All}
+use Rattle.std.specs.Prelude.{◌≡◌, ◌≤◌, true, List, map, length, Some, None, Result, Ok, Err, All}
 use Rattle.norm_lang.specs.declared.text.Op.{Op}
 use Rattle.norm_lang.specs.NormalForm.{IsNormal}
+use Rattle.norm_lang.specs.Arguments.{are_words, padded}
 use Rattle.norm_check.specs.Refusals.{IsRefused}
 use Rattle.target_code.specs.declared.target.Target.{Target}
 use Rattle.target_code.specs.SecondScheme.{second_scheme}
 use Rattle.caller_parts.specs.declared.call.Call.{Call}
 use Rattle.caller_parts.specs.Settings.{Fits}
-use Rattle.caller_parts.specs.Calls.{are_words, AreCalls}
+use Rattle.caller_parts.specs.Calls.{AreCalls}
 use Rattle.documents.specs.declared.document.ScriptCall.{ScriptCall}
 use Rattle.documents.specs.declared.document.Document.{Document}
 use Rattle.documents.specs.DocumentLimits.{AreShort}
 use Rattle.script_plans.specs.declared.fault.RunFault.{RunFault}
 use Rattle.script_plans.specs.declared.fault.RunFault.TheVariants as faults
 use Rattle.script_plans.specs.declared.plan.Plan.{Plan}
-use Rattle.script_plans.specs.Shapes.{padded, op_number, setting_of, shape_fault}
+use Rattle.script_plans.specs.Shapes.{op_number, setting_of, shape_fault}
 
 -- the code that its callers run: its text, compiled by combined checks
 abbrev pub target_of : Document → Target

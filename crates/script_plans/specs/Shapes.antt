@@ -5,11 +5,12 @@ use Rattle.std.specs.List.{position}
 use Rattle.std.specs.Option.{option_or, unwrap_or}
 use Rattle.std.specs.Str.{bytes_eq}
 use Rattle.norm_lang.specs.declared.text.Op.{Op}
-use Rattle.norm_lang.specs.declared.text.NodeDecl.{NodeDecl}
+use Rattle.norm_lang.specs.Arguments.{padded}
 use Rattle.oa_words.specs.Words.{Sizes}
 use Rattle.oa_words.specs.Within.{is_count, are_slots, sizes_of_kinds}
 use Rattle.oa_words.specs.declared.limits.TheConstants.{MOST_CALLERS, MOST_KINDS, MOST_FIELDS, MOST_CELLS}
-use Rattle.caller_parts.specs.KindCounts.{greatest_of, node_count}
+use Rattle.caller_parts.specs.KindCounts.{greatest_of}
+pub use Rattle.caller_parts.specs.KindCounts.{kind_nodes}
 use Rattle.caller_parts.specs.Settings.{Setting, are_phases}
 use Rattle.caller_parts.specs.declared.setting.Reclamation.{Reclamation}
 use Rattle.caller_parts.specs.declared.setting.Reclamation.TheVariants.{Optimistic, Epochs}
@@ -34,10 +35,6 @@ abbrev pub fault_unless : ℕ → Bool → Option ShapeFault
 fault_unless number true = None
 fault_unless number false = Some (whole_fault number)
 
--- four numbers: the first of these, and 0 past them
-abbrev pub padded : List ℕ → List ℕ
-padded numbers = slice_index numbers 0 ∷ slice_index numbers 1 ∷ slice_index numbers 2 ∷ slice_index numbers 3 ∷ []
-
 -- how many slots each kind of the text has
 abbrev pub kind_slots : Document → List ℕ
 kind_slots document = take (length document.text.kinds) (padded document.slots)
@@ -45,10 +42,6 @@ kind_slots document = take (length document.text.kinds) (padded document.slots)
 -- a caller for each script, the slots of each kind, as many fields as the kind with the most has, and the text's roots
 abbrev pub sizes_of : Document → Sizes
 sizes_of document = sizes_of_kinds (length document.scripts) (kind_slots document) (greatest_of document.text.fields (length document.text.kinds)) (length document.text.roots)
-
--- how many initial nodes each of four kinds has
-abbrev pub kind_nodes : List NodeDecl → List ℕ
-kind_nodes nodes = node_count nodes 0 ∷ node_count nodes 1 ∷ node_count nodes 2 ∷ node_count nodes 3 ∷ []
 
 abbrev pub setting_with : Reclamation → Document → Sizes → List ℕ → Setting
 setting_with by document sizes nodes = record { reclamation = by; sizes = sizes; first = document.first; last = document.last; nodes = nodes }

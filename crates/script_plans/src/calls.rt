@@ -1,8 +1,7 @@
 //! The calls of a document.
 
 ghost use Rattle.std.specs.Prelude.{◌≡◌, ◌<◌, length, map, slice_index, true, IfOk};
-ghost use Rattle.caller_parts.specs.Calls.{are_words};
-ghost use Rattle.script_plans.specs.Shapes.{padded};
+ghost use Rattle.norm_lang.specs.Arguments.{are_words, padded};
 ghost use Rattle.script_plans.specs.Plans.{call_of, calls_of, TakeWords, AllTakeWords};
 
 use crate::plan::{CallList, CallLists};

@@ -1,6 +1,6 @@
 //! The plan of a document whose callers run its text as it is.
 
-ghost use Rattle.std.specs.Prelude.{◌≡◌, ◌≤◌, ◌<◌, ◌^◌, length, None, IfOk, IfErr};
+ghost use Rattle.std.specs.Prelude.{◌≡◌, None, IfOk, IfErr};
 ghost use Rattle.norm_lang.specs.NormalForm.{IsNormal};
 ghost use Rattle.documents.specs.DocumentLimits.{IsWithinDocumentLimits};
 ghost use Rattle.script_plans.specs.Shapes.{epoch_setting_of, shape_fault};

@@ -2,18 +2,16 @@
 
 ghost use Rattle.std.specs.Prelude.{◌≡◌, ◌≤◌, ◌<◌, ◌^◌, length, true};
 ghost use Rattle.oa_words.specs.Within.{is_count};
-ghost use Rattle.caller_parts.specs.KindCounts.{greatest_of, node_count};
 ghost use Rattle.caller_parts.specs.Settings.{have_slots};
-ghost use Rattle.script_plans.specs.Shapes.{whole_fault, kind_nodes, sizes_of, sizes_fault, first_crowded, nodes_fault, setting_with, setting_under, rest_fault, setting_fault};
+ghost use Rattle.script_plans.specs.Shapes.{whole_fault, sizes_of, sizes_fault, first_crowded, nodes_fault, setting_with, setting_under, rest_fault, setting_fault};
 ghost use Rattle.script_plans.specs.Told.{sizes_number, or_fault};
 
 use crate::calls::padded;
 use crate::fault::ShapeFault;
 use crate::limits::MOST_FUEL;
+use caller_parts::counts::{greatest_of, kind_nodes};
 use caller_parts::{Reclamation, Setting};
 use documents::Document;
-use norm_lang::fields::count_of;
-use norm_lang::text::{FieldDecl, NodeDecl};
 use oa_words::shape::{Shape, ShapeFault as SizesFault};
 
 /// A fault of the document as a whole.
@@ -33,39 +31,6 @@ fn sizes_number(fault: SizesFault) -> u8
         SizesFault::Fields => 3,
         SizesFault::Cells => 4,
     }
-}
-
-/// How many fields the kind with the most has, of so many kinds.
-#[tactic(auto, using(crate::proofs::Counting::greatest_more))]
-fn greatest_of(fields: &[FieldDecl], kinds: u8) -> usize
-    ensures { result ≡ greatest_of fields.now kinds }
-{
-    let mut greatest = 0;
-    for kind in 0..kinds {
-        greatest = greatest.max(count_of(fields, kind));
-    }
-    greatest
-}
-
-/// How many initial nodes a kind has.
-fn node_count(nodes: &[NodeDecl], kind: u8) -> u32
-    requires { length nodes.now < 2 ^ 32 }
-    ensures { result ≡ node_count nodes.now kind }
-{
-    nodes.iter().filter(|node| node.owner == kind).count() as u32
-}
-
-/// How many initial nodes each of four kinds has.
-fn kind_nodes(nodes: &[NodeDecl]) -> [u32; 4]
-    requires { length nodes.now < 2 ^ 32 }
-    ensures { result ≡ kind_nodes nodes.now }
-{
-    [
-        node_count(nodes, 0),
-        node_count(nodes, 1),
-        node_count(nodes, 2),
-        node_count(nodes, 3),
-    ]
 }
 
 /// The shape of the row, or what is wrong with its sizes.

@@ -66,13 +66,11 @@ Fits b s T notes c place q phase = FitsClass b s T notes c place q phase (class_
 
 pub class_absent : (k : Kind) → class_of (absent k) ≡ Works k
 class_absent Insert = refl
-class_absent Remove = refl
-class_absent Contains = refl
+class_absent _ = refl
 
 pub class_present : (k : Kind) → class_of (present k) ≡ Works k
 class_present Insert = refl
-class_present Remove = refl
-class_present Contains = refl
+class_present _ = refl
 
 -- what an event tells, and what it does to the caller's call and to the set
 pub record Told (b : ℕ) (event : SourceEvent) (c : ℕ) (s' : Shared) (place : Place) (q : Load) (place' : Place) (q' : Load) (T : Times (List ℕ)) (notes : Notes) (phase : Phase) : Type 0 where
@@ -91,13 +89,11 @@ pub record Told (b : ℕ) (event : SourceEvent) (c : ℕ) (s' : Shared) (place :
 -- the log where a call goes on, and where it ends
 logs_absent : (c name t : ℕ) (k : Kind) (before : Option Running) (q : Load) (log : Log) → begins_run (Access c name) before (shown (absent k) q).running ≡ false → logged (Access c name) t before (shown (absent k) q) log ≡ log
 logs_absent c name t Insert before q log none = ap (λ x. log_again x t log) none
-logs_absent c name t Remove before q log none = ap (λ x. log_again x t log) none
-logs_absent c name t Contains before q log none = ap (λ x. log_again x t log) none
+logs_absent c name t _ before q log none = ap (λ x. log_again x t log) none
 
 logs_present : (c name t : ℕ) (k : Kind) (before : Option Running) (q : Load) (log : Log) → begins_run (Access c name) before (shown (present k) q).running ≡ false → logged (Access c name) t before (shown (present k) q) log ≡ log
 logs_present c name t Insert before q log none = ap (λ x. log_again x t log) none
-logs_present c name t Remove before q log none = ap (λ x. log_again x t log) none
-logs_present c name t Contains before q log none = ap (λ x. log_again x t log) none
+logs_present c name t _ before q log none = ap (λ x. log_again x t log) none
 
 pub ends_log : (c name t : ℕ) (before : Option Running) (q : Load) (r : SourceReply) (log : Log) → begins_run (Access c name) before None ≡ false → logged (Access c name) t before (shown Idle (replying r q)) log ≡ moved t (Ends r) log
 ends_log c name t before q r log none =
@@ -109,18 +105,15 @@ stops_log c t phase before q r log = ap (λ x. log_ended t x log.now log) (last_
 -- what is remembered where the key was loaded, and after an exchange that took a node out
 tells_absent : (c name t : ℕ) (notes : Notes) (k : Kind) (q q' : Load) → noted_of set_rules (Access c name) t notes (shown (Key k) q).running (shown (absent k) q') ≡ record { notes = after_key (nat_lt q'.hand.n1 q'.hand.n0) notes; deed = None }
 tells_absent c name t notes Insert q q' = refl
-tells_absent c name t notes Remove q q' = refl
-tells_absent c name t notes Contains q q' = refl
+tells_absent c name t notes _ q q' = refl
 
 tells_present : (c name t : ℕ) (notes : Notes) (k : Kind) (q q' : Load) → noted_of set_rules (Access c name) t notes (shown (Key k) q).running (shown (present k) q') ≡ record { notes = after_key (nat_lt q'.hand.n1 q'.hand.n0) notes; deed = None }
 tells_present c name t notes Insert q q' = refl
-tells_present c name t notes Remove q q' = refl
-tells_present c name t notes Contains q q' = refl
+tells_present c name t notes _ q q' = refl
 
 tells_snipped : (c name t : ℕ) (notes : Notes) (k : Kind) (q q' : Load) → noted_of set_rules (Access c name) t notes (shown (Snip k) q).running (shown (absent k) q') ≡ record { notes = with_gap t notes; deed = None }
 tells_snipped c name t notes Insert q q' = refl
-tells_snipped c name t notes Remove q q' = refl
-tells_snipped c name t notes Contains q q' = refl
+tells_snipped c name t notes _ q q' = refl
 
 key_noted : (x y : Bool) (notes : Notes) → x ≡ y → (let n : Noted = record { notes = after_key x notes; deed = None } in n) ≡ record { notes = after_key y notes; deed = None }
 key_noted x y notes e = ap (λ z. let n : Noted = record { notes = after_key z notes; deed = None } in n) e

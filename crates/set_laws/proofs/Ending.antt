@@ -323,10 +323,9 @@ pub record Knows (b : ℕ) (w : World) (T : Times (List ℕ)) (notes : Notes) (p
 
 fits_kept : (b c d o : ℕ) (who : Option ℕ) (s s' : Shared) (T : Times (List ℕ)) (a : List ℕ) (notes : Notes) (place : Place) (q : Load) (phase : Phase) (class : Class) → Fine b s → Goes c s s' → d ≢ c → At b s d o place q.hand
     → FitsClass b s T notes d place q phase class → FitsClass b s' (ticked T who a) notes d place q phase class
-fits_kept b c d o who s s' T a notes place q phase Rests f g ne at k = k
-fits_kept b c d o who s s' T a notes place q phase Unlinks f g ne at k = k
 fits_kept b c d o who s s' T a notes place q phase (Works k) f g ne at (call, w, n, facts) =
     (call, working_kept T who a phase (op_of k) (slice_index q.args 0) call w, n, facts_kept b c d o who s s' T a notes call place q.hand f g ne at facts)
+fits_kept b c d o who s s' T a notes place q phase _ f g ne at k = k
 
 stable_knows : (b c d : ℕ) (who : Option ℕ) (w w' : World) (T : Times (List ℕ)) (notes : Notes) (phase : Phase) (caller : SourceCaller) → WorldGoes c w w' → FineWorld b w → d ≢ c → Knows b w T notes phase d caller → Knows b w' (ticked T who w'.set) notes phase d caller
 stable_knows b c d who w w' T notes phase caller g f ne k = record {
@@ -348,30 +347,15 @@ open_restart b event c (First k) q s e is same = let z : Works k ≡ Rests = sam
 open_restart b event c (Second k) q s e is same = let z : Works k ≡ Rests = same in cc
 open_restart b event c (Key k) q s e is same = let z : Works k ≡ Rests = same in cc
 open_restart b event c (Snip k) q s e is same = let z : Works k ≡ Rests = same in cc
-open_restart b event c New q s e is same = let z : Works Insert ≡ Rests = same in cc
-open_restart b event c PutKey q s e is same = let z : Works Insert ≡ Rests = same in cc
-open_restart b event c PutNext q s e is same = let z : Works Insert ≡ Rests = same in cc
-open_restart b event c Link q s e is same = let z : Works Insert ≡ Rests = same in cc
 open_restart b event c Mark q s e is same = let z : Works Remove ≡ Rests = same in cc
 open_restart b event c Unlink q s e is same = let z : Unlinks ≡ Rests = same in cc
 open_restart b event c (Missed k) q s e is same = let z : Works k ≡ Rests = same in cc
 open_restart b event c There q s e is same = let z : Works Contains ≡ Rests = same in cc
+open_restart b event c _ q s e is same = let z : Works Insert ≡ Rests = same in cc
 
 shown_replies : (place : Place) (q : Load) → (shown place q).replies ≡ q.replies
 shown_replies Idle q = refl
-shown_replies (Pick k) q = refl
-shown_replies (First k) q = refl
-shown_replies (Second k) q = refl
-shown_replies (Key k) q = refl
-shown_replies (Snip k) q = refl
-shown_replies New q = refl
-shown_replies PutKey q = refl
-shown_replies PutNext q = refl
-shown_replies Link q = refl
-shown_replies Mark q = refl
-shown_replies Unlink q = refl
-shown_replies (Missed k) q = refl
-shown_replies There q = refl
+shown_replies _ q = refl
 
 -- a call runs where a caller isn't idle
 abbrev pub class_runs : Class → Bool
@@ -386,19 +370,7 @@ runs_class b s T notes c place q phase (Works k) (call, w, n, facts) = ap phase_
 
 shown_runs : (place : Place) (q : Load) → is_some (shown place q).running ≡ class_runs (class_of place)
 shown_runs Idle q = refl
-shown_runs (Pick k) q = refl
-shown_runs (First k) q = refl
-shown_runs (Second k) q = refl
-shown_runs (Key k) q = refl
-shown_runs (Snip k) q = refl
-shown_runs New q = refl
-shown_runs PutKey q = refl
-shown_runs PutNext q = refl
-shown_runs Link q = refl
-shown_runs Mark q = refl
-shown_runs Unlink q = refl
-shown_runs (Missed k) q = refl
-shown_runs There q = refl
+shown_runs _ q = refl
 
 knows_runs : (b : ℕ) (w : World) (T : Times (List ℕ)) (notes : Notes) (phase : Phase) (c : ℕ) (caller : SourceCaller) → Knows b w T notes phase c caller → is_some caller.running ≡ phase_runs phase
 knows_runs b w T notes phase c caller k =

@@ -1,15 +1,15 @@
 -- What a search has found out of its key, by the place where its caller stands.
 use Rattle.std.proofs.Common.{ℕ, suc, ◌≡◌, ◌≢◌, ◌≤◌, ◌<◌, ◌⊎◌, ◌∙◌, Bool, true, false, List, Option, Some, sym, ap, subst, inl, inr, ⊎_elim, arith}
+use Rattle.std.proofs.lemmas.Bool.{false_from_ne_true}
 use Rattle.norm_lang.specs.declared.registers.Reference.{Reference}
 use Rattle.norm_lang.specs.Registers.{no_reference}
 use Rattle.norm_lang.specs.Local.{remainder}
 use Rattle.source_machine.specs.Proper.{has}
-use Rattle.source_machine.proofs.Names.{not_true}
 use Rattle.source_machine.proofs.Places.{put_same, put_other}
 use Rattle.source_histories.specs.declared.deed.Notes.{Notes}
 use Rattle.source_histories.specs.Books.{Started}
 use Rattle.source_histories.proofs.Dealing.{Times, ticked, Open}
-use Rattle.set_source.specs.Places.{Kind, Insert, Remove, Contains, Hand, Place, Idle, Pick, First, Second, Key, Snip, New, PutKey, PutNext, Link, Mark, Unlink, Missed, There, absent, present}
+use Rattle.set_source.specs.Places.{Kind, Insert, Remove, Contains, Hand, Place, First, Second, Key, Snip, New, PutKey, PutNext, Link, Mark, Missed, There, absent, present}
 use Rattle.set_source.specs.Relation.{Public, Shared, Fine, Live, Seen, Within, Onward, Own, At, Goes}
 use Rattle.set_source.proofs.Orders.{Before}
 use Rattle.set_laws.proofs.Sorting.{keys, homed, homes, Sorted, SetOf, gap_none}
@@ -44,8 +44,6 @@ pub record AtKey (b : ℕ) (s : Shared) (T : Times (List ℕ)) (notes : Notes) (
   pub next : keys s h.r1.node < h.n0 → Ahead s h.r2 h.n0 → has h.n0 (T.past notes.load) ≡ false
 
 abbrev pub Facts : ℕ → Shared → Times (List ℕ) → Notes → ℕ → Started → Place → Hand → Type 0
-Facts b s T notes c call Idle h = Unit {0}
-Facts b s T notes c call (Pick k) h = Unit {0}
 Facts b s T notes c call (First k) h = LeftOf b s h.r0 h.n0
 Facts b s T notes c call (Second k) h = LeftOf b s h.r0 h.n0 × HomeOf b s h.r1 h.n0 × GapAt s T c call notes.gap h.r1 h.n0
 Facts b s T notes c call (Key k) h = AtKey b s T notes c call h
@@ -55,24 +53,22 @@ Facts b s T notes c call PutKey h = LeftOf b s h.r0 h.n0 × RightOf b s h.r1 h.n
 Facts b s T notes c call PutNext h = LeftOf b s h.r0 h.n0 × RightOf b s h.r1 h.n0 × (keys s h.r4.node ≡ h.n0)
 Facts b s T notes c call Link h = LeftOf b s h.r0 h.n0 × RightOf b s h.r1 h.n0 × (keys s h.r4.node ≡ h.n0)
 Facts b s T notes c call Mark h = keys s h.r1.node ≡ h.n0
-Facts b s T notes c call Unlink h = Unit {0}
 Facts b s T notes c call (Missed Insert) h = Open (List ℕ) T c call notes.load × (has h.n0 (T.past notes.load) ≡ true)
 Facts b s T notes c call (Missed Remove) h = Open (List ℕ) T c call notes.gap × (has h.n0 (T.past notes.gap) ≡ false)
 Facts b s T notes c call (Missed Contains) h = Open (List ℕ) T c call notes.gap × (has h.n0 (T.past notes.gap) ≡ false)
 Facts b s T notes c call There h = Open (List ℕ) T c call notes.load × (has h.n0 (T.past notes.load) ≡ true)
+Facts b s T notes c call _ h = Unit {0}
 
 -- where a search ends
 pub facts_absent : (b : ℕ) (s : Shared) (T : Times (List ℕ)) (notes : Notes) (c : ℕ) (call : Started) (k : Kind) (h : Hand) → LeftOf b s h.r0 h.n0 → RightOf b s h.r1 h.n0 → Open (List ℕ) T c call notes.gap
     → has h.n0 (T.past notes.gap) ≡ false → Facts b s T notes c call (absent k) h
 facts_absent b s T notes c call Insert h left right open_ none = (left, right)
-facts_absent b s T notes c call Remove h left right open_ none = (open_, none)
-facts_absent b s T notes c call Contains h left right open_ none = (open_, none)
+facts_absent b s T notes c call _ h left right open_ none = (open_, none)
 
 pub facts_present : (b : ℕ) (s : Shared) (T : Times (List ℕ)) (notes : Notes) (c : ℕ) (call : Started) (k : Kind) (h : Hand) → keys s h.r1.node ≡ h.n0 → Open (List ℕ) T c call notes.load
     → has h.n0 (T.past notes.load) ≡ true → Facts b s T notes c call (present k) h
-facts_present b s T notes c call Insert h key open_ there = (open_, there)
 facts_present b s T notes c call Remove h key open_ there = key
-facts_present b s T notes c call Contains h key open_ there = (open_, there)
+facts_present b s T notes c call _ h key open_ there = (open_, there)
 
 -- what was true of earlier events stays so
 pub open_kept : (T : Times (List ℕ)) (who : Option ℕ) (d m : ℕ) (a : List ℕ) (call : Started) → Open (List ℕ) T d call m → Open (List ℕ) (ticked T who a) d call m
@@ -149,8 +145,6 @@ known_kept T who d m n x a call k = (open_kept T who d m a call k.0, ap (has n) 
 -- an event of another caller leaves what is known
 pub facts_kept : (b c d o : ℕ) (who : Option ℕ) (s s' : Shared) (T : Times (List ℕ)) (a : List ℕ) (notes : Notes) (call : Started) (place : Place) (h : Hand) → Fine b s → Goes c s s' → d ≢ c → At b s d o place h
     → Facts b s T notes d call place h → Facts b s' (ticked T who a) notes d call place h
-facts_kept b c d o who s s' T a notes call Idle h f g ne at k = tt
-facts_kept b c d o who s s' T a notes call (Pick kind) h f g ne at k = tt
 facts_kept b c d o who s s' T a notes call (First kind) h f g ne at k =
     left_kept b s s' h.r0 h.n0 (subst (λ (r : Reference). SameKey s s' r) (sym at.2) (g.key (suc at.0) (f.sentinel at.0 at.1).owner)) k
 facts_kept b c d o who s s' T a notes call (Second kind) h f g ne at k =
@@ -179,16 +173,16 @@ facts_kept b c d o who s s' T a notes call Link h f g ne at k =
       own_key : Own s d h.r4 h.r1 → SameKey s s' h.r4
       own_key w = subst (λ (r : Reference). SameKey s s' r) (sym w.1) (g.held_key w.0 d ne w.2)
 facts_kept b c d o who s s' T a notes call Mark h f g ne at k = within_key b c o s s' h.r1 g at.1 ∙ k
-facts_kept b c d o who s s' T a notes call Unlink h f g ne at k = tt
 facts_kept b c d o who s s' T a notes call (Missed Insert) h f g ne at k = known_kept T who d notes.load h.n0 true a call k
 facts_kept b c d o who s s' T a notes call (Missed Remove) h f g ne at k = known_kept T who d notes.gap h.n0 false a call k
 facts_kept b c d o who s s' T a notes call (Missed Contains) h f g ne at k = known_kept T who d notes.gap h.n0 false a call k
 facts_kept b c d o who s s' T a notes call There h f g ne at k = known_kept T who d notes.load h.n0 true a call k
+facts_kept b c d o who s s' T a notes call _ h f g ne at k = tt
 
 -- the key is missing now, between a live node and its successor
 pub missing_now : (b : ℕ) (s : Shared) (set : List ℕ) (x0 n : ℕ) → Fine b s → Sorted b s → SetOf b s set → Live s x0 → homes b (keys s) x0 ≡ remainder n b → (x0 ≤ b) ⊎ (keys s x0 < n)
     → ((s.cell x0).next.node ≡ 0) ⊎ (n < keys s (s.cell x0).next.node) → has n set ≡ false
-missing_now b s set x0 n f o h live home low high = not_true (has n set) (λ e. gap_none b s x0 n f o live home low high (h.there n e))
+missing_now b s set x0 n f o h live home low high = false_from_ne_true (has n set) (λ e. gap_none b s x0 n f o live home low high (h.there n e))
 
 -- the successor of a live node belongs to the same bucket
 pub home_next : (b : ℕ) (s : Shared) (x0 n : ℕ) → Sorted b s → Live s x0 → homes b (keys s) x0 ≡ remainder n b → ((s.cell x0).next.node ≡ 0) ⊎ (homes b (keys s) (s.cell x0).next.node ≡ remainder n b)

@@ -2,16 +2,14 @@
 use Rattle.std.specs.Prelude.{ℕ, ◌≡◌, List, [], ◌∷◌, Some, None}
 use Rattle.norm_lang.specs.Shipped.{set_text}
 use Rattle.source_machine.specs.declared.event.SourceEvent.{SourceEvent}
-use Rattle.source_machine.specs.declared.event.SourceEvent.TheVariants.{Begin, Access, Restart}
+use Rattle.source_machine.specs.declared.event.SourceEvent.TheVariants.{Access, Restart}
+use Rattle.source_machine.specs.Keeper.{begins}
 use Rattle.norm_lang.specs.declared.reply.SourceReply.TheVariants as replies
 use Rattle.source_histories.specs.declared.deed.Deed.{Deed}
 use Rattle.source_histories.specs.Books.{Started, Ended, Log, book_of}
 use Rattle.set_laws.specs.Sets.{set_rules, set_deeds, SetLegal}
 
--- a Begin with an argument, and a deed with a number for its reply
-abbrev pub begins : ℕ → ℕ → ℕ → SourceEvent
-begins caller op argument = Begin caller op (argument ∷ 0 ∷ 0 ∷ 0 ∷ [])
-
+-- a deed with a number for its reply
 abbrev pub deed : ℕ → ℕ → ℕ → ℕ → ℕ → Deed
 deed caller op arg reply moment = record { caller = caller; op = op; arg = arg; reply = Some reply; moment = moment }
 

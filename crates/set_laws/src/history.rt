@@ -1,6 +1,6 @@
 //! The history of a set.
 
-ghost use Rattle.std.specs.Prelude.{◌≡◌, ◌≤◌, IfOk};
+ghost use Rattle.std.specs.Prelude.{◌≤◌, IfOk};
 ghost use Rattle.set_laws.specs.Sets.{IsSetHistory, SetLegal};
 
 use crate::reader::SetReader;

@@ -23,9 +23,8 @@ queue_target = second_scheme queue_text
 -- ---- what each operation has
 
 pub queue_news : (op : ℕ) → news_of (slice_get queue_target.ops op) ≡ (if has_name (codes "enqueue") (slice_get queue_target.ops op) then 1 else 0)
-queue_news zero = refl
 queue_news (suc zero) = refl
-queue_news (suc (suc op)) = refl
+queue_news _ = refl
 
 -- ---- their wrap-ups
 
@@ -67,20 +66,16 @@ enqueue_carries (suc zero) registers holds = λ next is. of (are_equal registers
   of true same next is = absurd (let z : true ≡ false = none_made 1 registers true holds same in cc)
   of false same next is = carried_to EnqueueHolds 2 registers next (omega arith) is
 enqueue_carries (suc (suc zero)) registers holds = λ word. omega arith
-enqueue_carries (suc (suc (suc zero))) registers holds = omega arith
 enqueue_carries (suc (suc (suc (suc zero)))) registers holds = λ word. omega arith
 enqueue_carries (suc (suc (suc (suc (suc zero))))) registers holds = λ next is. carried_to EnqueueHolds 6 (with_reference registers (Ref 2) no_reference) next (omega arith) is
-enqueue_carries (suc (suc (suc (suc (suc (suc zero)))))) registers holds = omega arith
 enqueue_carries (suc (suc (suc (suc (suc (suc (suc zero))))))) registers holds = λ next is. of (are_equal registers (Ref 1) (Ref 2)) next is where
   of : (b : Bool) (next : Spot) → Some (record { at = if b then 12 else 8; registers = registers }) ≡ Some next → EnqueueHolds next.at next.registers
   of true next is = carried_to EnqueueHolds 12 registers next (omega arith) is
   of false next is = carried_to EnqueueHolds 8 registers next (omega arith) is
-enqueue_carries (suc (suc (suc (suc (suc (suc (suc (suc zero)))))))) registers holds = omega arith
-enqueue_carries (suc (suc (suc (suc (suc (suc (suc (suc (suc zero))))))))) registers holds = omega arith
-enqueue_carries (suc (suc (suc (suc (suc (suc (suc (suc (suc (suc zero)))))))))) registers holds = omega arith
 enqueue_carries (suc (suc (suc (suc (suc (suc (suc (suc (suc (suc (suc zero))))))))))) registers holds = (omega arith, omega arith)
 enqueue_carries (suc (suc (suc (suc (suc (suc (suc (suc (suc (suc (suc (suc zero)))))))))))) registers holds = λ next is. absurd cc
 enqueue_carries (suc (suc (suc (suc (suc (suc (suc (suc (suc (suc (suc (suc (suc n))))))))))))) registers holds = absurd (omega (arith, holds))
+enqueue_carries _ registers holds = omega arith
 
 abbrev pub QueueHolds : ℕ → ℕ → Registers → Type 0
 QueueHolds zero = EnqueueHolds
@@ -88,9 +83,8 @@ QueueHolds (suc zero) = ChangeHolds
 QueueHolds (suc (suc op)) = AnswerHolds
 
 pub queue_begins : (op : ℕ) → Begins (QueueHolds op)
-queue_begins zero registers some = some
-queue_begins (suc zero) registers some = some
 queue_begins (suc (suc op)) registers some = tt
+queue_begins _ registers some = some
 
 pub queue_carries : (op : ℕ) → CodeCarries (QueueHolds op) (code_at queue_target op true)
 queue_carries zero = subst (CodeCarries EnqueueHolds) (sym enqueue_is) enqueue_carries

@@ -21,10 +21,8 @@ module _ (buckets : ℕ) where
   -- ---- what each operation has
 
   pub set_news : (op : ℕ) → news_of (slice_get set_target.ops op) ≡ (if has_name (codes "insert") (slice_get set_target.ops op) then 1 else 0)
-  set_news zero = refl
-  set_news (suc zero) = refl
   set_news (suc (suc zero)) = refl
-  set_news (suc (suc (suc op))) = refl
+  set_news _ = refl
 
   -- ---- their wrap-ups
 
@@ -43,9 +41,8 @@ module _ (buckets : ℕ) where
   SetHolds (suc (suc op)) = AnswerHolds
 
   pub set_begins : (op : ℕ) → Begins (SetHolds op)
-  set_begins zero registers some = some
-  set_begins (suc zero) registers some = some
   set_begins (suc (suc op)) registers some = tt
+  set_begins _ registers some = some
 
   changes : CodeCarries ChangeHolds (change_code (instr.Return (Num 2)) (instr.Return (Num 3)))
   changes = change_carries (instr.Return (Num 2)) (instr.Return (Num 3)) (λ registers next is. absurd cc) (λ registers next is. absurd cc)

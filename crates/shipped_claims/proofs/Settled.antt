@@ -121,11 +121,8 @@ unguarded_wraps None hand wraps = wraps
 unguarded_wraps (Some r) hand wraps = wraps
 
 unguarded_clears : (o : Option ℕ) (hand : Hand) (next : AfterClear) → ClearSettles hand next → ClearSettles (unguarded o hand) next
-unguarded_clears None hand next settled = settled
 unguarded_clears (Some r) hand clears.New settled = settled
-unguarded_clears (Some r) hand clears.WrapUp settled = settled
-unguarded_clears (Some r) hand (clears.Reply reply) settled = settled
-unguarded_clears (Some r) hand clears.Again settled = settled
+unguarded_clears _ hand _ settled = settled
 
 -- ---- code
 
@@ -167,10 +164,9 @@ module _ (target : Target) (sizes : Sizes) (Holds : ℕ → ℕ → Registers �
   same e routine is settled = subst (SettledAt (HoldsIn e) e.hand) (sym is) settled
 
   then_settles : (next : AfterClear) (e : Entry) → ClearSettles e.hand next → Settled (then_goes target sizes next e)
-  then_settles clears.New e settled = absurd settled
   then_settles clears.WrapUp e settled = settled
   then_settles (clears.Reply reply) e settled = tt
-  then_settles clears.Again e settled = absurd settled
+  then_settles _ e settled = absurd settled
 
   cleared_settles : (next : AfterClear) (e : Entry) → ClearSettles e.hand next → Settled (cleared target sizes next e)
   cleared_settles next e settled = of (clear_next target next e) where
@@ -216,10 +212,8 @@ module _ (target : Target) (sizes : Sizes) (Holds : ℕ → ℕ → Registers �
   stopped_settles : (by : Reclamation) (e : Entry) → InWrapUp e.hand → HoldsIn e e.hand.at e.hand.registers → Settled (stopped by target sizes e).entry
   stopped_settles by e wraps holds = of (instr_in target e) (carried_here e wraps holds) where
     of : (o : Option TargetInstr) → InstrCarries (HoldsIn e) e.hand.at e.hand.registers o → Settled (stops by target sizes o e).entry
-    of None carried = (wraps, holds)
-    of (Some Check) carried = (wraps, holds)
-    of (Some (Guard r)) carried = (wraps, holds)
     of (Some (Plain i)) carried = stop_at_settles by i e wraps holds carried
+    of _ carried = (wraps, holds)
 
   -- local code carries it on
   run_holds : (spot : Spot) (e : Entry) → InWrapUp e.hand → HoldsIn e spot.at spot.registers → (let end = target_run (code_in target e) (length (code_in target e)) spot in HoldsIn e end.at end.registers)
@@ -242,10 +236,8 @@ module _ (target : Target) (sizes : Sizes) (Holds : ℕ → ℕ → Registers �
       of begun (instr_in target begun) wraps holds (carried_here begun wraps holds)
     where
       of : (e : Entry) (o : Option TargetInstr) → InWrapUp e.hand → HoldsIn e e.hand.at e.hand.registers → InstrCarries (HoldsIn e) e.hand.at e.hand.registers o → Settled (wrap_up_stops o e).entry
-      of e None wraps holds carried = (wraps, holds)
-      of e (Some Check) wraps holds carried = (wraps, holds)
-      of e (Some (Guard r)) wraps holds carried = (wraps, holds)
       of e (Some (Plain i)) wraps holds carried = stop_settles i e wraps holds carried
+      of e _ wraps holds carried = (wraps, holds)
 
   begun_settles : (e : Entry) → 1 ≤ number_in e.hand.started (Num 7) → Settled (method_begun target sizes true e).entry
   begun_settles e some =
@@ -355,14 +347,12 @@ module _ (target : Target) (sizes : Sizes) (Holds : ℕ → ℕ → Registers �
 
   -- it leaves, and announces no more
   leaving_settles : (announcing : Announcing) (word : ℕ) (e : Entry) → LeaveSettles announcing → Settled (announced target sizes announcing word e).entry
-  leaving_settles (announces.Loads why) word e settled = absurd settled
-  leaving_settles (announces.Stores why phase) word e settled = absurd settled
   leaving_settles (announces.Leaves reply) word e settled = tt
+  leaving_settles _ word e settled = absurd settled
 
   start_settles : (why : MethodStart) (word : ℕ) (e : Entry) → StartSettles e.hand why → Settled (seen_loaded target sizes why word e).entry
-  start_settles starts.Begin word e settled = absurd settled
   start_settles starts.WrapUp word e settled = begun_settles (with_hand e (record e.hand { seen = word })) settled.1
-  start_settles starts.Again word e settled = absurd settled
+  start_settles _ word e settled = absurd settled
 
 -- ---- each step
 

@@ -16,9 +16,8 @@ pub carried_to : (Holds : ℕ → Registers → Type 0) (at : ℕ) (registers : 
 carried_to Holds at registers next holds is = let same : record { at = at; registers = registers } ≡ next = cc in subst (λ (s : Spot). Holds s.at s.registers) same holds
 
 zeroed_there : (numbers : List ℕ) (r : ℕ) → get_or (set numbers r 0) r 0 ≡ 0
-zeroed_there [] r = refl
-zeroed_there (n ∷ numbers) zero = refl
 zeroed_there (n ∷ numbers) (suc r) = zeroed_there numbers r
+zeroed_there _ _ = refl
 
 -- some exchange has succeeded
 abbrev pub SomeMade : Registers → Type 0

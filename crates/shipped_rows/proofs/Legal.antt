@@ -1,10 +1,9 @@
 -- The orders of the legal ones are written out; each of the others is of one caller, whose calls have one order.
-use Rattle.std.proofs.Common.{◌≡◌, ◌≢◌, ℕ, zero, suc, ◌==◌, Bool, true, false, List, [], ◌∷◌, refl, sym, ap, ◌∙◌, subst, inl, inr, ⊎_elim, arith}
+use Rattle.std.proofs.Common.{◌≡◌, ◌≢◌, ℕ, ◌==◌, Bool, true, false, List, [], ◌∷◌, refl, sym, ap, ◌∙◌, subst, inl, inr, ⊎_elim, arith}
 use Rattle.std.specs.Prelude.{slice_index_or, codes, if◌then◌else◌}
 use Rattle.std.proofs.lemmas.Bool.{cases_eq}
 use Rattle.std.proofs.lemmas.Bool.Decides.{nat_tests}
 use Rattle.norm_lang.specs.declared.reply.SourceReply.TheVariants as replies
-use mathlib.Core.Logic.{◌⊎◌}
 use Rattle.document_runs.specs.declared.report.Answer.{Answer}
 use Rattle.document_runs.specs.declared.report.Answer.TheVariants as answers
 use Rattle.document_runs.specs.declared.report.ReportLine.{ReportLine}
@@ -12,10 +11,10 @@ use Rattle.histories.specs.declared.call.Call.{Call}
 use Rattle.histories.specs.declared.call.Action.{Action}
 use Rattle.histories.specs.declared.call.Action.TheVariants.{Insert, Remove, Contains, Enqueue, Dequeue}
 use Rattle.histories.specs.declared.call.Answer as told
-use Rattle.histories.specs.declared.call.Answer.TheVariants.{Number, Nothing, Spent, NoEffect}
-use Rattle.histories.specs.Histories.{Shared, nothing_shared, reply_to, after, Leaves, calls_of, IsOrderOf, IsLegal, HasLegalOrder}
+use Rattle.histories.specs.declared.call.Answer.TheVariants.{Number, Nothing, NoEffect}
+use Rattle.histories.specs.Histories.{Shared, nothing_shared, reply_to, after, Leaves, calls_of, IsOrderOf, IsLegal}
 use Rattle.histories.proofs.Beginnings.{same_caller, none_is_no}
-use Rattle.script_driver.specs.report_laws.Legal.{AsksFor, answer_shown, Shows, AreShown, HasLegalHistory}
+use Rattle.script_driver.specs.report_laws.Legal.{AsksFor, answer_shown, Shows, HasLegalHistory}
 use Rattle.shipped_rows.specs.LegalRows.{key_line, number, dequeue_line, of_lines, put_and_found, shared_by_two, put_and_taken, LegalRows}
 
 abbrev call : ℕ → Action → told.Answer → Call
@@ -59,8 +58,7 @@ by_moments = call 1 (Contains 5) (Number 0) ∷ call 0 (Insert 5) (Number 1) ∷
 moved : (a b : Bool) (x y z : Call) → (a ≡ true → b ≡ true → ⊥) → (if b then y ∷ (if a then x ∷ (if b then z ∷ [] else []) else (if b then z ∷ [] else [])) else (if a then x ∷ (if b then z ∷ [] else []) else (if b then z ∷ [] else [])))
     ≡ (if a then x ∷ (if b then y ∷ (if b then z ∷ [] else []) else (if b then z ∷ [] else [])) else (if b then y ∷ (if b then z ∷ [] else []) else (if b then z ∷ [] else [])))
 moved true true x y z differ = absurd (differ refl refl)
-moved true false x y z differ = refl
-moved false b x y z differ = refl
+moved _ _ x y z differ = refl
 
 not_both : (c : ℕ) → (0 == c) ≡ true → (1 == c) ≡ true → ⊥
 not_both c zero_is one_is = grind (arith, nat_tests)

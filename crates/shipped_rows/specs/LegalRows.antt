@@ -1,5 +1,5 @@
 -- Reports of a set and of a queue that have a legal history, and such as have none.
-use Rattle.std.specs.Prelude.{◌≡◌, ℕ, List, [], ◌∷◌, codes}
+use Rattle.std.specs.Prelude.{ℕ, List, [], ◌∷◌, codes}
 use Rattle.norm_lang.specs.declared.reply.SourceReply.TheVariants as replies
 use Rattle.document_runs.specs.declared.report.Answer.{Answer}
 use Rattle.document_runs.specs.declared.report.Answer.TheVariants as answers

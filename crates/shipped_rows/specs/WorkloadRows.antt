@@ -2,10 +2,10 @@
 -- (75 times each and 74, less a multiple of 65537), and 2, 224 of caller 1. A key is what a number leaves by 50, and 1000 for each caller before.
 use Rattle.std.specs.Prelude.{◌≡◌, ℕ, [], ◌∷◌, map, length, codes}
 use Rattle.norm_lang.specs.Shipped.{set_text}
+use Rattle.norm_lang.specs.Arguments.{padded}
 use Rattle.documents.specs.declared.document.ScriptCall.{ScriptCall}
 use Rattle.documents.specs.declared.document.Document.{Document}
 use Rattle.script_driver.specs.Workload.{workload_document}
-use Rattle.script_plans.specs.Shapes.{padded}
 
 abbrev pub insert_of : ℕ → ScriptCall
 insert_of key = record { line = 0; name = codes "insert"; args = key ∷ [] }

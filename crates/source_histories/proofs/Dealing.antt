@@ -361,8 +361,7 @@ books_own step T slot b (suc n) = of (slot n) refl (books_own step T slot b n) w
 -- a call runs where the phase says so
 pub phase_now : (time : ℕ) (slot : Slots) (c : ℕ) (log : Log) (phase : Phase) → PhaseHolds time slot c log phase → phase_runs phase ≡ is_some log.now
 phase_now time slot c log Resting k = ap is_some (sym k.0)
-phase_now time slot c log (Working call) k = ap is_some (sym k.0)
-phase_now time slot c log (Landed call d) k = ap is_some (sym k.0)
+phase_now time slot c log _ k = ap is_some (sym k.0)
 
 pub map_push : (es : List Ended) (e : Ended) → map replied_with (es ++ e ∷ []) ≡ map replied_with es ++ e.reply ∷ []
 map_push [] e = refl

@@ -1,31 +1,27 @@
 -- What is written down along the events of a run is the run's book.
-use Rattle.std.proofs.Common.{ℕ, zero, suc, ◌+◌, ◌≡◌, ◌≢◌, ◌≤◌, ◌<◌, ◌∙◌, ◌++◌, true, false, List, [], ◌∷◌, length, take, set, replicate, get_or, Option, Some, None, Ok, Err, sym, ap, subst, refl, ⊎_elim, arith}
-use Rattle.std.specs.Prelude.{slice_get, slice_index_or, IsSomeAnd}
+use Rattle.std.proofs.Common.{ℕ, zero, suc, ◌+◌, ◌≡◌, ◌≢◌, ◌≤◌, ◌<◌, ◌∙◌, ◌++◌, true, false, List, [], ◌∷◌, length, take, set, replicate, get_or, Option, Some, None, Ok, sym, ap, subst, refl, ⊎_elim, arith}
+use Rattle.std.specs.Prelude.{slice_get, slice_index_or}
 use Rattle.std.proofs.lemmas.Bool.{cases_eq}
-use Rattle.std.proofs.lemmas.List.{length-set, length-replicate, take_all}
+use Rattle.std.proofs.lemmas.List.{length-set}
 use Rattle.std.proofs.lemmas.Option.{slice_get-get_or}
 use Rattle.norm_lang.specs.declared.text.Text.{Text}
 use Rattle.source_machine.specs.declared.event.SourceEvent.{SourceEvent}
-use Rattle.source_machine.specs.declared.event.SourceEvent.TheVariants.{Begin, Access, Restart, GiveUp}
+use Rattle.source_machine.specs.declared.event.SourceEvent.TheVariants.{Access}
 use Rattle.source_machine.specs.declared.state.Running.{Running}
 use Rattle.source_machine.specs.declared.state.SourceCaller.{SourceCaller}
 use Rattle.source_machine.specs.declared.state.SourceMachine.{SourceMachine}
-use Rattle.source_machine.specs.declared.error.StepError.{StepError}
-use Rattle.source_machine.specs.declared.error.StepError.TheVariants as steps
-use Rattle.source_machine.specs.State.{source_start}
 use Rattle.source_machine.specs.Step.{caller_turn}
 use Rattle.source_machine.specs.Run.{mover, step_of, is_enabled, is_enabled_for, source_step, IsSourceRun}
 use Rattle.source_machine.specs.MethodRuns.{put}
-use Rattle.source_machine.specs.Calls.{Steps, IsStopped}
+use Rattle.source_machine.specs.Calls.{Steps}
 use Rattle.source_machine.proofs.Places.{put_same, put_other}
 use Rattle.source_machine.proofs.Along.{source_run_more}
 use Rattle.source_machine.proofs.Calling.{one_taken}
 use Rattle.source_histories.specs.declared.deed.Deed.{Deed}
 use Rattle.source_histories.specs.declared.deed.Notes.{Notes}
 use Rattle.source_histories.specs.declared.deed.Noted.{Noted}
-use Rattle.source_histories.specs.Deeds.{deeds_in}
 use Rattle.source_histories.specs.Books.{no_notes, Rules, noted_of, written, Book, book_start, book_by, book_step, book_run, book_of}
-use Rattle.source_histories.specs.Reading.{before_in, notes_before, noted_from, filled_in, IsWritten, IsFollowed, Records}
+use Rattle.source_histories.specs.Reading.{before_in, notes_before, noted_from, filled_in, IsWritten}
 
 pub record Following (text : Text) (rules : Rules) (callers : ℕ) (events : List SourceEvent) (state : SourceMachine) (slots : List (Option Deed)) (notes : List Notes) : Type 0 where
   pub run : IsSourceRun text callers events state
@@ -36,20 +32,8 @@ pub record Following (text : Text) (rules : Rules) (callers : ℕ) (events : Lis
   pub long : length notes ≡ callers
 
 all_blank : (n c : ℕ) → slice_index_or (replicate n no_notes) c no_notes ≡ no_notes
-all_blank zero c = refl
-all_blank (suc n) zero = refl
 all_blank (suc n) (suc c) = all_blank n c
-
-pub following_none : (text : Text) (rules : Rules) (callers : ℕ) (state : SourceMachine) (slots : List (Option Deed)) (notes : List Notes) → 1 ≤ callers → callers ≤ 8 → state ≡ source_start text callers → slots ≡ [] → notes ≡ replicate callers no_notes
-    → Following text rules callers [] state slots notes
-following_none text rules callers state slots notes some few first none blank = record {
-  run = record { some = some; few = few; runs = ap Some (sym first) };
-  machine = sym first;
-  time = refl;
-  kept = sym none;
-  remembered = λ c lt. ap (λ ns. slice_index_or ns c no_notes) blank ∙ all_blank callers c;
-  long = ap length blank ∙ length-replicate callers no_notes;
-}
+all_blank _ _ = refl
 
 book_more : (text : Text) (rules : Rules) (events : List SourceEvent) (event : SourceEvent) (b : Book) → book_run text rules (events ++ event ∷ []) b ≡ book_step text rules (book_run text rules events b) event
 book_more text rules [] event b = refl
@@ -59,14 +43,11 @@ book_more text rules (first ∷ events) event b = book_more text rules events ev
 same_noted : (rules : Rules) (event : SourceEvent) (t : ℕ) (notes : Notes) (caller after : SourceCaller) → noted_of rules event t notes caller.running after ≡ noted_from rules t (mover event) (notes_before event t notes) (before_in event (Some caller)) (Some after)
 same_noted rules event t notes caller after = of event caller.running refl where
   of : (e : SourceEvent) (r : Option Running) → caller.running ≡ r → noted_of rules e t notes r after ≡ noted_from rules t (mover e) (notes_before e t notes) (before_in e (Some (record { replies = caller.replies; running = r }))) (Some after)
-  of (Begin c n args) r is = refl
-  of (Restart c) r is = refl
-  of (GiveUp c p) r is = refl
-  of (Access c name) None is = refl
   of (Access c name) (Some running) is = seen after.running refl where
     seen : (x : Option Running) → after.running ≡ x → noted_of rules (Access c name) t notes (Some running) (record { replies = after.replies; running = x }) ≡ noted_from rules t c notes (before_in (Access c name) (Some (record { replies = caller.replies; running = Some running }))) (Some (record { replies = after.replies; running = x }))
     seen None e = refl
     seen (Some x) e = refl
+  of _ _ is = refl
 
 -- the callers after a step
 set_get : {A : Type 0} (xs : List A) (c : ℕ) (x y : A) → slice_get xs c ≡ Some y → slice_get (set xs c x) c ≡ Some x
@@ -85,11 +66,9 @@ index_set ns c d n lt = ⊎_elim
       here (x ∷ ns) (suc c) lt = here ns c (omega (arith, lt))
 
       there : (ns : List Notes) (c d : ℕ) → d ≢ c → slice_index_or (set ns c n) d no_notes ≡ slice_index_or ns d no_notes
-      there [] c d ne = refl
       there (x ∷ ns) zero zero ne = absurd (ne refl)
-      there (x ∷ ns) zero (suc d) ne = refl
-      there (x ∷ ns) (suc c) zero ne = refl
       there (x ∷ ns) (suc c) (suc d) ne = there ns c d (λ e. ne (ap (λ i. suc i) e))
+      there _ _ _ ne = refl
 
 get_lt : {A : Type 0} (xs : List A) (c : ℕ) (y : A) → slice_get xs c ≡ Some y → c < length xs
 get_lt [] c y e = absurd (let z : None ≡ Some y = e in cc)
@@ -190,17 +169,3 @@ following_next text rules callers at events d old new slots slots' notes notes' 
     let before : at ≡ length (take at events) = sym (length_taken events at (omega (arith, lt))) in
     subst (λ es. Following text rules callers es new slots' notes') (sym (one_taken events at (get_or events at d) (slice_get-get_or events at d lt)) ∙ ap (λ n. take n events) more)
     (following_more text rules callers at (take at events) (get_or events at d) old new slots slots' notes notes' u f many before h writes)
-
--- the event at a place isn't enabled
-pub following_stops : (text : Text) (rules : Rules) (callers at : ℕ) (events : List SourceEvent) (d : SourceEvent) (old new : SourceMachine) (slots : List (Option Deed)) (notes : List Notes) (e : StepError) → at < length events
-    → Following text rules callers (take at events) old slots notes → e ≡ steps.NotEnabled → IsFollowed text old (get_or events at d) new (Err e) → IsStopped text callers events at
-following_stops text rules callers at events d old new slots notes steps.NotEnabled lt f is h =
-    record { state = old; run = f.run; refused = subst (λ o. IsSomeAnd o (λ x. is_enabled text old x ≡ false)) (sym (slice_get-get_or events at d lt)) h.0 }
-following_stops text rules callers at events d old new slots notes steps.Memory lt f is h = absurd (let z : ⊥ = cc in z)
-
--- the deeds of all events
-pub following_ends : (text : Text) (rules : Rules) (callers at : ℕ) (events : List SourceEvent) (state : SourceMachine) (slots : List (Option Deed)) (notes : List Notes) (deeds : List Deed) → length events ≤ at
-    → Following text rules callers (take at events) state slots notes → deeds ≡ deeds_in slots → Records text rules callers events (Ok deeds)
-following_ends text rules callers at events state slots notes deeds le f e =
-    let all : take at events ≡ events = take_all at events le in
-    (state, subst (λ es. IsSourceRun text callers es state) all f.run, e ∙ ap deeds_in (sym f.kept ∙ ap (λ es. (book_of text rules callers es).slots) all))

@@ -16,7 +16,7 @@ use Rattle.source_machine.specs.declared.state.Stand.{Stand}
 use Rattle.source_machine.specs.declared.state.Stand.TheVariants.{InGenerator, InList, InWrapUp}
 use Rattle.source_machine.specs.declared.state.Running.{Running}
 use Rattle.source_machine.specs.declared.state.SourceCaller.{SourceCaller}
-use Rattle.source_histories.specs.Books.{Started, Ended, Log, no_calls, logged}
+use Rattle.source_histories.specs.Books.{Started, Ended, Log, logged}
 
 -- operation 2 with the argument 5, where it stands
 abbrev arguments : List ℕ

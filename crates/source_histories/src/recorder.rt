@@ -1,6 +1,6 @@
 //! What is written down along a run.
 
-ghost use Rattle.std.specs.Prelude.{◌≡◌, ◌<◌, ◌≤◌, ◌∷◌, [], ◌++◌, None, length, slice_get, slice_set, slice_index_or, replicate, OnOk, IfOk};
+ghost use Rattle.std.specs.Prelude.{◌≡◌, ◌<◌, ◌≤◌, [], length, slice_get, slice_index_or, replicate, OnOk, IfOk};
 ghost use Rattle.source_machine.specs.State.{source_start};
 ghost use Rattle.source_machine.specs.Run.{mover};
 ghost use Rattle.source_machine.specs.Calls.{IsOfSourceRun};
@@ -9,10 +9,10 @@ ghost use Rattle.source_histories.specs.Books.{no_notes};
 ghost use Rattle.source_histories.specs.Reading.{notes_before, noted_from, filled_in, IsWritten, IsFollowed, Records};
 
 use crate::deed::{Deed, Noted, Notes};
-use crate::reader::{Before, Reader, look_before, mover_of, seen_after};
+use crate::reader::{Before, Reader, look_before, seen_after};
 use norm_check::Normal;
 use norm_lang::list::Listed;
-use source_machine::{RunError, SourceEvent, SourceState, StepError, step};
+use source_machine::{RunError, SourceEvent, SourceState, StepError, mover, step};
 use std::alloc::{AllocError, Global};
 
 fn notes_of(notes: &Listed<Notes>, caller: u32) -> Notes
@@ -107,7 +107,7 @@ fn follow<R: Reader>(
     ensures many { length state.new.callers ≡ callers }
     ensures written { OnOk result (mover event.now < callers → IsWritten (R.rules reader.now) at event.now state.old state.new slots.old slots.new notes.old notes.new) }
 {
-    let caller = mover_of(event);
+    let caller = mover(event);
     let before = look_before(state, callers, event);
     step(alloc, state, normal, event)?;
     slots.push(None)?;

@@ -1,4 +1,4 @@
-//! The limit of targets that isn't one of texts.
+//! The one limit in which targets differ from texts.
 
 /// Instructions of a method, the checks and guards among them.
 pub const MOST_TARGET_INSTRS: usize = 4096;

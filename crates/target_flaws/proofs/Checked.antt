@@ -3,13 +3,12 @@ use Rattle.std.proofs.Common.{◌≡◌, ◌↔◌, ◌⊎◌, inl, inr, ℕ, ze
 use Rattle.std.specs.Prelude.{slice_index_or, nat_lt, IsTrue}
 use Rattle.std.proofs.lemmas.Bool.Decides.{nat_tests}
 use Rattle.std.proofs.lemmas.List.{length-append, get_or_append_left, get_or_push}
+use Rattle.std.proofs.lemmas.Bool.{or_cases, or_left, or_right}
 use Rattle.norm_lang.specs.declared.text.Reg.{Reg}
 use Rattle.norm_lang.specs.declared.text.Reg.TheVariants.{Num, Ref}
 use Rattle.norm_lang.specs.Limits.{is_register}
 use Rattle.norm_lang.specs.Flow.{state_along}
 use Rattle.path_facts.specs.Facts.{comes_in_by}
-use Rattle.norm_paths.proofs.Starting.{or_right}
-use Rattle.norm_paths.proofs.RuleLemmas.{or_left, or_cases}
 use Rattle.target_code.specs.declared.target.TargetInstr.{TargetInstr}
 use Rattle.target_code.specs.Paths.{OnSomeTargetPath}
 use Rattle.target_code.specs.Flaws.{clean_after, GuardState, Free, Published, Validated, Dropped, guard_after, MayBeUnchecked, MayBeGuarded}

@@ -3,6 +3,7 @@ use Rattle.std.proofs.Common.{◌≡◌, ◌↔◌, inl, inr, ℕ, ◌-◌, ◌�
 use Rattle.std.specs.Prelude.{slice_index_or, IsTrue}
 use Rattle.std.specs.List.{list_any, flat_map}
 use Rattle.std.proofs.lemmas.List.Folds.{list_any-append}
+use Rattle.std.proofs.lemmas.Bool.{or_cases, or_left, or_right, and_from}
 use Rattle.norm_lang.specs.declared.text.Reg.{Reg}
 use Rattle.norm_lang.specs.declared.text.Reg.TheVariants.{Num, Ref}
 use Rattle.norm_lang.specs.declared.text.CasEntry.{CasEntry}
@@ -14,9 +15,9 @@ use Rattle.norm_lang.specs.RegisterUse.{same_register, operands_of, registers_na
 use Rattle.norm_lang.specs.Kept.{holds_reference, IsKept}
 use Rattle.norm_paths.specs.Found.{IsOpWithin, all_registers}
 use Rattle.norm_paths.proofs.Reading.{any_of_all}
-use Rattle.norm_paths.proofs.Within.{and_left, and_right, and_both, reads_within, register_same}
-use Rattle.norm_paths.proofs.Starting.{or_right, carried_within}
-use Rattle.norm_paths.proofs.RuleLemmas.{or_left, or_cases, both_tests}
+use Rattle.norm_paths.proofs.Within.{and_left, and_right, reads_within, register_same}
+use Rattle.norm_paths.proofs.Starting.{carried_within}
+use Rattle.norm_paths.proofs.RuleLemmas.{both_tests}
 use Rattle.target_code.specs.declared.target.TargetInstr.{TargetInstr}
 use Rattle.target_code.specs.declared.target.TargetInstr.TheVariants.{Plain, Check, Guard}
 use Rattle.target_code.specs.Paths.{target_reads}
@@ -78,7 +79,7 @@ guards_within kinds fields roots (Guard a) r limits is = subst (λ (s : Reg). Is
 uses_right : (source : Op) (needs : Needs) (r : Reg) (i : TargetInstr) → AreNeeds source needs → IsTrue (uses_by needs r i) ↔ Uses source r i
 uses_right source needs r i asks = (
   (λ so. elim (or_cases read (commits && handed) so) [ inl one ↦ inl one | inr two ↦ inr (and_left commits handed two, (asks.handed r).0 (and_right commits handed two)) ]),
-  λ uses. elim uses [ inl one ↦ or_left read (commits && handed) one | inr two ↦ or_right read (commits && handed) (and_both commits handed two.0 ((asks.handed r).1 two.1)) ],
+  λ uses. elim uses [ inl one ↦ or_left read (commits && handed) one | inr two ↦ or_right read (commits && handed) (and_from commits handed two.0 ((asks.handed r).1 two.1)) ],
 )
   where
     read : Bool
@@ -109,7 +110,7 @@ unchecked_right source code at i needs found site = ((λ so. let some = tests.0 
 needs_right : (source : Op) (needs : Needs) (r : Reg) (i : TargetInstr) → AreNeeds source needs → IsTrue (holds_reference r) → IsTrue (needs_guard_by needs r i) ↔ NeedsGuard source r i
 needs_right source needs r i asks reference = (
   (λ so. elim (or_cases exchanges (commits && kept) so) [ inl one ↦ inl (reference, one) | inr two ↦ inr (and_left commits kept two, (asks.kept r).0 (and_right commits kept two)) ]),
-  λ need. elim need [ inl one ↦ or_left exchanges (commits && kept) one.1 | inr two ↦ or_right exchanges (commits && kept) (and_both commits kept two.0 ((asks.kept r).1 two.1)) ],
+  λ need. elim need [ inl one ↦ or_left exchanges (commits && kept) one.1 | inr two ↦ or_right exchanges (commits && kept) (and_from commits kept two.0 ((asks.kept r).1 two.1)) ],
 )
   where
     exchanges : Bool
@@ -123,9 +124,6 @@ needs_right source needs r i asks reference = (
 
 need_reference : (source : Op) (r : Reg) (i : TargetInstr) → NeedsGuard source r i → IsTrue (holds_reference r)
 need_reference source r i need = elim need [ inl one ↦ one.0 | inr two ↦ two.1.0 ]
-
-need_register : (source : Op) (kinds fields roots : ℕ) (i : TargetInstr) (r : Reg) → IsOpWithin source → IsTrue (is_target_instr kinds fields roots i) → NeedsGuard source r i → IsTrue (is_register r)
-need_register source kinds fields roots i r within limits need = elim need [ inl one ↦ exchanges_within kinds fields roots i r limits one.1 | inr two ↦ carried_within source r within two.1.1 ]
 
 -- some register that an instruction needs guarded may have its guard in a state
 abbrev needs_more_by : Needs → TargetFound → ℕ → TargetInstr → ℕ → Bool
@@ -168,7 +166,7 @@ dropped_right : (source : Op) (wrapup : Bool) (code : List TargetInstr) (at : �
     → IsTrue (needs_more_by needs found at i 3 || (wrapup && guards_kept_by needs i)) ↔ HasGuardDropped source wrapup code at i
 dropped_right source wrapup code at i needs found site = (
   (λ so. elim (or_cases undone (wrapup && anew) so) [ inl one ↦ inl (more.0 one) | inr two ↦ inr (and_left wrapup anew two, guarding.0 (and_right wrapup anew two)) ]),
-  λ has. elim has [ inl one ↦ or_left undone (wrapup && anew) (more.1 one) | inr two ↦ or_right undone (wrapup && anew) (and_both wrapup anew two.0 (guarding.1 two.1)) ],
+  λ has. elim has [ inl one ↦ or_left undone (wrapup && anew) (more.1 one) | inr two ↦ or_right undone (wrapup && anew) (and_from wrapup anew two.0 (guarding.1 two.1)) ],
 )
   where
     undone : Bool

@@ -31,6 +31,9 @@ impl Model for TargetFacts {
 impl TargetFacts {
     /// The facts of a method with an instruction, and with fewer than 2^30. The cost grows with the count of
     /// instructions alone.
+    ///
+    /// # Errors
+    /// Memory ran out.
     pub fn of_code(alloc: Global, code: &[TargetInstr]) -> Result<TargetFacts, AllocError>
         requires some { 0 < length code.now }
         requires few { length code.now < 2 ^ 30 }

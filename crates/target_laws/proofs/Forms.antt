@@ -2,6 +2,7 @@
 use Rattle.std.proofs.Common.{◌≡◌, ℕ, ◌<◌, false, List, length, sym, ◌∙◌, arith}
 use Rattle.std.specs.Prelude.{nat_le}
 use Rattle.std.proofs.lemmas.Bool.Decides.{nat_tests}
+use Rattle.std.proofs.lemmas.Bool.{false_from_ne_true}
 use Rattle.norm_lang.specs.declared.text.RootDecl.{RootDecl}
 use Rattle.norm_lang.specs.declared.text.Instr.{Instr}
 use Rattle.norm_lang.specs.declared.text.Instr.TheVariants as instr
@@ -14,7 +15,7 @@ use Rattle.target_laws.specs.Methods.{code_in, source_in}
 use Rattle.target_laws.specs.Rules.{InstructionsAreInForm}
 use Rattle.target_laws.proofs.ErasedPlaces.{sources_are_inside, erased_here}
 use Rattle.target_laws.proofs.Redirected.{kinds_redirected, numbers_redirected, end_redirected, retired_redirected}
-use Rattle.target_laws.proofs.TextRules.{keeps_at, is_false}
+use Rattle.target_laws.proofs.TextRules.{keeps_at}
 
 below : (a b : ℕ) → nat_le b a ≡ false → a < b
 below a b is = grind (arith, nat_tests)
@@ -35,10 +36,10 @@ pub instructions_are_in_form : InstructionsAreInForm
 instructions_are_in_form target text normal erases method at i is =
     let place = source_place (code_in method) in
     record {
-      kinds = sym (kinds_redirected text.fields text.roots place i) ∙ is_false (has_wrong_kind text.fields text.roots (redirected place i)) (keeps_at normal erases method N1 at i is);
-      numbers = sym (numbers_redirected place i) ∙ is_false (computes_on_reference (redirected place i)) (keeps_at normal erases method N2 at i is);
+      kinds = sym (kinds_redirected text.fields text.roots place i) ∙ false_from_ne_true (has_wrong_kind text.fields text.roots (redirected place i)) (keeps_at normal erases method N1 at i is);
+      numbers = sym (numbers_redirected place i) ∙ false_from_ne_true (computes_on_reference (redirected place i)) (keeps_at normal erases method N2 at i is);
       own_end = sym (end_redirected method.wrapup place i) ∙ own_end text method.number method.op method.wrapup (place at) (redirected place i) normal method.in_text (erased_here erases method at (Plain i) is).0;
-      retired = sym (retired_redirected place i) ∙ is_false (has_wrong_retire (redirected place i)) (keeps_at normal erases method N12 at i is);
+      retired = sym (retired_redirected place i) ∙ false_from_ne_true (has_wrong_retire (redirected place i)) (keeps_at normal erases method N12 at i is);
       range = range_by text.roots place (length (code_in method)) (length (source_in method)) i (sources_are_inside target text erases method)
-          (is_false (has_wrong_range text.roots (redirected place i) (length (source_in method))) (keeps_at normal erases method N13 at i is));
+          (false_from_ne_true (has_wrong_range text.roots (redirected place i) (length (source_in method))) (keeps_at normal erases method N13 at i is));
     }

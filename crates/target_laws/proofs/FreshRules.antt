@@ -1,6 +1,7 @@
 -- The rules on new nodes, at an instruction of a target and on the path that was taken.
 use Rattle.std.proofs.Common.{◌≡◌, ℕ, inl, inr, Bool, true, false, List, [], ◌∷◌, Option, Some, None, refl, sym, subst, ◌∙◌}
 use Rattle.std.specs.Prelude.{slice_get}
+use Rattle.std.proofs.lemmas.Bool.{false_from_ne_true}
 use Rattle.norm_lang.specs.declared.text.Instr.{Instr}
 use Rattle.norm_lang.specs.declared.text.Instr.TheVariants as instr
 use Rattle.norm_lang.specs.declared.text.Text.{Text}
@@ -17,12 +18,12 @@ use Rattle.target_code.specs.PathStates.{is_fresh_along}
 use Rattle.target_laws.specs.Rules.{NewIsPassedOnce, PutsGoToFresh, ExchangesShowNoFresh, OpenReadsAreNotFresh, KeptAreNotFresh}
 use Rattle.target_laws.proofs.InText.{paths_are_in_text, surely_fresh_in_target}
 use Rattle.target_laws.proofs.Redirected.{openly_redirected}
-use Rattle.target_laws.proofs.TextRules.{keeps_at, is_false, not_fresh}
+use Rattle.target_laws.proofs.TextRules.{keeps_at, not_fresh}
 
 -- N4
 pub puts_go_to_fresh : PutsGoToFresh
 puts_go_to_fresh target text normal erases method path at a b f came = (
-  is_false method.wrapup (λ wrap. keeps_at normal erases method N4 at (instr.Put a f b) came.stands (inl wrap)),
+  false_from_ne_true method.wrapup (λ wrap. keeps_at normal erases method N4 at (instr.Put a f b) came.stands (inl wrap)),
   by_fresh (is_fresh_along (code_in method) path a) refl,
   not_fresh normal erases method path at b came.leads (λ fresh. keeps_at normal erases method N4 at (instr.Put a f b) came.stands (inr (inr fresh))),
 )
@@ -65,7 +66,7 @@ passed_in_source method (last ∷ path) at i is (inr more) = by_option (slice_ge
 
 pub new_is_passed_once : NewIsPassedOnce
 new_is_passed_once target text normal erases method path at d kind came = (
-  is_false method.wrapup (λ wrap. keeps_at normal erases method N3 at (instr.New d kind) came.stands (inl wrap)),
+  false_from_ne_true method.wrapup (λ wrap. keeps_at normal erases method N3 at (instr.New d kind) came.stands (inl wrap)),
   λ contained.
       let place = source_place (code_in method) in
       let among = passed_in_source method path at (instr.New d kind) came.stands (among_contained path at contained) in

@@ -1,6 +1,7 @@
 -- A rule that a text keeps, at an instruction of a target.
-use Rattle.std.proofs.Common.{◌≡◌, ℕ, Bool, true, false, List, Some, refl}
-use Rattle.std.specs.Prelude.{slice_get, IsTrue}
+use Rattle.std.proofs.Common.{◌≡◌, ℕ, false, List, Some}
+use Rattle.std.specs.Prelude.{slice_get}
+use Rattle.std.proofs.lemmas.Bool.{false_from_ne_true}
 use Rattle.norm_lang.specs.declared.text.Reg.{Reg}
 use Rattle.norm_lang.specs.declared.text.Instr.{Instr}
 use Rattle.norm_lang.specs.declared.text.Text.{Text}
@@ -21,13 +22,8 @@ pub keeps_at : {target : Target} {text : Text} → IsNormal text → ErasesTo ta
 keeps_at {text = text} normal erases method rule at i is breaks =
     keeps_rule text rule method.number method.op method.wrapup (source_place (code_in method) at) (redirected (source_place (code_in method)) i) normal method.in_text (erased_here erases method at (Plain i) is).0 breaks
 
--- a test that isn't true is false
-pub is_false : (b : Bool) → (IsTrue b → ⊥) → b ≡ false
-is_false true never = absurd (never refl)
-is_false false never = refl
-
 -- where a register that may be fresh would break a rule, it isn't on the path that was taken
 pub not_fresh : {target : Target} {text : Text} → IsNormal text → ErasesTo target text → (method : Method target text) (path : List ℕ) (at : ℕ) (r : Reg) → TargetPath (code_in method) path at
     → (MayBeFresh (source_in method) r (source_place (code_in method) at) → ⊥) → is_fresh_along (code_in method) path r ≡ false
 not_fresh {target = target} {text = text} normal erases method path at r leads breaks =
-    is_false (is_fresh_along (code_in method) path r) (λ fresh. breaks (fresh_may_be_in_text target text normal erases method r at (path, leads, fresh)))
+    false_from_ne_true (is_fresh_along (code_in method) path r) (λ fresh. breaks (fresh_may_be_in_text target text normal erases method r at (path, leads, fresh)))

@@ -23,12 +23,13 @@ use Rattle.text_laws.proofs.Declared.{SoFar, IsNext, pushed, all_pushed, whole_l
 use Rattle.text_laws.proofs.DeclarationLimits.{NextOp, op_fits}
 use Rattle.text_laws.proofs.InstrLimits.{StepFits, step_fits, entry_fits}
 use Rattle.text_laws.proofs.LineLimits.{one_then}
+use Rattle.text_laws.proofs.DraftLimits.{at_line_has}
 use Rattle.line_words.specs.Lines.{words_in, first_word}
 use Rattle.target_code.specs.declared.target.TargetInstr.{TargetInstr}
 use Rattle.target_code.specs.declared.target.TargetInstr.TheVariants.{Plain, Check, Guard}
 use Rattle.target_code.specs.declared.target.TargetOp.{TargetOp}
 use Rattle.target_code.specs.TargetLimits.{is_target_new, target_news_in, target_news_of, is_target_instr, is_target_op, are_target_ops}
-use Rattle.target_reader.specs.TargetGrammar.{Part, Outside, Begun, Generator, WrapUp, OpsDraft, no_ops, opened, begun, target_op_at, target_op_line, with_whole_target_op, target_code_so_far, with_target_instr, with_one_more, has_place, is_fifth_target_new, with_target_entries, with_target_step, plain_line, guarded_at, added_line, in_outside, in_begun_op, in_target_generator, in_target_wrap_up, or_plain, in_target_place, after_target_words, after_target_line, after_target_lines, finished_ops_in, ops_read}
+use Rattle.target_reader.specs.TargetGrammar.{Part, Outside, Begun, Generator, WrapUp, OpsDraft, no_ops, opened, begun, target_op_at, target_op_line, with_whole_target_op, target_code_so_far, with_target_instr, with_one_more, has_place, is_fifth_target_new, with_target_entries, with_target_step, plain_line, guarded_at, added_line, in_begun_op, in_target_generator, in_target_wrap_up, or_plain, in_target_place, after_target_words, after_target_line, after_target_lines, finished_ops_in, ops_read}
 use Rattle.target_reader.proofs.Opened.{opened_same}
 
 -- a method's instructions so far
@@ -112,11 +113,6 @@ op_line_kept kinds fields roots draft words h rest =
     then_has (target_op_at draft.ops words) _ (λ op. OpSoFar kinds fields roots draft.ops op) _
     (then_has (op_line (map opened draft.ops) words) _ (NextOp (map opened draft.ops)) _ (op_fits (map opened draft.ops) words) λ op next. op_begins kinds fields roots draft.ops op next)
     λ op so_far. record { ops = h; op = so_far; pending = rw rest tt }
-
-outside_kept : (kinds fields roots : ℕ) (draft : OpsDraft) (word : List ℕ) (rest : List (List ℕ)) → Keeps kinds fields roots Outside draft → IfOk (in_outside (at Outside draft) word rest) (KeptIf kinds fields roots)
-outside_kept kinds fields roots draft word rest h =
-    either (bytes_eq word (codes "op")) _ _ _
-    (λ _. then_has (target_op_line (at Outside draft) rest) _ (Kept kinds fields roots) _ (op_line_kept kinds fields roots (at Outside draft) rest h refl) λ next kept. kept) λ _. tt
 
 begun_kept : (kinds fields roots : ℕ) (draft : OpsDraft) (word : List ℕ) (rest : List (List ℕ)) → Keeps kinds fields roots Begun draft → IfOk (in_begun_op (at Begun draft) word rest) (KeptIf kinds fields roots)
 begun_kept kinds fields roots draft word rest h =
@@ -309,8 +305,7 @@ outside_given kinds fields roots draft word rest false h = tt
 begun_given : (kinds : List (List ℕ)) (fields : List FieldDecl) (roots : List RootDecl) (draft : OpsDraft) (word : List ℕ) (rest : List (List ℕ)) (b : Bool) (r : Result (Unit {0}) ℕ) → Keeps (length kinds) (length fields) (length roots) Begun draft
     → IfOk ((if b then (r >>= λ done. Ok (Some (record (at Begun draft) { part = Generator }))) else Err form_fault) >>= or_plain kinds fields roots (at Begun draft) word rest) (Kept (length kinds) (length fields) (length roots))
 begun_given kinds fields roots draft word rest true (Ok done) h = record { ops = h.ops; op = h.op; pending = tt }
-begun_given kinds fields roots draft word rest true (Err fault) h = tt
-begun_given kinds fields roots draft word rest false r h = tt
+begun_given kinds fields roots draft word rest _ _ h = tt
 
 -- the draft after a line where no entry line must follow
 part_kept : (kinds : List (List ℕ)) (fields : List FieldDecl) (roots : List RootDecl) (part : Part) (draft : OpsDraft) (word : List ℕ) (rest : List (List ℕ)) → Keeps (length kinds) (length fields) (length roots) part draft
@@ -370,10 +365,6 @@ words_kept : (kinds : List (List ℕ)) (fields : List FieldDecl) (roots : List R
 words_kept kinds fields roots draft None h = h
 words_kept kinds fields roots draft (Some word) h = place_kept kinds fields roots draft.left draft word.0 word.1 h
 
-at_line_has : {A : Type 0} (line : ℕ) (r : Result A ℕ) (P : A → Type 0) → IfOk r P → IfOk (at_line line r) P
-at_line_has line (Ok x) P h = h
-at_line_has line (Err e) P h = tt
-
 lines_kept : (kinds : List (List ℕ)) (fields : List FieldDecl) (roots : List RootDecl) (draft : OpsDraft) (lines : List TextLine) → Kept (length kinds) (length fields) (length roots) draft
     → IfOk (after_target_lines kinds fields roots draft lines) (Kept (length kinds) (length fields) (length roots))
 lines_kept kinds fields roots draft [] h = h
@@ -386,12 +377,10 @@ abbrev AreOps : List (List ℕ) → List FieldDecl → List RootDecl → List Ta
 AreOps kinds fields roots ops = are_target_ops (length kinds) (length fields) (length roots) ops ≡ true
 
 finished_in_is : (kinds : List (List ℕ)) (fields : List FieldDecl) (roots : List RootDecl) (part : Part) (draft : OpsDraft) → Keeps (length kinds) (length fields) (length roots) part draft → IfOk (finished_ops_in part draft) (AreOps kinds fields roots)
-finished_in_is kinds fields roots Outside draft h = tt
-finished_in_is kinds fields roots Begun draft h = tt
-finished_in_is kinds fields roots Generator draft h = tt
 finished_in_is kinds fields roots WrapUp draft h =
     then_has (with_whole_target_op draft) _ (IsNextDraft (length kinds) (length fields) (length roots) draft.left) _ (whole_op_has (length kinds) (length fields) (length roots) draft h) λ next last.
     whole_list 16 _ _ next.ops last.ops last.some
+finished_in_is kinds fields roots _ draft h = tt
 
 -- operations that are read are within the limits
 pub ops_within : (kinds : List (List ℕ)) (fields : List FieldDecl) (roots : List RootDecl) (past : ℕ) (lines : List TextLine) → IfOk (ops_read kinds fields roots past no_ops lines) (AreOps kinds fields roots)

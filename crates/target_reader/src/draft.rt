@@ -1,6 +1,6 @@
 //! What the lines of a target have said of its operations so far.
 
-ghost use Rattle.std.specs.Prelude.{◌≡◌, ◌≤◌, length, Ok, IfOk};
+ghost use Rattle.std.specs.Prelude.{◌≡◌, ◌≤◌, length, IfOk};
 ghost use Rattle.line_words.specs.Answered.{Gives};
 ghost use Rattle.target_code.specs.TargetLimits.{is_target_new, target_news_in, target_news_of};
 ghost use Rattle.target_reader.specs.TargetGrammar.{no_target_op, no_ops, target_code_so_far, with_one_more, has_place, with_target_op, with_whole_target_op, finished_ops};

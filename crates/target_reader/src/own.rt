@@ -3,7 +3,7 @@
 ghost use Rattle.std.specs.Prelude.{◌≡◌, false, map, IfOk};
 ghost use Rattle.std.specs.List.{list_any};
 ghost use Rattle.std.specs.Str.{bytes_eq};
-ghost use Rattle.norm_lang.specs.Declarations.{is_reserved, has_op};
+ghost use Rattle.norm_lang.specs.Declarations.{has_op};
 ghost use Rattle.line_words.specs.Answered.{Reads, Gives};
 ghost use Rattle.oa_text.specs.Shown.{line_shown};
 ghost use Rattle.target_reader.specs.TargetGrammar.{opened, target_op_at, with_added, guarded_at, added_line, in_outside, in_begun_op, in_target_generator, next_target_op, in_target_wrap_up, own_line};
@@ -11,20 +11,13 @@ ghost use Rattle.target_reader.specs.OpsShown.{draft_shown, read_or_plain, line_
 
 use crate::draft::{OpsDraft, Part};
 use line_words::fault::{Fault, Stop};
-use line_words::words::{Words, up_to, value_of};
+use line_words::words::{Words, is_reserved, up_to, value_of};
 use norm_lang::limits::{MOST_ARGUMENTS, MOST_OPS};
 use norm_lang::list::Listed;
 use norm_lang::text::Reg;
 use oa_text::Line;
 use std::alloc::Global;
 use target_code::target::{TargetInstr, TargetOp};
-
-/// Whether a line that begins with this word begins a part of a document, so that no operation may have the name.
-fn reserved(name: &[u8]) -> bool
-    ensures { result ≡ is_reserved name.now }
-{
-    name == b"script".as_slice() || name == b"schedule".as_slice()
-}
 
 fn has_name(ops: &[TargetOp], name: &[u8]) -> bool
     ensures { result ≡ list_any (λ op. bytes_eq op.name name.now) ops.now }
@@ -46,7 +39,7 @@ fn op(alloc: Global, ops: &[TargetOp], words: &mut Words) -> Result<TargetOp, St
     let name = words.name()?;
     let args = words.number()?;
     words.end()?;
-    if reserved(name) {
+    if is_reserved(name) {
         return Err(Stop::Fault(Fault::Form));
     }
     let args = value_of(args)?;

@@ -7,7 +7,7 @@ ghost use Rattle.norm_lang.specs.Instructions.{Whole};
 ghost use Rattle.line_words.specs.Answered.{Fails, Answers};
 ghost use Rattle.norm_parser.specs.FrontRead.{IsHeadWithinLimits};
 ghost use Rattle.norm_parser.specs.Instruction.{are_skipped, AreFrom, AreLeftOf};
-ghost use Rattle.target_reader.specs.TargetGrammar.{is_fifth_target_new, has_place, ops_read};
+ghost use Rattle.target_reader.specs.TargetGrammar.{is_fifth_target_new, ops_read};
 ghost use Rattle.target_reader.specs.OpsShown.{draft_shown, line_own, alone, too_many_at, GoesOn};
 
 use crate::draft::OpsDraft;

@@ -16,7 +16,7 @@ use Rattle.norm_lang.specs.declared.text.Version.{Version}
 use Rattle.norm_lang.specs.declared.text.Version.TheVariants.{First, Second}
 use Rattle.norm_lang.specs.Faults.{LineFault, ◌>>=◌, form_fault, at_line}
 use Rattle.norm_lang.specs.Spelling.{spelled_version, declaration_lines}
-use Rattle.norm_lang.specs.Grammar.{Section, Start, Opening, Kinds, Fields, Counts, Nodes, Roots, Begun, Generator, WrapUp, Shipped, Draft, draft_at, is_comment, after_lines}
+use Rattle.norm_lang.specs.Grammar.{Section, Start, Opening, Roots, Draft, draft_at, is_comment, after_lines}
 use Rattle.line_words.specs.Lines.{words_in, first_word}
 use Rattle.norm_parser.specs.declared.head.Head.{Head}
 use Rattle.norm_parser.specs.FrontRead.{from_line, front_of, names_text, end_before, ended, whole_in, whole_head, before_op, head_in, IsHeadWithinLimits}
@@ -73,21 +73,12 @@ whole_told version text lines same =
     ap rest_of same ∙ ap (λ v. declaration_lines v text) second
 
 whole_in_said : (section : Section) (draft : Draft) (lines : Lines) → Keeps section draft → SaysIn section draft (spelled_version Second ∷ lines) → IfOk (whole_in section draft) (TellsHead lines)
-whole_in_said Start draft lines keeps h = tt
-whole_in_said Opening draft lines keeps h = tt
-whole_in_said Kinds draft lines keeps h = tt
-whole_in_said Fields draft lines keeps h = tt
-whole_in_said Counts draft lines keeps h = tt
-whole_in_said Nodes draft lines keeps h = tt
 whole_in_said Roots draft lines keeps h =
     demanded form_fault (nat_lt 0 (length draft.text.roots)) _ (TellsHead lines) λ some. record {
       said = whole_told draft.version draft.text lines (h.said ∙ whole_declared draft.version draft.counted draft.owners draft.text keeps.all_counted keeps.all);
       within = roots_within draft keeps some;
     }
-whole_in_said Begun draft lines keeps h = tt
-whole_in_said Generator draft lines keeps h = tt
-whole_in_said WrapUp draft lines keeps h = tt
-whole_in_said Shipped draft lines keeps h = tt
+whole_in_said _ draft lines keeps h = tt
 
 ended_has : {A : Type 0} (r : Result A ℕ) (end : LineFault) (Q : A → Type 0) (P : A × ℕ → Type 0) → IfOk r Q → ((x : A) → Q x → P (x, end.line)) → IfOk (ended r end) P
 ended_has (Ok x) end Q P has next = next x has

@@ -2,15 +2,12 @@
 use Rattle.std.specs.Prelude.{◌≡◌, ℕ, Bool, true, false, not, ◌&&◌, List, [], ◌∷◌, ◌++◌, map, length, nat_lt, nat_le}
 use Rattle.std.specs.List.{list_all, list_any}
 use Rattle.std.specs.Str.{bytes_eq}
-use Rattle.std.proofs.Common.{refl, sym, ◌∙◌, arith, length-append}
-use Rattle.std.proofs.lemmas.Bool.{and_from, and_parts, not-true, not_from_false, or_from, or_parts, false_from_ne_true, true≢false}
+use Rattle.std.proofs.Common.{refl, ◌∙◌, arith, length-append}
+use Rattle.std.proofs.lemmas.Bool.{and_from, and_parts, not-true, not_from_false, or_from, or_parts}
 use Rattle.std.proofs.lemmas.Bool.Decides.{nat_tests}
 use Rattle.std.proofs.lemmas.List.Folds.{list_all-append}
-use Rattle.std.proofs.lemmas.Slice.Eq.{bytes_eq-Decides}
 use Rattle.norm_lang.specs.Limits.{has_between, are_different}
-
-differ_too : (a b : List ℕ) → bytes_eq a b ≡ false → bytes_eq b a ≡ false
-differ_too a b h = false_from_ne_true (bytes_eq b a) λ e. true≢false (sym ((bytes_eq-Decides a b).1 (sym ((bytes_eq-Decides b a).0 e))) ∙ h)
+use Rattle.text_laws.proofs.WordsRead.{other_bytes}
 
 -- every item passes, and so does one more
 pub all_pushed : {A : Type 0} (test : A → Bool) (items : List A) (item : A) → list_all test items ≡ true → test item ≡ true → list_all test (items ++ item ∷ []) ≡ true
@@ -33,7 +30,7 @@ different_pushed name [] item apart new = refl
 different_pushed name (x ∷ items) item apart new =
     let parts = and_parts (not (list_any (λ other. bytes_eq other (name x)) (map name items))) (are_different (map name items)) apart in
     let news = or_parts (bytes_eq (name x) (name item)) (list_any (λ other. bytes_eq (name other) (name item)) items) new in
-    and_from _ _ (not_from_false _ (none_pushed name (name x) items item (not-true _ parts.0) (differ_too (name x) (name item) news.0)))
+    and_from _ _ (not_from_false _ (none_pushed name (name x) items item (not-true _ parts.0) (other_bytes (name x) (name item) news.0)))
     (different_pushed name items item parts.1 news.1)
 
 -- at most so many items, each of them good, with different names

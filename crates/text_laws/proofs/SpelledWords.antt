@@ -63,12 +63,6 @@ more_digits n digits big is =
 spelled_decimal : (n : ℕ) → n < 2 ^ 64 → IsSpelled n (decimal n)
 spelled_decimal n fits = decimal_by_steps IsSpelled one_digit more_digits n fits
 
-pub decimal_numeral : (n : ℕ) → n < 2 ^ 64 → is_numeral (decimal n) ≡ true
-decimal_numeral n fits = (spelled_decimal n fits).numeral
-
-pub decimal_value : (n : ℕ) → n < 2 ^ 64 → number_of (decimal n) ≡ n
-decimal_value n fits = (spelled_decimal n fits).value
-
 decimal_visible : (n : ℕ) → n < 2 ^ 64 → list_all is_visible (decimal n) ≡ true
 decimal_visible n fits = each is_digit is_visible (decimal n) digit_visible (spelled_decimal n fits).digit
 

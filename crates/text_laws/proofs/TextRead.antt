@@ -23,6 +23,7 @@ use Rattle.text_laws.proofs.WordsRead.{number_read, owner_read, holding_read, la
 use Rattle.text_laws.proofs.FieldGroups.{all_imply}
 use Rattle.text_laws.proofs.InTurn.{name_in_turn, field_follows, field_has_room, every_begun, promised, promised_all, promised_few}
 use Rattle.text_laws.proofs.SpelledFolds.{after_spelled, line_then, lines_then, items_read, passes_among, fresh_among}
+use Rattle.text_laws.proofs.FewDeclared.{owned}
 
 -- a draft among the declarations
 abbrev pub declared : Version → Section → ℕ → List ℕ → List (List ℕ) → List FieldDecl → List NodeDecl → List RootDecl → Draft
@@ -171,14 +172,11 @@ all_counted version kinds fields nodes (suc k) all some promises =
 node_owners : (kinds : ℕ) (fields : List FieldDecl) (owners : List ℕ) (nodes : List NodeDecl) → list_all (is_node kinds fields owners) nodes ≡ true → list_all (λ (node : NodeDecl). nat_lt node.owner kinds) nodes ≡ true
 node_owners kinds fields owners nodes each = all_imply (is_node kinds fields owners) (λ node. nat_lt node.owner kinds) nodes (λ node is. (node_parts kinds fields owners node is).owner) each
 
-field_owners : (kinds : ℕ) (fields : List FieldDecl) → list_all (is_field kinds) fields ≡ true → list_all (λ (field : FieldDecl). nat_lt field.owner kinds) fields ≡ true
-field_owners kinds fields each = all_imply (is_field kinds) (λ field. nat_lt field.owner kinds) fields (λ field is. (field_parts kinds field is).owner) each
-
 pub counts_read : (version : Version) (kinds : List (List ℕ)) (fields : List FieldDecl) (nodes : List NodeDecl) → AreKinds version kinds → 1 ≤ length kinds → FieldParts (length kinds) fields
     → NodeParts (length kinds) fields nodes
     → after_spelled (declared version Fields 0 [] kinds fields [] []) (count_lines version 0 kinds nodes) ≡ Ok (behind_nodes version kinds fields nodes [])
 counts_read version kinds fields nodes ks some fs ns =
-    let begun : groups_begun fields ≡ length kinds = every_begun (length kinds) fields some fs.groups (field_owners (length kinds) fields fs.each) in
+    let begun : groups_begun fields ≡ length kinds = every_begun (length kinds) fields some fs.groups (owned (length kinds) fields fs.each) in
     let promises : promised (length kinds) nodes ≡ owners_of nodes = promised_all (length kinds) nodes ns.rising (node_owners (length kinds) fields (owners_of nodes) nodes ns.each) in
     counts_from version kinds fields nodes 0 [] kinds ks begun ns.rising ns.count refl refl ∙ ap Ok (all_counted version kinds fields nodes (length kinds) refl some promises)
 
@@ -286,7 +284,7 @@ kinds_named version text are = record { of = are.of; names = (are.kinds).each; d
 -- each kind has a field
 some_declared : (kinds : ℕ) (fields : List FieldDecl) → 1 ≤ kinds → FieldParts kinds fields → 1 ≤ length fields
 some_declared kinds [] some fs =
-    let none : 0 ≡ kinds = every_begun kinds [] some fs.groups (field_owners kinds [] fs.each) in
+    let none : 0 ≡ kinds = every_begun kinds [] some fs.groups (owned kinds [] fs.each) in
     absurd (omega (arith, none, some))
 some_declared kinds (field ∷ fields) some fs = omega arith
 

@@ -25,13 +25,13 @@ use Rattle.norm_lang.specs.LineWords.{is_name, number_in, register_of, register_
 use Rattle.norm_lang.specs.Instructions.{field_named, root_named}
 use Rattle.norm_lang.specs.Limits.{is_number, is_register, is_kind, is_start, are_different}
 use Rattle.text_laws.specs.StandsFor.{KindsOf}
-use Rattle.text_laws.proofs.SpelledWords.{decimal_numeral, decimal_value}
+use Rattle.oa_text.proofs.Again.{decimal_numeral, number_of_decimal}
 
 -- a number
 pub number_read : (n : ℕ) → is_number n ≡ true → number_in (decimal n) ≡ Ok (Some n)
 number_read n small =
     let lt : n < 2 ^ 64 = ltb-true n (2 ^ 64) small in
-    rw (decimal_numeral n lt, decimal_value n lt, small) refl
+    rw (decimal_numeral n lt, number_of_decimal n lt, small) refl
 
 letter_read : (letter k : ℕ) → nat_lt k 8 ≡ true → register_in (letter ∷ decimal k) ≡ register_of letter k
 letter_read letter k small =

@@ -1,6 +1,7 @@
 -- Which bytes stand for a text, told by their lines and words: nothing here says how a reader goes over them.
 use Rattle.std.specs.Prelude.{◌≡◌, ℕ, ◌≤◌, ◌⊎◌, ◌↔◌, Bool, true, false, ◌&&◌, ◌||◌, not, List, [], ◌∷◌, map, length, codes, decimal, nat_le, ◌==◌, IsTrue, ⊤}
 use Rattle.std.specs.List.{list_all, filter}
+use Rattle.oa_text.specs.declared.limits.TheConstants.{LONGEST_LINE}
 use Rattle.oa_text.specs.Lines.{lines_of}
 use Rattle.oa_text.specs.Tokens.{words_of}
 use Rattle.norm_lang.specs.declared.text.Text.{Text}
@@ -16,9 +17,9 @@ use Rattle.norm_lang.specs.Grammar.{Grammar}
 abbrev pub is_plain_byte : ℕ → Bool
 is_plain_byte b = (b == 9) || (nat_le 32 b && nat_le b 126)
 
--- a line of plain bytes, of at most 200
+-- a line of plain bytes, not too long
 abbrev pub is_plain_line : List ℕ → Bool
-is_plain_line line = nat_le (length line) 200 && list_all is_plain_byte line
+is_plain_line line = nat_le (length line) LONGEST_LINE && list_all is_plain_byte line
 
 -- every line of the bytes is plain and short enough, those that are skipped too
 abbrev pub ArePlain : List ℕ → Type 0

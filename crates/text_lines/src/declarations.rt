@@ -6,7 +6,7 @@ ghost use Rattle.std.specs.List.{list_any};
 ghost use Rattle.norm_lang.specs.Bounds.{most_nodes};
 ghost use Rattle.norm_lang.specs.LineWords.{is_great, up_to};
 ghost use Rattle.norm_lang.specs.KindFields.{fields_of};
-ghost use Rattle.norm_lang.specs.Declarations.{has_field, has_root, has_op, has_kind, version_in, version_line, kind_line, groups_begun, may_follow, field_line, is_next, nodes_line, values_at, starts_of, are_matches, node_line, root_line, is_reserved, op_line, shipped_line, set_line, use_line};
+ghost use Rattle.norm_lang.specs.Declarations.{has_field, has_root, has_op, has_kind, version_in, version_line, kind_line, groups_begun, may_follow, field_line, is_next, nodes_line, values_at, starts_of, are_matches, node_line, root_line, op_line, shipped_line, set_line, use_line};
 ghost use Rattle.norm_lang.specs.Shipped.{set_text, queue_text};
 ghost use Rattle.line_words.specs.Answered.{Reads, Gives};
 ghost use Rattle.line_words.specs.Shown.{start_shown};
@@ -14,7 +14,8 @@ ghost use Rattle.line_words.specs.Shown.{start_shown};
 use line_words::fault::{Fault, Stop};
 use line_words::operands::known;
 use line_words::words::{
-    StartWord, Words, fits, great, kind_of_holding, spelled_kind, start_of, up_to, value_of,
+    StartWord, Words, fits, great, is_reserved, kind_of_holding, spelled_kind, start_of, up_to,
+    value_of,
 };
 use norm_lang::fields::count_of;
 use norm_lang::limits::{
@@ -315,13 +316,6 @@ pub fn root(
     Ok(RootDecl { name, kind, start })
 }
 
-/// Whether a line that begins with this word begins a part of a document, so that no operation may have the name.
-fn reserved(name: &[u8]) -> bool
-    ensures { result ≡ is_reserved name.now }
-{
-    name == b"script".as_slice() || name == b"schedule".as_slice()
-}
-
 /// `op NAME A`: at most 16 operations, each with a name of its own, and at most 4 arguments. It has no code yet.
 pub fn op(alloc: Global, ops: &[Op], words: &mut Words) -> Result<Op, Stop>
     ensures { Gives (λ op. op) result (op_line ops.now words.old) }
@@ -329,7 +323,7 @@ pub fn op(alloc: Global, ops: &[Op], words: &mut Words) -> Result<Op, Stop>
     let name = words.name()?;
     let args = words.number()?;
     words.end()?;
-    if reserved(name) {
+    if is_reserved(name) {
         return Err(Stop::Fault(Fault::Form));
     }
     let args = value_of(args)?;

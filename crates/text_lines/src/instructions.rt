@@ -1,7 +1,7 @@
 //! The lines of a method, each after its first word: the instruction, or the line's first fault. Each reads the line's
 //! form first, and then judges its numbers, the kinds, fields and roots it names, and the limits.
 
-ghost use Rattle.std.specs.Prelude.{◌≡◌, ◌≤◌, length, IfOk};
+ghost use Rattle.std.specs.Prelude.{◌≤◌, length};
 ghost use Rattle.norm_lang.specs.Instructions.{set_line, mov_line, add_line, sub_line, rem_line, null_line, mark_line, unmark_line, load_root_line, pick_line, load_field_line, new_line, put_line, cas_line, casroot_line, jump_line, ifeq_line, ifless_line, ifmarked_line, commit_line, Commits, return_line, returnnone_line, again_line, with_line, withroot_line};
 ghost use Rattle.line_words.specs.Answered.{Reads};
 

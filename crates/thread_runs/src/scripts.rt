@@ -1,6 +1,6 @@
 //! Scripts on threads, by halves of the list of callers.
 
-ghost use Rattle.std.specs.Prelude.{◌≡◌, ◌<◌};
+ghost use Rattle.std.specs.Prelude.{◌<◌};
 ghost use Rattle.std.specs.Thread.{IsSync};
 ghost use Rattle.thread_runs.specs.Scripts.{RanScript, Ready, AllFresh, Fresh, Finished, AllFinished};
 

@@ -1,6 +1,6 @@
 //! One access of a caller on the table.
 
-ghost use Rattle.std.specs.Prelude.{◌≡◌, ◌<◌};
+ghost use Rattle.std.specs.Prelude.{◌≡◌};
 ghost use Rattle.word_runner.specs.table_rule.Plays.{CanStep, Made};
 ghost use Rattle.word_runner.specs.table_rule.Seen.{IsGround};
 ghost use Rattle.oa_words.specs.Words.{word_count};

@@ -1,6 +1,6 @@
 //! The arena: a table of words, with the target and the setting of the callers that meet there.
 
-ghost use Rattle.std.specs.Prelude.{◌≡◌, ◌<◌, ◌≤◌, ◌+◌, [], true, false, MatchBool, length};
+ghost use Rattle.std.specs.Prelude.{◌≡◌, ◌<◌, ◌≤◌, ◌+◌, [], true, MatchBool, length};
 ghost use Rattle.caller_steps.specs.Entries.{idle_entry, is_idle};
 ghost use Rattle.caller_parts.specs.Calls.{is_call};
 ghost use Rattle.caller_steps.specs.After.{taken};
@@ -82,7 +82,7 @@ impl Arena {
         self.ground.setting.shape().callers()
     }
 
-    /// A target that callers may run, and a setting that fits it: so each caller's empty entry belongs. To read a field tells it.
+    /// A target that callers may run, and a setting that fits it: so each caller's empty entry belongs. Reading a field is what tells it.
     pub(crate) fn kept(&self)
         ensures ground { IsGround self.now.fixed }
         ensures idle { NewcomersBelong self.now.fixed }

@@ -1,6 +1,6 @@
 //! Making an arena, and closing it.
 
-ghost use Rattle.std.specs.Prelude.{◌≡◌, ◌<◌, ◌≤◌, ◌+◌, [], ◌∷◌, length, IfOk};
+ghost use Rattle.std.specs.Prelude.{◌≡◌, [], ◌∷◌, length, IfOk};
 ghost use Rattle.caller_parts.specs.declared.setting.Reclamation.TheVariants.{Epochs};
 ghost use Rattle.caller_parts.specs.Settings.{Fits};
 ghost use Rattle.core_entries.specs.Running.{bare_pair};

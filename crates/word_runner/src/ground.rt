@@ -1,7 +1,5 @@
 //! What a table is told once, what a seat knows, and what each kind of step tells it.
 
-ghost use Rattle.std.specs.Prelude.{◌≡◌, ℕ};
-
 use atomic_table::{Join, Play, Seat, Split, Table, TableRule};
 use caller_steps::Setting;
 use core_entries::LoadedTarget;

@@ -1,6 +1,6 @@
 //! Callers at rest: a seat with the entries that it knows.
 
-ghost use Rattle.std.specs.Prelude.{◌≡◌, ◌<◌, ◌≤◌, ◌+◌, ◌++◌, [], length, vec_len, vec_capacity};
+ghost use Rattle.std.specs.Prelude.{◌≡◌, ◌≤◌, ◌+◌, ◌++◌, length, vec_capacity};
 ghost use Rattle.word_runner.specs.Shown.{CameFrom};
 ghost use Rattle.word_runner.specs.table_rule.Rule.{callers_of};
 ghost use Rattle.word_runner.specs.table_rule.Plays.{Apart};

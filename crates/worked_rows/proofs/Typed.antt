@@ -13,7 +13,7 @@ use Rattle.norm_lang.specs.Limits.{IsWithinLimits}
 use Rattle.norm_lang.specs.Flow.{IsPath}
 use Rattle.norm_lang.specs.Registers.{first_registers, with_reference}
 use Rattle.norm_lang.specs.Kinds.{kinds_along, MayHaveKind, HasOtherKind, MixesKinds}
-use Rattle.norm_lang.specs.NormalForm.{Rule, N1, N2, N3, N4, N5, N6, N7, N8, N9, N10, N11, N12, N13, N14, N15, Breach, Breaks, IsNormal}
+use Rattle.norm_lang.specs.NormalForm.{Rule, N1, N13, N15, Breaks, IsNormal}
 use Rattle.closed_tables.specs.Tables.{OpTables}
 use Rattle.closed_tables.proofs.Normal.{tables_show_normal}
 use Rattle.source_machine.specs.declared.event.SourceEvent.TheVariants.{Begin, Access}
@@ -61,19 +61,15 @@ never is = absurd (let no : false ≡ true = is in cc)
 root_gives : (start : ℕ → ℕ → Bool) (path : List ℕ) (t : ℕ) → IsPath follows path 1 → kinds_along mated_fields mated_roots start follows path 0 t ≡ true → t ≡ 1
 root_gives start [] t leads has = let no : ⊥ = omega (arith, leads) in absurd no
 root_gives start (zero ∷ path) t leads has = let same : 1 ≡ t = grind (arith, nat_tests) in omega (arith, same)
-root_gives start (suc zero ∷ path) t leads has = never leads.0.0
-root_gives start (suc (suc zero) ∷ path) t leads has = never leads.0.0
 root_gives start (suc (suc (suc zero)) ∷ path) t leads has = never leads.0.0
-root_gives start (suc (suc (suc (suc n))) ∷ path) t leads has = never leads.0.0
+root_gives start _ t leads has = never leads.0.0
 
 -- the field has given r1 kind 0 before the load of the key
 field_gives : (start : ℕ → ℕ → Bool) (path : List ℕ) (t : ℕ) → IsPath follows path 2 → kinds_along mated_fields mated_roots start follows path 1 t ≡ true → t ≡ 0
 field_gives start [] t leads has = let no : ⊥ = omega (arith, leads) in absurd no
-field_gives start (zero ∷ path) t leads has = never leads.0.0
 field_gives start (suc zero ∷ path) t leads has = let same : 0 ≡ t = grind (arith, nat_tests) in omega (arith, same)
-field_gives start (suc (suc zero) ∷ path) t leads has = never leads.0.0
 field_gives start (suc (suc (suc zero)) ∷ path) t leads has = never leads.0.0
-field_gives start (suc (suc (suc (suc n))) ∷ path) t leads has = never leads.0.0
+field_gives start _ t leads has = never leads.0.0
 
 -- a load whose base may be of one kind alone, that which is asked
 one_kind : (at base asked : ℕ) → ((t : ℕ) → MayHaveKind mated.fields mated.roots follow false base at t → t ≡ asked)
@@ -109,18 +105,6 @@ normal : IsNormal mated
 normal breach broken = by breach.rule breach.op breach.wrapup breach.at broken where
   by : (rule : Rule) (op : ℕ) (wrapup : Bool) (at : ℕ) → Breaks mated (record { rule = rule; op = op; wrapup = wrapup; at = at }) → ⊥
   by rule (suc op) wrapup at broken = broken
-  by N2 zero wrapup at broken = alone_is_normal (record { rule = N2; op = 0; wrapup = wrapup; at = at }) broken
-  by N3 zero wrapup at broken = alone_is_normal (record { rule = N3; op = 0; wrapup = wrapup; at = at }) broken
-  by N4 zero wrapup at broken = alone_is_normal (record { rule = N4; op = 0; wrapup = wrapup; at = at }) broken
-  by N5 zero wrapup at broken = alone_is_normal (record { rule = N5; op = 0; wrapup = wrapup; at = at }) broken
-  by N6 zero wrapup at broken = alone_is_normal (record { rule = N6; op = 0; wrapup = wrapup; at = at }) broken
-  by N7 zero wrapup at broken = alone_is_normal (record { rule = N7; op = 0; wrapup = wrapup; at = at }) broken
-  by N8 zero wrapup at broken = alone_is_normal (record { rule = N8; op = 0; wrapup = wrapup; at = at }) broken
-  by N9 zero wrapup at broken = alone_is_normal (record { rule = N9; op = 0; wrapup = wrapup; at = at }) broken
-  by N10 zero wrapup at broken = alone_is_normal (record { rule = N10; op = 0; wrapup = wrapup; at = at }) broken
-  by N11 zero wrapup at broken = alone_is_normal (record { rule = N11; op = 0; wrapup = wrapup; at = at }) broken
-  by N12 zero wrapup at broken = alone_is_normal (record { rule = N12; op = 0; wrapup = wrapup; at = at }) broken
-  by N14 zero wrapup at broken = alone_is_normal (record { rule = N14; op = 0; wrapup = wrapup; at = at }) broken
   by N1 zero false zero broken = never broken
   by N1 zero false (suc zero) broken = never broken
   by N1 zero false (suc (suc zero)) broken = never broken
@@ -142,6 +126,7 @@ normal breach broken = by breach.rule breach.op breach.wrapup breach.at broken w
   by N15 zero false (suc (suc (suc (suc at)))) broken = broken
   by N15 zero true zero broken = asks_none true 0 ReturnNone broken (λ other. other.asks_it)
   by N15 zero true (suc at) broken = broken
+  by x zero wrapup at broken = alone_is_normal (record { rule = x; op = 0; wrapup = wrapup; at = at }) broken
 
 -- ---- the run
 

@@ -1,5 +1,5 @@
 -- A run over two kinds of nodes to which the laws of typed memory apply: what they ask for is met, and what they give is told.
-use Rattle.std.specs.Prelude.{◌≡◌, ℕ, List, [], ◌∷◌, Some, None, codes, slice_get}
+use Rattle.std.specs.Prelude.{◌≡◌, List, [], ◌∷◌, Some, codes, slice_get}
 use Rattle.norm_lang.specs.declared.text.FieldKind.TheVariants as holdings
 use Rattle.norm_lang.specs.declared.text.Start.TheVariants as starts
 use Rattle.norm_lang.specs.declared.text.FieldDecl.{FieldDecl}

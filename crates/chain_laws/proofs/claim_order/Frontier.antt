@@ -1,5 +1,5 @@
 -- Claims of each kind take slots that were never claimed in ascending order.
-use Rattle.std.proofs.Common.{ℕ, zero, suc, ◌≡◌, ◌≢◌, ◌==◌, ◌+◌, ◌≤◌, ◌<◌, ◌⊎◌, ◌∙◌, Bool, true, false, List, [], ◌∷◌, length, Option, Some, None, arith, inl, inr, ⊎_elim, sym, ap, subst, refl, max, if◌then◌else◌}
+use Rattle.std.proofs.Common.{ℕ, zero, ◌≡◌, ◌≢◌, ◌==◌, ◌+◌, ◌≤◌, ◌<◌, ◌∙◌, Bool, true, false, List, [], ◌∷◌, length, Option, Some, None, arith, inl, inr, ⊎_elim, sym, ap, subst, refl, max, if◌then◌else◌}
 use Rattle.std.specs.Prelude.{nat_lt}
 use Rattle.std.proofs.lemmas.Bool.{cases_eq, cases_lt}
 use Rattle.std.proofs.lemmas.Bool.Decides.{nat_tests}
@@ -121,10 +121,6 @@ module _ (n : Sizes) (nodes : ℕ → ℕ) (first : ℕ) (m m' : Word → ℕ) (
       (past_later (range_at n j) k (nodes k) first m m' (v k) (v' k) (o k lt) j (moves k lt) w.0, w.1)
 
   sweep_later : (stage : SweepStage) → SweepFits n m v stage → SweepFits n m' v' stage
-  sweep_later sweeps.ReadPhase w = tt
-  sweep_later (sweeps.RaisePhase p) w = tt
-  sweep_later (sweeps.Warn d) w = tt
-  sweep_later (sweeps.ReadHazard d r) w = tt
   sweep_later (sweeps.ReadStatus j) w = w
   sweep_later (sweeps.MakeReady j q) w = w
   sweep_later (sweeps.PushHead k j) w = (claimed_later j w.0, w.1)
@@ -136,6 +132,7 @@ module _ (n : Sizes) (nodes : ℕ → ℕ) (first : ℕ) (m m' : Word → ℕ) (
       let k : ℕ = kind_of n j in
       let lt = kind_small n j are in
       (claimed_later j w.0, w.1, near_later (range_at n j) k (nodes k) first m m' (v k) (v' k) (o k lt) j (moves k lt) (w.0.0.0, w.0.1) w.2)
+  sweep_later _ w = tt
 
   claim_later : (k : ℕ) (sweep : SweepStage) (stage : ClaimStage) → k < length n.kinds → ClaimFits n k m v sweep stage → ClaimFits n k m' v' sweep stage
   claim_later k sweep claims.ReadHead lt w = tt
@@ -176,9 +173,8 @@ some_slots n are = let one = are.each 0 are.some in let part = part_within n.kin
 hazard_on : (n : Sizes) (m : Word → ℕ) (v : ℕ → ℕ) (d r : ℕ) → AreKinds n → SweepFits n m v (hazard_next n d r)
 hazard_on n m v d r are = of (nat_lt (r + 1) 8) (nat_lt (d + 1) n.callers) where
   of : (a b : Bool) → SweepFits n m v (if a then sweeps.ReadHazard d (r + 1) else (if b then sweeps.ReadHazard (d + 1) 0 else sweeps.ReadStatus n.slots))
-  of true b = tt
-  of false true = tt
   of false false = (some_slots n are, omega arith)
+  of _ _ = tt
 
 warn_on : (n : Sizes) (m : Word → ℕ) (v : ℕ → ℕ) (d : ℕ) (scheme : Scheme) → AreKinds n → SweepFits n m v (warn_next n scheme d)
 warn_on n m v d scheme are = of (nat_lt (d + 1) n.callers) where
@@ -294,9 +290,8 @@ stays n nodes first m m' v count claim end k on = record { words = k.0; moves = 
 look_ends : (n : Sizes) (m : Word → ℕ) (v : ℕ → ℕ) (claim : Claim) → claim.kind < length n.kinds → ClaimOn n m v (look_ended claim).claim (look_ended claim).ended
 look_ends n m v claim lt = of (claim.sweeps == 2) where
   follows : (scheme : Scheme) (made : ℕ) → ClaimOn n m v (sweep_follows scheme made claim).claim (sweep_follows scheme made claim).ended
-  follows Warned made = (lt, tt)
   follows (Announced own) zero = (lt, tt)
-  follows (Announced own) (suc made) = (lt, tt)
+  follows _ _ = (lt, tt)
 
   of : (b : Bool) → ClaimOn n m v (if b then claim_ends claim ends.Full else sweep_follows claim.sweep.scheme claim.sweeps claim).claim (if b then claim_ends claim ends.Full else sweep_follows claim.sweep.scheme claim.sweeps claim).ended
   of true = tt
@@ -394,8 +389,7 @@ some_state a b is = cc
 
 pub begun : (standing : Standing) (state later : OpenState) → open_begins standing state ≡ Some later → state ≡ later
 begun Elsewhere state later is = some_state state later is
-begun (Claims claim) state later is = absurd (let z : None ≡ Some later = is in cc)
-begun (Retires retirement) state later is = absurd (let z : None ≡ Some later = is in cc)
+begun _ state later is = absurd (let z : None ≡ Some later = is in cc)
 
 pub tested : (b : Bool) (o : Option OpenState) (later : OpenState) → (if b then o else None) ≡ Some later → (b ≡ true) × (o ≡ Some later)
 tested true o later is = (refl, is)
@@ -546,23 +540,15 @@ module _ (n : Sizes) (nodes : ℕ → ℕ) (first : ℕ) (m : Word → ℕ) (v :
   slot_below Elsewhere w = null_below
   slot_below (Claims claim) w = in_claim claim.stage w.1 where
     in_sweep : (stage : SweepStage) → SweepFits n m v stage → slot_of_sweep stage < v (kind_of n (slot_of_sweep stage))
-    in_sweep sweeps.ReadPhase w = null_below
-    in_sweep (sweeps.RaisePhase p) w = null_below
-    in_sweep (sweeps.Warn d) w = null_below
-    in_sweep (sweeps.ReadHazard d r) w = null_below
-    in_sweep (sweeps.ReadStatus j) w = null_below
-    in_sweep (sweeps.MakeReady j q) w = null_below
     in_sweep (sweeps.PushHead k j) w = w.0.0.1
     in_sweep (sweeps.PushLink j q t) w = w.0.0.1
     in_sweep (sweeps.PushTop k j q t) w = w.0.0.1
+    in_sweep _ w = null_below
 
     in_claim : (stage : ClaimStage) → ClaimFits n claim.kind m v claim.sweep.stage stage → slot_of_claim claim.sweep stage < v (kind_of n (slot_of_claim claim.sweep stage))
-    in_claim claims.ReadHead fits = null_below
-    in_claim (claims.ReadLink q t) fits = null_below
-    in_claim (claims.Take q t next) fits = null_below
     in_claim (claims.StoreUsed q t) fits = past_below n nodes first m v claim.kind t w.0 o fits
-    in_claim (claims.Withdraw own) fits = null_below
     in_claim claims.Sweeps fits = in_sweep claim.sweep.stage fits
+    in_claim _ fits = null_below
   slot_below (Retires retirement) w = w
 
 pub claims_stay_ordered : OfAll ClaimsStayOrdered

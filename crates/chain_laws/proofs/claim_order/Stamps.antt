@@ -1,5 +1,5 @@
 -- The words of the chains stay within their limits.
-use Rattle.std.proofs.Common.{ℕ, zero, suc, ◌≡◌, ◌≢◌, ◌==◌, ◌+◌, ◌≤◌, ◌<◌, ◌⊎◌, Bool, true, false, List, [], ◌∷◌, length, Option, Some, None, arith, inl, inr, ⊎_elim, sym, ap, subst, refl, max, if◌then◌else◌}
+use Rattle.std.proofs.Common.{ℕ, zero, ◌≡◌, ◌≢◌, ◌==◌, ◌+◌, ◌≤◌, ◌<◌, Bool, true, false, List, [], ◌∷◌, length, Option, Some, None, arith, inl, inr, ⊎_elim, sym, ap, subst, refl, max, if◌then◌else◌}
 use Rattle.std.specs.Prelude.{nat_lt}
 use Rattle.std.proofs.lemmas.Bool.{cases_eq, cases_lt}
 use Rattle.std.proofs.lemmas.Bool.Decides.{nat_tests}
@@ -79,23 +79,15 @@ within_same n m m' On same w on = record { up = same.phase; words = words_same n
 
 -- what a routine stores in a link, or puts on top, is a slot of the kind, or none; and a push goes to the head of its slot's kind
 abbrev pub SweepStores : Sizes → SweepStage → Type 0
-SweepStores n sweeps.ReadPhase = Unit {0}
-SweepStores n (sweeps.RaisePhase p) = Unit {0}
-SweepStores n (sweeps.Warn d) = Unit {0}
-SweepStores n (sweeps.ReadHazard d r) = Unit {0}
-SweepStores n (sweeps.ReadStatus j) = Unit {0}
-SweepStores n (sweeps.MakeReady j q) = Unit {0}
 SweepStores n (sweeps.PushHead k j) = k ≡ kind_of n j
 SweepStores n (sweeps.PushLink j q t) = IsNullOrOf n (kind_of n j) t
 SweepStores n (sweeps.PushTop k j q t) = (k ≡ kind_of n j) × IsSlot (slot_range n) j
+SweepStores n _ = Unit {0}
 
 abbrev pub ClaimStores : Sizes → ℕ → SweepStage → ClaimStage → Type 0
-ClaimStores n k stage claims.ReadHead = Unit {0}
-ClaimStores n k stage (claims.ReadLink q t) = Unit {0}
 ClaimStores n k stage (claims.Take q t next) = IsNullOrOf n k next
-ClaimStores n k stage (claims.StoreUsed q t) = Unit {0}
-ClaimStores n k stage (claims.Withdraw own) = Unit {0}
 ClaimStores n k stage claims.Sweeps = SweepStores n stage
+ClaimStores n k stage _ = Unit {0}
 
 -- a head is exchanged
 within_head : (n : Sizes) (m : Word → ℕ) (k q t : ℕ) (On : ℕ → Type 0) → n.slots ≤ 4096 → WordsWithin n m → q ≤ m Phase → IsNullOrOf n k t → On (m Phase) → Within n m (store m (Head k) (head_word q t)) On
@@ -128,9 +120,8 @@ status_next n phase sweep j parts up = from_status (λ turn. SweepOn turn.sweep 
 hazard_on : (n : Sizes) (phase s d r : ℕ) → s ≤ phase → SweepBelow phase s (hazard_next n d r)
 hazard_on n phase s d r up = of (nat_lt (r + 1) 8) (nat_lt (d + 1) n.callers) where
   of : (a b : Bool) → SweepBelow phase s (if a then sweeps.ReadHazard d (r + 1) else (if b then sweeps.ReadHazard (d + 1) 0 else sweeps.ReadStatus n.slots))
-  of true b = up
   of false true = up
-  of false false = up
+  of _ _ = up
 
 warn_on : (n : Sizes) (phase s d : ℕ) (scheme : Scheme) → s ≤ phase → SweepBelow phase s (warn_next n scheme d)
 warn_on n phase s d scheme up = of (nat_lt (d + 1) n.callers) where
@@ -196,9 +187,8 @@ ClaimOn claim (Some end) phase = Unit {0}
 look_ends : (phase : ℕ) (claim : Claim) → ClaimOn (look_ended claim).claim (look_ended claim).ended phase
 look_ends phase claim = of (claim.sweeps == 2) where
   follows : (scheme : Scheme) (made : ℕ) → ClaimOn (sweep_follows scheme made claim).claim (sweep_follows scheme made claim).ended phase
-  follows Warned made = tt
   follows (Announced own) zero = tt
-  follows (Announced own) (suc made) = tt
+  follows _ _ = tt
 
   of : (b : Bool) → ClaimOn (if b then claim_ends claim ends.Full else sweep_follows claim.sweep.scheme claim.sweeps claim).claim (if b then claim_ends claim ends.Full else sweep_follows claim.sweep.scheme claim.sweeps claim).ended phase
   of true = tt
@@ -238,26 +228,18 @@ claim_within n last m claim claims.Sweeps is are most lt w fits below =
 
 pub sweep_up : (phase phase' s : ℕ) (stage : SweepStage) → phase ≤ phase' → SweepBelow phase s stage → SweepBelow phase' s stage
 sweep_up phase phase' s sweeps.ReadPhase up w = tt
-sweep_up phase phase' s (sweeps.RaisePhase p) up w = omega (arith, up, w)
-sweep_up phase phase' s (sweeps.Warn d) up w = omega (arith, up, w)
-sweep_up phase phase' s (sweeps.ReadHazard d r) up w = omega (arith, up, w)
-sweep_up phase phase' s (sweeps.ReadStatus j) up w = omega (arith, up, w)
-sweep_up phase phase' s (sweeps.MakeReady j q) up w = omega (arith, up, w)
-sweep_up phase phase' s (sweeps.PushHead k j) up w = omega (arith, up, w)
 sweep_up phase phase' s (sweeps.PushLink j q t) up w = ((let a = w.0 in omega (arith, up, a)), (let b = w.1 in omega (arith, up, b)))
 sweep_up phase phase' s (sweeps.PushTop k j q t) up w = ((let a = w.0 in omega (arith, up, a)), (let b = w.1 in omega (arith, up, b)))
+sweep_up phase phase' s _ up w = omega (arith, up, w)
 
 pub below_up : (phase phase' : ℕ) (standing : Standing) → phase ≤ phase' → Below phase standing → Below phase' standing
-below_up phase phase' Elsewhere up w = tt
-below_up phase phase' (Retires retirement) up w = tt
 below_up phase phase' (Claims claim) up w = of claim.stage w where
   of : (stage : ClaimStage) → ClaimBelow phase claim.sweep stage → ClaimBelow phase' claim.sweep stage
   of claims.ReadHead w = tt
-  of (claims.ReadLink q t) w = omega (arith, up, w)
-  of (claims.Take q t next) w = omega (arith, up, w)
-  of (claims.StoreUsed q t) w = omega (arith, up, w)
   of (claims.Withdraw own) w = tt
   of claims.Sweeps w = sweep_up phase phase' claim.sweep.bound claim.sweep.stage up w
+  of _ w = omega (arith, up, w)
+below_up phase phase' _ up w = tt
 
 -- ---- runs
 
@@ -272,22 +254,14 @@ next_is n m k v t next are lt w = ⊎_elim
     (cases_lt t v)
 
 fits_stores : (n : Sizes) (m : Word → ℕ) (v : ℕ → ℕ) (claim : Claim) (stage : ClaimStage) → AreKinds n → claim.kind < length n.kinds → ClaimFits n claim.kind m v claim.sweep.stage stage → ClaimStores n claim.kind claim.sweep.stage stage
-fits_stores n m v claim claims.ReadHead are lt fits = tt
-fits_stores n m v claim (claims.ReadLink q t) are lt fits = tt
 fits_stores n m v claim (claims.Take q t next) are lt fits = next_is n m claim.kind (v claim.kind) t next are lt fits
-fits_stores n m v claim (claims.StoreUsed q t) are lt fits = tt
-fits_stores n m v claim (claims.Withdraw own) are lt fits = tt
 fits_stores n m v claim claims.Sweeps are lt fits = of claim.sweep.stage fits where
   of : (stage : SweepStage) → SweepFits n m v stage → SweepStores n stage
-  of sweeps.ReadPhase fits = tt
-  of (sweeps.RaisePhase p) fits = tt
-  of (sweeps.Warn d) fits = tt
-  of (sweeps.ReadHazard d r) fits = tt
-  of (sweeps.ReadStatus j) fits = tt
-  of (sweeps.MakeReady j q) fits = tt
   of (sweeps.PushHead k j) fits = fits.1
   of (sweeps.PushLink j q t) fits = near_is n (kind_of n j) (v (kind_of n j)) t are (kind_small n j are) fits.1.0
   of (sweeps.PushTop k j q t) fits = (fits.1, range_is_within n (kind_of n j) j are (fits.0.0.0, fits.0.1))
+  of _ fits = tt
+fits_stores n m v claim _ are lt fits = tt
 
 pub record StampsHold (n : Sizes) (start : Beginning) (state : OpenState) : Type 0 where
   pub open_holds : OpenHolds n start state

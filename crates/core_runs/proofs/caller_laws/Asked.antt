@@ -1,5 +1,5 @@
 -- N15 where a caller stands: a register that its instruction asks to be of a kind names null or a slot of it.
-use Rattle.std.proofs.Common.{◌≡◌, ℕ, ◌*◌, ◌+◌, ◌/◌, inl, Bool, true, false, Option, Some, None, refl, sym, subst, arith}
+use Rattle.std.proofs.Common.{◌≡◌, ℕ, ◌*◌, ◌+◌, ◌/◌, inl, Bool, true, false, Option, Some, refl, sym, subst, arith}
 use Rattle.norm_lang.specs.declared.text.Reg.{Reg}
 use Rattle.norm_lang.specs.declared.text.Reg.TheVariants.{Num, Ref}
 use Rattle.norm_lang.specs.declared.text.FieldKind.{FieldKind}
@@ -35,10 +35,9 @@ object_has target setting e i (Ref r) f sane c is asked = λ k owner. sane.asked
 -- and what is put where a kind is held may stand there
 pub operand_lawful : (target : Target) (setting : Setting) (e : Entry) (i : Instr) (kind : Option FieldKind) (b : Reg) → Methods target → Here target setting e → instr_in target e ≡ Some (Plain i) → is_unlike kind b ≡ false
     → ((r k : ℕ) → b ≡ Ref r → refers kind k ≡ true → asks target.fields target.roots i r k ≡ true) → LawfulValue setting.sizes kind (word_in e.hand.registers b)
-operand_lawful target setting e i None b sane c is like asked = tt
-operand_lawful target setting e i (Some holdings.Number) b sane c is like asked = tt
 operand_lawful target setting e i (Some (holdings.Reference k)) (Num b) sane c is like asked = absurd (let z : true ≡ false = like in cc)
 operand_lawful target setting e i (Some (holdings.Reference k)) (Ref b) sane c is like asked =
     let held = reference_in e.hand.registers (Ref b) in
     subst (IsNullOrOf setting.sizes k) (sym (packed_slot held.node held.marked))
     (null_or_of setting.sizes k held.node (c.names.within b) (sane.asked setting e.running.call.op e.hand.wrapup e.hand.at i e.hand.registers b k is (asked b k refl (itself k)) c.kinds))
+operand_lawful target setting e i _ b sane c is like asked = tt

@@ -1,5 +1,5 @@
 -- A new entry belongs, and so does one that takes a call.
-use Rattle.std.proofs.Common.{◌≡◌, ℕ, zero, suc, ◌+◌, ◌*◌, ◌≤◌, ◌<◌, inl, true, false, [], length, replicate, Option, Some, None, refl, arith}
+use Rattle.std.proofs.Common.{◌≡◌, ℕ, suc, ◌+◌, ◌*◌, ◌≤◌, ◌<◌, inl, true, false, [], length, replicate, Option, Some, None, refl, arith}
 use Rattle.std.specs.Prelude.{slice_get, slice_index}
 use Rattle.std.proofs.lemmas.Option.{slice_get_within}
 use Rattle.norm_lang.specs.Registers.{first_registers}
@@ -22,9 +22,8 @@ use Rattle.core_runs.proofs.caller_laws.Stopping.{first_names}
 use Rattle.core_runs.proofs.caller_laws.KindSteps.{first_typed}
 
 no_cradle : (n k : ℕ) → slice_index (replicate n 0) k ≡ 0
-no_cradle zero k = refl
-no_cradle (suc n) zero = refl
 no_cradle (suc n) (suc k) = no_cradle n k
+no_cradle _ _ = refl
 
 -- a new entry belongs to every fitting pair with more callers than its number
 pub idle_belongs : (target : Target) (setting : Setting) (c : ℕ) → Methods target → c < setting.sizes.callers → Belongs target setting (idle_entry c)

@@ -57,9 +57,8 @@ no_more : (kind : ℕ) (i : TargetInstr) → one_if (is_new_of kind (Some i)) �
 unfolding one_if
 no_more kind i = of (is_new_of kind (Some i)) (is_target_new i) (new_of_some kind (Some i)) where
   of : (a b : Bool) → (a ≡ true → b ≡ true) → one_if a ≤ one_if b
-  of false b then_is = omega arith
-  of true true then_is = omega arith
   of true false then_is = absurd (let no : false ≡ true = then_is refl in cc)
+  of _ _ then_is = omega arith
 
 -- fewer than the method has
 news_below : (kind : ℕ) (code : List TargetInstr) (at : ℕ) → is_new_of kind (slice_get code at) ≡ true → news_before kind code at < target_news_in code
@@ -130,10 +129,6 @@ cradle_numbers_apart target wrapup code a b sane new new' other same =
     (λ (lt : a < b). let more = news_more (kind_made (slice_get code a)) code a b here lt in let no : ⊥ = omega (arith, more, same, kinds, also) in no)
     (λ (ge : b ≤ a). let more = news_more (kind_made (slice_get code a)) code b a there (omega (arith, ge, other)) in let no : ⊥ = omega (arith, more, same, kinds, also) in no)
     (cases_lt a b)
-
--- that of a method's only `new` is the first of its kind
-pub cradle_number_first : (code : List TargetInstr) (at : ℕ) → target_news_in code ≤ 1 → is_new_at (slice_get code at) ≡ true → cradle_number code at ≡ 4 * kind_made (slice_get code at)
-cradle_number_first code at few is = let below = news_below (kind_made (slice_get code at)) code at (new_of_own (slice_get code at) is) in omega (arith, few, below)
 
 -- a method with a `new` has one
 pub new_counts : (code : List TargetInstr) (at : ℕ) → is_new_at (slice_get code at) ≡ true → 1 ≤ target_news_in code

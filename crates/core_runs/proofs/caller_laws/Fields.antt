@@ -1,6 +1,6 @@
 -- The fields of a kind, what may stand in them, and that each slot has room for those of its kind: 0 stands in a field of null, and in one
 -- of a node a value of what the node's kind has there.
-use Rattle.std.proofs.Common.{◌≡◌, ◌≢◌, ℕ, zero, suc, ◌≤◌, ◌<◌, ◌⊎◌, inl, ⊎_elim, true, ◌&&◌, List, [], ◌∷◌, length, map, Option, Some, None, refl, sym, ap, ◌∙◌, subst, arith}
+use Rattle.std.proofs.Common.{◌≡◌, ◌≢◌, ℕ, zero, suc, ◌≤◌, ◌<◌, ◌⊎◌, inl, ⊎_elim, true, ◌&&◌, List, [], ◌∷◌, length, map, Option, Some, refl, sym, ap, ◌∙◌, subst, arith}
 use Rattle.std.specs.Prelude.{slice_get, nat_lt, nat_le, option_map}
 use Rattle.std.specs.List.{list_all}
 use Rattle.std.proofs.lemmas.Bool.{and_parts, leb-true, ltb-true, cases_eq}
@@ -90,9 +90,8 @@ place_fits target setting f are fits lt =
 -- ---- words
 
 zero_value : (n : Sizes) (kind : Option FieldKind) → LawfulValue n kind 0
-zero_value n None = tt
-zero_value n (Some holdings.Number) = tt
 zero_value n (Some (holdings.Reference k)) = inl refl
+zero_value n _ = tt
 
 -- null, or a slot of the kind that has a field
 abbrev pub HasField : Target → Setting → ℕ → ℕ → Type 0

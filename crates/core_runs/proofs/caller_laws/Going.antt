@@ -1,8 +1,9 @@
 -- An entry that goes on from its instruction to a successor belongs.
-use Rattle.std.proofs.Common.{◌≡◌, ℕ, zero, suc, ◌+◌, ◌*◌, ◌%◌, inl, ◌≤◌, ◌<◌, ◌==◌, ◌&&◌, Bool, true, false, List, [], ◌∷◌, length, take, drop, set, map, length-set, Option, Some, None, refl, sym, ◌∙◌, ap, arith, if◌then◌else◌}
+use Rattle.std.proofs.Common.{◌≡◌, ℕ, zero, suc, ◌+◌, ◌*◌, ◌%◌, inl, ◌≤◌, ◌<◌, ◌==◌, Bool, true, false, List, [], ◌∷◌, length, take, drop, set, map, length-set, Option, Some, None, refl, sym, ◌∙◌, ap, arith, if◌then◌else◌}
 use Rattle.std.specs.Prelude.{slice_get, slice_index, option_map, nat_le}
 use Rattle.std.specs.List.{list_all}
 use Rattle.std.proofs.lemmas.Bool.Decides.{nat_tests}
+use Rattle.std.proofs.lemmas.Bool.{and_parts}
 use Rattle.norm_lang.specs.declared.text.Reg.{Reg}
 use Rattle.norm_lang.specs.declared.text.Reg.TheVariants.{Num, Ref}
 use Rattle.norm_lang.specs.declared.text.FieldKind.{FieldKind}
@@ -65,11 +66,9 @@ guards_put slots guards r slot g le = record {
 
 -- cradles
 index_keeps : (P : ℕ → Type 0) (xs : List ℕ) (i x r : ℕ) → (r ≡ i → P x) → P (slice_index xs r) → P (slice_index (set xs i x) r)
-index_keeps P [] i x r p q = q
 index_keeps P (y ∷ ys) zero x zero p q = p refl
-index_keeps P (y ∷ ys) zero x (suc r) p q = q
-index_keeps P (y ∷ ys) (suc i) x zero p q = q
 index_keeps P (y ∷ ys) (suc i) x (suc r) p q = index_keeps P ys i x r (λ is. p (ap suc is)) q
+index_keeps P _ _ x _ p q = q
 
 -- a slot is put into a cradle of its kind
 pub cradle_put : (n : Sizes) (cradles : List ℕ) (k slot : ℕ) → HoldsSlots n cradles → slot ≤ n.slots → ((t j : ℕ) → j < 4 → 4 * t + j ≡ k → IsNullOrOf n t slot) → HoldsSlots n (set cradles k slot)
@@ -105,17 +104,9 @@ are_alike _ _ = false
 
 -- a register of the one's kind is of the other's
 pub alike_unlike : (one other : Option FieldKind) (d : Reg) → are_alike one other ≡ true → is_unlike one d ≡ false → is_unlike other d ≡ false
-alike_unlike None other d alike like = absurd (let z : false ≡ true = alike in cc)
-alike_unlike (Some holdings.Number) None d alike like = absurd (let z : false ≡ true = alike in cc)
 alike_unlike (Some holdings.Number) (Some holdings.Number) d alike like = like
-alike_unlike (Some holdings.Number) (Some (holdings.Reference j)) d alike like = absurd (let z : false ≡ true = alike in cc)
-alike_unlike (Some (holdings.Reference k)) None d alike like = absurd (let z : false ≡ true = alike in cc)
-alike_unlike (Some (holdings.Reference k)) (Some holdings.Number) d alike like = absurd (let z : false ≡ true = alike in cc)
 alike_unlike (Some (holdings.Reference k)) (Some (holdings.Reference j)) d alike like = like
-
-both : (a b : Bool) → (a && b) ≡ true → (a ≡ true) × (b ≡ true)
-both true b e = (refl, e)
-both false b e = absurd (let z : false ≡ true = e in cc)
+alike_unlike _ _ d alike like = absurd (let z : false ≡ true = alike in cc)
 
 of_kind : (kind : Option FieldKind) (root : RootDecl) → is_of_kind kind root ≡ true → are_alike kind (Some root.kind) ≡ true
 of_kind None root e = e
@@ -125,9 +116,9 @@ all_take : (kind : Option FieldKind) (roots : List RootDecl) (n k : ℕ) → lis
     → are_alike kind (option_map (λ (root : RootDecl). root.kind) (slice_get roots k)) ≡ true
 all_take kind [] n k all lt within = absurd (omega (arith, within))
 all_take kind (root ∷ roots) zero k all lt within = absurd (omega (arith, lt))
-all_take kind (root ∷ roots) (suc n) zero all lt within = of_kind kind root (both (is_of_kind kind root) (list_all (is_of_kind kind) (take n roots)) all).0
+all_take kind (root ∷ roots) (suc n) zero all lt within = of_kind kind root (and_parts (is_of_kind kind root) (list_all (is_of_kind kind) (take n roots)) all).0
 all_take kind (root ∷ roots) (suc n) (suc k) all lt within =
-    all_take kind roots n k (both (is_of_kind kind root) (list_all (is_of_kind kind) (take n roots)) all).1 (omega (arith, lt)) (omega (arith, within))
+    all_take kind roots n k (and_parts (is_of_kind kind root) (list_all (is_of_kind kind) (take n roots)) all).1 (omega (arith, lt)) (omega (arith, within))
 
 all_drop : (kind : Option FieldKind) (roots : List RootDecl) (x n k : ℕ) → list_all (is_of_kind kind) (take n (drop x roots)) ≡ true → k < n → x + k < length roots
     → are_alike kind (root_kind roots (x + k)) ≡ true
@@ -138,7 +129,7 @@ all_drop kind (root ∷ roots) (suc x) n k all lt within = let z : suc x + k ≡
 -- the roots of a pick are alike
 pub pick_kind : (roots : List RootDecl) (x n k : ℕ) → are_roots_of_one_kind roots x n ≡ true → k < n → (are_alike (root_kind roots x) (root_kind roots (x + k)) ≡ true) × (x + k < length roots)
 pick_kind roots x n k one lt =
-    let parts = both (nat_le (x + n) (length roots)) (list_all (is_of_kind (root_kind roots x)) (take n (drop x roots))) one in
+    let parts = and_parts (nat_le (x + n) (length roots)) (list_all (is_of_kind (root_kind roots x)) (take n (drop x roots))) one in
     let le : x + n ≤ length roots = within (x + n) (length roots) parts.0 in
     (all_drop (root_kind roots x) roots x n k parts.1 lt (omega (arith, le, lt)), omega (arith, le, lt)) where
       within : (a b : ℕ) → nat_le a b ≡ true → a ≤ b

@@ -1,8 +1,8 @@
 -- An entry that stands before the access of its instruction belongs after it.
-use Rattle.std.proofs.Common.{◌≡◌, ◌≢◌, ℕ, zero, suc, ◌+◌, ◌≤◌, ◌==◌, ◌&&◌, ◌||◌, not, inl, inr, ⊎_elim, ap, Bool, true, false, [], ◌∷◌, length, Option, Some, None, refl, sym, ◌∙◌, subst, arith, if◌then◌else◌}
+use Rattle.std.proofs.Common.{◌≡◌, ◌≢◌, ℕ, zero, suc, ◌+◌, ◌≤◌, ◌==◌, ◌&&◌, ◌||◌, inl, inr, ⊎_elim, ap, Bool, true, false, [], ◌∷◌, length, Option, Some, None, refl, sym, ◌∙◌, subst, arith, if◌then◌else◌}
 use Rattle.std.specs.Prelude.{nat_le, nat_lt}
 use Rattle.std.specs.List.{list_any}
-use Rattle.std.proofs.lemmas.Bool.{ltb-true}
+use Rattle.std.proofs.lemmas.Bool.{ltb-true, not-false, and_parts}
 use Rattle.std.proofs.lemmas.Bool.Decides.{nat_tests}
 use Rattle.norm_lang.specs.declared.text.Reg.{Reg}
 use Rattle.norm_lang.specs.declared.text.Reg.TheVariants.{Num, Ref}
@@ -156,14 +156,6 @@ second : (a b : Bool) → (a || b) ≡ false → b ≡ false
 second true b e = absurd (let z : true ≡ false = e in cc)
 second false b e = e
 
-pub parts : (a b : Bool) → (a && b) ≡ true → (a ≡ true) × (b ≡ true)
-parts true b e = (refl, e)
-parts false b e = absurd (let z : false ≡ true = e in cc)
-
-unnegated : (a : Bool) → not a ≡ false → a ≡ true
-unnegated true e = refl
-unnegated false e = absurd (let z : true ≡ false = e in cc)
-
 at_least : (a b : ℕ) → nat_le a b ≡ true → a ≤ b
 at_least a b e = grind (arith, nat_tests)
 
@@ -174,11 +166,11 @@ plain_keeps target setting by e (instr.LoadRoot d x) word sane some fits s has t
     (site_of target e (Plain (instr.LoadRoot d x)) sane s.here.reached s.is).own.form.kinds (λ t to. to)
 plain_keeps target setting by e (instr.LoadPick d x n a) word sane some fits s has told =
     let site = site_of target e (Plain (instr.LoadPick d x n a)) sane s.here.reached s.is in
-    let limits = parts (is_register d) (nat_lt x (length target.roots) && ((nat_le 1 n && nat_le n 256) && is_register a)) site.limits in
-    let limits2 = parts (nat_lt x (length target.roots)) ((nat_le 1 n && nat_le n 256) && is_register a) limits.1 in
-    let limits3 = parts (nat_le 1 n && nat_le n 256) (is_register a) limits2.1 in
-    let limits4 = parts (nat_le 1 n) (nat_le n 256) limits3.0 in
-    let one = unnegated (are_roots_of_one_kind target.roots x n) site.own.form.range in
+    let limits = and_parts (is_register d) (nat_lt x (length target.roots) && ((nat_le 1 n && nat_le n 256) && is_register a)) site.limits in
+    let limits2 = and_parts (nat_lt x (length target.roots)) ((nat_le 1 n && nat_le n 256) && is_register a) limits.1 in
+    let limits3 = and_parts (nat_le 1 n && nat_le n 256) (is_register a) limits2.1 in
+    let limits4 = and_parts (nat_le 1 n) (nat_le n 256) limits3.0 in
+    let one = not-false (are_roots_of_one_kind target.roots x n) site.own.form.range in
     let k = remainder (number_in e.hand.registers a) n in
     let less = remainder_below (number_in e.hand.registers a) n (at_least 1 n limits4.0) in
     let same = pick_kind target.roots x n k one less in
@@ -187,8 +179,8 @@ plain_keeps target setting by e (instr.LoadPick d x n a) word sane some fits s h
 plain_keeps target setting by e (instr.LoadField d a f) word sane some fits s has told =
     let i = instr.LoadField d a f in
     let site = site_of target e (Plain i) sane s.here.reached s.is in
-    let limits = parts (is_register d) (is_register a && nat_lt f (length target.fields)) site.limits in
-    let lt = ltb-true f (length target.fields) (parts (is_register a) (nat_lt f (length target.fields)) limits.1).1 in
+    let limits = and_parts (is_register d) (is_register a && nat_lt f (length target.fields)) site.limits in
+    let lt = ltb-true f (length target.fields) (and_parts (is_register a) (nat_lt f (length target.fields)) limits.1).1 in
     loads target setting by e i d (field_kind target.fields f) word sane some fits s (one_way (e.hand.at + 1)) refl refl (λ r isnt. isnt)
     (field_value target setting (slot_in e.hand.registers a) f word lt (object_has target setting e i a f sane s.here s.is (λ r k asked. asked)) told)
     (second (holds_number a) (is_unlike (field_kind target.fields f) d) site.own.form.kinds) (λ t to. to)

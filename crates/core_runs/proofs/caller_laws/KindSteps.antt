@@ -8,7 +8,7 @@ use Rattle.norm_lang.specs.declared.text.Instr.{Instr}
 use Rattle.norm_lang.specs.declared.text.Instr.TheVariants as instr
 use Rattle.norm_lang.specs.declared.registers.Reference.{Reference}
 use Rattle.norm_lang.specs.declared.registers.Registers.{Registers}
-use Rattle.norm_lang.specs.Registers.{first_registers, with_count, with_number, with_reference}
+use Rattle.norm_lang.specs.Registers.{first_registers, with_count, with_number, with_reference, node_in}
 use Rattle.norm_lang.specs.RegisterUse.{destination}
 use Rattle.norm_lang.specs.InstructionRules.{has_wrong_kind}
 use Rattle.norm_lang.specs.Kinds.{none_held, given_kinds}
@@ -19,7 +19,7 @@ use Rattle.target_code.specs.declared.target.TargetOp.{TargetOp}
 use Rattle.target_code.specs.declared.target.Target.{Target}
 use Rattle.target_code.specs.Paths.{TargetPath, IsTargetSuccessor, target_sets}
 use Rattle.oa_words.specs.SlotKinds.{kind_of}
-use Rattle.kind_laws.specs.TargetKinds.{MayHaveInTarget, node_in}
+use Rattle.kind_laws.specs.TargetKinds.{MayHaveInTarget}
 use Rattle.kind_laws.proofs.Closed.{kept_kind}
 use Rattle.kind_laws.proofs.Typed.{local_code_keeps, loads_keep, new_nodes_keep, commits_carry, restarts_keep}
 use Rattle.caller_parts.specs.Operands.{method_code}

@@ -15,7 +15,6 @@ use Rattle.target_code.specs.declared.target.TargetInstr.TheVariants.{Plain}
 use Rattle.target_code.specs.declared.target.TargetOp.{TargetOp}
 use Rattle.target_code.specs.declared.target.Target.{Target}
 use Rattle.target_code.specs.Erasing.{erased_op}
-use Rattle.target_code.specs.Paths.{TargetPath}
 use Rattle.target_code.specs.TargetLimits.{is_target_instr}
 use Rattle.target_laws.specs.Methods.{Method}
 use Rattle.target_laws.proofs.Filled.{item_passes}
@@ -77,11 +76,6 @@ kind_within target o each new =
     let same : kind_made o ≡ there.1 = ap kind_made there.2 in
     let lt = ltb-true there.1 (length target.kinds) (and_parts (is_register there.0) (nat_lt there.1 (length target.kinds)) limits).1 in
     omega (arith, same, lt)
-
--- so does one to which a path leads
-pub made_known : (target : Target) (wrapup : Bool) (code : List TargetInstr) (at : ℕ) (path : List ℕ) → SaneCode target wrapup code → TargetPath code path at → is_new_at (slice_get code at) ≡ true
-    → kind_made (slice_get code at) < length target.kinds
-made_known target wrapup code at path sane leads new = kind_within target (slice_get code at) (λ i is. (sane.each at i path is leads).limits) new
 
 module _ (target : Target) (text : Text) (runs : IsRunnable target text) where
   filled : (op : ℕ) (wrapup : Bool) (o : Option TargetOp) → slice_get target.ops op ≡ o → op < length target.ops → 0 < length (method_code o wrapup)

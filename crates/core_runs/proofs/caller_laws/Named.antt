@@ -20,11 +20,9 @@ use Rattle.core_runs.proofs.caller_laws.OfKinds.{of_row}
 
 -- a list whose each item meets a condition, past its end too, goes on to where one that meets it is put in
 pub set_keeps : {X : Type 0} (P : X → Type 0) (xs : List X) (i : ℕ) (x e : X) (r : ℕ) → P x → P (unwrap_or (slice_get xs r) e) → P (unwrap_or (slice_get (set xs i x) r) e)
-set_keeps P [] i x e r p q = q
 set_keeps P (y ∷ ys) zero x e zero p q = p
-set_keeps P (y ∷ ys) zero x e (suc r) p q = q
-set_keeps P (y ∷ ys) (suc i) x e zero p q = q
 set_keeps P (y ∷ ys) (suc i) x e (suc r) p q = set_keeps P ys i x e r p q
+set_keeps P _ _ x e _ p q = q
 
 pub set_hits : {X : Type 0} (xs : List X) (i : ℕ) (x e : X) → i < length xs → unwrap_or (slice_get (set xs i x) i) e ≡ x
 set_hits [] i x e lt = absurd (omega (arith, lt))
@@ -32,11 +30,9 @@ set_hits (y ∷ ys) zero x e lt = refl
 set_hits (y ∷ ys) (suc i) x e lt = set_hits ys i x e (omega (arith, lt))
 
 pub set_misses : {X : Type 0} (xs : List X) (i : ℕ) (x e : X) (r : ℕ) → r ≢ i → unwrap_or (slice_get (set xs i x) r) e ≡ unwrap_or (slice_get xs r) e
-set_misses [] i x e r ne = refl
 set_misses (y ∷ ys) zero x e zero ne = absurd (ne refl)
-set_misses (y ∷ ys) zero x e (suc r) ne = refl
-set_misses (y ∷ ys) (suc i) x e zero ne = refl
 set_misses (y ∷ ys) (suc i) x e (suc r) ne = set_misses ys i x e r (λ is. ne (ap suc is))
+set_misses _ _ x e _ ne = refl
 
 -- a number is put into a register
 pub numbered : (slots : ℕ) (registers : Registers) (d : Reg) (n : ℕ) → NamesSlots slots registers → NamesSlots slots (with_number registers d n)

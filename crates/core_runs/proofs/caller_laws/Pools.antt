@@ -1,5 +1,5 @@
 -- A sweep, a claim and a retirement go on to stand at slots, callers and registers of the row.
-use Rattle.std.proofs.Common.{◌≡◌, ◌≢◌, ℕ, zero, suc, ◌+◌, ◌-◌, ◌≤◌, ◌<◌, ◌==◌, Bool, true, false, List, length, Option, Some, None, refl, sym, ◌∙◌, subst, arith, if◌then◌else◌}
+use Rattle.std.proofs.Common.{◌≡◌, ◌≢◌, ℕ, zero, suc, ◌+◌, ◌≤◌, ◌<◌, ◌==◌, Bool, true, false, List, length, Option, Some, None, refl, sym, ◌∙◌, subst, arith, if◌then◌else◌}
 use Rattle.std.specs.Prelude.{nat_lt, IsSomeAnd}
 use Rattle.std.specs.List.{All}
 use Rattle.std.proofs.lemmas.Bool.Decides.{nat_tests}
@@ -21,11 +21,11 @@ use Rattle.phase_pools.specs.declared.stages.Scheme.{Scheme}
 use Rattle.phase_pools.specs.declared.stages.Scheme.TheVariants.{Warned, Announced}
 use Rattle.phase_pools.proofs.Lowering.{lower_less}
 use Rattle.phase_pools.proofs.Keeping.{sweep_keeps as schemes_stay}
-use Rattle.phase_pools.specs.Pools.{Sweep, SweepTurn, sweep_wants_at, low_after, warned_all, sweep_follows, sweep_started, sweep_goes, sweep_ends, sweep_on, sweep_accepts, sweep_accepts_at, status_read, Claim, ClaimTurn, claim_wants_at, claim_accepts_at, claim_goes, claim_ends, look_begun, look_ended, sweep_ended, Retirement, sweep_begun}
+use Rattle.phase_pools.specs.Pools.{Sweep, SweepTurn, sweep_wants_at, low_after, warned_all, sweep_follows, sweep_started, sweep_goes, sweep_ends, sweep_on, sweep_accepts, sweep_accepts_at, status_read, Claim, ClaimTurn, claim_wants_at, claim_accepts_at, claim_goes, claim_ends, look_begun, look_ended, sweep_ended, sweep_begun}
 use Rattle.phase_pools.proofs.Statuses.{from_slot, from_status}
 use Rattle.caller_parts.specs.Settings.{Setting}
 use Rattle.caller_steps.specs.Lawful.{Accepts}
-use Rattle.caller_steps.specs.Belongs.{ClaimBelongs, ClaimStands, HasBound, HasLow, RetireBelongs, SweepBelongs, SweepStands, last_slot, scheme_of}
+use Rattle.caller_steps.specs.Belongs.{ClaimBelongs, ClaimStands, HasBound, HasLow, SweepBelongs, SweepStands, last_slot, scheme_of}
 use Rattle.core_runs.proofs.caller_laws.Methods.{SettingSane}
 use Rattle.core_runs.proofs.caller_laws.OfKinds.{of_same_kind, slot_of_kind}
 
@@ -136,9 +136,8 @@ started_keeps setting c claim known follows = record { kind = known; scheme = fo
 -- a sweep follows a look, or first the withdrawal of the own announcement
 follows_keeps : (setting : Setting) (c : ℕ) (claim : Claim) (scheme : Scheme) (made : ℕ) → claim.kind < length setting.sizes.kinds → Follows setting c claim → claim.sweep.scheme ≡ scheme → SweepBelongs setting claim.sweep
     → ClaimKeeps setting c (sweep_follows scheme made claim)
-follows_keeps setting c claim Warned made known follows is own = started_keeps setting c claim known follows
 follows_keeps setting c claim (Announced announced) zero known follows is own = record { kind = known; scheme = follows; stands = is; sweep = own }
-follows_keeps setting c claim (Announced announced) (suc made) known follows is own = started_keeps setting c claim known follows
+follows_keeps setting c claim _ _ known follows is own = started_keeps setting c claim known follows
 
 ended_keeps : (setting : Setting) (c : ℕ) (claim : Claim) → claim.kind < length setting.sizes.kinds → Follows setting c claim → SweepBelongs setting claim.sweep → ClaimKeeps setting c (look_ended claim)
 ended_keeps setting c claim known follows own = of (claim.sweeps == 2) where
@@ -183,8 +182,3 @@ claim_keeps target setting c claim word claims.Sweeps is some callers known foll
     let turn = sweep_accepts setting.sizes setting.last claim.sweep word in
     swept_keeps setting c claim turn.sweep turn.ended is known ((schemes_stay setting.sizes setting.last claim.sweep word).scheme ∙ follows)
     (sweep_keeps target setting claim.sweep word claim.sweep.stage some callers own own.stands own.bound own.gathered lawful)
-
--- a retirement goes on as one that belongs
-abbrev pub RetireOn : Setting → Option Retirement → Type 0
-RetireOn setting None = Unit {0}
-RetireOn setting (Some retirement) = RetireBelongs setting retirement

@@ -15,7 +15,7 @@ use Rattle.norm_lang.specs.Flow.{passed, state_along}
 use Rattle.norm_lang.specs.RegisterUse.{same_register, sets}
 use Rattle.norm_lang.specs.Local.{Spot, local_step}
 use Rattle.target_code.specs.declared.target.TargetInstr.{TargetInstr}
-use Rattle.target_code.specs.declared.target.TargetInstr.TheVariants.{Plain, Check, Guard}
+use Rattle.target_code.specs.declared.target.TargetInstr.TheVariants.{Plain}
 use Rattle.target_code.specs.Paths.{IsTargetSuccessor, TargetPath, target_goes_from, target_sets}
 use Rattle.target_code.specs.TargetLimits.{is_target_new}
 use Rattle.norm_lang.specs.Freshness.{fresh_after}
@@ -75,8 +75,7 @@ local_isnt_new _ at registers next steps = refl
 -- whether the last instruction that set a register is a `new`, by what an instruction does
 pub fresh_by : (r : Reg) (i : TargetInstr) (was : Bool) → over_plain (fresh_after r) i was ≡ (if target_sets r i then is_target_new i else was)
 fresh_by r (Plain i) was = refl
-fresh_by r Check was = refl
-fresh_by r (Guard a) was = refl
+fresh_by r _ was = refl
 
 -- the method's start
 pub start_reached : (code : List TargetInstr) (registers : Registers) → 0 < length code → Reaches code 0 registers

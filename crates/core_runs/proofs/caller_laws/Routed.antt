@@ -133,10 +133,8 @@ module _ (target : Target) (sizes : Sizes) (Holds : Routine → Type 0) (h : Hol
   wrap_up_stopped_routed : (e : Entry) → Holds (wrap_up_stopped target e).entry.routine
   wrap_up_stopped_routed e = of (instr_in target e) where
     of : (o : Option TargetInstr) → Holds (wrap_up_stops o e).entry.routine
-    of None = h.here
-    of (Some Check) = h.here
-    of (Some (Guard r)) = h.here
     of (Some (Plain i)) = wrap_up_routed i e
+    of _ = h.here
 
   wrap_up_begun_routed : (made : ℕ) (e : Entry) → Holds (wrap_up_begun target made e).entry.routine
   wrap_up_begun_routed made e =
@@ -159,10 +157,8 @@ module _ (target : Target) (sizes : Sizes) (Holds : Routine → Type 0) (h : Hol
   stopped_routed : (by : Reclamation) (e : Entry) → Holds (stopped by target sizes e).entry.routine
   stopped_routed by e = of (instr_in target e) where
     of : (o : Option TargetInstr) → Holds (stops by target sizes o e).entry.routine
-    of None = h.here
-    of (Some Check) = h.here
-    of (Some (Guard r)) = h.here
     of (Some (Plain i)) = stop_routed by i e
+    of _ = h.here
 
   settles_routed : (by : Reclamation) (spot : Spot) (e : Entry) → Holds (settles by target sizes spot e).entry.routine
   settles_routed by spot e = stopped_routed by (run_to target spot e)
@@ -262,15 +258,13 @@ module _ (target : Target) (sizes : Sizes) (Holds : Routine → Type 0) (h : Hol
   retired_routed by go (Some left) e goes = goes left refl
 
   gained_routed : (by : Reclamation) (made j : ℕ) (e : Entry) → Holds (Announces (announces.Loads reasons.Swept)) → Holds (slot_gained by target made j e).routine
-  gained_routed Optimistic made j e swept = h.zeroes (new_number target e) 0
-  gained_routed Epochs zero j e swept = h.zeroes (new_number target e) 0
   gained_routed Epochs (suc more) j e swept = swept
+  gained_routed _ _ j e swept = h.zeroes (new_number target e) 0
 
   claim_routed : (by : Reclamation) (claim : Claim) (o : Option ClaimEnd) (e : Entry) → (o ≡ None → Holds (Claims claim)) → Holds (Announces (announces.Loads reasons.Swept)) → Holds (claim_on by target claim o e).entry.routine
   claim_routed by claim None e goes swept = goes refl
   claim_routed by claim (Some (ends.Claimed j)) e goes swept = gained_routed by claim.sweeps j (with_routine e At) swept
-  claim_routed by claim (Some ends.Full) e goes swept = h.idle
-  claim_routed by claim (Some (ends.PhasesOver p)) e goes swept = h.idle
+  claim_routed by claim _ e goes swept = h.idle
 
   zeroed_routed : (by : Reclamation) (k field : ℕ) (e : Entry) → Holds (zeroed by target sizes k field e).entry.routine
   zeroed_routed by k field e = of (nat_lt (field + 1) (zero_count target (instr_in target e))) where

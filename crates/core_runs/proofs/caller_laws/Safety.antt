@@ -1,5 +1,5 @@
 -- What an entry that belongs asks for is safe.
-use Rattle.std.proofs.Common.{◌≡◌, ◌≢◌, ℕ, zero, suc, ◌+◌, ◌≤◌, ◌<◌, ◌==◌, ◌&&◌, ◌||◌, not, Bool, true, false, List, [], ◌∷◌, length, Option, Some, None, refl, sym, ◌∙◌, subst, ap, arith, if◌then◌else◌}
+use Rattle.std.proofs.Common.{◌≡◌, ◌≢◌, ℕ, zero, suc, ◌+◌, ◌≤◌, ◌<◌, ◌==◌, ◌&&◌, ◌||◌, Bool, true, false, List, [], ◌∷◌, length, Option, Some, None, refl, sym, ◌∙◌, subst, ap, arith, if◌then◌else◌}
 use Rattle.std.specs.Prelude.{slice_get, nat_le, nat_lt, max, IsSomeAnd, IfSome, slice_index_or}
 use Rattle.std.specs.List.{list_any, list_all}
 use Rattle.std.proofs.lemmas.Bool.Decides.{nat_tests}
@@ -30,6 +30,7 @@ use Rattle.caller_steps.specs.Wants.{announcing_wanted, clear_wanted, exchange_w
 use Rattle.caller_steps.specs.Lawful.{AsksSafely, IsLawful, IsSafe, LawfulHead, LawfulStatus, LawfulValue, is_place as is_place_word}
 use Rattle.caller_steps.specs.Belongs.{AnnouncingStands, Belongs, ClaimStands, HasBound, IsSomeOf, Reaches, RetireStands, RunsAt, RunsWithKinds, Stands, SweepBelongs, SweepStands, has_access, scheme_of}
 use Rattle.std.proofs.lemmas.Option.{slice_get-get_or}
+use Rattle.std.proofs.lemmas.Bool.{and_from, or_parts, not-false, and_parts}
 use Rattle.oa_words.specs.declared.packed.Kind.{Kind}
 use Rattle.oa_words.specs.declared.packed.Kind.TheVariants as statuses
 use Rattle.oa_words.specs.Words.{Word, Phase, Warning, Hazard, Status, FieldOf, Cell, Head, Link, in_row}
@@ -62,7 +63,6 @@ use Rattle.core_runs.proofs.caller_laws.Asked.{object_has, operand_lawful}
 use Rattle.oa_words.proofs.Parts.{status_back, head_back}
 use Rattle.core_runs.proofs.caller_laws.Stopping.{Here, site_of}
 use Rattle.core_runs.proofs.caller_laws.Going.{pick_kind, remainder_below}
-use Rattle.core_runs.proofs.caller_laws.Instructions.{parts}
 
 less : (a b : ℕ) → a < b → nat_lt a b ≡ true
 less a b lt = grind (arith, nat_tests)
@@ -72,17 +72,6 @@ below a b is = grind (arith, nat_tests)
 
 at_least : (a b : ℕ) → nat_le a b ≡ true → a ≤ b
 at_least a b e = grind (arith, nat_tests)
-
-both : (a b : Bool) → a ≡ true → b ≡ true → (a && b) ≡ true
-both a b p q = rw (p, q) refl
-
-pub neither : (a b : Bool) → (a || b) ≡ false → (a ≡ false) × (b ≡ false)
-neither true b e = absurd (let z : true ≡ false = e in cc)
-neither false b e = (refl, e)
-
-pub unnegated : (a : Bool) → not a ≡ false → a ≡ true
-unnegated true e = refl
-unnegated false e = absurd (let z : true ≡ false = e in cc)
 
 status_lawful : (last q : ℕ) (kind : Kind) → q ≤ last → LawfulStatus last (status_word q kind)
 status_lawful last q kind le = subst (λ (o : Option StatusParts). IsSomeAnd o (λ (p : StatusParts). p.phase ≤ last)) (sym (status_back q kind)) le
@@ -109,10 +98,10 @@ raises_safe : (target : Target) (setting : Setting) (c x : ℕ) → c < setting.
 raises_safe target setting c x lt low high = record { row = less c setting.sizes.callers lt; place = refl; lawful = λ found was. raised_lawful setting.reclamation setting found x was low high }
 
 field_row : (setting : Setting) (j g : ℕ) → j ≤ setting.sizes.slots → g < setting.sizes.fields → in_row setting.sizes (FieldOf j g) ≡ true
-field_row setting j g a b = both (nat_lt j (setting.sizes.slots + 1)) (nat_lt g setting.sizes.fields) (less j (setting.sizes.slots + 1) (omega (arith, a))) (less g setting.sizes.fields b)
+field_row setting j g a b = and_from (nat_lt j (setting.sizes.slots + 1)) (nat_lt g setting.sizes.fields) (less j (setting.sizes.slots + 1) (omega (arith, a))) (less g setting.sizes.fields b)
 
 hazard_row : (setting : Setting) (c r : ℕ) → c < setting.sizes.callers → r < 8 → in_row setting.sizes (Hazard c r) ≡ true
-hazard_row setting c r a b = both (nat_lt c setting.sizes.callers) (nat_lt r 8) (less c setting.sizes.callers a) (less r 8 b)
+hazard_row setting c r a b = and_from (nat_lt c setting.sizes.callers) (nat_lt r 8) (less c setting.sizes.callers a) (less r 8 b)
 
 status_row : (setting : Setting) (j : ℕ) → j ≤ setting.sizes.slots → in_row setting.sizes (Status j) ≡ true
 status_row setting j a = less j (setting.sizes.slots + 1) (omega (arith, a))
@@ -165,13 +154,13 @@ exchange_safe : (target : Target) (setting : Setting) (e : Entry) (i : Instr) (e
     → ((r k : ℕ) → asks_entry target.fields target.roots r k exchange ≡ true → asks target.fields target.roots i r k ≡ true)
     → is_entry (length target.fields) (length target.roots) exchange ≡ true → has_wrong_operand target.fields target.roots exchange ≡ false → IsSafe target setting (exchange_wanted target.fields exchange e.hand.registers)
 exchange_safe target setting e i exchange sane fits c is asked limits kinds =
-    of exchange.place refl (parts (is_place (length target.fields) (length target.roots) exchange.place) (is_register exchange.expected && (is_register exchange.replacement && is_retire exchange.retire)) limits).0
+    of exchange.place refl (and_parts (is_place (length target.fields) (length target.roots) exchange.place) (is_register exchange.expected && (is_register exchange.replacement && is_retire exchange.retire)) limits).0
     (operand_lawful target setting e i (place_kind target.fields target.roots exchange.place) exchange.replacement sane c is like
     (λ r k named to. asked r k (entry_asks_new target.fields target.roots exchange r k (subst (λ (b : Reg). same_register (Ref r) b ≡ true) (sym named) (itself r)) to))) where
       like : is_unlike (place_kind target.fields target.roots exchange.place) exchange.replacement ≡ false
       like =
           let held = place_kind target.fields target.roots exchange.place in
-          (neither (is_unlike held exchange.expected) (is_unlike held exchange.replacement) (neither (has_wrong_object exchange.place) (is_unlike held exchange.expected || is_unlike held exchange.replacement) kinds).1).1
+          (or_parts (is_unlike held exchange.expected) (is_unlike held exchange.replacement) (or_parts (has_wrong_object exchange.place) (is_unlike held exchange.expected || is_unlike held exchange.replacement) kinds).1).1
 
       expected : ℕ
       expected = word_in e.hand.registers exchange.expected
@@ -194,7 +183,7 @@ exchange_safe target setting e i exchange sane fits c is asked limits kinds =
           → IsSafe target setting (place_exchange target.fields place e.hand.registers expected replacement)
       of (places.Root x) at limit lawful = exchanges_safe target setting (Cell x) expected replacement (less x setting.sizes.cells (let lt = below x (length target.roots) limit in omega (arith, lt, fits.cells))) refl lawful
       of (places.Field a f) at limit lawful =
-          object (slot_in e.hand.registers a) f (named setting.sizes.slots e.hand.registers a c.names) (below f (length target.fields) (parts (is_register a) (nat_lt f (length target.fields)) limit).1) (has_field a f at) lawful
+          object (slot_in e.hand.registers a) f (named setting.sizes.slots e.hand.registers a c.names) (below f (length target.fields) (and_parts (is_register a) (nat_lt f (length target.fields)) limit).1) (has_field a f at) lawful
 
 -- the object of a put is surely fresh, and so isn't null
 pub put_finds : (target : Target) (e : Entry) (a b : Reg) (f : ℕ) → Methods target → Reaches (code_in target e) e.hand.at e.hand.registers → instr_in target e ≡ Some (Plain (instr.Put a f b)) → slot_in e.hand.registers a ≢ 0
@@ -206,28 +195,28 @@ plain_safe : (target : Target) (setting : Setting) (e : Entry) (i : Instr) → M
     → has_access (Some (Plain i)) ≡ true → AsksSafely target setting (plain_wanted target.fields i e.hand.registers)
 plain_safe target setting e (instr.LoadRoot d x) sane some fits c is has =
     let site = site_of target e (Plain (instr.LoadRoot d x)) sane c.reached is in
-    let lt = below x (length target.roots) (parts (is_register d) (nat_lt x (length target.roots)) site.limits).1 in
+    let lt = below x (length target.roots) (and_parts (is_register d) (nat_lt x (length target.roots)) site.limits).1 in
     loads_safe target setting (Cell x) (less x setting.sizes.cells (omega (arith, lt, fits.cells))) refl
 plain_safe target setting e (instr.LoadPick d x n a) sane some fits c is has =
     let site = site_of target e (Plain (instr.LoadPick d x n a)) sane c.reached is in
-    let limits = parts (is_register d) (nat_lt x (length target.roots) && ((nat_le 1 n && nat_le n 256) && is_register a)) site.limits in
-    let limits2 = parts (nat_lt x (length target.roots)) ((nat_le 1 n && nat_le n 256) && is_register a) limits.1 in
-    let limits3 = parts (nat_le 1 n && nat_le n 256) (is_register a) limits2.1 in
-    let limits4 = parts (nat_le 1 n) (nat_le n 256) limits3.0 in
+    let limits = and_parts (is_register d) (nat_lt x (length target.roots) && ((nat_le 1 n && nat_le n 256) && is_register a)) site.limits in
+    let limits2 = and_parts (nat_lt x (length target.roots)) ((nat_le 1 n && nat_le n 256) && is_register a) limits.1 in
+    let limits3 = and_parts (nat_le 1 n && nat_le n 256) (is_register a) limits2.1 in
+    let limits4 = and_parts (nat_le 1 n) (nat_le n 256) limits3.0 in
     let k = remainder (number_in e.hand.registers a) n in
-    let same = pick_kind target.roots x n k (unnegated (are_roots_of_one_kind target.roots x n) site.own.form.range) (remainder_below (number_in e.hand.registers a) n (at_least 1 n limits4.0)) in
+    let same = pick_kind target.roots x n k (not-false (are_roots_of_one_kind target.roots x n) site.own.form.range) (remainder_below (number_in e.hand.registers a) n (at_least 1 n limits4.0)) in
     loads_safe target setting (Cell (x + k)) (less (x + k) setting.sizes.cells (omega (arith, same.1, fits.cells))) refl
 plain_safe target setting e (instr.LoadField d a f) sane some fits c is has =
     let site = site_of target e (Plain (instr.LoadField d a f)) sane c.reached is in
-    let limits = parts (is_register d) (is_register a && nat_lt f (length target.fields)) site.limits in
-    let lt = below f (length target.fields) (parts (is_register a) (nat_lt f (length target.fields)) limits.1).1 in
+    let limits = and_parts (is_register d) (is_register a && nat_lt f (length target.fields)) site.limits in
+    let lt = below f (length target.fields) (and_parts (is_register a) (nat_lt f (length target.fields)) limits.1).1 in
     loads_safe target setting (FieldOf (slot_in e.hand.registers a) (place_of target.fields f))
     (field_row setting (slot_in e.hand.registers a) (place_of target.fields f) (named setting.sizes.slots e.hand.registers a c.names) (place_fits target setting f sane.fields fits lt)) refl
 plain_safe target setting e (instr.Put a f b) sane some fits c is has =
     let site = site_of target e (Plain (instr.Put a f b)) sane c.reached is in
-    let limits = parts (is_register a) (nat_lt f (length target.fields) && is_register b) site.limits in
-    let lt = below f (length target.fields) (parts (nat_lt f (length target.fields)) (is_register b) limits.1).0 in
-    let like = (neither (holds_number a) (is_unlike (field_kind target.fields f) b) site.own.form.kinds).1 in
+    let limits = and_parts (is_register a) (nat_lt f (length target.fields) && is_register b) site.limits in
+    let lt = below f (length target.fields) (and_parts (nat_lt f (length target.fields)) (is_register b) limits.1).0 in
+    let like = (or_parts (holds_number a) (is_unlike (field_kind target.fields f) b) site.own.form.kinds).1 in
     stores_safe target setting (FieldOf (slot_in e.hand.registers a) (place_of target.fields f)) (word_in e.hand.registers b)
     (field_row setting (slot_in e.hand.registers a) (place_of target.fields f) (named setting.sizes.slots e.hand.registers a c.names) (place_fits target setting f sane.fields fits lt)) refl
     (value_lawful target setting (slot_in e.hand.registers a) f (word_in e.hand.registers b) (put_finds target e a b f sane c.reached is) lt
@@ -236,7 +225,7 @@ plain_safe target setting e (instr.Put a f b) sane some fits c is has =
     (λ r k named to. put_asks_new target.fields target.roots a f b r k (subst (λ (x : Reg). same_register (Ref r) x ≡ true) (sym named) (itself r)) to)))
 plain_safe target setting e (instr.Cas exchange l) sane some fits c is has =
     let site = site_of target e (Plain (instr.Cas exchange l)) sane c.reached is in
-    exchange_safe target setting e (instr.Cas exchange l) exchange sane fits c is (λ r k asked. asked) (parts (is_entry (length target.fields) (length target.roots) exchange) (nat_le l 65535) site.limits).0 site.own.form.kinds
+    exchange_safe target setting e (instr.Cas exchange l) exchange sane fits c is (λ r k asked. asked) (and_parts (is_entry (length target.fields) (length target.roots) exchange) (nat_le l 65535) site.limits).0 site.own.form.kinds
 plain_safe target setting e _ sane some fits c is has = absurd cc
 
 guard_safe : (target : Target) (setting : Setting) (e : Entry) (r : Reg) → e.number < setting.sizes.callers → (holds_reference r && is_register r) ≡ true → Here target setting e
@@ -265,13 +254,13 @@ no_exchange = record { place = places.Root 0; expected = Num 0; replacement = Nu
 
 any_false : {X : Type 0} (p : X → Bool) (xs : List X) (k : ℕ) (x : X) → list_any p xs ≡ false → slice_get xs k ≡ Some x → p x ≡ false
 any_false p [] k x none is = absurd cc
-any_false p (y ∷ ys) zero x none is = let same : y ≡ x = cc in subst (λ z. p z ≡ false) same (neither (p y) (list_any p ys) none).0
-any_false p (y ∷ ys) (suc k) x none is = any_false p ys k x (neither (p y) (list_any p ys) none).1 is
+any_false p (y ∷ ys) zero x none is = let same : y ≡ x = cc in subst (λ z. p z ≡ false) same (or_parts (p y) (list_any p ys) none).0
+any_false p (y ∷ ys) (suc k) x none is = any_false p ys k x (or_parts (p y) (list_any p ys) none).1 is
 
 pub all_true : {X : Type 0} (p : X → Bool) (xs : List X) (k : ℕ) (x : X) → list_all p xs ≡ true → slice_get xs k ≡ Some x → p x ≡ true
 all_true p [] k x all is = absurd cc
-all_true p (y ∷ ys) zero x all is = let same : y ≡ x = cc in subst (λ z. p z ≡ true) same (parts (p y) (list_all p ys) all).0
-all_true p (y ∷ ys) (suc k) x all is = all_true p ys k x (parts (p y) (list_all p ys) all).1 is
+all_true p (y ∷ ys) zero x all is = let same : y ≡ x = cc in subst (λ z. p z ≡ true) same (and_parts (p y) (list_all p ys) all).0
+all_true p (y ∷ ys) (suc k) x all is = all_true p ys k x (and_parts (p y) (list_all p ys) all).1 is
 
 -- a list has exchanges at a commit alone
 pub list_there : (o : Option TargetInstr) (k : ℕ) → k < length (list_of o) → (exchanges : List CasEntry) × (o ≡ Some (Plain (instr.Commit exchanges)))
@@ -296,7 +285,7 @@ list_safe target setting e k sane fits c lt = of (slice_get (list_of (instr_in t
   of None none = absurd (let some : slice_get (list_of (instr_in target e)) k ≡ Some (slice_index_or (list_of (instr_in target e)) k no_exchange) = slice_get-get_or (list_of (instr_in target e)) k no_exchange lt in cc)
   of (Some exchange) is =
       exchange_safe target setting e (instr.Commit exchanges) exchange sane fits c there.1 (λ r kind asked. commit_asks target.fields target.roots exchanges k exchange r kind (sym same ∙ is) asked)
-      (all_true (is_entry (length target.fields) (length target.roots)) exchanges k exchange (parts (nat_le (length exchanges) 4) (list_all (is_entry (length target.fields) (length target.roots)) exchanges) site.limits).1 (sym same ∙ is))
+      (all_true (is_entry (length target.fields) (length target.roots)) exchanges k exchange (and_parts (nat_le (length exchanges) 4) (list_all (is_entry (length target.fields) (length target.roots)) exchanges) site.limits).1 (sym same ∙ is))
       (any_false (has_wrong_operand target.fields target.roots) exchanges k exchange site.own.form.kinds (sym same ∙ is))
 
 cleared_safe : (target : Target) (setting : Setting) (c : ℕ) (guards : Guards) (spared : List Bool) → c < setting.sizes.callers → length guards.slots ≡ 8 → IsSomeOf (next_to_clear guards spared)

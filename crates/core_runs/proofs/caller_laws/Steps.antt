@@ -1,8 +1,9 @@
 -- An entry belongs after each of its steps.
-use Rattle.std.proofs.Common.{List, ◌≡◌, ◌≢◌, ℕ, zero, suc, ◌+◌, ◌≤◌, ◌<◌, ◌==◌, Bool, true, false, length, Option, Some, None, refl, sym, ◌∙◌, subst, ap, inr, arith, if◌then◌else◌}
+use Rattle.std.proofs.Common.{List, ◌≡◌, ◌≢◌, ℕ, suc, ◌+◌, ◌≤◌, ◌<◌, ◌==◌, Bool, true, false, length, Option, Some, None, refl, sym, ◌∙◌, subst, ap, inr, arith, if◌then◌else◌}
 use Rattle.std.specs.Prelude.{slice_get, slice_set, nat_lt}
 use Rattle.std.proofs.lemmas.List.{get_or-set_same}
 use Rattle.std.proofs.lemmas.Bool.Decides.{nat_tests}
+use Rattle.std.proofs.lemmas.Bool.{and_parts}
 use Rattle.norm_lang.specs.declared.text.Reg.{Reg}
 use Rattle.norm_lang.specs.declared.text.Reg.TheVariants.{Num, Ref}
 use Rattle.norm_lang.specs.declared.text.CasEntry.{CasEntry}
@@ -56,7 +57,7 @@ use Rattle.core_runs.proofs.caller_laws.Schemes.{warning_within}
 use Rattle.core_runs.proofs.caller_laws.Stopping.{Holds, Here, BelongsIn, hand_belongs, cleared_belongs, ended_belongs, begun_belongs, generator_belongs, new_in_generator, restarted_belongs, site_of, wrap_up_begun_belongs}
 use Rattle.core_runs.proofs.caller_laws.Going.{goes_belongs, guards_put, cradle_put, cradles_emptied}
 use Rattle.core_runs.proofs.caller_laws.Cradles.{cradle_number_small, cradle_kind_is, in_cradle}
-use Rattle.core_runs.proofs.caller_laws.Instructions.{parts, passes, retiring, retire_within, retire_some, two, instr_keeps}
+use Rattle.core_runs.proofs.caller_laws.Instructions.{passes, retiring, retire_within, retire_some, two, instr_keeps}
 
 -- on in a list: to its next exchange, or to the wrap-up's start
 pub list_goes_belongs : (target : Target) (setting : Setting) (by : Reclamation) (e : Entry) (k : ℕ) → Methods target → SettingSane setting → Fits target setting → Holds target setting e → Here target setting e
@@ -170,9 +171,7 @@ clear_keeps target setting e (Some r) next sane some fits h c scheme stands =
     cleared_belongs target setting next (with_hand e (unguarded (Some r) e.hand)) sane some fits (cleared_guards target setting e (Some r) h) c scheme (same next stands) where
       same : (next : AfterClear) → ClearStands (instr_in target e) e.hand next → ClearStands (instr_in target e) (unguarded (Some r) e.hand) next
       same clears.New s = s
-      same clears.WrapUp s = s
-      same (clears.Reply reply) s = s
-      same clears.Again s = s
+      same _ s = s
 
 -- that a claim is counted changes nothing else
 claims_counted : (target : Target) (setting : Setting) (takes : Bool) (e : Entry) → Holds target setting e → Holds target setting (claim_counted takes e)
@@ -221,9 +220,8 @@ gained_keeps target setting by e made j sane some fits h c scheme stands slot = 
   }
 
   of : (by : Reclamation) (made : ℕ) → setting.reclamation ≡ by → Belongs target setting (slot_gained by target made j e)
-  of Optimistic made scheme = zeroes
-  of Epochs zero scheme = zeroes
   of Epochs (suc made) scheme = swept scheme
+  of _ _ scheme = zeroes
 
 claimed_keeps : (target : Target) (setting : Setting) (by : Reclamation) (e : Entry) (claim : Claim) (end : Option ClaimEnd) → Methods target → SettingSane setting → Fits target setting → Holds target setting e → Here target setting e → setting.reclamation ≡ by
     → is_new_at (instr_in target e) ≡ true → claim.kind ≡ new_kind target e → ClaimOn setting e.number end claim → BelongsIn target setting (claim_on by target claim end e)
@@ -311,7 +309,7 @@ zero_keeps target setting by e k field sane some fits h c scheme stands = of (na
 
   on : BelongsIn target setting (goes_on by target setting.sizes made e)
   on = goes_belongs target setting by e (Plain (instr.New d kind)) (e.hand.at + 1) made sane some fits h c scheme there.2 (one_way (e.hand.at + 1))
-      (new_leaves setting.sizes.slots e.hand.registers d kind slot site.own.form.kinds (parts (is_register d) (nat_lt kind (length target.kinds)) site.limits).0 c.names.references stands.2)
+      (new_leaves setting.sizes.slots e.hand.registers d kind slot site.own.form.kinds (and_parts (is_register d) (nat_lt kind (length target.kinds)) site.limits).0 c.names.references stands.2)
       (referred setting.sizes.slots e.hand.registers d (record { node = slot; marked = false }) c.names (h.cradles.within k))
       (λ way. made_typed target setting e.hand.wrapup (op_of target e) e.hand.at (e.hand.at + 1) e.hand.registers d kind slot c.reached.path.0 c.reached.path.1 there.2 of_kind way c.kinds)
 
@@ -327,9 +325,8 @@ seen_keeps target setting e why word sane some fits h scheme stands le =
     begun_belongs target setting (is_wrap_up why) (with_hand e (record e.hand { seen = word })) sane some fits
     (record { number = h.number; op = h.op; started = h.started; start = h.start; guards = h.guards; cradles = h.cradles; seen = le }) scheme (runs why stands) where
       runs : (why : MethodStart) → StartStands (instr_in target e) e.hand why → is_wrap_up why ≡ true → e.hand.wrapup ≡ true
-      runs starts.Begin stands is = absurd (let no : false ≡ true = is in cc)
       runs starts.WrapUp stands is = stands.0
-      runs starts.Again stands is = absurd (let no : false ≡ true = is in cc)
+      runs _ stands is = absurd (let no : false ≡ true = is in cc)
 
 -- the phase was loaded or announced, or the announcement was withdrawn
 announced_keeps : (target : Target) (setting : Setting) (e : Entry) (announcing : Announcing) (word : ℕ) → Methods target → SettingSane setting → Fits target setting → Holds target setting e → Here target setting e → setting.reclamation ≡ Epochs

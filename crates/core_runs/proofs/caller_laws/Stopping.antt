@@ -279,15 +279,8 @@ settles_belongs target setting by spot e sane some fits h scheme c =
 pub first_names : (slots : ℕ) (args : List ℕ) → NamesSlots slots (first_registers args)
 first_names slots args = record { numbers = refl; references = refl; within = eight } where
   eight : (r : ℕ) → (reference_in (first_registers args) (Ref r)).node ≤ slots
-  eight zero = omega arith
-  eight (suc zero) = omega arith
-  eight (suc (suc zero)) = omega arith
-  eight (suc (suc (suc zero))) = omega arith
-  eight (suc (suc (suc (suc zero)))) = omega arith
-  eight (suc (suc (suc (suc (suc zero))))) = omega arith
-  eight (suc (suc (suc (suc (suc (suc zero)))))) = omega arith
   eight (suc (suc (suc (suc (suc (suc (suc zero))))))) = omega arith
-  eight (suc (suc (suc (suc (suc (suc (suc (suc r)))))))) = omega arith
+  eight _ = omega arith
 
 -- a method runs from its start: a wrap-up where one runs already
 begun_holds : (target : Target) (setting : Setting) (wrapup : Bool) (e : Entry) → Holds target setting e → (wrapup ≡ true → e.hand.wrapup ≡ true) → Holds target setting (with_hand e (record e.hand { wrapup = wrapup; accessed = false }))

@@ -10,10 +10,10 @@ use Rattle.norm_lang.specs.declared.registers.Registers.{Registers}
 use Rattle.norm_lang.specs.declared.text.FieldDecl.{FieldDecl}
 use Rattle.norm_lang.specs.KindFields.{place_of}
 use Rattle.target_code.specs.declared.target.TargetInstr.{TargetInstr}
-use Rattle.target_code.specs.declared.target.TargetInstr.TheVariants.{Plain, Check, Guard}
+use Rattle.target_code.specs.declared.target.TargetInstr.TheVariants.{Plain, Check}
 use Rattle.target_code.specs.declared.target.Target.{Target}
 use Rattle.oa_words.specs.Words.{Word, Sizes}
-use Rattle.phase_pools.specs.Accesses.{WordAccess, Loads, Stores, Exchanges, Raises}
+use Rattle.phase_pools.specs.Accesses.{WordAccess, Stores}
 use Rattle.phase_pools.specs.declared.stages.SweepStage.{SweepStage}
 use Rattle.phase_pools.specs.declared.stages.SweepStage.TheVariants as sweeps
 use Rattle.phase_pools.specs.declared.stages.ClaimStage.{ClaimStage}
@@ -37,15 +37,6 @@ use Rattle.caller_steps.specs.After.{accepted, after, claim_counted, claimed, co
 -- no store
 abbrev IsNoStore : WordAccess → Type 0
 IsNoStore a = (w : Word) (x : ℕ) → a ≡ Stores w x → ⊥
-
-loads_no_store : (v : Word) → IsNoStore (Loads v)
-loads_no_store v w x is = cc
-
-exchanges_no_store : (v : Word) (expected y : ℕ) → IsNoStore (Exchanges v expected y)
-exchanges_no_store v expected y w x is = cc
-
-raises_no_store : (v : Word) (y : ℕ) → IsNoStore (Raises v y)
-raises_no_store v y w x is = cc
 
 exchange_no_store : (fields : List FieldDecl) (exchange : CasEntry) (registers : Registers) → IsNoStore (exchange_wanted fields exchange registers)
 exchange_no_store fields exchange registers = of exchange.place where
@@ -85,10 +76,9 @@ plain_store by target sizes (instr.Put r f v) registers w x a b e is = refl
 plain_store by target sizes _ registers w x a b e is = refl
 
 instr_store : (by : Reclamation) (target : Target) (sizes : Sizes) (c : ℕ) (o : Option TargetInstr) (registers : Registers) (w : Word) (x a b : ℕ) (e : Entry) → instr_wanted target.fields c o registers ≡ Some (Stores w x) → instr_accepted by target sizes o a e ≡ instr_accepted by target sizes o b e
-instr_store by target sizes c None registers w x a b e is = refl
 instr_store by target sizes c (Some (Plain i)) registers w x a b e is = plain_store by target sizes i registers w x a b e is
 instr_store by target sizes c (Some Check) registers w x a b e is = absurd cc
-instr_store by target sizes c (Some (Guard r)) registers w x a b e is = refl
+instr_store by target sizes c _ registers w x a b e is = refl
 
 list_no_store : (fields : List FieldDecl) (o : Option CasEntry) (registers : Registers) (w : Word) (x : ℕ) → list_wanted fields o registers ≡ Some (Stores w x) → ⊥
 list_no_store fields None registers w x is = cc

@@ -1,6 +1,6 @@
 -- The pool's run goes on with each event of a core run, from whichever state of the pool it has come to: each event of the core is at most
 -- two of the pool, the access and the routine that begins after it.
-use Rattle.std.proofs.Common.{ℕ, zero, suc, ◌≡◌, ◌≢◌, ◌+◌, ◌≤◌, ◌<◌, ◌∙◌, ◌++◌, ◌==◌, true, false, [], Option, Some, None, arith, ⊎_elim, sym, ap, subst, refl}
+use Rattle.std.proofs.Common.{ℕ, zero, ◌≡◌, ◌≢◌, ◌+◌, ◌≤◌, ◌<◌, ◌∙◌, ◌++◌, ◌==◌, true, false, [], Option, Some, None, arith, ⊎_elim, sym, ap, subst, refl}
 use Rattle.std.specs.Prelude.{slice_get, unwrap_or}
 use Rattle.std.proofs.lemmas.Bool.{cases_lt}
 use Rattle.std.proofs.lemmas.Bool.Decides.{nat_tests, eqb_tells}
@@ -127,9 +127,8 @@ module _ (target : Target) (setting : Setting) (are : AreKinds setting.sizes) (f
       let turn = claim_accepts setting.sizes setting.last own word in
       ap (λ (r : Routine). standing_of (accepted setting.reclamation target setting word (counted e) r).entry.routine) is ∙ of setting.reclamation turn.claim turn.ended (claim_counted (claim_takes own word) (counted e)) where
         gained : (by : Reclamation) (made j : ℕ) (e : Entry) → standing_of (slot_gained by target made j e).routine ≡ Elsewhere
-        gained Optimistic made j e = refl
         gained Epochs zero j e = refl
-        gained Epochs (suc made) j e = refl
+        gained _ _ j e = refl
 
         of : (by : Reclamation) (next : Claim) (end : Option ClaimEnd) (e : Entry) → standing_of (claim_on by target next end e).entry.routine ≡ claim_left next end
         of by next (Some (ends.Claimed j)) e = gained by next.sweeps j (with_routine e At)
@@ -170,12 +169,11 @@ module _ (target : Target) (setting : Setting) (are : AreKinds setting.sizes) (f
             (eqb_tells d c)
 
         may : (standing : Standing) → standing_of e.routine ≡ standing → MayRetire pool setting.sizes standing
-        may Elsewhere is = tt
-        may (Claims claim) is = tt
         may (Retires own) is =
             let word = used.used c own lt (ap (λ (x : Entry). standing_of x.routine) (put_same who c e) ∙ is) in
             let le = in_range own.slot word in
             (le, (from_tells pool leads).outside own.slot le word (λ d other there. nobody own is d other there))
+        may _ is = tt
 
   -- ---- steps
 
@@ -236,14 +234,7 @@ module _ (target : Target) (setting : Setting) (are : AreKinds setting.sizes) (f
     of : (routine : Routine) → (v.who c).routine ≡ routine → Goes v c a
     of (routines.Claims own) is = subst (Goes v c) (some_same (claim_wants own) a (sym (wants_claims target (v.who c) own is) ∙ want)) (claims_go v hands c own is leads)
     of (routines.Retires own go) is = subst (Goes v c) (some_same (retire_wants own) a (sym (wants_retires target (v.who c) own go is) ∙ want)) (retires_go v hands c own go is lt past leads)
-    of routines.Idle is = elsewhere_go v hands c a (ap standing_of is) want lt past leads
-    of (routines.LoadSeen why) is = elsewhere_go v hands c a (ap standing_of is) want lt past leads
-    of routines.At is = elsewhere_go v hands c a (ap standing_of is) want lt past leads
-    of (routines.InList k) is = elsewhere_go v hands c a (ap standing_of is) want lt past leads
-    of routines.Restarts is = elsewhere_go v hands c a (ap standing_of is) want lt past leads
-    of (routines.Clears next) is = elsewhere_go v hands c a (ap standing_of is) want lt past leads
-    of (routines.Zeroes k field) is = elsewhere_go v hands c a (ap standing_of is) want lt past leads
-    of (routines.Announces announcing) is = elsewhere_go v hands c a (ap standing_of is) want lt past leads
+    of _ is = elsewhere_go v hands c a (ap standing_of is) want lt past leads
 
   -- ---- events
 

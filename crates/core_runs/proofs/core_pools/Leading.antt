@@ -2,7 +2,7 @@
 use Rattle.std.proofs.Common.{sym, subst, ℕ, suc, ◌≡◌, ◌≢◌, ◌≤◌, ◌<◌, ◌∙◌, ◌++◌, ◌&&◌, ◌==◌, Bool, true, false, List, [], ◌∷◌, length, Option, Some, None, arith, ⊎_elim, ap, refl, if◌then◌else◌}
 use Rattle.std.specs.Prelude.{nat_le, nat_lt}
 use Rattle.std.proofs.lemmas.Bool.Decides.{nat_tests, eqb_tells}
-use Rattle.oa_words.specs.Words.{Word, Phase, Place, Warning, Hazard, Status, FieldOf, Cell, Head, Link, Sizes, slot_range}
+use Rattle.oa_words.specs.Words.{Word, Phase, Sizes, slot_range}
 use Rattle.phase_pools.specs.declared.stages.Scheme.{Scheme}
 use Rattle.phase_pools.specs.Accesses.{WordAccess, Loads, word_of, word_after}
 use Rattle.phase_pools.specs.Pools.{claim_begun, retire_begun}
@@ -39,14 +39,7 @@ load_again : (m : Word → ℕ) → m ≡ store m Phase (m Phase)
 load_again m = λ i w. at w i where
   at : (w : Word) → m w ≡ store m Phase (m Phase) w
   at Phase = refl
-  at (Place c) = refl
-  at (Warning c) = refl
-  at (Hazard c r) = refl
-  at (Status j) = refl
-  at (FieldOf j g) = refl
-  at (Cell x) = refl
-  at (Head t) = refl
-  at (Link j) = refl
+  at _ = refl
 
 -- so an access of the rest is one event of the pool, or none
 pub pool_left : (n : Sizes) (last : ℕ) (a : WordAccess) (pool : PoolState) → LeavesPool a → RunsTo n last pool (record pool { memory = after_access pool.memory a })

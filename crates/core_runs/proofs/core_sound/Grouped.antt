@@ -130,11 +130,8 @@ sum_is target (suc (suc (suc (suc zero)))) le =
 sum_is target (suc (suc (suc (suc (suc k))))) le = absurd (let no : ⊥ = omega (arith, le) in no)
 
 count_is : (target : Target) (k : ℕ) → k < 4 → slice_index (node_counts target) k ≡ node_count target.nodes k
-count_is target zero lt = refl
-count_is target (suc zero) lt = refl
-count_is target (suc (suc zero)) lt = refl
-count_is target (suc (suc (suc zero))) lt = refl
 count_is target (suc (suc (suc (suc k)))) lt = absurd (let no : ⊥ = omega (arith, lt) in no)
+count_is target _ lt = refl
 
 -- ---- the nodes of a target
 

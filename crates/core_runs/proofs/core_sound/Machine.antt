@@ -1,5 +1,5 @@
 -- Each enabled event keeps words lawful and entries that belong.
-use Rattle.std.proofs.Common.{ℕ, zero, suc, ◌≡◌, ◌≢◌, ◌⊎◌, ◌∙◌, ◌==◌, ◌&&◌, Bool, true, false, arith, refl, set, length, length-set, List, [], ◌∷◌, Option, Some, None, inl, inr, ⊎_elim, get_or-set_other, get_or-set_same, sym, ap, subst, if◌then◌else◌}
+use Rattle.std.proofs.Common.{ℕ, zero, suc, ◌≡◌, ◌≢◌, ◌⊎◌, ◌∙◌, ◌==◌, ◌&&◌, Bool, true, false, arith, refl, set, length, length-set, List, ◌∷◌, Option, Some, None, inl, inr, ⊎_elim, get_or-set_other, get_or-set_same, sym, ap, subst, if◌then◌else◌}
 use Rattle.std.specs.Prelude.{slice_get, slice_index}
 use Rattle.std.proofs.lemmas.Bool.Decides.{eqb_tells}
 use Rattle.target_code.specs.declared.target.Target.{Target}
@@ -37,11 +37,9 @@ store_lawful target setting words v x count row lawful all w there = ⊎_elim
 
 -- one entry changes
 pub set_got : (es : List Entry) (k d : ℕ) (e f : Entry) → slice_get (set es k e) d ≡ Some f → ((d ≡ k) × (f ≡ e)) ⊎ (slice_get es d ≡ Some f)
-set_got [] k d e f is = inr is
 set_got (x ∷ xs) zero zero e f is = inl (refl, cc)
-set_got (x ∷ xs) zero (suc d) e f is = inr is
-set_got (x ∷ xs) (suc k) zero e f is = inr is
 set_got (x ∷ xs) (suc k) (suc d) e f is = ⊎_elim (λ (t : (d ≡ k) × (f ≡ e)). inl (ap suc t.0, t.1)) (λ (t : slice_get xs d ≡ Some f). inr t) (set_got xs k d e f is)
+set_got _ _ _ e f is = inr is
 
 set_belong : (target : Target) (setting : Setting) (entries : List Entry) (c : ℕ) (e : Entry) → Belongs target setting e → e.number ≡ c → AllBelong target setting entries → AllBelong target setting (set entries c e)
 set_belong target setting entries c e b number all d f there = ⊎_elim
@@ -97,8 +95,7 @@ event_sound target setting state later (Takes c call) sane some fits s is = of (
   by : (e : Entry) → slice_get state.entries c ≡ Some e → (i : Bool) → is_idle e.routine ≡ i → (k : Bool) → is_call target call ≡ k
       → (if i && k then Some (record state { entries = set state.entries c (taken setting.reclamation call e) }) else None) ≡ Some later → IsSound target setting later
   by e at true idle true call_is became = subst (λ (x : CoreState). IsSound target setting x) (some_is (record state { entries = set state.entries c (taken setting.reclamation call e) }) later became) (take_sound target setting state c call e sane s at call_is)
-  by e at true idle false call_is became = absurd cc
-  by e at false idle k call_is became = absurd cc
+  by e at _ idle _ call_is became = absurd cc
 
   of : (o : Option Entry) → slice_get state.entries c ≡ o → event_by target setting state (Takes c call) o ≡ Some later → IsSound target setting later
   of None at became = absurd cc

@@ -141,12 +141,9 @@ sweep_stores setting bound _ s = tt
 claim_stores : (setting : Setting) (c : ℕ) (claim : Claim) → ClaimBelongs setting c claim → ClaimStores setting.sizes claim.kind claim.sweep.stage claim.stage
 claim_stores setting c claim b = of claim.stage b.stands where
   of : (stage : ClaimStage) → ClaimStands setting claim.sweep.scheme claim.kind stage → ClaimStores setting.sizes claim.kind claim.sweep.stage stage
-  of claims.ReadHead s = tt
-  of (claims.ReadLink q t) s = tt
   of (claims.Take q t next) s = s.3
-  of (claims.StoreUsed q t) s = tt
-  of (claims.Withdraw own) s = tt
   of claims.Sweeps s = sweep_stores setting claim.sweep.bound claim.sweep.stage b.sweep.stands
+  of _ s = tt
 
 -- ---- steps
 
@@ -244,14 +241,7 @@ module _ (target : Target) (setting : Setting) (some : SettingSane setting) wher
     of (Retires retirement go) is stands below =
         subst (λ (x : WordAccess). AfterStep setting m (after_access m x) (after target setting e (m (word_of x)))) (some_same (retire_wants retirement) a (sym (wants_retires target e retirement go is) ∙ want))
         (retires_step m e retirement go is words)
-    of Idle is stands below = elsewhere_step m e a (ap standing_of is) want words
-    of (LoadSeen why) is stands below = elsewhere_step m e a (ap standing_of is) want words
-    of At is stands below = elsewhere_step m e a (ap standing_of is) want words
-    of (InList k) is stands below = elsewhere_step m e a (ap standing_of is) want words
-    of Restarts is stands below = elsewhere_step m e a (ap standing_of is) want words
-    of (Clears next) is stands below = elsewhere_step m e a (ap standing_of is) want words
-    of (Zeroes k field) is stands below = elsewhere_step m e a (ap standing_of is) want words
-    of (Announces announcing) is stands below = elsewhere_step m e a (ap standing_of is) want words
+    of _ is stands below = elsewhere_step m e a (ap standing_of is) want words
 
   -- events
   moves_stamped : (state : CoreState) (event : CoreEvent) (later : CoreView) → IsShaped target setting state → IsSound target setting state

@@ -19,7 +19,8 @@ use Rattle.norm_lang.specs.Limits.{is_start, are_starts, owners_of, is_root}
 use Rattle.norm_lang.specs.LineWords.{is_owner}
 use Rattle.target_code.specs.declared.target.Target.{Target}
 use Rattle.target_code.specs.TargetLimits.{IsTargetWithinLimits}
-use Rattle.target_laws.proofs.target_runs.Limited.{parts, roots_are, root_start}
+use Rattle.target_laws.proofs.target_runs.Limited.{parts}
+use Rattle.target_laws.proofs.OneKind.{root_start, roots_are}
 use Rattle.oa_words.specs.Words.{Word, Phase, Place, Warning, Hazard, Status, FieldOf, Cell, Head, Link, in_row}
 use Rattle.oa_words.specs.SlotKinds.{sum_before, kind_in, slots_of, first_of, range_of, kind_of, range_at, IsNullOrOf}
 use Rattle.oa_words.specs.Packed.{StatusParts, HeadParts, slot_part}
@@ -54,14 +55,12 @@ Names Slot (Some holdings.Number) word = Unit {0}
 Names Slot (Some (holdings.Reference k)) word = Slot k (slot_part word)
 
 pub zero_names : (Slot : ℕ → ℕ → Type 0) → ((k : ℕ) → Slot k 0) → (kind : Option FieldKind) → Names Slot kind 0
-zero_names Slot none None = tt
-zero_names Slot none (Some holdings.Number) = tt
 zero_names Slot none (Some (holdings.Reference k)) = none k
+zero_names Slot none _ = tt
 
 pub names_lawful : (setting : Setting) (kind : Option FieldKind) (word : ℕ) → Names (IsNullOrOf setting.sizes) kind word → LawfulValue setting.sizes kind word
-names_lawful setting None word names = tt
-names_lawful setting (Some holdings.Number) word names = tt
 names_lawful setting (Some (holdings.Reference k)) word names = names
+names_lawful setting _ word names = tt
 
 -- where the initial nodes of each kind have such slots, first values name them
 module _ (Slot : ℕ → ℕ → Type 0) (none : (k : ℕ) → Slot k 0) (home : ℕ → ℕ) (null : home 0 ≡ 0) (owners : List ℕ) (homes : (j k : ℕ) → is_owner (slice_get owners j) k ≡ true → Slot k (home (suc j))) where

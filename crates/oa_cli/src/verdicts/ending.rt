@@ -1,13 +1,16 @@
 //! How the program ends, and a message for a person.
 
-ghost use Rattle.std.specs.Prelude.{◌≡◌};
+ghost use Rattle.std.specs.Prelude.{◌≡◌, ℕ, List};
 ghost use Rattle.std.specs.Io.KnownBytes.{Keeps};
+ghost use Rattle.oa_text.specs.Causes.{HasCause};
+ghost use Rattle.oa_text.specs.Written.{Writes};
 ghost use Rattle.messages.specs.Remembered.{remembered};
 ghost use Rattle.statuses.specs.Statuses.{number_of};
-ghost use Rattle.oa_cli.specs.verdicts.Endings.{is_write_fault, IsFinished, IsExplained};
+ghost use Rattle.oa_cli.specs.verdicts.Endings.{is_write_fault, IsFinished, IsMessage, IsExplained};
 
+use crate::verdicts::stopping::turn_for;
 use messages::{RememberingSource, explain_read};
-use oa_text::{Source, StdSink};
+use oa_text::{Failed, Sink, Source, StdSink};
 use statuses::{Status, status_number};
 use std::io::Write;
 
@@ -32,6 +35,20 @@ pub fn finish<W: Write>(out: &mut StdSink<W>, status: Status) -> Status
     }
 }
 
+/// Writes the message on a status, where a source remembers what was read: of a replay that stopped it tells the turn, which is found by
+/// a replay of what is remembered. At `Failed` a prefix of it was written.
+pub fn explain_status<K: Sink, S: Source>(
+    errors: &mut K,
+    input: &RememberingSource<S>,
+    status: Status,
+) -> Result<(), Failed>
+    ensures bytes { (message : List ℕ) × IsMessage (remembered input.now) status message × Writes (K.written errors.old) (K.written errors.new) message result }
+    ensures cause { HasCause (K.faults errors.old) (K.faults errors.new) result }
+{
+    let turn = turn_for(input, status);
+    explain_read(errors, input, status, turn)
+}
+
 /// Writes the message on a status to `errors`, for a person, where a source remembers what was read, and answers the number with
 /// which to end. A fault of `errors` changes nothing: a prefix of the message was written then.
 pub fn conclude<E: Write, S: Source>(
@@ -42,7 +59,7 @@ pub fn conclude<E: Write, S: Source>(
     ensures number { result ≡ number_of status }
     ensures explained { IsExplained errors.old.written errors.new.written errors.old.faults errors.new.faults (remembered input.now) status }
 {
-    match explain_read(errors, input, status) {
+    match explain_status(errors, input, status) {
         Ok(()) => status_number(status),
         Err(_) => status_number(status),
     }

@@ -7,10 +7,9 @@ use Rattle.target_code.specs.declared.target.TargetOp.{TargetOp}
 use Rattle.caller_steps.specs.Entries.{op_of, instr_in, code_in as core_code, Entry}
 use Rattle.caller_parts.specs.Operands.{method_code}
 use Rattle.target_laws.specs.Methods.{code_in}
-use Rattle.norm_lang.specs.Registers.{first_registers}
+use Rattle.norm_lang.specs.Registers.{first_registers, node_in}
 use Rattle.norm_lang.specs.declared.text.Text.{Text}
 use Rattle.target_code.specs.declared.target.Target.{Target}
-use Rattle.run_ahead.specs.Agreeing.{node_in}
 use Rattle.run_ahead.specs.Following.{Walk}
 use Rattle.oa_simulation.specs.sim_relation.Views.{Plan, Shared, Caller}
 use Rattle.oa_simulation.specs.sim_relation.Callers.{Trail, Walks, call_of}

@@ -9,10 +9,10 @@ use Rattle.source_machine.specs.declared.state.SourceCaller.{SourceCaller}
 use Rattle.source_machine.specs.MethodRuns.{MethodRun, run_begun}
 use Rattle.oa_simulation.specs.sim_relation.Views.{Plan, Held, Shared, Caller, protected, settled_names}
 use Rattle.oa_simulation.specs.sim_relation.Shared.{SharedHolds}
-use Rattle.oa_simulation.specs.sim_relation.Callers.{Base, Trail, Walks, Running, AtNew, Begins, CallerHolds}
+use Rattle.oa_simulation.specs.sim_relation.Callers.{Base, Trail, Walks, Running, AtNew, Begins}
 use Rattle.run_ahead.specs.Guards.{GuardRow}
 use Rattle.oa_simulation.specs.sim_relation.Steps.{moved, cradled, GoesForAll, NamesStay}
-use Rattle.oa_simulation.proofs.sim_relation.Stable.{stable, stable_base, stable_running, stable_new}
+use Rattle.oa_simulation.proofs.sim_relation.Stable.{stable_base, stable_new}
 
 pub base_moved : (t : Plan) (s : Shared) (d : ℕ) (x : Caller) (a : ℕ) (k : Counts) (r : Routine) → Base t s d x → Base t s d (moved x a k r)
 base_moved t s d x a k r w = record { number = w.number; seen = w.seen; old = w.old; hazard = w.hazard; protects = w.protects; known = w.known; cradle = w.cradle }
@@ -41,15 +41,8 @@ new_moved t s d x core a k r w = (w.0, walks_moved t s d x core w.0 a k r w.1, w
 pub begins_moved : (t : Plan) (s : Shared) (d : ℕ) (x : Caller) (walk : Walk t.target t.text) (a : ℕ) (k : Counts) (r : Routine) → Begins t s d x walk → Begins t s d (moved x a k r) walk
 begins_moved t s d x walk a k r w = record { call = w.call; first = w.first; number = w.number; start = w.start; generator = w.generator; kept = w.kept; shown = w.shown; stands = w.stands; got = w.got; tied = w.tied; settled = w.settled }
 
--- the mover's own facts, by a caller that there isn't
-pub own_stable : (t : Plan) (c : ℕ) (s s' : Shared) (x : Caller) → t.home 0 ≡ 0 → GoesForAll t s s' → SharedHolds t s → SharedHolds t s' → CallerHolds t s c x → CallerHolds t s' c x
-own_stable t c s s' x null_home g f f' w = stable t (suc c) c s s' x null_home (g (suc c)) f f' (λ e. omega (arith, e)) w
-
 pub own_base : (t : Plan) (c : ℕ) (s s' : Shared) (x : Caller) → GoesForAll t s s' → SharedHolds t s → Base t s c x → Base t s' c x
 own_base t c s s' x g f w = stable_base t (suc c) c s s' x (g (suc c)) f (λ e. omega (arith, e)) w
-
-pub own_running : (t : Plan) (c : ℕ) (s s' : Shared) (x : Caller) (core : Spot) → t.home 0 ≡ 0 → GoesForAll t s s' → SharedHolds t s' → Base t s c x → Running t s c x core → Running t s' c x core
-own_running t c s s' x core null_home g f' b w = stable_running t (suc c) c s s' x core null_home (g (suc c)) f' (λ e. omega (arith, e)) b w
 
 pub own_new : (t : Plan) (c : ℕ) (s s' : Shared) (x : Caller) (core : Spot) → t.home 0 ≡ 0 → GoesForAll t s s' → SharedHolds t s' → Base t s c x → AtNew t s c x core → AtNew t s' c x core
 own_new t c s s' x core null_home g f' b w = stable_new t (suc c) c s s' x core null_home (g (suc c)) f' (λ e. omega (arith, e)) b w

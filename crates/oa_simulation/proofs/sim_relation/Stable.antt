@@ -4,6 +4,7 @@ use Rattle.std.specs.Prelude.{nat_lt}
 use Rattle.std.proofs.lemmas.Bool.{cases_eq}
 use Rattle.norm_lang.specs.Local.{Spot}
 use Rattle.norm_lang.specs.declared.registers.Registers.{Registers}
+use Rattle.norm_lang.specs.Registers.{node_in}
 use Rattle.oa_words.specs.Words.{Phase, Warning}
 use Rattle.guard_words.specs.Guards.{has_slot}
 use Rattle.phase_pools.specs.declared.stages.SweepStage.{SweepStage}
@@ -21,7 +22,6 @@ use Rattle.caller_parts.specs.declared.routine.Routine.{Routine}
 use Rattle.caller_parts.specs.declared.routine.Routine.TheVariants.{Idle, LoadSeen, At, InList, Retires, Restarts, Clears, Claims, Zeroes, Announces}
 use Rattle.caller_steps.specs.Entries.{cradle_of, instr_in}
 use Rattle.caller_parts.specs.Operands.{list_of}
-use Rattle.run_ahead.specs.Agreeing.{node_in}
 use Rattle.target_laws.specs.Methods.{code_in}
 use Rattle.run_ahead.specs.Following.{Walk}
 use Rattle.run_ahead.proofs.Quiet.{less_calm}

@@ -12,15 +12,6 @@ each_one P old c v here others i = ⊎_elim
     (λ (e : ((i == c) ≡ false) × (i ≢ c)). rw e.0 (others i e.1))
     (eqb_tells i c)
 
-each_two : (P : ℕ → ℕ → ℕ → Type 0) (old : ℕ → ℕ → ℕ) (c r v : ℕ) → P c r v → ((i k : ℕ) → (i ≡ c → k ≡ r → ⊥) → P i k (old i k)) → (i k : ℕ) → P i k (if (i == c) && (k == r) then v else old i k)
-each_two P old c r v here others i k = ⊎_elim
-    (λ (e : ((i == c) ≡ true) × (i ≡ c)). ⊎_elim
-    (λ (f : ((k == r) ≡ true) × (k ≡ r)). rw (e.0, f.0) (subst (λ j. P j k v) (sym e.1) (subst (λ j. P c j v) (sym f.1) here)))
-    (λ (f : ((k == r) ≡ false) × (k ≢ r)). rw (e.0, f.0) (others i k (λ p q. f.1 q)))
-    (eqb_tells k r))
-    (λ (e : ((i == c) ≡ false) × (i ≢ c)). rw e.0 (others i k (λ p q. e.1 p)))
-    (eqb_tells i c)
-
 pub each_warning : (P : ℕ → ℕ → Type 0) (m : Word → ℕ) (c v : ℕ) → P c v → ((i : ℕ) → i ≢ c → P i (m (Warning i))) → (i : ℕ) → P i (store m (Warning c) v (Warning i))
 each_warning P m c v here others i = each_one P (λ k. m (Warning k)) c v here others i
 
@@ -29,12 +20,6 @@ each_status P m c v here others i = each_one P (λ k. m (Status k)) c v here oth
 
 pub each_cell : (P : ℕ → ℕ → Type 0) (m : Word → ℕ) (c v : ℕ) → P c v → ((i : ℕ) → i ≢ c → P i (m (Cell i))) → (i : ℕ) → P i (store m (Cell c) v (Cell i))
 each_cell P m c v here others i = each_one P (λ k. m (Cell k)) c v here others i
-
-pub each_hazard : (P : ℕ → ℕ → ℕ → Type 0) (m : Word → ℕ) (c r v : ℕ) → P c r v → ((i k : ℕ) → (i ≡ c → k ≡ r → ⊥) → P i k (m (Hazard i k))) → (i k : ℕ) → P i k (store m (Hazard c r) v (Hazard i k))
-each_hazard P m c r v here others i k = each_two P (λ a b. m (Hazard a b)) c r v here others i k
-
-pub each_field : (P : ℕ → ℕ → ℕ → Type 0) (m : Word → ℕ) (c r v : ℕ) → P c r v → ((i k : ℕ) → (i ≡ c → k ≡ r → ⊥) → P i k (m (FieldOf i k))) → (i k : ℕ) → P i k (store m (FieldOf c r) v (FieldOf i k))
-each_field P m c r v here others i k = each_two P (λ a b. m (FieldOf a b)) c r v here others i k
 
 -- to store what stands there changes nothing
 two_again : (m : Word → ℕ) (f : ℕ → ℕ → Word) (a b i k : ℕ) → (if (i == a) && (k == b) then m (f a b) else m (f i k)) ≡ m (f i k)

@@ -36,6 +36,7 @@ use Rattle.caller_parts.specs.Calls.{is_call}
 use Rattle.caller_parts.proofs.News.{new_there}
 use Rattle.caller_steps.specs.Belongs.{Belongs}
 use Rattle.caller_steps.specs.Belongs.{Stands as CoreStands}
+use Rattle.caller_steps.specs.Stands.{is_stop}
 use Rattle.core_runs.proofs.caller_laws.Methods.{sane_code}
 use Rattle.core_runs.proofs.caller_laws.Cradles.{cradle_number_small}
 use Rattle.core_runs.proofs.caller_laws.Safety.{list_there}
@@ -46,7 +47,8 @@ use Rattle.oa_simulation.specs.sim_relation.Callers.{CallerHolds, HoldsAt, Trail
 use Rattle.oa_simulation.specs.sim_relation.Points.{StaysProper, DrawsHome, point}
 use Rattle.oa_simulation.specs.sim_relation.Naming.{present_at}
 use Rattle.oa_simulation.specs.sim_relation.WasSet.{set_after_access, set_at, set_begun, set_plain}
-use Rattle.oa_simulation.specs.sim_relation.Steps.{KeptWith, KeptBy, KeptSetting, Stepped, StepsKeep, StepKeeps, TakesReady, NamesAt, NamesCleared, NamesAfter, checked_names, with_names, after_access}
+use Rattle.chain_laws.specs.Memories.{after_access}
+use Rattle.oa_simulation.specs.sim_relation.Steps.{KeptWith, KeptBy, KeptSetting, Stepped, StepsKeep, StepKeeps, TakesReady, NamesAt, NamesCleared, NamesAfter, checked_names, with_names}
 use Rattle.oa_simulation.proofs.sim_relation.Codes.{instr_is}
 use Rattle.oa_simulation.proofs.sim_steps.Walks.Quieting.{sane_here}
 use Rattle.oa_simulation.proofs.sim_steps.Walks.Restarting.{seen_kept, begins_restart}
@@ -60,7 +62,7 @@ use Rattle.oa_simulation.proofs.sim_steps.Accesses.Stepping.{proper_here, PlainK
 use Rattle.oa_simulation.proofs.sim_steps.Accesses.Succeeding.{plain_step}
 use Rattle.oa_simulation.proofs.sim_steps.Accesses.Entries.{entry_step}
 use Rattle.oa_simulation.proofs.sim_steps.Accesses.Zeroed.{zero_step}
-use Rattle.oa_simulation.specs.sim_steps.Quiet.{is_quiet_instr, is_quiet_at, is_quiet}
+use Rattle.oa_simulation.specs.sim_steps.Quiet.{is_quiet_at, is_quiet}
 use Rattle.oa_simulation.proofs.sim_steps.Calling.{begin_kept}
 use Rattle.caller_parts.specs.declared.setting.Reclamation.TheVariants.{Optimistic}
 
@@ -267,7 +269,7 @@ module _ (t : Plan) (c : ℕ) (s : Shared) (x : Caller) (w : Stepping t c s x) w
 
   -- none of them is quiet
   no_plain : is_quiet t.target t.setting x.entry ≡ true → PlainKeeps t c s x
-  no_plain quiet i is there = absurd (let z : false ≡ true = sym (ap (λ (o : Option TargetInstr). is_quiet_instr o) there) ∙ (sym (ap (λ (r : Routine). is_quiet_at t.target t.setting x.entry r) is) ∙ quiet) in cc)
+  no_plain quiet i is there = absurd (let z : false ≡ true = sym (ap (λ (o : Option TargetInstr). is_stop o) there) ∙ (sym (ap (λ (r : Routine). is_quiet_at t.target t.setting x.entry r) is) ∙ quiet) in cc)
 
   no_entry : is_quiet t.target t.setting x.entry ≡ true → EntryKeeps t c s x
   no_entry quiet k exchange is there = absurd (let z : false ≡ true = sym (ap (λ (r : Routine). is_quiet_at t.target t.setting x.entry r) is) ∙ quiet in cc)

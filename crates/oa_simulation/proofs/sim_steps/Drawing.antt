@@ -27,7 +27,8 @@ use Rattle.caller_steps.specs.Clearing.{restart_next, unguarded}
 use Rattle.caller_steps.specs.After.{stops, plain_stop, settles, restart_on, check_passed, check_failed, onward_goes, retired_on, claim_counted, claim_on, instr_accepted, accepted, counted, node_made, with_routine, with_hand, hand_at, goes_on, method_begun, first_spot, with_restart}
 use Rattle.caller_steps.specs.After.{moved as after_moves}
 use Rattle.caller_steps.specs.Signs.{Sign, Accesses, Draws, quiet}
-use Rattle.oa_simulation.specs.sim_steps.Quiet.{is_quiet_instr, is_quiet_at, is_quiet}
+use Rattle.caller_steps.specs.Stands.{is_stop}
+use Rattle.oa_simulation.specs.sim_steps.Quiet.{is_quiet_at, is_quiet}
 use Rattle.caller_parts.specs.declared.setting.Reclamation.TheVariants.{Optimistic}
 use Rattle.oa_simulation.proofs.sim_relation.Schemes.{NeverAnnounces}
 
@@ -87,7 +88,7 @@ module _ (target : Target) (sizes : Sizes) where
   claim_draws claim (Some (ends.Claimed j)) e = refl
   claim_draws claim _ e = refl
 
-  instr_draws : (o : Option TargetInstr) (word : ℕ) (e : Entry) → is_quiet_instr o ≡ true → DrawsNone (instr_accepted Optimistic target sizes o word e).signs
+  instr_draws : (o : Option TargetInstr) (word : ℕ) (e : Entry) → is_stop o ≡ true → DrawsNone (instr_accepted Optimistic target sizes o word e).signs
   instr_draws None word e is = refl
   instr_draws (Some (Plain i)) word e is = absurd (let z : false ≡ true = is in cc)
   instr_draws (Some Check) word e is = check_draws (word == e.hand.seen) word e

@@ -12,13 +12,12 @@ use Rattle.norm_lang.specs.declared.registers.Registers.{Registers}
 use Rattle.norm_lang.specs.InstructionRules.{field_kind, place_kind}
 use Rattle.norm_lang.specs.KindFields.{owner_of, place_of}
 use Rattle.norm_lang.specs.Kinds.{asks_object}
-use Rattle.norm_lang.specs.Registers.{reference_in}
+use Rattle.norm_lang.specs.Registers.{reference_in, node_in}
 use Rattle.source_machine.specs.declared.state.Value.{Value}
 use Rattle.source_machine.specs.declared.state.NamedNode.{NamedNode}
 use Rattle.source_machine.specs.declared.state.Memory.{Memory}
 use Rattle.source_machine.specs.Memory.{fields_named}
 use Rattle.source_machine.proofs.Places.{kind_is_named}
-use Rattle.run_ahead.specs.Agreeing.{node_in}
 use Rattle.run_ahead.specs.Typed.{IsNodeOf, IsTyped, field_kinds}
 use Rattle.run_ahead.proofs.Mirroring.{same_itself}
 use Rattle.run_ahead.proofs.TypedMemory.{field_at, place_inside as place_below}

@@ -2,7 +2,7 @@
 use Rattle.std.specs.Prelude.{ℕ, ◌≡◌, ◌≢◌, ◌+◌, ◌*◌, ◌≤◌, ◌<◌, ◌⊎◌, ◌&&◌, ◌||◌, not, Bool, true, false, List, [], ◌∷◌, ◌++◌, map, length, Option, Some, None, slice_get, nat_lt}
 use Rattle.norm_lang.specs.declared.text.Reg.TheVariants.{Ref}
 use Rattle.norm_lang.specs.declared.registers.Registers.{Registers}
-use Rattle.norm_lang.specs.Registers.{first_registers, with_count}
+use Rattle.norm_lang.specs.Registers.{first_registers, with_count, node_in}
 use Rattle.norm_lang.specs.Local.{Spot}
 use Rattle.norm_lang.specs.Flow.{state_along}
 use Rattle.target_code.specs.declared.target.TargetInstr.{TargetInstr}
@@ -32,7 +32,6 @@ use Rattle.caller_parts.specs.declared.routine.Routine.TheVariants.{Idle, LoadSe
 use Rattle.caller_steps.specs.Entries.{Entry, cradle_of, instr_in}
 use Rattle.caller_parts.specs.Operands.{list_of, is_new_at, cradle_number}
 use Rattle.caller_parts.specs.Pairing.{reply_of}
-use Rattle.run_ahead.specs.Agreeing.{node_in}
 use Rattle.target_laws.specs.Methods.{code_in}
 use Rattle.target_laws.specs.Trusted.{trust_along, Trusted}
 use Rattle.run_ahead.specs.Ahead.{Ahead, IsStart}

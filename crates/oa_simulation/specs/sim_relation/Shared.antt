@@ -1,6 +1,5 @@
 -- What holds of what is shared.
 use Rattle.std.specs.Prelude.{ℕ, ◌≡◌, ◌≢◌, ◌≤◌, ◌<◌, ◌⊎◌, Bool, true, false, List, Option, Some, None}
-use Rattle.oa_words.specs.declared.packed.Kind.{Kind}
 use Rattle.oa_words.specs.declared.packed.Kind.TheVariants as kinds
 use Rattle.oa_words.specs.Words.{Phase, Warning, Hazard, Status, FieldOf, Cell}
 use Rattle.oa_words.specs.Packed.{status_word}
@@ -9,10 +8,7 @@ use Rattle.source_machine.specs.declared.state.Value.{Value}
 use Rattle.source_machine.specs.Proper.{has, field_of}
 use Rattle.run_ahead.specs.Typed.{IsTyped}
 use Rattle.oa_simulation.specs.sim_relation.Views.{Plan, Owner, Null, Pool, Held, Living, Retiring, Dead, Shared, word_for, value_count, link, top, Resident}
-
--- a status word of a kind
-abbrev pub IsOf : Kind → ℕ → Type 0
-IsOf kind word = (q : ℕ) × (word ≡ status_word q kind)
+use Rattle.chain_laws.specs.Chains.{IsOf}
 
 -- a slot by its owner: its status, its name, the name's tag, whether the name is retired, and published
 abbrev pub Slot : Owner → ℕ → ℕ → Option ℕ → Bool → Bool → Type 0

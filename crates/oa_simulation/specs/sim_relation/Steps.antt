@@ -7,15 +7,15 @@ use Rattle.caller_parts.specs.declared.routine.AfterRetire.{AfterRetire}
 use Rattle.source_machine.specs.Proper.{has}
 use Rattle.norm_lang.specs.declared.text.Reg.TheVariants.{Ref}
 use Rattle.norm_lang.specs.Local.{Spot}
+use Rattle.norm_lang.specs.Registers.{node_in}
 use Rattle.target_code.specs.declared.target.TargetInstr.{TargetInstr}
 use Rattle.target_code.specs.declared.target.TargetInstr.TheVariants.{Plain, Check, Guard}
 use Rattle.oa_words.specs.declared.packed.Kind.TheVariants as kinds
 use Rattle.oa_words.specs.Words.{Word, Warning, Hazard, Status}
 use Rattle.oa_words.specs.Memories.{store}
 use Rattle.guard_words.specs.Guards.{with_guard}
-use Rattle.run_ahead.specs.Agreeing.{node_in}
 use Rattle.run_ahead.specs.Guards.{GuardRow, validated}
-use Rattle.phase_pools.specs.Accesses.{WordAccess, word_of, word_after}
+use Rattle.phase_pools.specs.Accesses.{WordAccess, word_of}
 use Rattle.source_machine.specs.MethodRuns.{MethodRun, put}
 use Rattle.caller_steps.specs.declared.entry.Counts.{Counts}
 use Rattle.caller_parts.specs.declared.routine.AfterClear.{AfterClear}
@@ -34,17 +34,15 @@ use Rattle.caller_steps.specs.After.{moved as after_moves}
 use Rattle.caller_steps.specs.Belongs.{Belongs}
 use Rattle.oa_simulation.specs.sim_relation.Points.{StaysProper, DrawsHome}
 use Rattle.oa_simulation.specs.sim_relation.Views.{Plan, Shared, Caller, protected, settled_names}
-use Rattle.oa_simulation.specs.sim_relation.Shared.{SharedHolds, IsOf}
+use Rattle.chain_laws.specs.Chains.{IsOf}
+use Rattle.chain_laws.specs.Memories.{after_access}
+use Rattle.oa_simulation.specs.sim_relation.Shared.{SharedHolds}
 use Rattle.oa_simulation.specs.sim_relation.Callers.{Calm, CallerHolds}
 use Rattle.oa_simulation.specs.sim_relation.MayChange.{MayChange}
 use Rattle.oa_simulation.specs.sim_relation.Naming.{present_at}
 use Rattle.oa_simulation.specs.sim_relation.WasSet.{set_after_access}
 use Rattle.oa_simulation.specs.sim_relation.Points.{Plays, point}
 use Rattle.caller_parts.specs.declared.setting.Reclamation.TheVariants.{Optimistic}
-
--- the words after an access
-abbrev pub after_access : (Word → ℕ) → WordAccess → Word → ℕ
-after_access memory a = store memory (word_of a) (word_after a (memory (word_of a)))
 
 -- between two method runs, at a clear
 abbrev pub is_over : AfterClear → Bool

@@ -8,7 +8,7 @@ use Rattle.source_machine.specs.declared.state.Value.{Value}
 use Rattle.source_machine.specs.declared.state.Value.TheVariants.{Number, Node}
 use Rattle.source_machine.specs.declared.state.Memory.{Memory}
 use Rattle.source_machine.specs.declared.state.SourceCaller.{SourceCaller}
-use Rattle.source_machine.specs.MethodRuns.{MethodRun}
+use Rattle.source_machine.specs.MethodRuns.{MethodRun, name_in}
 use Rattle.source_machine.specs.Proper.{field_of}
 use Rattle.source_machine.specs.Memory.{value_at, fields_named}
 use Rattle.caller_parts.specs.Settings.{Setting, Fits, IsSetting}
@@ -77,21 +77,16 @@ abbrev pub word_for : (ℕ → ℕ) → Value → ℕ
 word_for home (Number n) = n
 word_for home (Node reference) = ref_word (home reference.node) reference.marked
 
--- the name in a value, 0 for null and for a number
-abbrev pub name_of : Value → ℕ
-name_of (Number n) = 0
-name_of (Node reference) = reference.node
-
 -- how many fields a name has: those of its kind. Their places are below it, and null has none of its own
 abbrev pub value_count : Memory → ℕ → ℕ
 value_count memory n = length (unwrap_or (fields_named n memory.nodes) [])
 
 -- the name in a field of a name, by the field's place, and in a root
 abbrev pub link : Shared → ℕ → ℕ → ℕ
-link s n g = name_of (field_of s.source n g)
+link s n g = name_in (field_of s.source n g)
 
 abbrev pub top : Shared → ℕ → ℕ
-top s x = name_of (value_at s.source.roots x)
+top s x = name_in (value_at s.source.roots x)
 
 -- null counts as resident
 abbrev pub Resident : Plan → Shared → ℕ → Type 0

@@ -129,8 +129,7 @@ module _ (target : Target) (setting : Setting) (Knows : Entry → Type 0) (start
         → (if i && b then Some (record state { entries = slice_set state.entries k (taken setting.reclamation call d) }) else None) ≡ Some mid → Onwards Knows started mid c e []
     by d at true idle true became = subst (λ (m : CoreState). Onwards Knows started m c e []) (some_is _ mid became)
         (one_changes state state.words k c d (taken setting.reclamation call d) e [] at there known (λ held. rules.takes_known d call idle) (λ held. rules.takes_started d call idle ∙ sym (append-nil (started d))))
-    by d at true idle false became = absurd (let z : None ≡ Some mid = became in cc)
-    by d at false idle b became = absurd (let z : None ≡ Some mid = became in cc)
+    by d at _ idle _ became = absurd (let z : None ≡ Some mid = became in cc)
 
     of : (o : Option Entry) → slice_get state.entries k ≡ o → event_by target setting state (Takes k call) o ≡ Some mid → Onwards Knows started mid c e []
     of None at became = absurd (let z : None ≡ Some mid = became in cc)

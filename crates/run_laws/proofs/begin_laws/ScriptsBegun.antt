@@ -37,9 +37,8 @@ same_count : (xs : List Replied) → length (map run_of xs) ≡ length xs
 same_count xs = length-map xs run_of
 
 last_is : (xs : List Running) (r : Running) → last_steps (xs ++ r ∷ []) ≡ r.steps
-last_is [] r = refl
-last_is (x ∷ []) r = refl
 last_is (x ∷ y ∷ xs) r = last_is (y ∷ xs) r
+last_is _ r = refl
 
 count_of : (xs : List Replied) (r : Running) → length (map run_of xs ++ r ∷ []) ≡ length xs + 1
 count_of [] r = refl

@@ -56,12 +56,8 @@ begun (sign ∷ signs) = begins sign ++ begun signs
 abbrev pub begins_announcing : Reclamation → Announcing → Bool
 begins_announcing Optimistic announcing = true
 begins_announcing Epochs (announces.Loads reasons.Begin) = true
-begins_announcing Epochs (announces.Loads reasons.Again) = false
-begins_announcing Epochs (announces.Loads reasons.Swept) = false
 begins_announcing Epochs (announces.Stores reasons.Begin phase) = true
-begins_announcing Epochs (announces.Stores reasons.Again phase) = false
-begins_announcing Epochs (announces.Stores reasons.Swept phase) = false
-begins_announcing Epochs (announces.Leaves reply) = false
+begins_announcing Epochs _ = false
 
 -- before the load, or the announcement, with which a call begins
 abbrev pub waits : Reclamation → Routine → Bool
@@ -122,10 +118,8 @@ module _ (target : Target) (sizes : Sizes) where
   wrap_up_stopped_on : (e : Entry) → Onward Epochs (wrap_up_stopped target e)
   wrap_up_stopped_on e = of (instr_in target e) where
     of : (o : Option TargetInstr) → Onward Epochs (wrap_up_stops o e)
-    of None = (refl, refl)
-    of (Some Check) = (refl, refl)
-    of (Some (Guard r)) = (refl, refl)
     of (Some (Plain i)) = wrap_up_on i e
+    of _ = (refl, refl)
 
   wrap_up_begun_on : (made : ℕ) (e : Entry) → Onward Epochs (wrap_up_begun target made e)
   wrap_up_begun_on made e = wrap_up_stopped_on (run_to target (record { at = 0; registers = with_count e.hand.registers made }) (with_hand e (wrap_up_hand made e.hand)))
@@ -150,10 +144,8 @@ module _ (target : Target) (sizes : Sizes) where
   stopped_on : (by : Reclamation) (e : Entry) → Onward by (stopped by target sizes e)
   stopped_on by e = of (instr_in target e) where
     of : (o : Option TargetInstr) → Onward by (stops by target sizes o e)
-    of None = (refl, refl)
-    of (Some Check) = (refl, refl)
-    of (Some (Guard r)) = (refl, refl)
     of (Some (Plain i)) = stop_on by i e
+    of _ = (refl, refl)
 
   settles_on : (by : Reclamation) (spot : Spot) (e : Entry) → Onward by (settles by target sizes spot e)
   settles_on by spot e = stopped_on by (run_to target spot e)
@@ -248,9 +240,8 @@ module _ (target : Target) (sizes : Sizes) where
   retirement_on by go (Some retirement) e = (refl, refl)
 
   gained_on : (by : Reclamation) (made j : ℕ) (e : Entry) → waits by (slot_gained by target made j e).routine ≡ false
-  gained_on Optimistic made j e = refl
   gained_on Epochs zero j e = refl
-  gained_on Epochs (suc swept) j e = refl
+  gained_on _ _ j e = refl
 
   claim_goes : (by : Reclamation) (claim : Claim) (o : Option ClaimEnd) (e : Entry) → Onward by (claim_on by target claim o e)
   claim_goes by claim (Some (ends.Claimed j)) e = (refl, gained_on by claim.sweeps j (with_routine e At))

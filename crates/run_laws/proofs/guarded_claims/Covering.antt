@@ -19,12 +19,13 @@ use Rattle.phase_pools.specs.declared.stages.ClaimStage.{ClaimStage}
 use Rattle.phase_pools.specs.declared.stages.ClaimStage.TheVariants as claims
 use Rattle.phase_pools.specs.Accesses.{WordAccess, word_of}
 use Rattle.chain_laws.specs.Chains.{IsOf}
+use Rattle.chain_laws.specs.Memories.{after_access}
 use Rattle.phase_pools.specs.Pools.{Claim, Sweep, claim_wants, claim_wants_at, claim_accepts, claim_accepts_at, sweep_wants_at, sweep_accepts_at, sweep_follows, sweep_ended, claim_goes, claim_ends, look_ended, look_begun, look_took, claim_takes}
 use Rattle.source_machine.specs.MethodRuns.{put}
 use Rattle.source_machine.specs.Proper.{has}
 use Rattle.source_machine.proofs.Places.{each_put, put_other}
 use Rattle.caller_parts.specs.declared.routine.Routine.{Routine}
-use Rattle.caller_parts.specs.declared.routine.Routine.TheVariants.{Idle, LoadSeen, At, InList, Retires, Restarts, Clears, Claims, Zeroes, Announces}
+use Rattle.caller_parts.specs.declared.routine.Routine.TheVariants.{Claims, Zeroes, Announces}
 use Rattle.caller_steps.specs.Entries.{Entry, cradle_of, instr_in, new_number, zero_count}
 use Rattle.caller_steps.specs.Belongs.{Belongs, Stands}
 use Rattle.caller_steps.specs.Wants.{wants}
@@ -35,7 +36,7 @@ use Rattle.run_ahead.specs.Guards.{GuardRow}
 use Rattle.oa_simulation.specs.sim_relation.Views.{Plan, Shared, Caller}
 use Rattle.oa_simulation.specs.sim_relation.Callers.{Empty, SweepAt, ClaimAt, HoldsAt}
 use Rattle.oa_simulation.specs.sim_relation.Naming.{freed_at, freed_in, emptied_at, named_at, present_at}
-use Rattle.oa_simulation.specs.sim_relation.Steps.{KeptWith, TakenIsReady, TakesReady, after_access}
+use Rattle.oa_simulation.specs.sim_relation.Steps.{KeptWith, TakenIsReady, TakesReady}
 use Rattle.oa_simulation.specs.sim_relation.Worlds.{World, Holds}
 use Rattle.oa_simulation.proofs.sim_relation.Lists.{index_set_other}
 use Rattle.oa_simulation.proofs.sim_steps.Pools.Core.{after_is, wants_is}
@@ -134,9 +135,8 @@ module _ (t : Plan) (w : World) (h : Holds t w) (c : ℕ) (mover : c < t.setting
   ended_takes : (claim : Claim) → Takes (look_ended claim).ended
   ended_takes claim = of (claim.sweeps == 2) where
     follows : (scheme : Scheme) (made : ℕ) → Takes (sweep_follows scheme made claim).ended
-    follows Warned made i is = absurd (let z : None ≡ Some (ends.Claimed i) = is in cc)
     follows (Announced own) zero i is = absurd (let z : None ≡ Some (ends.Claimed i) = is in cc)
-    follows (Announced own) (suc made) i is = absurd (let z : None ≡ Some (ends.Claimed i) = is in cc)
+    follows _ _ i is = absurd (let z : None ≡ Some (ends.Claimed i) = is in cc)
 
     of : (b : Bool) → Takes (if b then claim_ends claim ends.Full else sweep_follows claim.sweep.scheme claim.sweeps claim).ended
     of true i is = absurd (let z : Some ends.Full ≡ Some (ends.Claimed i) = is in cc)
@@ -206,15 +206,8 @@ module _ (t : Plan) (w : World) (h : Holds t w) (c : ℕ) (mover : c < t.setting
         let same : claim_wants claim ≡ a = cc in
         subst (λ (a : WordAccess). Moves s' (accepted Optimistic t.target t.setting (s.memory (word_of a)) (counted x.entry) (Claims claim))) same
         (claim_moves s' claim (claim_warned t.setting x.entry.number claim optimistic (subst (λ (routine : Routine). Stands t.target t.setting x.entry routine) is belongs.stands).1) (subst (λ (routine : Routine). TakesReady s.memory routine) is ready) spot.0 (subst (λ (routine : Routine). KnowsWhere s' d r v.slot routine) is k))
-    on Idle is = other_moves s' (s.memory (word_of a)) Idle is refl k
-    on (LoadSeen why) is = other_moves s' (s.memory (word_of a)) (LoadSeen why) is refl k
-    on At is = other_moves s' (s.memory (word_of a)) At is refl k
-    on (InList i) is = other_moves s' (s.memory (word_of a)) (InList i) is refl k
-    on (Retires retirement go) is = other_moves s' (s.memory (word_of a)) (Retires retirement go) is refl k
-    on Restarts is = other_moves s' (s.memory (word_of a)) Restarts is refl k
-    on (Clears next) is = other_moves s' (s.memory (word_of a)) (Clears next) is refl k
-    on (Zeroes i field) is = other_moves s' (s.memory (word_of a)) (Zeroes i field) is refl k
     on (Announces announcing) is = absurd (never_holds t s c x (h.caller_holds c mover) announcing is)
+    on routine is = other_moves s' (s.memory (word_of a)) routine is refl k
 
     of : (routine : Routine) → x.entry.routine ≡ routine → Moves s' (after_moves Optimistic t.target t.setting x.entry (s.memory (word_of a)))
     of routine is = subst (Moves s') (sym (after_is t.target t.setting x.entry (s.memory (word_of a)) routine is)) (on routine is)

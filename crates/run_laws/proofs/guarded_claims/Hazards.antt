@@ -31,7 +31,7 @@ use Rattle.caller_parts.specs.Operands.{list_of, slot_in, word_in, register_numb
 use Rattle.caller_steps.specs.Entries.{Entry, instr_in}
 use Rattle.caller_steps.specs.Clearing.{restart_next, clear_next}
 use Rattle.caller_steps.specs.Wants.{wanted, announcing_wanted, exchange_wanted, instr_wanted, list_wanted, clear_wanted, object_exchange, place_exchange, plain_wanted}
-use Rattle.oa_simulation.specs.sim_relation.Steps.{after_access}
+use Rattle.chain_laws.specs.Memories.{after_access}
 use Rattle.oa_simulation.proofs.sim_relation.Words.{store_again}
 use Rattle.caller_parts.specs.declared.routine.Announcing.{Announcing}
 use Rattle.caller_parts.specs.declared.routine.Announcing.TheVariants as announces
@@ -48,16 +48,10 @@ stored_at (Some Check) = None
 stored_at (Some (Guard r)) = Some (register_number r)
 
 abbrev pub stored : Target → Entry → Routine → Option ℕ
-stored target e Idle = None
-stored target e (LoadSeen why) = None
 stored target e At = stored_at (instr_in target e)
-stored target e (InList k) = None
-stored target e (Retires retirement go) = None
 stored target e Restarts = restart_next target e
 stored target e (Clears next) = clear_next target next e
-stored target e (Claims claim) = None
-stored target e (Zeroes k field) = None
-stored target e (Announces announcing) = None
+stored target e _ = None
 
 module _ (m : Word → ℕ) (c r : ℕ) where
   -- a store in another hazard word of the caller
@@ -119,8 +113,7 @@ module _ (m : Word → ℕ) (c r : ℕ) where
 
   announcing_leaves : (i : ℕ) (announcing : Announcing) → Leaves m c r (Some (announcing_wanted i announcing))
   announcing_leaves i (announces.Loads why) = refl
-  announcing_leaves i (announces.Stores why phase) = refl
-  announcing_leaves i (announces.Leaves reply) = refl
+  announcing_leaves i _ = refl
 
   pub leaves : (target : Target) (e : Entry) (routine : Routine) → (stored target e routine ≡ Some r → ⊥) → Leaves m c r (wanted target e routine)
   leaves target e Idle ne = tt

@@ -3,14 +3,15 @@ use Rattle.std.proofs.Common.{ℕ, zero, suc, ◌≡◌, ◌≢◌, ◌==◌, �
 use Rattle.std.proofs.lemmas.Bool.Decides.{nat_tests, eqb_tells}
 use Rattle.norm_lang.specs.declared.text.Reg.{Reg}
 use Rattle.norm_lang.specs.declared.text.Reg.TheVariants.{Ref}
+use Rattle.norm_lang.specs.Registers.{node_in}
 use Rattle.target_code.specs.declared.target.TargetInstr.{TargetInstr}
-use Rattle.target_code.specs.declared.target.TargetInstr.TheVariants.{Plain, Check, Guard}
+use Rattle.target_code.specs.declared.target.TargetInstr.TheVariants.{Check, Guard}
 use Rattle.oa_words.specs.Words.{Word, Warning, Hazard}
 use Rattle.phase_pools.specs.Accesses.{WordAccess, Loads, Stores, word_of}
 use Rattle.source_machine.specs.MethodRuns.{put}
 use Rattle.caller_parts.specs.declared.routine.AfterClear.{AfterClear}
 use Rattle.caller_parts.specs.declared.routine.Routine.{Routine}
-use Rattle.caller_parts.specs.declared.routine.Routine.TheVariants.{Idle, LoadSeen, At, InList, Retires, Restarts, Clears, Claims, Zeroes, Announces}
+use Rattle.caller_parts.specs.declared.routine.Routine.TheVariants.{Idle, LoadSeen, At, Restarts, Clears, Announces}
 use Rattle.caller_steps.specs.Entries.{Entry, is_idle, instr_in}
 use Rattle.caller_parts.specs.Operands.{slot_in}
 use Rattle.caller_steps.specs.Clearing.{restart_next, clear_next, unguarded}
@@ -18,12 +19,12 @@ use Rattle.caller_steps.specs.Wants.{wants, instr_wanted}
 use Rattle.caller_steps.specs.After.{counted, with_hand}
 use Rattle.caller_steps.specs.After.{moved as after_moves}
 use Rattle.caller_steps.specs.Signs.{Moved}
-use Rattle.run_ahead.specs.Agreeing.{node_in}
 use Rattle.run_ahead.specs.Guards.{GuardRow, validated}
 use Rattle.oa_simulation.specs.sim_relation.Views.{Plan, Shared, Caller, protected, settled_names}
 use Rattle.oa_simulation.specs.sim_relation.Callers.{Calm, Base}
 use Rattle.oa_simulation.specs.sim_relation.MayChange.{MayChange}
-use Rattle.oa_simulation.specs.sim_relation.Steps.{KeptWith, NamesAt, NamesCleared, NamesAfter, checked_names, with_names, is_between, is_counted, is_over, after_access}
+use Rattle.chain_laws.specs.Memories.{after_access}
+use Rattle.oa_simulation.specs.sim_relation.Steps.{KeptWith, NamesAt, NamesCleared, NamesAfter, checked_names, with_names, is_between, is_counted, is_over}
 use Rattle.oa_simulation.specs.sim_relation.WasSet.{set_after_access}
 use Rattle.oa_simulation.proofs.sim_steps.Walks.Beginning.{over_after}
 use Rattle.oa_simulation.proofs.sim_steps.Pools.Core.{after_is, wants_is}
@@ -51,41 +52,32 @@ passed_validated Published is = inl refl
 passed_validated Validated is = inr refl
 
 passed_published : (m : Mark) → passed m ≡ Published → ⊥
-passed_published Absent is = let z : Absent ≡ Published = is in cc
 passed_published Published is = let z : Validated ≡ Published = is in cc
-passed_published Validated is = let z : Validated ≡ Published = is in cc
+passed_published m is = let z : m ≡ Published = is in cc
 
 begun_validated : (m : Mark) → begun m ≡ Validated → m ≡ Validated
-begun_validated Absent is = is
 begun_validated Published is = absurd (let z : Absent ≡ Validated = is in cc)
-begun_validated Validated is = is
+begun_validated _ is = is
 
 begun_published : (m : Mark) → begun m ≡ Published → ⊥
-begun_published Absent is = let z : Absent ≡ Published = is in cc
 begun_published Published is = let z : Absent ≡ Published = is in cc
-begun_published Validated is = let z : Validated ≡ Published = is in cc
+begun_published m is = let z : m ≡ Published = is in cc
 
 published_validated : (counted : Bool) (slot : ℕ) → published counted slot ≡ Validated → ⊥
-published_validated false slot is = let z : Absent ≡ Validated = is in cc
-published_validated true zero is = let z : Absent ≡ Validated = is in cc
 published_validated true (suc j) is = let z : Published ≡ Validated = is in cc
+published_validated _ _ is = let z : Absent ≡ Validated = is in cc
 
 published_counts : (counted : Bool) (slot : ℕ) → published counted slot ≡ Published → (counted ≡ true) × (slot ≢ 0)
-published_counts false slot is = absurd (let z : Absent ≡ Published = is in cc)
-published_counts true zero is = absurd (let z : Absent ≡ Published = is in cc)
 published_counts true (suc j) is = (refl, (λ z. omega (arith, z)))
+published_counts _ _ is = absurd (let z : Absent ≡ Published = is in cc)
 
 restored_validated : (same : Bool) (before : Mark) (counted : Bool) (slot : ℕ) → restored same before (published counted slot) ≡ Validated → (same ≡ true) × (before ≡ Validated)
-restored_validated false before counted slot is = absurd (published_validated counted slot is)
-restored_validated true Absent counted slot is = absurd (published_validated counted slot is)
-restored_validated true Published counted slot is = absurd (published_validated counted slot is)
 restored_validated true Validated counted slot is = (refl, refl)
+restored_validated _ _ counted slot is = absurd (published_validated counted slot is)
 
 restored_published : (same : Bool) (before stored : Mark) → restored same before stored ≡ Published → stored ≡ Published
-restored_published false before stored is = is
-restored_published true Absent stored is = is
-restored_published true Published stored is = is
 restored_published true Validated stored is = absurd (let z : Validated ≡ Published = is in cc)
+restored_published _ _ stored is = is
 
 now_protected : (n : ℕ) → n ≢ 0 → (if not (n == 0) then n else 0) ≢ 0
 now_protected zero some = absurd (some refl)
@@ -228,28 +220,23 @@ module _ (t : Plan) (s : Shared) (c : ℕ) (x : Caller) (marks : Marks) (a : Wor
       (guard_leaves i at is) (λ r ne. left_at At at r (λ z. ne (let one : Some i ≡ Some r = sym (ap (λ (o : Option TargetInstr). stored_at o) is) ∙ z in cc))))
 
   by_instr : (o : Option TargetInstr) → x.entry.routine ≡ At → instr_in t.target x.entry ≡ o → NamesAt t s c x o row → After (instr_marks x.entry o (s.memory (word_of a)) marks.was_set marks.hazards)
-  by_instr None at is names =
-      same_row t s c x marks m On Left row names (λ o. going At at refl) (calm_at At at (ap (λ (o : Option TargetInstr). is_check o) is)) (left_all At at (ap (λ (o : Option TargetInstr). stored_at o) is))
-  by_instr (Some (Plain i)) at is names =
-      same_row t s c x marks m On Left row names (λ o. going At at refl) (calm_at At at (ap (λ (o : Option TargetInstr). is_check o) is)) (left_all At at (ap (λ (o : Option TargetInstr). stored_at o) is))
   by_instr (Some Check) at is names = subst (λ (w : ℕ). After (checked (w == x.entry.hand.seen) marks.hazards)) (sym (check_word at is))
       (subst (λ (row : GuardRow). Row On Left row marks.hazards (checked (s.memory (Warning c) == x.entry.hand.seen) marks.hazards)) (sym names)
       (check_row t s c x marks m On Left (s.memory (Warning c) == x.entry.hand.seen) refl (going At at refl) (left_all At at (ap (λ (o : Option TargetInstr). stored_at o) is))))
   by_instr (Some (Guard r)) at is (i, n, same, is_row, named) =
       subst (λ (r : Reg). After (instr_marks x.entry (Some (Guard r)) (s.memory (word_of a)) marks.was_set marks.hazards)) (sym same)
       (by_guard i n at (is ∙ ap (λ (r : Reg). Some (Guard r)) same) is_row named)
+  by_instr _ at is names =
+      same_row t s c x marks m On Left row names (λ o. going At at refl) (calm_at At at (ap (λ (o : Option TargetInstr). is_check o) is)) (left_all At at (ap (λ (o : Option TargetInstr). stored_at o) is))
 
   by_routine : (r : Routine) → x.entry.routine ≡ r → NamesAfter t s c x r row → After (hazard_marks t.target x.entry r (s.memory (word_of a)) marks.was_set marks.hazards)
   by_routine Idle is names = absurd (let z : true ≡ false = sym (ap is_idle is) ∙ busy in cc)
   by_routine (LoadSeen why) is names = begun_row t s c x marks m On Left row (left_all (LoadSeen why) is refl)
   by_routine At is names = by_instr (instr_in t.target x.entry) is refl names
-  by_routine (InList i) is names = same_row t s c x marks m On Left row names (λ o. going (InList i) is refl) (calm_at (InList i) is refl) (left_all (InList i) is refl)
-  by_routine (Retires retirement go) is names = same_row t s c x marks m On Left row names (λ o. going (Retires retirement go) is refl) (calm_at (Retires retirement go) is refl) (left_all (Retires retirement go) is refl)
   by_routine Restarts is names = by_cleared (restart_next t.target x.entry) (λ o. going Restarts is refl) (calm_at Restarts is refl) (left_at Restarts is) names
   by_routine (Clears next) is names = by_cleared (clear_next t.target next x.entry) (by_clear next is) (calm_at (Clears next) is refl) (left_at (Clears next) is) names
-  by_routine (Claims claim) is names = same_row t s c x marks m On Left row names (λ o. going (Claims claim) is refl) (calm_at (Claims claim) is refl) (left_all (Claims claim) is refl)
-  by_routine (Zeroes i field) is names = same_row t s c x marks m On Left row names (λ o. going (Zeroes i field) is refl) (calm_at (Zeroes i field) is refl) (left_all (Zeroes i field) is refl)
   by_routine (Announces announcing) is names = absurd (never announcing is)
+  by_routine r is names = same_row t s c x marks m On Left row names (λ o. going r is refl) (calm_at r is refl) (left_all r is refl)
 
   -- the mover's marks after its step
   pub step_marked : NamesAfter t s c x x.entry.routine row → Marked t k.s' c k.x' (step_marks t.target t.setting x.entry (s.memory (word_of a)) marks)

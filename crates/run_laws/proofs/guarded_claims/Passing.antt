@@ -1,6 +1,6 @@
 -- What the sweeps under way know of a slot that a hazard word names: one that is past the word has gathered the slot, if the name there
 -- was retired before the sweep's phase.
-use Rattle.std.proofs.Common.{ℕ, zero, suc, ◌≡◌, ◌≢◌, ◌==◌, ◌+◌, ◌*◌, ◌≤◌, ◌<◌, ◌∙◌, Bool, true, false, List, Option, Some, None, arith, ⊎_elim, sym, ap, subst, refl, if◌then◌else◌}
+use Rattle.std.proofs.Common.{ℕ, zero, ◌≡◌, ◌≢◌, ◌==◌, ◌+◌, ◌*◌, ◌≤◌, ◌<◌, ◌∙◌, Bool, true, false, List, Option, Some, None, arith, ⊎_elim, sym, ap, subst, refl, if◌then◌else◌}
 use Rattle.std.specs.Prelude.{nat_lt}
 use Rattle.std.proofs.lemmas.Bool.Decides.{nat_tests}
 use Rattle.oa_words.specs.declared.packed.Kind.TheVariants as kinds
@@ -21,7 +21,7 @@ use Rattle.phase_pools.specs.declared.stages.ClaimStage.TheVariants as claims
 use Rattle.phase_pools.specs.Pools.{Claim, Sweep, sweep_accepts_at, sweep_goes, sweep_ends, sweep_on, status_read, made_ready, pushed, claim_accepts_at, claim_goes, claim_ends, look_ended, look_begun, look_took, sweep_follows, sweep_ended}
 use Rattle.phase_pools.proofs.Statuses.{from_slot, from_status}
 use Rattle.caller_parts.specs.declared.routine.Routine.{Routine}
-use Rattle.caller_parts.specs.declared.routine.Routine.TheVariants.{Idle, LoadSeen, At, InList, Retires, Restarts, Clears, Claims, Zeroes, Announces}
+use Rattle.caller_parts.specs.declared.routine.Routine.TheVariants.{Claims}
 use Rattle.oa_simulation.specs.sim_relation.Views.{Plan, Shared}
 use Rattle.oa_simulation.specs.sim_relation.Callers.{SweepAt, ClaimAt}
 use Rattle.oa_simulation.specs.sim_relation.MayChange.{MayChange}
@@ -32,35 +32,21 @@ Knows s j p g = (q : ℕ) → s.tag (s.present j) ≡ Some q → q < p → has_s
 
 -- by where the sweep stands, for the hazard word (d, r)
 abbrev pub KnowsAt : Shared → ℕ → ℕ → ℕ → ℕ → List ℕ → SweepStage → Type 0
-KnowsAt s d r j p g sweeps.ReadPhase = Unit {0}
-KnowsAt s d r j p g (sweeps.RaisePhase q) = Unit {0}
-KnowsAt s d r j p g (sweeps.Warn c) = Unit {0}
 KnowsAt s d r j p g (sweeps.ReadHazard c i) = 8 * d + r < 8 * c + i → Knows s j p g
 KnowsAt s d r j p g (sweeps.ReadStatus i) = Knows s j p g
 KnowsAt s d r j p g (sweeps.MakeReady i q) = Knows s j p g
 KnowsAt s d r j p g (sweeps.PushHead kind i) = Knows s j p g
 KnowsAt s d r j p g (sweeps.PushLink i q top) = Knows s j p g
 KnowsAt s d r j p g (sweeps.PushTop kind i q top) = Knows s j p g
+KnowsAt s d r j p g _ = Unit {0}
 
 abbrev pub KnowsIn : Shared → ℕ → ℕ → ℕ → Sweep → ClaimStage → Type 0
-KnowsIn s d r j sweep claims.ReadHead = Unit {0}
-KnowsIn s d r j sweep (claims.ReadLink q i) = Unit {0}
-KnowsIn s d r j sweep (claims.Take q i next) = Unit {0}
-KnowsIn s d r j sweep (claims.StoreUsed q i) = Unit {0}
-KnowsIn s d r j sweep (claims.Withdraw own) = Unit {0}
 KnowsIn s d r j sweep claims.Sweeps = KnowsAt s d r j sweep.bound sweep.gathered sweep.stage
+KnowsIn s d r j sweep _ = Unit {0}
 
 abbrev pub KnowsWhere : Shared → ℕ → ℕ → ℕ → Routine → Type 0
-KnowsWhere s d r j Idle = Unit {0}
-KnowsWhere s d r j (LoadSeen why) = Unit {0}
-KnowsWhere s d r j At = Unit {0}
-KnowsWhere s d r j (InList k) = Unit {0}
-KnowsWhere s d r j (Retires retirement go) = Unit {0}
-KnowsWhere s d r j Restarts = Unit {0}
-KnowsWhere s d r j (Clears next) = Unit {0}
 KnowsWhere s d r j (Claims claim) = KnowsIn s d r j claim.sweep claim.stage
-KnowsWhere s d r j (Zeroes k field) = Unit {0}
-KnowsWhere s d r j (Announces announcing) = Unit {0}
+KnowsWhere s d r j _ = Unit {0}
 
 -- ---- what a step leaves of it, of which the slot keeps its name: a new tag is at least the phase, which is at least each sweep's
 
@@ -96,22 +82,11 @@ ClaimKnows s d r j claim (Some end) = Unit {0}
 -- the word that is found is the slot, where it is (d, r)
 abbrev pub FindsAt : ℕ → ℕ → ℕ → ℕ → SweepStage → Type 0
 FindsAt d r j word (sweeps.ReadHazard c i) = (i < 8) × (d ≡ c → r ≡ i → word ≡ j)
-FindsAt d r j word sweeps.ReadPhase = Unit {0}
-FindsAt d r j word (sweeps.RaisePhase q) = Unit {0}
-FindsAt d r j word (sweeps.Warn c) = Unit {0}
-FindsAt d r j word (sweeps.ReadStatus i) = Unit {0}
-FindsAt d r j word (sweeps.MakeReady i q) = Unit {0}
-FindsAt d r j word (sweeps.PushHead kind i) = Unit {0}
-FindsAt d r j word (sweeps.PushLink i q top) = Unit {0}
-FindsAt d r j word (sweeps.PushTop kind i q top) = Unit {0}
+FindsAt d r j word _ = Unit {0}
 
 abbrev pub FindsIn : ℕ → ℕ → ℕ → ℕ → Sweep → ClaimStage → Type 0
-FindsIn d r j word sweep claims.ReadHead = Unit {0}
-FindsIn d r j word sweep (claims.ReadLink q i) = Unit {0}
-FindsIn d r j word sweep (claims.Take q i next) = Unit {0}
-FindsIn d r j word sweep (claims.StoreUsed q i) = Unit {0}
-FindsIn d r j word sweep (claims.Withdraw own) = Unit {0}
 FindsIn d r j word sweep claims.Sweeps = FindsAt d r j word sweep.stage
+FindsIn d r j word sweep _ = Unit {0}
 
 module _ (sizes : Sizes) (last : ℕ) (s : Shared) (d r j : ℕ) (low : r < 8) (some : j ≢ 0) where
   on_knows : (sweep : Sweep) (i : ℕ) → Knows s j sweep.bound sweep.gathered → SweepKnows s d r j (sweep_on sizes sweep i).sweep (sweep_on sizes sweep i).ended
@@ -176,9 +151,8 @@ module _ (sizes : Sizes) (last : ℕ) (s : Shared) (d r j : ℕ) (low : r < 8) (
   look_ended_knows : (claim : Claim) → ClaimKnows s d r j (look_ended claim).claim (look_ended claim).ended
   look_ended_knows claim = of (claim.sweeps == 2) where
     follows : (scheme : Scheme) (made : ℕ) → ClaimKnows s d r j (sweep_follows scheme made claim).claim (sweep_follows scheme made claim).ended
-    follows Warned made = tt
     follows (Announced own) zero = tt
-    follows (Announced own) (suc made) = tt
+    follows _ _ = tt
 
     of : (b : Bool) → ClaimKnows s d r j (if b then claim_ends claim ends.Full else sweep_follows claim.sweep.scheme claim.sweeps claim).claim (if b then claim_ends claim ends.Full else sweep_follows claim.sweep.scheme claim.sweeps claim).ended
     of true = tt

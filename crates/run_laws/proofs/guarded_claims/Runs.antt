@@ -23,7 +23,8 @@ use Rattle.core_runs.proofs.Keeping.{idle_wants}
 use Rattle.core_runs.specs.core_sound.Sound.{IsSound}
 use Rattle.oa_simulation.specs.sim_relation.Views.{Plan, IsPlan, Caller}
 use Rattle.oa_simulation.specs.sim_relation.Naming.{present_at}
-use Rattle.oa_simulation.specs.sim_relation.Steps.{NamesAfter, Stepped, TakesReady, after_access, is_between}
+use Rattle.chain_laws.specs.Memories.{after_access}
+use Rattle.oa_simulation.specs.sim_relation.Steps.{NamesAfter, Stepped, TakesReady, is_between}
 use Rattle.oa_simulation.specs.sim_relation.WasSet.{set_after_access}
 use Rattle.oa_simulation.specs.sim_relation.Worlds.{World, Holds}
 use Rattle.oa_simulation.proofs.sim_steps.Dispatching.{steps_keep}

@@ -82,10 +82,8 @@ module _ (target : Target) (sizes : Sizes) (s : Shared) (d r j : ℕ) (some : j 
   stopped_keeps : (e : Entry) → Keeps s d r j e (stopped Optimistic target sizes e).entry
   stopped_keeps e = of (instr_in target e) where
     of : (o : Option TargetInstr) → Keeps s d r j e (stops Optimistic target sizes o e).entry
-    of None = (λ a. a, λ k. tt)
-    of (Some Check) = (λ a. a, λ k. tt)
-    of (Some (Guard r)) = (λ a. a, λ k. tt)
     of (Some (Plain i)) = plain_keeps i e
+    of _ = (λ a. a, λ k. tt)
 
   settles_keeps : (spot : Spot) (e : Entry) → Keeps s d r j e (settles Optimistic target sizes spot e).entry
   settles_keeps spot e = stopped_keeps (with_hand e (hand_at e.hand (target_run (code_in target e) (length (code_in target e)) spot)))
@@ -174,16 +172,8 @@ module _ (target : Target) (sizes : Sizes) (s : Shared) (d r j : ℕ) (some : j 
     of false = on_keeps (with_new (instr_in target e) (cradle_of e k) e.hand.registers) e
 
 abbrev pub is_claiming : Routine → Bool
-is_claiming Idle = false
-is_claiming (LoadSeen why) = false
-is_claiming At = false
-is_claiming (InList k) = false
-is_claiming (Retires retirement go) = false
-is_claiming Restarts = false
-is_claiming (Clears next) = false
 is_claiming (Claims claim) = true
-is_claiming (Zeroes k field) = false
-is_claiming (Announces announcing) = false
+is_claiming _ = false
 
 pub accepted_keeps : (target : Target) (setting : Setting) (s : Shared) (d r j : ℕ) → j ≢ 0 → (word : ℕ) (e : Entry) (routine : Routine) → NeverAnnounces routine → is_claiming routine ≡ false → Keeps s d r j e (accepted Optimistic target setting word (counted e) routine).entry
 accepted_keeps target setting s d r j some word e Idle never other = (λ a. a, λ k. k)

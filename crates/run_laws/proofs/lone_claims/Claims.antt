@@ -1,5 +1,6 @@
 -- The steps of a lone caller in a claim are those of the claim.
-use Rattle.std.proofs.Common.{ℕ, zero, suc, ◌≡◌, ◌∙◌, ◌&&◌, Bool, true, false, List, [], ◌∷◌, Option, Some, None, arith, sym, ap, subst, refl}
+use Rattle.std.proofs.Common.{ℕ, suc, ◌≡◌, ◌∙◌, true, false, List, [], ◌∷◌, Option, Some, None, arith, sym, ap, subst, refl}
+use Rattle.std.proofs.lemmas.Bool.{and_parts}
 use Rattle.target_code.specs.declared.target.Target.{Target}
 use Rattle.oa_words.specs.Words.{Word}
 use Rattle.phase_pools.specs.declared.access.ClaimEnd.{ClaimEnd}
@@ -20,7 +21,7 @@ use Rattle.oa_simulation.specs.Throughout.{on_state}
 use Rattle.run_laws.specs.lone_claims.Lone.{is_claiming, stays_in_claim}
 use Rattle.run_laws.proofs.lone_claims.Pools.{made}
 use Rattle.caller_parts.specs.declared.setting.Reclamation.{Reclamation}
-use Rattle.caller_parts.specs.declared.setting.Reclamation.TheVariants.{Optimistic, Epochs}
+use Rattle.caller_parts.specs.declared.setting.Reclamation.TheVariants.{Epochs}
 
 -- what an entry in a claim wants, and what becomes of it
 claim_wanted : (target : Target) (e : Entry) (claim : Claim) (a : WordAccess) → e.routine ≡ Claims claim → wants target e ≡ Some a → claim_wants claim ≡ a
@@ -37,9 +38,8 @@ claim_after target setting e claim m at = ap (λ (r : Routine). (accepted settin
 
 -- a slot that was gained ends the claim
 gains : (by : Reclamation) (target : Target) (claim : Claim) (sweeps j : ℕ) (e : Entry) → (slot_gained by target sweeps j e).routine ≡ Claims claim → ⊥
-gains Optimistic target claim sweeps j e is = let no : Zeroes _ _ ≡ Claims claim = is in cc
-gains Epochs target claim zero j e is = let no : Zeroes _ _ ≡ Claims claim = is in cc
 gains Epochs target claim (suc swept) j e is = let no : Announces _ ≡ Claims claim = is in cc
+gains _ target claim _ j e is = let no : Zeroes _ _ ≡ Claims claim = is in cc
 
 -- a claim that hasn't ended
 goes : (by : Reclamation) (target : Target) (claim claim' : Claim) (end : Option ClaimEnd) (e : Entry) → (claim_on by target claim end e).entry.routine ≡ Claims claim' → (end ≡ None) × (claim ≡ claim')
@@ -70,10 +70,6 @@ claim_moves target setting before later (Steps d) claim claim' lone m at on =
     let end = goes setting.reclamation target (turn_of setting claim before.memory).claim claim' (turn_of setting claim before.memory).ended (claim_counted (claim_takes claim (before.memory (word_of (claim_wants claim)))) (counted (before.who 0))) (sym (ap (λ (e : Entry). e.routine) (own ∙ goes_on)) ∙ on) in
     (m.4 ∙ ap (made before.memory) (sym wanted_is), end.0, end.1)
 
-both : (a b : Bool) → (a && b) ≡ true → (a ≡ true) × (b ≡ true)
-both true b is = (refl, is)
-both false b is = absurd (let no : false ≡ true = is in cc)
-
 claiming : (r : Routine) → is_claiming r ≡ true → (claim : Claim) × (r ≡ Claims claim)
 claiming (Claims claim) is = (claim, refl)
 claiming _ is = absurd (let no : false ≡ true = is in cc)
@@ -86,7 +82,7 @@ module _ (target : Target) (setting : Setting) (lone : setting.sizes.callers ≡
   still_claims : (events : List CoreEvent) (state later : CoreState) (claim : Claim) → core_run target setting events state ≡ Some later → stays_in_claim target setting events state ≡ true
       → ((view setting later).who 0).routine ≡ Claims claim → is_claiming ((view setting state).who 0).routine ≡ true
   still_claims [] state later claim runs stays at = ap is_claiming (subst (λ (i : CoreState). ((view setting i).who 0).routine ≡ Claims claim) (let same : later ≡ state = cc in same) at)
-  still_claims (event ∷ events) state later claim runs stays at = (both (is_claiming ((view setting state).who 0).routine) (on_state (core_event target setting state event) (stays_in_claim target setting events)) stays).0
+  still_claims (event ∷ events) state later claim runs stays at = (and_parts (is_claiming ((view setting state).who 0).routine) (on_state (core_event target setting state event) (stays_in_claim target setting events)) stays).0
 
   pub along : (events : List CoreEvent) (state later : CoreState) (claim claim' : Claim) → IsSound target setting state → ((view setting state).who 0).routine ≡ Claims claim → P (view setting state).memory claim
       → core_run target setting events state ≡ Some later → stays_in_claim target setting events state ≡ true → ((view setting later).who 0).routine ≡ Claims claim' → P (view setting later).memory claim'
@@ -96,7 +92,7 @@ module _ (target : Target) (setting : Setting) (lone : setting.sizes.callers ≡
       let one : claim ≡ claim' = cc in
       subst (λ (c : Claim). P (view setting later).memory c) one (subst (λ (i : CoreState). P (view setting i).memory claim) same p)
   along (event ∷ events) state later claim claim' sound at p runs stays on =
-      of (along events) (core_event target setting state event) refl runs (both (is_claiming ((view setting state).who 0).routine) (on_state (core_event target setting state event) (stays_in_claim target setting events)) stays).1 where
+      of (along events) (core_event target setting state event) refl runs (and_parts (is_claiming ((view setting state).who 0).routine) (on_state (core_event target setting state event) (stays_in_claim target setting events)) stays).1 where
         of : ((next last : CoreState) (claim claim' : Claim) → IsSound target setting next → ((view setting next).who 0).routine ≡ Claims claim → P (view setting next).memory claim
             → core_run target setting events next ≡ Some last → stays_in_claim target setting events next ≡ true → ((view setting last).who 0).routine ≡ Claims claim' → P (view setting last).memory claim')
             → (o : Option CoreState) → core_event target setting state event ≡ o → run_on o (core_run target setting events) ≡ Some later → on_state o (stays_in_claim target setting events) ≡ true → P (view setting later).memory claim'

@@ -12,7 +12,7 @@ use Rattle.norm_lang.specs.declared.registers.Registers.{Registers}
 use Rattle.norm_lang.specs.declared.text.FieldDecl.{FieldDecl}
 use Rattle.norm_lang.specs.KindFields.{place_of}
 use Rattle.target_code.specs.declared.target.TargetInstr.{TargetInstr}
-use Rattle.target_code.specs.declared.target.TargetInstr.TheVariants.{Plain, Check, Guard}
+use Rattle.target_code.specs.declared.target.TargetInstr.TheVariants.{Plain}
 use Rattle.oa_words.specs.declared.packed.Kind.{Kind}
 use Rattle.oa_words.specs.declared.packed.Kind.TheVariants as kinds
 use Rattle.oa_words.specs.Words.{Word, Phase, Warning, Hazard, Status, FieldOf, Head, Link}
@@ -42,12 +42,14 @@ use Rattle.caller_steps.specs.Signs.{Moved, quiet}
 use Rattle.caller_steps.specs.Wants.{announcing_wanted, clear_wanted, exchange_wanted, instr_wanted, list_wanted, object_exchange, place_exchange, plain_wanted, wanted}
 use Rattle.caller_steps.specs.After.{accepted, counted, claim_counted, claimed, node_made, retired_on, slot_claimed, with_routine}
 use Rattle.oa_simulation.specs.sim_relation.Views.{Plan, Shared, Caller}
-use Rattle.oa_simulation.specs.sim_relation.Shared.{IsOf, SharedHolds}
+use Rattle.oa_simulation.specs.sim_relation.Shared.{SharedHolds}
 use Rattle.oa_simulation.specs.sim_relation.Callers.{CallerHolds, HoldsAt}
 use Rattle.oa_simulation.specs.sim_relation.Naming.{emptied_at, freed_in, named_at, present_at}
-use Rattle.oa_simulation.specs.sim_relation.Steps.{GoesToRetire, after_access}
+use Rattle.oa_simulation.specs.sim_relation.Steps.{GoesToRetire}
 use Rattle.oa_simulation.proofs.sim_relation.Words.{store_again}
 use Rattle.chain_laws.proofs.Routines.{status_tells}
+use Rattle.chain_laws.specs.Chains.{IsOf}
+use Rattle.chain_laws.specs.Memories.{after_access}
 use Rattle.caller_parts.specs.declared.setting.Reclamation.TheVariants.{Optimistic}
 use Rattle.caller_parts.specs.declared.routine.Announcing.{Announcing}
 use Rattle.caller_parts.specs.declared.routine.Announcing.TheVariants as announces
@@ -58,16 +60,9 @@ IsNamed s j = (s.present j ≢ 0) × (has (s.present j) s.source.retired ≡ fal
 
 -- the caller has a slot in a cradle whose `new` stores 0 in its fields, or in its retire routine
 abbrev pub WorksAt : Entry → Routine → ℕ → Type 0
-WorksAt e Idle j = ⊥
-WorksAt e (LoadSeen why) j = ⊥
-WorksAt e At j = ⊥
-WorksAt e (InList k) j = ⊥
 WorksAt e (Retires retirement go) j = retirement.slot ≡ j
-WorksAt e Restarts j = ⊥
-WorksAt e (Clears next) j = ⊥
-WorksAt e (Claims claim) j = ⊥
 WorksAt e (Zeroes k field) j = cradle_of e k ≡ j
-WorksAt e (Announces announcing) j = ⊥
+WorksAt e _ j = ⊥
 
 abbrev pub Works : Entry → ℕ → Type 0
 Works e j = WorksAt e e.routine j
@@ -99,9 +94,8 @@ module _ (m : Word → ℕ) (j : ℕ) where
 
   instr_leaves : (fields : List FieldDecl) (c : ℕ) (o : Option TargetInstr) (registers : Registers) → Leaves m j (instr_wanted fields c o registers)
   instr_leaves fields c None registers = tt
-  instr_leaves fields c (Some Check) registers = refl
-  instr_leaves fields c (Some (Guard r)) registers = refl
   instr_leaves fields c (Some (Plain i)) registers = plain_leaves fields i registers
+  instr_leaves fields c _ registers = refl
 
   list_leaves : (fields : List FieldDecl) (o : Option CasEntry) (registers : Registers) → Leaves m j (list_wanted fields o registers)
   list_leaves fields None registers = tt
@@ -113,8 +107,7 @@ module _ (m : Word → ℕ) (j : ℕ) where
 
   announcing_leaves : (c : ℕ) (announcing : Announcing) → Leaves m j (Some (announcing_wanted c announcing))
   announcing_leaves c (announces.Loads why) = refl
-  announcing_leaves c (announces.Stores why phase) = refl
-  announcing_leaves c (announces.Leaves reply) = refl
+  announcing_leaves c _ = refl
 
   -- a store in the status of another slot
   other_leaves : (i word : ℕ) → j ≢ i → store m (Status i) word (Status j) ≡ m (Status j)

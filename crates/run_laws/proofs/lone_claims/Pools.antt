@@ -1,5 +1,5 @@
 -- The routine of a claim over words that nobody else changes.
-use Rattle.std.proofs.Common.{ℕ, zero, suc, ◌≡◌, ◌≢◌, ◌==◌, ◌+◌, ◌≤◌, ◌<◌, ◌∙◌, Bool, true, false, length, Option, Some, None, arith, ⊎_elim, sym, ap, subst, refl, if◌then◌else◌}
+use Rattle.std.proofs.Common.{ℕ, zero, ◌≡◌, ◌≢◌, ◌==◌, ◌+◌, ◌≤◌, ◌<◌, ◌∙◌, Bool, true, false, length, Option, Some, None, arith, ⊎_elim, sym, ap, subst, refl, if◌then◌else◌}
 use Rattle.std.specs.Prelude.{nat_lt}
 use Rattle.chain_laws.specs.Chains.{top}
 use Rattle.std.proofs.lemmas.Bool.{cases_eq}
@@ -57,18 +57,13 @@ UsedSweep n k (sweeps.MakeReady j q) = OfOther n k j
 UsedSweep n k (sweeps.PushHead i j) = OfOther n k j × (i ≡ kind_of n j)
 UsedSweep n k (sweeps.PushLink j q t) = OfOther n k j
 UsedSweep n k (sweeps.PushTop i j q t) = OfOther n k j × (i ≡ kind_of n j)
-UsedSweep n k sweeps.ReadPhase = Unit {0}
-UsedSweep n k (sweeps.RaisePhase p) = Unit {0}
-UsedSweep n k (sweeps.Warn c) = Unit {0}
-UsedSweep n k (sweeps.ReadHazard c r) = Unit {0}
+UsedSweep n k _ = Unit {0}
 
 abbrev UsedStage : Sizes → ℕ → Sweep → ClaimStage → Type 0
 UsedStage n k sweep claims.ReadHead = Unit {0}
-UsedStage n k sweep (claims.ReadLink q t) = ⊥
-UsedStage n k sweep (claims.Take q t next) = ⊥
-UsedStage n k sweep (claims.StoreUsed q t) = ⊥
 UsedStage n k sweep (claims.Withdraw own) = Unit {0}
 UsedStage n k sweep claims.Sweeps = UsedSweep n k sweep.stage
+UsedStage n k sweep _ = ⊥
 
 abbrev UsedOn : Sizes → Claim → Option ClaimEnd → Type 0
 UsedOn n claim None = UsedStage n claim.kind claim.sweep claim.stage
@@ -77,9 +72,8 @@ UsedOn n claim (Some ends.Full) = Unit {0}
 UsedOn n claim (Some (ends.PhasesOver p)) = Unit {0}
 
 used_follows : (n : Sizes) (claim : Claim) (scheme : Scheme) (count : ℕ) → UsedOn n (sweep_follows scheme count claim).claim (sweep_follows scheme count claim).ended
-used_follows n claim Warned count = tt
 used_follows n claim (Announced own) zero = tt
-used_follows n claim (Announced own) (suc count) = tt
+used_follows n claim _ _ = tt
 
 used_ends : (n : Sizes) (claim : Claim) → UsedOn n (look_ended claim).claim (look_ended claim).ended
 used_ends n claim = of (claim.sweeps == 2) where
@@ -133,9 +127,8 @@ used_stage n last k m sweep (sweeps.Warn c) are some used at = of (nat_lt (c + 1
   of false = used_warned n k sweep.scheme some
 used_stage n last k m sweep (sweeps.ReadHazard c r) are some used at = of (nat_lt (r + 1) 8) (nat_lt (c + 1) n.callers) where
   of : (a b : Bool) → UsedSweep n k (if a then sweeps.ReadHazard c (r + 1) else (if b then sweeps.ReadHazard (c + 1) 0 else sweeps.ReadStatus n.slots))
-  of true b = tt
-  of false true = tt
   of false false = (some, omega arith)
+  of _ _ = tt
 used_stage n last k m sweep (sweeps.ReadStatus j) are some used at = used_read n k m sweep j are used at.0 at.1
 used_stage n last k m sweep (sweeps.MakeReady j q) are some used at = of (m (Status j) == status_word q kinds.Retired) where
   of : (b : Bool) → SweptOn n k (if b then sweep_goes sweep (sweeps.PushHead (kind_of n j) j) else sweep_on n sweep j).sweep (if b then sweep_goes sweep (sweeps.PushHead (kind_of n j) j) else sweep_on n sweep j).ended

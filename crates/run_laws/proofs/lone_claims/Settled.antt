@@ -36,10 +36,10 @@ use Rattle.core_runs.proofs.core_pools.Pooling.{start_pooled}
 use Rattle.target_laws.specs.target_runs.Runnable.{IsRunnable}
 use Rattle.target_laws.proofs.target_runs.SaneTargets.{runnable_is_sane}
 use Rattle.oa_simulation.specs.sim_relation.Views.{Plan, IsPlan, Caller}
-use Rattle.oa_simulation.specs.sim_relation.Shared.{IsOf}
 use Rattle.oa_simulation.specs.sim_relation.Worlds.{World}
 use Rattle.oa_simulation.proofs.sim_steps.Pools.Core.{wants_is}
 use Rattle.chain_laws.proofs.Routines.{status_tells}
+use Rattle.chain_laws.specs.Chains.{IsOf}
 use Rattle.oa_simulation.proofs.sim_steps.Dispatching.{steps_keep}
 use Rattle.oa_simulation.proofs.Starting.{IsFirst}
 use Rattle.oa_simulation.proofs.FirstWords.{first_words}

@@ -22,7 +22,7 @@ use Rattle.phase_pools.specs.Pools.{claim_begun}
 use Rattle.source_machine.specs.declared.state.Memory.{Memory}
 use Rattle.source_machine.specs.declared.state.SourceMachine.{SourceMachine}
 use Rattle.source_machine.specs.Proper.{has}
-use Rattle.chain_laws.specs.Chains.{IsChain, links, times, top}
+use Rattle.chain_laws.specs.Chains.{IsChain, links, times, top, IsOf}
 use Rattle.chain_laws.specs.Laws.{Holds, StandsAt}
 use Rattle.chain_laws.specs.Machine.{Standing, slot_of}
 use Rattle.chain_laws.specs.Machine as pool
@@ -50,7 +50,7 @@ use Rattle.core_runs.proofs.core_pools.Pooling.{leads_hold, leads_tell}
 use Rattle.target_laws.specs.target_runs.Runnable.{IsRunnable}
 use Rattle.chain_laws.proofs.Routines.{status_tells}
 use Rattle.oa_simulation.specs.sim_relation.Views.{Owner, Pool, Dead, Shared}
-use Rattle.oa_simulation.specs.sim_relation.Shared.{Slot, IsOf}
+use Rattle.oa_simulation.specs.sim_relation.Shared.{Slot}
 use Rattle.oa_simulation.specs.sim_relation.Callers.{HoldsAt}
 use Rattle.oa_simulation.specs.Shadow.{shadow}
 use Rattle.oa_simulation.specs.Present.{present_in}

@@ -34,10 +34,9 @@ use Rattle.run_laws.specs.stale_laws.Stale.{caller_name, LoadsFrom}
 -- the source's caller at a load has the registers with which it came there
 name_at : (op : Op) (wrapup : Bool) (started : Registers) (accessed : Bool) (call : Call) (place f : ℕ) (mirror : Registers) (into base r : Reg) → slice_get (code_of op wrapup) place ≡ Some (instr.LoadField into base f)
     → caller_name (Some (stands_at op wrapup started accessed call (record { at = place; registers = mirror }))) r ≡ (reference_in mirror r).node
-name_at op false started accessed call place f mirror into base r here = refl
-name_at op true started true call place f mirror into base r here = refl
 name_at op true started false call place f mirror into base r here =
     ap (λ (o : Option Instr). caller_name (Some (wrap_up_stop false op o (running_at call mirror (InWrapUp place started false)) (caller_of call))) r) here
+name_at op _ started _ call place f mirror into base r here = refl
 
 -- what is known of the base of a load
 pub record Based (t : Plan) (s : Shared) (c : ℕ) (x : Caller) (base : Reg) : Type 0 where

@@ -55,9 +55,8 @@ count_is call count true same none = eqb-true (length call.args) count same
 count_is call count false same none = cc
 
 one_argument : (args : List ℕ) → length args ≡ 1 → args ≡ slice_index args 0 ∷ []
-one_argument [] is = let no : ⊥ = omega (arith, is) in absurd no
 one_argument (a ∷ []) is = refl
-one_argument (a ∷ b ∷ args) is = let no : ⊥ = omega (arith, is) in absurd no
+one_argument _ is = let no : ⊥ = omega (arith, is) in absurd no
 
 no_argument : (args : List ℕ) → length args ≡ 0 → args ≡ []
 no_argument [] is = refl

@@ -103,16 +103,13 @@ counted_once : (nodes : List NodeDecl) → together (kind_nodes nodes) ≤ lengt
 counted_once [] = omega arith
 counted_once (node ∷ nodes) = of node.owner refl (counted_once nodes) where
   of : (owner : ℕ) → node.owner ≡ owner → together (kind_nodes nodes) ≤ length nodes → together (kind_nodes (node ∷ nodes)) ≤ length (node ∷ nodes)
-  of zero is rest = rw is (omega (arith, rest))
-  of (suc zero) is rest = rw is (omega (arith, rest))
-  of (suc (suc zero)) is rest = rw is (omega (arith, rest))
-  of (suc (suc (suc zero))) is rest = rw is (omega (arith, rest))
   of (suc (suc (suc (suc owner)))) is rest =
       let a : (node.owner == 0) ≡ false = grind (arith, nat_tests) in
       let b : (node.owner == 1) ≡ false = grind (arith, nat_tests) in
       let c : (node.owner == 2) ≡ false = grind (arith, nat_tests) in
       let d : (node.owner == 3) ≡ false = grind (arith, nat_tests) in
       rw (a, b, c, d) (omega (arith, rest))
+  of _ is rest = rw is (omega (arith, rest))
 
 -- ---- the report
 

@@ -36,9 +36,8 @@ past_all (x ∷ xs) found zero none is = let z : Some x ≡ None = none in cc
 past_all (x ∷ xs) found (suc i) none is = past_all xs found i none is
 
 steps_of_last : (xs : List Running) (r : Running) → last_steps (xs ++ r ∷ []) ≡ r.steps
-steps_of_last [] r = refl
-steps_of_last (x ∷ []) r = refl
 steps_of_last (x ∷ y ∷ xs) r = steps_of_last (y ∷ xs) r
+steps_of_last _ r = refl
 
 module _ (target : Target) (setting : Setting) (scripts : List (List Call)) (fuel : ℕ) (events : List CoreEvent) (state : CoreState) (c : ℕ) (e : Entry)
     (complete : IsCompleteRun target setting scripts fuel events state) (there : slice_get state.entries c ≡ Some e) where

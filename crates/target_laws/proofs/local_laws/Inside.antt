@@ -3,6 +3,7 @@ use Rattle.std.proofs.Common.{◌≡◌, ℕ, zero, suc, ◌+◌, ◌<◌, Bool,
 use Rattle.std.specs.Prelude.{slice_get, IsTrue, IsSomeAnd, ◌==◌, nat_le}
 use Rattle.std.proofs.lemmas.Bool.Decides.{nat_tests}
 use Rattle.std.proofs.lemmas.Option.{slice_get_within}
+use Rattle.std.proofs.lemmas.Bool.{false_from_ne_true}
 use Rattle.norm_lang.specs.declared.text.RootDecl.{RootDecl}
 use Rattle.norm_lang.specs.declared.text.Instr.{Instr}
 use Rattle.norm_lang.specs.declared.text.Instr.TheVariants as instr
@@ -41,11 +42,6 @@ inside_by roots instr.ReturnNone at to count goes stays range lt = absurd (let n
 inside_by roots instr.Again at to count goes stays range lt = absurd (let no : false ≡ true = goes in cc)
 inside_by roots _ at to count goes stays range lt = falls at to count goes stays lt
 
--- a test that isn't true is false
-pub refuted : (b : Bool) → (IsTrue b → ⊥) → b ≡ false
-refuted true never = absurd (never refl)
-refuted false never = refl
-
 or_right_false : (a b : Bool) → (a || b) ≡ false → b ≡ false
 or_right_false true b is = absurd (let no : true ≡ false = is in cc)
 or_right_false false b is = is
@@ -57,8 +53,8 @@ or_left_false false b is = refl
 pub stays_inside : MethodsStayInside
 stays_inside text number op wrapup normal is at to i there goes =
     let count = length (code_of op wrapup) in
-    let ends : has_wrong_end wrapup i at count ≡ false = refuted _ (keeps_rule text N8 number op wrapup at i normal is there) in
-    let range : has_wrong_range text.roots i count ≡ false = refuted _ (keeps_rule text N13 number op wrapup at i normal is there) in
+    let ends : has_wrong_end wrapup i at count ≡ false = false_from_ne_true _ (keeps_rule text N8 number op wrapup at i normal is there) in
+    let range : has_wrong_range text.roots i count ≡ false = false_from_ne_true _ (keeps_rule text N13 number op wrapup at i normal is there) in
     inside_by text.roots i at to count goes (or_right_false (is_end_of_other wrapup i) (runs_off i at count) ends) range (slice_get_within (code_of op wrapup) at i there)
 
 -- an instruction that control goes on from
@@ -97,7 +93,7 @@ there_is (x ∷ xs) (suc k) lt = let less : k < length xs = omega arith in there
 pub own_end : (text : Text) (number : ℕ) (op : Op) (wrapup : Bool) (at : ℕ) (i : Instr) → IsNormal text → slice_get text.ops number ≡ Some op → slice_get (code_of op wrapup) at ≡ Some i
     → is_end_of_other wrapup i ≡ false
 own_end text number op wrapup at i normal is there =
-    or_left_false (is_end_of_other wrapup i) (runs_off i at (length (code_of op wrapup))) (refuted (has_wrong_end wrapup i at (length (code_of op wrapup))) (keeps_rule text N8 number op wrapup at i normal is there))
+    or_left_false (is_end_of_other wrapup i) (runs_off i at (length (code_of op wrapup))) (false_from_ne_true (has_wrong_end wrapup i at (length (code_of op wrapup))) (keeps_rule text N8 number op wrapup at i normal is there))
 
 pub settles_inside : SettlesInside
 settles_inside text number op wrapup normal is here there lt settles =

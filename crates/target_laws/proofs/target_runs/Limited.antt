@@ -5,12 +5,9 @@ use Rattle.std.specs.List.{list_all}
 use Rattle.std.proofs.lemmas.Bool.{and_parts, leb-true}
 use Rattle.norm_lang.specs.declared.text.FieldKind.TheVariants as holdings
 use Rattle.norm_lang.specs.declared.text.Start.TheVariants as starts
-use Rattle.norm_lang.specs.declared.text.FieldDecl.{FieldDecl}
-use Rattle.norm_lang.specs.declared.text.RootDecl.{RootDecl}
-use Rattle.norm_lang.specs.declared.text.NodeDecl.{NodeDecl}
 use Rattle.norm_lang.specs.LineWords.{is_name}
 use Rattle.norm_lang.specs.Declarations.{is_reserved}
-use Rattle.norm_lang.specs.Limits.{has_between, are_different, are_kinds, are_fields, is_start, are_starts, owners_of, are_nodes, is_root, are_roots}
+use Rattle.norm_lang.specs.Limits.{has_between, are_different, are_kinds, are_fields, owners_of, are_nodes, are_roots}
 use Rattle.target_code.specs.declared.target.TargetInstr.{TargetInstr}
 use Rattle.target_code.specs.declared.target.TargetOp.{TargetOp}
 use Rattle.target_code.specs.declared.target.Target.{Target}
@@ -98,16 +95,3 @@ some_op target within =
     let least = (between 1 16 target.ops several).0 in omega (arith, least)
 
 -- ---- what the limits say of declarations with one kind, for crates that stand on this one alone
-
-pub nodes_filled : (kinds : ℕ) (fields : List FieldDecl) (nodes : List NodeDecl) → kinds ≡ 1 → are_fields kinds fields ≡ true → are_nodes kinds fields nodes ≡ true
-    → list_all (λ node. are_starts (owners_of nodes) fields node.values) nodes ≡ true
-nodes_filled = one.filled
-
-pub roots_are : (kinds : ℕ) (owners : List ℕ) (roots : List RootDecl) → are_roots kinds owners roots ≡ true → list_all (is_root kinds owners) roots ≡ true
-roots_are = one.roots_are
-
-pub root_start : (kinds : ℕ) (owners : List ℕ) (root : RootDecl) → is_root kinds owners root ≡ true → is_start owners root.kind root.start ≡ true
-root_start = one.root_start
-
-pub start_known : (owners : List ℕ) (k j : ℕ) → is_start owners (holdings.Reference k) (starts.Node j) ≡ true → j ≤ length owners
-start_known = one.start_known

@@ -5,7 +5,7 @@ use Rattle.norm_lang.specs.declared.text.Instr.TheVariants as instr
 use Rattle.norm_lang.specs.declared.text.Op.{Op}
 use Rattle.norm_lang.specs.declared.text.Text.{Text}
 use Rattle.norm_lang.specs.Local.{Spot, go_on, local_at, local_run}
-use Rattle.norm_lang.specs.Flow.{IsCycle, goes_to}
+use Rattle.norm_lang.specs.Flow.{IsCycle, goes_to, is_end}
 use Rattle.norm_lang.specs.PathRules.{is_blind, is_commit}
 use Rattle.norm_lang.specs.Kept.{code_of}
 use Rattle.norm_lang.specs.NormalForm.{IsNormal}
@@ -45,13 +45,6 @@ is_access (instr.New d kind) = true
 is_access (instr.Put a f b) = true
 is_access (instr.Cas entry l) = true
 is_access _ = false
-
--- an instruction ends an operation, or begins it again
-abbrev pub is_end : Instr → Bool
-is_end (instr.Return a) = true
-is_end instr.ReturnNone = true
-is_end instr.Again = true
-is_end _ = false
 
 -- local code may stop at an instruction: of a generator at an access or a commit, of a wrap-up (`true`) at an access or an end
 abbrev pub may_stop : Bool → Instr → Bool

@@ -38,21 +38,17 @@ pub load_allowed : (key : Fixed) (slots id : ℕ) (me : Me ℕ SeatView) (e : En
 load_allowed key slots id me e at good can = let n = name key me e (codes.Load at) can in of n.named n.can n.is where
   of : (a : WordAccess) → CanMake key me e a → located key.setting.sizes a ≡ codes.Load at → Free key slots id me at (λ n. n) (Made e me)
   of (Loads w) make is = made_at key slots id me e (Loads w) at good make (let same : address_of key.setting.sizes w ≡ at = cc in same)
-  of (Stores w x) make is = absurd cc
-  of (Exchanges w x y) make is = absurd cc
-  of (Raises w x) make is = absurd cc
+  of _ make is = absurd cc
 
 pub store_put : (key : Fixed) (slots id : ℕ) (me : Me ℕ SeatView) (e : Entry) (at x : ℕ) → IsGround key → CanStep key me e (codes.Store at x) → Free key slots id me at (λ _. x) (λ _. Made e me 0)
 store_put key slots id me e at x good can = let n = name key me e (codes.Store at x) can in of n.named n.can n.is where
   of : (a : WordAccess) → CanMake key me e a → located key.setting.sizes a ≡ codes.Store at x → Free key slots id me at (λ _. x) (λ _. Made e me 0)
-  of (Loads w) make is = absurd cc
   of (Stores w y) make is =
       let there : address_of key.setting.sizes w ≡ at = cc in
       let same : y ≡ x = cc in
       subst (λ (k : ℕ). Free key slots id me k (λ _. x) (λ _. Made e me 0)) there
       (subst (λ (v : ℕ). Free key slots id me (address_of key.setting.sizes w) (λ _. v) (λ _. Made e me 0)) same (row key me e (Stores w y) good make, store_allowed key slots id me e w y make))
-  of (Exchanges w y z) make is = absurd cc
-  of (Raises w y) make is = absurd cc
+  of _ make is = absurd cc
 
 either_if : (b : Bool) (x y : ℕ) → (if b then x else y) ≡ either b x y
 either_if true x y = refl
@@ -61,26 +57,22 @@ either_if false x y = refl
 pub exchange_allowed : (key : Fixed) (slots id : ℕ) (me : Me ℕ SeatView) (e : Entry) (at x y : ℕ) → IsGround key → CanStep key me e (codes.CompareExchange at x y) → Free key slots id me at (λ n. either (n == x) y n) (Made e me)
 exchange_allowed key slots id me e at x y good can = let n = name key me e (codes.CompareExchange at x y) can in of n.named n.can n.is where
   of : (a : WordAccess) → CanMake key me e a → located key.setting.sizes a ≡ codes.CompareExchange at x y → Free key slots id me at (λ n. either (n == x) y n) (Made e me)
-  of (Loads w) make is = absurd cc
-  of (Stores w z) make is = absurd cc
   of (Exchanges w expected replacement) make is =
       let there : address_of key.setting.sizes w ≡ at = cc in
       let first : expected ≡ x = cc in
       let second : replacement ≡ y = cc in
       let f : (λ (n : ℕ). if n == expected then replacement else n) ≡ (λ (n : ℕ). either (n == x) y n) = (λ i n. either_if (n == first i) (second i) n i) in
       subst (λ (g : ℕ → ℕ). Free key slots id me at g (Made e me)) f (made_at key slots id me e (Exchanges w expected replacement) at good make there)
-  of (Raises w z) make is = absurd cc
+  of _ make is = absurd cc
 
 pub raise_allowed : (key : Fixed) (slots id : ℕ) (me : Me ℕ SeatView) (e : Entry) (at x : ℕ) → IsGround key → CanStep key me e (codes.FetchMax at x) → Free key slots id me at (λ n. max n x) (Made e me)
 raise_allowed key slots id me e at x good can = let n = name key me e (codes.FetchMax at x) can in of n.named n.can n.is where
   of : (a : WordAccess) → CanMake key me e a → located key.setting.sizes a ≡ codes.FetchMax at x → Free key slots id me at (λ n. max n x) (Made e me)
-  of (Loads w) make is = absurd cc
-  of (Stores w z) make is = absurd cc
-  of (Exchanges w y z) make is = absurd cc
   of (Raises w z) make is =
       let there : address_of key.setting.sizes w ≡ at = cc in
       let same : z ≡ x = cc in
       subst (λ (v : ℕ). Free key slots id me at (λ n. max n v) (Made e me)) same (made_at key slots id me e (Raises w z) at good make there)
+  of _ make is = absurd cc
 
 -- each of them
 pub may_make : (key : Fixed) (slots id : ℕ) (me : Me ℕ SeatView) (e : Entry) (access : Access) → IsGround key → CanStep key me e access → MayMake key slots id me e access

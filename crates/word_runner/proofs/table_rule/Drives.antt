@@ -6,7 +6,7 @@ use Rattle.caller_steps.specs.Entries.{Entry, RoomyEntry, is_idle}
 use Rattle.core_runs.proofs.Advancing.{advances_more}
 use Rattle.word_runner.specs.table_rule.Seen.{Fixed, SeatView}
 use Rattle.word_runner.specs.table_rule.Plays.{with_accesses, with_entry, next, IsTold, AreTold, Steps, CanGo}
-use Rattle.word_runner.specs.table_rule.Drives.{Went, Driving, Ran}
+use Rattle.word_runner.specs.table_rule.Drives.{Went, Driving}
 
 pub can_again : (key : Fixed) (me : Me ℕ SeatView) (e : RoomyEntry) (budget left : ℕ) (me' : Me ℕ SeatView) (e' : RoomyEntry) → CanGo key me e.core → Driving key me e budget left me' e' → is_idle e'.core.routine ≡ false → CanGo key me' e'.core
 can_again key me e budget left me' e' can d busy =
@@ -61,13 +61,4 @@ drive_more key me e budget left mid m me' e' some d busy went = record {
         ∙ ap (λ (n : ℕ). let y : Me ℕ SeatView = (record (with_entry me.0 e'.core) { accesses = n }, []) in y) (let sum : (me.0.accesses + d.steps) + 1 ≡ me.0.accesses + (d.steps + 1) = omega arith in sum));
     belongs = went.belongs;
   };
-}
-
-pub driven : (key : Fixed) (me : Me ℕ SeatView) (e : RoomyEntry) (budget left : ℕ) (me' : Me ℕ SeatView) (e' : RoomyEntry) → Driving key me e budget left me' e' → (is_idle e'.core.routine ≡ false → left ≡ 0) → Ran key me e budget me' e'
-driven key me e budget left me' e' d ended = record {
-  steps = d.steps;
-  some = d.some;
-  few = let q = d.count in omega arith;
-  drove = d.drove;
-  whole = λ busy. let z = ended busy in let q = d.count in omega arith;
 }

@@ -32,10 +32,6 @@ abbrev Rising : ℕ → List Entry → Type 0
 Rising k [] = Unit {0}
 Rising k (e ∷ es) = (k ≤ e.number) × Rising e.number es
 
-rising_less : (j k : ℕ) (es : List Entry) → j ≤ k → Rising k es → Rising j es
-rising_less j k [] le h = tt
-rising_less j k (e ∷ es) le h = (omega (arith, h.0), h.1)
-
 times_cons_none : (k : ℕ) (e : Entry) (es : List Entry) → e.number ≢ k → times k (e ∷ es) ≡ times k es
 times_cons_none k e es ne = ap (λ (b : Bool). (if b then 1 else 0) + times k es) (ne_eqb e.number k ne) ∙ zero-add (times k es)
 

@@ -15,16 +15,13 @@ module _ {X : Type 0} where
   slice_get_set_same (x ∷ xs) (suc i) a b e = slice_get_set_same xs i a b e
 
   pub slice_get_set_other : (l : List X) (i j : ℕ) (a : X) → j ≢ i → slice_get (set l i a) j ≡ slice_get l j
-  slice_get_set_other [] i j a n = refl
   slice_get_set_other (x ∷ xs) zero zero a n = absurd (n refl)
-  slice_get_set_other (x ∷ xs) zero (suc j) a n = refl
-  slice_get_set_other (x ∷ xs) (suc i) zero a n = refl
   slice_get_set_other (x ∷ xs) (suc i) (suc j) a n = slice_get_set_other xs i j a (λ e. n (ap suc e))
+  slice_get_set_other _ _ _ a n = refl
 
   pub set_set : (l : List X) (i : ℕ) (a b : X) → set (set l i a) i b ≡ set l i b
-  set_set [] i a b = refl
-  set_set (x ∷ xs) zero a b = refl
   set_set (x ∷ xs) (suc i) a b = ap (λ t. x ∷ t) (set_set xs i a b)
+  set_set _ _ a b = refl
 
   pub set_again : (xs : List X) (i : ℕ) (e : X) → slice_get xs i ≡ Some e → set xs i e ≡ xs
   set_again [] i e h = refl

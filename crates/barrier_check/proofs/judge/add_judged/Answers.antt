@@ -5,9 +5,10 @@ use Rattle.target_code.specs.declared.target.TargetOp.{TargetOp}
 use Rattle.norm_check.specs.KeptTable.{AreKeptBelow}
 use Rattle.barrier_check.proofs.Parts.{one_operation_further}
 use Rattle.barrier_check.proofs.Whole.{all_operations}
-use Rattle.norm_check.proofs.Tables.{item_stands, op_within, one_kept_further, all_kept}
+use Rattle.norm_check.proofs.Tables.{item_stands, one_kept_further, all_kept}
 use Rattle.barrier_check.proofs.Tables.{target_op_within}
 use Rattle.barrier_check.proofs.judge.add_judged.Goals as goal
+use Rattle.norm_paths.proofs.Founding.{op_within}
 
 pub judge_op-requires-clause-within : goal.judge_op-requires-clause-within
 judge_op-requires-clause-within c =

@@ -1,7 +1,7 @@
 use Rattle.std.proofs.Common.{ℕ, ◌∙◌, ap}
 use Rattle.std.specs.Prelude.{◌==◌}
 use Rattle.std.specs.List.{list_all}
-use Rattle.caller_rows.proofs.Arguments.{array_has_arguments}
+use Rattle.norm_lang.proofs.Arguments.{array_has_arguments}
 use Rattle.caller_rows.proofs.steps.is_call_of.Goals as goal
 
 pub returns-in-Some : goal.returns-in-Some

@@ -6,5 +6,5 @@ use Rattle.certificates.proofs.spelling.put_begin.Goals as goal
 
 pub returns : goal.returns
 returns c =
-    begin_in_steps c.args.out.now.items c.extend_from_slice.new.self.items c.put_number.new.out.items c.put_call.new.out.items c.push.new.self.items c.args.caller
+    begin_in_steps c.args.out.now.items c.extend_from_slice.new.self.items c.put_decimal.new.out.items c.put_call.new.out.items c.push.new.self.items c.args.caller
     (call_words (option_copied c.args.op) c.args.words.now) (search rules) (search rules) (search rules) (search rules)

@@ -1,7 +1,8 @@
 use Rattle.std.proofs.Common.{subst}
 use Rattle.core_runs.specs.Replays.{Replaying}
 use Rattle.oa_core.specs.Finals.{Answers}
-use Rattle.oa_core.specs.Shown.{replay_by, replayed_from}
+use Rattle.replay_steps.specs.Turns.{replayed_from}
+use Rattle.oa_core.specs.Shown.{replay_by}
 use Rattle.oa_core.proofs.replaying.replay_by.Goals as goal
 
 pub returns-in-Ok-clause-replayed : goal.returns-in-Ok-clause-replayed

@@ -1,8 +1,10 @@
 use Rattle.std.proofs.Common.{sym, subst, ap, ◌∙◌}
 use Rattle.std.specs.Prelude.{Result, IfOk}
 use Rattle.oa_core.specs.declared.replaying.ReplayError.{ReplayError}
-use Rattle.oa_core.specs.Finals.{Final, Answers, HasRooms}
-use Rattle.oa_core.specs.Shown.{Terms, replay_by, shown, replayed_from, answer_of}
+use Rattle.replay_steps.specs.Entries.{HasRooms}
+use Rattle.replay_steps.specs.Turns.{replayed_from}
+use Rattle.oa_core.specs.Finals.{Final, Answers}
+use Rattle.oa_core.specs.Shown.{Terms, replay_by, shown, answer_of}
 use Rattle.oa_core.proofs.Ending.{answers_so, rooms_so}
 use Rattle.oa_core.proofs.replaying.replay_from.Goals as goal
 

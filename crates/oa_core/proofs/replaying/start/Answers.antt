@@ -2,7 +2,8 @@ use Rattle.std.proofs.Common.{refl, ap, ◌∙◌, subst}
 use Rattle.caller_parts.specs.Settings.{IsSetting}
 use Rattle.core_runs.specs.Machine.{core_start}
 use Rattle.barrier_check.specs.Paired.{Paired, IsSound}
-use Rattle.oa_core.specs.Shown.{Terms, fresh_entries}
+use Rattle.replay_steps.specs.Entries.{fresh_entries}
+use Rattle.oa_core.specs.Shown.{Terms}
 use Rattle.oa_core.proofs.Entering.{starts_at, starts_under_way}
 use Rattle.oa_core.proofs.replaying.start.Goals as goal
 

@@ -24,7 +24,8 @@ use Rattle.oa_simulation.specs.sim_relation.Callers.{Base, Committed, InExecutor
 use Rattle.caller_steps.specs.Signs.{Accesses, quiet, told}
 use Rattle.oa_simulation.specs.sim_relation.Points.{point}
 use Rattle.oa_simulation.proofs.sim_relation.Playing.{plays_first}
-use Rattle.oa_simulation.specs.sim_relation.Steps.{Kept, after_access}
+use Rattle.chain_laws.specs.Memories.{after_access}
+use Rattle.oa_simulation.specs.sim_relation.Steps.{Kept}
 use Rattle.oa_simulation.proofs.sim_relation.Moving.{goes_same}
 use Rattle.oa_simulation.proofs.sim_steps.Exchanges.Exchanging.{Offers, tests_agree}
 use Rattle.oa_simulation.proofs.sim_steps.Walks.Committing.{list_ends}

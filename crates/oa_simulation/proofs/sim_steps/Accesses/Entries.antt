@@ -10,6 +10,7 @@ use Rattle.norm_lang.specs.declared.text.Instr.TheVariants as instr
 use Rattle.norm_lang.specs.declared.registers.Registers.{Registers}
 use Rattle.norm_lang.specs.InstructionRules.{has_wrong_operand, retires_stranger}
 use Rattle.norm_lang.specs.NormalForm.{IsNormal}
+use Rattle.norm_lang.specs.Registers.{node_in}
 use Rattle.target_code.specs.declared.target.TargetInstr.{TargetInstr}
 use Rattle.target_code.specs.declared.target.TargetInstr.TheVariants.{Plain}
 use Rattle.target_code.specs.Erasing.{source_place}
@@ -22,6 +23,7 @@ use Rattle.source_machine.specs.Memory.{value_in, exchange}
 use Rattle.source_machine.specs.Proper.{has, IsOnce}
 use Rattle.source_machine.specs.Run.{is_enabled_for}
 use Rattle.source_machine.specs.Step.{caller_turn}
+use Rattle.source_machine.specs.MethodRuns.{name_in}
 use Rattle.caller_parts.specs.declared.routine.AfterRetire.TheVariants as onward
 use Rattle.caller_parts.specs.declared.routine.Routine.{Routine}
 use Rattle.caller_parts.specs.declared.routine.Routine.TheVariants.{InList, Retires}
@@ -33,7 +35,7 @@ use Rattle.caller_steps.specs.After.{counted, with_published, with_routine, reti
 use Rattle.target_laws.specs.Methods.{code_in}
 use Rattle.target_laws.proofs.Forms.{instructions_are_in_form}
 use Rattle.target_laws.proofs.FreshRules.{open_reads_are_not_fresh}
-use Rattle.run_ahead.specs.Agreeing.{Agree, node_in}
+use Rattle.run_ahead.specs.Agreeing.{Agree}
 use Rattle.run_ahead.specs.Standing.{stands_in_list}
 use Rattle.run_ahead.proofs.Lists.{lists_are_made}
 use Rattle.run_ahead.proofs.Plain.{kind_right}
@@ -41,11 +43,12 @@ use Rattle.run_ahead.specs.Typed.{AreAskedBy}
 use Rattle.run_ahead.specs.TypedCallers.{IsTypedCaller}
 use Rattle.run_ahead.proofs.Asked.{lists_find_kinds}
 use Rattle.run_ahead.specs.Ahead.{erasing}
-use Rattle.oa_simulation.specs.sim_relation.Views.{Plan, IsPlan, Shared, Caller, name_of}
+use Rattle.oa_simulation.specs.sim_relation.Views.{Plan, IsPlan, Shared, Caller}
 use Rattle.oa_simulation.specs.sim_relation.Shared.{SharedHolds}
 use Rattle.oa_simulation.specs.sim_relation.Callers.{CallerHolds, HoldsAt, IsRetiring, Shown, Base, Trail, Walks, Guards, InExecutor, AfterExchange, spot_of}
 use Rattle.oa_simulation.specs.sim_relation.Points.{StaysProper, IsProperPoint, point, played, makes, done}
-use Rattle.oa_simulation.specs.sim_relation.Steps.{Kept, after_access}
+use Rattle.chain_laws.specs.Memories.{after_access}
+use Rattle.oa_simulation.specs.sim_relation.Steps.{Kept}
 use Rattle.oa_simulation.proofs.sim_relation.Codes.{instr_is}
 use Rattle.oa_simulation.proofs.sim_relation.Playing.{PlaysEvent, plays_one, plays_first}
 use Rattle.oa_simulation.proofs.sim_steps.Walks.Committing.{list_ends}
@@ -100,18 +103,18 @@ emptied_at slot (x ∷ xs) zero some = ⊎_elim
     (eqb_tells x slot)
 emptied_at slot (x ∷ xs) (suc i) some = emptied_at slot xs i some
 
-pub left_at : (t : Plan) (r : Reg) (core mirror : Registers) (cradles : List ℕ) (i : ℕ) → slot_in core r ≡ t.home (name_of (value_in mirror r)) → slice_index (cradles_after r core cradles) i ≢ 0
-    → (slice_index (cradles_after r core cradles) i ≡ slice_index cradles i) × (name_of (value_in mirror r) ≢ 0 → slice_index (cradles_after r core cradles) i ≢ t.home (name_of (value_in mirror r)))
+pub left_at : (t : Plan) (r : Reg) (core mirror : Registers) (cradles : List ℕ) (i : ℕ) → slot_in core r ≡ t.home (name_in (value_in mirror r)) → slice_index (cradles_after r core cradles) i ≢ 0
+    → (slice_index (cradles_after r core cradles) i ≡ slice_index cradles i) × (name_in (value_in mirror r) ≢ 0 → slice_index (cradles_after r core cradles) i ≢ t.home (name_in (value_in mirror r)))
 left_at t (Num r) core mirror cradles i agree some = (refl, (λ none. absurd (none refl)))
 left_at t (Ref r) core mirror cradles i agree some = let left = emptied_at (slot_in core (Ref r)) cradles i some in (left.0, (λ named z. left.1 (z ∙ sym agree)))
 
-pub slot_agrees : (t : Plan) (core mirror : Registers) (entry : CasEntry) → t.home 0 ≡ 0 → Agree t.home core mirror entry.replacement → slot_in core entry.replacement ≡ t.home (name_of (value_in mirror entry.replacement))
+pub slot_agrees : (t : Plan) (core mirror : Registers) (entry : CasEntry) → t.home 0 ≡ 0 → Agree t.home core mirror entry.replacement → slot_in core entry.replacement ≡ t.home (name_in (value_in mirror entry.replacement))
 slot_agrees t core mirror entry null_home agrees = of entry.replacement refl where
-  of : (r : Reg) → entry.replacement ≡ r → slot_in core entry.replacement ≡ t.home (name_of (value_in mirror entry.replacement))
-  of (Num r) is = ap (slot_in core) is ∙ (sym null_home ∙ ap (λ (a : Reg). t.home (name_of (value_in mirror a))) (sym is))
+  of : (r : Reg) → entry.replacement ≡ r → slot_in core entry.replacement ≡ t.home (name_in (value_in mirror entry.replacement))
+  of (Num r) is = ap (slot_in core) is ∙ (sym null_home ∙ ap (λ (a : Reg). t.home (name_in (value_in mirror a))) (sym is))
   of (Ref r) is = by agrees is where
-    by : Agree t.home core mirror entry.replacement → entry.replacement ≡ Ref r → slot_in core entry.replacement ≡ t.home (name_of (value_in mirror entry.replacement))
-    by agree is = ap (slot_in core) is ∙ ((subst (λ (a : Reg). Agree t.home core mirror a) is agree).0 ∙ ap (λ (a : Reg). t.home (name_of (value_in mirror a))) (sym is))
+    by : Agree t.home core mirror entry.replacement → entry.replacement ≡ Ref r → slot_in core entry.replacement ≡ t.home (name_in (value_in mirror entry.replacement))
+    by agree is = ap (slot_in core) is ∙ ((subst (λ (a : Reg). Agree t.home core mirror a) is agree).0 ∙ ap (λ (a : Reg). t.home (name_in (value_in mirror a))) (sym is))
 
 pub known_now : (t : Plan) (s : Shared) (n : ℕ) → (n ≡ 0) ⊎ ((published_if t s n).public n ≡ true)
 known_now t s n = ⊎_elim (λ (z : n ≡ 0). inl z) (λ (some : n ≢ 0). inr (public_now t s n some)) (cases_eq n 0)
@@ -141,7 +144,7 @@ once_after t c s x m k entry entries after w some =
     subst IsOnce (ap (λ turn. turn.memory.retired) turned) proper.once
 
 tried : (t : Plan) (c : ℕ) (s : Shared) (x : Caller) (m : Trail t) (k : ℕ) (entry : CasEntry) (entries : List CasEntry) (after : Memory) → Tries t c s x m k entry entries → exchange t.text.fields entry m.mirror s.source ≡ Some after
-    → Tried t s c x.entry.hand.registers m.mirror entry (name_of (value_in m.mirror entry.replacement)) after
+    → Tried t s c x.entry.hand.registers m.mirror entry (name_in (value_in m.mirror entry.replacement)) after
 tried t c s x m k entry entries after w some =
     let plan = w.before.plan in
     let form = instructions_are_in_form t.target t.text plan.compiled.normal plan.compiled.barred.erases m.walk.method x.entry.hand.at (instr.Commit entries) w.here in
@@ -151,7 +154,7 @@ tried t c s x m k entry entries after w some =
       offers = w.offers;
       right = none_passes (has_wrong_operand t.text.fields t.text.roots) entries k entry (kind_right m.walk.method (erasing plan.compiled) x.entry.hand.at (instr.Commit entries) w.here) w.one;
       publishes = w.offers.new;
-      known = known_now t s (name_of (value_in m.mirror entry.replacement));
+      known = known_now t s (name_in (value_in m.mirror entry.replacement));
       object = λ q g is. w.shown q (open_reads_are_not_fresh t.target t.text plan.compiled.normal plan.compiled.barred.erases m.walk.method m.path x.entry.hand.at (instr.Commit entries) (Ref q)
           (record { leads = w.walks.ahead.path_is; stands = w.here }) (object_openly q g entries k entry w.one is));
       kin = none_passes retires_stranger entries k entry form.retired w.one;
@@ -160,8 +163,8 @@ tried t c s x m k entry entries after w some =
     }
 
 -- the entry enters, in what both machines come to
-enters_at : (t : Plan) (c : ℕ) (s s' : Shared) (x : Caller) (m : Trail t) (k : ℕ) (entry : CasEntry) (entries : List CasEntry) → Tries t c s x m k entry entries → Done t s s' c x.entry.hand.registers m.mirror entry (name_of (value_in m.mirror entry.replacement))
-    → Enters t s s' c x m k (name_of (value_in m.mirror entry.replacement)) entry (cradles_after entry.replacement x.entry.hand.registers x.entry.cradles)
+enters_at : (t : Plan) (c : ℕ) (s s' : Shared) (x : Caller) (m : Trail t) (k : ℕ) (entry : CasEntry) (entries : List CasEntry) → Tries t c s x m k entry entries → Done t s s' c x.entry.hand.registers m.mirror entry (name_in (value_in m.mirror entry.replacement))
+    → Enters t s s' c x m k (name_in (value_in m.mirror entry.replacement)) entry (cradles_after entry.replacement x.entry.hand.registers x.entry.cradles)
 enters_at t c s s' x m k entry entries w d = record {
   plan = w.before.plan;
   shared_holds = w.before.shared_holds;
@@ -184,14 +187,14 @@ EntryKept t c s x k entry j =
     (told (Accesses ∷ []) (retires_then Optimistic t.target t.setting.sizes (onward.List k) j (record (counted x.entry) { cradles = cradles_after entry.replacement x.entry.hand.registers x.entry.cradles })))
 
 -- where nothing is retired the next entry follows, or the wrap-up's start
-keeps_on : (t : Plan) (c : ℕ) (s s' : Shared) (x : Caller) (m : Trail t) (k : ℕ) (entry : CasEntry) (entries : List CasEntry) → Tries t c s x m k entry entries → Done t s s' c x.entry.hand.registers m.mirror entry (name_of (value_in m.mirror entry.replacement))
+keeps_on : (t : Plan) (c : ℕ) (s s' : Shared) (x : Caller) (m : Trail t) (k : ℕ) (entry : CasEntry) (entries : List CasEntry) → Tries t c s x m k entry entries → Done t s s' c x.entry.hand.registers m.mirror entry (name_in (value_in m.mirror entry.replacement))
     → s'.memory ≡ after_access s.memory (exchange_wanted t.target.fields entry x.entry.hand.registers) → to_retire entry.retire x.entry.hand.registers ≡ 0 → EntryKept t c s x k entry 0
 keeps_on t c s s' x m k entry entries w d memory none = of (nat_lt (k + 1) (length (list_of (instr_in t.target x.entry)))) (λ routine. enters t s s' c x m k n entry cradles routine (enters_at t c s s' x m k entry entries w d)) where
   old : (i : ℕ) → has i s'.source.retired ≡ true → has i s.source.retired ≡ true
   old i is = ⊎_elim (λ (was : has i s.source.retired ≡ true). was) (λ (now : (to_retire entry.retire x.entry.hand.registers ≡ t.home i) × (t.home i ≢ 0)). absurd (now.1 (sym now.0 ∙ none))) (d.retires i is)
 
   n : ℕ
-  n = name_of (value_in m.mirror entry.replacement)
+  n = name_in (value_in m.mirror entry.replacement)
 
   cradles : List ℕ
   cradles = cradles_after entry.replacement x.entry.hand.registers x.entry.cradles
@@ -240,12 +243,12 @@ keeps_on t c s s' x m k entry entries w d memory none = of (nat_lt (k + 1) (leng
       }
 
 -- and a name that is retired goes into the retire routine
-retires_on : (t : Plan) (c : ℕ) (s s' : Shared) (x : Caller) (m : Trail t) (k : ℕ) (entry : CasEntry) (entries : List CasEntry) (j n : ℕ) → Tries t c s x m k entry entries → Done t s s' c x.entry.hand.registers m.mirror entry (name_of (value_in m.mirror entry.replacement))
+retires_on : (t : Plan) (c : ℕ) (s s' : Shared) (x : Caller) (m : Trail t) (k : ℕ) (entry : CasEntry) (entries : List CasEntry) (j n : ℕ) → Tries t c s x m k entry entries → Done t s s' c x.entry.hand.registers m.mirror entry (name_in (value_in m.mirror entry.replacement))
     → s'.memory ≡ after_access s.memory (exchange_wanted t.target.fields entry x.entry.hand.registers) → IsRetiring s' c (suc j) n None → to_retire entry.retire x.entry.hand.registers ≡ suc j → EntryKept t c s x k entry (suc j)
 retires_on t c s s' x m k entry entries j n w d memory retiring slot =
     let cradles = cradles_after entry.replacement x.entry.hand.registers x.entry.cradles in
     let routine = Retires (retire_begun (suc j)) (onward.List k) in
-    let e = enters t s s' c x m k (name_of (value_in m.mirror entry.replacement)) entry (cradles_after entry.replacement x.entry.hand.registers x.entry.cradles) (Retires (retire_begun (suc j)) (onward.List k)) (enters_at t c s s' x m k entry entries w d) in
+    let e = enters t s s' c x m k (name_in (value_in m.mirror entry.replacement)) entry (cradles_after entry.replacement x.entry.hand.registers x.entry.cradles) (Retires (retire_begun (suc j)) (onward.List k)) (enters_at t c s s' x m k entry entries w d) in
     let y = entered t c s s' x (cradles_after entry.replacement x.entry.hand.registers x.entry.cradles) (Retires (retire_begun (suc j)) (onward.List k)) in
     record {
       s' = s';
@@ -272,7 +275,7 @@ made_kept t c s x m k entry entries after w some =
     subst (λ (z : Bool). Kept t c s x (after_access s.memory (exchange_wanted t.target.fields entry x.entry.hand.registers))
     (told (Accesses ∷ []) (if z then retires_then Optimistic t.target t.setting.sizes (onward.List k) (to_retire entry.retire x.entry.hand.registers) (with_published entry.replacement (counted x.entry)) else quiet (list_ended t.target t.setting.sizes k (counted x.entry))))) (sym succeeded)
     (subst (λ (e : Entry). Kept t c s x (after_access s.memory (exchange_wanted t.target.fields entry x.entry.hand.registers)) (told (Accesses ∷ []) (retires_then Optimistic t.target t.setting.sizes (onward.List k) (to_retire entry.retire x.entry.hand.registers) e))) (sym (published_entry entry.replacement (counted x.entry)))
-    (by_retirement t s c x.entry.hand.registers m.mirror entry (name_of (value_in m.mirror entry.replacement)) after (tried t c s x m k entry entries after w some) (EntryKept t c s x k entry)
+    (by_retirement t s c x.entry.hand.registers m.mirror entry (name_in (value_in m.mirror entry.replacement)) after (tried t c s x m k entry entries after w some) (EntryKept t c s x k entry)
     (λ s' d none. keeps_on t c s s' x m k entry entries w d (d.memory ∙ words) none)
     (λ s' j n d retiring slot. retires_on t c s s' x m k entry entries j n w d (d.memory ∙ words) retiring slot)))
 

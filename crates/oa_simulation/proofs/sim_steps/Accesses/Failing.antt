@@ -35,7 +35,8 @@ use Rattle.oa_simulation.specs.sim_relation.Callers.{Calm, Base, Trail, Stands, 
 use Rattle.caller_steps.specs.Signs.{Accesses, told}
 use Rattle.oa_simulation.specs.sim_relation.Points.{point}
 use Rattle.oa_simulation.proofs.sim_relation.Playing.{PlaysEvent, plays_first}
-use Rattle.oa_simulation.specs.sim_relation.Steps.{KeptSetting, after_access}
+use Rattle.chain_laws.specs.Memories.{after_access}
+use Rattle.oa_simulation.specs.sim_relation.Steps.{KeptSetting}
 use Rattle.oa_simulation.specs.sim_relation.WasSet.{set_exchanged, set_plain}
 use Rattle.oa_simulation.proofs.sim_relation.Words.{store_idle}
 use Rattle.oa_simulation.proofs.sim_steps.Walks.Along.{walks_along, guards_along, gets_along}

@@ -1,7 +1,7 @@
 -- A load of the text: what the core finds is what the source finds, unless the caller was warned.
 use Rattle.std.proofs.Common.{ℕ, zero, suc, ◌≡◌, ◌≢◌, ◌==◌, ◌+◌, ◌*◌, ◌/◌, ◌%◌, ◌<◌, ◌⊎◌, ◌∙◌, ◌||◌, not, Bool, true, false, List, [], ◌∷◌, Option, Some, None, arith, inl, inr, ⊎_elim, sym, ap, subst, refl}
 use Rattle.std.specs.Prelude.{slice_get, IsTrue, unwrap_or}
-use Rattle.std.proofs.lemmas.Bool.{cases_eq}
+use Rattle.std.proofs.lemmas.Bool.{cases_eq, false_from_ne_true}
 use Rattle.std.proofs.lemmas.Bool.Decides.{nat_tests, eqb_tells}
 use Rattle.norm_lang.specs.declared.text.Reg.{Reg}
 use Rattle.norm_lang.specs.declared.text.Reg.TheVariants.{Num, Ref}
@@ -17,7 +17,7 @@ use Rattle.norm_lang.specs.Grammar.{is_new}
 use Rattle.norm_lang.specs.InstructionRules.{are_roots_of_one_kind}
 use Rattle.norm_lang.specs.Local.{Spot, remainder}
 use Rattle.norm_lang.specs.NormalForm.{N13}
-use Rattle.norm_lang.specs.Registers.{number_in, reference_in}
+use Rattle.norm_lang.specs.Registers.{number_in, reference_in, node_in}
 use Rattle.norm_lang.specs.RegisterUse.{reads, destination}
 use Rattle.norm_lang.specs.KindFields.{owner_of, place_of}
 use Rattle.target_code.specs.declared.target.TargetInstr.TheVariants.{Plain}
@@ -42,7 +42,7 @@ use Rattle.caller_parts.specs.Operands.{with_word, unpacked, slot_in}
 use Rattle.caller_steps.specs.Wants.{plain_wanted}
 use Rattle.caller_steps.specs.Entries.{one_more}
 use Rattle.caller_steps.specs.After.{counted, with_access, loaded as core_loaded, plain_accepted}
-use Rattle.run_ahead.specs.Agreeing.{Agree, Changes, node_in}
+use Rattle.run_ahead.specs.Agreeing.{Agree, Changes}
 use Rattle.target_laws.specs.Methods.{code_in}
 use Rattle.target_laws.specs.Trusted.{Trusted, Unchecked, Spoilt, trust_along, trust_in_set}
 use Rattle.run_ahead.specs.Ahead.{erasing, AsTrusted}
@@ -57,9 +57,9 @@ use Rattle.target_laws.proofs.TextRules.{keeps_at}
 use Rattle.run_ahead.proofs.Plain.{at_place, kind_right}
 use Rattle.run_ahead.proofs.Telling.{told_trusted}
 use Rattle.run_ahead.proofs.TypedMemory.{FindsFor, root_finds, field_finds, pick_finds}
-use Rattle.oa_simulation.specs.sim_relation.Views.{Plan, IsPlan, Null, Held, Shared, Caller, word_for, name_of, value_count, Resident}
+use Rattle.oa_simulation.specs.sim_relation.Views.{Plan, IsPlan, Null, Held, Shared, Caller, word_for, value_count, Resident}
 use Rattle.oa_simulation.specs.sim_relation.Shared.{SharedHolds}
-use Rattle.oa_simulation.specs.sim_relation.Callers.{Known, Shown, Calm, Base, Trail, Walks, Stands, Gets, Guards, Running, spot_of}
+use Rattle.oa_simulation.specs.sim_relation.Callers.{Known, Calm, Base, Trail, Walks, Stands, Gets, Guards, Running, spot_of}
 use Rattle.oa_simulation.specs.sim_relation.Allowing.{IsProperFor}
 use Rattle.caller_steps.specs.Signs.{Accesses, Moved}
 use Rattle.oa_simulation.specs.sim_relation.Points.{point}
@@ -78,7 +78,6 @@ use Rattle.oa_simulation.proofs.sim_steps.Walks.Stopping.{settles_ends}
 use Rattle.oa_simulation.proofs.sim_steps.Guards.Unguarding.{counted_caller}
 use Rattle.oa_simulation.proofs.sim_steps.Walks.Accessing.{Makes, turns, turned, took, base_turned, walks_turned, stands_took}
 use Rattle.caller_parts.specs.declared.setting.Reclamation.TheVariants.{Optimistic}
-use Rattle.target_laws.proofs.local_laws.Inside.{refuted}
 
 -- ---- a word as a register sees it
 
@@ -114,10 +113,6 @@ reads_kind nodes (field_kinds.Reference k) (Num r) word v right typed = absurd r
 reads_kind nodes (field_kinds.Reference k) (Ref r) word (Number n) right typed = absurd typed
 reads_kind nodes (field_kinds.Reference k) (Ref r) word (Node y) right typed = (tt, tt)
 
-same_name : (v : Value) → (name_in v ≡ name_of v) × (name_in v ≡ name_of v)
-same_name (Number n) = (refl, refl)
-same_name (Node y) = (refl, refl)
-
 -- ---- what is found
 
 -- where a load looks
@@ -129,7 +124,7 @@ pub record Found (t : Plan) (s : Shared) (c : ℕ) (x : Caller) (m : Trail t) (i
   -- not stale
   pub agrees : Calm s c x → ValuesAgree t.home (read_as d (s.memory w)) (loaded t.text i m.mirror s.source)
   -- null or published
-  pub known : (name_of (loaded t.text i m.mirror s.source) ≡ 0) ⊎ (s.public (name_of (loaded t.text i m.mirror s.source)) ≡ true)
+  pub known : (name_in (loaded t.text i m.mirror s.source) ≡ 0) ⊎ (s.public (name_in (loaded t.text i m.mirror s.source)) ≡ true)
 
 -- what a load stands on
 pub record Reading (t : Plan) (s : Shared) (c : ℕ) (x : Caller) (m : Trail t) (i : Instr) : Type 0 where
@@ -149,7 +144,7 @@ read_agrees t s c x m i r w is =
     (trusted_at m.walk.method w.plan.compiled m.path x.entry.hand.at i r w.walks.ahead.path_is w.here is) (w.walks.ahead.agree r)
 
 by_kind : (t : Plan) (s : Shared) (c : ℕ) (x : Caller) (m : Trail t) (i : Instr) (d : Reg) (w : Word) (o : Option FieldKind) → FindsFor s.source.nodes o d (loaded t.text i m.mirror s.source) → (Calm s c x → s.memory w ≡ word_for t.home (loaded t.text i m.mirror s.source))
-    → (name_of (loaded t.text i m.mirror s.source) ≡ 0) ⊎ (s.public (name_of (loaded t.text i m.mirror s.source)) ≡ true) → Found t s c x m i d w
+    → (name_in (loaded t.text i m.mirror s.source) ≡ 0) ⊎ (s.public (name_in (loaded t.text i m.mirror s.source)) ≡ true) → Found t s c x m i d w
 by_kind t s c x m i d w o finds word known = record {
   kind = reads_kind s.source.nodes finds.0 d (s.memory w) (loaded t.text i m.mirror s.source) finds.2 finds.3;
   agrees = λ calm. reads_back t.home s.source.nodes finds.0 d (s.memory w) (loaded t.text i m.mirror s.source) finds.2 finds.3 (word calm);
@@ -157,9 +152,9 @@ by_kind t s c x m i d w o finds word known = record {
 }
 
 -- what null has in a field
-null_value : (t : Plan) (f : ℕ) → t.home 0 ≡ 0 → (word_for t.home (value_at (null_fields t.text (owner_of t.text.fields f)) (place_of t.text.fields f)) ≡ 0) × (name_of (value_at (null_fields t.text (owner_of t.text.fields f)) (place_of t.text.fields f)) ≡ 0)
-null_value t f null_home = subst (λ (v : Value). (word_for t.home v ≡ 0) × (name_of v ≡ 0)) (sym (null_field t.text f)) (of (slice_get t.text.fields f)) where
-  of : (o : Option FieldDecl) → (word_for t.home (blank_in o) ≡ 0) × (name_of (blank_in o) ≡ 0)
+null_value : (t : Plan) (f : ℕ) → t.home 0 ≡ 0 → (word_for t.home (value_at (null_fields t.text (owner_of t.text.fields f)) (place_of t.text.fields f)) ≡ 0) × (name_in (value_at (null_fields t.text (owner_of t.text.fields f)) (place_of t.text.fields f)) ≡ 0)
+null_value t f null_home = subst (λ (v : Value). (word_for t.home v ≡ 0) × (name_in v ≡ 0)) (sym (null_field t.text f)) (of (slice_get t.text.fields f)) where
+  of : (o : Option FieldDecl) → (word_for t.home (blank_in o) ≡ 0) × (name_in (blank_in o) ≡ 0)
   of None = (refl, refl)
   of (Some field) = blank_null t field.kind null_home
 
@@ -181,13 +176,13 @@ field_word t s y f null_home fine inside here = ⊎_elim
     (cases_eq y.node 0)
 
 -- what stands there is null or published
-pub field_known : (t : Plan) (s : Shared) (y : Reference) (f : ℕ) → t.home 0 ≡ 0 → SharedHolds t s → (name_of (field_behind t.text s.source y f) ≡ 0) ⊎ (s.public (name_of (field_behind t.text s.source y f)) ≡ true)
+pub field_known : (t : Plan) (s : Shared) (y : Reference) (f : ℕ) → t.home 0 ≡ 0 → SharedHolds t s → (name_in (field_behind t.text s.source y f) ≡ 0) ⊎ (s.public (name_in (field_behind t.text s.source y f)) ≡ true)
 field_known t s y f null_home fine = of (fields_named y.node s.source.nodes) refl where
   of : (o : Option (List Value)) → fields_named y.node s.source.nodes ≡ o
-      → (name_of (value_at (unwrap_or o (null_fields t.text (owner_of t.text.fields f))) (place_of t.text.fields f)) ≡ 0) ⊎ (s.public (name_of (value_at (unwrap_or o (null_fields t.text (owner_of t.text.fields f))) (place_of t.text.fields f))) ≡ true)
+      → (name_in (value_at (unwrap_or o (null_fields t.text (owner_of t.text.fields f))) (place_of t.text.fields f)) ≡ 0) ⊎ (s.public (name_in (value_at (unwrap_or o (null_fields t.text (owner_of t.text.fields f))) (place_of t.text.fields f))) ≡ true)
   of None is = inl (null_value t f null_home).1
   of (Some values) is =
-      subst (λ (o : Option (List Value)). (name_of (value_at (unwrap_or o []) (place_of t.text.fields f)) ≡ 0) ⊎ (s.public (name_of (value_at (unwrap_or o []) (place_of t.text.fields f))) ≡ true)) is (fine.store.link y.node (place_of t.text.fields f))
+      subst (λ (o : Option (List Value)). (name_in (value_at (unwrap_or o []) (place_of t.text.fields f)) ≡ 0) ⊎ (s.public (name_in (value_at (unwrap_or o []) (place_of t.text.fields f))) ≡ true)) is (fine.store.link y.node (place_of t.text.fields f))
 
 -- a name that a trusted register holds is resident, while its caller isn't warned
 trusted_resident : (t : Plan) (s : Shared) (c : ℕ) (x : Caller) (m : Trail t) (i : Instr) (r : ℕ) → Reading t s c x m i → IsTrue (reads (Ref r) i) → Calm s c x → Resident t s (node_in m.mirror r)
@@ -210,7 +205,7 @@ finds t s c x m (instr.LoadRoot e z) d w rd asked loads looks =
 finds t s c x m (instr.LoadPick e z n a) d w rd asked loads looks =
     let i = instr.LoadPick e z n a in
     let same : number_in x.entry.hand.registers a ≡ number_in m.mirror a = numbers_agree t.home x.entry.hand.registers m.mirror a (read_agrees t s c x m i a rd (reads_first a false)) in
-    let one : are_roots_of_one_kind t.text.roots z n ≡ true = unnegated (are_roots_of_one_kind t.text.roots z n) (refuted _ (λ wrong. keeps_at rd.plan.compiled.normal rd.plan.compiled.barred.erases m.walk.method N13 x.entry.hand.at i rd.here wrong)) in
+    let one : are_roots_of_one_kind t.text.roots z n ≡ true = unnegated (are_roots_of_one_kind t.text.roots z n) (false_from_ne_true _ (λ wrong. keeps_at rd.plan.compiled.normal rd.plan.compiled.barred.erases m.walk.method N13 x.entry.hand.at i rd.here wrong)) in
     subst (λ (r : Reg). Found t s c x m i r w) (let same : e ≡ d = cc in same) (subst (λ (v : Word). Found t s c x m i e v) (ap (λ (k : ℕ). Cell (z + remainder k n)) (sym same) ∙ some_load (Cell (z + remainder (number_in x.entry.hand.registers a) n)) w looks)
     (by_kind t s c x m i e (Cell (z + remainder (number_in m.mirror a) n)) _ (pick_finds t.text e z n a m.mirror s.source (kind_right m.walk.method (erasing rd.plan.compiled) x.entry.hand.at i rd.here) one rd.shared_holds.typed)
     (λ calm. rd.shared_holds.store.root (z + remainder (number_in m.mirror a) n)) (rd.shared_holds.store.top (z + remainder (number_in m.mirror a) n))))
@@ -263,10 +258,10 @@ load_old (instr.LoadPick e z n a) d is = refl
 load_old (instr.LoadField e a f) d is = refl
 load_old _ d is = absurd (let never : None ≡ Some d = is in cc)
 
-load_got : (text : Text) (i : Instr) (d : Reg) (place : ℕ → ℕ) (mirror : Registers) (memory : Memory) → loads_into i ≡ Some d → name_got text 0 (Some (redirected place i)) mirror memory ≡ name_of (loaded text i mirror memory)
-load_got text (instr.LoadRoot e z) d place mirror memory is = (same_name (loaded text (instr.LoadRoot e z) mirror memory)).1
-load_got text (instr.LoadPick e z n a) d place mirror memory is = (same_name (loaded text (instr.LoadPick e z n a) mirror memory)).1
-load_got text (instr.LoadField e a f) d place mirror memory is = (same_name (loaded text (instr.LoadField e a f) mirror memory)).1
+load_got : (text : Text) (i : Instr) (d : Reg) (place : ℕ → ℕ) (mirror : Registers) (memory : Memory) → loads_into i ≡ Some d → name_got text 0 (Some (redirected place i)) mirror memory ≡ name_in (loaded text i mirror memory)
+load_got text (instr.LoadRoot e z) d place mirror memory is = refl
+load_got text (instr.LoadPick e z n a) d place mirror memory is = refl
+load_got text (instr.LoadField e a f) d place mirror memory is = refl
 load_got text _ d place mirror memory is = absurd (let never : None ≡ Some d = is in cc)
 
 load_accepted : (t : Plan) (i : Instr) (d : Reg) (word : ℕ) (x : Caller) → loads_into i ≡ Some d → core_loaded Optimistic t.target t.setting.sizes d word (counted x.entry) ≡ plain_accepted Optimistic t.target t.setting.sizes i word (counted x.entry)
@@ -289,7 +284,7 @@ behind_load x d word = record { at = x.entry.hand.at + 1; registers = with_word 
 -- a load makes the source's load too, and the run gets what it found
 pub load_takes : (t : Plan) (s : Shared) (c : ℕ) (x : Caller) (m : Trail t) (i : Instr) (d : Reg) (w : Word) (accessed : Bool) → Reading t s c x m i → Stands t x m → Guards t x m → loads_into i ≡ Some d
     → Found t s c x m i d w → (m.walk.method.wrapup ≡ true → accessed ≡ true)
-    → let y = took t s c 0 x (behind_load x d (s.memory w)) accessed (name_of (loaded t.text i m.mirror s.source)) (set_by (Some (Plain i)) x.was_set) in
+    → let y = took t s c 0 x (behind_load x d (s.memory w)) accessed (name_in (loaded t.text i m.mirror s.source)) (set_by (Some (Plain i)) x.was_set) in
     PlaysEvent t.text (events.Access c 0) s.source x.source x.watch s.source y.source y.watch × (Base t s c y × Running t s c y (behind_load x d (s.memory w)))
 load_takes t s c x m i d w accessed rd st guards loads found marked =
     let l = is_load t.text i d loads in
@@ -297,7 +292,7 @@ load_takes t s c x m i d w accessed rd st guards loads found marked =
     let place = source_place (code_in method) in
     let at = x.entry.hand.at in
     let v = loaded t.text i m.mirror s.source in
-    let n : ℕ = name_of v in
+    let n : ℕ = name_in v in
     let next = behind_load x d (s.memory w) in
     let mirror' = with_value m.mirror d v in
     let changes : Changes t.home (AsTrusted (Calm s c x) (trust_in_set i)) (destination i) (name_in v) x.entry.hand.registers m.mirror next.registers mirror' =
@@ -318,10 +313,9 @@ load_takes t s c x m i d w accessed rd st guards loads found marked =
     let y = turned x (took t s c 0 x next accessed n x.was_set).source (took t s c 0 x next accessed n x.was_set).watch in
     let held = (took t s c 0 x next accessed n x.was_set).held in
     let there : Spot = run_from method.op method.wrapup (record { at = place next.at; registers = mirror' }) in
-    let new : name_in v ≡ n = (same_name v).0 in
     let got : AreGot method (at ∷ m.path) m.walk.started mirror' held.got =
     plain_got method t.home (AsTrusted (Calm s c x) (trust_in_set i)) m.path at i (name_in v) x.entry.hand.registers m.mirror next.registers mirror' m.walk.started x.held.got held.got rd.here changes
-    (λ r set. subst (IsGot held.got) (sym new) (got_new n x.held.got)) (λ k. got_kept k n x.held.got) rd.gets.got in (
+    (λ r set. got_new n x.held.got) (λ k. got_kept k n x.held.got) rd.gets.got in (
       (turn.enabled, (sym (turn.memory ∙ l.memory place 0 (place at) m.mirror s.source), refl, sym (turn.watch ∙ ap (λ (k : ℕ). record x.watch { got = with_name k x.watch.got }) (load_got t.text i d place m.mirror s.source loads)))),
       (
         base_walked t s c y next accessed held (set_by (Some (Plain i)) x.was_set) refl
@@ -334,7 +328,7 @@ load_takes t s c x m i d w accessed rd st guards loads found marked =
           stands_took t s c 0 x m i next mirror' accessed n marked turn,
           gets_along t s c y (spot_of x.entry.hand) next m i (name_in v) (AsTrusted (Calm s c x) (trust_in_set i)) mirror' there accessed held rd.here (load_old i d loads) changes got (λ k is. has_kept k n x.held.got is)
               (λ k j has_k own here. ⊎_elim (λ (e : k ≡ n). absurd (not_own n found.known j (subst (λ (a : ℕ). s.owner (t.home a) ≡ Held c j) e own) (subst (λ (a : ℕ). Resident t s a) e here))) (λ (old : has k x.held.got ≡ true). old) (has_with k n x.held.got has_k))
-              (λ gen r set. subst (λ (k : ℕ). Shown s k) (sym new) found.known)
+              (λ gen r set. found.known)
               rd.gets,
           guards_along t s c y (spot_of x.entry.hand) next m i (name_in v) (AsTrusted (Calm s c x) (trust_in_set i)) mirror' there accessed held rd.here (load_old i d loads) changes guards,
         ),
@@ -362,7 +356,7 @@ load_kept t c s x i d w plan f b walk below proper here asked loads looks =
     let moves = running_moved t s c x (spot_of x.entry.hand) (one_more x.entry.running.steps) x.entry.counts x.entry.routine walk in
     let rd : Reading t s c y walk.0 i = record { plan = plan; shared_holds = f; base = base_moved t s c x (one_more x.entry.running.steps) x.entry.counts x.entry.routine b; walks = moves.1; gets = moves.3; below = below; proper = proper; here = here } in
     let taken = load_takes t s c y walk.0 i d w x.entry.hand.wrapup rd moves.2 moves.4 loads (finds t s c y walk.0 i d w rd asked loads looks) (λ e. walk.1.wrapup ∙ e) in
-    let z = took t s c 0 y (behind_load x d (s.memory w)) x.entry.hand.wrapup (name_of (loaded t.text i walk.0.mirror s.source)) (set_by (Some (Plain i)) x.was_set) in
+    let z = took t s c 0 y (behind_load x d (s.memory w)) x.entry.hand.wrapup (name_in (loaded t.text i walk.0.mirror s.source)) (set_by (Some (Plain i)) x.was_set) in
     let ended = settles_ends t s c (made_by x z.source z.watch z.held z.was_set) (behind_load x d (s.memory w)) plan f taken.1.0 taken.1.1 in
     subst (λ (were : ℕ → Bool). KeptSetting t c s x were (store s.memory w (s.memory w)) (plain_accepted Optimistic t.target t.setting.sizes i (s.memory w) (counted x.entry))) (load_sets t i d (s.memory w) x loads)
     (subst (λ (m : Moved). KeptSetting t c s x (set_onward t.target x.entry (set_by (Some (Plain i)) x.was_set) (with_word x.entry.hand.registers d (s.memory w))) (store s.memory w (s.memory w)) m) (load_accepted t i d (s.memory w) x loads) (record {

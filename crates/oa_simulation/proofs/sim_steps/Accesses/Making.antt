@@ -42,7 +42,8 @@ use Rattle.oa_simulation.specs.sim_relation.Callers.{IsRetiring, Calm, HasMade, 
 use Rattle.caller_steps.specs.Signs.{Accesses, told}
 use Rattle.oa_simulation.specs.sim_relation.Points.{point}
 use Rattle.oa_simulation.proofs.sim_relation.Playing.{PlaysEvent, plays_first, plays_one}
-use Rattle.oa_simulation.specs.sim_relation.Steps.{KeptSetting, after_access}
+use Rattle.chain_laws.specs.Memories.{after_access}
+use Rattle.oa_simulation.specs.sim_relation.Steps.{KeptSetting}
 use Rattle.oa_simulation.specs.sim_relation.WasSet.{set_exchanged, set_plain, set_unless_retiring}
 use Rattle.oa_simulation.proofs.sim_relation.Names.{KeepsNames, own_kept, known_kept, shown_kept, made_kept}
 use Rattle.oa_simulation.proofs.sim_steps.Walks.Along.{walks_along, guards_along, gets_along}

@@ -8,7 +8,7 @@ use Rattle.norm_lang.specs.declared.text.Instr.TheVariants as instr
 use Rattle.norm_lang.specs.declared.registers.Reference.{Reference}
 use Rattle.norm_lang.specs.Flow.{passed}
 use Rattle.norm_lang.specs.Local.{Spot}
-use Rattle.norm_lang.specs.Registers.{with_reference}
+use Rattle.norm_lang.specs.Registers.{with_reference, node_in}
 use Rattle.norm_lang.specs.RegisterUse.{sets, set_after}
 use Rattle.target_code.specs.declared.target.TargetInstr.TheVariants.{Plain}
 use Rattle.target_code.specs.Erasing.{source_place}
@@ -25,7 +25,6 @@ use Rattle.caller_steps.specs.Entries.{cradle_of, one_more}
 use Rattle.caller_parts.specs.Operands.{is_new_at, cradle_number}
 use Rattle.caller_parts.specs.declared.routine.Routine.TheVariants.{Zeroes}
 use Rattle.caller_steps.specs.After.{counted, with_routine}
-use Rattle.run_ahead.specs.Agreeing.{node_in}
 use Rattle.target_laws.specs.Methods.{code_in}
 use Rattle.target_laws.specs.Trusted.{Trusted, Unchecked}
 use Rattle.run_ahead.specs.Ahead.{erasing, AsTrusted}

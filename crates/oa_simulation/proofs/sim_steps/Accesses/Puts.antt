@@ -14,6 +14,7 @@ use Rattle.norm_lang.specs.Local.{Spot}
 use Rattle.norm_lang.specs.RegisterUse.{reads}
 use Rattle.norm_lang.specs.KindFields.{place_of}
 use Rattle.norm_lang.specs.Kinds.{asks_object}
+use Rattle.norm_lang.specs.Registers.{node_in}
 use Rattle.target_code.specs.declared.target.TargetInstr.TheVariants.{Plain}
 use Rattle.target_code.specs.Erasing.{source_place}
 use Rattle.oa_words.specs.Words.{FieldOf}
@@ -21,10 +22,11 @@ use Rattle.oa_words.specs.Memories.{store}
 use Rattle.source_machine.specs.declared.event.SourceEvent.TheVariants as events
 use Rattle.source_machine.specs.declared.state.Value.{Value}
 use Rattle.source_machine.specs.Memory.{value_in, fields_named}
+use Rattle.source_machine.specs.MethodRuns.{name_in}
 use Rattle.caller_steps.specs.Entries.{one_more}
 use Rattle.caller_parts.specs.Operands.{word_in, slot_in}
 use Rattle.caller_steps.specs.After.{counted, plain_accepted}
-use Rattle.run_ahead.specs.Agreeing.{Agree, node_in}
+use Rattle.run_ahead.specs.Agreeing.{Agree}
 use Rattle.target_laws.specs.Methods.{code_in}
 use Rattle.target_laws.specs.Trusted.{Trusted, trust_along}
 use Rattle.run_ahead.specs.Ahead.{erasing, AsTrusted}
@@ -40,7 +42,7 @@ use Rattle.run_ahead.proofs.Plain.{at_place, kind_right}
 use Rattle.run_ahead.proofs.Telling.{told_trusted}
 use Rattle.run_ahead.proofs.TypedMemory.{register_for, put_typed}
 use Rattle.target_laws.proofs.FreshRules.{puts_go_to_fresh}
-use Rattle.oa_simulation.specs.sim_relation.Views.{Plan, IsPlan, Null, Held, Shared, Caller, word_for, name_of, value_count, link, Resident, Apart}
+use Rattle.oa_simulation.specs.sim_relation.Views.{Plan, IsPlan, Null, Held, Shared, Caller, word_for, value_count, link, Resident, Apart}
 use Rattle.oa_simulation.specs.sim_relation.Shared.{SharedHolds}
 use Rattle.oa_simulation.specs.sim_relation.Callers.{Own, Shown, Calm, Base, Trail, Walks, Stands, Gets, Guards, Running, spot_of}
 use Rattle.caller_steps.specs.Signs.{Accesses}
@@ -91,15 +93,15 @@ object_is (Ref r) is = (r, refl)
 
 -- what a register holds, as a value, is apart from what is guarded
 value_apart : (t : Plan) (s : Shared) (c : ℕ) (x : Caller) (m : Trail t) (i : Instr) (b : Reg) (e : ℕ) → Reads t s c x m i → IsTrue (reads b i) → m.walk.method.wrapup ≡ false → s.protects c e ≢ 0
-    → Apart t (name_of (value_in m.mirror b)) (s.protects c e)
+    → Apart t (name_in (value_in m.mirror b)) (s.protects c e)
 value_apart t s c x m i (Num r) e w is gen some = null_apart t s c e 0 w.plan.null w.shared_holds some refl
 value_apart t s c x m i (Ref r) e w is gen some = w.walks.sound.apart gen r e (read_trusted t s c x m i (Ref r) w is) some
 
-value_shown : (t : Plan) (s : Shared) (c : ℕ) (x : Caller) (m : Trail t) (b : Reg) → Gets t s c x m → m.walk.method.wrapup ≡ false → is_fresh_along (code_in m.walk.method) m.path b ≡ false → Shown s (name_of (value_in m.mirror b))
+value_shown : (t : Plan) (s : Shared) (c : ℕ) (x : Caller) (m : Trail t) (b : Reg) → Gets t s c x m → m.walk.method.wrapup ≡ false → is_fresh_along (code_in m.walk.method) m.path b ≡ false → Shown s (name_in (value_in m.mirror b))
 value_shown t s c x m (Num r) g gen shut = inl refl
 value_shown t s c x m (Ref r) g gen shut = g.shown gen r shut
 
-pub walks_linked : (t : Plan) (s : Shared) (c : ℕ) (x : Caller) (core : Spot) (m : Trail t) (o f : ℕ) (v : Value) → Links t s o f v → ((e : ℕ) → s.protects c e ≢ 0 → Apart t (name_of v) (s.protects c e)) → Walks t s c x core m
+pub walks_linked : (t : Plan) (s : Shared) (c : ℕ) (x : Caller) (core : Spot) (m : Trail t) (o f : ℕ) (v : Value) → Links t s o f v → ((e : ℕ) → s.protects c e ≢ 0 → Apart t (name_in v) (s.protects c e)) → Walks t s c x core m
     → Walks t (linked t s o f v) c x core m
 walks_linked t s c x core m o f v w apart k = record {
   call = k.call;
@@ -116,7 +118,7 @@ walks_linked t s c x core m o f v w apart k = record {
     word = k.sound.word;
     apart = k.sound.apart;
     pairs = λ a e g free some some'.
-        each_written (λ n g' (value : Value). n ≡ s.protects c a → Apart t (name_of value) (s.protects c e)) s.source o f v w.values w.fields w.within (λ same. apart e some')
+        each_written (λ n g' (value : Value). n ≡ s.protects c a → Apart t (name_in value) (s.protects c e)) s.source o f v w.values w.fields w.within (λ same. apart e some')
         (λ n g' ne same. subst (λ (j : ℕ). Apart t (link s j g') (s.protects c e)) (sym same) (k.sound.pairs a e g' free some some')) (s.protects c a) g refl;
   };
 }

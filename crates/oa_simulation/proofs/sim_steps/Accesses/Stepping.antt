@@ -24,7 +24,8 @@ use Rattle.oa_simulation.specs.sim_relation.Shared.{SharedHolds}
 use Rattle.oa_simulation.specs.sim_relation.Callers.{Tied, CallerHolds, HoldsAt, Running, spot_of}
 use Rattle.oa_simulation.specs.sim_relation.Allowing.{IsProperFor}
 use Rattle.oa_simulation.specs.sim_relation.Points.{StaysProper, IsProperPoint, point, done}
-use Rattle.oa_simulation.specs.sim_relation.Steps.{KeptSetting, after_access}
+use Rattle.chain_laws.specs.Memories.{after_access}
+use Rattle.oa_simulation.specs.sim_relation.Steps.{KeptSetting}
 use Rattle.oa_simulation.specs.sim_relation.WasSet.{set_plain}
 use Rattle.oa_simulation.proofs.sim_relation.Codes.{instr_is}
 use Rattle.oa_simulation.proofs.sim_steps.Accesses.Loads.{LooksAt, load_kept}

@@ -10,11 +10,13 @@ use Rattle.norm_lang.specs.declared.text.Instr.TheVariants as instr
 use Rattle.norm_lang.specs.Local.{Spot}
 use Rattle.norm_lang.specs.NormalForm.{N3}
 use Rattle.norm_lang.specs.RegisterUse.{same_register, operands_of, registers_named}
+use Rattle.norm_lang.specs.Registers.{node_in}
 use Rattle.target_code.specs.declared.target.TargetInstr.TheVariants.{Plain}
 use Rattle.target_code.specs.Erasing.{source_place}
 use Rattle.source_machine.specs.declared.state.Memory.{Memory}
 use Rattle.source_machine.specs.Memory.{value_in, exchange, auxiliary}
 use Rattle.source_machine.specs.Proper.{IsOnce}
+use Rattle.source_machine.specs.MethodRuns.{name_in}
 use Rattle.caller_steps.specs.Wants.{plain_wanted}
 use Rattle.caller_parts.proofs.News.{new_there}
 use Rattle.caller_steps.specs.Signs.{Accesses}
@@ -23,11 +25,10 @@ use Rattle.target_laws.proofs.Entries.{reads_entry}
 use Rattle.target_laws.proofs.Forms.{instructions_are_in_form}
 use Rattle.target_laws.proofs.FreshRules.{open_reads_are_not_fresh}
 use Rattle.target_laws.proofs.TextRules.{keeps_at}
-use Rattle.run_ahead.specs.Agreeing.{node_in}
 use Rattle.run_ahead.specs.Known.{IsGot, is_set_in}
 use Rattle.run_ahead.proofs.Plain.{kind_right}
 use Rattle.run_ahead.specs.Ahead.{IsErased, erasing}
-use Rattle.oa_simulation.specs.sim_relation.Views.{Plan, Shared, Caller, name_of}
+use Rattle.oa_simulation.specs.sim_relation.Views.{Plan, Shared, Caller}
 use Rattle.oa_simulation.specs.sim_relation.Callers.{Known, Shown, Base, Trail, Stands, Gets, Guards, Running, HasMade, spot_of}
 use Rattle.oa_simulation.specs.sim_relation.Points.{StaysProper, IsProperPoint, point, played, makes, done}
 use Rattle.oa_simulation.proofs.sim_relation.Names.{shown_kept}
@@ -67,7 +68,7 @@ operand_shown t s c x m entry l r w operand = by_method m.walk.method.wrapup ref
       let set : is_set_in m.walk.method m.path r ≡ true = ap (λ (b : Bool). not b || is_set_in m.walk.method m.path r) (sym wrap) ∙ own.1 in
       got_shown t s c x m (node_in m.mirror r) (erasing w.plan.compiled) w.base w.gets wrap (w.gets.got.set r set)
 
-value_shown : (t : Plan) (s : Shared) (c : ℕ) (x : Caller) (m : Trail t) (entry : CasEntry) (l : ℕ) (r : Reg) → Reads t s c x m (instr.Cas entry l) → IsTrue (list_any (same_register r) (operands_of entry)) → Shown s (name_of (value_in m.mirror r))
+value_shown : (t : Plan) (s : Shared) (c : ℕ) (x : Caller) (m : Trail t) (entry : CasEntry) (l : ℕ) (r : Reg) → Reads t s c x m (instr.Cas entry l) → IsTrue (list_any (same_register r) (operands_of entry)) → Shown s (name_in (value_in m.mirror r))
 value_shown t s c x m entry l (Num r) w operand = inl refl
 value_shown t s c x m entry l (Ref r) w operand = operand_shown t s c x m entry l r w operand
 
@@ -101,7 +102,7 @@ tried t s c x m entry l after w some =
       offers = w.offers;
       right = kind_right m.walk.method (erasing r.plan.compiled) x.entry.hand.at (instr.Cas entry l) r.here;
       publishes = inl refl;
-      known = shown_kept s (published_if t s 0) (name_of (value_in m.mirror entry.replacement)) (public_still t s 0) (value_shown t s c x m entry l entry.replacement r (replacement_at entry.place entry));
+      known = shown_kept s (published_if t s 0) (name_in (value_in m.mirror entry.replacement)) (public_still t s 0) (value_shown t s c x m entry l entry.replacement r (replacement_at entry.place entry));
       object = λ q f is. operand_shown t s c x m entry l q r (object_is (Ref q) f entry is);
       kin = (instructions_are_in_form t.target t.text r.plan.compiled.normal r.plan.compiled.barred.erases m.walk.method x.entry.hand.at (instr.Cas entry l) r.here).retired;
       makes = some;

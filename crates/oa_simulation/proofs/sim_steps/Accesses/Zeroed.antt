@@ -13,7 +13,7 @@ use Rattle.norm_lang.specs.declared.text.Text.{Text}
 use Rattle.norm_lang.specs.KindFields.{fields_of}
 use Rattle.norm_lang.specs.declared.registers.Reference.{Reference}
 use Rattle.norm_lang.specs.declared.registers.Registers.{Registers}
-use Rattle.norm_lang.specs.Registers.{no_reference, with_reference}
+use Rattle.norm_lang.specs.Registers.{no_reference, with_reference, node_in}
 use Rattle.target_code.specs.declared.target.TargetInstr.{TargetInstr}
 use Rattle.target_code.specs.declared.target.TargetInstr.TheVariants.{Plain}
 use Rattle.oa_words.specs.Words.{FieldOf}
@@ -28,7 +28,6 @@ use Rattle.caller_parts.specs.Operands.{cradle_number}
 use Rattle.caller_parts.proofs.News.{new_there}
 use Rattle.caller_steps.specs.After.{counted, node_made, zeroed as core_zeroed}
 use Rattle.caller_steps.specs.Signs.{quiet}
-use Rattle.run_ahead.specs.Agreeing.{node_in}
 use Rattle.run_ahead.proofs.Plain.{kind_right}
 use Rattle.run_ahead.specs.Ahead.{erasing}
 use Rattle.oa_simulation.specs.sim_relation.Views.{Plan, IsPlan, Shared, Caller}

@@ -7,7 +7,7 @@ use Rattle.norm_lang.specs.declared.text.Place.TheVariants as places
 use Rattle.norm_lang.specs.declared.text.CasEntry.{CasEntry}
 use Rattle.norm_lang.specs.declared.text.FieldKind.{FieldKind}
 use Rattle.norm_lang.specs.declared.registers.Registers.{Registers}
-use Rattle.norm_lang.specs.Registers.{reference_in}
+use Rattle.norm_lang.specs.Registers.{reference_in, node_in}
 use Rattle.norm_lang.specs.InstructionRules.{place_kind, is_unlike, has_wrong_object, has_wrong_operand, is_stranger}
 use Rattle.oa_words.specs.Words.{Hazard}
 use Rattle.source_machine.specs.declared.state.Memory.{Memory}
@@ -16,11 +16,11 @@ use Rattle.source_machine.specs.Memory.{value_in, exchange, with_name_retired}
 use Rattle.source_machine.specs.Proper.{has, IsOnce}
 use Rattle.source_machine.proofs.Names.{has_push, has_last}
 use Rattle.source_machine.proofs.Places.{put_same, put_other}
+use Rattle.source_machine.specs.MethodRuns.{name_in}
 use Rattle.caller_parts.specs.Operands.{to_retire}
-use Rattle.run_ahead.specs.Agreeing.{node_in}
 use Rattle.run_ahead.specs.Typed.{IsTyped, IsRegisterFor}
 use Rattle.run_ahead.proofs.TypedMemory.{register_for, exchange_typed}
-use Rattle.oa_simulation.specs.sim_relation.Views.{Plan, Held, Living, Retiring, Shared, name_of, Resident}
+use Rattle.oa_simulation.specs.sim_relation.Views.{Plan, Held, Living, Retiring, Shared, Resident}
 use Rattle.oa_simulation.specs.sim_relation.Shared.{SharedHolds}
 use Rattle.oa_simulation.specs.sim_relation.Callers.{IsRetiring, Shown}
 use Rattle.oa_simulation.specs.sim_relation.MayChange.{MayChange}
@@ -66,7 +66,7 @@ pub record Tried (t : Plan) (s : Shared) (c : ℕ) (core mirror : Registers) (en
   pub offers : Offers t s c core mirror entry
   pub right : has_wrong_operand t.text.fields t.text.roots entry ≡ false
   pub publishes : IsAtHand t s c p
-  pub known : (name_of (value_in mirror entry.replacement) ≡ 0) ⊎ ((published_if t s p).public (name_of (value_in mirror entry.replacement)) ≡ true)
+  pub known : (name_in (value_in mirror entry.replacement) ≡ 0) ⊎ ((published_if t s p).public (name_in (value_in mirror entry.replacement)) ≡ true)
   pub object : (r f : ℕ) → entry.place ≡ places.Field (Ref r) f → Shown s (node_in mirror r)
   pub kin : is_stranger entry entry.retire ≡ false
   pub makes : exchange t.text.fields entry mirror s.source ≡ Some after
@@ -113,8 +113,8 @@ module _ (t : Plan) (s : Shared) (c : ℕ) (core mirror : Registers) (entry : Ca
 
   writes : Writes t c (published_if t s p) (place_memory t s.memory mirror entry.place v) s1.source.nodes s1.source.roots
   writes = place_writes t (published_if t s p) c mirror entry.place v w.null up.0
-      (there_published t s p c mirror entry.place w.publishes (place_there t s c core mirror (name_of (value_in mirror entry.expected)) entry.place kind.0 made.found w.shared_holds w.offers.place w.offers.inside kind.1 made.finds))
-      (hand_resident t s c (name_of v) w.null w.shared_holds w.offers.new) w.known
+      (there_published t s p c mirror entry.place w.publishes (place_there t s c core mirror (name_in (value_in mirror entry.expected)) entry.place kind.0 made.found w.shared_holds w.offers.place w.offers.inside kind.1 made.finds))
+      (hand_resident t s c (name_in v) w.null w.shared_holds w.offers.new) w.known
       (typed_before t.text (to_drop entry.retire mirror) (placed t s mirror entry.place v).source (subst (λ (memory : Memory). IsTyped t.text memory) made.after_is typed))
 
   goes : MayChange t c s s1

@@ -3,6 +3,7 @@ use Rattle.std.proofs.Common.{ℕ, ◌≡◌, ◌≢◌, ◌==◌, ◌+◌, ◌�
 use Rattle.std.specs.Prelude.{slice_get, slice_index, nat_lt}
 use Rattle.std.proofs.lemmas.Bool.Decides.{nat_tests, eqb_tells}
 use Rattle.norm_lang.specs.declared.text.CasEntry.{CasEntry}
+use Rattle.norm_lang.specs.Registers.{node_in}
 use Rattle.oa_words.specs.Words.{Word, Warning, Hazard}
 use Rattle.source_machine.specs.declared.event.SourceEvent.TheVariants as events
 use Rattle.source_machine.specs.declared.state.Value.{Value}
@@ -22,7 +23,6 @@ use Rattle.run_ahead.proofs.Lists.{lists_are_made}
 use Rattle.target_code.specs.Erasing.{source_place}
 use Rattle.target_laws.specs.Methods.{code_in}
 use Rattle.oa_simulation.proofs.sim_relation.Playing.{PlaysEvent}
-use Rattle.run_ahead.specs.Agreeing.{node_in}
 use Rattle.oa_simulation.specs.sim_relation.Views.{Plan, IsPlan, Owner, Null, Pool, Held, Living, Retiring, Dead, Shared, Caller, link, Resident}
 use Rattle.oa_simulation.specs.sim_relation.Shared.{SharedHolds}
 use Rattle.oa_simulation.specs.sim_relation.Callers.{CommitsShown, Base, Trail, Walks, Guards, AfterExchange, spot_of}

@@ -20,11 +20,12 @@ use Rattle.source_machine.specs.declared.state.Value.TheVariants.{Number, Node}
 use Rattle.source_machine.specs.declared.state.Memory.{Memory}
 use Rattle.source_machine.specs.Memory.{value_at, value_in, same_value, fields_named, found_at, exchange, exchange_on}
 use Rattle.source_machine.specs.Proper.{has, field_of}
+use Rattle.source_machine.specs.MethodRuns.{name_in}
 use Rattle.caller_parts.specs.Operands.{word_in, slot_in, succeeds, has_object}
 use Rattle.caller_steps.specs.Wants.{place_exchange, object_exchange, exchange_wanted}
 use Rattle.run_ahead.specs.Agreeing.{Agree, StandsFor}
 use Rattle.run_ahead.specs.Typed.{AreAskedBy}
-use Rattle.oa_simulation.specs.sim_relation.Views.{Plan, Held, Shared, word_for, name_of, value_count, link, top, Resident, Apart}
+use Rattle.oa_simulation.specs.sim_relation.Views.{Plan, Held, Shared, word_for, value_count, link, top, Resident, Apart}
 use Rattle.oa_simulation.specs.sim_relation.Shared.{SharedHolds}
 use Rattle.oa_simulation.proofs.sim_relation.Names.{null_resident, has_slot_of}
 use Rattle.oa_simulation.proofs.sim_steps.Inside.{IsPlaceInside}
@@ -58,7 +59,7 @@ refs_tell x y a b true false to from = (let ne : 2 * x + 1 ≢ 2 * y + 0 = λ e.
 refs_tell x y a b false true to from = (let ne : 2 * x + 0 ≢ 2 * y + 1 = λ e. omega (arith, e) in let away : (2 * x + 0 == 2 * y + 1) ≡ false = grind (arith, nat_tests) in away) ∙ sym (and_false (a == b))
 
 -- words tell values of one kind whose names are apart
-pub words_tell : (t : Plan) (v u : Value) → AreAlike v u → Apart t (name_of v) (name_of u) → (word_for t.home v == word_for t.home u) ≡ same_value v u
+pub words_tell : (t : Plan) (v u : Value) → AreAlike v u → Apart t (name_in v) (name_in u) → (word_for t.home v == word_for t.home u) ≡ same_value v u
 words_tell t (Number n) (Number m) alike apart = refl
 words_tell t (Node a) (Node b) alike apart = refs_tell (t.home a.node) (t.home b.node) a.node b.node a.marked b.marked apart (λ e. ap t.home e)
 words_tell t (Number n) (Node b) alike apart = absurd alike
@@ -94,11 +95,11 @@ PlaceOffered t s c core mirror e (places.Field a f) =
 
 -- an exchange whose operands agree, and are resident. Nothing is said of what keeps them so
 pub record Offers (t : Plan) (s : Shared) (c : ℕ) (core mirror : Registers) (entry : CasEntry) : Type 0 where
-  pub place : PlaceOffered t s c core mirror (name_of (value_in mirror entry.expected)) entry.place
+  pub place : PlaceOffered t s c core mirror (name_in (value_in mirror entry.expected)) entry.place
   pub expected : Agree t.home core mirror entry.expected
   pub replacement : Agree t.home core mirror entry.replacement
-  pub resident : Resident t s (name_of (value_in mirror entry.expected))
-  pub new : IsAtHand t s c (name_of (value_in mirror entry.replacement))
+  pub resident : Resident t s (name_in (value_in mirror entry.expected))
+  pub new : IsAtHand t s c (name_in (value_in mirror entry.replacement))
   -- its operands are of the kinds that its place asks for, and its object, unless it is null, has the field
   pub asked : AreAskedBy t.text entry s.source.nodes mirror
   pub inside : IsPlaceInside t.text s.source mirror entry.place
@@ -122,18 +123,18 @@ tests_agree t s c core mirror entry null_home f w = by_place entry.place refl wh
   expected_word : word_in core entry.expected ≡ word_for t.home (value_in mirror entry.expected)
   expected_word = word_agrees t core mirror entry.expected w.expected
 
-  test : (v : Value) (word : ℕ) → word ≡ word_for t.home v → AreAlike v (value_in mirror entry.expected) → Apart t (name_of v) (name_of (value_in mirror entry.expected))
+  test : (v : Value) (word : ℕ) → word ≡ word_for t.home v → AreAlike v (value_in mirror entry.expected) → Apart t (name_in v) (name_in (value_in mirror entry.expected))
       → (word == word_in core entry.expected) ≡ is_some (exchange_on t.text.fields (Some v) entry mirror s.source)
   test v word is alike apart = rw (is, expected_word) (words_tell t v (value_in mirror entry.expected) alike apart) ∙ sym (some_if (same_value v (value_in mirror entry.expected)) Memory _)
 
   by_place : (p : Place) → entry.place ≡ p
       → (has_object p core && (s.memory (word_of (place_exchange t.target.fields p core (word_in core entry.expected) (word_in core entry.replacement))) == word_in core entry.expected)) ≡ is_some (exchange_on t.text.fields (found_at t.text.fields p mirror s.source) entry mirror s.source)
   by_place (places.Root z) is =
-      let apart = subst (λ (p : Place). PlaceOffered t s c core mirror (name_of (value_in mirror entry.expected)) p) is w.place in
+      let apart = subst (λ (p : Place). PlaceOffered t s c core mirror (name_in (value_in mirror entry.expected)) p) is w.place in
       let alike = subst (λ (p : Place). (v : Value) → found_at t.text.fields p mirror s.source ≡ Some v → AreAlike v (value_in mirror entry.expected)) is w.alike in
       test (value_at s.source.roots z) (s.memory (Cell z)) (f.store.root z) (alike (value_at s.source.roots z) refl) apart
   by_place (places.Field a g) is =
-      let object = subst (λ (p : Place). PlaceOffered t s c core mirror (name_of (value_in mirror entry.expected)) p) is w.place in
+      let object = subst (λ (p : Place). PlaceOffered t s c core mirror (name_in (value_in mirror entry.expected)) p) is w.place in
       let alike = subst (λ (p : Place). (v : Value) → found_at t.text.fields p mirror s.source ≡ Some v → AreAlike v (value_in mirror entry.expected)) is w.alike in
       let inside = subst (λ (p : Place). IsPlaceInside t.text s.source mirror p) is w.inside in
       let o : ℕ = (reference_in mirror a).node in
@@ -156,5 +157,5 @@ tests_agree t s c core mirror entry null_home f w = by_place entry.place refl wh
       ∙ (f.store.field (t.home o) (place_of t.text.fields g) (λ z. some (sym here ∙ z)) (subst (λ (n : ℕ). place_of t.text.fields g < value_count s.source n) (sym here) (inside some))
       ∙ (ap (λ (n : ℕ). word_for t.home (field_of s.source n (place_of t.text.fields g))) here ∙ ap (word_for t.home) value)))) in
       rw (there, found) (test (value_at node.0 (place_of t.text.fields g)) _ word (alike (value_at node.0 (place_of t.text.fields g)) found)
-      (subst (λ (v : Value). Apart t (name_of v) (name_of (value_in mirror entry.expected))) value (object.2 some))))
+      (subst (λ (v : Value). Apart t (name_in v) (name_in (value_in mirror entry.expected))) value (object.2 some))))
       (cases_eq o 0)

@@ -13,10 +13,10 @@ use Rattle.source_machine.specs.declared.state.Value.{Value}
 use Rattle.source_machine.specs.declared.state.NamedNode.{NamedNode}
 use Rattle.source_machine.specs.Memory.{value_at, fields_named, blank_of, blank_field, blank_fields}
 use Rattle.source_machine.specs.Proper.{has, field_of}
-use Rattle.source_machine.specs.MethodRuns.{put}
+use Rattle.source_machine.specs.MethodRuns.{put, name_in}
 use Rattle.source_machine.proofs.Places.{each_put, put_other, fields_new, fields_new_other}
 use Rattle.run_ahead.specs.Typed.{IsTyped}
-use Rattle.oa_simulation.specs.sim_relation.Views.{Plan, Owner, Null, Held, Retiring, Shared, word_for, name_of, value_count, link, Resident}
+use Rattle.oa_simulation.specs.sim_relation.Views.{Plan, Owner, Null, Held, Retiring, Shared, word_for, value_count, link, Resident}
 use Rattle.oa_simulation.specs.sim_relation.Shared.{Slot, SharedHolds}
 use Rattle.oa_simulation.specs.sim_relation.MayChange.{MayChange}
 use Rattle.oa_simulation.proofs.sim_relation.Names.{slot_by, own_private, null_private}
@@ -110,11 +110,11 @@ drawn t s kind j g = record s {
   source = record s.source { nodes = record { name = s.unused; kind = kind; values = blank_fields t.text kind } ∷ s.source.nodes };
 }
 
-pub blank_null : (t : Plan) (kind : FieldKind) → t.home 0 ≡ 0 → (word_for t.home (blank_of kind) ≡ 0) × (name_of (blank_of kind) ≡ 0)
+pub blank_null : (t : Plan) (kind : FieldKind) → t.home 0 ≡ 0 → (word_for t.home (blank_of kind) ≡ 0) × (name_in (blank_of kind) ≡ 0)
 blank_null t field_kinds.Number null = (refl, refl)
 blank_null t (field_kinds.Reference k) null = (rw null refl, refl)
 
-pub blank_value : (t : Plan) (fields : List FieldDecl) (g : ℕ) → t.home 0 ≡ 0 → (word_for t.home (value_at (map blank_field fields) g) ≡ 0) × (name_of (value_at (map blank_field fields) g) ≡ 0)
+pub blank_value : (t : Plan) (fields : List FieldDecl) (g : ℕ) → t.home 0 ≡ 0 → (word_for t.home (value_at (map blank_field fields) g) ≡ 0) × (name_in (value_at (map blank_field fields) g) ≡ 0)
 blank_value t [] g null = (refl, refl)
 blank_value t (field ∷ fields) zero null = blank_null t field.kind null
 blank_value t (field ∷ fields) (suc g) null = blank_value t fields g null
@@ -165,7 +165,7 @@ fine_drawn t s c k kind j g null_home f w = record {
         (λ i ne lt some. let v = f.store.node i some in (v.0, fields_new_other s.unused kind (s.present i) (blank_fields t.text kind) s.source.nodes (old i) ∙ v.1)) i (below i);
     drawn = below;
     null_node = fields_new_other s.unused kind 0 (blank_fields t.text kind) s.source.nodes (λ e. let some = f.unused_some in omega (arith, some, e)) ∙ f.store.null_node;
-    link = each_drawn t kind (λ n h (value : Value). (name_of value ≡ 0) ⊎ (s.public (name_of value) ≡ true)) s.source.nodes s.unused (λ h. inl (blank_value t (fields_of kind t.text.fields) h null_home).1) (λ n h ne. f.store.link n h);
+    link = each_drawn t kind (λ n h (value : Value). (name_in value ≡ 0) ⊎ (s.public (name_in value) ≡ true)) s.source.nodes s.unused (λ h. inl (blank_value t (fields_of kind t.text.fields) h null_home).1) (λ n h ne. f.store.link n h);
     top = f.store.top;
   };
   guard = λ d r some.
@@ -219,7 +219,7 @@ goes_drawn t s c k kind j g f w = record {
   protects = λ d r ne. refl;
   validated = λ r q some. inl refl;
   -- what the new node links is null
-  link = each_drawn t kind (λ n h (value : Value). (name_of value ≡ link s n h) ⊎ Resident t (drawn t s kind j g) (name_of value) ⊎ (((i : ℕ) × (s.owner (t.home n) ≡ Held c i)) × (s.public n ≡ false))) s.source.nodes s.unused
+  link = each_drawn t kind (λ n h (value : Value). (name_in value ≡ link s n h) ⊎ Resident t (drawn t s kind j g) (name_in value) ⊎ (((i : ℕ) × (s.owner (t.home n) ≡ Held c i)) × (s.public n ≡ false))) s.source.nodes s.unused
       (λ h. inr (inr ((k, ap s.owner w.home ∙ w.own), (f.unused s.unused (omega arith)).0))) (λ n h ne. inl refl);
   held = λ i d m ne is.
       let other : i ≢ j = apart s i j (Held d m) (Held c k) is w.own (λ e. ne (cc e)) in
@@ -239,7 +239,7 @@ goes_put t c k s o f v w own private = record {
   hazard = λ d r ne. refl;
   protects = λ d r ne. refl;
   validated = λ r q some. inl refl;
-  link = each_written (λ n g (value : Value). (name_of value ≡ link s n g) ⊎ Resident t (linked t s o f v) (name_of value) ⊎ (((i : ℕ) × (s.owner (t.home n) ≡ Held c i)) × (s.public n ≡ false))) s.source o f v w.values w.fields w.within
+  link = each_written (λ n g (value : Value). (name_in value ≡ link s n g) ⊎ Resident t (linked t s o f v) (name_in value) ⊎ (((i : ℕ) × (s.owner (t.home n) ≡ Held c i)) × (s.public n ≡ false))) s.source o f v w.values w.fields w.within
       (inr (inr ((k, own), private))) (λ n g ne. inl refl);
   held = λ j d m ne is. (is, refl, (λ g. let away : (j == t.home o) ≡ false = (let x : j ≢ t.home o = apart s j (t.home o) (Held d m) (Held c k) is own (λ e. ne (cc e)) in grind (arith, nat_tests)) in rw away refl));
   retiring = λ j d ne is. (is, refl, refl);

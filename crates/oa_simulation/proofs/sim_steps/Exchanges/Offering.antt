@@ -15,7 +15,7 @@ use Rattle.norm_lang.specs.declared.text.Instr.{Instr}
 use Rattle.norm_lang.specs.declared.text.Instr.TheVariants as instr
 use Rattle.norm_lang.specs.declared.text.Text.{Text}
 use Rattle.norm_lang.specs.declared.registers.Registers.{Registers}
-use Rattle.norm_lang.specs.Registers.{reference_in}
+use Rattle.norm_lang.specs.Registers.{reference_in, node_in}
 use Rattle.norm_lang.specs.InstructionRules.{place_kind, is_unlike, has_wrong_object, has_wrong_operand}
 use Rattle.norm_lang.specs.KindFields.{owner_of, place_of}
 use Rattle.norm_lang.specs.Kinds.{asks_object}
@@ -30,11 +30,12 @@ use Rattle.source_machine.specs.declared.state.NamedNode.{NamedNode}
 use Rattle.source_machine.specs.declared.state.Memory.{Memory}
 use Rattle.source_machine.specs.Memory.{value_at, value_in, found_at, fields_named, blank_fields}
 use Rattle.source_machine.specs.Proper.{has, itself}
+use Rattle.source_machine.specs.MethodRuns.{name_in}
 use Rattle.target_laws.specs.Methods.{code_in}
 use Rattle.target_laws.specs.Uses.{entries_of}
 use Rattle.target_laws.proofs.Entries.{reads_entry, entries_are_validated}
 use Rattle.target_laws.proofs.KeptRules.{kept_are_left}
-use Rattle.run_ahead.specs.Agreeing.{Agree, node_in}
+use Rattle.run_ahead.specs.Agreeing.{Agree}
 use Rattle.run_ahead.specs.Ahead.{IsErased}
 use Rattle.run_ahead.specs.Guards.{GuardStands, IsUnderGuard}
 use Rattle.run_ahead.specs.Known.{is_set_in}
@@ -43,7 +44,7 @@ use Rattle.run_ahead.proofs.Mirroring.{same_itself}
 use Rattle.run_ahead.proofs.Getting.{carried_where_read}
 use Rattle.run_ahead.proofs.Plain.{agrees_at}
 use Rattle.run_ahead.proofs.TypedMemory.{behind_typed, register_for, field_at, root_at, value_of_kind}
-use Rattle.oa_simulation.specs.sim_relation.Views.{Plan, IsPlan, Shared, Caller, name_of, top}
+use Rattle.oa_simulation.specs.sim_relation.Views.{Plan, IsPlan, Shared, Caller, top}
 use Rattle.oa_simulation.specs.sim_relation.Shared.{SharedHolds}
 use Rattle.oa_simulation.specs.sim_relation.Callers.{Calm, Base, Trail, Walks, Guards, spared, counts, spot_of}
 use Rattle.oa_simulation.specs.sim_relation.Points.{IsProperPoint, point}
@@ -108,9 +109,9 @@ operand_is_own t m at entry l r erased leads is operand = by_method m.walk.metho
 
 pub roots_live : (t : Plan) (s : Shared) (x : Caller) (z : ℕ) → SharedHolds t s → IsProperPoint t.text (point s x) → has (top s z) s.source.retired ≡ false
 roots_live t s x z f proper = of (value_at s.source.roots z) refl where
-  of : (v : Value) → value_at s.source.roots z ≡ v → has (name_of (value_at s.source.roots z)) s.source.retired ≡ false
-  of (Number n) is = ap (λ (v : Value). has (name_of v) s.source.retired) is ∙ f.null_stays
-  of (Node y) is = ap (λ (v : Value). has (name_of v) s.source.retired) is ∙ proper.roots z y.node y is (itself y.node)
+  of : (v : Value) → value_at s.source.roots z ≡ v → has (name_in (value_at s.source.roots z)) s.source.retired ≡ false
+  of (Number n) is = ap (λ (v : Value). has (name_in v) s.source.retired) is ∙ f.null_stays
+  of (Node y) is = ap (λ (v : Value). has (name_in v) s.source.retired) is ∙ proper.roots z y.node y is (itself y.node)
 
 -- ---- kinds
 
@@ -166,7 +167,7 @@ agrees t s c x m i k entry r w operand =
     (reads_entry i k entry r w.one (any_before (same_register r) (operands_of entry) (registers_named entry.retire) operand)) w.walks.ahead
 
 under_guard : (t : Plan) (s : Shared) (c : ℕ) (x : Caller) (m : Trail t) (i : Instr) (k : ℕ) (entry : CasEntry) (r : Reg) → Before t s c x m i k entry → IsTrue (list_any (same_register r) (operands_of entry))
-    → IsUnder s c (spared t m.walk) (name_of (value_in m.mirror r))
+    → IsUnder s c (spared t m.walk) (name_in (value_in m.mirror r))
 under_guard t s c x m i k entry (Num r) w operand = null refl
 under_guard t s c x m i k entry (Ref r) w operand = of (cases_eq (node_in m.mirror r) 0) stands.1 where
   own : IsOwn t m r
@@ -182,19 +183,19 @@ under_guard t s c x m i k entry (Ref r) w operand = of (cases_eq (node_in m.mirr
   of (inr some) (inr none) = absurd (some (sym stands.0 ∙ none))
 
 place_offered : (t : Plan) (s : Shared) (c : ℕ) (x : Caller) (m : Trail t) (i : Instr) (k : ℕ) (entry : CasEntry) (p : Place) → Before t s c x m i k entry → entry.place ≡ p
-    → PlaceOffered t s c x.entry.hand.registers m.mirror (name_of (value_in m.mirror entry.expected)) p
+    → PlaceOffered t s c x.entry.hand.registers m.mirror (name_in (value_in m.mirror entry.expected)) p
 place_offered t s c x m i k entry (places.Root z) w is =
     let live = roots_live t s x z w.shared_holds w.proper in
     let expected = under_guard t s c x m i k entry entry.expected w (expected_at entry.place entry) in
-    residents_apart t s (top s z) (name_of (value_in m.mirror entry.expected)) (root_resident t s z w.plan.null w.shared_holds live)
-    (under_resident t s c (spared t m.walk) (name_of (value_in m.mirror entry.expected)) w.plan.null w.shared_holds expected)
+    residents_apart t s (top s z) (name_in (value_in m.mirror entry.expected)) (root_resident t s z w.plan.null w.shared_holds live)
+    (under_resident t s c (spared t m.walk) (name_in (value_in m.mirror entry.expected)) w.plan.null w.shared_holds expected)
 place_offered t s c x m i k entry (places.Field (Num a) f) w is = ((sym w.plan.null, refl), inl refl, (λ some. absurd (some refl)))
 place_offered t s c x m i k entry (places.Field (Ref a) f) w is =
     let object = under_guard t s c x m i k entry (Ref a) w (object_is (Ref a) f entry is) in
     let expected = under_guard t s c x m i k entry entry.expected w (expected_at entry.place entry) in (
       agrees t s c x m i k entry (Ref a) w (object_is (Ref a) f entry is),
       under_at_hand t s c (spared t m.walk) (node_in m.mirror a) w.shared_holds object,
-      (λ some. content_apart t s c (spared t m.walk) (node_in m.mirror a) (name_of (value_in m.mirror entry.expected)) (place_of t.text.fields f) w.plan.null w.shared_holds w.walks.sound.pairs object some expected),
+      (λ some. content_apart t s c (spared t m.walk) (node_in m.mirror a) (name_in (value_in m.mirror entry.expected)) (place_of t.text.fields f) w.plan.null w.shared_holds w.walks.sound.pairs object some expected),
     )
 
 pub offers : (t : Plan) (s : Shared) (c : ℕ) (x : Caller) (m : Trail t) (i : Instr) (k : ℕ) (entry : CasEntry) → Before t s c x m i k entry → Offers t s c x.entry.hand.registers m.mirror entry
@@ -202,8 +203,8 @@ offers t s c x m i k entry w = record {
   place = place_offered t s c x m i k entry entry.place w refl;
   expected = agrees t s c x m i k entry entry.expected w (expected_at entry.place entry);
   replacement = agrees t s c x m i k entry entry.replacement w (replacement_at entry.place entry);
-  resident = under_resident t s c (spared t m.walk) (name_of (value_in m.mirror entry.expected)) w.plan.null w.shared_holds (under_guard t s c x m i k entry entry.expected w (expected_at entry.place entry));
-  new = under_at_hand t s c (spared t m.walk) (name_of (value_in m.mirror entry.replacement)) w.shared_holds (under_guard t s c x m i k entry entry.replacement w (replacement_at entry.place entry));
+  resident = under_resident t s c (spared t m.walk) (name_in (value_in m.mirror entry.expected)) w.plan.null w.shared_holds (under_guard t s c x m i k entry entry.expected w (expected_at entry.place entry));
+  new = under_at_hand t s c (spared t m.walk) (name_in (value_in m.mirror entry.replacement)) w.shared_holds (under_guard t s c x m i k entry entry.replacement w (replacement_at entry.place entry));
   asked = w.asked;
   fields = ap (λ (text : Text). text.fields) w.plan.compiled.barred.erases;
   inside = place_inside t.text s.source m.mirror entry.place kind.0 w.shared_holds.typed (entry_object t.text entry s.source.nodes m.mirror w.asked) kind.1;

@@ -22,13 +22,14 @@ use Rattle.source_machine.specs.declared.state.Memory.{Memory}
 use Rattle.source_machine.specs.Memory.{value_at, value_in, same_value, fields_named, found_at, with_place, with_name_retired, with_retired, exchange, exchange_on}
 use Rattle.source_machine.specs.Proper.{has, field_of, IsOnce}
 use Rattle.source_machine.proofs.Names.{has_push}
+use Rattle.source_machine.specs.MethodRuns.{name_in}
 use Rattle.caller_parts.specs.Operands.{word_in, slot_in, succeeds, has_object}
 use Rattle.caller_steps.specs.Wants.{place_exchange, object_exchange, exchange_wanted}
 use Rattle.run_ahead.specs.Typed.{IsTyped, root_kinds}
 use Rattle.run_ahead.proofs.TypedMemory.{root_at, values_inside}
-use Rattle.oa_simulation.specs.sim_relation.Views.{Plan, Held, Shared, word_for, name_of, Resident}
+use Rattle.oa_simulation.specs.sim_relation.Views.{Plan, Held, Shared, word_for, Resident}
 use Rattle.oa_simulation.specs.sim_relation.Shared.{SharedHolds}
-use Rattle.oa_simulation.specs.sim_relation.Steps.{after_access}
+use Rattle.chain_laws.specs.Memories.{after_access}
 use Rattle.oa_simulation.proofs.sim_relation.Names.{own_private}
 use Rattle.oa_simulation.proofs.sim_steps.Inside.{IsPlaceInside}
 use Rattle.oa_simulation.proofs.sim_steps.Exchanges.Exchanging.{IsAtHand, hand_resident, PlaceOffered, Offers, word_agrees}
@@ -61,8 +62,8 @@ no_other t s c o f (inr known) some d k ne held = of known.1 where
   of (inl public) = let private = own_private t s d k o f held known.0 in (let z : true ≡ false = sym public ∙ private in cc)
   of (inr mine) = ne (let z : Held d k ≡ Held c mine.0 = sym held ∙ mine.1 in cc)
 
-pub place_writes : (t : Plan) (s : Shared) (c : ℕ) (mirror : Registers) (p : Place) (v : Value) → t.home 0 ≡ 0 → SharedHolds t s → PlaceThere t s c mirror p → Resident t s (name_of v)
-    → (name_of v ≡ 0) ⊎ (s.public (name_of v) ≡ true) → IsTyped t.text (placed t s mirror p v).source
+pub place_writes : (t : Plan) (s : Shared) (c : ℕ) (mirror : Registers) (p : Place) (v : Value) → t.home 0 ≡ 0 → SharedHolds t s → PlaceThere t s c mirror p → Resident t s (name_in v)
+    → (name_in v ≡ 0) ⊎ (s.public (name_in v) ≡ true) → IsTyped t.text (placed t s mirror p v).source
     → Writes t c s (place_memory t s.memory mirror p v) (with_place t.text.fields p mirror v s.source).nodes (with_place t.text.fields p mirror v s.source).roots
 place_writes t s c mirror (places.Root z) v null_home f there here known typed = record {
   shared_holds = fine_linked_root t s z v f (record { within = there; known = known; typed = typed });
@@ -86,7 +87,7 @@ place_writes t s c mirror (places.Field a g) v null_home f there here known type
 
 -- ---- the source
 
-pub same_names : (v u : Value) → same_value v u ≡ true → name_of v ≡ name_of u
+pub same_names : (v u : Value) → same_value v u ≡ true → name_in v ≡ name_in u
 same_names (Number n) (Number m) same = refl
 same_names (Node a) (Node b) same = let both = and_parts _ _ same in (let e : (a.node == b.node) ≡ true = both.0 in grind (arith, nat_tests, e))
 same_names (Number n) (Node b) same = absurd (let z : false ≡ true = same in cc)
@@ -109,7 +110,7 @@ place_source t s mirror (places.Field a f) v = refl
 pub record Makes (t : Plan) (s : Shared) (mirror : Registers) (entry : CasEntry) (after : Memory) : Type 0 where
   pub found : Value
   pub finds : found_at t.text.fields entry.place mirror s.source ≡ Some found
-  pub same : name_of found ≡ name_of (value_in mirror entry.expected)
+  pub same : name_in found ≡ name_in (value_in mirror entry.expected)
   pub after_is : after ≡ with_name_retired (to_drop entry.retire mirror) (placed t s mirror entry.place (value_in mirror entry.replacement)).source
 
 pub makes : (t : Plan) (s : Shared) (mirror : Registers) (entry : CasEntry) (after : Memory) → exchange t.text.fields entry mirror s.source ≡ Some after → Makes t s mirror entry after
@@ -142,16 +143,16 @@ place_there t s c core mirror e (places.Field a g) kind found f place inside is 
       (place.1, some, (values, fields, subst (λ (o : Option (List Value)). place_of t.text.fields g < length (unwrap_or o [])) fields (inside some)))
 
 -- what is found is null or was published
-pub found_shown : (t : Plan) (s : Shared) (mirror : Registers) (p : Place) (found : Value) → SharedHolds t s → found_at t.text.fields p mirror s.source ≡ Some found → (name_of found ≡ 0) ⊎ (s.public (name_of found) ≡ true)
+pub found_shown : (t : Plan) (s : Shared) (mirror : Registers) (p : Place) (found : Value) → SharedHolds t s → found_at t.text.fields p mirror s.source ≡ Some found → (name_in found ≡ 0) ⊎ (s.public (name_in found) ≡ true)
 found_shown t s mirror (places.Root z) found f finds =
-    let same : value_at s.source.roots z ≡ found = cc in subst (λ (v : Value). (name_of v ≡ 0) ⊎ (s.public (name_of v) ≡ true)) same (f.store.top z)
+    let same : value_at s.source.roots z ≡ found = cc in subst (λ (v : Value). (name_in v ≡ 0) ⊎ (s.public (name_in v) ≡ true)) same (f.store.top z)
 found_shown t s mirror (places.Field a g) found f finds = of (fields_named (reference_in mirror a).node s.source.nodes) refl finds where
-  of : (o : Option (List Value)) → fields_named (reference_in mirror a).node s.source.nodes ≡ o → option_map (λ values. value_at values (place_of t.text.fields g)) o ≡ Some found → (name_of found ≡ 0) ⊎ (s.public (name_of found) ≡ true)
+  of : (o : Option (List Value)) → fields_named (reference_in mirror a).node s.source.nodes ≡ o → option_map (λ values. value_at values (place_of t.text.fields g)) o ≡ Some found → (name_in found ≡ 0) ⊎ (s.public (name_in found) ≡ true)
   of None fields at = absurd (let never : None ≡ Some found = at in cc)
   of (Some values) fields at =
       let same : value_at values (place_of t.text.fields g) ≡ found = cc in
       let value : field_of s.source (reference_in mirror a).node (place_of t.text.fields g) ≡ value_at values (place_of t.text.fields g) = ap (λ (x : Option (List Value)). value_at (unwrap_or x []) (place_of t.text.fields g)) fields in
-      subst (λ (v : Value). (name_of v ≡ 0) ⊎ (s.public (name_of v) ≡ true)) (value ∙ same) (f.store.link (reference_in mirror a).node (place_of t.text.fields g))
+      subst (λ (v : Value). (name_in v ≡ 0) ⊎ (s.public (name_in v) ≡ true)) (value ∙ same) (f.store.link (reference_in mirror a).node (place_of t.text.fields g))
 
 -- ---- the words
 
@@ -167,7 +168,7 @@ words_written t s c core mirror entry w made = by_place entry.place w.place made
   new : word_in core entry.replacement ≡ word_for t.home (value_in mirror entry.replacement)
   new = word_agrees t core mirror entry.replacement w.replacement
 
-  by_place : (p : Place) → PlaceOffered t s c core mirror (name_of (value_in mirror entry.expected)) p
+  by_place : (p : Place) → PlaceOffered t s c core mirror (name_in (value_in mirror entry.expected)) p
       → (has_object p core && (s.memory (word_of (place_exchange t.target.fields p core (word_in core entry.expected) (word_in core entry.replacement))) == word_in core entry.expected)) ≡ true
       → after_access s.memory (place_exchange t.target.fields p core (word_in core entry.expected) (word_in core entry.replacement)) ≡ place_memory t s.memory mirror p (value_in mirror entry.replacement)
   by_place (places.Root z) place made = rw made (ap (store s.memory (Cell z)) new)

@@ -10,11 +10,11 @@ use Rattle.source_machine.specs.declared.state.Memory.{Memory}
 use Rattle.source_machine.specs.declared.state.NamedNode.{NamedNode}
 use Rattle.source_machine.specs.Memory.{value_at, fields_named, with_field}
 use Rattle.source_machine.specs.Proper.{has, field_of}
-use Rattle.source_machine.specs.MethodRuns.{put}
+use Rattle.source_machine.specs.MethodRuns.{put, name_in}
 use Rattle.source_machine.proofs.Places.{each_put, put_same, put_other, fields_set, fields_set_other}
 use Rattle.source_machine.proofs.Names.{has_push, has_old, has_new}
 use Rattle.run_ahead.specs.Typed.{IsTyped}
-use Rattle.oa_simulation.specs.sim_relation.Views.{Plan, Owner, Null, Pool, Held, Living, Retiring, Dead, Shared, word_for, name_of, value_count, link, top, Resident}
+use Rattle.oa_simulation.specs.sim_relation.Views.{Plan, Owner, Null, Pool, Held, Living, Retiring, Dead, Shared, word_for, value_count, link, top, Resident}
 use Rattle.oa_simulation.specs.sim_relation.Shared.{Slot, SharedHolds}
 use Rattle.oa_simulation.specs.sim_relation.MayChange.{MayChange}
 use Rattle.oa_simulation.proofs.sim_relation.Names.{slot_by, has_slot_of, residents_apart, own_private}
@@ -190,7 +190,7 @@ pub record Links (t : Plan) (s : Shared) (o f : ℕ) (v : Value) : Type 0 where
   pub values : List Value
   pub fields : fields_named o s.source.nodes ≡ Some values
   pub within : f < length values
-  pub known : (name_of v ≡ 0) ⊎ (s.public (name_of v) ≡ true)
+  pub known : (name_in v ≡ 0) ⊎ (s.public (name_in v) ≡ true)
   pub typed : IsTyped t.text (linked t s o f v).source
 
 pub fine_linked : (t : Plan) (s : Shared) (o f : ℕ) (v : Value) → SharedHolds t s → Links t s o f v → SharedHolds t (linked t s o f v)
@@ -238,12 +238,12 @@ fine_linked t s o f v fine w = record {
         (cases_eq (s.present j) o);
     drawn = fine.store.drawn;
     null_node = fields_set_other o 0 f v s.source.nodes (λ e. w.some (sym e)) ∙ fine.store.null_node;
-    link = each_written (λ n g (value : Value). (name_of value ≡ 0) ⊎ (s.public (name_of value) ≡ true)) s.source o f v w.values w.fields w.within w.known (λ n g ne. fine.store.link n g);
+    link = each_written (λ n g (value : Value). (name_in value ≡ 0) ⊎ (s.public (name_in value) ≡ true)) s.source o f v w.values w.fields w.within w.known (λ n g ne. fine.store.link n g);
     top = fine.store.top;
   };
 }
 
-pub goes_linked : (t : Plan) (c : ℕ) (s : Shared) (o f : ℕ) (v : Value) → Links t s o f v → Resident t s (name_of v) → ((d k : ℕ) → d ≢ c → s.owner (t.home o) ≡ Held d k → ⊥)
+pub goes_linked : (t : Plan) (c : ℕ) (s : Shared) (o f : ℕ) (v : Value) → Links t s o f v → Resident t s (name_in v) → ((d k : ℕ) → d ≢ c → s.owner (t.home o) ≡ Held d k → ⊥)
     → MayChange t c s (linked t s o f v) × ((n g : ℕ) → (link (linked t s o f v) n g ≡ link s n g) ⊎ Resident t s (link (linked t s o f v) n g))
 goes_linked t c s o f v w new others = (
   record {
@@ -260,8 +260,8 @@ goes_linked t c s o f v w new others = (
   },
   links,
 ) where
-  links : (n g : ℕ) → (name_of (field_of (record s.source { nodes = with_field o f v s.source.nodes }) n g) ≡ name_of (field_of s.source n g)) ⊎ Resident t s (name_of (field_of (record s.source { nodes = with_field o f v s.source.nodes }) n g))
-  links = each_written (λ n g (value : Value). (name_of value ≡ name_of (field_of s.source n g)) ⊎ Resident t s (name_of value)) s.source o f v w.values w.fields w.within (inr new) (λ n g ne. inl refl)
+  links : (n g : ℕ) → (name_in (field_of (record s.source { nodes = with_field o f v s.source.nodes }) n g) ≡ name_in (field_of s.source n g)) ⊎ Resident t s (name_in (field_of (record s.source { nodes = with_field o f v s.source.nodes }) n g))
+  links = each_written (λ n g (value : Value). (name_in value ≡ name_in (field_of s.source n g)) ⊎ Resident t s (name_in value)) s.source o f v w.values w.fields w.within (inr new) (λ n g ne. inl refl)
 
 -- ---- a name is retired
 
@@ -336,7 +336,7 @@ linked_root t s z v = record s { memory = store s.memory (Cell z) (word_for t.ho
 
 pub record LinksRoot (t : Plan) (s : Shared) (z : ℕ) (v : Value) : Type 0 where
   pub within : z < length s.source.roots
-  pub known : (name_of v ≡ 0) ⊎ (s.public (name_of v) ≡ true)
+  pub known : (name_in v ≡ 0) ⊎ (s.public (name_in v) ≡ true)
   pub typed : IsTyped t.text (linked_root t s z v).source
 
 pub fine_linked_root : (t : Plan) (s : Shared) (z : ℕ) (v : Value) → SharedHolds t s → LinksRoot t s z v → SharedHolds t (linked_root t s z v)
@@ -366,7 +366,7 @@ fine_linked_root t s z v f w = record {
     root = each_root (λ i (value : Value). store s.memory (Cell z) (word_for t.home v) (Cell i) ≡ word_for t.home value) s.source.roots z v w.within
         (let one : (z == z) ≡ true = grind (arith, nat_tests) in rw one refl)
         (λ i ne. let away : (i == z) ≡ false = grind (arith, nat_tests) in rw away (f.store.root i));
-    top = each_root (λ i (value : Value). (name_of value ≡ 0) ⊎ (s.public (name_of value) ≡ true)) s.source.roots z v w.within w.known (λ i ne. f.store.top i);
+    top = each_root (λ i (value : Value). (name_in value ≡ 0) ⊎ (s.public (name_in value) ≡ true)) s.source.roots z v w.within w.known (λ i ne. f.store.top i);
   };
 }
 

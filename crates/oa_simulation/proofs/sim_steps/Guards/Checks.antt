@@ -12,10 +12,9 @@ use Rattle.oa_words.specs.Words.{Warning, Hazard}
 use Rattle.guard_words.specs.Guards.{guard_at, pass_check}
 use Rattle.source_machine.specs.declared.state.Value.{Value}
 use Rattle.source_machine.specs.declared.state.Value.TheVariants.{Number, Node}
-use Rattle.source_machine.specs.MethodRuns.{put}
+use Rattle.source_machine.specs.MethodRuns.{put, name_in}
 use Rattle.source_machine.specs.Proper.{has, field_of, itself, onward}
 use Rattle.source_machine.proofs.Places.{put_same, put_other}
-use Rattle.run_ahead.specs.Agreeing.{node_in}
 use Rattle.target_laws.specs.Trusted.{Trust, Trusted, Unchecked, Spoilt, confirmed, trust_along, trust_after}
 use Rattle.target_laws.specs.Methods.{code_in}
 use Rattle.target_code.specs.PathStates.{over_plain, is_fresh_along}
@@ -27,7 +26,8 @@ use Rattle.run_ahead.proofs.Getting.{check_got}
 use Rattle.run_ahead.proofs.GuardRows.{guards_keep}
 use Rattle.norm_lang.specs.Freshness.{fresh_after}
 use Rattle.norm_lang.specs.RegisterUse.{set_after}
-use Rattle.oa_simulation.specs.sim_relation.Views.{Plan, IsPlan, Held, Shared, Caller, link, name_of, Resident}
+use Rattle.norm_lang.specs.Registers.{node_in}
+use Rattle.oa_simulation.specs.sim_relation.Views.{Plan, IsPlan, Held, Shared, Caller, link, Resident}
 use Rattle.oa_simulation.specs.sim_relation.Shared.{SharedHolds, Guarded}
 use Rattle.oa_simulation.specs.sim_relation.Callers.{Known, Calm, Base, Trail, Walks, Gets, Guards, Running, guard_state, spared, spot_of}
 use Rattle.oa_simulation.specs.sim_relation.MayChange.{MayChange}
@@ -218,7 +218,7 @@ walks_passed t s c x m w is = record {
   hoped : (n : ℕ) → IsHoped (trust_along m.walk.method m.path) m.mirror n → Resident t s n
   hoped = hoped_resident t s c x m w.plan.null w.shared_holds w.base w.below w.calm w.proper (blank m.walk k.generator) k.kept w.gets
 
-  by_value : (n g : ℕ) → has n x.held.got ≡ true → (v : Value) → field_of s.source n g ≡ v → Resident t s (name_of v)
+  by_value : (n g : ℕ) → has n x.held.got ≡ true → (v : Value) → field_of s.source n g ≡ v → Resident t s (name_in v)
   by_value n g got (Number i) is = null_resident t s 0 w.plan.null w.shared_holds refl
   by_value n g got (Node reference) is =
       resident t s c x w.plan.null w.shared_holds w.base w.below w.calm w.proper n reference.node got (onward n reference.node reference.node (g, reference.marked, is) (itself reference.node))

@@ -23,9 +23,6 @@ guard_other guards r slot k ne = set_misses guards.slots r slot 0 k ne
 pub protects_more : (s : Shared) (c r x d k : ℕ) → (hazarded s c r x).protects d k ≢ 0 → ((hazarded s c r x).protects d k ≡ s.protects d k) × ((hazarded s c r x).memory (Hazard d k) ≡ s.memory (Hazard d k))
 protects_more s c r x d k some = grind (arith, nat_tests)
 
-pub protects_other : (s : Shared) (c r x k : ℕ) → k ≢ r → (hazarded s c r x).protects c k ≡ s.protects c k
-protects_other s c r x k ne = grind (arith, nat_tests)
-
 pub fine_hazarded : (t : Plan) (c : ℕ) (s : Shared) (r x : ℕ) → SharedHolds t s → SharedHolds t (hazarded s c r x)
 fine_hazarded t c s r x f = record {
   warning = f.warning;

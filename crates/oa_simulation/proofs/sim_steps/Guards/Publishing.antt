@@ -19,7 +19,7 @@ use Rattle.guard_words.specs.Guards.{guard_at, with_guard}
 use Rattle.source_machine.specs.MethodRuns.{put}
 use Rattle.source_machine.specs.Proper.{has}
 use Rattle.source_machine.proofs.Places.{put_other}
-use Rattle.run_ahead.specs.Agreeing.{Agree, node_in}
+use Rattle.run_ahead.specs.Agreeing.{Agree}
 use Rattle.target_laws.specs.Trusted.{Trust, Trusted, Unchecked, Spoilt, carried_in, carried_by, trust_along, trust_after, trust_in_set, trust_at_start, confirmed}
 use Rattle.run_ahead.specs.Ahead.{erasing, AsTrusted}
 use Rattle.target_laws.specs.Methods.{Method, code_in}
@@ -31,6 +31,7 @@ use Rattle.run_ahead.proofs.Getting.{guard_got}
 use Rattle.target_laws.proofs.Used.{has_none}
 use Rattle.norm_lang.specs.Freshness.{fresh_after}
 use Rattle.norm_lang.specs.RegisterUse.{set_after}
+use Rattle.norm_lang.specs.Registers.{node_in}
 use Rattle.oa_simulation.specs.sim_relation.Views.{Plan, IsPlan, Shared, Caller}
 use Rattle.oa_simulation.specs.sim_relation.Callers.{Calm, Trail, Walks, Running, counts, guard_state, spared, spot_of}
 use Rattle.oa_simulation.specs.sim_relation.Steps.{hazarded, regarded, with_names, is_counted}

@@ -4,6 +4,7 @@ use Rattle.std.specs.Prelude.{slice_get}
 use Rattle.std.proofs.lemmas.Bool.Decides.{nat_tests}
 use Rattle.norm_lang.specs.declared.text.Reg.TheVariants.{Ref}
 use Rattle.norm_lang.specs.Local.{Spot}
+use Rattle.norm_lang.specs.Registers.{node_in}
 use Rattle.target_code.specs.declared.target.TargetInstr.TheVariants.{Check, Guard}
 use Rattle.oa_words.specs.Words.{Warning, Hazard}
 use Rattle.oa_words.specs.Memories.{store}
@@ -11,7 +12,6 @@ use Rattle.caller_steps.specs.Entries.{one_more}
 use Rattle.caller_parts.specs.Operands.{slot_in}
 use Rattle.caller_steps.specs.After.{counted, checked, check_passed, check_failed, guarded}
 use Rattle.target_laws.specs.Methods.{code_in}
-use Rattle.run_ahead.specs.Agreeing.{node_in}
 use Rattle.oa_simulation.specs.sim_relation.Views.{Plan, IsPlan, Shared, Caller}
 use Rattle.oa_simulation.specs.sim_relation.Shared.{SharedHolds}
 use Rattle.oa_simulation.specs.sim_relation.Callers.{Calm, Base, Running, spot_of}

@@ -3,17 +3,18 @@
 use Rattle.std.proofs.Common.{ℕ, ◌≡◌, ◌≢◌, ◌<◌, ◌⊎◌, ◌∙◌, true, false, arith, inl, inr, ⊎_elim, sym, ap, subst, refl}
 use Rattle.std.proofs.lemmas.Bool.{cases_eq}
 use Rattle.norm_lang.specs.declared.text.Reg.TheVariants.{Ref}
+use Rattle.norm_lang.specs.Registers.{node_in}
 use Rattle.oa_words.specs.Words.{Warning}
 use Rattle.source_machine.specs.Proper.{has, Reaches, itself, onward}
+use Rattle.source_machine.specs.MethodRuns.{name_in}
 use Rattle.target_code.proofs.Keeping.{keeps_is_kept}
 use Rattle.target_code.specs.Keeping.{keeps}
-use Rattle.run_ahead.specs.Agreeing.{node_in}
 use Rattle.target_laws.specs.Trusted.{trust_along}
 use Rattle.run_ahead.specs.Ahead.{IsHoped}
 use Rattle.run_ahead.specs.Known.{IsGot, IsNameKept}
 use Rattle.run_ahead.specs.Following.{Walk}
 use Rattle.run_ahead.proofs.Names.{hoped_are_known}
-use Rattle.oa_simulation.specs.sim_relation.Views.{Plan, Shared, Caller, link, name_of, Resident}
+use Rattle.oa_simulation.specs.sim_relation.Views.{Plan, Shared, Caller, link, Resident}
 use Rattle.oa_simulation.specs.sim_relation.Shared.{SharedHolds}
 use Rattle.oa_simulation.specs.sim_relation.Callers.{Known, Calm, Base, Trail, Gets, KeepsGuards, spared}
 use Rattle.oa_simulation.specs.sim_relation.Allowing.{IsProperFor}
@@ -23,7 +24,7 @@ use Rattle.oa_simulation.proofs.sim_relation.Names.{null_resident}
 pub reach_known : (t : Plan) (s : Shared) (c : ℕ) → SharedHolds t s → (n other : ℕ) → Known t s c n → Reaches s.source n other → Known t s c other
 reach_known t s c f n other known (itself _) = known
 reach_known t s c f n other known (onward _ next _ points rest) =
-    let is : link s n points.0 ≡ next = ap name_of points.2 in
+    let is : link s n points.0 ≡ next = ap name_in points.2 in
     reach_known t s c f next other (⊎_elim (λ (z : link s n points.0 ≡ 0). inl (sym is ∙ z)) (λ (p : s.public (link s n points.0) ≡ true). inr (inl (ap s.public (sym is) ∙ p))) (f.store.link n points.0)) rest
 
 pub resident : (t : Plan) (s : Shared) (c : ℕ) (x : Caller) → t.home 0 ≡ 0 → SharedHolds t s → Base t s c x → c < t.setting.sizes.callers → Calm s c x → IsProperFor s x

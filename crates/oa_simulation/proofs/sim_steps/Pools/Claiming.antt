@@ -45,7 +45,8 @@ use Rattle.oa_simulation.proofs.sim_relation.Playing.{plays_none, plays_one, poi
 use Rattle.oa_simulation.proofs.sim_steps.Walks.Replying.{follows_of}
 use Rattle.oa_simulation.specs.sim_relation.Callers.{Calm, Base, Trail, AtNew, Empty, ClaimAt, spot_of, call_of}
 use Rattle.oa_simulation.specs.sim_relation.Naming.{freed_in}
-use Rattle.oa_simulation.specs.sim_relation.Steps.{KeptNaming, Kept, TakenIsReady, GoesForAll, after_access, moved, cradled}
+use Rattle.chain_laws.specs.Memories.{after_access}
+use Rattle.oa_simulation.specs.sim_relation.Steps.{KeptNaming, Kept, TakenIsReady, GoesForAll, moved, cradled}
 use Rattle.oa_simulation.proofs.sim_relation.Words.{store_idle}
 use Rattle.oa_simulation.proofs.sim_relation.Moving.{base_moved, new_moved, own_base, own_new, goes_same, new_cradled, base_cradled, base_settled, settled_is, names_settle, same_names}
 use Rattle.oa_simulation.proofs.sim_steps.Pools.Slots.{in_pool, taken, cradle_taken, with_status}

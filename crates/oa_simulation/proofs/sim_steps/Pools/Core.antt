@@ -17,7 +17,8 @@ use Rattle.oa_simulation.specs.sim_relation.Views.{Plan, IsPlan, Shared, Caller}
 use Rattle.oa_simulation.specs.sim_relation.Shared.{SharedHolds}
 use Rattle.oa_simulation.specs.sim_relation.Callers.{CallerHolds, HoldsAt}
 use Rattle.oa_simulation.specs.sim_relation.Naming.{freed_in}
-use Rattle.oa_simulation.specs.sim_relation.Steps.{KeptNaming, TakesReady, after_access}
+use Rattle.chain_laws.specs.Memories.{after_access}
+use Rattle.oa_simulation.specs.sim_relation.Steps.{KeptNaming, TakesReady}
 use Rattle.oa_simulation.proofs.sim_steps.Pools.Claiming.{claims_keep}
 use Rattle.caller_parts.specs.declared.setting.Reclamation.TheVariants.{Optimistic}
 

@@ -23,7 +23,8 @@ use Rattle.oa_simulation.specs.sim_relation.Views.{Plan, Shared}
 use Rattle.oa_simulation.specs.sim_relation.Shared.{SharedHolds}
 use Rattle.oa_simulation.specs.sim_relation.Callers.{Sweeps, SweepAt}
 use Rattle.oa_simulation.specs.sim_relation.Naming.{freed_at}
-use Rattle.oa_simulation.specs.sim_relation.Steps.{GoesForAll, after_access}
+use Rattle.chain_laws.specs.Memories.{after_access}
+use Rattle.oa_simulation.specs.sim_relation.Steps.{GoesForAll}
 use Rattle.oa_simulation.proofs.sim_relation.Names.{has_slot_of}
 use Rattle.oa_simulation.proofs.sim_relation.Words.{store_idle, each_warning}
 use Rattle.oa_simulation.proofs.sim_relation.Moving.{goes_same}

@@ -13,7 +13,7 @@ use Rattle.target_code.specs.declared.target.TargetInstr.TheVariants.{Plain}
 use Rattle.target_code.specs.Flaws.{GuardState, Free, Published, Validated, Dropped, dropped, guard_after}
 use Rattle.source_machine.specs.MethodRuns.{MethodRun}
 use Rattle.source_machine.specs.Proper.{has}
-use Rattle.run_ahead.specs.Agreeing.{Changes, node_in}
+use Rattle.run_ahead.specs.Agreeing.{Changes}
 use Rattle.target_laws.specs.Trusted.{Trusted, trust_along, trust_after, trust_in_set}
 use Rattle.target_laws.specs.Methods.{code_in}
 use Rattle.target_code.specs.PathStates.{over_plain, is_fresh_along}
@@ -22,6 +22,7 @@ use Rattle.run_ahead.specs.Guards.{GuardRow, GuardStands}
 use Rattle.run_ahead.specs.Known.{AreGot, is_set_in}
 use Rattle.norm_lang.specs.Freshness.{fresh_after}
 use Rattle.norm_lang.specs.RegisterUse.{set_after}
+use Rattle.norm_lang.specs.Registers.{node_in}
 use Rattle.oa_simulation.specs.sim_relation.Views.{Plan, Held, Shared, Caller, Resident, Apart}
 use Rattle.oa_simulation.specs.sim_relation.Shared.{SharedHolds}
 use Rattle.oa_simulation.specs.sim_relation.Callers.{Own, Known, Shown, Calm, Base, Trail, Walks, Gets, Guards, counts, guard_state, HasMade}

@@ -4,12 +4,11 @@ use Rattle.std.specs.Prelude.{slice_get}
 use Rattle.norm_lang.specs.declared.text.CasEntry.{CasEntry}
 use Rattle.norm_lang.specs.declared.text.Instr.TheVariants as instr
 use Rattle.norm_lang.specs.declared.text.Reg.TheVariants.{Ref}
-use Rattle.norm_lang.specs.Registers.{with_count}
+use Rattle.norm_lang.specs.Registers.{with_count, node_in}
 use Rattle.target_code.specs.declared.target.TargetInstr.TheVariants.{Plain}
 use Rattle.target_code.proofs.Keeping.{keeps_is_kept}
 use Rattle.source_machine.specs.Proper.{runs_method}
 use Rattle.caller_steps.specs.After.{list_ended, wrap_up_hand}
-use Rattle.run_ahead.specs.Agreeing.{node_in}
 use Rattle.run_ahead.specs.Ahead.{erasing, Ahead}
 use Rattle.target_laws.specs.Methods.{code_in}
 use Rattle.run_ahead.specs.Known.{is_set_in}
@@ -54,10 +53,6 @@ kept_settled t x walk r n k = ⊎_elim
 -- the caller where its wrap-up is about to begin
 abbrev pub wrapped : Caller → ℕ → Caller
 wrapped x made = record x { names = settled_names x.names; entry = record x.entry { hand = wrap_up_hand made x.entry.hand } }
-
--- the wrap-up's run
-abbrev pub behind_list : {t : Plan} → Caller → Trail t → ℕ → Walk t.target t.text
-behind_list x m made = wrapup_walk m.walk.method m.walk.call (with_count x.entry.hand.registers made) (with_count m.mirror made)
 
 pub committed_begins : (t : Plan) (s : Shared) (c : ℕ) (x : Caller) (made : ℕ) (entries : List CasEntry) → IsPlan t → (w : Committed t s c x made)
     → slice_get (code_in w.0.walk.method) x.entry.hand.at ≡ Some (Plain (instr.Commit entries))

@@ -15,7 +15,6 @@ use Rattle.norm_lang.specs.declared.text.Reg.TheVariants.{Ref}
 use Rattle.norm_lang.specs.PathRules.{reads_openly}
 use Rattle.norm_lang.specs.RegisterUse.{reads}
 use Rattle.target_code.specs.Paths.{TargetPath}
-use Rattle.run_ahead.specs.Agreeing.{node_in}
 use Rattle.target_code.specs.PathStates.{is_fresh_along}
 use Rattle.target_laws.proofs.FreshRules.{open_reads_are_not_fresh}
 use Rattle.target_laws.specs.Methods.{code_in, Method}
@@ -31,6 +30,7 @@ use Rattle.oa_simulation.proofs.sim_steps.Walks.Along.{walks_along, gets_along, 
 use Rattle.oa_simulation.proofs.sim_relation.Codes.{code_is, blank}
 use Rattle.target_code.specs.declared.target.Target.{Target}
 use Rattle.norm_lang.specs.declared.text.Text.{Text}
+use Rattle.norm_lang.specs.Registers.{node_in}
 
 pub local_is_old : (i : Instr) (at : ℕ) (registers : Registers) (next : Spot) → local_step i at registers ≡ Some next → is_new i ≡ false
 local_is_old (instr.New d kind) at registers next is = absurd (let z : None ≡ Some next = is in cc)

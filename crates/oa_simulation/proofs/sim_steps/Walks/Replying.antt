@@ -6,7 +6,6 @@ use Rattle.norm_lang.specs.declared.text.Instr.{Instr}
 use Rattle.norm_lang.specs.declared.text.Instr.TheVariants as instr
 use Rattle.norm_lang.specs.InstructionRules.{is_end_of_other}
 use Rattle.norm_lang.specs.Registers.{first_registers}
-use Rattle.target_laws.specs.local_laws.Settling.{is_end}
 use Rattle.target_code.specs.declared.target.TargetInstr.TheVariants.{Plain}
 use Rattle.source_machine.specs.declared.event.SourceEvent.TheVariants as events
 use Rattle.source_machine.specs.declared.state.SourceCaller.{SourceCaller}
@@ -14,6 +13,7 @@ use Rattle.source_machine.specs.Step.{caller_turn, replied}
 use Rattle.source_machine.specs.MethodRuns.{run_begun, run_after}
 use Rattle.source_machine.specs.Proper.{runs_method}
 use Rattle.norm_lang.specs.declared.reply.SourceReply.{SourceReply}
+use Rattle.norm_lang.specs.Flow.{is_end}
 use Rattle.caller_parts.specs.declared.routine.AfterClear.TheVariants as clears
 use Rattle.caller_steps.specs.Signs.{Accesses, quiet, told}
 use Rattle.caller_steps.specs.After.{cleared, owed}

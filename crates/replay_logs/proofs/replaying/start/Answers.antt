@@ -1,7 +1,8 @@
 use Rattle.std.proofs.Common.{refl, ap, ◌∙◌}
 use Rattle.core_runs.specs.Machine.{core_start}
 use Rattle.barrier_check.specs.Paired.{Paired}
-use Rattle.replay_logs.specs.UnderWay.{Terms, fresh_entries}
+use Rattle.replay_steps.specs.Entries.{fresh_entries}
+use Rattle.replay_logs.specs.UnderWay.{Terms}
 use Rattle.replay_logs.proofs.Starting.{starts_so}
 use Rattle.replay_logs.proofs.replaying.start.Goals as goal
 

@@ -4,12 +4,12 @@ use Rattle.kind_rules.specs.declared.facts.KindFacts.{KindFacts}
 use Rattle.kind_rules.specs.Asking.{AreOfOp}
 use Rattle.norm_check.specs.Judging.{IsSubject}
 use Rattle.norm_check.proofs.Answering.{site_of}
-use Rattle.norm_check.proofs.Tables.{sized}
+use Rattle.norm_paths.proofs.Founding.{sized_within}
 use Rattle.rule_registers.proofs.Decides.{first_at_fault}
 use Rattle.rule_registers.proofs.search.blamed_at.Goals as goal
 
 pub of_op-requires-clause-wrapup : goal.of_op-requires-clause-wrapup
-of_op-requires-clause-wrapup c = sized c.args.op.now true c.requires.within
+of_op-requires-clause-wrapup c = sized_within c.args.op.now true c.requires.within
 
 pub returns : goal.returns
 returns c =

@@ -1,4 +1,4 @@
-use Rattle.norm_check.proofs.Tables.{op_within}
+use Rattle.norm_paths.proofs.Founding.{op_within}
 use Rattle.rule_registers.proofs.Decides.{no_instruction}
 use Rattle.rule_registers.proofs.search.blamed_in.Goals as goal
 

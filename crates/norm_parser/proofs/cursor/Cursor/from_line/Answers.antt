@@ -1,6 +1,6 @@
 use Rattle.std.proofs.Common.{◌≡◌, refl, arith}
 use Rattle.norm_parser.specs.Cursors.{all_lines}
-use Rattle.norm_parser.proofs.CursorLines.{IsPassed, passed_one, passed_from, passed_past}
+use Rattle.norm_parser.proofs.CursorLines.{passed_one, passed_from, passed_past}
 use Rattle.norm_parser.proofs.cursor.Cursor.from_line.Goals as goal
 
 pub loop-preserved : goal.loop-preserved

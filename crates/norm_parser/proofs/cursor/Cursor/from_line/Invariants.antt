@@ -1,4 +1,3 @@
-use Rattle.std.proofs.Common.{◌≡◌}
 use Rattle.norm_parser.specs.Cursors.{all_lines}
 use Rattle.norm_parser.proofs.CursorLines.{IsPassed}
 use Rattle.norm_parser.proofs.cursor.Cursor.from_line.Given as goal

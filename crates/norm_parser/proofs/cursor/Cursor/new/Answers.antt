@@ -1,4 +1,4 @@
-use Rattle.std.proofs.Common.{◌≡◌, length, refl, ◌∙◌}
+use Rattle.std.proofs.Common.{◌≡◌, refl, ◌∙◌}
 use Rattle.std.specs.Prelude.{option_map}
 use Rattle.oa_text.specs.Lines.{lines_of, numbered}
 use Rattle.oa_text.specs.Shown.{line_shown}

@@ -1,15 +1,17 @@
-use Rattle.std.proofs.Common.{sym, ap, ◌∙◌}
+use Rattle.std.proofs.Common.{ap, ◌∙◌}
 use Rattle.core_runs.specs.Replays.{LongReplay}
 use Rattle.oa_core.specs.Shown.{Progress}
-use Rattle.oa_core.proofs.Bare.{refused}
-use Rattle.oa_core.proofs.Moving.{step_is_long, step_is_made}
+use Rattle.replay_steps.specs.Turns.{refused}
+use Rattle.oa_core.proofs.Moving.{limit_read, step_is_long, step_is_made}
 use Rattle.oa_core.proofs.progress.Terms.make_step.Goals as goal
 
 pub returns-then-is_at_limit-clause-made : goal.returns-then-is_at_limit-clause-made
 returns-then-is_at_limit-clause-made c =
     ap (λ (n : Progress). refused (LongReplay n.steps)) c.now.view_is
-    ∙ step_is_long c.args.self.now c.args.caller c.args.now.now c.args.next c.requires.next (sym c.if-is_at_limit.ensures)
+    ∙ step_is_long c.args.self.now c.args.caller c.args.now.now c.args.next c.requires.next
+    (limit_read _ c.args.self.now _ c.args.now.now _ c.self.view_is c.now.view_is c.if-is_at_limit.ensures)
 
 pub returns-clause-made : goal.returns-clause-made
 returns-clause-made c =
-    step_is_made c.args.self.now c.args.caller c.args.now.now c.move_on.new.now c.args.next c.requires.next (sym c.if-is_at_limit.ensures) c.move_on.ensures.runs c.move_on.ensures.counted
+    step_is_made c.args.self.now c.args.caller c.args.now.now c.move_on.new.now c.args.next c.requires.next
+    (limit_read _ c.args.self.now _ c.args.now.now _ c.self.view_is c.now.view_is c.if-is_at_limit.ensures) c.move_on.ensures.runs c.move_on.ensures.counted

@@ -1,6 +1,7 @@
 use Rattle.std.proofs.Common.{Bool, sym, ap, ◌∙◌}
 use Rattle.std.proofs.lemmas.Result.{err_from_is_err_and}
-use Rattle.oa_core.specs.Shown.{replay_by, refusal_of, left_after}
+use Rattle.replay_steps.specs.Turns.{left_after}
+use Rattle.oa_core.specs.Shown.{replay_by, refusal_of}
 use Rattle.oa_core.proofs.Looping.{upto_more, upto_stop}
 use Rattle.oa_core.proofs.progress.Terms.make_upto.Goals as goal
 

@@ -1,0 +1,62 @@
+-- The turn at which a replay stopped.
+use Rattle.std.proofs.Common.{◌≡◌, ℕ, true, false, List, Option, Some, None, Ok, Err, sym, ap, subst, ◌∙◌}
+use Rattle.std.proofs.lemmas.Option.{same_Some}
+use Rattle.norm_lang.specs.Faults.{LineFault}
+use Rattle.line_words.specs.declared.fault.ParseError.{ParseError}
+use Rattle.line_words.specs.declared.fault.ParseError.TheVariants as errors
+use Rattle.line_words.specs.declared.fault.ParseFault.{ParseFault}
+use Rattle.line_words.specs.Answered.{Fails}
+use Rattle.norm_check.specs.declared.refusal.Refusal.{Refusal}
+use Rattle.norm_check.specs.Refusals.{IsRefused}
+use Rattle.documents.specs.declared.document.Document.{Document}
+use Rattle.documents.specs.DocumentRead.{document_read}
+use Rattle.script_plans.specs.declared.fault.ShapeFault.{ShapeFault}
+use Rattle.script_plans.specs.Shapes.{shape_fault}
+use Rattle.script_plans.specs.Plans.{IsRunnable}
+use Rattle.messages.specs.declared.turns.StoppedTurn.{StoppedTurn}
+use Rattle.statuses.specs.declared.status.Status.{Status}
+use Rattle.oa_cli.specs.verdicts.Stops.{IsStopOf, IsStopIn, IsStopRead, is_stopped, IsStopFor}
+use Rattle.oa_cli.proofs.Completing.{one_document, not_faulty, not_refused}
+
+-- ---- a document that can't be replayed
+
+pub refused_nowhere : (document : Document) (refusal : Refusal) → IsRefused document.text refusal → IsRunnable document → ⊥
+refused_nowhere document refusal refused runs = not_refused document.text refusal runs.normal refused
+
+pub shaped_nowhere : (document : Document) (number at : ℕ) → shape_fault document ≡ Some (record { number = number; at = at }) → IsRunnable document → ⊥
+shaped_nowhere document number at is runs = clash (sym is ∙ runs.shape)
+  where
+    clash : ◌≡◌ {A = Option ShapeFault} (Some (record { number = number; at = at })) None → ⊥
+    clash same = cc
+
+-- ---- of bytes
+
+pub stop_of_read : (bytes : List ℕ) (document : Document) (turn : StoppedTurn) → document_read bytes ≡ Ok document → IsStopOf document turn → IsStopIn bytes turn
+stop_of_read bytes document turn read is other there = subst (λ (d : Document). IsStopOf d turn) (sym (one_document bytes document other read there)) is
+
+no_document : (bytes : List ℕ) (fault : LineFault) (turn : StoppedTurn) → document_read bytes ≡ Err fault → IsStopIn bytes turn
+no_document bytes fault turn not document is = absurd (not_faulty bytes document fault is not)
+
+pub stop_of_none : (bytes : List ℕ) (error : ParseError) (fault : ParseFault) (turn : StoppedTurn) → error ≡ errors.Fault fault → Fails error (document_read bytes) → IsStopIn bytes turn
+stop_of_none bytes error fault turn is fails =
+    no_document bytes (record { line = fault.line; number = fault.number }) turn (subst (λ (e : ParseError). Fails e (document_read bytes)) is fails)
+
+-- ---- of a source, and for a status
+
+pub stop_read : (read : Option (List ℕ)) (bytes : List ℕ) (turn : StoppedTurn) → read ≡ Some bytes → IsStopIn bytes turn → IsStopRead read turn
+stop_read read bytes turn same is other also = subst (λ (b : List ℕ). IsStopIn b turn) (same_Some bytes other (sym same ∙ also)) is
+
+pub stop_forgotten : (read : Option (List ℕ)) (turn : StoppedTurn) → read ≡ None → IsStopRead read turn
+stop_forgotten read turn none bytes is = absurd (clash (sym none ∙ is))
+  where
+    clash : ◌≡◌ {A = Option (List ℕ)} None (Some bytes) → ⊥
+    clash same = cc
+
+pub stop_for : (read : Option (List ℕ)) (status : Status) (turn : StoppedTurn) → IsStopRead read turn → IsStopFor read status turn
+stop_for read status turn is at same = is
+
+pub no_stop_for : (read : Option (List ℕ)) (status : Status) (turn : StoppedTurn) → is_stopped status ≡ false → IsStopFor read status turn
+no_stop_for read status turn not at same = absurd (clash (sym (ap is_stopped same) ∙ not))
+  where
+    clash : true ≡ false → ⊥
+    clash same = cc

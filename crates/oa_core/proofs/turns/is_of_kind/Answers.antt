@@ -1,5 +1,0 @@
-use Rattle.std.proofs.Common.{rules}
-use Rattle.oa_core.proofs.turns.is_of_kind.Goals as goal
-
-pub returns-in_default-matches : goal.returns-in_default-matches
-returns-in_default-matches c = search rules

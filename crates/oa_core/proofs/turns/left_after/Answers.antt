@@ -1,5 +1,0 @@
-use Rattle.std.proofs.Common.{rules}
-use Rattle.oa_core.proofs.turns.left_after.Goals as goal
-
-pub returns-then-left-le1 : goal.returns-then-left-le1
-returns-then-left-le1 c = search rules

@@ -1,0 +1,4 @@
+pub mod Events
+pub mod Fresh
+pub mod Rooms
+mod Wanting

@@ -1,0 +1,10 @@
+//! What the register at fault has to do with the broken rule.
+
+ghost use Rattle.rule_registers.specs.Laws.{BlamedIsBroken, BrokenIsBlamed};
+
+/// A register is at fault by a rule only where the instruction breaks it, and where registers can break the rule that is broken, one is
+/// at fault.
+pub fn blame_is_right()
+    ensures broken { BlamedIsBroken }
+    ensures blamed { BrokenIsBlamed }
+{}
