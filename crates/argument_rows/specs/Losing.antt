@@ -16,7 +16,7 @@ use Rattle.source_machine.specs.Run.{is_enabled, source_step, source_run}
 use Rattle.source_machine.specs.MethodRuns.{MethodRun}
 use Rattle.source_machine.specs.Proper.{IsProperState}
 
--- the operation retires the node in the root, and leaves it there, where its argument is more than the greatest word
+-- the operation retires the node in the root, and leaves it there, if its argument is more than the greatest word
 abbrev pub losing : Text
 losing = record {
   kinds = item_kind ∷ [];

@@ -14,7 +14,7 @@ use Rattle.norm_lang.specs.NormalForm.{N13, IsNormal}
 use Rattle.target_code.specs.declared.target.TargetInstr.TheVariants.{Plain}
 use Rattle.target_code.specs.Erasing.{source_place, redirected, plain_code, erased_code, erased_op, ErasesTo}
 use Rattle.target_laws.proofs.local_laws.Settled.{keeps_rule}
-use Rattle.bare_targets.specs.Bare.{bare_op, bare}
+use Rattle.target_code.specs.Bare.{bare_op, bare}
 
 place_same : (xs : List Instr) (l : ℕ) → l ≤ length xs → source_place (map Plain xs) l ≡ l
 place_same [] zero le = refl

@@ -14,7 +14,7 @@ use Rattle.norm_lang.specs.Grammar.{is_new, news_in, news_of}
 use Rattle.norm_lang.specs.Limits.{has_between, are_different, is_instr, is_method, is_op, are_kinds, are_fields, are_nodes, are_roots, are_ops, IsWithinLimits, owners_of}
 use Rattle.target_code.specs.declared.target.TargetInstr.TheVariants.{Plain}
 use Rattle.target_code.specs.TargetLimits.{target_news_in, is_target_instr, is_target_method, is_target_op, are_target_ops, IsTargetWithinLimits}
-use Rattle.bare_targets.specs.Bare.{bare_op, bare}
+use Rattle.target_code.specs.Bare.{bare_op, bare}
 
 and_weaker : (a b c d : Bool) → (IsTrue a → IsTrue c) → (IsTrue b → IsTrue d) → IsTrue (a && b) → IsTrue (c && d)
 and_weaker a b c d one two is = let parts = and_parts a b is in and_from c d (one parts.0) (two parts.1)

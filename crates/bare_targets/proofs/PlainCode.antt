@@ -8,7 +8,7 @@ use Rattle.norm_lang.specs.Local.{Spot, local_at, go_on, local_run}
 use Rattle.target_code.specs.declared.target.TargetInstr.{TargetInstr}
 use Rattle.target_code.specs.declared.target.TargetInstr.TheVariants.{Plain}
 use Rattle.target_code.specs.LocalCode.{target_local_at, target_next_spot, target_run}
-use Rattle.bare_targets.specs.Bare.{bare_op}
+use Rattle.target_code.specs.Bare.{bare_op}
 use Rattle.bare_targets.specs.BareLaws.{BareOpsAreTheTexts, BareCodeIsPlain, PlainStands, PlainRuns}
 
 pub ops_are_the_texts : BareOpsAreTheTexts

@@ -12,7 +12,7 @@ use Rattle.target_code.specs.declared.target.TargetInstr.TheVariants.{Plain}
 use Rattle.target_code.specs.LocalCode.{target_run}
 use Rattle.target_code.specs.Paths.{target_code_of}
 use Rattle.target_laws.specs.target_runs.Runnable.{IsRunnable}
-use Rattle.bare_targets.specs.Bare.{bare_op, bare}
+use Rattle.target_code.specs.Bare.{bare_op, bare}
 
 -- callers may run each text in normal form within the limits as it is
 abbrev pub BareTextsAreRunnable : Type 0

@@ -1,4 +1,4 @@
-//! Texts as the targets that callers run who need no checks and no guards.
+//! Laws of texts that are run as they are, by callers who need no checks and no guards.
 #![tactic(auto)]
 
 pub mod laws;

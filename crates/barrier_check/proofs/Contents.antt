@@ -1,4 +1,4 @@
--- Two instructions that neither jump nor commit are the same where they say the same.
+-- Two instructions that neither jump nor commit are the same if they say the same.
 use Rattle.std.proofs.Common.{◌≡◌, ℕ, Bool, true, false, Option, Some, None, refl, ap, ◌∙◌, sym}
 use Rattle.std.specs.Bool.{Decides}
 use Rattle.norm_lang.specs.declared.text.Reg.{Reg}
@@ -63,7 +63,7 @@ same_says place i s c says same = sym (ap content_of (sym (stays place i c says)
 equal : (c d : Content) → Some d ≡ Some c → c ≡ d
 equal c d same = cc
 
--- both say something: they are the same where it is the same
+-- if both say something, they are the same exactly if they say the same
 pub both_say : (place : ℕ → ℕ) (i s : Instr) (c d : Content) (r : Bool) → content_of i ≡ Some c → content_of s ≡ Some d → Decides r (c ≡ d)
     → Decides r (redirected place i ≡ s)
 both_say place i s c d r says others decides =

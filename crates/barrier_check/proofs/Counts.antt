@@ -6,7 +6,7 @@ use Rattle.target_code.specs.declared.target.TargetInstr.{TargetInstr}
 use Rattle.target_code.specs.declared.target.TargetInstr.TheVariants.{Plain}
 use Rattle.target_code.specs.Erasing.{plain_count, source_place}
 
--- the counts before each of the instructions, where so many stand before the first
+-- the counts before each of the instructions, if so many stand before the first
 abbrev pub counts_from : ℕ → List TargetInstr → List ℕ
 counts_from n [] = []
 counts_from n (i ∷ code) = n ∷ counts_from (n + plain_count (i ∷ [])) code
@@ -25,7 +25,7 @@ counted n (i ∷ code) (suc at) =
     let less : n + plain_count (i ∷ []) + plain_count (take at code) ≡ n + plain_count (i ∷ take at code) = omega (arith, count_head i (take at code)) in
     ap (λ (d : ℕ). unwrap_or (slice_get (counts_from (n + plain_count (i ∷ [])) code) at) d) more ∙ counted (n + plain_count (i ∷ [])) code at ∙ less
 
--- where nothing is left to count the counts are right
+-- if nothing is left to count, the counts are right
 pub are_places : (code : List TargetInstr) (before : List ℕ) (count n at : ℕ) → length code ≤ n → before ++ counts_from count (drop n code) ≡ counts_from 0 code
     → count + plain_count (drop n code) ≡ plain_count code → unwrap_or (slice_get before at) count ≡ source_place code at
 are_places code before count n at past is all =

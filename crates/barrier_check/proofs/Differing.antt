@@ -25,7 +25,7 @@ op_of_parts one other generator wrapup =
     let behind : one.wrapup ≡ other.wrapup = ap (λ (o : Op). o.wrapup) wrapup in
     rw (name, args, code, behind) refl
 
--- where declarations are alike, a method that is the same has no difference
+-- if declarations are alike, a method that is the same has no difference
 pub same_clear : (target : Target) (text : Text) (number : ℕ) (wrapup : Bool) → AreAlike (erased target) text → IsSamePart target text number wrapup
     → IsClear (Differs target text) (InMethod number wrapup)
 same_clear target text number wrapup alike same flaw there differs =

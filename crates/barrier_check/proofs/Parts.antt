@@ -18,7 +18,7 @@ Above op wrapup at flaw = InMethod op wrapup flaw × (flaw.at < at)
 abbrev pub Earlier : ℕ → Flaw → Type 0
 Earlier op flaw = flaw.op < op
 
--- what is first in a part is first in a wider one, where the wider one's other flaws aren't there or come later
+-- what is first in a part is first in a wider one, if the wider one's other flaws aren't there or come later
 widened : (Has There Wider : Flaw → Type 0) (flaw : Flaw) → Wider flaw
     → ((other : Flaw) → Wider other → IsTrue (flaw_before other flaw) → There other ⊎ (¬ Has other))
     → IsFirstThere Has There flaw → IsFirstThere Has Wider flaw

@@ -12,7 +12,7 @@ pub record IsSubject (target : Target) (text : Text) (number : ℕ) (op : Target
   pub compiled : slice_get target.ops number ≡ Some op
   pub stands : slice_get text.ops number ≡ Some source
 
--- the flaw is that a target erases differently, told by a method where it does
+-- the flaw is that a target erases differently, told by a method that does
 abbrev pub Differs : Target → Text → Flaw → Type 0
 Differs target text flaw = (flaw ≡ erasing_flaw flaw.op flaw.wrapup) × DiffersAt (erased target) text flaw.op flaw.wrapup
 

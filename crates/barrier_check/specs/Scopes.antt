@@ -41,6 +41,6 @@ abbrev pub Tells : {X : Type 0} → Type 0 → (Flaw → Type 0) → (Flaw → T
 Tells Good Has There (Ok x) = Good
 Tells Good Has There (Err e) = IsFlawedThere Has There e
 
--- the same, where a part is good that has no flaw
+-- the same for parts that are good exactly if they have no flaw
 abbrev pub Judges : {X : Type 0} → (Flaw → Type 0) → (Flaw → Type 0) → Result X VerifyError → Type 0
 Judges Has There = Tells (IsClear Has There) Has There

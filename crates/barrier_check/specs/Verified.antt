@@ -8,7 +8,7 @@ use Rattle.barrier_check.specs.declared.flaw.VerifyError.TheVariants.{Memory, Fl
 use Rattle.barrier_check.specs.declared.barred.Barred.{Barred}
 use Rattle.barrier_check.specs.FlawsTold.{flaw_of}
 
--- the target itself with the text where it is barred for it, and otherwise its first flaw; memory may run out before
+-- the target itself with the text if it is barred for it, and otherwise its first flaw; memory may run out before
 abbrev pub IsVerified : Target → Text → Result Barred VerifyError → Type 0
 IsVerified target text (Ok barred) = (barred ≡ record { target = target; source = text }) × IsBarred target text
 IsVerified target text (Err Memory) = Unit {0}

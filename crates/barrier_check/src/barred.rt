@@ -59,11 +59,11 @@ fn judge(alloc: Global, target: &Target, text: &Text) -> Result<Listed<Kept>, Ve
     judge_ops(alloc, target, text)
 }
 
-/// Verifies a target for a text in normal form: it is answered where it is barred for the text, and dropped where it is
+/// Verifies a target for a text in normal form: it is answered if it is barred for the text, and dropped if it is
 /// refused. How it was compiled isn't asked. The cost grows with the count of instructions.
 ///
 /// # Errors
-/// `Flawed` where the target isn't barred for the text: it tells that erasing gives another text, and where that differs
+/// `Flawed` if the target isn't barred for the text: it tells that erasing gives another text, and where that differs
 /// first; or else the first flaw of an instruction, in the order of operations, then the generator before the wrap-up,
 /// then the order of instructions, then of kinds.
 pub fn verify(alloc: Global, target: Target, normal: &Normal) -> Result<Barred, VerifyError>
@@ -81,7 +81,7 @@ pub fn verify(alloc: Global, target: Target, normal: &Normal) -> Result<Barred, 
 }
 
 impl Barred {
-    /// What every barred target keeps: a law for those who hold one. Reading a field is what tells it.
+    /// What every barred target keeps: a law for those who hold one. The body reads a field, which makes the invariant known.
     pub fn kept(&self)
         ensures { IsSound self.now }
     {

@@ -86,8 +86,8 @@ fn is_redirected(places: &Places, instr: &Instr, source: &Instr) -> bool
     }
 }
 
-/// What is left of a text's code after an instruction of a target, none where the code doesn't begin with what is
-/// left of that.
+/// What is left of a text's code after an instruction of a target; none if the code doesn't begin with what is left
+/// of the instruction.
 fn rest_after<'a>(places: &Places, instr: &TargetInstr, source: &'a [Instr]) -> Option<&'a [Instr]>
     ensures { Leaves (place_by places.now) instr.now source.now (option_copied result) }
 {

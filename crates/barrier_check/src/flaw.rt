@@ -5,26 +5,26 @@ ghost use Rattle.barrier_check.specs.declared.flaw.VerifyError.TheVariants.{Memo
 
 use std::alloc::AllocError;
 
-/// What is wrong with a target. The numbers are those that a report gives.
+/// What is wrong with a target. Of the kinds of flaw that an instruction has, the one that stands first here is told.
 #[derive(Clone, Copy, Debug, PartialEq, Eq)]
 pub enum FlawKind {
     /// Erasing the checks and guards gives another text.
-    ErasesDifferently = 1,
+    ErasesDifferently,
     /// The instruction uses a register that may hold what a load or a `new` gave and no check has confirmed.
-    UncheckedUse = 2,
+    UncheckedUse,
     /// The instruction needs a register guarded, and on some path it isn't.
-    Unguarded = 3,
+    Unguarded,
     /// The instruction needs a register guarded, and on some path no check stands after the guard.
-    GuardAfterCheck = 4,
+    GuardAfterCheck,
     /// The instruction needs a register guarded, and on some path the guard was undone; or it guards a register again
     /// that the wrap-up keeps.
-    GuardDropped = 5,
+    GuardDropped,
 }
 
 /// The first flaw of a target: its kind, the operation's number in the target, whether the instruction is in its wrap-up,
-/// and the instruction's number in its method. Operations and instructions count from 0. Where a method erases
-/// differently its first instruction is named, and where the declarations differ or the count of operations does, the
-/// first of all.
+/// and the instruction's number in its method. Operations and instructions count from 0. If a method erases
+/// differently, its first instruction is named, and if the declarations or the counts of operations differ, the first
+/// of all.
 #[derive(Clone, Copy, Debug, PartialEq, Eq)]
 pub struct Flaw {
     pub kind: FlawKind,

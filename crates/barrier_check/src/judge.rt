@@ -138,8 +138,8 @@ fn judge_by(alloc: Global, subject: &Subject, facts: &OpFacts) -> Result<(), Ver
     judge_methods(alloc, subject, &needs)
 }
 
-/// What is kept, where the operation has no flaw. It stands alone, since what is known of the operation would be dropped
-/// on each way out.
+/// What is kept, if the operation has no flaw. This is a function of its own, since what is known of the operation
+/// would be dropped on each way out.
 fn with_kept(
     _subject: &Subject,
     kept: Kept,

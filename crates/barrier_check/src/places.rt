@@ -15,7 +15,7 @@ pub struct Places {
     count: usize,
 }
 
-// How many instructions erasing leaves of one.
+/// How many instructions erasing leaves of one: itself, and none of a check or a guard.
 fn plain_count(instr: &TargetInstr) -> usize
     ensures { result ≡ plain_count (instr.now ∷ []) }
 {

@@ -105,7 +105,7 @@ among_reads r i (a ∷ rs) is reading = elim (or_cases (same_register r a) (list
   | inr later ↦ or_right (reads a i) (reads_some i rs) (among_reads r i rs later reading)
 ]
 
--- a reading of what was fetched, and a break where a check is due, has a check before it
+-- an instruction has a check before it if it reads what was fetched, or if it breaks and a check is due
 reading_checked : (last other due break reading : Bool) → IsTrue due → IsTrue reading → IsTrue (if last then reading || other else due && (break || reading))
 reading_checked true other due break true holds is = refl
 reading_checked false other true true true holds is = refl

@@ -1,4 +1,4 @@
--- What a scheme makes of a text in normal form has no flaw, where it is known of each method what may not be clean.
+-- What a scheme makes of a text in normal form has no flaw, if it is known of each method what may not be clean.
 use Rattle.std.proofs.Common.{◌≡◌, ℕ, zero, suc, ◌⊎◌, inl, inr, Bool, true, false, List, [], ◌∷◌, ◌++◌, map, length, take, Option, Some, None, refl, sym, ap, subst, ◌∙◌}
 use Rattle.std.specs.Prelude.{slice_get, option_map, IsSomeAnd, IsTrue, if◌then◌else◌}
 use Rattle.std.specs.List.{list_any, filter}

@@ -174,7 +174,7 @@ pub barrier_validates : (r : Reg) (wanted : Bool) (rs : List Reg) (state : Guard
 barrier_validates r wanted [] state is = cc
 barrier_validates r wanted (a ∷ rs) state is = run_both (guard_after r) (map Guard (a ∷ rs)) (Check ∷ []) state ∙ ap checked (guards_publish r (a ∷ rs) state is)
 
--- where the instruction that may stand at a place reads a register, there is one
+-- if what may stand at a place reads a register, an instruction stands there
 reads_some : (found : Option Instr) (r : Reg) → IsTrue (reads_at r found) → (i : Instr) × (found ≡ Some i) × IsTrue (reads r i)
 reads_some None r is = cc
 reads_some (Some i) r is = (i, refl, is)

@@ -54,7 +54,7 @@ alike true false both = let never : false ≡ true = both.0 refl in cc
 alike false true both = let never : false ≡ true = both.1 refl in cc
 alike false false both = refl
 
--- an answer that is true where a register is kept is what is computed
+-- an answer that is true exactly if a register is kept is what is computed
 pub kept_told : (stands : Option Op) (op : Op) (r : Reg) (told : Bool) → stands ≡ Some op → IsSomeAnd stands (λ o. IsTrue told ↔ IsKept o r) → told ≡ keeps op r
 kept_told stands op r told is answer =
     let kept : IsTrue told ↔ IsKept op r = subst (λ (s : Option Op). IsSomeAnd s (λ o. IsTrue told ↔ IsKept o r)) is answer in

@@ -29,11 +29,11 @@ with_registers rs (r ∷ more) = with_registers (with_register rs r) more
 abbrev pub kept_references : Op → List Reg
 kept_references op = filter (keeps op) all_references
 
--- what a commit hands over guarded, where these are kept
+-- what a commit hands over guarded, if these are kept
 abbrev pub kept_by : List Reg → Instr → List Reg
 kept_by kept i = if is_commit i then kept else []
 
--- the registers that an instruction needs guarded, where these are kept
+-- the registers that an instruction needs guarded, if these are kept
 abbrev pub guarded_by : List Reg → Instr → List Reg
 guarded_by kept i = with_registers (with_registers [] (exchanged i)) (kept_by kept i)
 
@@ -41,7 +41,7 @@ guarded_by kept i = with_registers (with_registers [] (exchanged i)) (kept_by ke
 abbrev pub block_by : List Reg → Marked → List TargetInstr
 block_by kept m = barrier m.before (guarded_by kept m.instr) ++ (Plain m.instr ∷ check_if m.after)
 
--- where the block of each instruction begins, where the first begins at a place
+-- where the block of each instruction begins, if the first begins at a place
 abbrev pub starts_from : List Reg → ℕ → List Marked → List ℕ
 starts_from kept n [] = []
 starts_from kept n (m ∷ marked) = n ∷ starts_from kept (n + length (block_by kept m)) marked

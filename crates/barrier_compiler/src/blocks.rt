@@ -40,7 +40,7 @@ fn put_check(code: &mut TargetCode, wanted: bool) -> Result<(), AllocError>
     Ok(())
 }
 
-/// Adds guards and a check after them, or, where nothing is guarded, a check if one is wanted.
+/// Adds guards and a check after them. If nothing is guarded, it adds a check only if one is wanted.
 fn put_barrier(code: &mut TargetCode, wanted: bool, registers: &[Reg]) -> Result<(), AllocError>
     ensures { IfOk result (λ _. code.new ≡ code.old ++ barrier wanted registers.now) }
 {

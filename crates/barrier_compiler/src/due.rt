@@ -92,7 +92,7 @@ fn add_destination(registers: &mut Vec<Reg>, instr: &Instr) -> Result<(), AllocE
 }
 
 impl Notes {
-    /// Where a method starts nothing is due.
+    /// The notes where a method starts: nothing is due.
     pub fn none(alloc: Global) -> Notes
         ensures { result ≡ none_due }
     {

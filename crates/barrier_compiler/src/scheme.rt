@@ -125,7 +125,7 @@ fn declared(alloc: Global, text: &Text) -> Result<Target, AllocError>
     })
 }
 
-/// The target of a text, which is the one in normal form.
+/// The target of a text in normal form, given both as such and as a text.
 fn compile_text(alloc: Global, normal: &Normal, text: &Text) -> Result<Target, AllocError>
     requires { text.now ≡ normal.now }
     ensures { IfOk result (λ target. target ≡ second_scheme normal.now) }
@@ -141,7 +141,7 @@ fn compile_text(alloc: Global, normal: &Normal, text: &Text) -> Result<Target, A
 /// of instructions.
 ///
 /// # Errors
-/// `AllocError` where memory runs out; nothing else is refused.
+/// `AllocError` if memory runs out; nothing else is refused.
 pub fn compile(alloc: Global, normal: &Normal) -> Result<Target, AllocError>
     ensures same { IfOk result (λ target. target ≡ second_scheme normal.now) }
     ensures barred { IfOk result (λ target. IsBarred target normal.now) }

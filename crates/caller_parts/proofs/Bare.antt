@@ -6,7 +6,7 @@ use Rattle.norm_lang.specs.declared.text.Instr.{Instr}
 use Rattle.norm_lang.specs.declared.text.Op.{Op}
 use Rattle.target_code.specs.declared.target.TargetInstr.{TargetInstr}
 use Rattle.target_code.specs.declared.target.TargetInstr.TheVariants.{Plain}
-use Rattle.bare_targets.specs.Bare.{bare_op}
+use Rattle.target_code.specs.Bare.{bare_op}
 use Rattle.caller_parts.specs.Operands.{method_code}
 
 pub bare_length : (code : List Instr) → length code ≡ length (map Plain code)

@@ -16,7 +16,7 @@ greatest_holds fields (suc k) t lt = by (nat_lt t k) refl (λ before. greatest_h
   by true before so_far = let rest = so_far (ltb-true t k before) in omega (arith, rest)
   by false not_before so_far = let last : t ≡ k = (let later = ltb-false t k not_before in omega (arith, later, lt)) in rw last (omega arith)
 
--- where each of the first so many kinds has slots for its initial nodes, it has
+-- if the test finds slots for the initial nodes of each of the first so many kinds, each has them
 slots_for : (sizes : Sizes) (nodes : List ℕ) (kinds : ℕ) → have_slots sizes nodes kinds ≡ true → (t : ℕ) → t < kinds → slice_index nodes t ≤ slots_of sizes t
 slots_for sizes nodes zero have t lt = absurd (omega (arith, lt))
 slots_for sizes nodes (suc k) have t lt = by (nat_lt t k) refl (λ before. slots_for sizes nodes k (parts.0) t before) where

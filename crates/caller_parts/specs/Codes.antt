@@ -3,7 +3,7 @@ use Rattle.std.specs.Prelude.{List, map, Option, option_map}
 use Rattle.target_code.specs.declared.target.Target.{Target}
 use Rattle.target_code.specs.declared.target.TargetInstr.{TargetInstr}
 use Rattle.target_code.specs.declared.target.TargetInstr.TheVariants as instr
-use Rattle.bare_targets.specs.Bare.{bare}
+use Rattle.target_code.specs.Bare.{bare}
 use Rattle.caller_parts.specs.declared.code.Source.{Source}
 use Rattle.caller_parts.specs.declared.code.Source.TheVariants as sources
 use Rattle.caller_parts.specs.declared.code.Code.{Code}

@@ -47,7 +47,7 @@ abbrev pub register_number : Reg → ℕ
 register_number (Num r) = r
 register_number (Ref r) = r
 
--- the code of a method; none where the target has no such operation
+-- the code of a method; none if the target has no such operation
 abbrev pub method_code : Option TargetOp → Bool → List TargetInstr
 method_code None wrapup = []
 method_code (Some op) wrapup = target_code_of op wrapup
@@ -70,7 +70,7 @@ list_of (Some (Plain i)) = plain_list i
 list_of (Some Check) = []
 list_of (Some (Guard r)) = []
 
--- an exchange succeeds where its object isn't null and the expected word was found
+-- an exchange succeeds if its object isn't null and the expected word was found
 abbrev pub has_object : Place → Registers → Bool
 has_object (places.Root x) registers = true
 has_object (places.Field a f) registers = not (slot_in registers a == 0)

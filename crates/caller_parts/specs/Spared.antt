@@ -1,4 +1,4 @@
--- Which registers' hazards a clear leaves out: those that the wrap-up keeps, where it keeps them.
+-- Which registers' hazards a clear leaves out: none, or those that the wrap-up keeps.
 use Rattle.std.specs.Prelude.{◌≡◌, ℕ, Bool, true, false, List, [], ◌∷◌, replicate, Option, Some, None, slice_get, slice_index_or}
 use Rattle.norm_lang.specs.declared.text.Reg.TheVariants.{Ref}
 use Rattle.target_code.specs.declared.target.TargetOp.{TargetOp}

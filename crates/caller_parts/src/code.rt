@@ -2,7 +2,7 @@
 
 ghost use Rattle.std.specs.Prelude.{◌≡◌, length, option_copied, option_map, slice_get, map};
 ghost use Rattle.target_code.specs.declared.target.TargetInstr.TheVariants.{Plain};
-ghost use Rattle.bare_targets.specs.Bare.{bare};
+ghost use Rattle.target_code.specs.Bare.{bare};
 ghost use Rattle.caller_parts.specs.Codes.{source_shown, code_shown, step_shown, shown_at};
 ghost use Rattle.caller_parts.specs.Operands.{method_code};
 
@@ -124,7 +124,7 @@ fn text_code(text: &Text, op: u8, wrapup: bool) -> &[Instr]
 }
 
 impl<'a> Source<'a> {
-    /// The code of a method; none where there is no such operation.
+    /// The code of a method; none if there is no such operation.
     #[inline(always)]
     pub(crate) fn code(self, op: u8, wrapup: bool) -> Code<'a>
         ensures { code_shown result ≡ method_code (slice_get (source_shown self.entry).ops op) wrapup }

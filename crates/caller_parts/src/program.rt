@@ -2,7 +2,7 @@
 
 ghost use Rattle.std.specs.Prelude.{◌≡◌, slice_get, slice_index_or};
 ghost use Rattle.norm_lang.specs.KindFields.{place_of};
-ghost use Rattle.bare_targets.specs.Bare.{bare};
+ghost use Rattle.target_code.specs.Bare.{bare};
 ghost use Rattle.caller_parts.specs.KindCounts.{field_count};
 ghost use Rattle.caller_parts.specs.FieldTables.{IsFieldTable};
 ghost use Rattle.caller_parts.specs.Operands.{method_code};
@@ -65,7 +65,7 @@ impl<'a> Program<'a> {
         }
     }
 
-    /// The code of a method; none where there is no such operation.
+    /// The code of a method; none if there is no such operation.
     #[inline(always)]
     pub fn code(&self, op: u8, wrapup: bool) -> Code<'a>
         ensures { code_shown result ≡ method_code (slice_get self.now.ops op) wrapup }

@@ -4,7 +4,7 @@ use crate::call::Reply;
 use phase_pools::claim::ClaimState;
 use phase_pools::retire::RetireState;
 
-/// The method run that begins with a load of the own warning.
+/// The method run that begins with a load of the caller's own warning.
 #[derive(Clone, Copy)]
 pub enum MethodStart {
     /// An operation's first run of its generator.
@@ -65,7 +65,7 @@ pub enum Announcing {
 pub enum Routine {
     /// No call runs.
     Idle,
-    /// Before the load of the own warning into `seen`.
+    /// Before the load of the caller's own warning into `seen`.
     LoadSeen(MethodStart),
     /// Before the load, check, guard, put or auxiliary exchange of the instruction.
     At,

@@ -63,7 +63,7 @@ impl Setting {
     /// A setting of a scheme, as `new` makes one of optimistic access.
     ///
     /// # Errors
-    /// `Nodes` where a kind has more initial nodes than slots, else `Phases` where `1 <= first_phase <= last_phase <= 2^50` fails.
+    /// `Nodes` if a kind has more initial nodes than slots, else `Phases` unless `1 <= first_phase <= last_phase <= 2^50`.
     #[tactic(auto, using(crate::proofs::KindCounts::kinds_have_slots))]
     pub fn of(
         reclamation: Reclamation,
@@ -93,7 +93,7 @@ impl Setting {
     /// the kinds aren't judged.
     ///
     /// # Errors
-    /// `Nodes` where a kind has more initial nodes than slots, else `Phases` where `1 <= first_phase <= last_phase <= 2^50` fails.
+    /// `Nodes` if a kind has more initial nodes than slots, else `Phases` unless `1 <= first_phase <= last_phase <= 2^50`.
     pub fn new(
         shape: Shape,
         first_phase: u64,
@@ -111,7 +111,7 @@ impl Setting {
         )
     }
 
-    /// What every setting keeps: a law for those who hold one. Reading a field is what tells it.
+    /// What every setting keeps: a law for those who hold one. The body reads a field, which makes the invariant known.
     pub fn kept(&self)
         ensures { IsSetting self.now }
     {

@@ -2,14 +2,13 @@
 
 ghost use Rattle.std.specs.Prelude.{◌≡◌, length};
 ghost use Rattle.caller_parts.specs.Settings.{Fits};
-ghost use Rattle.core_entries.specs.Ports.{at_of};
+ghost use Rattle.core_ground.specs.Ports.{at_of};
 
-use crate::numbers::numbers;
 use crate::steps::words_of;
 use barrier_check::Barred;
 use oa_core::{PlainWords, Port, Setting};
 use phase_pools::access::Access;
-use row_spelling::RowError;
+use row_spelling::{RowError, numbers};
 use std::alloc::Global;
 use std::fmt::Write;
 

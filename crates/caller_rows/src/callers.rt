@@ -5,12 +5,11 @@ ghost use Rattle.caller_parts.specs.Settings.{Fits};
 ghost use Rattle.core_entries.specs.Callers.{BelongsTo};
 ghost use Rattle.core_entries.specs.Steps.{WordsSound};
 
-use crate::moves::{Deed, Who, moves_in};
 use crate::steps::{begin, entry_of, step, words_of};
 use crate::told::{add_access, add_entry, add_replies};
 use barrier_check::Barred;
 use oa_core::{Entry, PlainWords, Setting};
-use row_spelling::RowError;
+use row_spelling::{Deed, RowError, Who, moves_in};
 use std::alloc::Global;
 
 /// A caller makes so many steps, and each access is told.
@@ -34,7 +33,7 @@ fn make_steps(
     Ok(())
 }
 
-/// A caller takes a call, and it is told where it can't.
+/// A caller takes a call. If it can't, that is told.
 fn take_call(
     barred: &Barred,
     setting: &Setting,

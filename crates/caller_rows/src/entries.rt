@@ -3,11 +3,10 @@
 ghost use Rattle.std.specs.Prelude.{◌≡◌};
 ghost use Rattle.caller_steps.specs.Entries.{idle_entry};
 
-use crate::numbers::numbers;
 use crate::told::add_entry;
 use oa_core::{Entry, Setting};
 use oa_words::shape::Shape;
-use row_spelling::RowError;
+use row_spelling::{RowError, numbers};
 use std::alloc::{AllocError, Global};
 use std::fmt::Write;
 

@@ -8,31 +8,15 @@
 //!   `load AT`, `store AT WORD`, `exchange AT EXPECTED REPLACEMENT` and `max AT WORD`.
 //! - `callers CALLERS SLOTS FIRST LAST ROOM, MOVE, .. < TEXT`: the accesses of callers of the compiled text, and how their entries
 //!   stand after each move: `first calls OP ARGUMENT`, `first steps COUNT`, and the same of `second`. At the end come the replies.
-//! - `alone ROOM, MOVE, .. < DOCUMENT` and `together ROOM, MOVE, .. < DOCUMENT`: the caller of a document's one script, or those of its
-//!   two, on the words of a table: `first operates INDEX BUDGET` with the call at this index of its script, by at most so many
-//!   steps, `first resumes BUDGET`, and the same of `second`; how each move ends, and at the end the phase and the entries.
-//! - `announced ROOM, MOVE, .. < DOCUMENT`: the same of two callers that run the document's text as it is, on an epoch arena.
-//! - `places ROOM, COUNT < DOCUMENT`: so many blanks enter, and then one more tries it twice.
-//! - `spent < DOCUMENT`: the phase at the end of a replay of the document's scripts without turns, whether each caller has a call that was
-//!   given its fuel of steps and hasn't ended, and its replies.
-//! - `sharing < DOCUMENT`: the document's scripts run on threads, and what their replies add up to.
 //!
-//! A hall, a document and a target, which own much, are dropped by a call of `drop`. That is one call to prove, where a drop at the
-//! end of a scope is proved part by part.
+//! A target owns much, and is dropped by a call of `drop`. That is one call to prove. A drop at the end of a scope would be proved part by
+//! part.
 #![tactic(auto)]
 
 mod accesses;
-mod announced;
 mod answer;
-mod budgets;
 mod callers;
 mod entries;
-mod hall;
-mod moves;
-mod numbers;
-mod places;
-mod sharing;
-mod spent;
 mod steps;
 mod targets;
 mod told;
@@ -41,17 +25,16 @@ use crate::answer::answer;
 use row_spelling::{NamedLines, RowError, take_lines};
 use std::alloc::Global;
 use std::io::{self, BufRead, BufReader};
-use std::thread::Threads;
 
 /// Writes the lines that answer a row, or that it can't be answered.
-fn write_answer<R: Print + Threads + Sync>(
+fn write_answer<R: Print>(
     rt: &R,
     alloc: Global,
     named: &[NamedLines],
     line: &str,
 ) -> io::Result<()> {
     let mut out = String::new(alloc);
-    match answer(rt, alloc, named, line, &mut out) {
+    match answer(alloc, named, line, &mut out) {
         Ok(()) => print!(rt; "{out}"),
         Err(RowError::Wrong) => println!(rt; "wrong row"),
         Err(RowError::Memory(error)) => Err(error.into()),
@@ -59,7 +42,7 @@ fn write_answer<R: Print + Threads + Sync>(
 }
 
 /// Takes a line, and writes it with its answer if it is a row.
-fn take_line<R: Print + Threads + Sync>(
+fn take_line<R: Print>(
     rt: &R,
     alloc: Global,
     named: &mut Vec<NamedLines>,

@@ -101,7 +101,7 @@ pub(crate) fn begin(barred: &Barred, setting: &Setting, entry: &mut Entry, op: u
     }
 }
 
-/// A step of a caller that runs, and the access that it made; none where it is idle.
+/// A step of a caller that runs, and the access that it made. If the caller is idle, there is none.
 pub(crate) fn step(
     barred: &Barred,
     setting: &Setting,

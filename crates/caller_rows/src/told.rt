@@ -1,11 +1,10 @@
-//! How accesses, entries, replies and outcomes are told.
+//! How accesses, entries and replies are told.
 
 use caller_steps::Reply;
 use oa_core::Entry;
 use phase_pools::access::Access;
 use std::alloc::AllocError;
 use std::fmt::Write;
-use word_runner::Outcome;
 
 /// What a caller's step accesses, if it makes one.
 pub(crate) fn add_access(out: &mut String, access: Option<Access>) -> Result<(), AllocError> {
@@ -27,26 +26,9 @@ pub(crate) fn add_access(out: &mut String, access: Option<Access>) -> Result<(),
     }
 }
 
-/// How a caller's going on ended, if it could.
-pub(crate) fn add_outcome(out: &mut String, outcome: Option<Outcome>) -> Result<(), AllocError> {
-    match outcome {
-        Some(Outcome::Replied(Some(number))) => write!(out, "Replied(Some({number})), "),
-        Some(Outcome::Replied(None)) => out.push_str("Replied(None), "),
-        Some(Outcome::Full) => out.push_str("Full, "),
-        Some(Outcome::PhasesOver(phase)) => write!(out, "PhasesOver({phase}), "),
-        Some(Outcome::Spent) => out.push_str("Spent, "),
-        None => out.push_str("no step, "),
-    }
-}
-
-/// Whether a call runs.
-pub(crate) fn state(is_idle: bool) -> &'static str {
-    if is_idle { "idle" } else { "runs" }
-}
-
 /// How an entry stands, in a line.
 pub(crate) fn add_entry(out: &mut String, entry: &Entry) -> Result<(), AllocError> {
-    let state = state(entry.is_idle());
+    let state = if entry.is_idle() { "idle" } else { "runs" };
     let replies = entry.replies().len();
     let spare = entry.spare();
     let claims = entry.claims();

@@ -132,7 +132,7 @@ hand_at hand spot = record hand { at = spot.at; registers = spot.registers }
 abbrev pub run_to : Target → Spot → Entry → Entry
 run_to target spot e = let code = code_in target e in with_hand e (hand_at e.hand (target_run code (length code) spot))
 
--- the same under epochs, in a wrap-up: the own announcement is withdrawn before the reply, and renewed for `again`
+-- the same under epochs, in a wrap-up: the caller's own announcement is withdrawn before the reply, and renewed for `again`
 abbrev pub announced_end : Announcing → Entry → Moved
 announced_end announcing e = told (owed e.hand) (quiet (with_routine e (Announces announcing)))
 
@@ -217,7 +217,7 @@ seen_sign starts.Begin e = Begins e.running.call
 seen_sign starts.WrapUp e = Renews
 seen_sign starts.Again e = Renews
 
--- the own warning was loaded
+-- the caller's own warning was loaded
 abbrev pub seen_loaded : Target → Sizes → MethodStart → ℕ → Entry → Moved
 seen_loaded target sizes why word e =
     told (seen_sign why e ∷ []) (method_begun target sizes (is_wrap_up why) (with_hand e (record e.hand { seen = word })))
@@ -234,7 +234,7 @@ announced_sign reasons.Begin e = Begins e.running.call
 announced_sign reasons.Again e = Renews
 announced_sign reasons.Swept e = Renews
 
--- the phase was loaded; it, or 0, was stored in the own warning word
+-- the phase was loaded; it, or 0, was stored in the caller's own warning word
 abbrev pub announced : Target → Sizes → Announcing → ℕ → Entry → Moved
 announced target sizes (announces.Loads why) word e = quiet (with_routine e (Announces (announces.Stores why word)))
 announced target sizes (announces.Stores why phase) word e = told (announced_sign why e ∷ []) (generator_begun target sizes e)
@@ -367,7 +367,7 @@ restart_cleared target sizes e = restarted target sizes (with_hand e (unguarded 
 abbrev pub then_cleared : Target → Sizes → AfterClear → Entry → Entry
 then_cleared target sizes next e = cleared target sizes next (with_hand e (unguarded (clear_next target next e) e.hand))
 
--- a claim is counted where its exchange takes the slot
+-- a claim is counted if its exchange takes the slot
 abbrev pub claim_counted : Bool → Entry → Entry
 claim_counted takes e = record e { counts = record e.counts { claims = if takes then one_more e.counts.claims else e.counts.claims } }
 
@@ -437,7 +437,7 @@ after target setting e word = (moved setting.reclamation target setting e word).
 unfoldable pub signs : Target → Setting → Entry → ℕ → List Sign
 signs target setting e word = (moved setting.reclamation target setting e word).signs
 
--- before the first access of a call: the load of the own warning, or that of the phase to announce
+-- before the first access of a call: the load of the caller's own warning, or that of the phase to announce
 abbrev pub first_routine : Reclamation → Routine
 first_routine Optimistic = LoadSeen starts.Begin
 first_routine Epochs = Announces (announces.Loads reasons.Begin)

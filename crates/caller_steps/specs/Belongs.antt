@@ -223,7 +223,7 @@ StartStands i hand starts.Begin = (hand.wrapup ≡ false) × (hand.at ≡ 0)
 StartStands i hand starts.WrapUp = (hand.wrapup ≡ true) × (hand.at ≡ 0)
 StartStands i hand starts.Again = (hand.wrapup ≡ true) × (is_again_at i ≡ true)
 
--- an announcement stands at the moment of its row: where an operation begins or begins again, at a `new` for which the caller has
+-- an announcement stands at the place of its reason: at the start of an operation, at an `again`, at a `new` for which the caller has
 -- swept, or at a reply
 abbrev pub ReasonStands : Option TargetInstr → Hand → AnnounceReason → Type 0
 ReasonStands i hand reasons.Begin = (hand.wrapup ≡ false) × (hand.at ≡ 0)
@@ -254,7 +254,7 @@ Stands target setting e (Zeroes k field) =
     (is_new_at (instr_in target e) ≡ true) × (k ≡ new_number target e) × (cradle_of e k ≢ 0) × (field < zero_count target (instr_in target e))
 Stands target setting e (Announces announcing) = (setting.reclamation ≡ Epochs) × AnnouncingStands setting (instr_in target e) e.hand announcing
 
--- where it runs it has come to its instruction
+-- if a call runs, the entry has come to its instruction
 abbrev pub RunsAt : Target → Entry → Routine → Type 0
 RunsAt target e Idle = e.hand.at < length (code_in target e)
 RunsAt target e _ = Reaches (code_in target e) e.hand.at e.hand.registers

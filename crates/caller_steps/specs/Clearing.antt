@@ -7,7 +7,7 @@ use Rattle.caller_parts.specs.declared.routine.AfterClear.{AfterClear}
 use Rattle.caller_parts.specs.Spared.{restart_spares, then_spares}
 use Rattle.caller_steps.specs.Entries.{Entry, op_of}
 
--- the register whose hazard is next, in the clear after a failed check and in one at another moment; none where the clear
+-- the register whose hazard is next, in the clear after a failed check and in one at another moment; none if the clear
 -- has ended
 abbrev pub restart_next : Target → Entry → Option ℕ
 restart_next target e = next_to_clear e.hand.guards (restart_spares e.hand.wrapup (op_of target e))

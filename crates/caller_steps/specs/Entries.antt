@@ -13,7 +13,7 @@ use Rattle.caller_parts.specs.Operands.{code_at, instr_at, kind_made, cradle_cou
 use Rattle.caller_steps.specs.declared.entry.Hand.{Hand}
 use Rattle.caller_steps.specs.declared.entry.Counts.{Counts}
 use Rattle.caller_parts.specs.declared.routine.Routine.{Routine}
-use Rattle.caller_parts.specs.declared.routine.Routine.TheVariants.{Idle}
+use Rattle.caller_parts.specs.declared.routine.Routine.TheVariants.{Idle, At}
 
 -- nested by what changes it
 pub record Entry : Type 0 where
@@ -62,6 +62,11 @@ idle_entry c = record {
 abbrev pub is_idle : Routine → Bool
 is_idle Idle = true
 is_idle _ = false
+
+-- whether a caller stands at an access of its method
+abbrev pub is_at_access : Routine → Bool
+is_at_access At = true
+is_at_access _ = false
 
 -- an entry with room for so many replies, which the machine doesn't know
 pub record RoomyEntry : Type 0 where

@@ -11,9 +11,9 @@ pub data Sign : Type 0 where
   Accesses : Sign
   -- the access of a `new`, whose node stands in this slot
   Draws : (slot : ℕ) → Sign
-  -- the method run begins again, where the source may do so
+  -- the method run begins again, if the source may do so
   Renews : Sign
-  -- the call is given up, with the last phase where a sweep found it
+  -- the call is given up, with the last phase if a sweep found it
   GivesUp : (phase : Option ℕ) → Sign
 
 -- what a step makes of an entry, and its signs in order

@@ -24,7 +24,7 @@ use Rattle.caller_steps.specs.Entries.{Entry, instr_in, cradle_of}
 use Rattle.caller_parts.specs.Operands.{word_in, slot_in, register_number, list_of}
 use Rattle.caller_steps.specs.Clearing.{restart_next, clear_next}
 
--- an exchange of a field of the node in a slot; where the object is null its field is loaded instead
+-- an exchange of a field of the node in a slot; if the object is null, its field is loaded instead
 abbrev pub object_exchange : ℕ → ℕ → ℕ → ℕ → WordAccess
 object_exchange zero f expected replacement = Loads (FieldOf 0 f)
 object_exchange (suc j) f expected replacement = Exchanges (FieldOf (suc j) f) expected replacement
@@ -47,7 +47,7 @@ plain_wanted fields (instr.Put a f b) registers = Some (Stores (FieldOf (slot_in
 plain_wanted fields (instr.Cas exchange l) registers = Some (exchange_wanted fields exchange registers)
 plain_wanted fields _ registers = None
 
--- a check loads the own warning, a guard stores the register's slot in its hazard
+-- a check loads the caller's own warning, a guard stores the register's slot in its hazard
 abbrev pub instr_wanted : List FieldDecl → ℕ → Option TargetInstr → Registers → Option WordAccess
 instr_wanted fields c None registers = None
 instr_wanted fields c (Some (Plain i)) registers = plain_wanted fields i registers
@@ -62,7 +62,7 @@ list_wanted fields exchange registers = option_map (λ e. exchange_wanted fields
 abbrev pub clear_wanted : ℕ → Option ℕ → Option WordAccess
 clear_wanted c register = option_map (λ r. Stores (Hazard c r) 0) register
 
--- the load of the phase, or a store to the own warning word
+-- the load of the phase, or a store to the caller's own warning word
 abbrev pub announcing_wanted : ℕ → Announcing → WordAccess
 announcing_wanted c (announces.Loads why) = Loads Phase
 announcing_wanted c (announces.Stores why phase) = Stores (Warning c) phase

@@ -27,7 +27,7 @@ use phase_pools::access::ClaimEnd;
 use phase_pools::retire::RetireState;
 
 impl Entry {
-    /// The own warning was loaded.
+    /// The caller's own warning was loaded.
     fn seen_loaded(&mut self, program: &Program, shape: &Shape, why: MethodStart, word: u64)
         requires spare { length self.old.core.replies < self.old.room }
         requires kinds { NewsFit program.now shape.now }
@@ -470,7 +470,7 @@ impl Entry {
         self.cleared(program, shape, next);
     }
 
-    /// A claim is counted where its exchange takes the slot.
+    /// A claim is counted if its exchange takes the slot.
     fn count_claim(&mut self, takes: bool)
         ensures { self.new ≡ record self.old { core = claim_counted takes self.old.core } }
     {
@@ -553,7 +553,7 @@ impl Entry {
         }
     }
 
-    /// The phase was loaded; or it, or 0, was stored in the own warning word.
+    /// The phase was loaded; or it, or 0, was stored in the caller's own warning word.
     fn announced(&mut self, program: &Program, shape: &Shape, announcing: Announcing, word: u64)
         requires spare { length self.old.core.replies < self.old.room }
         requires kinds { NewsFit program.now shape.now }
@@ -567,7 +567,7 @@ impl Entry {
         }
     }
 
-    /// `accept` where the caller stands at an access of its method, whose code and instruction are given.
+    /// `accept` of a caller that stands at an access of its method, whose code and instruction are given.
     #[inline(always)]
     #[tactic(auto, using(crate::proofs::Standing::after_at))]
     pub fn accept_at(

@@ -26,7 +26,7 @@ pub struct Hand {
     pub registers: Registers,
     /// What they held at the wrap-up's start.
     pub started: Registers,
-    /// The word that the own warning had when the method run began.
+    /// The word that the caller's own warning had when the method run began.
     pub seen: u64,
     /// The guards that the caller has published.
     pub guards: GuardRow,
@@ -60,7 +60,7 @@ pub struct Entry {
     pub cradles: [u32; 16],
     /// Where the caller stands, but for the claim.
     pub stand: Stand,
-    /// The claim that it makes if it stands in one, else the last one.
+    /// The claim that it makes if it stands in one. Elsewhere no contract says what stands here.
     pub claim: Option<ClaimState>,
     /// The replies so far.
     pub replies: Replies,

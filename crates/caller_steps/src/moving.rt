@@ -1,10 +1,10 @@
 //! What an entry becomes: clears, ends, local code and method runs, one small function for each definition.
 
-ghost use Rattle.std.specs.Prelude.{◌≡◌, ◌<◌, ◌^◌, length, slice_get, IfSome};
+ghost use Rattle.std.specs.Prelude.{◌≡◌, ◌<◌, ◌^◌, length, slice_get, is_some, IfSome};
 ghost use Rattle.phase_pools.specs.Pools.{claim_begun};
 ghost use Rattle.phase_pools.specs.Ranges.{HasOwn};
 ghost use Rattle.caller_parts.specs.Codes.{code_shown, shown_at};
-ghost use Rattle.caller_steps.specs.Entries.{code_in, instr_in, new_kind, new_number, cradle_of};
+ghost use Rattle.caller_steps.specs.Entries.{is_at_access, code_in, instr_in, new_kind, new_number, cradle_of};
 ghost use Rattle.caller_steps.specs.Asking.{NewsFit};
 ghost use Rattle.caller_steps.specs.Belongs.{scheme_of};
 ghost use Rattle.caller_steps.specs.Clearing.{restart_next, clear_next};
@@ -64,13 +64,15 @@ impl Entry {
         program.code(self.running.call.op, self.hand.wrapup)
     }
 
-    /// The code of the method, if the caller stands at an access of it.
+    /// The code of the method, exactly if the caller stands at an access of it.
     #[inline(always)]
     pub fn code_at<'a>(&self, program: &Program<'a>) -> Option<Code<'a>>
-        ensures { IfSome result (λ code. (self.now.core.routine ≡ At) × (code_shown code ≡ code_in program.now self.now.core)) }
+        ensures stands { is_some result ≡ is_at_access self.now.core.routine }
+        ensures code { IfSome result (λ code. (self.now.core.routine ≡ At) × (code_shown code ≡ code_in program.now self.now.core)) }
     {
         match self.stand {
             Stand::At => Some(self.code_in(program)),
+            Stand::Claims if self.claim.is_none() => Some(self.code_in(program)),
             _ => None,
         }
     }
@@ -103,7 +105,7 @@ impl Entry {
         self.cradles.get(k).copied().unwrap_or(0)
     }
 
-    /// The caller stands at an access of its method. Where it stands already isn't written again.
+    /// The caller stands at an access of its method. If it stands at one already, nothing is written.
     #[inline(always)]
     fn stand(&mut self)
         ensures { self.new ≡ record self.old { core = with_routine self.old.core At } }
@@ -122,7 +124,7 @@ impl Entry {
         self.stand = Stand::Idle;
     }
 
-    /// The next register to clear, and none where the clear has ended.
+    /// The next register to clear; none if the clear has ended.
     #[inline(always)]
     pub(crate) fn clear_next(&self, program: &Program, next: AfterClear) -> Option<u32>
         ensures { result ≡ clear_next program.now next self.now.core }
@@ -185,7 +187,7 @@ impl Entry {
         }
     }
 
-    /// The caller clears a guard. Where it has cleared one before, what follows stands there already.
+    /// The caller clears a guard. If it stands at a clear already, only what follows the clear is written.
     fn stand_at_clear(&mut self, next: AfterClear)
         ensures { self.new ≡ record self.old { core = with_routine self.old.core (Clears next) } }
     {

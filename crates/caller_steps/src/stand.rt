@@ -9,7 +9,7 @@ use phase_pools::retire::RetireState;
 pub enum Stand {
     /// No call runs.
     Idle,
-    /// Before the load of the own warning into `seen`.
+    /// Before the load of the caller's own warning into `seen`.
     LoadSeen(MethodStart),
     /// Before the load, check, guard, put or auxiliary exchange of the instruction.
     At,

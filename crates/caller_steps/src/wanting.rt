@@ -18,7 +18,7 @@ use norm_lang::text::{CasEntry, Instr, Place, Reg};
 use oa_words::shape::Shape;
 use phase_pools::access::Access;
 
-/// The exchange of a node's field; where the object is null the field is loaded.
+/// The exchange of a node's field; if the object is null, the field is loaded instead.
 fn object_exchange(shape: &Shape, slot: u32, field: u32, expected: u64, replacement: u64) -> Access
     requires slot { slot ≤ shape.now.slots }
     requires field { field < shape.now.fields }
@@ -116,7 +116,7 @@ fn clear_wanted(shape: &Shape, caller: u32, register: Option<u32>) -> Option<Acc
     }
 }
 
-/// The load of the phase, or a store to the own warning word.
+/// The load of the phase, or a store to the caller's own warning word.
 fn announcing_wanted(shape: &Shape, caller: u32, announcing: Announcing) -> Access
     requires { caller < shape.now.callers }
     ensures { result ≡ located shape.now (announcing_wanted caller announcing) }
@@ -169,7 +169,7 @@ impl Entry {
         }
     }
 
-    /// The same where the caller stands at an access of its method, whose instruction is given.
+    /// `pending` of a caller that stands at an access of its method, whose instruction is given.
     #[inline(always)]
     #[tactic(auto, using(crate::proofs::Standing::wants_at))]
     pub fn pending_at(
@@ -188,7 +188,7 @@ impl Entry {
         self.instr_wanted(program, setting.shape(), instr)
     }
 
-    /// The one access that the entry makes next; none exactly where it is idle, or stands at no access. What it stands at is
+    /// The one access that the entry makes next; none exactly if it is idle, or stands at no access. What it stands at is
     /// in the row, and its registers name slots.
     #[tactic(auto, unfolding(crate::specs::Wants::wants))]
     #[inline(always)]

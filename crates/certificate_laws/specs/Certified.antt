@@ -36,6 +36,6 @@ AcceptsRuns target text setting = (lines : List (List ScriptCall)) (scripts : Li
     → length lines ≡ setting.sizes.callers → Spell text.ops lines scripts → IsCompleteRun target setting scripts fuel events state
     → verdict_on text lines (image target text setting events) (replies_in state) ≡ Accepted
 
--- where the text is proper
+-- it does so if the text is proper
 abbrev pub RunsAreAccepted : Target → Text → Setting → Type 0
 RunsAreAccepted target text setting = IsProper text → AcceptsRuns target text setting

@@ -121,7 +121,7 @@ got [] at below = absurd (omega (arith, below))
 got (x ∷ xs) zero below = (x, refl)
 got (x ∷ xs) (suc at) below = got xs at (omega (arith, below))
 
--- what is read has P where the equation says so
+-- what is read in two steps has P if the second step gives it for the value of the first
 then_is : {A B E : Type 0} (r : Result A E) (f : A → Result B E) (P : B → Type 0) → ((x : A) → r ≡ Ok x → IfOk (f x) P) → IfOk (r >>= f) P
 then_is (Ok x) f P next = next x refl
 then_is (Err e) f P next = tt

@@ -97,7 +97,7 @@ no_event : says (codes "reply") (codes "0" ∷ codes "0" ∷ []) ≡ Err 4
 unfolding says
 no_event = refl
 
--- ---- replies, where there are two scripts
+-- ---- replies, with two scripts
 
 claims : ℕ → List (List ℕ) → Result Claim ℕ
 claims so_far words = claim_line 2 so_far words
@@ -151,7 +151,7 @@ whole : reads (codes "script 0\nf\nschedule\n# a comment\nevents\nbegin 0 f\n\na
 unfolding reads
 whole = refl
 
--- `events` is a call where a script runs; the end comes before a schedule
+-- within a script `events` is a call; the end comes before a schedule
 call_of_events : reads (codes "script 0\nevents\nreplies\n") ≡ Err (record { line = 13; number = 4 })
 unfolding reads
 call_of_events = refl

@@ -39,7 +39,7 @@ in_events ops account word rest =
     if bytes_eq word (codes "replies") then (end_at rest >>= λ done. Ok (record account { in_replies = true }))
     else (event_line ops word rest >>= λ event. Ok (record account { events = account.events ++ event ∷ [] }))
 
--- one more reply, where there are so many scripts
+-- one more reply, given the count of scripts
 abbrev pub in_claims : ℕ → Account → List ℕ → List (List ℕ) → Result Account ℕ
 in_claims scripts account word rest =
     if bytes_eq word (codes "reply") then (claim_line scripts (length account.replies) rest >>= λ claim. Ok (record account { replies = with_claim claim account.replies }))
@@ -48,12 +48,12 @@ in_claims scripts account word rest =
 abbrev pub after_word : List Op → ℕ → Account → List ℕ → List (List ℕ) → Result Account ℕ
 after_word ops scripts account word rest = if account.in_replies then in_claims scripts account word rest else in_events ops account word rest
 
--- what is said after the words of a line, of which there are none where it is skipped
+-- what is said after the words of a line, of which there are none if it is skipped
 abbrev pub after_words : List Op → ℕ → Account → Option (List ℕ × List (List ℕ)) → Result Account ℕ
 after_words ops scripts account None = Ok account
 after_words ops scripts account (Some word) = after_word ops scripts account word.0 word.1
 
--- what is said after a line, or the line's first fault. Its bytes are judged first, also where it is skipped
+-- what is said after a line, or the line's first fault. Its bytes are judged first, even if it is skipped
 abbrev pub after_line : List Op → ℕ → Account → TextLine → Result Account ℕ
 after_line ops scripts account line = words_in line >>= λ words. after_words ops scripts account (first_word words)
 

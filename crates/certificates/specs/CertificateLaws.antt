@@ -17,7 +17,7 @@ use Rattle.certificates.specs.CertificateSpelling.{certificate_spelling}
 abbrev pub is_caller : ℕ → Bool
 is_caller c = nat_le c most_caller
 
--- an event whose numbers are numbers of their types, and whose call, where it begins one, is a call of an operation of the text
+-- an event whose numbers are numbers of their types, and whose call, if it begins one, is a call of an operation of the text
 abbrev pub is_event : Text → SourceEvent → Bool
 is_event text (events.Begin c op words) = is_caller c && is_call text op words
 is_event text (events.Access c name) = is_caller c && is_number name

@@ -22,7 +22,7 @@ abbrev pub word_of_words : Result (List (List ℕ)) ℕ → Option (List ℕ)
 word_of_words (Err fault) = None
 word_of_words (Ok words) = Some (word_in (first_word words))
 
--- the word that a line begins with, no bytes where it is skipped; none where its bytes have a fault
+-- the word that a line begins with: no bytes if the line is skipped, none if its bytes have a fault
 abbrev pub word_of : TextLine → Option (List ℕ)
 word_of line = word_of_words (words_in line)
 
@@ -63,7 +63,7 @@ ends_early bytes = record { line = past bytes; number = form_fault }
 abbrev pub events_line : TextLine → Result (Unit {0}) ℕ
 events_line line = words_in line >>= λ words. end_at (drop 1 words)
 
--- a document, and what is said behind it, where the replies have begun
+-- a document, and what is said behind it, once the replies have begun
 abbrev pub certificate_of : Document → Account → Certificate
 certificate_of document account = record { document = document; events = account.events; replies = grown (length document.scripts) account.replies }
 

@@ -130,7 +130,7 @@ reply_of Nothing = Ok replies.Nothing
 reply_of Full = Ok replies.Full
 reply_of (Phases phase) = value_of phase >>= λ p. Ok (replies.Phases p)
 
--- a caller has a script, of which there are so many, and isn't below the last one that has a reply, where the callers up to that one are so many
+-- a caller has a script, of which there are `scripts`, and isn't below the last caller that has a reply. The callers up to that one are `so_far`
 abbrev pub may_reply : ℕ → ℕ → Option ℕ → Bool
 may_reply scripts so_far None = false
 may_reply scripts so_far (Some c) = nat_lt c scripts && nat_le so_far (c + 1)

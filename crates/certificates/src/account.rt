@@ -104,7 +104,7 @@ impl Account {
         }
     }
 
-    /// Adds what a line says, where there are so many scripts.
+    /// Adds what a line says, given the count of scripts.
     pub(crate) fn read_line(
         &mut self,
         alloc: Global,

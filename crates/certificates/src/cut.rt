@@ -16,7 +16,7 @@ pub(crate) struct Cut<'a> {
     pub(crate) behind: Lines<'a>,
 }
 
-/// The word that a line begins with, no bytes where it is skipped; none where its bytes have a fault.
+/// The word that a line begins with: no bytes if the line is skipped, `None` if its bytes have a fault.
 fn word_of<'a>(line: Line<'a>) -> Option<&'a [u8]>
     ensures { option_copied result ≡ word_of (line_shown line.entry) }
 {

@@ -8,8 +8,8 @@ use line_words::fault::Fault;
 use line_words::number::number_in;
 use line_words::words::Words;
 
-/// Numbers as they are spelled: how many, where 5 stands for all counts above 4; whether one exceeds 2^64 - 1; and the first four, 0
-/// where there are fewer.
+/// Numbers as they are spelled: how many, where 5 stands for all counts above 4; whether one exceeds 2^64 - 1; and the first four,
+/// with 0 for each that is missing.
 #[derive(Clone, Copy)]
 pub(crate) struct Numbers {
     pub(crate) count: usize,

@@ -90,7 +90,7 @@ fn certificate_of(
     })
 }
 
-/// The certificate, where the replies have begun.
+/// The certificate, if the replies have begun.
 fn whole(
     alloc: Global,
     input: &[u8],
@@ -147,8 +147,8 @@ fn read_whole(alloc: Global, input: &[u8]) -> Result<Certificate, ParseError>
 ///
 /// # Errors
 ///
-/// `Fault` exactly where the bytes spell no certificate by the grammar, with the grammar's fault: the first line that has one, and its
-/// first fault. Where the input ends and a further line must follow, the fault is 4 at one more than the number of lines. `Memory` where
+/// `Fault` exactly if the bytes spell no certificate by the grammar, with the grammar's fault: the first line that has one, and its
+/// first fault. If the input ends but a further line must follow, the fault is 4 at one more than the number of lines. `Memory` if
 /// memory runs out.
 #[tactic(auto, using(crate::proofs::WhatIsRead::as_many_lists))]
 pub fn read_certificate(alloc: Global, input: &[u8]) -> Result<Certificate, ParseError>

@@ -64,8 +64,8 @@ fn reply_of(word: ReplyWord) -> Result<SourceReply, Fault>
     }
 }
 
-/// Whether a caller has a script, of which there are so many, and isn't below the last one that has a reply, where the callers up to that
-/// one are so many.
+/// Whether a caller has a script, of which there are `scripts`, and isn't below the last caller that has a reply. The callers up to that
+/// one are `so_far`.
 fn may_reply(scripts: usize, so_far: usize, caller: Option<u64>) -> bool
     ensures { result ≡ may_reply scripts so_far caller }
 {

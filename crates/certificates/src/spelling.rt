@@ -203,7 +203,7 @@ fn put_account(
 ///
 /// # Errors
 ///
-/// `AllocError` where memory runs out.
+/// `AllocError` if memory runs out.
 #[tactic(auto, using(crate::proofs::Spelled::in_three))]
 pub fn show_certificate(alloc: Global, certificate: &Certificate) -> Result<ByteText, AllocError>
     ensures { IfOk result (λ bytes. bytes ≡ certificate_spelling certificate.now) }

@@ -143,11 +143,11 @@ pub record Same (memory memory' : Word → ℕ) : Type 0 where
   pub link : (i : ℕ) → memory' (Link i) ≡ memory (Link i)
   pub status : (i : ℕ) → memory' (Status i) ≡ memory (Status i)
 
--- a kind's stamp is the same where its head is
+-- a kind's stamp is the same if its head is
 same_stamp : (memory memory' : Word → ℕ) (k : ℕ) → memory' (Head k) ≡ memory (Head k) → stamp memory' k ≡ stamp memory k
 same_stamp memory memory' k is = ap (λ (w : ℕ). (head_parts w).phase) is
 
--- and its chain hangs on it still, where its links are the same
+-- and its chain still hangs on it if its links are the same
 same_linked : (memory memory' : Word → ℕ) (k : ℕ) (chain : List ℕ) → memory' (Head k) ≡ memory (Head k) → ((i : ℕ) → times i chain ≢ 0 → memory' (Link i) ≡ memory (Link i))
     → IsChain (links memory) (top memory k) chain → IsChain (links memory') (top memory' k) chain
 same_linked memory memory' k chain is same linked =
@@ -239,7 +239,7 @@ tells memory k q t is small = (omega (arith, is, small), omega (arith, is, small
 pub stored_tells : (memory : Word → ℕ) (k q t : ℕ) → t < 8192 → (stamp (store memory (Head k) (head_word q t)) k ≡ q) × (top (store memory (Head k) (head_word q t)) k ≡ t)
 stored_tells memory k q t small = tells (store memory (Head k) (head_word q t)) k q t (head_here memory k (head_word q t)) small
 
--- where the stamp doesn't fall, none does
+-- if the stamp doesn't fall, none does
 pub stamps_rise : (memory : Word → ℕ) (k q t : ℕ) → t < 8192 → stamp memory k ≤ q → (i : ℕ) → stamp memory i ≤ stamp (store memory (Head k) (head_word q t)) i
 stamps_rise memory k q t small up = each_head (λ i w. stamp memory i ≤ (head_parts w).phase) memory k (head_word q t)
     (omega (arith, small, up)) (λ i ne. omega arith)
@@ -255,7 +255,7 @@ pub record Expected (n : Sizes) (memory : Word → ℕ) (hands : Hands) (k q t n
   pub of_kind : kind_of n t ≡ k
   pub link : memory (Link t) ≡ next
 
--- what follows where the top is taken off a chain
+-- what follows if the top is taken off a chain
 record TakenOff (n : Sizes) (memory : Word → ℕ) (owner : ℕ → Owner) (c k t next : ℕ) (below : List ℕ) : Type 0 where
   small : next < 8192
   linked : IsChain (links memory) next below
@@ -374,7 +374,7 @@ goes_linked n memory hands c s j x own = record {
   others = λ i d ne is. is;
 }
 
--- the head of a slot's kind as a push expects it, where the slot is linked to the top
+-- the head of a slot's kind is as a push expects it, and the slot is linked to the top
 pub record Pushes (n : Sizes) (memory : Word → ℕ) (hands : Hands) (c s k j q t : ℕ) : Type 0 where
   pub slots : n.slots ≤ 4096
   pub head : memory (Head k) ≡ head_word q t

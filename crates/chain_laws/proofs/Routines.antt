@@ -210,7 +210,7 @@ takes : (n : Sizes) (c : ℕ) (m : Word → ℕ) (h : Hands) (claim : Claim) (q 
     (ClaimNext n (after_access m (claim_wants_at claim.kind claim.sweep (claims.Take q t next))) (claim_hands c claim.kind claim.sweep (claims.Take q t next) m h) c
     (look_took claim q t (m (Head claim.kind))).claim (look_took claim q t (m (Head claim.kind))).ended)
 takes n c m h claim q t next most lt f w = of (m (Head claim.kind) == head_word q t) refl where
-  -- where the head is as it was loaded, the top has stood there since
+  -- if the head is as it was loaded, the top has stood there since
   stood : m (Head claim.kind) ≡ head_word q t → ((h.owner t ≡ Chained) × (m (Link t) ≡ next)) ⊎ Gone n m h q t → (h.owner t ≡ Chained) × (m (Link t) ≡ next)
   stood is (inl stands) = stands
   stood is (inr (inl less)) = absurd (let here = ap (stamp m) w.2 ∙ (tells m claim.kind q t is w.1).0 in let no : ⊥ = omega (arith, here, less) in no)

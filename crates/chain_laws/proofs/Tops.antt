@@ -15,7 +15,7 @@ use Rattle.chain_laws.proofs.Runs.{run_holds, run_stamp, run_gone, run_stands, S
 pub chains_stand : OfAll ChainsStand
 chains_stand n last start are most fit memory starts events state is = run_holds n last events (pool_start n start memory) state are most (start_holds n start memory are most fit starts) is
 
--- where a kind's head is (q, t) the slot isn't gone
+-- if a kind's head is (q, t), slot t isn't gone
 pub not_gone : (n : Sizes) (state : PoolState) (k q t : ℕ) → Holds n state → k < length n.kinds → state.memory (Head k) ≡ head_word q t → t < 8192 → t ≢ 0 → Gone n state.memory state.hands q t → ⊥
 not_gone n state k q t w lt is small some (inl less) =
     let here = tells state.memory k q t is small in

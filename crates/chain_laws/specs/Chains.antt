@@ -88,7 +88,7 @@ abbrev pub UpTo : ℕ → Option ℕ → Type 0
 UpTo phase None = Unit {0}
 UpTo phase (Some tag) = tag ≤ phase
 
--- the status word of a slot by its owner, where the stamp of its kind's head and the phase are these
+-- the status word of a slot by its owner, if the stamp of its kind's head and the phase are these
 abbrev pub SlotHolds : SlotRange → ℕ → ℕ → ℕ → ℕ → Owner → Type 0
 SlotHolds range stamped phase j word Chained = IsSlot range j × ((q : ℕ) × (word ≡ status_word q kinds.Ready) × (q ≤ stamped))
 SlotHolds range stamped phase j word (Taken c) = IsSlot range j × IsOf kinds.Ready word

@@ -56,7 +56,7 @@ pub record Seen (n : Sizes) (last : ℕ) (start : Beginning) (k q t : ℕ) : Typ
   pub ends : pool_run n last more between ≡ Some later
 
 pub record TopsStand (n : Sizes) (last : ℕ) (start : Beginning) : Type 0 where
-  -- where an exchange finds the head word that was loaded, its top has stood in the kind's chain at each moment since, with its link
+  -- if an exchange finds the head word that was loaded, its top has stood in the kind's chain at each moment since, with its link
   pub stood : (k q t : ℕ) (seen : Seen n last start k q t) → seen.later.memory (Head k) ≡ head_word q t
       → (times t (seen.between.hands.chain k) ≡ 1) × (seen.between.memory (Link t) ≡ seen.loaded.memory (Link t))
   -- a slot that has left the chain since comes back only under a greater phase

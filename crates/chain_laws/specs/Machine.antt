@@ -125,7 +125,7 @@ stepped n last state c (Retires retirement) =
       who = put state.who c (retirement_left (retire_accepts retirement (state.memory (word_of (retire_wants retirement)))));
     })
 
--- one event, where it is enabled. A caller retires only what is used, and what nobody else retires
+-- one event, if it is enabled. A caller retires only what is used, and what nobody else retires
 abbrev pub pool_event : Sizes → ℕ → PoolState → PoolEvent → Option PoolState
 pool_event n last state (BeginsClaim c k scheme) =
     if nat_lt k (length n.kinds) then begins (state.who c) (record state { who = put state.who c (Claims (claim_begun n k scheme)) }) else None
@@ -140,7 +140,7 @@ abbrev pub run_on : Option PoolState → (PoolState → Option PoolState) → Op
 run_on None next = None
 run_on (Some state) next = next state
 
--- events one after another, where each is enabled
+-- events one after another, if each is enabled
 abbrev pub pool_run : Sizes → ℕ → List PoolEvent → PoolState → Option PoolState
 pool_run n last [] state = Some state
 pool_run n last (event ∷ events) state = run_on (pool_event n last state event) (pool_run n last events)

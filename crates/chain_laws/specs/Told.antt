@@ -21,7 +21,7 @@ IsClaiming (Retires retirement) = ⊥
 
 pub record PoolTells (n : Sizes) (state : PoolState) : Type 0 where
   pub stamped : (k : ℕ) → k < length n.kinds → stamp state.memory k ≤ state.memory Phase
-  -- where no slot is on top the kind's chain is empty
+  -- if no slot is on top, the kind's chain is empty
   pub empty : (k : ℕ) → k < length n.kinds → top state.memory k ≡ 0 → state.hands.chain k ≡ []
   -- a slot stands in a chain at most once, and not while a caller has taken it, pushes it or retires it, which no two callers do
   pub once : (k j : ℕ) → times j (state.hands.chain k) ≤ 1
@@ -36,10 +36,10 @@ pub record PoolTells (n : Sizes) (state : PoolState) : Type 0 where
   -- what a claim has taken is of its kind, and ready until it stores that it is used
   pub taken : (c : ℕ) (claim : Claim) (q t : ℕ) → state.who c ≡ Claims claim → claim.stage ≡ claims.StoreUsed q t
       → IsSlot (slot_range n) t × (kind_of n t ≡ claim.kind) × IsOf kinds.Ready (state.memory (Status t))
-  -- where a claim's exchange finds the head that it expects, the top stands in the chain of its kind, and its link is the one that was loaded
+  -- if a claim's exchange finds the head that it expects, the top stands in the chain of its kind, and its link is the one that was loaded
   pub takes : (c : ℕ) (claim : Claim) (q t next : ℕ) → state.who c ≡ Claims claim → claim.stage ≡ claims.Take q t next → state.memory (Head claim.kind) ≡ head_word q t
       → (times t (state.hands.chain claim.kind) ≡ 1) × (state.memory (Link t) ≡ next)
-  -- a sweep's exchange makes a slot ready only where it was retired before the sweep's low, which isn't past the phase that it raises to,
+  -- a sweep's exchange makes a slot ready only if it was retired before the sweep's low, which isn't past the phase that it raises to,
   -- and is nobody's
   pub frees : (c : ℕ) (claim : Claim) (j q : ℕ) → state.who c ≡ Claims claim → claim.stage ≡ claims.Sweeps → claim.sweep.stage ≡ sweeps.MakeReady j q
       → (q < claim.sweep.low) × (claim.sweep.low ≤ claim.sweep.bound) × (state.memory (Status j) ≡ status_word q kinds.Retired → state.hands.owner j ≡ Retired q)

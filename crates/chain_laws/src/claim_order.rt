@@ -4,8 +4,8 @@ ghost use Rattle.chain_laws.specs.Laws.{OfAll};
 ghost use Rattle.chain_laws.specs.claim_order.Frontier.{ClaimsStayOrdered};
 ghost use Rattle.chain_laws.specs.claim_order.Stamps.{WordsStayWithin};
 
-/// Whatever is retired, and be it twice, claims take a kind's slots that were never claimed in ascending order, and such a slot is as it was
-/// at the start. Where no slot is on top of a kind's chain, the kind's initial nodes and all claims together are at least its slots.
+/// Whatever is retired, even twice, claims take a kind's slots that were never claimed in ascending order, and such a slot is as it was at the
+/// start. If no slot is on top of a kind's chain, the kind's initial nodes and all claims together are at least as many as its slots.
 pub fn claims_stay_ordered()
     ensures { OfAll ClaimsStayOrdered }
 {}

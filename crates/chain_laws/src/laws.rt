@@ -9,7 +9,7 @@ pub fn chains_stand()
     ensures { OfAll ChainsStand }
 {}
 
-/// Where an exchange finds the head word of a kind that its caller had loaded, and a slot is on top, that slot has stood in the kind's chain
+/// If an exchange finds the head word of a kind that its caller had loaded, and a slot is on top, that slot has stood in the kind's chain
 /// since the load, and its link is unchanged.
 pub fn tops_stand()
     ensures { OfAll TopsStand }

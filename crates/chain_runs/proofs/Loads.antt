@@ -1,4 +1,4 @@
--- An exchange on a kind's head word expects what its caller's last load of it found: where a caller stands in a look or a push, its last
+-- An exchange on a kind's head word expects what its caller's last load of it found: if a caller stands in a look or a push, its last
 -- load found the phase and the top that it has.
 use Rattle.std.proofs.Common.{ℕ, zero, ◌≡◌, ◌≢◌, ◌+◌, ◌<◌, ◌∙◌, ◌++◌, ◌==◌, Bool, true, false, List, [], ◌∷◌, Option, Some, None, arith, ⊎_elim, sym, ap, subst, refl, append_assoc, append-nil, if◌then◌else◌}
 use Rattle.std.specs.Prelude.{nat_lt}
@@ -102,7 +102,7 @@ module _ (target : Target) (setting : Setting) where
     last = still_last past state event c i l.at.before runs none l.last;
   }
 
-  -- ---- where a caller stands in a look or a push
+  -- ---- a caller in a look or a push
 
   abbrev Found : List CoreEvent → ℕ → ℕ → ℕ → ℕ → Type 0
   Found events c i q t = LastLoad target setting events c i (head_word q t)

@@ -50,7 +50,7 @@ pub record Stood (target : Target) (setting : Setting) (events : List CoreEvent)
   -- an exchange on a kind's head word expects what its caller's last load of it found
   pub expects : (c k expected replacement : ℕ) → c < setting.sizes.callers → wants target ((view setting state).who c) ≡ Some (Exchanges (Head k) expected replacement)
       → LastLoad target setting events c k expected
-  -- where the head word is what that load found, and a slot is on top, that slot has stood in the kind's chain at each moment since the
+  -- if the head word is what that load found, and a slot is on top, that slot has stood in the kind's chain at each moment since the
   -- load, and its link is unchanged
   pub stood : (c k found : ℕ) (load : LastLoad target setting events c k found) → words setting state (Head k) ≡ found → (head_parts found).top ≢ 0
       → (m : Moment target setting events) → NotAfter target setting events load.at m → StandsAsBefore (words setting load.at.state) (words setting m.state) k (head_parts found).top

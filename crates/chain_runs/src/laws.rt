@@ -9,7 +9,7 @@ ghost use Rattle.chain_runs.specs.Tops.{TopsHaveStood};
 use barrier_check::Barred;
 use caller_steps::Setting;
 
-/// For a proper text, under optimistic access, in each state of each run: a slot is ready exactly where it stands in the chain of its kind,
+/// For a proper text, under optimistic access, in each state of each run: a slot is ready exactly if it stands in the chain of its kind,
 /// or a caller has taken it from there and hasn't stored that it is used, or a caller pushes it; and that is one caller alone. A claim's
 /// exchange that finds the head of its kind as it expects it takes the slot from the kind's chain, and a push's puts its slot on the chain
 /// of the slot's kind.
@@ -22,7 +22,7 @@ pub fn slots_are_chained(barred: &Barred, setting: &Setting)
     setting.kept();
 }
 
-/// For a proper text, under optimistic access: an exchange on a kind's head word expects what its caller's last load of it found. Where the
+/// For a proper text, under optimistic access: an exchange on a kind's head word expects what its caller's last load of it found. If the
 /// head word is again what a caller's last load found, and a slot is on top, that slot has stood in the kind's chain at each moment since,
 /// and its link is unchanged. And a slot that was taken from under a head with a phase is pushed again only under a greater one.
 pub fn tops_have_stood(barred: &Barred, setting: &Setting)

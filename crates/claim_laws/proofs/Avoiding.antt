@@ -356,7 +356,7 @@ step_avoids by target setting j word e (Claims claim) some is f a found =
 step_avoids by target setting j word e (Zeroes k field) some is f a found = zeroed_avoids target setting.sizes j some by k field e f
 step_avoids by target setting j word e (Announces announcing) some is f a found = announcing_avoids target setting.sizes j some announcing word e f
 
--- an entry that doesn't name the slot goes on not to, where what it found doesn't
+-- an entry that doesn't name the slot doesn't name it afterwards, if what it found doesn't
 pub after_avoids : (target : Target) (setting : Setting) (j word : ℕ) (e : Entry) → 1 ≤ j → EntryAvoids j e → StepAvoids target setting j e word e.routine → EntryAvoids j (after target setting e word)
 unfolding after
 after_avoids target setting j word e some a found =

@@ -69,7 +69,7 @@ two : {n : ℕ} (here : Bool) → here ≡ true → 1 ≤ n → (if here then n 
 two true is some few = omega (arith, some, few)
 two false is some few = let z : false ≡ true = is in cc
 
--- where a method has no more than one `new`, its places of one are the same
+-- if a method has no more than one `new`, its places of one are the same
 only_place : (code : List TargetInstr) (a b : ℕ) → target_news_in code ≤ 1 → is_new_at (slice_get code a) ≡ true → is_new_at (slice_get code b) ≡ true → a ≡ b
 only_place [] a b few new also = absurd (let z : false ≡ true = new in cc)
 only_place (i ∷ code) zero zero few new also = refl
@@ -300,7 +300,7 @@ module _ (target : Target) (setting : Setting) (sane : Methods target) (row : Se
           let code : generator_of target e ≡ generator_of target later = ap (λ (run : Running). code_at target run.call.op false) (sym runs.2) in
           (at, subst (λ (code : List TargetInstr). is_new_at (slice_get code at) ≡ true) code new, subst (λ (code : List TargetInstr). cradle_of later (cradle_number code at) ≢ 0) code full)
 
-      -- its cradles are those before, and where it claims now its cradle is empty
+      -- its cradles are those before, and if it claims now, its cradle is empty
       holds_on : RunsOn (counted e) later → later.cradles ≡ e.cradles → ClaimStarts target later later.routine → Holds target e → Holds target later
       holds_on runs same starts (inr took) = absurd (took_claims e.routine took plain)
       holds_on runs same starts (inl holds) = inl (full, by later.routine refl starts) where
@@ -350,7 +350,7 @@ module _ (target : Target) (setting : Setting) (sane : Methods target) (row : Se
         seen starts.Again is keeps =
             kept_goes runs false keeps (λ published past. absurd (never (is ∙ sym (ap again_routine (by_scheme (LoadSeen starts.Again) is).0)) published))
 
-        -- before the load of a phase to announce it is past its list only where it begins again
+        -- before the load of a phase to announce, it is past its list only if it begins again
         unpast : (why : AnnounceReason) → e.routine ≡ Announces (announces.Loads why) → HasPublished target setting steps → IsPast e → ⊥
         unpast reasons.Begin is published past =
             let w : e.hand.wrapup ≡ true = subst (IsPastAt e) is past in let z : true ≡ false = sym w ∙ (by_scheme (Announces (announces.Loads reasons.Begin)) is).1.0 in cc

@@ -40,7 +40,7 @@ module _ (setting : Setting) (steps : List StepMade) (s : StepMade) where
   loads_over p loads found last =
       (loads.0, loads.1, phases_end setting loads.0 s.found loads.0.stage loads.2 (found ∙ last) ∙ ap (λ (q : ℕ). Some (ends.PhasesOver q)) found)
 
-  -- where none of the earlier steps found the last phase, the last one did
+  -- if none of the earlier steps found the last phase, the last one did
   pub over_by_last : (p : ℕ) → (FoundLastPhase setting p steps → ⊥) → FoundLastPhase setting p more → EndsClaim setting s (ends.PhasesOver p)
   over_by_last p none f = ⊎_elim
       (λ (t : f.step ≡ s). loads_over p (subst IsSweepsPhaseLoad t f.loads) (ap (λ (x : StepMade). x.found) (sym t) ∙ f.found) f.last)
@@ -54,7 +54,7 @@ module _ (setting : Setting) (steps : List StepMade) (s : StepMade) where
       let finds : FindsNoTop s = subst FindsNoTop (sym same) failed.3 in
       (finds.claim, finds.claims, empty_ends setting finds.claim s.found finds.claim.stage finds.looks finds.sweeps finds.empty)
 
-  -- a call ends with an answer where the last step found neither
+  -- a call ends with an answer if the last step found neither
   abbrev FindsNeither : Type 0
   FindsNeither = ((p : ℕ) → EndsClaim setting s (ends.PhasesOver p) → ⊥) × (EndsClaim setting s ends.Full → ⊥)
 

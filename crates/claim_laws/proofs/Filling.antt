@@ -1,4 +1,4 @@
--- From the start on: where a reply says that the pool is full, each slot holds an initial node or was claimed.
+-- From the start on: if a reply says that the pool is full, each slot holds an initial node or was claimed.
 use Rattle.std.proofs.Common.{◌≡◌, ◌≢◌, ◌⊎◌, inl, inr, ℕ, zero, suc, ◌+◌, ◌-◌, ◌≤◌, ◌<◌, Bool, true, false, List, [], ◌∷◌, length, map, replicate, Option, Some, None, refl, sym, ◌∙◌, ap, subst, arith, if◌then◌else◌}
 use Rattle.std.specs.Prelude.{slice_get, slice_index, nat_lt, option_map}
 use Rattle.std.proofs.lemmas.Bool.Decides.{nat_tests}
@@ -186,7 +186,7 @@ pub reached_pool : (target : Target) (text : Text) (setting : Setting) → IsRun
 reached_pool target text setting runs own fits state reached = induct_reached target setting (IsPooled target setting) (record { slots = []; frontier = ready_from runs.within own fits; pool = start_pool runs.within own fits })
     (λ now later event was pool goes. event_pool target setting (methods target text runs) (setting_sane setting own) fits now later event (states_are_sound target text setting now runs own fits was) pool goes) state reached
 
--- where each slot of a kind held an initial node or was claimed, as many slots as these and the claims
+-- if each slot of a kind held an initial node or was claimed, these nodes and the claims are at least its slots
 fills : (setting : Setting) (slots : List ℕ) (k : ℕ) → AreKinds setting.sizes → k < length setting.sizes.kinds → AllTouched setting k slots → slots_of setting.sizes k ≤ nodes_in setting k + length slots
 fills setting slots k are lt touched = let cover = covers (slots_of setting.sizes k - nodes_in setting k) base slots claimed in omega (arith, cover) where
   base : ℕ

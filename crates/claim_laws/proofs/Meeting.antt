@@ -1,4 +1,4 @@
--- What a caller finds and what it writes, where neither fields, roots nor guards name a slot.
+-- What a caller finds and what it writes, if neither fields, roots nor guards name a slot.
 use Rattle.std.proofs.Common.{◌≡◌, ◌≢◌, ℕ, zero, suc, ◌+◌, ◌≤◌, ◌<◌, ◌==◌, ◌&&◌, ◌||◌, Bool, true, false, List, [], ◌∷◌, length, Option, Some, None, refl, sym, ◌∙◌, subst, ap, arith, ⊎_elim, if◌then◌else◌}
 use Rattle.std.specs.Prelude.{slice_get, nat_le, nat_lt, option_map}
 use Rattle.std.specs.List.{All, list_any, list_all}

@@ -24,7 +24,7 @@ use Rattle.core_runs.proofs.caller_laws.Named.{set_keeps}
 use Rattle.core_runs.proofs.caller_laws.Going.{are_alike}
 use Rattle.claim_laws.specs.Untouched.{ValueAvoids, RegistersAvoid}
 
--- what avoids the slot where the one is held does so where the other is
+-- of two kinds of values that are alike: a word that avoids the slot as a value of one does so as a value of the other
 pub alike_avoids : (j : ℕ) (one other : Option FieldKind) (word : ℕ) → are_alike one other ≡ true → ValueAvoids j other word → ValueAvoids j one word
 alike_avoids j None other word alike avoids = tt
 alike_avoids j (Some holdings.Number) other word alike avoids = tt

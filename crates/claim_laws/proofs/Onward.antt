@@ -1,5 +1,5 @@
--- What a step that isn't one of a claim does: it adds no reply but an answer, claims nothing, keeps cradles but where it publishes,
--- and begins a claim where it comes to one, at an empty cradle; and past a list nothing leads back to a claim but `again`.
+-- What a step that isn't one of a claim does: it adds no reply but an answer, claims nothing, keeps cradles unless it publishes,
+-- and begins a claim, if it comes to one, at an empty cradle; and past a list nothing leads back to a claim but `again`.
 --
 -- One lemma for each small definition of `after`. What is said of the entry before speaks of its parts, so that one whose hand or
 -- cradles have changed may stand in its place.
@@ -52,7 +52,7 @@ abbrev pub IsOfAnswer : AfterClear → Type 0
 IsOfAnswer (clears.Reply reply) = IsAnswer reply
 IsOfAnswer _ = Unit {0}
 
--- what is added where an announcement is withdrawn is an answer
+-- what is added when an announcement is withdrawn is an answer
 abbrev pub LeavesWithAnswer : Announcing → Type 0
 LeavesWithAnswer (announces.Loads why) = Unit {0}
 LeavesWithAnswer (announces.Stores why phase) = Unit {0}
@@ -366,7 +366,7 @@ module _ (target : Target) (sizes : Sizes) where
 
 -- ---- each step
 
--- where it isn't one of a claim or of a list, the caller holds its cradles, a wrap-up stays one, and a claim begins at an empty cradle
+-- if the step isn't one of a claim or of a list, the caller holds its cradles, a wrap-up stays one, and a claim begins at an empty cradle
 abbrev pub StepKeeps : Target → Entry → Entry → Routine → Type 0
 StepKeeps target before later Idle = Unit {0}
 StepKeeps target before later (LoadSeen why) = KeepsFrom target before.cradles (is_wrap_up why) later
@@ -399,7 +399,7 @@ pub after_keeps : (target : Target) (setting : Setting) (e : Entry) (word : ℕ)
 unfolding after
 after_keeps target setting e word = step_keeps setting.reclamation target setting word (counted e) e.routine refl
 
--- where it stands before a step: what a clear adds at its end is an answer, and so is what is added where an announcement is withdrawn
+-- where it stands before a step: what a clear adds at its end is an answer, and so is what is added when an announcement is withdrawn
 abbrev pub IsBefore : Routine → Type 0
 IsBefore (Clears next) = IsOfAnswer next
 IsBefore (Announces announcing) = LeavesWithAnswer announcing

@@ -128,7 +128,7 @@ full_more setting slots k given (inr all) = inr (all.0, all.1, (λ i within. tou
 caller_more : (setting : Setting) (slots : List ℕ) (k : ℕ) (e : Entry) → CallerPool setting slots e → CallerPool setting (k ∷ slots) e
 caller_more setting slots k e p = record { before = p.before; full = full_more setting slots k e.replies p.full }
 
--- where no slot of a kind is on top each was claimed
+-- if no slot of a kind is on top, each was claimed
 all_touched : (setting : Setting) (slots : List ℕ) (m : Word → ℕ) (v : ℕ → ℕ) (k : ℕ) → k < length setting.sizes.kinds → AreOrdered setting.sizes (nodes_in setting) setting.first m v
     → ((j : ℕ) → HeldNone setting j → j < v (kind_of setting.sizes j) → has_slot slots j ≡ true) → top m k ≡ 0 → AllTouched setting k slots
 all_touched setting slots m v k lt o past none i within = ⊎_elim (λ (node : i < ready). inl node) (λ (other : ready ≤ i). inr (past i other below)) (cases_lt i ready) where
@@ -239,7 +239,7 @@ module _ (target : Target) (setting : Setting) where
       by (Zeroes k field) is stands = same (Zeroes k field) is refl tt
       by (Announces announcing) is stands = same (Announces announcing) is refl stands
 
-    -- one of a claim: where it ends with `Full` each slot was claimed
+    -- one of a claim: if it ends with `Full`, each slot was claimed
     claim_end : (next : Claim) (o : Option ClaimEnd) (x : Entry) → (o ≡ Some ends.Full → KindTouched setting slots) → FullOnly setting slots x.replies → CallerPool setting slots (claim_on setting.reclamation target next o x).entry
     claim_end next None x touches full = record { before = tt; full = full }
     claim_end next (Some (ends.Claimed k)) x touches full =
@@ -339,7 +339,7 @@ module _ (setting : Setting) (some : SettingSane setting) (m : Word → ℕ) (sl
     takes_is : takes_in e.routine told ≡ takes_at claim.stage told
     takes_is = ap (λ (r : Routine). takes_in r told) is
 
-    -- where the exchange takes nothing
+    -- if the exchange takes nothing
     none_taken : takes_at claim.stage told ≡ false → frontier_at claim.kind claim.stage m v ≡ v → ((j : ℕ) → TakesOther j claim.stage told) → AdvancesBy setting m slots v e (claim_wants claim)
     none_taken takes front other =
         let k = claim_open setting.sizes setting.last (nodes_in setting) setting.first m v 0 claim claim.stage refl some.kinds some.few known ordered fits in
@@ -355,7 +355,7 @@ module _ (setting : Setting) (some : SettingSane setting) (m : Word → ℕ) (sl
           },
         )
 
-    -- where it takes t, a slot of the claim's kind, which stands before the kind's frontier or at it
+    -- if it takes t, a slot of the claim's kind, which stands before the kind's frontier or at it
     one_taken : (q t next : ℕ) → claim.stage ≡ claims.Take q t next → kind_of setting.sizes t ≡ claim.kind → t ≤ v claim.kind → (m (Head claim.kind) == head_word q t) ≡ true → AdvancesBy setting m slots v e (claim_wants claim)
     one_taken q t next at its le finds =
         let k = claim_open setting.sizes setting.last (nodes_in setting) setting.first m v 0 claim claim.stage refl some.kinds some.few known ordered fits in

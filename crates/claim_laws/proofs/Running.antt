@@ -80,7 +80,7 @@ pub record IsStepOf (target : Target) (setting : Setting) (past : List CoreEvent
   pub later : slice_get next.entries k ≡ Some (after target setting e (found_by setting state a))
 
 module _ (target : Target) (setting : Setting) (Rests : Entry → Type 0) (Runs : Entry → List StepMade → Type 0) where
-  -- what such a step keeps where the call ends with it, and where it runs on
+  -- what such a step keeps if the call ends with it, and if the call runs on
   abbrev pub StepKeeps : Type 0
   StepKeeps = (past : List CoreEvent) (state : CoreState) (k : ℕ) (e : Entry) (a : WordAccess) (steps : List StepMade) → IsStepOf target setting past state k e a
       → steps_of_call target setting past k (length e.replies) ≡ steps → Runs e steps

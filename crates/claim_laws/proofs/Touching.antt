@@ -42,7 +42,7 @@ use Rattle.claim_laws.specs.Untouched.{nodes_in, HeldNone, StageAvoids, RoutineA
 
 -- ---- a status that stays
 
--- a ready slot's status, where the access is of it, is left as it was found
+-- an access of a ready slot's status leaves the status as it was found
 abbrev pub LeavesReady : ℕ → ℕ → Option WordAccess → Type 0
 LeavesReady j first None = Unit {0}
 LeavesReady j first (Some a) = word_of a ≡ Status j → word_after a (status_word first kinds.Ready) ≡ status_word first kinds.Ready

@@ -47,7 +47,7 @@ EndsInFailedLook steps = (before : List StepMade) × (step : StepMade) × (steps
 
 -- ---- laws
 
--- a reply says that phases are over, or that the pool is full, exactly where the steps of its call found so
+-- a reply says that phases are over, or that the pool is full, exactly if the steps of its call found so
 pub record IsCaused (setting : Setting) (reply : SourceReply) (steps : List StepMade) : Type 0 where
   pub phases : (p : ℕ) → (reply ≡ replies.Phases p) ↔ FoundLastPhase setting p steps
   pub full : (reply ≡ replies.Full) ↔ EndsInFailedLook steps

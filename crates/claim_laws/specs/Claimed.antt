@@ -13,7 +13,7 @@ use Rattle.core_runs.specs.Machine.{CoreState, CoreEvent, Takes, Steps, core_eve
 use Rattle.claim_laws.specs.CallSteps.{StepMade, steps_by}
 use Rattle.claim_laws.specs.Untouched.{HeldNone, IsUntouched}
 
--- a claim's exchange took the slot on top where it found the head that it expected
+-- a claim's exchange took the slot on top if it found the head that it expected
 abbrev pub taken_at : ClaimStage → ℕ → List ℕ
 taken_at (claims.Take q t next) found = if found == head_word q t then t ∷ [] else []
 taken_at _ found = []

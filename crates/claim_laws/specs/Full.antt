@@ -18,7 +18,7 @@ claims_in (e ∷ entries) = e.counts.claims + claims_in entries
 abbrev pub FillAKind : Setting → ℕ → Type 0
 FillAKind setting others = (k : ℕ) × (k < length setting.sizes.kinds) × (slots_of setting.sizes k ≤ nodes_in setting k + others)
 
--- where a caller was told that the pool is full, the initial nodes of one kind and the claims of all callers together are at least the
+-- if a caller was told that the pool is full, the initial nodes of one kind and the claims of all callers together are at least the
 -- slots of this kind
 pub record FullTakesClaims (target : Target) (setting : Setting) : Type 0 where
   pub each : (state : CoreState) (c i : ℕ) (e : Entry) (replied : Replied) → Reachable target setting state → slice_get state.entries c ≡ Some e → slice_get e.replies i ≡ Some replied

@@ -51,7 +51,7 @@ pub record PublishedEnd (target : Target) (setting : Setting) : Type 0 where
       → core_run target setting events (core_start target setting) ≡ Some state → slice_get state.entries c ≡ Some e → e.routine ≡ again_routine setting.reclamation
       → steps_of_call target setting events c (length e.replies) ≡ before ++ step ∷ later → Publishes target setting step → ⊥
 
--- the `new` of all calls that a caller took; where no operation has more than one, that is how many calls are of one with a `new`
+-- the `new` of all calls that a caller took; if no operation has more than one, that is how many calls are of one with a `new`
 abbrev pub new_calls : Target → List Running → ℕ
 new_calls target [] = 0
 new_calls target (run ∷ runs) = news_of_call target run.call + new_calls target runs
@@ -65,7 +65,7 @@ new_calls_in target (e ∷ entries) = new_calls target (calls_of e) + new_calls_
 abbrev pub OverfillAKind : Setting → ℕ → Type 0
 OverfillAKind setting others = (k : ℕ) × (k < length setting.sizes.kinds) × (slots_of setting.sizes k < nodes_in setting k + others)
 
--- then, where a caller was told that the pool is full, the initial nodes of one kind and those calls of all callers are more than the
+-- then, if a caller was told that the pool is full, the initial nodes of one kind and those calls of all callers are more than the
 -- slots of this kind
 pub record FullTakesCalls (target : Target) (setting : Setting) : Type 0 where
   pub each : (state : CoreState) (c i : ℕ) (e : Entry) (replied : Replied) → HasFewNews target → PublishedEnd target setting → Reachable target setting state → slice_get state.entries c ≡ Some e

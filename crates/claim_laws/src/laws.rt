@@ -8,13 +8,13 @@ ghost use Rattle.claim_laws.specs.Full.{FullTakesClaims};
 ghost use Rattle.claim_laws.specs.Claimed.{ClaimsAreCounted, UnclaimedIsUntouched};
 ghost use Rattle.claim_laws.specs.Publishing.{FullTakesCalls};
 
-/// Of a target that callers may run and a setting that fits it: a reply is `Phases` exactly where a sweep of its call loaded the
-/// last phase, and `Full` exactly where a claim of it made two sweeps and found no slot in its third look.
+/// Of a target that callers may run and a setting that fits it: a reply is `Phases` exactly if a sweep of its call loaded the
+/// last phase, and `Full` exactly if a claim of it made two sweeps and found no slot in its third look.
 pub fn replies_are_caused()
     ensures { ForRuns RepliesAreCaused }
 {}
 
-/// Of the same: where a caller was told that the pool is full, there is a kind whose initial nodes, together with the claims of all
+/// Of the same: if a caller was told that the pool is full, there is a kind whose initial nodes, together with the claims of all
 /// callers, are at least its slots.
 pub fn full_takes_claims()
     ensures { ForRuns FullTakesClaims }
@@ -33,9 +33,9 @@ pub fn steps_are_counted()
     ensures { OfAll StepsAreCounted }
 {}
 
-/// Of a target that callers may run and a setting that fits it, where no operation has more than one `new` and no call begins
-/// again once it has published its node: where a caller was told that the pool is full, there is a kind whose initial nodes, together with the
-/// calls with a `new` of all callers, are more than its slots.
+/// Of a target that callers may run and a setting that fits it: suppose that no operation has more than one `new`, and that no
+/// call begins again once it has published its node. If a caller was told that the pool is full, there is a kind whose initial
+/// nodes, together with the calls with a `new` of all callers, are more than its slots.
 pub fn full_takes_calls()
     ensures { ForRuns FullTakesCalls }
 {}

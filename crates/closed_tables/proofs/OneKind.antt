@@ -1,4 +1,4 @@
--- Where fields, roots and new nodes are of the first kind, no register of references may have another, so that N15 is kept.
+-- If fields, roots and new nodes are of the first kind, no register of references may have another, so that N15 is kept.
 use Rattle.std.proofs.Common.{◌≡◌, ℕ, zero, suc, ◌<◌, ⊎_elim, Bool, true, false, ◌&&◌, ◌||◌, not, List, [], ◌∷◌, take, drop, Option, Some, None, refl, sym, ap, ◌∙◌, arith}
 use Rattle.std.specs.Prelude.{slice_get, ◌==◌, IsTrue, if◌then◌else◌}
 use Rattle.std.specs.List.{list_any, list_all}

@@ -134,7 +134,7 @@ abbrev pub makes_first : Instr → Bool
 makes_first (instr.New d kind) = kind == 0
 makes_first _ = true
 
--- the tables show that the instruction at a place keeps a rule; where the wrap-up keeps no reference, and the tables are
+-- the tables show that the instruction at a place keeps a rule, if the wrap-up keeps no reference and the tables are
 -- closed
 abbrev pub keeps_rule : Rule → List FieldDecl → List RootDecl → Op → OpTables → Bool → ℕ → Instr → Bool
 keeps_rule N1 fields roots op t wrapup at i = not (has_wrong_kind fields roots i)

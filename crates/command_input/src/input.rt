@@ -4,7 +4,7 @@ ghost use Rattle.std.specs.Prelude.{◌≡◌, ℕ, ◌+◌, ◌<◌, ◌≤◌,
 ghost use Rattle.std.specs.Io.{ReadsAtMost};
 ghost use Rattle.std.specs.Io.KnownBytes.{Consumes, IsAtEnd, Keeps, ReadConsumes};
 ghost use Rattle.oa_text.specs.Causes.{HasCause, Rose};
-ghost use Rattle.command_input.specs.Inputs.{ReadsFewer, standing_after};
+ghost use Rattle.command_input.specs.Inputs.{ReadsFewer, ReadsWithin, standing_after};
 ghost use Rattle.command_input.specs.declared.input.InputError.TheVariants.{Memory, Fault};
 ghost use Rattle.command_input.specs.declared.input.Standing.TheVariants.{Open};
 
@@ -53,7 +53,7 @@ struct Reading {
 }
 
 impl Reading {
-    /// The one place where a source is read. What it requires says that no read is made after the end, after a fault, or where no more
+    /// The one place where a source is read. What it requires says that no read is made after the end, after a fault, or if no more
     /// bytes may be read. It does what a read of the source does, and keeps how that stands.
     fn read<S: Source>(&mut self, input: &mut S, buffer: &mut [u8]) -> Result<usize, Failed>
         requires open { self.old.standing ≡ Open }
@@ -94,6 +94,7 @@ impl Reading {
         ensures failed { IsErrOf result InputError.Fault → Rose (S.faults input.old) (S.faults input.new) }
         ensures nothing { IsErrOf result InputError.Fault → Keeps (S.left input.old) (S.left input.new) }
         ensures none_failed { IsErrOf result InputError.Memory → S.faults input.new ≡ S.faults input.old }
+        ensures within { IsErrOf result InputError.Memory → ReadsWithin self.old.room (S.left input.old) (S.left input.new) }
     {
         let most = self.room.min(buffer.len());
         match self.read(input, &mut buffer[..most]) {
@@ -112,7 +113,7 @@ impl Reading {
 ///
 /// # Errors
 ///
-/// `Fault` where a read failed, before so many bytes were read; `Memory` where memory ran out, and no read failed.
+/// `Fault` if a read failed, before so many bytes were read; `Memory` if memory ran out, and no read failed.
 #[tactic(auto, using(crate::proofs::Consumed::consumes_more, crate::proofs::Consumed::consumes_none, crate::proofs::Consumed::consumes_kept))]
 pub fn read_input<S: Source>(
     alloc: Global,
@@ -127,6 +128,7 @@ pub fn read_input<S: Source>(
     ensures failed { IsErrOf result InputError.Fault → Rose (S.faults input.old) (S.faults input.new) }
     ensures fewer { IsErrOf result InputError.Fault → ReadsFewer limit (S.left input.old) (S.left input.new) }
     ensures none_failed { IsErrOf result InputError.Memory → S.faults input.new ≡ S.faults input.old }
+    ensures within { IsErrOf result InputError.Memory → ReadsWithin limit (S.left input.old) (S.left input.new) }
 {
     let mut bytes = Vec::new(alloc);
     let mut buffer = [0; 4096];

@@ -24,7 +24,7 @@ fn told(alloc: Global, status: Status, sink: &MemorySink) -> Result<String, Allo
     format!(in alloc; "{} {status:?}: {text}", status_number(status))
 }
 
-/// The message on a status, where a source remembers what was read: as much of it as there is memory for.
+/// The message on a status, with what the source remembers: as much of the message as there is memory for.
 fn message(
     alloc: Global,
     status: Status,

@@ -18,7 +18,7 @@ use std::alloc::Global;
 use std::io::{self, BufRead, BufReader};
 use std::thread::Threads;
 
-/// Writes what a row is answered, also where it can't be answered.
+/// Writes the answer to a row, or that the row is wrong.
 fn take_row<R: Print + Threads + Sync>(
     rt: &R,
     alloc: Global,

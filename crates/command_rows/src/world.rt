@@ -1,6 +1,6 @@
 //! What the source gives and the sink takes.
 
-/// How many bytes the source gives and the sink takes a call, the numbers of the calls that fail, from 1, where 0 is none, and
+/// How many bytes the source gives and the sink takes a call, the numbers of the calls that fail, from 1, with 0 for none, and
 /// whether a row is answered by what standard error says in place of standard output.
 #[derive(Clone, Copy)]
 pub(crate) struct World {
@@ -18,7 +18,7 @@ fn cut(line: &str) -> (&str, &str) {
     }
 }
 
-/// The number that digits are; 0 where they are none.
+/// The number that digits are; 0 if they are none.
 fn number(digits: &str) -> u64 {
     digits.parse::<u64>().unwrap_or(0)
 }

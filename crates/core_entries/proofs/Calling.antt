@@ -22,13 +22,10 @@ use Rattle.core_runs.proofs.caller_laws.Together.{methods, belong, fits_code, sa
 use Rattle.core_runs.specs.Advances.{RunsOn, Ends}
 use Rattle.core_runs.proofs.Advancing.{runs_end}
 use Rattle.barrier_check.specs.Paired.{Paired, IsSound}
-use Rattle.core_entries.specs.Ports.{at_of}
-use Rattle.core_entries.specs.Running.{MayRun}
+use Rattle.core_ground.specs.Ports.{at_of}
+use Rattle.core_ground.specs.Running.{MayRun}
+use Rattle.core_ground.proofs.Runnable.{runnable}
 use Rattle.core_entries.specs.Callers.{BelongsTo, BelongsToAll, StaysWithAll, IsInRow}
-
--- callers may run it
-pub runnable : (pair : Paired) → IsSound pair → MayRun pair
-runnable pair s = record { small = s.small; normal = s.normal; within = s.within; erases = s.barred.erases }
 
 pub new_belongs : (c : ℕ) → BelongsToAll (idle_entry c)
 new_belongs c = record {

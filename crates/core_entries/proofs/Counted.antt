@@ -19,7 +19,8 @@ use Rattle.core_runs.proofs.caller_laws.Together.{safe}
 use Rattle.barrier_check.specs.Paired.{Paired, IsSound}
 use Rattle.core_entries.specs.Callers.{BelongsTo}
 use Rattle.core_entries.specs.Kinds.{kind_between, kind_at}
-use Rattle.core_entries.proofs.Calling.{runnable, runs}
+use Rattle.core_ground.proofs.Runnable.{runnable}
+use Rattle.core_entries.proofs.Calling.{runs}
 use Rattle.core_entries.proofs.Stepping.{Pends, pends}
 
 -- ---- by address

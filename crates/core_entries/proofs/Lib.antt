@@ -1,10 +1,5 @@
-mod Placing
-mod Starting
-pub mod Keeping
-pub mod Calling
-mod BareTexts
+mod Calling
 pub mod Stepping
-mod Loading
 mod Counted
 mod SignNames
 mod StepsTold

@@ -16,12 +16,13 @@ use Rattle.core_runs.proofs.caller_laws.Together.{safe}
 use Rattle.core_runs.proofs.caller_laws.Stored.{after_store}
 use Rattle.core_runs.proofs.core_sound.Machine.{store_lawful}
 use Rattle.barrier_check.specs.Paired.{Paired, IsSound}
-use Rattle.core_entries.specs.Ports.{at_of, left_by, answer_to}
+use Rattle.core_ground.specs.Ports.{at_of, left_by, answer_to}
 use Rattle.core_runs.specs.RunSigns.{wanted_signs}
 use Rattle.core_entries.specs.StepSigns.{is_of_text, all_named, step_signs, signs_told}
 use Rattle.core_entries.specs.Callers.{BelongsTo}
 use Rattle.core_entries.specs.Steps.{WordsSound, StepIs}
-use Rattle.core_entries.proofs.Calling.{runnable, at_located}
+use Rattle.core_ground.proofs.Runnable.{runnable}
+use Rattle.core_entries.proofs.Calling.{at_located}
 
 -- the access that is pending, by its name
 abbrev pub Pends : Paired → Setting → Entry → Access → Type 0

@@ -7,8 +7,8 @@ use Rattle.caller_parts.specs.declared.setting.Reclamation.{Reclamation}
 use Rattle.caller_steps.specs.Entries.{Entry, RoomyEntry, is_idle}
 use Rattle.caller_steps.specs.Belongs.{Belongs}
 use Rattle.barrier_check.specs.Paired.{Paired, IsSound}
-use Rattle.core_entries.specs.Ports.{at_of}
-use Rattle.core_entries.specs.Running.{MayRun}
+use Rattle.core_ground.specs.Ports.{at_of}
+use Rattle.core_ground.specs.Running.{MayRun}
 
 -- an entry that runs has room for one more reply
 abbrev pub HasRoom : RoomyEntry → Type 0

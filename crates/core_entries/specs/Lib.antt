@@ -1,7 +1,3 @@
-pub mod Ports
-pub mod Starts
-pub mod Tables
-pub mod Running
 pub mod Kinds
 pub mod Callers
 pub mod Steps

@@ -1,7 +1,7 @@
 //! A caller's entry.
 
 ghost use Rattle.std.specs.Prelude.{◌≡◌, ◌≢◌, ◌-◌, ◌<◌, None, IfOk, IfSome, length, map, slice_get, true, is_some, not, ◌&&◌};
-ghost use Rattle.caller_steps.specs.Entries.{idle_entry, is_idle, code_in, instr_in};
+ghost use Rattle.caller_steps.specs.Entries.{idle_entry, is_idle, is_at_access, code_in, instr_in};
 ghost use Rattle.caller_parts.specs.declared.routine.Routine.TheVariants.{At};
 ghost use Rattle.caller_parts.specs.Pairing.{reply_of};
 ghost use Rattle.caller_parts.specs.Codes.{code_shown, shown_at};
@@ -14,18 +14,16 @@ ghost use Rattle.caller_steps.specs.After.{after, taken};
 ghost use Rattle.caller_steps.specs.Belongs.{is_check_at};
 ghost use Rattle.core_runs.specs.Replays.{is_spent, stands_at_check, kind_wanted};
 ghost use Rattle.core_entries.specs.StepSigns.{step_signs};
-ghost use Rattle.core_entries.specs.Running.{pair_of};
+ghost use Rattle.core_ground.specs.Running.{pair_of};
 ghost use Rattle.core_entries.specs.Told.{told_by};
 ghost use Rattle.core_entries.specs.Callers.{BelongsTo, BelongsToAll, BelongsToSome, StaysWithAll, IsInRow};
 
 use crate::kinds::{first_field, is_check, kind_at, pool_head};
-use crate::loaded::{LoadedTarget, Ready};
-use crate::prepared::Prepared;
-use crate::running::Runs;
 use crate::signs::{Signs, signs_after};
 use barrier_check::Barred;
 use caller_parts::{AfterClear, MethodStart};
 use caller_steps::{Call, Code, Entry as State, Program, Reclamation, Reply, Setting, Stand, Step};
+use core_ground::{LoadedTarget, Prepared, Ready, Runs};
 use phase_pools::access::Access;
 use schedule_turns::StepKind;
 use std::alloc::{AllocError, Global};
@@ -162,10 +160,11 @@ impl Entry {
         self.state.pending(program, setting)
     }
 
-    /// The code of the method, if the caller stands at an access of it.
+    /// The code of the method, exactly if the caller stands at an access of it.
     #[inline(always)]
     pub(crate) fn code_at<'a>(&self, program: &Program<'a>) -> Option<Code<'a>>
-        ensures { IfSome result (λ code. (self.now.core.routine ≡ At) × (code_shown code ≡ code_in program.now self.now.core)) }
+        ensures stands { is_some result ≡ is_at_access self.now.core.routine }
+        ensures code { IfSome result (λ code. (self.now.core.routine ≡ At) × (code_shown code ≡ code_in program.now self.now.core)) }
     {
         self.state.code_at(program)
     }

@@ -3,20 +3,9 @@
 
 pub mod entry;
 mod kinds;
-pub mod loaded;
-mod places;
-pub mod port;
-pub mod prepared;
-pub mod running;
 pub mod signs;
 pub mod step;
 pub mod telling;
-pub mod words;
 
 pub use entry::Entry;
-pub use loaded::{LoadedTarget, Ready};
-pub use port::Port;
-pub use prepared::Prepared;
-pub use running::Runs;
 pub use signs::{Sign, Signs};
-pub use words::PlainWords;

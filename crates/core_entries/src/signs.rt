@@ -80,10 +80,10 @@ impl Signs {
         }
     }
 
-    /// The signs: at most three.
+    /// The signs: at most two.
     pub fn items(&self) -> &[Sign]
         ensures same { result.now ≡ self.now }
-        ensures few { length result.now ≤ 3 }
+        ensures few { length result.now ≤ 2 }
     {
         &self.list[..self.count]
     }

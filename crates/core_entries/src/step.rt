@@ -9,11 +9,11 @@ ghost use Rattle.core_entries.specs.Steps.{WordsSound, StepIs};
 ghost use Rattle.core_entries.specs.StepSigns.{signs_told};
 
 use crate::entry::Entry;
-use crate::port::{Port, at_of};
 use crate::signs::Signs;
-use crate::words::PlainWords;
 use barrier_check::Barred;
 use caller_steps::{Code, Program, Setting, Step};
+use core_ground::port::at_of;
+use core_ground::{PlainWords, Port};
 
 /// A step of a caller that runs: it makes the access that it wants, and goes on with the word found. The program of the target was made
 /// once for many steps.

@@ -15,9 +15,9 @@ ghost use Rattle.core_entries.specs.Told.{is_load_at, told_by};
 use crate::entry::Entry;
 use crate::signs::{Sign, Signs, check_named};
 use crate::step::{signs_next, step_on, step_with};
-use crate::words::PlainWords;
 use barrier_check::Barred;
 use caller_steps::{Code, Program, Reclamation, Setting, Step};
+use core_ground::PlainWords;
 use norm_lang::text::Instr;
 
 /// A step of a caller that runs, as `step_on` makes it, and what it tells. At a load and at a check of optimistic access, an end to

@@ -133,7 +133,7 @@ pub record CombinedRows : Type 0 where
   pub compiled : second_scheme queue_text ≡ combined_queue
   pub enqueue_alone : lines_after combined_queue alone [] enqueued ≡ nine_enqueued
   pub dequeue_alone : lines_after combined_queue alone enqueued (calls 0 dequeue 16) ≡ nine_dequeued
-  -- 16 steps, where a check after each load takes 18
+  -- 16 steps; with a check after each load it takes 18
   pub steps : length nine_dequeued ≡ 16
   pub dequeue_empty : lines_after combined_queue alone [] (calls 0 dequeue 7) ≡ nothing_dequeued
   -- each of the calls has ended with its last line

@@ -79,7 +79,7 @@ pub record BranchRows : Type 0 where
   -- keeps its slot
   pub full : left_after branches_target (branches_setting 2) (one_fill ++ calls 0 (call_of 0 1) 30) 0
       ≡ filled (replies.Number 0 ∷ replies.Full ∷ []) (cradles_of 0 2 0 0) 1
-  -- and where the phases are over, after the look and the load of the phase
+  -- and if the phases are over, it gets none after the look and the load of the phase
   pub over : left_after branches_target last_setting (one_fill ++ calls 0 (call_of 0 1) 3) 0
       ≡ filled (replies.Number 0 ∷ replies.Phases 1 ∷ []) (cradles_of 0 2 0 0) 1
 
@@ -200,7 +200,7 @@ late_lines = story (
     ∷ (clears 0 0 ∷ clears 0 1 ∷ renews 0 1 ∷ [])
     ∷ [])
 
--- and where the claim warns the caller itself, the generator that begins once more clears nothing, publishes its guard once
+-- and if the claim warns the caller itself, the generator that begins once more clears nothing, publishes its guard once
 -- more, and clears it at the `new` before it zeroes the cradle's slot
 abbrev pub late_again : List Line
 late_again = story (

@@ -54,7 +54,7 @@ second_insert = story (
     ∷ linked 1 3 6 7
     ∷ [])
 
--- `insert 7` where slots 2 and 3 are retired: the sweep makes both ready, and the check after the `new` finds the caller's own
+-- `insert 7` with slots 2 and 3 retired: the sweep makes both ready, and the check after the `new` finds the caller's own
 -- warning. The generator begins once more and takes slot 2 from the cradle
 abbrev pub third_insert : List Line
 third_insert = story (

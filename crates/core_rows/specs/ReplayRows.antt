@@ -167,7 +167,7 @@ pub record TurnRows : Type 0 where
       ≡ replied ((replies.Number 12 ∷ []) ∷ (replies.Number 7 ∷ []) ∷ [])
   pub checked : counter_summary 2 1000000 20000000 ((add 5 ∷ []) ∷ (add 7 ∷ []) ∷ []) (turns.Upto 0 kinds.Check 1 ∷ turns.Step 0 1 ∷ turns.Ops 1 1 ∷ [])
       ≡ replied ((replies.Number 12 ∷ []) ∷ (replies.Number 7 ∷ []) ∷ [])
-  -- a turn has ended where its access is wanted at its beginning
+  -- a turn has ended if its access is wanted at its beginning
   pub wanted_already : counter_summary 2 1000000 20000000 ((add 5 ∷ []) ∷ (add 7 ∷ []) ∷ []) (turns.Upto 0 kinds.Exchange 1 ∷ turns.Upto 0 kinds.Exchange 1 ∷ turns.Ops 1 1 ∷ [])
       ≡ replied ((replies.Number 12 ∷ []) ∷ (replies.Number 7 ∷ []) ∷ [])
   -- before its load it isn't disturbed
@@ -189,7 +189,7 @@ pub record TurnRows : Type 0 where
   -- without turns the callers are run to their ends in the order of their numbers
   pub in_order : counter_summary 2 1000000 20000000 ((add 5 ∷ []) ∷ (add 7 ∷ []) ∷ []) []
       ≡ replied ((replies.Number 5 ∷ []) ∷ (replies.Number 12 ∷ []) ∷ [])
-  -- a turn whose access is wanted has ended, also where its caller has just been spent
+  -- a turn whose access is wanted has ended, even if its caller has just been spent
   pub wanted_spent : counter_summary 1 3 20000000 ((add 5 ∷ []) ∷ []) (turns.Upto 0 kinds.Exchange 1 ∷ []) ≡ replied ([] ∷ [])
   -- five steps at most: the five of an `add` may be made, and no sixth
   pub limited : counter_summary 1 1000000 5 ((add 5 ∷ []) ∷ []) [] ≡ replied ((replies.Number 5 ∷ []) ∷ [])

@@ -1,4 +1,4 @@
--- Runs of the compiled list by two callers, step by step: a slot that is given out again where nobody guards it, and one
+-- Runs of the compiled list by two callers, step by step: a slot that is given out again if nobody guards it, and one
 -- that stays retired because it is guarded.
 use Rattle.std.specs.Prelude.{◌≡◌, ℕ, List, [], ◌∷◌, ◌++◌, Some}
 use Rattle.norm_lang.specs.declared.reply.SourceReply.TheVariants as replies

@@ -9,7 +9,7 @@ use Rattle.target_code.specs.declared.target.TargetOp.{TargetOp}
 use Rattle.target_code.specs.declared.target.Target.{Target}
 use Rattle.core_rows.specs.Short.{n0, n1, n2, n3, n7, r0, r1, r2, r3, r4, r5, r6}
 
--- the search for a key: 24 instructions, which go to one place where no node has the key, and to another where one has it
+-- the search for a key: 24 instructions, which go to one place if no node has the key, and to another if one has it
 abbrev pub search_target : ℕ → ℕ → List TargetInstr
 search_target absent present =
     Plain (Null r5)

@@ -1,4 +1,4 @@
--- Under epochs a restart is counted exactly where a claim that has made a sweep ends with a slot.
+-- Under epochs a restart is counted exactly if a claim that has made a sweep ends with a slot.
 use Rattle.std.proofs.Common.{◌≡◌, ◌==◌, ℕ, zero, suc, ◌+◌, ◌-◌, ◌^◌, ◌&&◌, eq-eqb, ne_eqb, Bool, true, false, List, [], ◌∷◌, set, Option, Some, None, refl, sym, ap, ◌∙◌, subst, arith, if◌then◌else◌}
 use Rattle.std.specs.Prelude.{slice_get, slice_set, min}
 use mathlib.Core.Logic.{dite}
@@ -200,7 +200,7 @@ none_more n k r is = let same : k + 0 ≡ k = omega arith in is ∙ ap (λ (j : 
 some_more : (n k r : ℕ) → r ≡ min k n → min (r + 1) n ≡ min (k + 1) n
 some_more n k r is = omega (arith, is)
 
--- one entry changes: that of another caller, or the own one
+-- one entry changes: another caller's, or this caller's
 one_changes : (state : CoreState) (words : List ℕ) (k c r : ℕ) (new e : Entry) → slice_get state.entries c ≡ Some e → ((k ≡ c) → new.counts.restarts ≡ r) → ((k ≡ c → ⊥) → e.counts.restarts ≡ r)
     → Counted (record { words = words; entries = slice_set state.entries k new }) c r
 one_changes state words k c r new e there own other = dite (ℕ_discrete k c)

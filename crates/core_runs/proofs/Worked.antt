@@ -11,7 +11,7 @@ use Rattle.norm_lang.specs.LineWords.{item_kind}
 use Rattle.target_code.specs.declared.target.TargetInstr.TheVariants.{Plain, Check}
 use Rattle.target_code.specs.declared.target.TargetOp.{TargetOp}
 use Rattle.target_code.specs.declared.target.Target.{Target}
-use Rattle.bare_targets.specs.Bare.{bare}
+use Rattle.target_code.specs.Bare.{bare}
 use Rattle.schedule_turns.specs.declared.turn.Turn.TheVariants as turns
 use Rattle.schedule_turns.specs.declared.turn.StepKind.TheVariants as stepkinds
 use Rattle.caller_parts.specs.declared.call.Call.{Call}
@@ -88,7 +88,7 @@ it_refuses : replayed (record { target = counter; setting = setting; scripts = (
 unfolding add counter setting add_five wants after
 it_refuses = refl
 
--- at the limit of steps a caller without a step is told first, and else that the limit is reached
+-- at the limit of steps the refusal tells of a caller that has no step; if it has one, the refusal tells of the limit
 nobody_first : replayed (record { target = counter; setting = setting; scripts = (add_five ∷ []) ∷ []; fuel = 100; limit = 5 }) (turns.Ops 0 1 ∷ turns.Step 0 1 ∷ []) ≡ Err (StepOfNobody 5)
 unfolding add counter setting add_five wants after
 nobody_first = refl

@@ -99,7 +99,7 @@ abbrev pub core_mover : CoreEvent → ℕ
 core_mover (Takes c call) = c
 core_mover (Steps c) = c
 
--- one event, where it is enabled; all other words and entries stay
+-- one event, if it is enabled; all other words and entries stay
 abbrev pub core_event : Target → Setting → CoreState → CoreEvent → Option CoreState
 core_event target setting state event = event_by target setting state event (slice_get state.entries (core_mover event))
 
@@ -109,7 +109,7 @@ abbrev pub run_on : Option CoreState → (CoreState → Option CoreState) → Op
 run_on None next = None
 run_on (Some state) next = next state
 
--- events one after another, where each is enabled
+-- events one after another, if each is enabled
 abbrev pub core_run : Target → Setting → List CoreEvent → CoreState → Option CoreState
 core_run target setting [] state = Some state
 core_run target setting (event ∷ events) state = run_on (core_event target setting state event) (core_run target setting events)
@@ -133,7 +133,7 @@ pub record OneMore (target : Target) (setting : Setting) (state : CoreState) : T
   pub leads : core_event target setting before event ≡ Some state
 
 pub record EventsLead (target : Target) (setting : Setting) : Type 0 where
-  -- a state is reachable exactly where it is the start, or one more event leads there
+  -- a state is reachable exactly if it is the start, or one more event leads there
   pub reach : (state : CoreState) → Reachable target setting state ↔ ((state ≡ core_start target setting) ⊎ OneMore target setting state)
   -- a test that the start passes, and that each enabled event keeps, each reachable state passes
   pub holds : (test : CoreState → Bool) → test (core_start target setting) ≡ true

@@ -52,7 +52,7 @@ abbrev pub take_events : ℕ → Option Call → Option (List CoreEvent)
 take_events c None = None
 take_events c (Some call) = Some (Takes c call ∷ Steps c ∷ [])
 
--- the events of a caller's next step; none where it has no step to take. An idle caller has had a reply for each call that it took
+-- the events of a caller's next step; none if it has no step to take. An idle caller has had a reply for each call that it took
 abbrev pub entry_events : Replay → ℕ → Entry → Option (List CoreEvent)
 entry_events p c e =
     if is_idle e.routine then take_events c (slice_get (script_of p.scripts c) (length e.replies))
@@ -79,7 +79,7 @@ step_by p r (Some events) =
 abbrev pub one_step : Replay → ℕ → Replaying → Result Replaying Refusal
 one_step p c r = step_by p r (next_events p c r)
 
--- and then more, where it was made
+-- and then more, if it was made
 abbrev pub go_further : Result Replaying Refusal → (Replaying → Result Replaying Refusal) → Result Replaying Refusal
 go_further (Err refusal) next = Err refusal
 go_further (Ok r) next = next r
@@ -90,7 +90,7 @@ most_steps p r = (p.limit - r.steps) + 1
 
 -- ---- the kinds of access that turns count
 
--- a load of a root or a field is a Load, also where an exchange on null makes it; an exchange of a root or a field is an Exchange
+-- a load of a root or a field is a Load, also if an exchange on null makes it; an exchange of a root or a field is an Exchange
 abbrev pub kind_of_access : WordAccess → Option StepKind
 kind_of_access (Loads (FieldOf j g)) = Some kinds.Load
 kind_of_access (Loads (Cell x)) = Some kinds.Load
@@ -98,7 +98,7 @@ kind_of_access (Exchanges (FieldOf j g) expected replacement) = Some kinds.Excha
 kind_of_access (Exchanges (Cell x) expected replacement) = Some kinds.Exchange
 kind_of_access _ = None
 
--- the load of the warning is a Check where the caller stands at a check, and of no kind where a method begins with it; announcements are of none
+-- the load of the warning is a Check if the caller stands at a check, and of no kind if a method begins with it; announcements are of none
 abbrev pub stands_at_check : Target → Entry → Routine → Bool
 stands_at_check target e At = is_check_at (instr_in target e)
 stands_at_check target e _ = false
@@ -137,7 +137,7 @@ steps_made p c zero r = Ok r
 steps_made p c (suc n) r = go_further (one_step p c r) (steps_made p c n)
 
 -- steps until the next access is the last of so many of the kind that were to come; that one isn't made. So a turn whose access
--- is wanted has ended, also where its caller has no step left
+-- is wanted has ended, also if its caller has no step left
 abbrev pub upto_made : Replay → ℕ → StepKind → ℕ → ℕ → Replaying → Result Replaying Refusal
 upto_made p c kind zero left r = Err (LongReplay r.steps)
 upto_made p c kind (suc most) left r =

@@ -41,7 +41,7 @@ abbrev pub HasEnded : ℕ → List Call → List Running → Bool → Type 0
 HasEnded fuel script calls true = length calls ≡ length script
 HasEnded fuel script calls false = last_steps calls ≡ fuel
 
--- a run of scripts is complete where each caller has ended its script, or has a call that was given `fuel` steps and hasn't ended
+-- a run of scripts is complete if each caller has ended its script, or has a call that was given `fuel` steps and hasn't ended
 pub record IsCompleteRun (target : Target) (setting : Setting) (scripts : List (List Call)) (fuel : ℕ) (events : List CoreEvent) (state : CoreState) : Type 0 where
   pub run : IsRunOf target setting scripts fuel events state
   pub ended : (c : ℕ) (e : Entry) → slice_get state.entries c ≡ Some e → HasEnded fuel (script_of scripts c) (calls_in c events) (is_idle e.routine)

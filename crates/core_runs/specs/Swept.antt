@@ -54,8 +54,9 @@ restarts_in target setting c [] state = 0
 restarts_in target setting c (event ∷ events) state =
     event_restarts c state event + restarts_on (core_event target setting state event) (restarts_in target setting c events)
 
--- under epochs a step counts a restart, and leads on to the announcement with which the generator begins again, exactly where it ends a claim
--- that has made a sweep, with a slot; to take a call counts none. So in a run the count is the number of those steps, until it stands at its type's end
+-- under epochs a step counts a restart, and leads on to the announcement with which the generator begins again, exactly if it ends a claim
+-- that has made a sweep, with a slot; taking a call counts none. So in a run the count is the number of those steps, until it stands at its
+-- type's end
 pub record RestartsAreCounted (target : Target) (setting : Setting) : Type 0 where
   pub step : setting.reclamation ≡ Epochs → (e : Entry) (word : ℕ) → (after target setting e word).counts.restarts ≡ (if ends_swept e.routine then one_more e.counts.restarts else e.counts.restarts)
   pub comes : setting.reclamation ≡ Epochs → (e : Entry) (word : ℕ) → (after target setting e word).routine ≡ Announces (announces.Loads reasons.Swept) ↔ (ends_swept e.routine ≡ true)

@@ -56,7 +56,7 @@ pub record EventsAreSeen (target : Target) (setting : Setting) : Type 0 where
   pub steps : (state : CoreState) (c : ℕ) (a : WordAccess) → IsShaped target setting state → c < setting.sizes.callers → wants target ((view setting state).who c) ≡ Some a
       → (later : CoreState) × (core_event target setting state (Steps c) ≡ Some later)
 
--- the start: each word says what its name does, where the initial nodes have their fields, and each caller is idle
+-- the start: each caller is idle, and if the initial nodes have their fields, each word says what its name does
 pub record StartIsSeen (target : Target) (setting : Setting) : Type 0 where
   pub memory : Suits setting.sizes (beginning_of target setting) → (w : Word) → in_row setting.sizes w ≡ true → (view setting (core_start target setting)).memory w ≡ start_word setting.sizes (beginning_of target setting) w
   pub who : (c : ℕ) → (view setting (core_start target setting)).who c ≡ idle_entry c

@@ -39,7 +39,7 @@ pub fn replays_reach()
     ensures { (p : Replay) → ReplaysReach p }
 {}
 
-/// Under epochs a restart is counted exactly where a claim that has swept ends with a slot.
+/// Under epochs a restart is counted exactly if a claim that has swept ends with a slot.
 pub fn restarts_are_counted()
     ensures { OfAll RestartsAreCounted }
 {}

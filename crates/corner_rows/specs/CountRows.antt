@@ -45,14 +45,14 @@ told e word = after swap_target counting_setting e word
 pub record CountRows : Type 0 where
   pub last : one_more (2 ^ 64 - 2) ≡ most
   pub stays : one_more most ≡ most
-  -- the step itself, where the check passes
+  -- the step itself, if the check passes
   pub steps : (told (at_check 8 0) 1).running.steps ≡ 9
   pub last_step : (told (at_check (2 ^ 64 - 2) 0) 1).running.steps ≡ most
   pub steps_stay : (told (at_check most 0) 1).running.steps ≡ most
-  -- the restart, where it fails
+  -- the restart, if it fails
   pub restarts : (told (at_check 8 3) 2).counts.restarts ≡ 4
   pub restarts_stay : (told (at_check 8 most) 2).counts.restarts ≡ most
-  -- the claim, where the exchange finds the head; and where it doesn't, none is counted
+  -- the claim, if the exchange finds the head; if it doesn't, none is counted
   pub claims : (told (at_take 3) 8194).counts.claims ≡ 4
   pub claims_stay : (told (at_take most) 8194).counts.claims ≡ most
   pub not_claimed : (told (at_take 3) 8193).counts.claims ≡ 3

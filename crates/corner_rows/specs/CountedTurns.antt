@@ -1,4 +1,4 @@
--- Turns that count more than one access, or go on over a call's end, where that changes an answer. An `add` is five steps: the load at
+-- Turns that count more than one access, or go on over a call's end, and so change an answer. An `add` is five steps: the load at
 -- its begin, the root's load, the check, the exchange, and the load at its wrap-up's start. A `get` is four, with the root's load second.
 use Rattle.std.specs.Prelude.{◌≡◌, ℕ, List, [], ◌∷◌, Result, Err}
 use Rattle.norm_lang.specs.declared.reply.SourceReply.TheVariants as replies
@@ -27,11 +27,11 @@ three_adds before = totals ((add 5 ∷ add 6 ∷ add 1 ∷ []) ∷ (add 7 ∷ []
 abbrev pub to_first_and_second : StepKind → List Turn
 to_first_and_second kind = turns.Upto 0 kind 1 ∷ turns.Upto 0 kind 2 ∷ turns.Ops 1 1 ∷ []
 
--- the answers where caller 1 adds before the sum of caller 0's second call is stored, and after the first call
+-- the answers if caller 1 adds before the sum of caller 0's second call is stored, and after the first call
 abbrev pub second_disturbed : Result Summary Refusal
 second_disturbed = replied ((replies.Number 5 ∷ replies.Number 18 ∷ replies.Number 19 ∷ []) ∷ (replies.Number 12 ∷ []) ∷ [])
 
--- and where it adds before that of the third one is
+-- and if it adds before the sum of the third call is stored
 abbrev pub third_disturbed : Result Summary Refusal
 third_disturbed = replied ((replies.Number 5 ∷ replies.Number 11 ∷ replies.Number 19 ∷ []) ∷ (replies.Number 18 ∷ []) ∷ [])
 

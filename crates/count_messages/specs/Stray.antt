@@ -1,4 +1,4 @@
--- The initial node that a line names and that there isn't: `@0`, or one past the count of nodes.
+-- The initial node that a line names and that doesn't exist: `@0`, or one past the count of nodes.
 use Rattle.std.specs.Prelude.{ℕ, ◌-◌, Bool, true, false, ◌&&◌, ◌||◌, List, [], ◌∷◌, filter, find, Option, Some, None, codes, nat_lt, ◌==◌}
 use Rattle.oa_text.specs.Lines.{TextLine, lines_of, numbered}
 use Rattle.oa_text.specs.Tokens.{line_fault}

@@ -1,4 +1,4 @@
-//! The initial node that a line names and that there isn't.
+//! The initial node that a line names and that doesn't exist.
 
 ghost use Rattle.std.specs.Prelude.{◌≡◌, ◌+◌, ◌<◌, ◌^◌, length, find, map, None, Some, MatchOption};
 ghost use Rattle.oa_text.specs.Lines.{lines_of};
@@ -65,7 +65,7 @@ fn number_astray(bytes: &[u8], number: u32, said: Option<Option<u64>>) -> bool
     }
 }
 
-/// Whether a word names a node that there isn't.
+/// Whether a word names a node that doesn't exist.
 fn stray(bytes: &[u8], number: u32, word: &[u8]) -> bool
     requires { length (lines_of bytes.now) + 1 < 2 ^ 32 }
     ensures { result ≡ is_stray_word bytes.now number word.now }
@@ -76,7 +76,7 @@ fn stray(bytes: &[u8], number: u32, word: &[u8]) -> bool
     }
 }
 
-/// The first of these words that names a node that there isn't.
+/// The first of these words that names a node that doesn't exist.
 #[tactic(auto, using(crate::proofs::Straying::word_met, crate::proofs::Straying::word_left, crate::proofs::Straying::words_done))]
 fn stray_token<'a>(bytes: &[u8], number: u32, tokens: Tokens<'a>) -> Option<&'a [u8]>
     requires { length (lines_of bytes.now) + 1 < 2 ^ 32 }
@@ -90,7 +90,7 @@ fn stray_token<'a>(bytes: &[u8], number: u32, tokens: Tokens<'a>) -> Option<&'a 
     None
 }
 
-/// The first word of a line that names a node that there isn't.
+/// The first word of a line that names a node that doesn't exist.
 pub fn stray_word<'a>(bytes: &[u8], line: Line<'a>) -> Option<&'a [u8]>
     requires { length (lines_of bytes.now) + 1 < 2 ^ 32 }
     ensures { MatchOption result (stray_word bytes.now (line_shown line.entry) ≡ None) (λ word. stray_word bytes.now (line_shown line.entry) ≡ Some word.now) }

@@ -1,7 +1,7 @@
 -- Runs of documents under epochs, by those of their plans.
 use Rattle.std.proofs.Common.{◌≡◌, ℕ, List, map, Ok, sym, ap, subst, ◌∙◌}
 use Rattle.std.specs.Prelude.{slice_index}
-use Rattle.bare_targets.specs.Bare.{bare}
+use Rattle.target_code.specs.Bare.{bare}
 use Rattle.caller_steps.specs.Entries.{Entry, RoomyEntry}
 use Rattle.core_runs.specs.Scripts.{SuitScripts}
 use Rattle.oa_core.specs.Finals.{core_part}

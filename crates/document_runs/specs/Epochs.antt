@@ -1,10 +1,10 @@
 -- What a document's run under epochs answers.
 use Rattle.std.specs.Prelude.{◌≡◌, ℕ, List, Result, Ok, Err}
-use Rattle.bare_targets.specs.Bare.{bare}
+use Rattle.target_code.specs.Bare.{bare}
 use Rattle.caller_steps.specs.Entries.{RoomyEntry}
 use Rattle.core_runs.specs.Machine.{CoreState, CoreEvent}
 use Rattle.core_runs.specs.Scripts.{IsCompleteRun}
-use Rattle.core_entries.specs.Running.{bare_pair}
+use Rattle.core_ground.specs.Running.{bare_pair}
 use Rattle.thread_runs.specs.Whole.{IsFinalOf}
 use Rattle.documents.specs.declared.document.Document.{Document}
 use Rattle.script_plans.specs.declared.fault.RunFault.{RunFault}

@@ -34,7 +34,7 @@ IsRan document (Err fault) = IsFaultOf document fault
 abbrev pub replay_given : Document → Result Replaying Refusal
 replay_given document = replayed (replay_of (target_of document) (setting_of document) (calls_of document) document.fuel) document.schedule
 
--- 10 where a turn needs a step of a caller that has none to take, with the steps made before; 11 where too many were made, with
+-- 10 if a turn needs a step of a caller that has none to take, with the steps made before; 11 if too many were made, with
 -- their count
 abbrev pub refusal_fault : Result Replaying Refusal → Option ShapeFault
 refusal_fault (Ok r) = None

@@ -8,7 +8,7 @@ use Rattle.document_runs.specs.declared.report.Answer.TheVariants as answers
 use Rattle.document_runs.specs.declared.report.ReportLine.{ReportLine}
 use Rattle.document_runs.specs.declared.report.Report.{Report}
 
--- a call was answered where it returned, with a number or without
+-- a call was answered if it returned, with a number or without
 abbrev pub is_answered : Answer → Bool
 is_answered (answers.Replied (replies.Number n)) = true
 is_answered (answers.Replied replies.Nothing) = true

@@ -87,7 +87,7 @@ fn run_planned<R: Threads + Sync, G: Gate + Sync>(
 ///
 /// # Errors
 ///
-/// As `epoch_plan_of`. `Memory` where memory runs out, which is before the first call.
+/// As `epoch_plan_of`. `Memory` if memory runs out, which is before the first call.
 pub fn epoch_document<R: Threads + Sync, G: Gate + Sync>(
     rt: &R,
     alloc: Global,

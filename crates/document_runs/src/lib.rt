@@ -1,5 +1,5 @@
-//! Documents that are run or replayed: the answer to each call of their scripts, and the text that tells it. What the answers tell of the
-//! run, the laws of `report_laws` say.
+//! Documents that are run or replayed: the answer to each call of their scripts, and the text that tells it. The laws of `report_laws` say
+//! what the answers tell of the run.
 #![tactic(auto)]
 
 mod building;

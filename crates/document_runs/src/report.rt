@@ -5,7 +5,7 @@ use documents::Numbers;
 use norm_lang::list::Listed;
 use norm_lang::text::Name;
 
-/// What is printed for a call: its reply, `spent` where its steps ran out, and `unreached` after such a call.
+/// What is printed for a call: its reply, `spent` if its steps ran out, and `unreached` after such a call.
 #[derive(Clone, Copy)]
 pub enum Answer {
     Replied(Reply),

@@ -102,9 +102,9 @@ fn replay_planned(alloc: Global, document: &Document, plan: Plan) -> Result<Repo
 ///
 /// # Errors
 ///
-/// As `plan_of`. Then `Shape` with the number 10 exactly where a turn needs a step of a caller that has none to take or that
-/// doesn't exist, with the steps made before, and 11 exactly where 20,000,000 steps were made and another is wanted, with
-/// their count. `Memory` where memory runs out, which is before the first step.
+/// As `plan_of`. Then `Shape` with the number 10 exactly if a turn needs a step of a caller that has none to take or that
+/// doesn't exist, with the steps made before, and 11 exactly if 20,000,000 steps were made and another is wanted, with
+/// their count. `Memory` if memory runs out, which is before the first step.
 pub fn replay_document(alloc: Global, document: &Document) -> Result<Report, RunFault>
     requires { IsWithinDocumentLimits document.now }
     ensures { IsReplayed document.now result }
@@ -187,7 +187,7 @@ fn run_planned<R: Threads + Sync, G: Gate + Sync>(
 ///
 /// # Errors
 ///
-/// As `plan_of`. `Memory` where memory runs out, which is before the first call.
+/// As `plan_of`. `Memory` if memory runs out, which is before the first call.
 pub fn run_document<R: Threads + Sync, G: Gate + Sync>(
     rt: &R,
     alloc: Global,

@@ -47,12 +47,12 @@ fn turns_by(alloc: Global, document: &Document, plan: Plan) -> Result<usize, Run
     found
 }
 
-/// How many turns of its schedule the replay of a document makes whole before the one at which it stops; all of them, where it stops at
+/// How many turns of its schedule the replay of a document makes whole before the one at which it stops; all of them, if it stops at
 /// none.
 ///
 /// # Errors
 ///
-/// As `plan_of`. `Memory` where memory runs out.
+/// As `plan_of`. `Memory` if memory runs out.
 pub fn whole_turns(alloc: Global, document: &Document) -> Result<usize, RunFault>
     requires { IsWithinDocumentLimits document.now }
     ensures { AreWholeTurns document.now result }

@@ -87,7 +87,7 @@ lines_are (words ∷ lines) are = (
 pub lines_found : (lines : List (List (List ℕ))) → AllByRecursion IsPlain lines → lines_of (flat_map line_bytes lines) ≡ map joined_words lines
 lines_found lines are = (lines_are_cut (flat_map line_bytes lines) (map joined_words lines)).1 (lines_are lines are)
 
--- a word begins after at least one blank, where a blank stands first
+-- a word begins after at least one blank if a blank stands first
 some_blank : (blanks word rest : List ℕ) → 1 ≤ length word → list_all (λ b. not (is_space_or_tab b)) word ≡ true
     → ends_or_is_spaced (blanks ++ (word ++ rest)) ≡ true → 1 ≤ length blanks
 some_blank (b ∷ blanks) word rest some inked edge = omega arith

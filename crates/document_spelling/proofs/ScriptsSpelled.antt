@@ -175,7 +175,7 @@ module _ (kinds : List (List ℕ)) (slots : List ℕ) (first last fuel : ℕ) wh
       (turn_line_read turn n scripts done are.0 (omega (arith, few)))
       (turns_read scripts with_it schedule (n + 1) are.1 (omega (arith, few, length-append done (turn ∷ []))) ∙ ap (λ l. Ok (in_turns scripts l)) (append_assoc done (turn ∷ []) schedule))
 
-  -- behind all scripts: behind the settings where there is none, and else in the last one
+  -- behind all scripts: behind the settings if there is none, and otherwise in the last one
   abbrev IsBehind : List (List ScriptCall) → Tail → Type 0
   IsBehind scripts tail = ((tail ≡ set_up) × (scripts ≡ [])) ⊎ ((done : List (List ScriptCall)) × (script : List ScriptCall) × (tail ≡ in_script done script) × (done ++ script ∷ [] ≡ scripts))
 

@@ -19,7 +19,7 @@ use Rattle.document_spelling.specs.Spelling.{spelled_slots, slots_lines, spelled
 use Rattle.document_spelling.proofs.JoinedWords.{IsPlain}
 use Rattle.document_spelling.proofs.SpelledFront.{found_from}
 
--- what lines say by their words, where the first has a number
+-- what lines say by their words, given the number of the first
 abbrev pub after_told : Tail → ℕ → List (List (List ℕ)) → Result Tail ℕ
 after_told tail n [] = Ok tail
 after_told tail n (words ∷ lines) = after_words tail n (first_word words) >>= λ next. after_told next (n + 1) lines
@@ -60,7 +60,7 @@ lines_read (words ∷ lines) n tail last are read =
 
 -- ---- slots
 
--- behind a text with these kinds, where the slots of the kinds before one are set
+-- behind a text with these kinds, once the slots of the kinds before one are set
 abbrev pub slots_at : List (List ℕ) → ℕ → List ℕ → Tail
 slots_at kinds next slots = record (empty_tail Second kinds) { next_kind = next; slots = slots }
 

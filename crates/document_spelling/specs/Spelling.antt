@@ -68,7 +68,7 @@ schedule_lines true schedule = turn_lines schedule
 schedule_lines false [] = []
 schedule_lines false (turn ∷ schedule) = turn_lines (turn ∷ schedule)
 
--- the lines of a document, each as its words; a `schedule` line stands always, or where there are turns
+-- the lines of a document, each as its words; a `schedule` line stands always, or only if there are turns
 abbrev pub document_lines : Bool → Document → List (List (List ℕ))
 document_lines always document =
     spelled document.text

@@ -22,7 +22,7 @@ pub record AreAlike (one other : Document) : Type 0 where
   pub schedule : one.schedule ≡ other.schedule
 
 -- what is read of the spelling of a document is the same document but for the lines of its calls: for each document for which bytes
--- stand, be its `schedule` line left out where it has no turns, or written always
+-- stand, be its `schedule` line left out if it has no turns, or written always
 abbrev pub SpellingsAreRead : Type 0
 SpellingsAreRead =
     (always : Bool) (bytes : List ℕ) (document : Document) → IsDocument bytes document
@@ -38,7 +38,7 @@ abbrev pub scripts_from : ℕ → List (List ScriptCall) → List (List ScriptCa
 scripts_from line [] = []
 scripts_from line (script ∷ scripts) = calls_from (line + 1) script ∷ scripts_from (line + 1 + length script) scripts
 
--- the first line behind the text and the settings, where the first line of all has the number 1
+-- the number of the first line behind the text and the settings, if the first line of all has the number 1
 abbrev pub first_behind_settings : Document → ℕ
 first_behind_settings document = 1 + length (spelled document.text) + length (setting_lines document)
 

@@ -14,7 +14,7 @@ use norm_lang::word::Word::{Bytes, Number};
 use schedule_turns::{StepKind, Turn};
 use std::alloc::{AllocError, Global};
 
-/// The slots of a kind: 0 where none are stated.
+/// The slots of a kind: 0 if none are stated.
 fn slots_of(slots: &[u64], kind: usize) -> u64
     ensures { result ≡ slice_index slots.now kind }
 {
@@ -135,7 +135,7 @@ fn put_turns(alloc: Global, out: &mut Vec<u8>, schedule: &[Turn]) -> Result<(), 
     Ok(())
 }
 
-/// The schedule, where there are turns.
+/// The schedule, if there are turns.
 fn put_schedule(alloc: Global, out: &mut Vec<u8>, schedule: &[Turn]) -> Result<(), AllocError>
     ensures { OnOk result (out.new.items ≡ out.old.items ++ flat_map line_bytes (schedule_lines false schedule.now)) }
 {
@@ -147,13 +147,13 @@ fn put_schedule(alloc: Global, out: &mut Vec<u8>, schedule: &[Turn]) -> Result<(
 }
 
 /// The canonical spelling of a document, in version 2: its text, `slots` for each kind, `phases`, `fuel`, the scripts, and the
-/// schedule where it has turns, with one space between words, numbers in decimal and a newline after each line. The text that a
+/// schedule if it has turns, with one space between words, numbers in decimal and a newline after each line. The text that a
 /// `use` line named is written out. For a document that `read_document` answered, the same document is read of it again, but for
 /// the lines of its calls: see `spellings_are_read`.
 ///
 /// # Errors
 ///
-/// `AllocError` where memory runs out.
+/// `AllocError` if memory runs out.
 pub fn show_document(alloc: Global, document: &Document) -> Result<ByteText, AllocError>
     ensures { IfOk result (λ bytes. bytes ≡ document_spelling document.now) }
 {

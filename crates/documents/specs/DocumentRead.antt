@@ -141,12 +141,12 @@ in_stage InScript tail line word rest = in_calls tail line word rest
 in_stage InSchedule tail line word rest = in_schedule tail word rest
 in_stage _ tail line word rest = in_settings tail word rest
 
--- what is said after the words of a line, of which there are none where it is skipped
+-- what is said after the words of a line, of which there are none if it is skipped
 abbrev pub after_words : Tail → ℕ → Option (List ℕ × List (List ℕ)) → Result Tail ℕ
 after_words tail line None = Ok tail
 after_words tail line (Some word) = in_stage tail.stage tail line word.0 word.1
 
--- what is said after a line, or the line's first fault. Its bytes are judged first, also where it is skipped
+-- what is said after a line, or the line's first fault. Its bytes are judged first, even if it is skipped
 abbrev pub after_line : Tail → TextLine → Result Tail ℕ
 after_line tail line = words_in line >>= λ words. after_words tail line.number (first_word words)
 

@@ -14,7 +14,7 @@ use Rattle.schedule_turns.specs.declared.turn.Turn.TheVariants as turns
 use Rattle.documents.specs.declared.document.ScriptCall.{ScriptCall}
 use Rattle.documents.specs.DocumentLimits.{most_scripts, most_calls, most_caller, most_count}
 
--- a kind is this one or a later one. Where the kind isn't declared that is the line's fault, and not its place
+-- a kind is this one or a later one. It also holds if the kind isn't declared, since the line's fault is then that, and not its place
 abbrev pub is_from : ℕ → Option ℕ → Bool
 is_from next None = true
 is_from next (Some owner) = nat_le next owner

@@ -26,7 +26,7 @@ pub type Scripts = Listed<Script>;
 pub type Turns = Listed<Turn>;
 
 /// A document: its text; the slots of each kind; the first and the last phase; the steps that an operation may make; the
-/// scripts; and the schedule, which is empty where there is none. Settings that a document leaves out are 64 slots of a kind,
+/// scripts; and the schedule, which is empty if there is none. Settings that a document leaves out are 64 slots of a kind,
 /// the phases from 1 to 1,000,000,000, and 1,000,000 steps.
 #[derive(Drop)]
 pub struct Document {

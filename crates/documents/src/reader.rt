@@ -29,7 +29,7 @@ fn add_tail(tail: &mut Tail, alloc: Global, cursor: &mut Cursor) -> Result<(), P
     Ok(())
 }
 
-/// A tail, if it was read. It stands alone, since to drop a tail is proved on each way out.
+/// A tail, if it was read. This is a function of its own, since dropping a tail needs a proof on each way out.
 fn tail_if(tail: Tail, read: Result<(), ParseError>) -> Result<Tail, ParseError>
     ensures { result ≡ tail_if tail read }
 {
@@ -62,9 +62,9 @@ fn read_tail(
 ///
 /// # Errors
 ///
-/// `Fault` exactly where the bytes spell no document by the grammar, with the grammar's fault: the first line that has
-/// one, and its first fault. Where the input ends and a further line must follow, the fault is 4 at one more than the
-/// number of lines. `Memory` where memory runs out.
+/// `Fault` exactly if the bytes spell no document by the grammar, with the grammar's fault: the first line that has
+/// one, and its first fault. If the input ends but a further line must follow, the fault is 4 at one more than the
+/// number of lines. `Memory` if memory runs out.
 pub fn read_document(alloc: Global, input: &[u8]) -> Result<Document, ParseError>
     requires { length (lines_of input.now) + 1 < 2 ^ 32 }
     ensures exact { Answers (λ document. document) result (document_read input.now) }

@@ -24,7 +24,8 @@ pub(crate) struct Phases {
     pub(crate) last: u64,
 }
 
-/// Whether a kind is this one or a later one. Where the kind isn't declared that is the line's fault, and not its place.
+/// Whether a kind is this one or a later one. It is also true if the kind isn't declared, since the line's fault is then that,
+/// and not its place.
 fn comes_from(next: usize, owner: Option<u8>) -> bool
     ensures { result ≡ is_from next owner }
 {

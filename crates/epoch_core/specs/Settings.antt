@@ -1,7 +1,7 @@
 -- The setting of a text that is run as it is.
 use Rattle.std.specs.Prelude.{ℕ}
 use Rattle.norm_lang.specs.declared.text.Text.{Text}
-use Rattle.bare_targets.specs.Bare.{bare}
+use Rattle.target_code.specs.Bare.{bare}
 use Rattle.oa_words.specs.Words.{Sizes}
 use Rattle.caller_parts.specs.KindCounts.{node_counts}
 use Rattle.caller_parts.specs.Settings.{Setting}

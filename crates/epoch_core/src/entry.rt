@@ -1,7 +1,7 @@
 //! A caller's entry under epochs.
 
 ghost use Rattle.std.specs.Prelude.{◌≡◌, ◌≢◌, ◌-◌, ◌<◌, None, IfOk, length, map, true, is_some, not};
-ghost use Rattle.bare_targets.specs.Bare.{bare};
+ghost use Rattle.target_code.specs.Bare.{bare};
 ghost use Rattle.caller_steps.specs.Entries.{idle_entry, is_idle};
 ghost use Rattle.caller_parts.specs.Pairing.{reply_of};
 ghost use Rattle.caller_parts.specs.declared.setting.Reclamation.TheVariants.{Epochs};
@@ -11,13 +11,14 @@ ghost use Rattle.caller_steps.specs.Asking.{located_option};
 ghost use Rattle.caller_steps.specs.Lawful.{MayBeTold};
 ghost use Rattle.caller_steps.specs.Wants.{wants};
 ghost use Rattle.caller_steps.specs.After.{after, taken};
-ghost use Rattle.core_entries.specs.Running.{bare_pair};
+ghost use Rattle.core_ground.specs.Running.{bare_pair};
 ghost use Rattle.core_entries.specs.Callers.{BelongsTo, BelongsToAll, BelongsToSome, StaysWithAll, IsInRow};
 ghost use Rattle.epoch_core.specs.Settings.{entry_setting};
 
 use crate::setting::setting_on;
 use caller_parts::Reclamation;
-use core_entries::{Entry, Runs};
+use core_entries::Entry;
+use core_ground::Runs;
 use norm_check::Normal;
 use norm_lang::SourceReply;
 use oa_words::shape::Shape;
@@ -88,7 +89,7 @@ impl EpochEntry {
             .begin_by(Reclamation::Epochs, Runs::Bare(normal), op, args);
     }
 
-    /// The one access that the entry makes next, to a word of the row; none exactly where it is idle.
+    /// The one access that the entry makes next, to a word of the row; none exactly if it is idle.
     pub fn pending(&self, normal: &Normal, shape: &Shape, last_phase: u64) -> Option<Access>
         requires setting { IsSetting (entry_setting normal.now shape.now last_phase) }
         requires belongs { BelongsTo (bare_pair normal.now) (entry_setting normal.now shape.now last_phase) self.now.core }

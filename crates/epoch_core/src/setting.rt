@@ -1,7 +1,7 @@
 //! The setting of a run under epochs.
 
 ghost use Rattle.std.specs.Prelude.{◌≡◌, slice_index};
-ghost use Rattle.bare_targets.specs.Bare.{bare};
+ghost use Rattle.target_code.specs.Bare.{bare};
 ghost use Rattle.caller_parts.specs.KindCounts.{node_counts};
 ghost use Rattle.caller_parts.specs.Settings.{IsSetting};
 ghost use Rattle.epoch_core.specs.Settings.{epoch_setting};

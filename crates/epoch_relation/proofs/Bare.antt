@@ -14,7 +14,7 @@ use Rattle.target_code.specs.declared.target.Target.{Target}
 use Rattle.target_code.specs.Erasing.{redirected}
 use Rattle.target_code.specs.Paths.{target_code_of}
 use Rattle.target_laws.specs.Methods.{Method, code_in, source_in}
-use Rattle.bare_targets.specs.Bare.{bare_op, bare}
+use Rattle.target_code.specs.Bare.{bare_op, bare}
 use Rattle.bare_targets.proofs.PlainCode.{code_is_plain, ops_are_the_texts}
 
 some_op : (a b : TargetOp) → Some a ≡ Some b → a ≡ b
@@ -40,7 +40,7 @@ plain_of (Some j) i is = let same : Plain j ≡ Plain i = cc in let same' : j �
 pub in_source : {target : Target} {text : Text} → target ≡ bare text → (method : Method target text) (at : ℕ) (i : Instr) → slice_get (code_in method) at ≡ Some (Plain i) → slice_get (source_in method) at ≡ Some i
 in_source same method at i is = plain_of (slice_get (source_in method) at) i (sym (instr_is same method at) ∙ is)
 
--- where no jump is taken elsewhere nothing changes
+-- if no jump is taken elsewhere, nothing changes
 pub undirected : (i : Instr) → redirected (λ at. at) i ≡ i
 undirected (instr.Set d n) = refl
 undirected _ = refl

@@ -175,7 +175,7 @@ module _ (t : Plan) (c : ℕ) (s : Shared) (since : ℕ → ℕ) (x : Caller) (e
       abbrev word : ℕ
       word = s.memory (word_of (exchange_wanted t.target.fields entry x.entry.hand.registers))
 
-      -- the step, where the entry goes on so
+      -- the step, if the entry goes on so
       with_end : (m : Moved) → Ends t s' since c y m → KeptWith t c s since x (after_access s.memory (exchange_wanted t.target.fields entry x.entry.hand.registers)) (told (Accesses ∷ []) m) s.present
       with_end m ended = record {
         s' = s';

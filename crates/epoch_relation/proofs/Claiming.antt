@@ -69,7 +69,7 @@ use Rattle.epoch_relation.proofs.Same.{Leaves, placed, base_kept, running_kept, 
 use Rattle.epoch_relation.proofs.Storing.{holds_stored, goes_words, reckoned_status}
 use Rattle.epoch_relation.proofs.Sweeping.{SweepNext, ChangesForAll, sweep_step, changes_same, risen_holds, risen_changes}
 
--- where a caller claims
+-- what is known while a caller claims
 pub record Claiming (t : Plan) (s : Shared) (since : ℕ → ℕ) (c : ℕ) (x : Caller) (claim : Claim) : Type 0 where
   pub plan : IsPlan t
   pub holds : EpochHolds t s since

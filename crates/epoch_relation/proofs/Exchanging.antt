@@ -1,4 +1,4 @@
--- What an exchange of an announced caller is given: its operands are resident, and so it succeeds exactly where the source's does.
+-- What an exchange of an announced caller is given: its operands are resident, and so it succeeds exactly if the source's does.
 use Rattle.std.proofs.Common.{ℕ, zero, suc, ◌≡◌, ◌∙◌, false, List, Some, inl, inr, sym, ap, refl}
 use Rattle.std.specs.Prelude.{is_some}
 use Rattle.std.proofs.lemmas.Bool.{or_parts}

@@ -1,4 +1,4 @@
--- An auxiliary exchange: what it is given, and where it fails.
+-- An auxiliary exchange: what it is given, and what follows if it fails.
 use Rattle.std.proofs.Common.{ℕ, ◌≡◌, ◌==◌, ◌+◌, ◌<◌, ◌∙◌, ◌||◌, Bool, true, false, [], ◌∷◌, Option, Some, None, arith, inl, sym, ap, subst, refl, if◌then◌else◌}
 use Rattle.std.specs.Prelude.{slice_get, IsTrue, is_some}
 use Rattle.std.specs.List.{list_any}
@@ -75,7 +75,7 @@ cas_offers t s since c x m entry l w is asked = offers t s since c x m.mirror en
     (link_safe t s since c x m w (node_in m.mirror r) (place_of t.text.fields f) (got_clear t s since c x m w (node_in m.mirror r) (operand_got t s since c x m entry l r w is (object_is (Ref r) f entry field))))
     (value_safe t s c x (spot_of x.entry.hand) m entry.expected w.walks))
 
--- where the source's exchange fails the core's fails too, and both go to the other instruction
+-- if the source's exchange fails, the core's fails too, and both go to the other instruction
 pub failure_kept : (t : Plan) (c : ℕ) (s : Shared) (since : ℕ → ℕ) (x : Caller) (entry : CasEntry) (l : ℕ) → IsPlan t → EpochHolds t s since → Base t s since c x → c < t.setting.sizes.callers → (r : Running t s c x) → IsProperPoint t.text (point_at s x)
     → slice_get (code_in r.0.walk.method) x.entry.hand.at ≡ Some (Plain (instr.Cas entry l)) → exchange t.text.fields entry r.0.mirror s.source ≡ None
     → KeptWith t c s since x (after_access s.memory (exchange_wanted t.target.fields entry x.entry.hand.registers)) (plain_accepted Epochs t.target t.setting.sizes (instr.Cas entry l) (s.memory (word_of (exchange_wanted t.target.fields entry x.entry.hand.registers))) (counted x.entry)) s.present

@@ -85,7 +85,7 @@ module _ (t : Plan) (s : Shared) (since : ℕ → ℕ) (c : ℕ) (x : Caller) (k
   pub offered : Offers t s c x.entry.hand.registers m.mirror entry
   offered = offers t s since c x m.mirror entry standing listed.agree listed.safe w.right asked (λ z root. clear_safe t s c x (top s z) (root_clear t s since c x z w.base w.proper) (w.holds.holds.store.top z)) (λ r f field. pair_at r (place_of t.text.fields f) entry.expected)
 
-  -- where the source's fails the core's fails too, and the list has ended
+  -- if the source's fails, the core's fails too, and the list has ended
   pub list_failure_kept : exchange t.text.fields entry m.mirror s.source ≡ None
       → KeptWith t c s since x (after_access s.memory (exchange_wanted t.target.fields entry x.entry.hand.registers)) (entry_made Epochs t.target t.setting.sizes k entry (s.memory (word_of (exchange_wanted t.target.fields entry x.entry.hand.registers))) (counted x.entry)) s.present
   list_failure_kept none = subst (λ (made : Bool). KeptWith t c s since x (after_access s.memory (exchange_wanted t.target.fields entry x.entry.hand.registers)) (told (Accesses ∷ []) (if made then retires_then Epochs t.target t.setting.sizes (onward.List k) (to_retire entry.retire x.entry.hand.registers) (with_published entry.replacement (counted x.entry)) else wrap_up_begun t.target k (counted x.entry))) s.present) (sym fails) (record {

@@ -1,4 +1,4 @@
--- A caller whose entry, source or method run is another, where that leaves what is known.
+-- A caller whose entry, source or method run is another, if that leaves what is known.
 use Rattle.std.proofs.Common.{ℕ, ◌≡◌, ◌≢◌, ◌∙◌, List, sym, ap}
 use Rattle.std.specs.Prelude.{slice_get, slice_index}
 use Rattle.target_code.specs.declared.target.TargetInstr.{TargetInstr}

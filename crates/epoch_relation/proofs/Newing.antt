@@ -71,7 +71,7 @@ use Rattle.oa_simulation.proofs.sim_steps.Accesses.Newing.{twice_word, goes_new}
 use Rattle.oa_simulation.proofs.sim_steps.Accesses.Zeroed.{none_before}
 use Rattle.oa_simulation.proofs.sim_relation.Names.{shown_kept}
 
--- what is known where the fields of a cradle's slot are zeroed
+-- what is known while the fields of a cradle's slot are zeroed
 pub record Zeroing (t : Plan) (s : Shared) (since : ℕ → ℕ) (c : ℕ) (x : Caller) (m : Trail t) (r kind k g : ℕ) : Type 0 where
   pub standing : Standing t s since c x
   pub walks : Walks t s c x (spot_of x.entry.hand) m
@@ -132,7 +132,7 @@ module _ (t : Plan) (s : Shared) (since : ℕ → ℕ) (c : ℕ) (x : Caller) (m
     shown = λ gen i is. shown_kept s s' (node_in m.mirror i) (λ n was. ap (λ (f : ℕ → Bool). f n) public ∙ was) (w.walks.shown gen i is);
   }
 
-  -- what the slot had before, where it has another name than the one that came
+  -- a name that is resident now was so before, unless it is the one that came
   before : (v n : ℕ) → n ≢ v → put s.present (cradle_of x.entry k) v (t.home n) ≡ n → Resident t s n
   before v n ne is = ⊎_elim
       (λ (e : t.home n ≡ cradle_of x.entry k). absurd (ne (sym is ∙ (ap (put s.present (cradle_of x.entry k) v) e ∙ put_same s.present (cradle_of x.entry k) v))))

@@ -1,4 +1,4 @@
--- The phase is loaded and announced, and the announcement is withdrawn where the call ends.
+-- The phase is loaded and announced, and the announcement is withdrawn when the call ends.
 use Rattle.std.proofs.Common.{ℕ, ◌≡◌, ◌≢◌, ◌==◌, ◌≤◌, ◌<◌, ◌∙◌, Bool, true, false, List, [], ◌∷◌, Option, Some, None, arith, inl, ⊎_elim, sym, ap, refl}
 use Rattle.std.specs.Prelude.{slice_get, option_map}
 use Rattle.std.proofs.lemmas.List.{map-append}

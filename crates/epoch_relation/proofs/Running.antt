@@ -5,7 +5,7 @@ use Rattle.norm_lang.specs.Limits.{IsWithinLimits}
 use Rattle.norm_lang.specs.NormalForm.{IsNormal}
 use Rattle.target_laws.specs.target_runs.Runnable.{IsRunnable}
 use Rattle.target_laws.proofs.target_runs.SaneTargets.{runnable_is_sane}
-use Rattle.bare_targets.specs.Bare.{bare}
+use Rattle.target_code.specs.Bare.{bare}
 use Rattle.bare_targets.proofs.Runnable.{bare_texts_are_runnable}
 use Rattle.source_machine.specs.Proper.{IsProper}
 use Rattle.caller_parts.specs.declared.setting.Reclamation.TheVariants.{Epochs}

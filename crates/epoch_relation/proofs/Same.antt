@@ -1,4 +1,4 @@
--- What is known of a caller stays where a step leaves its own names: a step of its own, or another's.
+-- What is known of a caller stays if a step leaves its own names: a step of its own, or another's.
 use Rattle.std.proofs.Common.{ℕ, ◌≡◌, ◌+◌, ◌<◌, Bool, true, false, List, length, Some, inl, inr, refl}
 use Rattle.std.specs.Prelude.{nat_lt}
 use Rattle.norm_lang.specs.Local.{Spot}

@@ -49,7 +49,7 @@ use Rattle.epoch_relation.proofs.Moving.{changed, becomes, base_changed, walks_c
 use Rattle.epoch_relation.proofs.Stopping.{standing_of, ends_quiet, still, stays, own_end, wrap_up_stop_ends, wrap_up_stops_ends}
 use Rattle.std.proofs.lemmas.List.{length-map}
 
--- ---- pairs, where no register has got a name that none held
+-- ---- pairs, if no register has got a name that none held
 
 pub null_link : (t : Plan) (s : Shared) (since : ℕ → ℕ) (g : ℕ) → EpochHolds t s since → link s 0 g ≡ 0
 null_link t s since g f = rw f.holds.store.null_node refl

@@ -51,7 +51,7 @@ use Rattle.oa_simulation.proofs.sim_steps.Walks.Replying.{in_wrap_up}
 pub standing_of : (t : Plan) (s : Shared) (since : ℕ → ℕ) (c : ℕ) (x : Caller) (core : Spot) (m : Trail t) → Comes t s since c x core m → Standing t s since c x
 standing_of t s since c x core m w = record { plan = w.plan; holds = w.holds; base = w.base; below = w.below; announced = w.announced }
 
--- where the caller stands, the shared state stays and nothing is signed
+-- a step ends at a routine whose facts hold: the shared state stays, and nothing is signed
 pub ends_quiet : (t : Plan) (s : Shared) (since : ℕ → ℕ) (c : ℕ) (x : Caller) (r : Routine) → Base t s since c x → HoldsAt t s since c (becomes x (with_routine x.entry r)) r → Ends t s since c x (quiet (with_routine x.entry r))
 ends_quiet t s since c x r b holds = record {
   x' = becomes x (with_routine x.entry r);
@@ -108,7 +108,7 @@ wrap_ends t s since c x m i w at is ends =
           ap (λ z. caller_turn t.text (events.Access c 0) s.source z) at_end ∙ (wrap_up_ends t.text c method.op m.walk.started m.walk.call spot s.source op ended ∙ ap (λ z. record { memory = s.source; caller = z }) leaves));
     }
 
--- the entry goes on as it does at an end, where the source's caller is at the end
+-- if the source's caller is at the end, the entry goes on as it does at an end
 end_holds : (t : Plan) (s : Shared) (since : ℕ → ℕ) (c : ℕ) (x : Caller) (m : Trail t) (i : Instr) (r : Announcing) → Base t s since c x → WrapEnds t s c x m i
     → ((source : SourceCaller) (watch : MethodRun) → source ≡ ended_at m.walk.method.op i x.entry.hand.registers (call_of x.entry) → AnnouncesAt t s (changed x (with_routine x.entry (Announces r)) source watch) r)
     → Ends t s since c x (announced_end r x.entry)

@@ -48,7 +48,7 @@ place_warning t memory mirror (places.Field a f) v d = refl
 
 -- ---- the exchange
 
--- what stands before it, where it publishes a name, or null for none
+-- what holds before it; `p` is the name that it publishes, or null for none
 pub record Tries (t : Plan) (s : Shared) (since : ℕ → ℕ) (c : ℕ) (x : Caller) (mirror : Registers) (entry : CasEntry) (p : ℕ) (after : Memory) : Type 0 where
   pub standing : Standing t s since c x
   pub offers : Offers t s c x.entry.hand.registers mirror entry
@@ -118,7 +118,7 @@ module _ (t : Plan) (s : Shared) (since : ℕ → ℕ) (c : ℕ) (x : Caller) (m
         owns = d.owns;
       }
 
-  -- what follows holds of the slot to retire, if it does where nothing is retired, and where a name is
+  -- `Follows` holds of the slot to retire, if it does both when nothing is retired and when a name is
   pub made_by : (Follows : ℕ → Type 0) → ((s' : Shared) → Made t s s' since c x.entry.hand.registers mirror entry p → Follows 0)
       → ((s' : Shared) (j n : ℕ) → Made t s s' since c x.entry.hand.registers mirror entry p → IsRetiring s' c (suc j) n None → Follows (suc j)) → Follows (to_retire entry.retire x.entry.hand.registers)
   made_by Follows none one = by_retirement t (reckoned s since) c x.entry.hand.registers mirror entry p after tried Follows

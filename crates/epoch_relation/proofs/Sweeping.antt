@@ -35,7 +35,7 @@ abbrev pub SweepNext : Plan → Shared → (ℕ → ℕ) → Sweep → Option Sw
 SweepNext t s since sweep None = SweepAt t s since sweep.low sweep.stage
 SweepNext t s since sweep (Some end) = Unit {0}
 
--- a change that any caller might make, where nobody's announcement changes
+-- a change that any caller might make, in which nobody's announcement changes
 abbrev pub ChangesForAll : Plan → Shared → (ℕ → ℕ) → Shared → Type 0
 ChangesForAll t s since s' = (y : ℕ) → Changes t y s since s' since
 

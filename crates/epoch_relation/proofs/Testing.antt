@@ -1,4 +1,4 @@
--- An exchange of the text succeeds exactly where the source's does, and a load goes to what is resident.
+-- An exchange of the text succeeds exactly if the source's does, and a load goes to what is resident.
 use Rattle.std.proofs.Common.{ℕ, ◌≡◌, ◌<◌, ◌∙◌, Bool, true, false, [], Option, Some, inl, sym, ap, subst, refl}
 use Rattle.std.specs.Prelude.{slice_get, option_map}
 use Rattle.std.proofs.lemmas.Option.{slice_get_within}

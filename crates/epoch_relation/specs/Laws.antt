@@ -34,7 +34,7 @@ SafeIsResident = (t : Plan) (s : Shared) (since : ℕ → ℕ) (d : ℕ) (x : Ca
 abbrev pub RegistersAreResident : Type 0
 RegistersAreResident = (t : Plan) (s : Shared) (since : ℕ → ℕ) (d : ℕ) (x : Caller) → t.home 0 ≡ 0 → EpochHolds t s since → Base t s since d x → d < t.setting.sizes.callers → (run : Running t s d x) → (r : ℕ) → Resident t s (node_in run.0.mirror r)
 
--- each access that a caller makes is kept, where its source's text owes what a proper one does at each point to which the step leads:
+-- each access that a caller makes is kept, if its source's text owes what a proper one does at each point to which the step leads:
 -- all facts hold again, and the source plays the step's signs
 abbrev pub StepsKeep : Type 0
 StepsKeep =

@@ -9,7 +9,7 @@ use Rattle.norm_lang.specs.NormalForm.{IsNormal}
 use Rattle.norm_lang.specs.Registers.{first_registers, reference_in}
 use Rattle.target_code.specs.declared.target.TargetInstr.TheVariants.{Plain}
 use Rattle.target_code.specs.declared.target.Target.{Target}
-use Rattle.bare_targets.specs.Bare.{bare}
+use Rattle.target_code.specs.Bare.{bare}
 use Rattle.source_machine.specs.declared.state.SourceCaller.{SourceCaller}
 use Rattle.source_machine.specs.declared.state.SourceMachine.{SourceMachine}
 use Rattle.source_machine.specs.Proper.{IsProper}
@@ -44,7 +44,7 @@ BasesAreResident target text setting events state = (c : ℕ) (e : Entry) (d a :
     × IsResident target text setting events (source_name text (shadow target text setting events).machine c a)
 
 -- the run's image is a source run that leads to the source state of the shadow, the replies of each caller agree with it, each exchange of the
--- text that a caller makes next succeeds exactly where the source's does, and no load goes to what was recycled
+-- text that a caller makes next succeeds exactly if the source's does, and no load goes to what was recycled
 pub record Simulates (target : Target) (text : Text) (setting : Setting) (events : List CoreEvent) (state : CoreState) : Type 0 where
   pub refined : Refined target text setting events state
   pub bases : BasesAreResident target text setting events state

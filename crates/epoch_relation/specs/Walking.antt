@@ -30,7 +30,7 @@ use Rattle.run_ahead.specs.Agreeing.{Agree, HaveSameSize}
 use Rattle.run_ahead.specs.Known.{AreGot}
 use Rattle.run_ahead.specs.Standing.{caller_of, stands_at, stands_in_list, wrap_up_after, begins_at, run_from}
 use Rattle.run_ahead.specs.Following.{Walk}
-use Rattle.bare_targets.specs.Bare.{bare}
+use Rattle.target_code.specs.Bare.{bare}
 use Rattle.caller_parts.specs.declared.routine.AnnounceReason.{AnnounceReason}
 use Rattle.caller_parts.specs.declared.routine.AnnounceReason.TheVariants.{Begin, Again, Swept}
 use Rattle.caller_parts.specs.declared.routine.Announcing.{Announcing}
@@ -120,7 +120,7 @@ Running t s d x = (m : Trail t) × Walks t s d x (spot_of x.entry.hand) m × Get
 abbrev pub RunsFrom : (t : Plan) → Shared → ℕ → Caller → Spot → Type 0
 RunsFrom t s d x core = (m : Trail t) × Walks t s d x core m × Gets t s d x m × StandsFrom t x core m x.entry.hand.accessed × IsAnnounced s d × (m.walk.method.wrapup ≡ false → Pairs t s m)
 
--- ---- where no method runs
+-- ---- if no method runs
 
 -- in the list, so many exchanges having succeeded
 abbrev pub InExecutor : (t : Plan) → Shared → ℕ → Caller → ℕ → Type 0

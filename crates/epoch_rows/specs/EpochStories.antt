@@ -3,7 +3,7 @@ use Rattle.std.specs.Prelude.{ℕ, List, [], ◌∷◌, Option, Some, None, slic
 use Rattle.norm_lang.specs.Shipped.{set_text}
 use Rattle.oa_words.specs.Words.{Word, Phase, Warning, Head, address_of}
 use Rattle.target_code.specs.declared.target.Target.{Target}
-use Rattle.bare_targets.specs.Bare.{bare}
+use Rattle.target_code.specs.Bare.{bare}
 use Rattle.caller_parts.specs.declared.call.Call.{Call}
 use Rattle.caller_parts.specs.declared.setting.Reclamation.TheVariants.{Epochs}
 use Rattle.caller_parts.specs.Settings.{Setting}
@@ -25,7 +25,7 @@ list_setting callers slots last = record (setting_of callers slots 2 1 1 last) {
 abbrev pub enters : ℕ → ℕ → Call → List Line
 enters c phase call = silent (Load Phase phase) ∷ gives (Store (Warning c) phase) (Begins call ∷ []) ∷ []
 
--- the same where the generator begins again
+-- the same, if the generator begins again
 abbrev pub enters_again : ℕ → ℕ → List Line
 enters_again c phase = silent (Load Phase phase) ∷ gives (Store (Warning c) phase) (Renews ∷ []) ∷ []
 

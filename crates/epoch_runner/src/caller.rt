@@ -90,9 +90,8 @@ impl EpochCaller {
     }
 
     /// Takes a call of the operation `op`, by its number in the text, and makes its accesses one after another, until it has ended or
-    /// `budget` of them were made. It makes no other, and gives no part of its seat away. It is idle and has room for the reply, and the words of `args`
-    /// past the operation's count are 0.
-    /// Takes no memory, and waits for nobody.
+    /// `budget` of them were made. It makes no other, and gives no part of its seat away. The caller is idle and has
+    /// room for the reply, and the words of `args` past the operation's count are 0. Takes no memory, and waits for nobody.
     #[tactic(auto, using(crate::proofs::Outcomes::replies_told))]
     pub fn operate(
         &mut self,

@@ -1,9 +1,9 @@
 //! Making an arena, and closing it.
 
 ghost use Rattle.std.specs.Prelude.{◌≡◌, ◌≤◌, ◌+◌, ◌++◌, [], ◌∷◌, length, vec_capacity, IfOk};
-ghost use Rattle.bare_targets.specs.Bare.{bare};
+ghost use Rattle.target_code.specs.Bare.{bare};
 ghost use Rattle.caller_parts.specs.Settings.{Fits, IsSetting};
-ghost use Rattle.core_entries.specs.Running.{bare_pair};
+ghost use Rattle.core_ground.specs.Running.{bare_pair};
 ghost use Rattle.word_runner.specs.Shown.{CameFrom};
 ghost use Rattle.word_runner.specs.table_rule.Rule.{callers_of};
 ghost use Rattle.word_runner.specs.table_rule.Closing.{IsClosed};

@@ -1,5 +1,5 @@
 -- A complete run of scripts under epochs follows the source.
-use Rattle.bare_targets.specs.Bare.{bare}
+use Rattle.target_code.specs.Bare.{bare}
 use Rattle.epoch_relation.proofs.Running.{runs_are_simulated}
 use Rattle.epoch_runs.specs.Source.{RunsFollowSource}
 use Rattle.epoch_runs.proofs.ScriptsBegun.{scripts_begin}

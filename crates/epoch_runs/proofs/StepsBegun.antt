@@ -54,7 +54,7 @@ MadeAt (Announces (announces.Leaves reply)) n = 2 ≤ n
 abbrev pub Counts : Entry → Type 0
 Counts e = MadeAt e.routine e.running.steps
 
--- ---- where a caller doesn't wait
+-- ---- if a caller doesn't wait
 
 -- whoever doesn't wait for its announcement has made two or more
 past : (r : Routine) (n : ℕ) → waits Epochs r ≡ false → 2 ≤ n → MadeAt r n

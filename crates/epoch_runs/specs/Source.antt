@@ -4,7 +4,7 @@ use Rattle.norm_lang.specs.declared.text.Text.{Text}
 use Rattle.norm_lang.specs.Limits.{IsWithinLimits}
 use Rattle.norm_lang.specs.NormalForm.{IsNormal}
 use Rattle.target_code.specs.declared.target.Target.{Target}
-use Rattle.bare_targets.specs.Bare.{bare}
+use Rattle.target_code.specs.Bare.{bare}
 use Rattle.source_machine.specs.Proper.{IsProper}
 use Rattle.caller_parts.specs.declared.call.Call.{Call}
 use Rattle.caller_parts.specs.declared.setting.Reclamation.TheVariants.{Epochs}
@@ -24,7 +24,7 @@ pub record FollowsSource (target : Target) (text : Text) (setting : Setting) (sc
   pub simulated_so_far : AtEachState target setting events (Simulates target text setting)
   pub begins : BeginsOfScripts target text setting scripts fuel events state
 
--- each complete run of scripts does, where a proper text is run as it is with a setting of epochs that fits it
+-- each complete run of scripts does, if a proper text is run as it is with a setting of epochs that fits it
 abbrev pub RunsFollowSource : Type 0
 RunsFollowSource = (text : Text) (setting : Setting) (scripts : List (List Call)) (fuel : ℕ) (events : List CoreEvent) (state : CoreState) → IsWithinLimits text → IsNormal text → IsSetting setting → Fits (bare text) setting
     → setting.reclamation ≡ Epochs → IsProper text → IsCompleteRun (bare text) setting scripts fuel events state → FollowsSource (bare text) text setting scripts fuel events state

@@ -11,7 +11,7 @@ pub fn calls_begin()
 {}
 
 /// In the image of a complete run of scripts under epochs each caller begins the calls of its script, in order: all of them, or those that
-/// got a reply and, where the fuel lets it begin, the one that is spent.
+/// got a reply and, if the fuel lets it begin, the one that is spent.
 pub fn scripts_begin()
     ensures { OfAll ScriptsBegin }
 {}

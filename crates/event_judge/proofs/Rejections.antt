@@ -96,7 +96,7 @@ module _ (text : Text) (scripts : List (List ScriptCall)) where
 -- ---- what an event shows
 
 module _ (text : Text) (scripts : List (List ScriptCall)) where
-  -- one more event keeps the order exactly where it begins no other call
+  -- one more event keeps the order exactly if it begins no other call
   keeps_order : (events : List SourceEvent) (event : SourceEvent) (new : Progress) → walked text scripts 0 (first_progress text scripts) events ≡ Ok new
       → begins_other text.ops scripts new.begun event ≡ false → BeginInOrder text.ops scripts (events ++ event ∷ [])
   keeps_order events event new w right c =

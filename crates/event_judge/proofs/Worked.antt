@@ -238,7 +238,7 @@ event_first = refl
 
 -- ---- nodes of two kinds
 
--- set: a new pair with the argument, where the root is null. get: the number of the root's pair
+-- set: a new pair with the argument, if the root is null. get: the number of the root's pair
 pairs : Text
 pairs = record {
   kinds = item_kind ∷ codes "pair" ∷ [];

@@ -26,7 +26,7 @@ listed (Some items) = items
 abbrev pub script_of : List (List ScriptCall) → ℕ → List ScriptCall
 script_of scripts c = listed (slice_get scripts c)
 
--- the next call of a caller, where each caller has begun so many
+-- the next call of a caller, if each caller has begun so many
 abbrev pub next_call : List (List ScriptCall) → List ℕ → ℕ → Option ScriptCall
 next_call scripts begun c = slice_get (script_of scripts c) (slice_index begun c)
 
@@ -40,7 +40,7 @@ abbrev pub begun_with : List ℕ → SourceEvent → List ℕ
 begun_with begun (events.Begin c number words) = slice_set begun c (slice_index begun c + 1)
 begun_with begun _ = begun
 
--- how many calls a caller has begun where it begins one as the next after so many, if that is right
+-- how many calls a caller has begun if it begins one after so many; none unless that is the right one
 abbrev pub IsCounted : Bool → ℕ → Option ℕ → Type 0
 IsCounted right count None = right ≡ false
 IsCounted right count (Some more) = (right ≡ true) × (more ≡ count + 1)

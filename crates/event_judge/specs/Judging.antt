@@ -82,7 +82,7 @@ is_idle (Some caller) = is_none caller.running
 abbrev pub agrees_after : Progress → ℕ → List SourceReply → Bool
 agrees_after progress c claimed = agrees (slice_index progress.begun c) (is_idle (slice_get progress.state.callers c)) (source_replies progress.state c) claimed
 
--- what is found where no event shows 1 or 2: the first caller that doesn't agree, of those from this number on
+-- what is found if no event shows 1 or 2: the first caller that doesn't agree, of those from this number on
 abbrev pub found_from : ℕ → Progress → List (List SourceReply) → Verdict
 found_from c progress [] = Accepted
 found_from c progress (claimed ∷ claims) = if agrees_after progress c claimed then found_from (c + 1) progress claims else Rejected 3 c
@@ -93,7 +93,7 @@ abbrev pub found_after : List (List SourceReply) → Result Progress Verdict →
 found_after claims (Ok progress) = found_from 0 progress claims
 found_after claims (Err verdict) = verdict
 
--- what is found of events and of the replies that are claimed of each caller, where the callers were to make the calls of these
+-- what is found of events and of the replies that are claimed of each caller, if the callers were to make the calls of these
 -- scripts
 abbrev pub verdict_on : Text → List (List ScriptCall) → List SourceEvent → List (List SourceReply) → Verdict
 verdict_on text scripts events claims = found_after claims (walked text scripts 0 (first_progress text scripts) events)

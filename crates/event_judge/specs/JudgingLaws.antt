@@ -112,7 +112,7 @@ IsSo text scripts events claims (Rejected number at) =
     ⊎ (((number ≡ 2) × IsOtherCallAt text scripts events at)
     ⊎ ((number ≡ 3) × IsOtherReplyOf text scripts events claims at))
 
--- each verdict comes exactly where it is so
+-- each verdict is given exactly if it is true
 abbrev pub VerdictsAreRight : Type 0
 VerdictsAreRight =
     (text : Text) (scripts : List (List ScriptCall)) (events : List SourceEvent) (claims : List (List SourceReply)) (verdict : Verdict)

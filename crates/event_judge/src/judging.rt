@@ -1,8 +1,9 @@
 //! Judging a run.
 
-ghost use Rattle.std.specs.Prelude.{◌≡◌, ◌<◌, ◌≤◌, length, IfOk};
+ghost use Rattle.std.specs.Prelude.{◌≡◌, ◌<◌, ◌≤◌, true, length, None, IfOk, OnErr};
 ghost use Rattle.source_machine.specs.Calls.{IsOfSourceRun};
-ghost use Rattle.event_judge.specs.Judging.{first_progress, walked, Tells, Makes, agrees_after, found_from, verdict_on};
+ghost use Rattle.source_machine.specs.Run.{is_enabled};
+ghost use Rattle.event_judge.specs.Judging.{first_progress, walked, Tells, Makes, event_flaw, agrees_after, found_from, verdict_on};
 
 use crate::agreement::{agrees, is_idle};
 use crate::calls::{begun_by, count};
@@ -38,7 +39,7 @@ fn first_progress(
     Ok(Progress { state, begun })
 }
 
-/// Makes an event, if it is enabled.
+/// Makes an event, if it is enabled. Only then can memory run out.
 fn make(
     alloc: Global,
     normal: &Normal,
@@ -47,6 +48,7 @@ fn make(
 ) -> Result<bool, AllocError>
     requires { IsOfSourceRun normal.now state.old }
     ensures made { IfOk result (Makes normal.now state.old event.now state.new) }
+    ensures err { OnErr result (is_enabled normal.now state.old event.now ≡ true) }
     ensures runs { IsOfSourceRun normal.now state.new }
     ensures callers { length state.new.callers ≡ length state.old.callers }
 {
@@ -58,6 +60,7 @@ fn make(
 }
 
 /// Makes an event that begins no other call than the next, if it is enabled; otherwise tells the number of what it shows.
+/// Memory can run out only at an event that shows nothing.
 fn judge_event(
     alloc: Global,
     normal: &Normal,
@@ -67,6 +70,7 @@ fn judge_event(
 ) -> Result<Option<u8>, AllocError>
     requires { IsOfSourceRun normal.now progress.old.state }
     ensures tells { IfOk result (Tells normal.now scripts.now progress.old event.now progress.new) }
+    ensures err { OnErr result (event_flaw normal.now scripts.now progress.old event.now ≡ None) }
     ensures runs { IsOfSourceRun normal.now progress.new.state }
     ensures callers { length progress.new.state.callers ≡ length progress.old.state.callers }
 {
@@ -118,7 +122,7 @@ fn agrees_after(progress: &Progress, caller: usize, claimed: &[SourceReply]) -> 
     agrees(begun, idle, progress.state.replies(caller as u32), claimed)
 }
 
-/// What is found where no event shows 1 or 2.
+/// What is found if no event shows 1 or 2.
 fn found(progress: &Progress, claims: &[Listed<SourceReply>]) -> Verdict
     requires known { length claims.now ≡ length progress.now.state.callers }
     requires few { length claims.now ≤ 8 }
@@ -135,12 +139,12 @@ fn found(progress: &Progress, claims: &[Listed<SourceReply>]) -> Verdict
     Verdict::Accepted
 }
 
-/// What is found of events and of the replies that are claimed of each caller, where the callers, 1 to 8, were to make the calls of
-/// these scripts on this text. What a verdict means stands in `laws`.
+/// What is found of events and of the replies that are claimed of each caller, if the callers, 1 to 8, were to make the calls of
+/// these scripts on this text. `laws` says what a verdict means.
 ///
 /// # Errors
 ///
-/// `AllocError` where memory runs out.
+/// `AllocError` if memory runs out.
 pub fn judge_events(
     alloc: Global,
     normal: &Normal,

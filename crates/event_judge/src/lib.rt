@@ -1,4 +1,5 @@
-//! Judging a run that others report: whether its events are a run of a text that begins the calls of scripts in order, and whether its replies are those that such a run gives.
+//! Judging a run that others report: whether its events are a run of a text that begins the calls of scripts in order, and whether its
+//! replies are those that such a run gives.
 #![tactic(auto)]
 
 mod agreement;

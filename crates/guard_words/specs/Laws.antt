@@ -20,7 +20,7 @@ pub record GuardsFollow : Type 0 where
   pub passed_flag : (guards : Guards) (r : ℕ) → IsRow guards → is_validated (pass_check guards) r ≡ (is_validated guards r || not (guard_at guards r == 0))
   -- a cleared register isn't to be cleared again, and no other changes
   pub cleared : (guards : Guards) (spared : List Bool) (r k : ℕ) → IsRow guards → is_to_clear (with_guard guards r 0).slots spared k ≡ (is_to_clear guards.slots spared k && not (k == r))
-  -- the next register to clear is the least, and there is none exactly where no register is to be cleared
+  -- the next register to clear is the least, and there is none exactly if no register is to be cleared
   pub next_some : (guards : Guards) (spared : List Bool) (r : ℕ) → IsRow guards → next_to_clear guards spared ≡ Some r
       → (r < 8) × (is_to_clear guards.slots spared r ≡ true) × ((k : ℕ) → k < r → is_to_clear guards.slots spared k ≡ false)
   pub next_none : (guards : Guards) (spared : List Bool) → next_to_clear guards spared ≡ None → (k : ℕ) → is_to_clear guards.slots spared k ≡ false

@@ -9,7 +9,7 @@ pub fn guards_follow()
     ensures { GuardsFollow }
 {}
 
-/// A slot is gathered exactly where it was added and isn't 0.
+/// A slot is gathered exactly if it was added and isn't 0.
 #[tactic(auto, using(crate::proofs::Rows::gathered_follow))]
 pub fn gathered_follow()
     ensures { GatheredFollow }

@@ -27,7 +27,7 @@ impl Model for GuardRow {
 }
 
 impl GuardRow {
-    /// A row has eight slots and eight flags: a law for those who hold one. Reading a field is what tells it.
+    /// A row has eight slots and eight flags: a law for those who hold one. The body reads a field, which makes the invariant known.
     pub fn kept(&self)
         ensures { IsRow self.now }
     {
@@ -76,7 +76,7 @@ impl GuardRow {
         pass(&self.slots, &mut self.validated);
     }
 
-    /// The least register whose slot isn't 0 and which isn't kept; none exactly where there is no such register.
+    /// The least register whose slot isn't 0 and which isn't kept; none exactly if there is no such register.
     pub fn next_to_clear(&self, spare_kept: [bool; 8]) -> Option<u32>
         ensures { result ≡ next_to_clear self.now spare_kept }
     {

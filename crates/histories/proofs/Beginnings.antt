@@ -30,7 +30,7 @@ passed x call others rest true true differs is = true_is_no (differs refl)
 passed x call others rest true false differs is = ap (λ l. x ∷ l) is
 passed x call others rest false b differs is = is
 
--- Each caller's calls are those of the rest, and this one before them where it is the caller's.
+-- Each caller's calls are those of the rest, with this one before them if it is the caller's.
 pub first_taken : (left : List Call) (at : ℕ) (call : Call) (caller : ℕ) → at < length left → slice_index_or left at call ≡ call → IsFirst left at call
     → calls_of caller left ≡ (if call.caller == caller then call ∷ calls_of caller (remove left at) else calls_of caller (remove left at))
 first_taken [] at call caller lt is first = let impossible : ⊥ = omega (arith, lt) in absurd impossible

@@ -6,7 +6,7 @@ use Rattle.histories.specs.declared.call.Answer.{Answer}
 use Rattle.histories.specs.declared.call.Answer.TheVariants.{Number, Nothing, Spent, NoEffect}
 use Rattle.histories.specs.Histories.{Shared, Leaves, HasLegalOrder}
 
--- whether an answer can come of a call that has its effect, where this would be the reply
+-- whether an answer can come of a call that has its effect, given what its reply would be
 abbrev pub can_be_made : Answer → Answer → Bool
 can_be_made (Number n) (Number m) = m == n
 can_be_made (Number n) Nothing = false

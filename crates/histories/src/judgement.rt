@@ -1,7 +1,7 @@
 //! Whether a history is legal.
 
-ghost use Rattle.std.specs.Prelude.{IfOk};
-ghost use Rattle.histories.specs.Histories.{IsJudged};
+ghost use Rattle.std.specs.Prelude.{◌≤◌, length, IfOk, OnErr};
+ghost use Rattle.histories.specs.Histories.{IsJudged, most_calls};
 
 use crate::call::Call;
 use crate::limits::MOST_CALLS;
@@ -24,9 +24,10 @@ pub enum Judgement {
 /// answer. A history of more than ten calls isn't searched.
 ///
 /// # Errors
-/// Memory ran out.
+/// Memory ran out. This is never said of a history of more than ten calls, which needs none.
 pub fn judge(alloc: Global, history: &[Call]) -> Result<Judgement, AllocError>
-    ensures { IfOk result (IsJudged history.now) }
+    ensures judged { IfOk result (IsJudged history.now) }
+    ensures err { OnErr result (length history.now ≤ most_calls) }
 {
     if MOST_CALLS < history.len() {
         return Ok(Judgement::TooLarge);

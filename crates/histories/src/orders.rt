@@ -27,7 +27,7 @@ fn without(alloc: Global, calls: &[Call], at: usize) -> Result<Vec<Call>, AllocE
     Ok(rest)
 }
 
-/// Whether an answer can come of a call that has its effect, where this would be the reply.
+/// Whether an answer can come of a call that has its effect, given what its reply would be.
 fn can_be_made(answer: Answer, reply: Answer) -> bool
     ensures { result ≡ can_be_made answer reply }
 {

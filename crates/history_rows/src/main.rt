@@ -3,7 +3,7 @@
 //!
 //! A row is a line of standard input: `set` or `queue`, and then for each caller `|` and its calls in their order, with commas between
 //! them, each as `oa run` prints it: `set | insert 5: 1, remove 5: spent | contains 5: 0`. On standard output the row stands as it
-//! is, and the line after it says `legal`, `no legal order`, `too large`, or `wrong row` where it isn't spelled so. A line that begins
+//! is, and the line after it says `legal`, `no legal order`, `too large`, or `wrong row` if it isn't spelled so. A line that begins
 //! with `#` is a heading and is written as it stands; an empty line is skipped.
 #![tactic(auto)]
 
@@ -15,7 +15,7 @@ use crate::row::RowError;
 use std::alloc::Global;
 use std::io::{self, BufRead, BufReader};
 
-/// The line that is written after a row, also where the row can't be judged.
+/// The line that is written after a row, even if the row can't be judged.
 fn written(alloc: Global, line: &str) -> io::Result<&'static str> {
     match answer(alloc, line) {
         Ok(written) => Ok(written),

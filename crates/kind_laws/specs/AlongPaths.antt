@@ -21,7 +21,7 @@ KeptKindsStay =
     → slice_get (target_code_of op wrapup) at ≡ Some i → IsTargetSuccessor (target_code_of op wrapup) at to → target_sets (Ref r) i ≡ false
     → MayHaveInTarget fields roots op wrapup r at t → MayHaveInTarget fields roots op wrapup r to t
 
--- one that it sets may have what it gives, whatever other registers have, where a path leads to it
+-- one that it sets may have what it gives, whatever other registers have, if a path leads to the instruction
 abbrev pub GivenKindsCome : Type 0
 GivenKindsCome =
     (fields : List FieldDecl) (roots : List RootDecl) (op : TargetOp) (wrapup : Bool) (r at to t : ℕ) (i : Instr) (path : List ℕ)

@@ -18,8 +18,8 @@ use Rattle.target_code.specs.declared.target.TargetOp.{TargetOp}
 use Rattle.target_code.specs.Paths.{TargetPath, IsTargetSuccessor, target_code_of}
 use Rattle.kind_laws.specs.TargetKinds.{AreTyped}
 
--- a local instruction of the normal form (N1), from a place to which a path leads to one that may follow it. Where a register is of another
--- kind than its place needs it keeps what it holds, though it counts as set: the law needs the rule
+-- a local instruction of the normal form (N1), from a place to which a path leads to one that may follow it. If a register is of another
+-- kind than its place needs, it keeps what it holds, though it counts as set: so the law needs the rule
 abbrev pub LocalCodeKeepsKinds : Type 0
 LocalCodeKeepsKinds =
     (kind_of : ℕ → ℕ) (fields : List FieldDecl) (roots : List RootDecl) (op : TargetOp) (wrapup : Bool) (at : ℕ) (registers : Registers) (i : Instr) (place : ℕ) (spot : Spot) (path : List ℕ)

@@ -1,4 +1,4 @@
--- The kinds that registers may have along the paths of a target's methods, where checks and guards change nothing, and registers
+-- The kinds that registers may have along the paths of a target's methods, in which checks and guards change nothing, and registers
 -- that have no others.
 use Rattle.std.specs.Prelude.{◌≡◌, ℕ, ◌⊎◌, Bool, true, false, List, Some, slice_get, IsTrue}
 use Rattle.norm_lang.specs.declared.text.FieldDecl.{FieldDecl}

@@ -20,7 +20,7 @@ KindsAreInText =
     → MayHaveInTarget target.fields target.roots method.compiled method.wrapup r at t
     → MayHaveKind text.fields text.roots method.op method.wrapup r (source_place (code_in method) at) t
 
--- where an instruction keeps N15, a register that it asks to be of a kind may have no other
+-- if an instruction keeps N15, a register that it asks to be of a kind may have no other
 abbrev pub AskedKindsAreOne : Type 0
 AskedKindsAreOne =
     (text : Text) (op : Op) (wrapup : Bool) (at : ℕ) (i : Instr) (r k t : ℕ)
@@ -33,7 +33,7 @@ AskedKindsAreOneInTarget =
     → slice_get (code_in method) at ≡ Some (Plain i) → IsTrue (asks target.fields target.roots i r k)
     → MayHaveInTarget target.fields target.roots method.compiled method.wrapup r at t → t ≡ k
 
--- and registers that have only kinds that they may have name, where a kind is asked, null or a node of it
+-- and registers that have only kinds that they may have name null, or a node of the kind that is asked of them
 abbrev pub AskedKindsAreNamed : Type 0
 AskedKindsAreNamed =
     (kind_of : ℕ → ℕ) (target : Target) (text : Text) → IsNormal text → ErasesTo target text → (method : Method target text) (at : ℕ) (i : Instr) (registers : Registers) (r k : ℕ)

@@ -4,7 +4,8 @@ ghost use Rattle.kind_laws.specs.AlongPaths.{KeptKindsStay, GivenKindsCome, Copi
 ghost use Rattle.kind_laws.specs.TextKinds.{KindsAreInText, AskedKindsAreOne, AskedKindsAreOneInTarget, AskedKindsAreNamed};
 ghost use Rattle.kind_laws.specs.Laws.{LocalCodeKeepsKinds, LoadsKeepKinds, NewNodesKeepKinds, CommitsCarryKinds, RestartsKeepKinds};
 
-/// What a register may have goes along a target's paths: it stays where the register isn't set, comes where an instruction gives it or copies it, and is carried over a commit.
+/// What a register may have goes along a target's paths: it stays if the register isn't set, comes if an instruction gives it or copies it, and is
+/// carried over a commit.
 pub fn kinds_go_along_paths()
     ensures kept { KeptKindsStay }
     ensures given { GivenKindsCome }

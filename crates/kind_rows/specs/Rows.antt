@@ -97,7 +97,7 @@ expects_item = instr.LoadRoot r0 a ∷ instr.Null r1 ∷ instr.Cas (root_entry b
 abbrev pub commits_item : List Instr
 commits_item = instr.New r0 item ∷ instr.Null r1 ∷ instr.Commit (root_entry a r1 r0 ∷ root_entry b r1 r0 ∷ []) ∷ []
 
--- a put writes an item where an item leads to a pair
+-- a put writes an item into the field of an item to which pairs are put
 abbrev pub puts_item : List Instr
 puts_item = instr.LoadRoot r1 a ∷ instr.New r0 item ∷ instr.Put r0 other r1 ∷ instr.Commit [] ∷ []
 
@@ -189,7 +189,7 @@ pub record MixedKindRows : Type 0 where
   -- a wrap-up moves a kept register, which N10 tells there: N15 is told before it, of the load that a path through the move leads to
   pub kept_moved : WrapUpBreaks commits_with_item moves_kept N10 1
   pub before_the_move : WrapUpBreaks commits_with_item moves_kept N15 0
-  -- where no commit is reached, a wrap-up has paths
+  -- a wrap-up has paths even if no commit is reached
   pub without_commit : WrapUpBreaks reaches_none loads_other N15 1
 
 pub record AcceptedRows : Type 0 where

@@ -5,21 +5,21 @@ ghost use Rattle.norm_lang.specs.InstructionRules.{field_kind, root_kind, place_
 
 use norm_lang::text::{FieldDecl, FieldKind, Place, RootDecl};
 
-/// The kind of a field, none where it isn't declared.
+/// The kind of a field, none if it isn't declared.
 pub fn field_kind(fields: &[FieldDecl], field: u8) -> Option<FieldKind>
     ensures { result ≡ field_kind fields.now field }
 {
     fields.get(field as usize).map(|field| field.kind)
 }
 
-/// The kind of a root, none where it isn't declared.
+/// The kind of a root, none if it isn't declared.
 pub fn root_kind(roots: &[RootDecl], root: u16) -> Option<FieldKind>
     ensures { result ≡ root_kind roots.now root }
 {
     roots.get(root as usize).map(|root| root.kind)
 }
 
-/// The kind of what a place holds, none where it isn't declared.
+/// The kind of what a place holds, none if it isn't declared.
 pub fn place_kind(fields: &[FieldDecl], roots: &[RootDecl], place: Place) -> Option<FieldKind>
     ensures { result ≡ place_kind fields.now roots.now place }
 {

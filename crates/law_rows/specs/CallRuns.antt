@@ -72,7 +72,7 @@ pub record CauseRows : Type 0 where
   -- its third step loads phase 1, which is the last one, and no other
   pub over : FoundLastPhase (crowded 1) 1 (wanting 1 3)
   pub not_second : FoundLastPhase (crowded 1) 2 (wanting 1 3) → ⊥
-  -- before it, and where phase 2 comes after it
+  -- before it, and if phase 2 comes after it
   pub not_yet : FoundLastPhase (crowded 1) 1 (wanting 1 2) → ⊥
   pub not_last : FoundLastPhase (crowded 2) 1 (wanting 2 3) → ⊥
   -- its second, 24th and 46th steps are the looks, each of which finds no slot on top: the last one follows two sweeps

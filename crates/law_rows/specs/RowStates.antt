@@ -163,8 +163,8 @@ pub record StrangeEntries : Type 0 where
   pub no_claim : BelongsThere (stands_at 0 (Claims (claim_begun phases_setting.sizes 0 Warned))) → ⊥
   pub no_start : BelongsThere (stands_at 2 (LoadSeen starts.Begin)) → ⊥
   pub no_exchange : BelongsThere (stands_at 0 (Retires (record { slot = 1; stage = stages.ReadPhase }) retires.Next)) → ⊥
-  -- before an announcement, where access is optimistic; and where callers announce, before the load of the own warning, before a clear, before
-  -- an announcement in the midst of the generator, before that of a phase before the first, and before its end where no reply is given
+  -- before an announcement, if access is optimistic; and if callers announce, before the load of the own warning, before a clear, before
+  -- an announcement in the midst of the generator, before that of a phase before the first, and before its end if no reply is given
   pub no_epochs : BelongsThere (stands_at 0 (Announces (announces.Loads reasons.Begin))) → ⊥
   pub no_warning : BelongsAnnounced (stands_at 0 (LoadSeen starts.Begin)) → ⊥
   pub no_clear : BelongsAnnounced (stands_at 0 (Clears clears.New)) → ⊥

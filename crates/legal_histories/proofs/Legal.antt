@@ -108,7 +108,7 @@ known_of : (A : Type 0) (step : Deed → A → Option A) (first : A) (text : Tex
     → AnswersAs A step first state (book_of text rules callers events) → Known text rules callers events state
 known_of A step first text rules callers events state a = record { machine = a.machine; runs = a.running }
 
--- where the deeds of each run are those of an object that does what callers share does, what the callers are told has a legal order
+-- if the deeds of each run are those of an object that does what callers share does, what the callers are told has a legal order
 legal : (A : Type 0) (step : Deed → A → Option A) (action : ℕ → ℕ → Action) (Same : A → Shared → Type 0) (fits : StepFits A step action Same) (first : A) → Same first nothing_shared
     → (text : Text) (rules : Rules) (callers : ℕ) → ((events : List SourceEvent) (state : SourceMachine) → IsSourceRun text callers events state → AnswersAs A step first state (book_of text rules callers events))
     → (events : List SourceEvent) (state : SourceMachine) → IsSourceRun text callers events state → IsLegalWhereTold action callers events state

@@ -139,7 +139,7 @@ not_set (a ∷ xs) zero x (suc c) e = e
 not_set (a ∷ xs) (suc k) x zero e = e
 not_set (a ∷ xs) (suc k) x (suc c) e = not_set xs k x c e
 
--- a caller's call is written down as running exactly where it runs
+-- a caller's call is written down as running exactly if it runs
 abbrev RunsAsLogged : Book → Type 0
 RunsAsLogged b = (c : ℕ) (caller : SourceCaller) → slice_get b.machine.callers c ≡ Some caller → is_some caller.running ≡ is_some (b.log c).now
 

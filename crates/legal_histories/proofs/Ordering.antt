@@ -1,4 +1,4 @@
--- Where deeds explain what callers were told, their calls can be put in the order of the deeds.
+-- If deeds explain what callers were told, their calls can be put in the order of the deeds.
 use Rattle.std.proofs.Common.{ℕ, zero, suc, ◌≡◌, ◌≤◌, ◌==◌, ◌∙◌, Bool, true, false, List, [], ◌∷◌, length, drop, Option, Some, None, inl, inr, ⊎_elim, refl, sym, ap, subst, arith}
 use Rattle.std.specs.Prelude.{slice_index_or, if◌then◌else◌}
 use Rattle.std.specs.List.{remove}
@@ -44,7 +44,7 @@ Explain action (d ∷ ds) [] = ⊥
 Explain action [] (it ∷ its) = IsQuiet it.answer × Explain action [] its
 Explain action (d ∷ ds) (it ∷ its) = (IsQuiet it.answer × Explain action (d ∷ ds) its) ⊎ (IsDeedOf action d it × Explain action ds its)
 
--- what a deed does to the object is what its action does to what is shared, where both are the same, and its reply is the action's
+-- if the object and what is shared are the same, a deed does to the one what its action does to the other, and its reply is the action's
 abbrev pub StepFits : (A : Type 0) → (Deed → A → Option A) → (ℕ → ℕ → Action) → (A → Shared → Type 0) → Type 0
 StepFits A step action Same = (d : Deed) (a b : A) (shared : Shared) → Same a shared → step d a ≡ Some b
     → (reply_to shared (action d.op d.arg) ≡ answer_of d.reply) × Same b (after shared (action d.op d.arg))

@@ -13,7 +13,7 @@ abbrev pub Reads : {X Y : Type 0} → (X → Y) → Result X Fault → Result Y 
 Reads view (Ok x) read = read ≡ Ok (view x)
 Reads view (Err fault) read = read ≡ Err (number_of_fault fault)
 
--- a line's reader stops so where it meets this fault, or where memory ran out
+-- a line's reader stops so if it meets this fault, or if memory ran out
 abbrev pub Stops : {Y : Type 0} → Stop → Result Y ℕ → Type 0
 Stops stops.Memory read = Unit {0}
 Stops (stops.Fault fault) read = read ≡ Err (number_of_fault fault)
@@ -23,7 +23,7 @@ abbrev pub Gives : {X Y : Type 0} → (X → Y) → Result X Stop → Result Y �
 Gives view (Ok x) read = read ≡ Ok (view x)
 Gives view (Err stop) read = Stops stop read
 
--- a text's reader stops so where it meets this fault of a line, or where memory ran out
+-- a text's reader stops so if it meets this fault of a line, or if memory ran out
 abbrev pub Fails : {Y : Type 0} → ParseError → Result Y LineFault → Type 0
 Fails errors.Memory read = Unit {0}
 Fails (errors.Fault fault) read = read ≡ Err (record { line = fault.line; number = fault.number })

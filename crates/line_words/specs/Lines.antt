@@ -5,7 +5,7 @@ use Rattle.oa_text.specs.Tokens.{words_of, line_fault}
 use Rattle.norm_lang.specs.Faults.{◌>>=◌}
 use Rattle.norm_lang.specs.Grammar.{is_comment, plain}
 
--- the words of a line, unless its bytes have a fault: it is judged also where the line is skipped
+-- the words of a line, unless its bytes have a fault: they are judged even if the line is skipped
 abbrev pub words_in : TextLine → Result (List (List ℕ)) ℕ
 words_in line = plain (line_fault line) >>= λ done. Ok (words_of line.bytes)
 

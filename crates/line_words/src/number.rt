@@ -6,7 +6,7 @@ ghost use Rattle.line_words.specs.Answered.{Reads};
 use crate::fault::Fault;
 use oa_text::read_numeral;
 
-/// The number that bytes spell: `None` where it exceeds 2^64 - 1. Of `@J` the J is no word of its own, so this takes
+/// The number that bytes spell: `None` if it exceeds 2^64 - 1. Of `@J` the J is no word of its own, so this takes
 /// bytes and no token.
 pub fn number_in(bytes: &[u8]) -> Result<Option<u64>, Fault>
     ensures { Reads (λ n. n) result (number_in bytes.now) }

@@ -18,8 +18,8 @@ use norm_lang::text::{FieldKind, Name, Reg, Start, Version};
 use oa_text::{Line, TextFault, Tokens, tokens};
 use std::marker::Model;
 
-/// The words of a line that are left. Each method but `new`, `owner` and `holding` takes one word, also where it answers an
-/// error or `None`; where no word is left, none is left after it.
+/// The words of a line that are left. Each method but `new`, `owner` and `holding` takes one word, even if it answers an
+/// error or `None`; if no word is left, none is left after it.
 #[derive(Drop)]
 pub struct Words<'a> {
     tokens: Tokens<'a>,
@@ -33,7 +33,7 @@ impl<'a> Model for Words<'a> {
     ghost view = { λ s. map (λ token. token.bytes) s.tokens };
 }
 
-/// What a field or a root holds, as it is spelled: numbers, or references to nodes of a kind, `None` where it isn't declared.
+/// What a field or a root holds, as it is spelled: numbers, or references to nodes of a kind, `None` if it isn't declared.
 #[derive(Clone, Copy)]
 pub enum Holding {
     Numbers,
@@ -122,7 +122,7 @@ impl<'a> Words<'a> {
         }
     }
 
-    /// A number as it is spelled: `None` where it exceeds 2^64 - 1.
+    /// A number as it is spelled: `None` if it exceeds 2^64 - 1.
     pub fn number(&mut self) -> Result<Option<u64>, Fault>
         ensures says { Reads (λ n. (n, self.new)) result (number_at self.old) }
         ensures taken { self.new ≡ drop 1 self.old }
@@ -147,7 +147,7 @@ impl<'a> Words<'a> {
         register_in(self.word()?)
     }
 
-    /// The kind that the line means, `None` where it isn't declared. A line of the first version takes no word for it, and
+    /// The kind that the line means, `None` if it isn't declared. A line of the first version takes no word for it, and
     /// means the first kind.
     pub fn owner(&mut self, version: Version, kinds: &[Name]) -> Result<Option<u8>, Fault>
         requires { length kinds.now ≤ 4 }
@@ -363,7 +363,7 @@ pub fn start_of(count: u32, start: StartWord) -> Result<Start, Fault>
     }
 }
 
-/// Whether the initial node of this number is of this kind, where the initial nodes are of these kinds.
+/// Whether the initial node of this number is of this kind: `owners` are the kinds of the initial nodes.
 fn owned(owners: &[u8], node: u32, kind: u8) -> bool
     requires { 0 < node }
     ensures { result ≡ is_owner (slice_get owners.now (node - 1)) kind }
@@ -374,7 +374,7 @@ fn owned(owners: &[u8], node: u32, kind: u8) -> bool
     }
 }
 
-/// Whether a first value fits what its place holds, where the initial nodes are of these kinds.
+/// Whether a first value fits what its place holds: `owners` are the kinds of the initial nodes.
 pub fn fits(owners: &[u8], kind: FieldKind, start: Start) -> bool
     ensures { result ≡ is_match owners.now kind start }
 {

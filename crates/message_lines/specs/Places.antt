@@ -19,7 +19,7 @@ abbrev pub words_if : Option TextFault → List ℕ → List (List ℕ)
 words_if None bytes = words_of bytes
 words_if (Some fault) bytes = []
 
--- the word at a place of a line, from 0: no bytes where there are fewer, or where the line's bytes have a fault
+-- the word at a place of a line, from 0: no bytes if there are fewer, or if the line's bytes have a fault
 abbrev pub word_at : TextLine → ℕ → List ℕ
 word_at line at = get_or (words_if (line_fault line) line.bytes) at []
 
@@ -68,7 +68,7 @@ declares_kind before name line = nat_lt line.number before && (begins (codes "ki
 abbrev pub declares_op : List ℕ → TextLine → Bool
 declares_op name line = begins (codes "op") line && bytes_eq (word_at line 1) name
 
--- what a word says as a number: nothing where it isn't spelled as one, and no number of 64 bits where it is too large
+-- what a word says as a number: nothing if it isn't spelled as one, and no number of 64 bits if it is too large
 abbrev pub number_said : List ℕ → Option (Option ℕ)
 number_said word = if is_numeral word then Some (fitting (number_of word)) else None
 
@@ -82,6 +82,6 @@ is_slots_said None = false
 abbrev pub count_word : TextLine → List ℕ
 count_word line = if length (word_at line 2) == 0 then word_at line 1 else word_at line 2
 
--- a line sets as many slots for a kind as there can't be
+-- a `slots` line whose count is out of range
 abbrev pub is_wrong_slots : TextLine → Bool
 is_wrong_slots line = begins (codes "slots") line && not (is_slots_said (number_said (count_word line)))

@@ -154,7 +154,7 @@ fn wrong_slots(line: Line) -> bool
     begins(line, b"slots") && !slots_said(count_word(line))
 }
 
-/// The first line that sets as many slots for a kind as there can't be.
+/// The first `slots` line whose count is out of range.
 #[tactic(auto, using(crate::proofs::Searches::found, crate::proofs::Searches::passed, crate::proofs::Searches::missed))]
 pub fn wrong_slots_line<'a>(bytes: &'a [u8]) -> Option<Line<'a>>
     requires { length (lines_of bytes.now) + 1 < 2 ^ 32 }

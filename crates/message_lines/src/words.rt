@@ -6,7 +6,7 @@ ghost use Rattle.message_lines.specs.Places.{word_at, trimmed, is_said};
 
 use oa_text::{Line, Tokens, blanks_in_front, tokens};
 
-/// The bytes of the token at a place, from 0: none where there are fewer.
+/// The bytes of the token at a place, from 0: none if there are fewer.
 #[tactic(auto, using(crate::proofs::Searches::word_found, crate::proofs::Searches::word_passed, crate::proofs::Searches::word_missed))]
 fn nth_token<'a>(tokens: Tokens<'a>, at: usize) -> &'a [u8]
     ensures { result.now ≡ get_or (map (λ token. token.bytes) tokens.entry) at [] }
@@ -21,7 +21,7 @@ fn nth_token<'a>(tokens: Tokens<'a>, at: usize) -> &'a [u8]
     b""
 }
 
-/// The word at a place of a line, from 0: no bytes where there are fewer, or where the line's bytes have a fault.
+/// The word at a place of a line, from 0: no bytes if there are fewer, or if the line's bytes have a fault.
 pub fn word_at<'a>(line: Line<'a>, at: usize) -> &'a [u8]
     ensures { result.now ≡ word_at (line_shown line.entry) at }
 {

@@ -80,10 +80,10 @@ certificate_form word =
     else (if bytes_eq word (codes "reply") then codes "'reply C V' among the replies, by callers in their order, where V is a number, none, full or phases P"
     else []))))))
 
--- the first form, or where it has no bytes the second
+-- the first form, or the second if the first has no bytes
 abbrev pub or_form : List ℕ → List ℕ → List ℕ
 or_form form other = if length form == 0 then other else form
 
--- how a line that begins with a word is spelled, and where it may stand; no bytes where no line begins so
+-- how a line that begins with a word is spelled, and where it may stand; no bytes if no line begins so
 unfoldable pub line_form : List ℕ → List ℕ
 line_form word = or_form (declaration_form word) (or_form (or_form (local_form word) (or_form (access_form word) (flow_form word))) (or_form (tail_form word) (certificate_form word)))

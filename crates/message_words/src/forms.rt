@@ -159,14 +159,14 @@ fn certificate_form(word: &[u8]) -> &'static [u8]
     }
 }
 
-/// The first form, or where it has no bytes the second.
+/// The first form, or the second if the first has no bytes.
 fn or_form(form: &'static [u8], other: &'static [u8]) -> &'static [u8]
     ensures { result.now ≡ or_form form.now other.now }
 {
     if form.is_empty() { other } else { form }
 }
 
-/// How a line that begins with a word is spelled, and where it may stand; no bytes where no line begins so.
+/// How a line that begins with a word is spelled, and where it may stand; no bytes if no line begins so.
 #[tactic(auto, unfolding(crate::specs::Forms::line_form))]
 pub fn line_form(word: &[u8]) -> &'static [u8]
     ensures { result.now ≡ line_form word.now }

@@ -18,7 +18,7 @@ odd_of (Some (faults.Byte line column)) bytes = Some (record { column = column; 
 odd_of (Some (faults.Number line column)) bytes = None
 odd_of (Some (faults.LineLong line column)) bytes = None
 
--- the first byte of a line that may not stand in one, where that is what is wrong with it, and its column, from 1
+-- the first byte of a line that may not stand in one, if that is what is wrong with the line, and the byte's column, from 1
 abbrev pub odd_byte : TextLine → Option OddByte
 odd_byte line = odd_of (line_fault line) line.bytes
 
@@ -54,7 +54,7 @@ root_named bytes line =
     else Kind 3))
 
 -- what a line names that may be undeclared, by its first word: which sort of thing, and its word's place. A `node` line may name several, of which
--- `stray_word` is the first that there isn't
+-- `stray_word` is the first that doesn't exist
 abbrev pub named_word : List ℕ → TextLine → NamedWord
 named_word bytes line =
     if begins (codes "load") line then Field 3

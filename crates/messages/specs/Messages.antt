@@ -1,4 +1,4 @@
--- The message on a status, where bytes were read: the sentence that names the line at fault, or where there is none the one on the status.
+-- The message on a status, if bytes were read: the sentence that names the line at fault, or the one on the status if there is no such line.
 use Rattle.std.specs.Prelude.{ℕ, List, Option, Some, None, codes, ◌==◌, if◌then◌else◌}
 use Rattle.oa_text.specs.Lines.{TextLine}
 use Rattle.norm_check.specs.declared.refusal.Refusal.{Refusal}
@@ -52,7 +52,7 @@ abbrev fault_found : List ℕ → Option TextLine → ℕ → ℕ → List ℕ
 fault_found bytes None number fault = if fault == 4 then end_message number (owed_at bytes number) else fault_sentence number fault
 fault_found bytes (Some line) number fault = fault_at_message bytes line number fault
 
--- the line with this number has this fault; where there is no such line a further one must follow
+-- the line with this number has this fault; if there is no such line, a further one must follow
 abbrev pub fault_message : List ℕ → ℕ → ℕ → List ℕ
 fault_message bytes number fault = fault_found bytes (line_that (is_numbered number) bytes 0) number fault
 
@@ -96,7 +96,7 @@ shape_message bytes number at turn = if number == 10 then turn_message bytes tur
 
 -- ---- all statuses
 
--- the message on a status, where these bytes were read, this is found of the register, and a replay stopped at this turn; where all went well there is none
+-- the message on a status, if these bytes were read, this is found of the register, and a replay stopped at this turn; none if all went well
 abbrev pub message_of : List ℕ → Status → Blame → StoppedTurn → List ℕ
 message_of bytes Done named turn = explanation Done
 message_of bytes Partial named turn = explanation Partial
@@ -110,7 +110,7 @@ message_of bytes WriteFault named turn = explanation WriteFault
 message_of bytes Memory named turn = explanation Memory
 message_of bytes (Rejected number at) named turn = explanation (Rejected number at)
 
--- the message on a status, where this is remembered of what was read, this is found of the register, and a replay stopped at this turn
+-- the message on a status, if this is remembered of what was read, this is found of the register, and a replay stopped at this turn
 abbrev pub message_for : Option (List ℕ) → Status → Blame → StoppedTurn → List ℕ
 message_for None status named turn = explanation status
 message_for (Some bytes) status named turn = message_of bytes status named turn

@@ -10,7 +10,7 @@ use Rattle.messages.specs.declared.owed.Owed.TheVariants.{Version, Gen, Wrap, In
 use Rattle.message_words.specs.Forms.{line_form}
 use Rattle.message_lines.specs.Places.{words_if, word_at, trimmed, begins, is_said, is_entry, number_said, line_that}
 
--- the last of lines, or where there are none this one
+-- the last of lines, or this one if there are none
 abbrev pub last_of : Option TextLine → List TextLine → Option TextLine
 last_of found [] = found
 last_of found (line ∷ lines) = last_of (Some line) lines
@@ -40,7 +40,7 @@ ends_text line = begins (codes "slots") line || (begins (codes "phases") line ||
 abbrev pub ends_text_above : ℕ → TextLine → Bool
 ends_text_above number line = nat_lt line.number number && ends_text line
 
--- what must follow a line that begins an operation or a method, where this is the last line that says something
+-- what must follow a line that begins an operation or a method, if this is the last line that says something
 abbrev pub owed_after : TextLine → TextLine → Owed
 owed_after mark said =
     if begins (codes "op") mark then Gen
@@ -139,7 +139,7 @@ form_sentence line form = concat (
     codes "oa: line " ∷ decimal line.number ∷ codes " is at fault: it is '" ∷ trimmed line ∷ codes "', and such a line is spelled " ∷ form
     ∷ codes ". See 'Faults' in docs/language.md.\n" ∷ [])
 
--- a document ends where something must follow
+-- a document ends, and something must follow
 abbrev pub end_sentence : ℕ → List ℕ → List ℕ
 end_sentence number owed = concat (
     codes "oa: line " ∷ decimal number ∷ codes " is at fault: the document ends there, and " ∷ owed ∷ codes ". See 'Faults' in docs/language.md.\n" ∷ [])

@@ -6,7 +6,7 @@ use Rattle.statuses.specs.declared.limits.TheConstants.{DOCUMENT_LIMIT}
 abbrev pub most_remembered : ℕ
 most_remembered = DOCUMENT_LIMIT
 
--- the bytes that a source has left, where it tells them, how many faults there were, the bytes that it keeps, and whether they are all that
+-- the bytes that a source has left, if it tells them, how many faults there were, the bytes that it keeps, and whether they are all that
 -- were read
 pub record RememberingInput : Type 0 where
   pub left : Option (List ℕ)

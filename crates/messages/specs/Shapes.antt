@@ -16,13 +16,13 @@ if_above other None = None
 if_above None (Some line) = Some line
 if_above (Some other) (Some line) = if nat_lt line.number other.number then Some line else None
 
--- the first `slots` line above the scripts whose count can't be, or else, where their sum is too large, the first. A call may begin with
--- the word, too
+-- the first `slots` line above the scripts whose count is out of range, or, if only their sum is too large, the first. A call may begin
+-- with the word, too
 abbrev pub slots_line : List ℕ → Option TextLine
 slots_line bytes =
     or_else (if_above (line_that (begins_after 0 (codes "script")) bytes 0) (line_that is_wrong_slots bytes 0)) (line_that (begins_after 0 (codes "slots")) bytes 0)
 
--- the `nodes` line of a kind, by its number, or else, where a text is shipped, the first `slots` line
+-- the `nodes` line of a kind, by its number, or, if the text is a shipped one, the first `slots` line
 abbrev pub counted_line : List ℕ → ℕ → Option TextLine
 counted_line bytes kind = or_else (line_that (begins_after 0 (codes "nodes")) bytes kind) (line_that (begins_after 0 (codes "slots")) bytes 0)
 
@@ -38,7 +38,7 @@ shape_line bytes number at =
     else (if (number == 8) || (number == 9) then line_that (is_numbered at) bytes 0
     else None)))))
 
--- what is added where a line of a script is spelled like a setting
+-- what is added if a line of a script is spelled like a setting
 unfoldable pub shape_hint : ℕ → TextLine → List ℕ
 shape_hint number line =
     if (number == 8) && (begins (codes "slots") line || (begins (codes "phases") line || begins (codes "fuel") line)) then codes ", and settings stand before the scripts"

@@ -21,7 +21,7 @@ turn_sentence line steps = concat (
     codes "oa: line " ∷ decimal line.number ∷ codes ": the replay stopped after " ∷ decimal steps ∷ codes " steps, at '" ∷ trimmed line ∷ codes "': " ∷ shape_words 10
     ∷ codes ". See 'What can be run' in docs/language.md.\n" ∷ [])
 
--- the same where memory ran out before the turn was found
+-- the same, if memory ran out before the turn was found
 abbrev pub unfound_sentence : ℕ → List ℕ
 unfound_sentence steps = concat (
     codes "oa: the replay stopped after " ∷ decimal steps ∷ codes " steps, at a turn that there was no memory to find: " ∷ shape_words 10

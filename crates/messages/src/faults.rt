@@ -19,7 +19,7 @@ pub(crate) struct OddByte {
     pub(crate) byte: u8,
 }
 
-/// What a line names that isn't declared: which sort of thing, and its word's place in the line; of no sort where that isn't known.
+/// What a line names that isn't declared: which sort of thing, and its word's place in the line; of no sort if that isn't known.
 #[derive(Clone, Copy)]
 pub(crate) enum NamedWord {
     Field(usize),

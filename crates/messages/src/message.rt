@@ -26,7 +26,7 @@ use refusal_messages::{Blame, named_for, refused_lines, write_refused};
 use statuses::{Refusal, Status, explain};
 use std::alloc::Global;
 
-/// Writes which initial node a line names that there isn't, or else the sentence on its fault alone.
+/// Writes which initial node a line names that doesn't exist, or else the sentence on its fault alone.
 fn explain_stray<K: Sink>(
     errors: &mut K,
     bytes: &[u8],
@@ -251,7 +251,7 @@ fn explain_shape<K: Sink>(
     }
 }
 
-/// Writes the message on a status, where these bytes were read, this register is named, and a replay stopped at this turn.
+/// Writes the message on a status, if these bytes were read, this register is named, and a replay stopped at this turn.
 fn explain_of<K: Sink>(
     errors: &mut K,
     bytes: &[u8],
@@ -278,7 +278,7 @@ fn explain_of<K: Sink>(
     }
 }
 
-/// The register that the message on a status names, where these bytes were read.
+/// The register that the message on a status names, if these bytes were read.
 fn named_in(alloc: Global, bytes: &[u8], status: Status) -> Blame
     requires { length bytes.now ≤ most_remembered }
     ensures { IsNamedFor (Some bytes.now) status result }
@@ -286,7 +286,7 @@ fn named_in(alloc: Global, bytes: &[u8], status: Status) -> Blame
     named_for(alloc, bytes, status)
 }
 
-/// The same where a source remembers what was read.
+/// The same of what a source remembers.
 fn named_of<S: Source>(input: &RememberingSource<S>, status: Status) -> Blame
     ensures { IsNamedFor (remembered input.now) status result }
 {
@@ -296,7 +296,7 @@ fn named_of<S: Source>(input: &RememberingSource<S>, status: Status) -> Blame
     }
 }
 
-/// Writes the message on a status, where a source remembers what was read, this register is named, and a replay stopped at this turn.
+/// As `explain_of`, of what a source remembers; if that is forgotten, the sentence on the status alone.
 fn explain_named<K: Sink, S: Source>(
     errors: &mut K,
     input: &RememberingSource<S>,
@@ -313,10 +313,10 @@ fn explain_named<K: Sink, S: Source>(
     }
 }
 
-/// Writes the message on a status, where a source remembers what was read: what it means, which line is at fault, and how to mend
-/// it; where that is forgotten, the sentence on the status alone. Where all went well there is none. At `Failed` a prefix of it
-/// was written. Where a rule is broken, the first register that is at fault is named, and where a replay stopped at a turn, that turn;
-/// where there was no memory to find it, the message says so.
+/// Writes the message on a status: if the source remembers what was read, what the status means, which line is at fault, and how to
+/// mend it; if that is forgotten, the sentence on the status alone. If all went well, there is none. At `Failed` a prefix of it
+/// was written. If a rule is broken, the first register that is at fault is named, and if a replay stopped at a turn, that turn;
+/// if there was no memory to find the register or the turn, the message says so.
 pub fn explain_read<K: Sink, S: Source>(
     errors: &mut K,
     input: &RememberingSource<S>,

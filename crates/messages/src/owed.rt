@@ -115,7 +115,7 @@ fn text_end<'a>(bytes: &'a [u8], number: u32) -> Option<Line<'a>>
     None
 }
 
-/// What must follow a line that begins an operation or a method, where this is the last line that says something.
+/// What must follow a line that begins an operation or a method, if this is the last line that says something.
 fn owed_after(mark: Line, said: Line) -> Owed
     ensures { result ≡ owed_after (line_shown mark.entry) (line_shown said.entry) }
 {

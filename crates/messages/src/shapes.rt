@@ -29,7 +29,7 @@ fn if_above<'a>(other: Option<Line<'a>>, line: Option<Line<'a>>) -> Option<Line<
     }
 }
 
-/// The first `slots` line above the scripts whose count can't be, or else the first.
+/// The first `slots` line above the scripts whose count is out of range, or else the first.
 fn slots_line<'a>(bytes: &'a [u8]) -> Option<Line<'a>>
     requires { length (lines_of bytes.now) + 1 < 2 ^ 32 }
     ensures { MatchOption result (slots_line bytes.now ≡ None) (λ line. slots_line bytes.now ≡ Some (line_shown line)) }
@@ -76,7 +76,7 @@ pub(crate) fn shape_line<'a>(bytes: &'a [u8], number: u8, at: u64) -> Option<Lin
     }
 }
 
-/// What is added where a line of a script is spelled like a setting.
+/// What is added if a line of a script is spelled like a setting.
 #[tactic(auto, unfolding(crate::specs::Shapes::shape_hint))]
 fn shape_hint(number: u8, line: Line) -> &'static [u8]
     ensures { result.now ≡ shape_hint number (line_shown line.entry) }

@@ -13,7 +13,7 @@ small (word ∷ args) fits = rw (lt-ltb word (2 ^ 64) (fits zero), small args (�
 pub array_has_words : (args : List ℕ) → length args ≡ 4 → ((i : ℕ) → get_or args i 0 < 2 ^ 64) → are_words args ≡ true
 array_has_words args four fits = rw (eq-eqb (length args) 4 four, small args fits) refl
 
--- they are arguments where those past the count are 0
+-- they are arguments exactly if those past the count are 0
 pub array_has_arguments : (count : ℕ) (args : List ℕ) → length args ≡ 4 → ((i : ℕ) → get_or args i 0 < 2 ^ 64)
     → list_all (λ word. word == 0) (drop count args) ≡ are_arguments count args
 array_has_arguments count args four fits = ap (λ (b : Bool). b && list_all (λ word. word == 0) (drop count args)) (sym (array_has_words args four fits))

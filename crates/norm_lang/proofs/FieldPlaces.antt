@@ -31,7 +31,7 @@ place_finds fields f field found = rw (place_known fields f field found) (found_
 pub place_below : (fields : List FieldDecl) (f : ℕ) (field : FieldDecl) → slice_get fields f ≡ Some field → place_of fields f < length (fields_of field.owner fields)
 place_below fields f field found = slice_get_within (fields_of field.owner fields) (place_of fields f) field (place_finds fields f field found)
 
--- where all fields are of the first kind, none is left out, and as many stand before a field as its number
+-- if all fields are of the first kind, none is left out, and a field's number says how many stand before it
 kept_all : (fields : List FieldDecl) → list_all (λ (field : FieldDecl). field.owner == 0) fields ≡ true → fields_of 0 fields ≡ fields
 kept_all [] all = refl
 kept_all (x ∷ fields) all =

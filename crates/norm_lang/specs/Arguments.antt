@@ -10,6 +10,6 @@ are_words args = length args == 4 && list_all (λ word. nat_lt word (2 ^ 64)) ar
 abbrev pub are_arguments : ℕ → List ℕ → Bool
 are_arguments count args = are_words args && list_all (λ word. word == 0) (drop count args)
 
--- four words: the first ones of a list, and 0s where it is shorter
+-- four words: the first ones of a list, with 0s added if it is shorter
 abbrev pub padded : List ℕ → List ℕ
 padded numbers = slice_index numbers 0 ∷ slice_index numbers 1 ∷ slice_index numbers 2 ∷ slice_index numbers 3 ∷ []

@@ -83,7 +83,7 @@ fn root_of(root: u16, expected: Reg, replacement: Reg, retire: Option<Reg>) -> C
     }
 }
 
-// The search for a key, which goes to one place where it is absent and to another where it is present.
+// The search for a key, which goes to one place if it is absent and to another if it is present.
 fn search(alloc: Global, buckets: u16, absent: u16, present: u16) -> Result<Code, AllocError>
     ensures { IfOk result (λ code. code ≡ search_code buckets absent present) }
 {
@@ -262,7 +262,7 @@ fn bucket_roots(alloc: Global, buckets: u32) -> Result<Roots, AllocError>
 
 /// The hash set with so many buckets, 1 to 64. With one bucket it is the list.
 ///
-/// The operations are `insert`, `remove` and `contains`, each with a number as its argument. They reply 1 where they
+/// The operations are `insert`, `remove` and `contains`, each with a number as its argument. They reply 1 if they
 /// inserted, removed or found it, and else 0. Each bucket is a list of Michael (SPAA 2002), whose removed nodes have the
 /// reference to the next one marked.
 ///

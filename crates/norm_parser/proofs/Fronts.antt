@@ -11,7 +11,7 @@ use Rattle.norm_lang.specs.Grammar.{Opening, Draft, draft_at, after_line, after_
 use Rattle.norm_parser.specs.Cursors.{LinesLeft, past_of, rest_of, StandsNext}
 use Rattle.norm_parser.specs.FrontRead.{from_line, line_word, ends_text, names_text, text_lines, after_text, misplaced, end_before, end_at, head_lines, after_head, ends_head, before_op, front_end, head_end}
 
--- what the lines from here on declare up to the end of a text, where the line before these named a shipped one or not
+-- what the lines from here on declare up to the end of a text, given whether the line before these named a shipped one
 abbrev pub front_from : Draft → Bool → List TextLine → ℕ → Result (Draft × LineFault) LineFault
 front_from draft named [] past = Ok (draft, end_at [] past)
 front_from draft named (line ∷ lines) past =

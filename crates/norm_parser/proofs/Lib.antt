@@ -1,6 +1,7 @@
 pub mod CursorLines
 pub mod LinesLeft
 mod LinesAfter
+mod LinesPassed
 mod Versions
 mod FrontWords
 pub mod Fronts

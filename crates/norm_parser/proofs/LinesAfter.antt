@@ -10,7 +10,7 @@ use Rattle.norm_parser.proofs.LinesLeft.{number_is, from_next}
 use Rattle.norm_parser.proofs.Fronts.{earlier, later}
 
 -- lines of which none stands before a number are all from it on
-all_from : (n start : ℕ) (lines : List TextLine) → start ≤ n → AreFrom n lines → from_line start lines ≡ lines
+pub all_from : (n start : ℕ) (lines : List TextLine) → start ≤ n → AreFrom n lines → from_line start lines ≡ lines
 all_from n start [] le from = refl
 all_from n start (line ∷ lines) le from =
     let k : line.number ≡ n = number_is n line lines (line ∷ lines) refl from in
@@ -21,7 +21,7 @@ all_from n start (line ∷ lines) le from =
 pub all_after : (n : ℕ) (lines : List TextLine) → AreFrom (n + 1) lines → lines ≡ from_line (n + 1) lines
 all_after n lines from = sym (all_from (n + 1) (n + 1) lines (omega arith) from)
 
--- the lines from a number on, where the others stand before it
+-- the lines from a number on, if the others stand before it
 pub from_left : (n m : ℕ) (front left whole : List TextLine) → front ++ left ≡ whole → AreFrom n whole → AreFrom m left → n + length front ≤ m → from_line m whole ≡ left
 from_left n m [] left whole is own from le = rw (← is) (all_from m m left (omega arith) from)
 from_left n m (line ∷ front) left whole is own from le =
@@ -53,6 +53,6 @@ after_all n past lines left none end count =
     let no_line : length lines ≡ 0 = ap length none in
     (rw end refl, omega (arith, no_line, count))
 
--- the same, where the lines end at the same number
+-- the same, if the lines end at the same number
 pub after_entry : (past other : ℕ) (error : ParseError) (left : List TextLine) → past ≡ other → AreAfter past error left → AreAfter other error left
 after_entry past other error left same after = rw (← same) after

@@ -21,7 +21,7 @@ abbrev pub from_line : ℕ → List TextLine → List TextLine
 from_line start [] = []
 from_line start (line ∷ lines) = if nat_lt line.number start then from_line start lines else line ∷ from_line start lines
 
--- the first of words, or no bytes where there is none
+-- the first of words, or no bytes if there is none
 abbrev pub front_of : List (List ℕ) → List ℕ
 front_of [] = []
 front_of (word ∷ rest) = word
@@ -73,7 +73,7 @@ abbrev pub after_head : List TextLine → List TextLine
 after_head [] = []
 after_head (line ∷ lines) = if ends_head (line_word line) || names_text (line_word line) then line ∷ lines else after_head lines
 
--- the number of a line's fault where another line must stand in its place: what is wrong with its bytes comes first
+-- the number of the fault of a line that stands where another must: what is wrong with its bytes comes first
 abbrev pub misplaced : Option TextFault → ℕ
 misplaced None = form_fault
 misplaced (Some fault) = fault_number fault
@@ -92,7 +92,7 @@ abbrev pub ended : {A : Type 0} → Result A ℕ → LineFault → Result (A × 
 ended (Ok x) end = Ok (x, end.line)
 ended (Err fault) end = Err end
 
--- what the lines of a text declare, and where they end, where `past` is one more than the last line's number
+-- what the lines of a text declare, and where they end; `past` is one more than the last line's number
 abbrev pub front_end : Version → List TextLine → ℕ → Result (Draft × LineFault) LineFault
 front_end version lines past = do
   draft ← after_lines (draft_at version Opening) (text_lines lines)

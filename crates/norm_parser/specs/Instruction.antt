@@ -31,8 +31,8 @@ pub record AreLeftOf (whole left : List TextLine) : Type 0 where
   pub front : List TextLine
   pub same : front ++ left ≡ whole
 
--- the lines that are left after a fault are those after its line: none where the input ended too early. Where memory runs
--- out any lines may be left
+-- the lines that are left after a fault are those after its line: none if the input ended too early. If memory runs
+-- out, any lines may be left
 abbrev pub AreLeftAt : ParseError → List TextLine → List TextLine → Type 0
 AreLeftAt errors.Memory whole left = Unit {0}
 AreLeftAt (errors.Fault fault) whole left = left ≡ from_line (fault.line + 1) whole
@@ -50,7 +50,7 @@ step_in kinds fields roots words = word_at words >>= λ word. step_line Second k
 abbrev pub step_of : List (List ℕ) → List FieldDecl → List RootDecl → TextLine → Result Step ℕ
 step_of kinds fields roots line = words_in line >>= λ words. step_in kinds fields roots words
 
--- the entry that a line's words say: none where the line is skipped
+-- the entry that a line's words say: none if the line is skipped
 abbrev pub entry_in : List FieldDecl → List RootDecl → Option (List ℕ × List (List ℕ)) → Result (Option CasEntry) ℕ
 entry_in fields roots None = Ok None
 entry_in fields roots (Some word) = entry_line fields roots word.0 word.1 >>= λ entry. Ok (Some entry)
@@ -64,7 +64,7 @@ abbrev pub entry_or : Option CasEntry → List TextLine → Result (CasEntry × 
 entry_or None lines next = next
 entry_or (Some entry) lines next = Ok (entry, lines)
 
--- the next entry, and the lines after it: where there is none, a further line must follow. `past` is one more than the
+-- the next entry, and the lines after it: if there is none, a further line must follow. `past` is one more than the
 -- number of lines
 abbrev pub next_entry : List FieldDecl → List RootDecl → ℕ → List TextLine → Result (CasEntry × List TextLine) LineFault
 next_entry fields roots past [] = Err (record { line = past; number = form_fault })

@@ -24,7 +24,7 @@ version_said name (Some word) =
     if bytes_eq word.0 name then (version_line word.1 >>= λ version. Ok (Some version))
     else Err form_fault
 
--- the same by its bytes, which are judged first, also where it is skipped
+-- the same by its bytes, which are judged first, even if it is skipped
 abbrev pub line_version : List ℕ → TextLine → Result (Option Version) ℕ
 line_version name line = words_in line >>= λ words. version_said name (first_word words)
 
@@ -45,7 +45,7 @@ abbrev pub of_second : ℕ → Version → Result ℕ LineFault
 of_second next Second = Ok next
 of_second next First = Err (record { line = next - 1; number = form_fault })
 
--- the number of the line after the version line, where that of the second version alone may stand
+-- the number of the line after the version line, which must be that of the second version
 abbrev pub after_second_version : List ℕ → ℕ → List TextLine → Result ℕ LineFault
 after_second_version name past lines = do
   next ← after_version name past lines

@@ -60,7 +60,7 @@ impl<'a> Cursor<'a> {
         cursor
     }
 
-    /// The number of the next line. Where none is left, it is one more than that of the last.
+    /// The number of the next line. If none is left, it is one more than that of the last.
     pub fn number(&self) -> u32
         ensures same { result ≡ self.now.number }
         ensures counted { 1 ≤ result }

@@ -158,6 +158,11 @@ impl Draft {
         Ok(Draft::of_text(alloc, version, section, text_of_kinds(alloc, kinds)))
     }
 
+    /// Adds a kind with this name; the next line stands among the kinds.
+    ///
+    /// # Errors
+    ///
+    /// `AllocError` if memory runs out.
     pub fn add_kind(&mut self, name: Name) -> Result<(), AllocError>
         ensures { IfOk result (λ _. draft_shown self.new ≡ with_kind (draft_shown self.old) name) }
     {
@@ -165,6 +170,11 @@ impl Draft {
         self.text.kinds.push(name)
     }
 
+    /// Adds a field; the next line stands among the fields.
+    ///
+    /// # Errors
+    ///
+    /// `AllocError` if memory runs out.
     pub fn add_field(&mut self, field: FieldDecl) -> Result<(), AllocError>
         ensures { IfOk result (λ _. draft_shown self.new ≡ with_field (draft_shown self.old) field) }
     {
@@ -205,6 +215,11 @@ impl Draft {
         Ok(())
     }
 
+    /// Adds a node. The next line is one of a node, until as many stand as are stated.
+    ///
+    /// # Errors
+    ///
+    /// `AllocError` if memory runs out.
     pub fn add_node(&mut self, node: NodeDecl) -> Result<(), AllocError>
         ensures { IfOk result (λ _. draft_shown self.new ≡ with_node (draft_shown self.old) node) }
     {
@@ -213,12 +228,18 @@ impl Draft {
         Ok(())
     }
 
+    /// Adds a root.
+    ///
+    /// # Errors
+    ///
+    /// `AllocError` if memory runs out.
     pub fn add_root(&mut self, root: RootDecl) -> Result<(), AllocError>
         ensures { IfOk result (λ _. draft_shown self.new ≡ with_root (draft_shown self.old) root) }
     {
         self.text.roots.push(root)
     }
 
+    /// An operation begins, and takes the place of the one whose lines stood here.
     pub fn begin_op(&mut self, op: Op)
         ensures { draft_shown self.new ≡ with_op (draft_shown self.old) op }
     {
@@ -256,6 +277,11 @@ impl Draft {
         news_in(self.op.generator.items()) + news_in(self.op.wrapup.items())
     }
 
+    /// Adds an instruction to the method whose lines stand here.
+    ///
+    /// # Errors
+    ///
+    /// `AllocError` if memory runs out.
     pub fn add_instr(&mut self, instr: Instr) -> Result<(), AllocError>
         ensures { IfOk result (λ _. draft_shown self.new ≡ record (draft_shown self.old) { op = with_instr (section_shown self.old.section) self.old.op instr }) }
     {

@@ -10,7 +10,7 @@ use line_words::fault::Fault;
 use line_words::words::Words;
 use oa_text::{Line, blanks_in_front, ink_in_front};
 
-/// The first word of a line's bytes, also where the line has a fault: no bytes where it has no word.
+/// The first word of a line's bytes, even if the line has a fault; no bytes if it has no word.
 #[tactic(auto, using(crate::proofs::FrontWords::fronts, crate::proofs::FrontWords::front_word))]
 pub(crate) fn front_word(bytes: &[u8]) -> &[u8]
     ensures { result.now ≡ front_of (words_of bytes.now) }
@@ -51,7 +51,7 @@ pub(crate) fn ends_head(word: &[u8]) -> bool
     word == b"op".as_slice()
 }
 
-/// The fault of a line where another must stand in its place: what is wrong with its bytes comes first.
+/// The fault of a line that stands where another must: what is wrong with its bytes comes first.
 pub(crate) fn misplaced(line: Line) -> Fault
     ensures { number_of_fault result ≡ misplaced (line_fault (line_shown line.entry)) }
 {

@@ -51,7 +51,7 @@ fn step_of(
     step_in(kinds, fields, roots, &mut words)
 }
 
-/// The entry that a line's words say: `None` where it is skipped.
+/// The entry that a line's words say: `None` if it is skipped.
 fn entry_in(
     fields: &[FieldDecl],
     roots: &[RootDecl],
@@ -67,7 +67,7 @@ fn entry_in(
     }
 }
 
-/// The entry that a line says: `None` where it is skipped.
+/// The entry that a line says: `None` if it is skipped.
 fn entry_of(fields: &[FieldDecl], roots: &[RootDecl], line: Line) -> Result<Option<CasEntry>, Fault>
     requires few_fields { length fields.now ≤ 16 }
     requires few_roots { length roots.now ≤ 256 }
@@ -192,9 +192,9 @@ fn completed(
 ///
 /// # Errors
 ///
-/// `Memory` where memory ran out. `Fault` where the lines are no instruction: the first of them that has a fault, with
-/// its first fault; where the input ends before the last entry line, fault 4 at one more than the number of lines. Then
-/// `rest` holds the lines after the fault's line: all of them where that is `first`, and none where the input ended. At
+/// `Memory` if memory ran out. `Fault` if the lines are no instruction: the first of them that has a fault, with its
+/// first fault; if the input ends before the last entry line, fault 4 at one more than the number of lines. Then `rest`
+/// holds the lines after the fault's line: all of them if that line is `first`, and none if the input ended. At
 /// `Memory` it holds those after some of the entry lines.
 #[tactic(auto, using(crate::proofs::LinesLeft::left_all, crate::proofs::LinesAfter::all_after, crate::proofs::LinesAfter::left_at))]
 pub fn parse_instr<'a>(

@@ -1,12 +1,12 @@
 //! The readers of texts, of texts within documents, and of a target's declarations.
 
-ghost use Rattle.std.specs.Prelude.{◌≡◌, ◌+◌, ◌<◌, ◌≤◌, ◌^◌, length, IfOk};
+ghost use Rattle.std.specs.Prelude.{◌≡◌, ◌+◌, ◌<◌, ◌≤◌, ◌^◌, length, IfOk, IfErr};
 ghost use Rattle.oa_text.specs.Lines.{lines_of};
 ghost use Rattle.norm_lang.specs.declared.text.Version.TheVariants.{Second};
 ghost use Rattle.norm_lang.specs.Grammar.{draft_at, after_lines, Start, Opening, text_read};
 ghost use Rattle.norm_lang.specs.Limits.{IsWithinLimits};
 ghost use Rattle.line_words.specs.Answered.{Answers};
-ghost use Rattle.norm_parser.specs.Cursors.{past_of, IsRestOf};
+ghost use Rattle.norm_parser.specs.Cursors.{past_of, IsRestOf, AreTheLater, AreLeftFrom};
 ghost use Rattle.norm_parser.specs.DraftShown.{draft_shown};
 ghost use Rattle.norm_parser.specs.Drafted.{draft_if};
 ghost use Rattle.norm_parser.specs.FaultShown.{fault_shown};
@@ -64,9 +64,9 @@ fn read_lines(alloc: Global, cursor: &mut Cursor) -> Result<Draft, ParseError>
 ///
 /// # Errors
 ///
-/// `Fault` exactly where the bytes spell no text by the grammar, with the grammar's fault: the first line that has one,
-/// and its first fault. Where the input ends and a further line must follow, the fault is 4 at one more than the number of
-/// lines. `Memory` where memory runs out.
+/// `Fault` exactly if the bytes spell no text by the grammar, with the grammar's fault: the first line that has one,
+/// and its first fault. If the input ends and a further line must follow, the fault is 4 at one more than the number of
+/// lines. `Memory` if memory runs out.
 pub fn parse(alloc: Global, input: &[u8]) -> Result<Text, ParseError>
     requires { length (lines_of input.now) + 1 < 2 ^ 32 }
     ensures exact { Answers (λ text. text) result (text_read input.now) }
@@ -96,11 +96,13 @@ fn end_fault(cursor: &Cursor) -> ParseFault
 }
 
 /// Adds what the lines of a text declare.
-#[tactic(auto, using(crate::proofs::CursorLines::rest_of_passed, crate::proofs::CursorLines::rest_of_all, crate::proofs::Reading::few_kinds, crate::proofs::Reading::few_fields, crate::proofs::Reading::few_roots, crate::proofs::Reading::few_owners, crate::proofs::Reading::kept_on, crate::proofs::Reading::kept_opening, crate::proofs::Fronts::front_starts, crate::proofs::Fronts::front_goes_on, crate::proofs::Fronts::front_ends, crate::proofs::Fronts::front_over, crate::proofs::Fronts::front_stops, crate::proofs::Fronts::end_line_stands, crate::proofs::Fronts::end_line_over, crate::proofs::CursorLines::rest_past))]
+#[tactic(auto, using(crate::proofs::CursorLines::rest_of_passed, crate::proofs::CursorLines::rest_of_all, crate::proofs::Reading::few_kinds, crate::proofs::Reading::few_fields, crate::proofs::Reading::few_roots, crate::proofs::Reading::few_owners, crate::proofs::Reading::kept_on, crate::proofs::Reading::kept_opening, crate::proofs::Fronts::front_starts, crate::proofs::Fronts::front_goes_on, crate::proofs::Fronts::front_ends, crate::proofs::Fronts::front_over, crate::proofs::Fronts::front_stops, crate::proofs::LinesPassed::none_passed, crate::proofs::LinesPassed::later_here, crate::proofs::LinesPassed::later_over, crate::proofs::LinesPassed::left_where_faulty, crate::proofs::LinesPassed::left_at_end, crate::proofs::Fronts::end_line_stands, crate::proofs::Fronts::end_line_over, crate::proofs::CursorLines::rest_past))]
 fn add_front(draft: &mut Draft, alloc: Global, cursor: &mut Cursor) -> Result<(), ParseError>
     requires first { draft_shown draft.old ≡ draft_at draft.old.version Opening }
     ensures exact { Answers (λ _. (draft_shown draft.new, end_at cursor.new.lines (past_of cursor.new))) result (front_end draft.old.version cursor.old.lines (past_of cursor.old)) }
-    ensures rest { IfOk result (λ _. IsRestOf cursor.old cursor.new) }
+    ensures rest { IsRestOf cursor.old cursor.new }
+    ensures later { IfOk result (λ _. AreTheLater cursor.old cursor.new) }
+    ensures left { IfErr result (λ error. AreLeftFrom error cursor.old.lines cursor.new.lines) }
     ensures number { IfOk result (λ _. (end_at cursor.new.lines (past_of cursor.new)).line ≡ cursor.new.number) }
 {
     let mut named = false;
@@ -117,9 +119,12 @@ fn add_front(draft: &mut Draft, alloc: Global, cursor: &mut Cursor) -> Result<()
 }
 
 /// What the lines of a text declare.
+#[tactic(auto, using(crate::proofs::CursorLines::rest_of_all))]
 fn front_draft(alloc: Global, version: Version, cursor: &mut Cursor) -> Result<Draft, ParseError>
     ensures exact { Answers (λ draft. (draft_shown draft, end_at cursor.new.lines (past_of cursor.new))) result (front_end version cursor.old.lines (past_of cursor.old)) }
-    ensures rest { IfOk result (λ _. IsRestOf cursor.old cursor.new) }
+    ensures rest { IsRestOf cursor.old cursor.new }
+    ensures later { IfOk result (λ _. AreTheLater cursor.old cursor.new) }
+    ensures left { IfErr result (λ error. AreLeftFrom error cursor.old.lines cursor.new.lines) }
     ensures number { IfOk result (λ _. (end_at cursor.new.lines (past_of cursor.new)).line ≡ cursor.new.number) }
 {
     let mut draft = Draft::at(alloc, version, Section::Opening)?;
@@ -129,15 +134,17 @@ fn front_draft(alloc: Global, version: Version, cursor: &mut Cursor) -> Result<D
 
 /// Takes the lines of a text after the version line, and answers the text.
 ///
-/// The text ends with its `use` line where it has one; otherwise before the first line whose first word is `slots`,
-/// `phases`, `fuel`, `script` or `schedule`, also where that line has a fault, or at the end of the input.
+/// The text ends with its `use` line if it has one; otherwise before the first line whose first word is `slots`,
+/// `phases`, `fuel`, `script` or `schedule`, even if that line has a fault, or at the end of the input.
 ///
 /// # Errors
 ///
-/// As those of `parse_front`.
+/// As those of `parse_front`. At a `Fault` its line is the next that is left, or none is left.
+#[tactic(auto, using(crate::proofs::LinesPassed::left_at_end))]
 pub fn read_front(alloc: Global, version: Version, cursor: &mut Cursor) -> Result<Text, ParseError>
     ensures exact { Answers (λ text. (text, cursor.new.number)) result (front_in version cursor.old.lines (past_of cursor.old)) }
-    ensures rest { IfOk result (λ _. IsRestOf cursor.old cursor.new) }
+    ensures rest { IsRestOf cursor.old cursor.new }
+    ensures left { IfErr result (λ error. AreLeftFrom error cursor.old.lines cursor.new.lines) }
     ensures within { IfOk result (λ text. IsWithinLimits text) }
 {
     let draft = front_draft(alloc, version, cursor)?;
@@ -151,15 +158,15 @@ pub fn read_front(alloc: Global, version: Version, cursor: &mut Cursor) -> Resul
 /// The text that begins at a line, after the version line, and the number of the first line after it. Its lines are those of
 /// the version with this number, 1 or 2.
 ///
-/// The text ends with its `use` line where it has one; otherwise before the first line whose first word is `slots`,
-/// `phases`, `fuel`, `script` or `schedule`, also where that line has a fault, or at the end of the input. Lines count from
+/// The text ends with its `use` line if it has one; otherwise before the first line whose first word is `slots`,
+/// `phases`, `fuel`, `script` or `schedule`, even if that line has a fault, or at the end of the input. Lines count from
 /// 1. The input has fewer than 2^32 - 1 lines; its length bounds their count.
 ///
 /// # Errors
 ///
-/// `Fault` with the first fault of the text's lines. Where they have none and a further line of the text must follow, it
+/// `Fault` with the first fault of the text's lines. If they have none and a further line of the text must follow, it
 /// stands where the text ends: at the line there with its number 3 or 1 if its bytes have that fault, in this order, and
-/// else 4; at the end of the input it is 4 at one more than the number of lines. `Memory` where memory runs out.
+/// else 4; at the end of the input it is 4 at one more than the number of lines. `Memory` if memory runs out.
 pub fn parse_front(
     alloc: Global,
     input: &[u8],
@@ -178,11 +185,13 @@ pub fn parse_front(
 }
 
 /// Adds what the lines of declarations declare.
-#[tactic(auto, using(crate::proofs::CursorLines::rest_of_passed, crate::proofs::CursorLines::rest_of_all, crate::proofs::Reading::few_kinds, crate::proofs::Reading::few_fields, crate::proofs::Reading::few_roots, crate::proofs::Reading::few_owners, crate::proofs::Reading::kept_on, crate::proofs::Reading::kept_opening, crate::proofs::Fronts::head_starts, crate::proofs::Fronts::head_goes_on, crate::proofs::Fronts::head_misplaced, crate::proofs::Fronts::head_ends_here, crate::proofs::Fronts::head_over, crate::proofs::Fronts::head_faulty, crate::proofs::Fronts::end_line_stands, crate::proofs::CursorLines::rest_past))]
+#[tactic(auto, using(crate::proofs::CursorLines::rest_of_passed, crate::proofs::CursorLines::rest_of_all, crate::proofs::Reading::few_kinds, crate::proofs::Reading::few_fields, crate::proofs::Reading::few_roots, crate::proofs::Reading::few_owners, crate::proofs::Reading::kept_on, crate::proofs::Reading::kept_opening, crate::proofs::Fronts::head_starts, crate::proofs::Fronts::head_goes_on, crate::proofs::Fronts::head_misplaced, crate::proofs::Fronts::head_ends_here, crate::proofs::Fronts::head_over, crate::proofs::Fronts::head_faulty, crate::proofs::LinesPassed::none_passed, crate::proofs::LinesPassed::later_here, crate::proofs::LinesPassed::later_over, crate::proofs::LinesPassed::left_where_faulty, crate::proofs::LinesPassed::left_at_end, crate::proofs::Fronts::end_line_stands, crate::proofs::CursorLines::rest_past))]
 fn add_head(draft: &mut Draft, alloc: Global, cursor: &mut Cursor) -> Result<(), ParseError>
     requires first { draft_shown draft.old ≡ draft_at Second Opening }
     ensures exact { Answers (λ _. (draft_shown draft.new, end_at cursor.new.lines (past_of cursor.new))) result (head_end cursor.old.lines (past_of cursor.old)) }
-    ensures rest { IfOk result (λ _. IsRestOf cursor.old cursor.new) }
+    ensures rest { IsRestOf cursor.old cursor.new }
+    ensures later { IfOk result (λ _. AreTheLater cursor.old cursor.new) }
+    ensures left { IfErr result (λ error. AreLeftFrom error cursor.old.lines cursor.new.lines) }
     ensures number { IfOk result (λ _. (end_at cursor.new.lines (past_of cursor.new)).line ≡ cursor.new.number) }
 {
     'lines: while let Some(next) = cursor.peek() {
@@ -200,9 +209,12 @@ fn add_head(draft: &mut Draft, alloc: Global, cursor: &mut Cursor) -> Result<(),
 }
 
 /// What the lines of declarations declare.
+#[tactic(auto, using(crate::proofs::CursorLines::rest_of_all))]
 fn head_draft(alloc: Global, cursor: &mut Cursor) -> Result<Draft, ParseError>
     ensures exact { Answers (λ draft. (draft_shown draft, end_at cursor.new.lines (past_of cursor.new))) result (head_end cursor.old.lines (past_of cursor.old)) }
-    ensures rest { IfOk result (λ _. IsRestOf cursor.old cursor.new) }
+    ensures rest { IsRestOf cursor.old cursor.new }
+    ensures later { IfOk result (λ _. AreTheLater cursor.old cursor.new) }
+    ensures left { IfErr result (λ error. AreLeftFrom error cursor.old.lines cursor.new.lines) }
     ensures number { IfOk result (λ _. (end_at cursor.new.lines (past_of cursor.new)).line ≡ cursor.new.number) }
 {
     let mut draft = Draft::at(alloc, Version::Second, Section::Opening)?;
@@ -215,10 +227,12 @@ fn head_draft(alloc: Global, cursor: &mut Cursor) -> Result<Draft, ParseError>
 ///
 /// # Errors
 ///
-/// As those of `parse_head`.
+/// As those of `parse_head`. At a `Fault` its line is the next that is left, or none is left.
+#[tactic(auto, using(crate::proofs::LinesPassed::left_at_end))]
 pub fn read_head(alloc: Global, cursor: &mut Cursor) -> Result<Head, ParseError>
     ensures exact { Answers (λ head. (head, cursor.new.number)) result (head_in cursor.old.lines (past_of cursor.old)) }
-    ensures rest { IfOk result (λ _. IsRestOf cursor.old cursor.new) }
+    ensures rest { IsRestOf cursor.old cursor.new }
+    ensures left { IfErr result (λ error. AreLeftFrom error cursor.old.lines cursor.new.lines) }
     ensures within { IfOk result (λ head. IsHeadWithinLimits head) }
 {
     let draft = head_draft(alloc, cursor)?;
@@ -236,9 +250,9 @@ pub fn read_head(alloc: Global, cursor: &mut Cursor) -> Result<Head, ParseError>
 ///
 /// # Errors
 ///
-/// `Fault` with the first fault of the lines before the `op` line. Where they have none and a further one must follow, the
-/// fault is at the `op` line: 3 or 1 if its bytes have that fault, in this order, and else 4. Where the input ends without
-/// an `op` line it is 4 at one more than the number of lines. `Memory` where memory runs out.
+/// `Fault` with the first fault of the lines before the `op` line. If they have none and a further one must follow, the
+/// fault is at the `op` line: 3 or 1 if its bytes have that fault, in this order, and else 4. If the input ends without
+/// an `op` line, it is 4 at one more than the number of lines. `Memory` if memory runs out.
 pub fn parse_head(alloc: Global, input: &[u8], line: u32) -> Result<(Head, u32), ParseError>
     requires few { length (lines_of input.now) + 1 < 2 ^ 32 }
     requires counted { 1 ≤ line }

@@ -128,7 +128,7 @@ fn begun(draft: &Draft) -> bool
     declarations::groups_begun(draft.text.fields.items()) == draft.text.kinds.items().len()
 }
 
-/// A field, or where each kind has one the count of nodes of the first kind.
+/// A field, or if each kind has one, the count of nodes of the first kind.
 fn in_fields(draft: &mut Draft, alloc: Global, word: &[u8], words: &mut Words) -> Result<(), Stop>
     requires few_kinds { length draft.old.text.kinds ≤ 4 }
     ensures { Gives (λ _. draft_shown draft.new) result (in_fields (draft_shown draft.old) word.now words.old) }
@@ -345,7 +345,7 @@ fn in_commit(
     Ok(())
 }
 
-/// Adds what a line declares, by its first word and the words after it. Where entry lines of a commit must follow, they
+/// Adds what a line declares, by its first word and the words after it. If entry lines of a commit must follow, they
 /// alone may stand.
 pub(crate) fn in_place(
     draft: &mut Draft,

@@ -1,9 +1,10 @@
 //! The version line with which a document or a target begins.
 
-ghost use Rattle.std.specs.Prelude.{◌≡◌, Some, IfOk};
+ghost use Rattle.std.specs.Prelude.{◌≡◌, Some, IfErr};
 ghost use Rattle.oa_text.specs.Shown.{line_shown};
 ghost use Rattle.line_words.specs.Answered.{Reads, Answers};
-ghost use Rattle.norm_parser.specs.Cursors.{past_of, IsRestOf};
+ghost use Rattle.norm_parser.specs.Cursors.{past_of, IsRestOf, AreTheLater};
+ghost use Rattle.norm_parser.specs.Instruction.{AreLeftAt};
 ghost use Rattle.norm_parser.specs.Version.{numbered_version, version_said, line_version, after_version, after_second_version};
 
 use crate::cursor::Cursor;
@@ -33,7 +34,7 @@ fn version_said(name: &[u8], word: &[u8], words: &mut Words) -> Result<Option<Ve
     Ok(Some(declarations::version(words)?))
 }
 
-/// The version that a line says: `None` where it is skipped.
+/// The version that a line says: `None` if it is skipped.
 fn line_version(name: &[u8], line: Line) -> Result<Option<Version>, Fault>
     ensures { Reads (λ said. said) result (line_version name.now (line_shown line.entry)) }
 {
@@ -49,12 +50,14 @@ fn line_version(name: &[u8], line: Line) -> Result<Option<Version>, Fault>
 ///
 /// # Errors
 ///
-/// `Fault` with the first fault of the lines up to the version line; where there is none and no version line, it is 4 at
-/// one more than the number of lines.
-#[tactic(auto, using(crate::proofs::CursorLines::rest_of_passed, crate::proofs::Versions::version_here, crate::proofs::Versions::version_skipped, crate::proofs::Versions::version_faulty))]
+/// `Fault` with the first fault of the lines up to the version line; if there is neither a fault nor a version line, it is 4
+/// at one more than the number of lines. The lines after the fault's line are left.
+#[tactic(auto, using(crate::proofs::CursorLines::rest_of_passed, crate::proofs::CursorLines::rest_of_all, crate::proofs::LinesPassed::none_passed, crate::proofs::LinesPassed::one_passed, crate::proofs::LinesPassed::later_next, crate::proofs::LinesPassed::later_after, crate::proofs::LinesPassed::left_over, crate::proofs::Versions::version_here, crate::proofs::Versions::version_skipped, crate::proofs::Versions::version_faulty))]
 pub fn read_version(name: &[u8], cursor: &mut Cursor) -> Result<Version, ParseError>
     ensures exact { Answers (λ version. (cursor.new.number, version)) result (after_version name.now (past_of cursor.old) cursor.old.lines) }
-    ensures rest { IfOk result (λ _. IsRestOf cursor.old cursor.new) }
+    ensures rest { IsRestOf cursor.old cursor.new }
+    ensures later { AreTheLater cursor.old cursor.new }
+    ensures left { IfErr result (λ error. AreLeftAt error cursor.old.lines cursor.new.lines) }
 {
     'lines: while let Some(line) = cursor.take() {
         match line_version(name, line) {
@@ -70,11 +73,15 @@ pub fn read_version(name: &[u8], cursor: &mut Cursor) -> Result<Version, ParseEr
 ///
 /// # Errors
 ///
-/// `Fault` with the first fault of the lines up to the version line, where `1` in place of `2` is 4; where there is none and
-/// no version line, it is 4 at one more than the number of lines.
+/// `Fault` with the first fault of the lines up to the version line; `1` in place of `2` is fault 4 there. If there is
+/// neither a fault nor a version line, it is 4 at one more than the number of lines. The lines after the fault's line are
+/// left.
+#[tactic(auto, using(crate::proofs::LinesPassed::left_before))]
 pub fn read_second_version(name: &[u8], cursor: &mut Cursor) -> Result<(), ParseError>
     ensures exact { Answers (λ _. cursor.new.number) result (after_second_version name.now (past_of cursor.old) cursor.old.lines) }
-    ensures rest { IfOk result (λ _. IsRestOf cursor.old cursor.new) }
+    ensures rest { IsRestOf cursor.old cursor.new }
+    ensures later { AreTheLater cursor.old cursor.new }
+    ensures left { IfErr result (λ error. AreLeftAt error cursor.old.lines cursor.new.lines) }
 {
     match read_version(name, cursor)? {
         Version::First => Err(Stop::Fault(Fault::Form).at(cursor.number() - 1)),

@@ -1,5 +1,5 @@
 -- The turn at which a replay stopped.
-use Rattle.std.proofs.Common.{◌≡◌, ℕ, true, false, List, Option, Some, None, Ok, Err, sym, ap, subst, ◌∙◌}
+use Rattle.std.proofs.Common.{◌≡◌, ℕ, true, false, List, Option, Some, None, Result, Ok, Err, sym, ap, subst, ◌∙◌}
 use Rattle.std.proofs.lemmas.Option.{same_Some}
 use Rattle.norm_lang.specs.Faults.{LineFault}
 use Rattle.line_words.specs.declared.fault.ParseError.{ParseError}
@@ -14,9 +14,10 @@ use Rattle.script_plans.specs.declared.fault.ShapeFault.{ShapeFault}
 use Rattle.script_plans.specs.Shapes.{shape_fault}
 use Rattle.script_plans.specs.Plans.{IsRunnable}
 use Rattle.messages.specs.declared.turns.StoppedTurn.{StoppedTurn}
+use Rattle.messages.specs.declared.turns.StoppedTurn.TheVariants.{NoMemory, Nowhere}
 use Rattle.statuses.specs.declared.status.Status.{Status}
-use Rattle.oa_cli.specs.verdicts.Stops.{IsStopOf, IsStopIn, IsStopRead, is_stopped, IsStopFor}
-use Rattle.oa_cli.proofs.Completing.{one_document, not_faulty, not_refused}
+use Rattle.oa_cli.specs.verdicts.Stops.{IsStopOf, IsStopAt, IsStopIn, IsStopRead, is_stopped, IsStopFor}
+use Rattle.oa_cli.proofs.Completing.{not_refused}
 
 -- ---- a document that can't be replayed
 
@@ -32,14 +33,24 @@ shaped_nowhere document number at is runs = clash (sym is ∙ runs.shape)
 -- ---- of bytes
 
 pub stop_of_read : (bytes : List ℕ) (document : Document) (turn : StoppedTurn) → document_read bytes ≡ Ok document → IsStopOf document turn → IsStopIn bytes turn
-stop_of_read bytes document turn read is other there = subst (λ (d : Document). IsStopOf d turn) (sym (one_document bytes document other read there)) is
+stop_of_read bytes document turn read is = subst (λ (r : Result Document LineFault). IsStopAt r turn) (sym read) is
 
-no_document : (bytes : List ℕ) (fault : LineFault) (turn : StoppedTurn) → document_read bytes ≡ Err fault → IsStopIn bytes turn
-no_document bytes fault turn not document is = absurd (not_faulty bytes document fault is not)
+-- none if they are no document
+no_document : (bytes : List ℕ) (fault : LineFault) → document_read bytes ≡ Err fault → IsStopIn bytes Nowhere
+no_document bytes fault not = subst (λ (r : Result Document LineFault). IsStopAt r Nowhere) (sym not) tt
 
-pub stop_of_none : (bytes : List ℕ) (error : ParseError) (fault : ParseFault) (turn : StoppedTurn) → error ≡ errors.Fault fault → Fails error (document_read bytes) → IsStopIn bytes turn
-stop_of_none bytes error fault turn is fails =
-    no_document bytes (record { line = fault.line; number = fault.number }) turn (subst (λ (e : ParseError). Fails e (document_read bytes)) is fails)
+pub stop_of_none : (bytes : List ℕ) (error : ParseError) (fault : ParseFault)
+    → error ≡ errors.Fault fault → Fails error (document_read bytes) → IsStopIn bytes Nowhere
+stop_of_none bytes error fault is fails =
+    no_document bytes (record { line = fault.line; number = fault.number }) (subst (λ (e : ParseError). Fails e (document_read bytes)) is fails)
+
+-- nothing without memory
+untold_at : (read : Result Document LineFault) → IsStopAt read NoMemory
+untold_at (Ok document) = tt
+untold_at (Err fault) = tt
+
+pub stop_without_memory : (bytes : List ℕ) → IsStopIn bytes NoMemory
+stop_without_memory bytes = untold_at (document_read bytes)
 
 -- ---- of a source, and for a status
 

@@ -1,10 +1,11 @@
 -- What is said of all bytes of a source, as it is judged.
-use Rattle.std.proofs.Common.{◌≡◌, ℕ, ◌+◌, ◌<◌, List, [], ◌++◌, length, Option, Some, None, ◌⊎◌, inl, inr, refl, sym, ap, subst, ◌∙◌, arith}
+use Rattle.std.proofs.Common.{◌≡◌, ℕ, ◌+◌, ◌<◌, ◌≤◌, List, [], ◌++◌, length, Option, Some, None, ◌⊎◌, inl, inr, refl, sym, ap, subst, ◌∙◌, arith}
 use Rattle.std.proofs.lemmas.List.{length-append, append-nil}
 use Rattle.std.specs.Option.{unwrap_or}
 use Rattle.std.specs.Io.KnownBytes.{Consumes, IsAtEnd}
 use Rattle.oa_text.specs.Causes.{Rose}
 use Rattle.statuses.specs.declared.status.Status.TheVariants as statuses
+use Rattle.command_input.specs.Inputs.{ReadsWithin}
 use Rattle.oa_cli.specs.declared.verdicts.verdict.Verdict.{Verdict}
 use Rattle.oa_cli.specs.declared.verdicts.verdict.Verdict.TheVariants as verdicts
 use Rattle.oa_cli.specs.verdicts.Telling.{NoFault, status_for}
@@ -20,13 +21,20 @@ unread limit Says old new before now verdicts.LongInput is = is
 unread limit Says old new before now verdicts.Memory is = is
 unread limit Says old new before now _ is = absurd is
 
+-- all bytes of a source, fewer than the limit, are no more than that
+at_most : (n limit : ℕ) → n < limit → n ≤ limit
+at_most n limit short = omega (arith, short)
+
+reads_within : (limit : ℕ) (old new : Option (List ℕ)) (bytes : List ℕ) → ReadsAll limit old new bytes → ReadsWithin limit old new
+reads_within limit old new bytes all = (bytes, all.read, at_most (length bytes) limit all.short)
+
 -- what is said of all its bytes is one, if that says of none that they weren't read
 pub read : (limit : ℕ) (Says : List ℕ → Verdict → Type 0) (old new : Option (List ℕ)) (before now : ℕ) (bytes : List ℕ) (verdict : Verdict)
     → (Says bytes verdicts.ReadFault → ⊥) → (Says bytes verdicts.LongInput → ⊥) → NoFault before now → ReadsAll limit old new bytes → Says bytes verdict
     → IsOfSource limit Says old new before now verdict
 read limit Says old new before now bytes verdicts.ReadFault unfailed short same all says = absurd (unfailed says)
 read limit Says old new before now bytes verdicts.LongInput unfailed short same all says = absurd (short says)
-read limit Says old new before now bytes verdicts.Memory unfailed short same all says = same
+read limit Says old new before now bytes verdicts.Memory unfailed short same all says = (same, reads_within limit old new bytes all)
 read limit Says old new before now bytes _ unfailed short same all says = (same, bytes, all, says)
 
 -- ---- what was read is what there was
@@ -50,7 +58,7 @@ all_read bytes read (Some p) (Some q) told consumes end =
 all_read bytes read (Some p) None told consumes end = absurd consumes
 all_read bytes read None new told consumes end = cc
 
--- what is said of its bytes, where it tells these
+-- what is said of the source's bytes, if it tells these
 said_of : (limit : ℕ) (Says : List ℕ → Verdict → Type 0) (old new : Option (List ℕ)) (before now : ℕ) (bytes : List ℕ) (verdict : Verdict) → old ≡ Some bytes
     → IsOfInput limit Says old new before now verdict → Says bytes verdict
 said_of limit Says old new before now bytes verdict told (same, read, all, says) =

@@ -51,7 +51,7 @@ none_rose before now same rose = omega arith
 source_told : (limit : ℕ) (Says : List ℕ → Verdict → Type 0) (old new : Option (List ℕ)) (before now : ℕ) (verdict : Verdict)
     → IsOfSource limit Says old new before now verdict → before < now → status_for verdict ≡ statuses.ReadFault
 source_told limit Says old new before now verdicts.ReadFault judged rose = refl
-source_told limit Says old new before now verdicts.Memory judged rose = absurd (none_rose before now judged rose)
+source_told limit Says old new before now verdicts.Memory judged rose = absurd (none_rose before now judged.0 rose)
 source_told limit Says old new before now _ judged rose = absurd (none_rose before now judged.0 rose)
 
 read_told : (request : Option Request) (old new : Option (List ℕ)) (before now : ℕ) (verdict : Verdict)

@@ -73,7 +73,7 @@ IsAnswer (Some (requests.OfDocument command)) left can status = IsAnsweredStatus
 IsAnswer (Some requests.OfCertificate) left can status = (status ≡ status_found (verdict_of can.certificate)) ⊎ (status ≡ statuses.Memory)
 IsAnswer (Some (requests.Workload count callers)) left can status = IsAnsweredStatus status
 
--- where nothing refuses it, and no call of the source or the sink fails, all is answered, or memory runs out
+-- if nothing refuses it, and no call of the source or the sink fails, all is answered, or memory runs out
 abbrev pub IsComplete : Option Request → Option (List ℕ) → ℕ → ℕ → ℕ → ℕ → Status → Type 0
 IsComplete request left read_before read_now write_before write_now status =
     (can : CanBeAnswered request left) → ¬ Rose read_before read_now → ¬ Rose write_before write_now → IsAnswer request left can status

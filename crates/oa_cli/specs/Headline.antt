@@ -17,8 +17,8 @@
 --     run_laws/specs/Source                      FollowsSource
 --     run_laws/specs/Each                        AtEachState
 --
--- and for `epochs` by EpochsTellOf (script_driver/specs/report_laws/EpochLines), HasEpochSourceRun (EpochSources), FollowsSource of epoch_runs/specs/Source,
--- Simulates (epoch_relation/specs/Simulated)
+-- and for `epochs` by EpochsTellOf (script_driver/specs/report_laws/EpochLines), HasEpochSourceRun (EpochSources), FollowsSource of
+-- epoch_runs/specs/Source, Simulates (epoch_relation/specs/Simulated)
 --
 -- and on from there to what each part says:
 --
@@ -94,9 +94,9 @@ IsGiven commands.Replay document events state = (r : Replaying) × (replay_given
 IsGiven _ document events state = ⊥
 
 -- There is a complete run of the document, in which the callers' steps may interleave in whatever order (`complete`), and replies and printed
--- counts are those of the one state in which it ends (`final`). A line says `phases`, `full`, `spent` or `unreached` exactly where the steps of
--- this run give cause to (`causes`). Where the text is proper (`source`), the printed replies are those of one run of it on memory that is never recycled:
--- `lines` of HasSourceRun, and `refined` and `begins` of its `run`; no slot is given out again while a validated guard names it:
+-- counts are those of the one state in which it ends (`final`). A line says `phases`, `full`, `spent` or `unreached` exactly if the steps of
+-- this run give cause to (`causes`). If the text is proper (`source`), the printed replies are those of one run of it on memory that is never
+-- recycled: `lines` of HasSourceRun, and `refined` and `begins` of its `run`; no slot is given out again while a validated guard names it:
 -- `guarded`; no value read from a recycled slot passes its check: `warned`. Of a text that a `use` line names (`legal`), the printed calls can
 -- be put in one order, each once and each caller's in its own order, in which a set, or a queue, that is empty at first gives each printed
 -- answer; a call printed `full`, `phases` or `unreached` changes nothing, and a spent one has its effect once or not at all.
@@ -110,7 +110,7 @@ pub record Promise (command : Command) (document : Document) (report : Report) :
   pub source : IsTakenForProper document.text → HasSourceRun document events state report
   pub legal : (words : List (List ℕ)) → IsNamed words document.text → HasLegalHistory report
 
--- Under epochs the run is one of the document's text as it is. Where the text is proper, or is one that a `use` line names (`source`), the
+-- Under epochs the run is one of the document's text as it is. If the text is proper, or is one that a `use` line names (`source`), the
 -- printed replies are those of one run of it on memory that is never recycled, and the base of each load is null or resident: `lines` of
 -- HasEpochSourceRun, and `simulated` and `begins` of its `run`. Of a text that a `use` line names the printed calls have a legal history
 -- (`legal`), as for `run`. Each caller has counted its restarts (`restarts`).

@@ -34,7 +34,7 @@ use Rattle.statuses.specs.declared.limits.TheConstants.{DOCUMENT_LIMIT, CERTIFIC
 use Rattle.statuses.specs.declared.status.Status.{Status}
 use Rattle.statuses.specs.declared.status.Status.TheVariants as statuses
 use Rattle.command_input.specs.Commands.{request_of}
-use Rattle.command_input.specs.Inputs.{ReadsFewer}
+use Rattle.command_input.specs.Inputs.{ReadsFewer, ReadsWithin}
 use Rattle.oa_cli.specs.verdicts.Telling.{NoFault}
 use Rattle.command_input.specs.declared.command.Command.{Command}
 use Rattle.command_input.specs.declared.command.Command.TheVariants as commands
@@ -55,14 +55,14 @@ pub record Untouched (old new : Option (List ℕ)) (before now : ℕ) : Type 0 w
   pub faults : NoFault before now
 
 -- the answers of a command to the calls of a document: for `run` they tell of a complete run of it, for `replay` of the one that the
--- turns of its schedule give, for `epochs` of a complete run of it under epochs. What it is to tell of a run say `TellsOf` and `EpochsTellOf`
+-- turns of its schedule give, for `epochs` of a complete run of it under epochs. `TellsOf` and `EpochsTellOf` say what it is to tell of a run
 abbrev pub IsAnswered : Command → Document → Report → Type 0
 IsAnswered commands.Run document report = IsRunReport document report
 IsAnswered commands.Replay document report = IsReplayReport document report
 IsAnswered commands.Epochs document report = IsEpochReport document report
 IsAnswered _ document report = ⊥
 
--- a command that makes a document's calls refuses its shape: `replay` and `judge make` also where its turns are refused
+-- a command that makes a document's calls refuses its shape: `replay` and `judge make` also if its turns are refused
 abbrev pub IsShapeRefused : Command → Document → RunFault → Type 0
 IsShapeRefused commands.Run document fault = IsFaultOf document fault
 IsShapeRefused commands.Epochs document fault = IsFaultOf document fault
@@ -88,7 +88,7 @@ takes_rules commands.Show = false
 takes_rules commands.Upgrade = false
 
 -- the certificate that `judge make` writes: that of the run which the turns of the schedule give. Some call has no reply, or ended without a
--- slot or a phase, exactly where some line that `replay` prints of this run is short
+-- slot or a phase, exactly if some line that `replay` prints of this run is short
 pub record IsCertified (document : Document) (spelling : List ℕ) (short : Bool) : Type 0 where
   pub certificate : Certificate
   pub made : IsCertificateOf document certificate
@@ -161,12 +161,12 @@ IsOfCertificateBytes bytes (verdicts.BadDocument fault) = certificate_read bytes
 IsOfCertificateBytes bytes verdicts.Memory = Unit {0}
 IsOfCertificateBytes bytes verdict = IsOfCertificateRead bytes verdict
 
--- a source was not read to its end: a read failed at `ReadFault`, where fewer bytes than the limit were read; at `LongInput` that many
--- were; or memory ran out
+-- a source was not read to its end: at `ReadFault` a read failed, and fewer bytes than the limit were read; at `LongInput` as many as the
+-- limit were read; at `Memory` memory ran out, and no more than the limit were read
 abbrev pub IsUnread : ℕ → Option (List ℕ) → Option (List ℕ) → ℕ → ℕ → Verdict → Type 0
 IsUnread limit old new before now verdicts.ReadFault = Rose before now × ReadsFewer limit old new
 IsUnread limit old new before now verdicts.LongInput = NoFault before now × (bytes : List ℕ) × Consumes old new bytes × (length bytes ≡ limit)
-IsUnread limit old new before now verdicts.Memory = NoFault before now
+IsUnread limit old new before now verdicts.Memory = NoFault before now × ReadsWithin limit old new
 IsUnread limit old new before now _ = ⊥
 
 -- all bytes of a source, fewer than the limit, or why it was not read to its end
@@ -178,7 +178,7 @@ IsReadTo limit old new before now (Err verdict) = IsUnread limit old new before 
 abbrev pub IsOfInput : ℕ → (List ℕ → Verdict → Type 0) → Option (List ℕ) → Option (List ℕ) → ℕ → ℕ → Verdict → Type 0
 IsOfInput limit Says old new before now verdict = NoFault before now × (bytes : List ℕ) × ReadsAll limit old new bytes × Says bytes verdict
 
--- the verdict on what was read of a source, no more bytes than the limit, where this is said of all its bytes: a read failed at `ReadFault`
+-- the verdict on what was read of a source, no more bytes than the limit, if this is said of all its bytes: a read failed at `ReadFault`
 -- alone, and at `LongInput` alone there were too many
 abbrev pub IsOfSource : ℕ → (List ℕ → Verdict → Type 0) → Option (List ℕ) → Option (List ℕ) → ℕ → ℕ → Verdict → Type 0
 IsOfSource limit Says old new before now verdicts.ReadFault = IsUnread limit old new before now verdicts.ReadFault
@@ -203,7 +203,7 @@ IsOfRequest (Some (requests.Workload count callers)) old new before now verdict 
 abbrev pub IsJudged : List (List ℕ) → Option (List ℕ) → Option (List ℕ) → ℕ → ℕ → Verdict → Type 0
 IsJudged words old new before now verdict = IsOfRequest (request_of words) old new before now verdict
 
--- the other way round: where the sink's count rose, a fault of writing is told; where the source's count rose, a fault of reading is,
+-- the other way round: if the sink's count rose, a fault of writing is told; if the source's count rose, a fault of reading is,
 -- or one of writing, for which the sink's count rose too
 pub record FaultsAreTold (read_before read_now write_before write_now : ℕ) (status : Status) : Type 0 where
   pub reading : read_before < read_now → (status ≡ statuses.ReadFault) ⊎ ((status ≡ statuses.WriteFault) × Rose write_before write_now)

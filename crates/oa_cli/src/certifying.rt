@@ -37,7 +37,7 @@ fn certificate_shown(alloc: Global, document: &Document, certificate: &Certifica
     requires { IsCertificateOf document.now certificate.now }
     ensures { IsOfDocument Command.Certify document.now result }
 {
-    // A law: where a certificate falls short, the replay's report does.
+    // A law: if a certificate falls short, the replay's report does.
     short_is_told();
     match show_certificate(alloc, certificate) {
         Ok(spelling) => Verdict::Certified {

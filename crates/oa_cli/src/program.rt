@@ -20,7 +20,7 @@ use std::rt::Env;
 use std::thread::Threads;
 use std::{env, io};
 
-/// The words after the program's name, or `None` where memory runs out. Where they aren't text there are no words.
+/// The words after the program's name, or `None` if memory runs out. If they aren't text, there are no words.
 fn command_words<R: Env + AllocGlobal>(rt: &R) -> Option<Vec<String>> {
     let mut words = Vec::new(rt.alloc());
     match env::args(rt) {
@@ -56,7 +56,7 @@ pub fn serve<R: Threads + Sync, S: Source, W: Write, G: Gate + Sync>(
     finish(out, status)
 }
 
-/// Says that memory ran out, where the words could not be had.
+/// Says that memory ran out. It is called if the words could not be had.
 fn refuse_for_memory<W: Write>(out: &mut StdSink<W>) -> Status
     ensures { IsSaid out.old.written out.new.written out.old.faults out.new.faults (text_for Verdict.Memory) Status.Memory result }
 {
@@ -77,7 +77,7 @@ fn answer<R: Env + AllocGlobal + Threads + Sync, S: Source, W: Write + Drop>(
     }
 }
 
-/// All that the program does: it answers standard input on standard output, buffered where there is memory for that,
+/// All that the program does: it answers standard input on standard output, buffered if there is memory for that,
 /// writes a message on the status and on what was read to `errors`, and answers the number with which to end. A fault of
 /// `errors` changes nothing.
 pub fn run_program<R: Env + Input + Print + AllocGlobal + Threads + Sync, E: Write + Drop>(

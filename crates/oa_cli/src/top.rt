@@ -271,7 +271,7 @@ fn judge<R: Threads + Sync, S: Source, G: Gate + Sync>(
 /// text is accepted, or its text, or the whole document, or what the text compiles to, or a certificate of its replay, or what is
 /// found of a certificate, or what the answers of a workload add up to, or why there are none. The first clause has three parts:
 /// what was read and judged, what was said, and the status. The second says that each fault is told. The third says that all is
-/// answered which nothing refuses, where memory suffices; by the first the whole text was written then, and each call has a reply
+/// answered which nothing refuses, if memory suffices; by the first the whole text was written then, and each call has a reply
 /// at `Done`; of a certificate what is found of it is told. The fourth says what `run`, `replay` and `epochs` promise, with
 /// all the premises: see `Headline`. The gate is handed to the callers of `run`, of `epochs` and of a workload; it changes nothing but how
 /// their steps interleave.

@@ -20,7 +20,7 @@ use Rattle.replay_steps.specs.Entries.{HasRooms}
 use Rattle.replay_steps.specs.Turns.{made_to, refused}
 use Rattle.oa_core.specs.declared.replaying.ReplayError.{ReplayError}
 use Rattle.oa_core.specs.Shown.{Terms, Progress, replay_by, shown, bare, bared, told, refusal_of, error_of, final_of, answer_of}
-use Rattle.core_entries.proofs.Calling.{runnable}
+use Rattle.core_ground.proofs.Runnable.{runnable}
 
 complete_end : (pair : Paired) (setting : Setting) (scripts : List (List Call)) (fuel : ℕ) (schedule : List Turn) (r : Replaying) (final : Final) → IsSound pair → IsSetting setting → Fits pair.target setting
     → 1 ≤ fuel → replayed (replay_of pair.target setting scripts fuel) schedule ≡ Ok r → IsCompleteRun pair.target setting scripts fuel r.events r.state → core_of final ≡ r.state

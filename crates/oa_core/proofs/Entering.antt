@@ -15,7 +15,7 @@ use Rattle.replay_steps.specs.Entries.{core_part, fresh_entries}
 use Rattle.replay_steps.proofs.Fresh.{fresh_cores, fresh_rooms}
 use Rattle.replay_steps.proofs.Rooms.{script_calls, call_is}
 use Rattle.oa_core.specs.Shown.{Terms, Progress, replay_by, shown, SuitsReplay, IsUnderWay}
-use Rattle.core_entries.proofs.Calling.{runnable}
+use Rattle.core_ground.proofs.Runnable.{runnable}
 
 pub starts_at : (t : Terms) (now : Progress) → length t.scripts ≡ t.setting.sizes.callers → now.words ≡ (core_start t.pair.target t.setting).words → now.entries ≡ fresh_entries 0 t.scripts → now.steps ≡ 0
     → shown now ≡ replay_start (replay_by t)

@@ -68,7 +68,7 @@ Answers (Err (errors.LongReplay steps)) fuel given = IsRefused (LongReplay steps
 -- ---- runs of scripts
 
 -- the turns give a complete run of the scripts, which ends so: each caller's entry belongs, each word is lawful, and nothing leads out of
--- the row. Where the text is proper, under optimistic access, the run is one of the text on memory that is never recycled
+-- the row. If the text is proper, under optimistic access, the run is one of the text on memory that is never recycled
 pub record EndsRun (target : Target) (text : Text) (setting : Setting) (scripts : List (List Call)) (fuel : ℕ) (schedule : List Turn) (final : Final) : Type 0 where
   pub replaying : Replaying
   pub given : replayed (replay_of target setting scripts fuel) schedule ≡ Ok replaying

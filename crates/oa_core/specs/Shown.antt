@@ -60,7 +60,7 @@ told (Err stop) now = Err (refusal_of stop)
 
 -- ---- one step of a caller
 
--- what a caller does next: it takes a call and makes a step, or it makes a step; nothing where it has no step to take
+-- what a caller does next: it takes a call and makes a step, or it makes a step; nothing if it has no step to take
 abbrev pub next_of : ℕ → List Call → Entry → Option Move
 next_of fuel script e =
     if is_idle e.routine then option_map moves.Takes (slice_get script (length e.replies))

@@ -19,7 +19,7 @@ pub fn runs_in_row(barred: &Barred, setting: &Setting)
     setting.kept();
 }
 
-/// Where a turn needs a step of nobody, a replay under a longer limit stops at the same turn: so what `whole_turns` answers holds of
+/// If a turn needs a step of nobody, a replay under a longer limit stops at the same turn: so what `whole_turns` answers holds of
 /// shorter ones too.
 pub fn longer_stops_alike()
     ensures { LongerStopsAlike }

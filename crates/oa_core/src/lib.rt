@@ -9,7 +9,8 @@ mod stopping;
 mod turns;
 
 pub use caller_steps::{Call, Reply, Setting, SettingFault};
-pub use core_entries::{Entry, LoadedTarget, PlainWords, Port, Sign, Signs};
+pub use core_entries::{Entry, Sign, Signs};
+pub use core_ground::{LoadedTarget, PlainWords, Port};
 pub use replaying::{CallList, CoreState, ReplayError, replay};
 pub use schedule_turns::{StepKind, Turn};
 pub use stopping::whole_turns;

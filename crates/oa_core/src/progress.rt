@@ -11,8 +11,9 @@ ghost use Rattle.oa_core.specs.Shown.{replay_by, shown, bared, told, next_of, ne
 
 use crate::replaying::CallList;
 use caller_steps::{Call, Program, Setting};
+use core_entries::Entry;
 use core_entries::step::step_on;
-use core_entries::{Entry, PlainWords, Prepared, Runs};
+use core_ground::{PlainWords, Prepared, Runs};
 use replay_steps::counting::{is_at_limit, one_more};
 use replay_steps::looking::{call_at, script_at};
 use std::marker::Model;
@@ -80,7 +81,7 @@ fn next_call(entry: &Entry, script: &[Call]) -> Option<Move>
     call_at(script, entry.replies().len()).map(Move::Takes)
 }
 
-/// What a caller does next, by its script; nothing where it has no step to take.
+/// What a caller does next, by its script; nothing if it has no step to take.
 #[inline(always)]
 fn next_of(fuel: u64, scripts: &[CallList], caller: u32, entry: &Entry) -> Option<Move>
     ensures { result ≡ next_of fuel (script_of scripts.now caller) entry.now.core }
@@ -95,7 +96,7 @@ fn next_of(fuel: u64, scripts: &[CallList], caller: u32, entry: &Entry) -> Optio
 }
 
 impl<'a> Terms<'a> {
-    /// What a caller does next; nothing where it has no step to take, or doesn't exist.
+    /// What a caller does next; nothing if it has no step to take, or doesn't exist.
     #[inline(always)]
     pub(crate) fn next_of(&self, now: &Progress, caller: u32) -> Option<Move>
         ensures { result ≡ next_in self.now caller now.now }

@@ -14,7 +14,8 @@ use crate::limits::MOST_STEPS;
 use crate::progress::{Progress, Stop, Terms};
 use barrier_check::Barred;
 use caller_steps::{Call, Setting};
-use core_entries::{Entry, PlainWords, Prepared};
+use core_entries::Entry;
+use core_ground::{PlainWords, Prepared};
 use norm_lang::list::Listed;
 use replay_steps::entries::put_entries;
 use schedule_turns::Turn;
@@ -199,10 +200,10 @@ fn replay_prepared<'a>(
 }
 
 /// Replays scripts, one for each caller: the turns of a schedule in order, and then each caller to its end, in the order of
-/// their numbers. A caller has a step to take where its operation runs or its script has a further call, and no operation
-/// of it was spent. An operation is spent where `fuel` steps were made for it and it hasn't ended.
+/// their numbers. A caller has a step to take if its operation runs or its script has a further call, and no operation
+/// of it was spent. An operation is spent if `fuel` steps were made for it and it hasn't ended.
 ///
-/// The state is that of the complete run which the turns give. Where the target's text is proper, this run is one of the text on memory
+/// The state is that of the complete run which the turns give. If the target's text is proper, this run is one of the text on memory
 /// that is never recycled: see `FollowsSource`. In this state, as in each to which events lead, nothing leads out of
 /// the row.
 ///

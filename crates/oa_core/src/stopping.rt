@@ -13,7 +13,7 @@ use crate::progress::{Progress, Terms};
 use crate::replaying::{CallList, replay_limit, start};
 use barrier_check::Barred;
 use caller_steps::Setting;
-use core_entries::Prepared;
+use core_ground::Prepared;
 use schedule_turns::Turn;
 use std::alloc::{AllocError, Global};
 
@@ -73,7 +73,7 @@ fn count_prepared<'a>(
     count_by(alloc, &terms, schedule)
 }
 
-/// How many turns of a schedule `replay` makes whole before the one at which it stops; all of them, where it stops at none.
+/// How many turns of a schedule `replay` makes whole before the one at which it stops; all of them, if it stops at none.
 ///
 /// # Errors
 /// Memory ran out, before the first step.

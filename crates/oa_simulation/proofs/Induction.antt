@@ -101,7 +101,7 @@ is_caller state callers c e count at = let within = slice_get_within state.entri
 pub entry_seen : (setting : Setting) (state : CoreState) (c : ℕ) (e : Entry) → slice_get state.entries c ≡ Some e → (view setting state).who c ≡ e
 entry_seen setting state c e at = ap (λ (o : Option Entry). unwrap_or o (idle_entry c)) at
 
--- what becomes of entries beside their callers, where one is another
+-- what becomes of entries beside their callers if one is replaced by another
 pub called_put : (target : Target) (n : ℕ) (who who' : ℕ → Entry) (c : ℕ) (e : Entry) → ((d : ℕ) → d < n → is_idle (who d).routine ≡ false → is_call target (who d).running.call ≡ true) → (is_idle e.routine ≡ false → is_call target e.running.call ≡ true) → who' ≡ put who c e
     → (d : ℕ) → d < n → is_idle (who' d).routine ≡ false → is_call target (who' d).running.call ≡ true
 called_put target n who who' c e old new is d lt =

@@ -1,4 +1,4 @@
--- An exchange of the text succeeds exactly where the source's does.
+-- An exchange of the text succeeds exactly if the source's does.
 use Rattle.std.proofs.Common.{ℕ, ◌≡◌, ◌∙◌, Bool, true, false, List, [], Option, Some, None, sym, ap, subst, refl, if◌then◌else◌}
 use Rattle.std.specs.Prelude.{slice_get, slice_index, option_map, is_some}
 use Rattle.std.proofs.lemmas.Option.{slice_get_within}

@@ -38,7 +38,7 @@ pub record Facts (t : Plan) (w : World) : Type 0 where
   pub guarded_is_resident : (c r : ℕ) → w.shared.protects c r ≢ 0 → Resident t w.shared (w.shared.protects c r)
   pub hazard_is_the_slot_of_what_is_guarded : (c r : ℕ) → w.shared.protects c r ≢ 0 → w.shared.memory (Hazard c r) ≡ t.home (w.shared.protects c r)
   -- what a field of a guarded object names has the slot of a guarded name only if it is that name: so an exchange finds the expected
-  -- word there exactly where the source finds the expected name
+  -- word there exactly if the source finds the expected name
   pub content_of_what_is_guarded_is_told_by_its_word : (c : ℕ) → c < t.setting.sizes.callers → (w.who c).entry.routine ≡ At
       → (m : Trail t) × ((o e g : ℕ) → spared t m.walk o ≡ false → w.shared.protects c o ≢ 0 → w.shared.protects c e ≢ 0 → Apart t (link w.shared (w.shared.protects c o) g) (w.shared.protects c e))
   -- registers hold the source's values, as far as they are trusted on the way that the caller came

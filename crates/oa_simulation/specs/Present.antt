@@ -13,7 +13,7 @@ use Rattle.core_runs.specs.Views.{CoreView, view}
 use Rattle.oa_simulation.specs.sim_relation.Naming.{present_at}
 use Rattle.oa_simulation.specs.Shadow.{Shadow, shadow_run, shadow_start, home_of}
 
--- the number of the initial node at a place among those of its kind, counted from 1; 0 where there is none
+-- the number of the initial node at a place among those of its kind, counted from 1; 0 if there is none
 abbrev pub node_number : Setting → ℕ → ℕ → ℕ
 node_number setting t place = if nat_lt place (slice_index setting.nodes t) then suc (sum_before setting.nodes t + place) else 0
 

@@ -76,7 +76,7 @@ QuietIsKept target text setting = IsProper text → KeepsQuiet target text setti
 
 -- every state that a core run comes to is in the relation with the run's shadow; the run's image is a source run that leads to the
 -- source state of the shadow, the replies of each caller agree with it, and each exchange of the text that a caller makes next
--- succeeds exactly where the source's does
+-- succeeds exactly if the source's does
 pub record Simulates (target : Target) (text : Text) (setting : Setting) (events : List CoreEvent) (state : CoreState) : Type 0 where
   pub refined : Refined target text setting events state
   pub related : Related target text setting state (shadow target text setting events)

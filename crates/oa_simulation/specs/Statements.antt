@@ -32,7 +32,7 @@ use Rattle.oa_simulation.specs.sim_relation.Callers.{replies_of}
 use Rattle.oa_simulation.specs.Shadow.{shadow, image}
 use Rattle.caller_parts.specs.declared.setting.Reclamation.TheVariants.{Optimistic}
 
--- a caller's replies against the source's: those of the entry, and where a call runs maybe one more
+-- a caller's replies against the source's: those of the entry, and maybe one more if a call runs
 abbrev pub AgreesWith : Bool → List SourceReply → List SourceReply → Type 0
 AgreesWith true own source = source ≡ own
 AgreesWith false own source = (source ≡ own) ⊎ ((reply : SourceReply) × (source ≡ own ++ reply ∷ []))
@@ -72,7 +72,7 @@ caller_makes text memory (Some caller) = performed_makes text.fields memory (per
 abbrev pub source_makes : Text → SourceMachine → ℕ → Bool
 source_makes text machine c = caller_makes text machine.memory (slice_get machine.callers c)
 
--- an exchange of the text succeeds exactly where the source's does
+-- an exchange of the text succeeds exactly if the source's does
 abbrev pub ExchangesAgree : Target → Text → Setting → CoreState → SourceMachine → Type 0
 ExchangesAgree target text setting state machine = (c : ℕ) (e : Entry) (x : CasEntry) (a : WordAccess) → slice_get state.entries c ≡ Some e → core_exchange target e e.routine ≡ Some x
     → wants target e ≡ Some a → succeeds x e.hand.registers (found_by setting state a) ≡ source_makes text machine c

@@ -24,8 +24,8 @@ pub fn quiet_steps_keep(barred: &Barred, setting: &Setting)
 
 /// For a proper text, under optimistic access: whatever the callers do and however their steps interleave, the events that the steps give
 /// to the source, in their order, are a run of the source machine, on memory that is never recycled. Each caller's replies are the
-/// source's, or those but one more that the source has given already to the call that runs; each exchange of the text that a caller makes
-/// next succeeds exactly where the source's does; and the state is in the relation with the source's.
+/// source's, or all of them but the last, which the source has given already to the call that runs; each exchange of the text that a
+/// caller makes next succeeds exactly if the source's does; and the state is in the relation with the source's.
 pub fn refines(barred: &Barred, setting: &Setting)
     requires fits { Fits barred.now.target setting.now }
     requires optimistic { setting.now.reclamation ≡ Optimistic }

@@ -30,6 +30,6 @@ abbrev pub fits_at : TextLine → TextToken → Option ℕ → Result (Option �
 fits_at line token None = Err (faults.Number line.number token.column)
 fits_at line token (Some n) = Ok (Some n)
 
--- what a token of a line says as a number: none where it isn't spelled as one
+-- what a token of a line says as a number: none if it isn't spelled as one
 abbrev pub number_read : TextLine → TextToken → Result (Option ℕ) TextFault
 number_read line token = if is_numeral token.bytes then fits_at line token (fitting (number_of token.bytes)) else Ok None

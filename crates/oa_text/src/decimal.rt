@@ -1,6 +1,6 @@
 //! Numbers in decimal, with no leading zeros.
 
-ghost use Rattle.std.specs.Prelude.{◌≡◌, ◌≤◌, ◌<◌, ◌++◌, OnOk, drop, decimal};
+ghost use Rattle.std.specs.Prelude.{◌≡◌, ◌≤◌, ◌<◌, ◌++◌, OnOk, OnErr, drop, decimal};
 ghost use Rattle.oa_text.specs.Causes.{HasCause};
 ghost use Rattle.oa_text.specs.Written.{Writes};
 
@@ -38,7 +38,8 @@ pub fn write_decimal<K: Sink>(out: &mut K, n: u64) -> Result<(), Failed>
 #[tactic(auto, using(std::proofs::lemmas::Fmt::decimal_digit))]
 fn put_digit(out: &mut Vec<u8>, n: u8) -> Result<(), AllocError>
     requires { n < 10 }
-    ensures { OnOk result (out.new.items ≡ out.old.items ++ decimal n) }
+    ensures ok { OnOk result (out.new.items ≡ out.old.items ++ decimal n) }
+    ensures err { OnErr result (out.new.items ≡ out.old.items) }
 {
     out.push(b'0' + n)?;
     Ok(())
@@ -48,9 +49,10 @@ fn put_digit(out: &mut Vec<u8>, n: u8) -> Result<(), AllocError>
 ///
 /// # Errors
 ///
-/// `AllocError` where memory runs out.
+/// `AllocError` if memory runs out. Nothing is added then.
 pub fn put_decimal(alloc: Global, out: &mut Vec<u8>, n: u64) -> Result<(), AllocError>
-    ensures { OnOk result (out.new.items ≡ out.old.items ++ decimal n) }
+    ensures ok { OnOk result (out.new.items ≡ out.old.items ++ decimal n) }
+    ensures err { OnErr result (out.new.items ≡ out.old.items) }
 {
     if n < 10 {
         return put_digit(out, n as u8);

@@ -56,8 +56,8 @@ fn value(digits: &[u8]) -> Option<u64>
     value
 }
 
-/// The number that bytes spell: `None` where they aren't `0` or a digit string that begins with 1 to 9, and `Some(None)`
-/// where they are and the number exceeds 2^64 - 1.
+/// The number that bytes spell: `None` if they aren't `0` or a digit string that begins with 1 to 9, and `Some(None)`
+/// if they are and the number exceeds 2^64 - 1.
 pub fn read_numeral(bytes: &[u8]) -> Option<Option<u64>>
     ensures { result ≡ (if is_numeral bytes.now then Some (fitting (number_of bytes.now)) else None) }
 {
@@ -68,11 +68,11 @@ pub fn read_numeral(bytes: &[u8]) -> Option<Option<u64>>
     }
 }
 
-/// The number that a token of a line spells: `None` where it isn't `0` or a digit string that begins with 1 to 9.
+/// The number that a token of a line spells: `None` if it isn't `0` or a digit string that begins with 1 to 9.
 ///
 /// # Errors
 ///
-/// `Number` at the token's column where it is spelled so and exceeds 2^64 - 1.
+/// `Number` at the token's column if it is spelled so and exceeds 2^64 - 1.
 pub fn read_u64(line: Line<'_>, token: Token<'_>) -> Result<Option<u64>, TextFault>
     ensures { result ≡ number_read (line_shown line.entry) (token_shown token.entry) }
 {

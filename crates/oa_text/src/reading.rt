@@ -46,7 +46,7 @@ fn odd_column(bytes: &[u8]) -> Option<u32>
 ///
 /// # Errors
 ///
-/// `LineLong` at column 201 where the line has more than 200 bytes; else `Byte` where it has a byte other than a tab
+/// `LineLong` at column 201 if the line has more than 200 bytes; else `Byte` if it has a byte other than a tab
 /// and those from space to `~`, at the column of the first.
 pub fn tokens(line: Line<'_>) -> Result<Tokens<'_>, TextFault>
     ensures fine { IfOk result (λ tokens. (line_fault (line_shown line.entry) ≡ None) × (tokens ≡ tokens_of (line_shown line.entry).bytes)) }

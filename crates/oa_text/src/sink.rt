@@ -1,6 +1,6 @@
 //! Where bytes go.
 
-ghost use Rattle.std.specs.Prelude.{◌≡◌, ◌<◌, [], ℕ, List, Option, Some, length, min, IsTrue, IsErr, IfOk};
+ghost use Rattle.std.specs.Prelude.{◌≡◌, ◌<◌, [], ℕ, List, Option, Some, length, min, Ok, IsTrue, IsErr, IfOk};
 ghost use Rattle.std.specs.Io.{WritesAtMost};
 ghost use Rattle.std.specs.Io.KnownBytes.{WriteAppends};
 ghost use Rattle.oa_text.specs.Causes.{HasCause, one_more, faults_after};
@@ -13,7 +13,7 @@ use std::marker::Model;
 
 /// A sink of bytes.
 pub trait Sink {
-    /// The bytes written, where the sink tells them.
+    /// The bytes written, if the sink tells them.
     ghost written: { Self → Option (List ℕ) };
 
     /// How many calls have failed.
@@ -96,7 +96,7 @@ impl Sink for MemorySink {
 
     ghost faults = { λ s. s.faults };
 
-    /// Fails where the call's number is in the list, and where memory runs out.
+    /// Fails if the call's number is in the list, or if memory runs out.
     fn write(&mut self, piece: &[u8]) -> Result<usize, Failed>
         ensures bound { WritesAtMost result piece.now }
         ensures some { 0 < length piece.now → IfOk result (λ n. 0 < n) }
@@ -123,11 +123,12 @@ impl Sink for MemorySink {
 }
 
 /// Writes all of the bytes, in as many calls as the sink wants. It stops at the first fault: at `Failed` a prefix of
-/// them was written.
+/// them was written. Of no bytes it makes no call.
 #[tactic(auto, using(crate::proofs::Writing::writes_rest))]
 pub fn write_all<K: Sink>(out: &mut K, bytes: &[u8]) -> Result<(), Failed>
     ensures bytes { Writes (K.written out.old) (K.written out.new) bytes.now result }
     ensures cause { HasCause (K.faults out.old) (K.faults out.new) result }
+    ensures none { bytes.now ≡ [] → (result ≡ Ok tt) × (out.new ≡ out.old) }
 {
     let mut rest = bytes;
     while !rest.is_empty() {

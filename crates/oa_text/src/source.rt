@@ -1,6 +1,6 @@
 //! Where bytes come from.
 
-ghost use Rattle.std.specs.Prelude.{◌≡◌, ◌<◌, ◌↔◌, ℕ, List, Option, Some, length, min, IsTrue, IsErr, IfOk};
+ghost use Rattle.std.specs.Prelude.{◌≡◌, ◌<◌, ◌↔◌, ℕ, List, Option, Some, length, drop, min, IsTrue, IsErr, IfOk, OnErr};
 ghost use Rattle.std.specs.Io.{ReadsAtMost};
 ghost use Rattle.std.specs.Io.KnownBytes.{ReadConsumes};
 ghost use Rattle.oa_text.specs.Causes.{HasCause, one_more, faults_after};
@@ -14,7 +14,7 @@ pub struct Failed;
 
 /// A source of bytes.
 pub trait Source {
-    /// The bytes that are left, where the source tells them.
+    /// The bytes that are left, if the source tells them.
     ghost left: { Self → Option (List ℕ) };
 
     /// How many calls have failed.
@@ -23,7 +23,7 @@ pub trait Source {
     /// Puts the next bytes at the start of the buffer and answers how many.
     ///
     /// `Ok(n)` gives the next n bytes, at most as many as the buffer has room for, and they are left no more. `Ok(0)`
-    /// for a buffer that isn't empty is the end: where the bytes are told, none are left. `Failed` gives nothing, and
+    /// for a buffer that isn't empty is the end: if the bytes are told, none are left. `Failed` gives nothing, and
     /// what is left stays.
     ///
     /// The count of faults never falls: at `Ok` it is as it was, and at `Failed` it rose by one (or stands at 2^64 - 1,
@@ -99,11 +99,13 @@ impl Source for MemorySource {
 
     ghost faults = { λ s. s.faults };
 
-    /// Fails exactly where the call's number is in the list.
+    /// Fails exactly if the call's number is in the list. Past the bytes given the buffer stays as it was.
     fn read(&mut self, buffer: &mut [u8]) -> Result<usize, Failed>
         ensures bound { ReadsAtMost result buffer.new }
         ensures bytes { ReadConsumes (Some self.old.left) (Some self.new.left) result buffer.new }
         ensures cause { HasCause self.old.faults self.new.faults result }
+        ensures rest { IfOk result (λ n. drop n buffer.new ≡ drop n buffer.old) }
+        ensures kept { OnErr result (buffer.new ≡ buffer.old) }
         ensures fails { IsErr result ↔ IsTrue (is_to_fail self.old.fails (one_more self.old.calls)) }
         ensures count { IfOk result (λ n. n ≡ min (min (length buffer.new) self.old.most) (length self.old.left)) }
         ensures after { self.new ≡ record self.old {

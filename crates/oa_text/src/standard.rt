@@ -10,7 +10,10 @@ use crate::source::{Failed, Source};
 use std::io::{Read, Write};
 use std::marker::Model;
 
-/// A source over a reader. It counts the calls in which the reader fails.
+/// A source over a reader. It counts its calls that fail.
+///
+/// A call fails exactly if the reader fails. This is trusted: no clause says it, since std's contract of `Read` doesn't
+/// tell when a reader fails.
 #[derive(Drop)]
 pub struct StdSource<R: Read> {
     inner: R,
@@ -46,7 +49,7 @@ impl<R: Read> Source for StdSource<R> {
 
     ghost faults = { λ s. s.faults };
 
-    /// The count rises by one where the reader fails, up to 2^64 - 1, and nowhere else.
+    /// The count rises by one, up to 2^64 - 1, exactly if the call fails.
     fn read(&mut self, buffer: &mut [u8]) -> Result<usize, Failed>
         ensures bound { ReadsAtMost result buffer.new }
         ensures bytes { ReadConsumes self.old.left self.new.left result buffer.new }
@@ -63,8 +66,11 @@ impl<R: Read> Source for StdSource<R> {
     }
 }
 
-/// A sink over a writer. It counts the calls in which the writer fails, and those in which it takes nothing of a piece
-/// that isn't empty.
+/// A sink over a writer. It counts its calls that fail.
+///
+/// `write` fails exactly if the writer fails, or takes nothing of a piece that isn't empty. `flush` has the writer flush,
+/// and fails exactly if that fails. This is trusted: no clause says it, since std's contract of `Write` doesn't tell
+/// when a writer fails, or what a flush does.
 #[derive(Drop)]
 pub struct StdSink<W: Write> {
     inner: W,
@@ -94,8 +100,7 @@ impl<W: Write> StdSink<W> {
         self.faults
     }
 
-    /// Hands on what the writer has buffered. The count rises by one where the writer fails to, up to 2^64 - 1, and
-    /// nowhere else.
+    /// Adds nothing to what the writer holds. The count rises by one, up to 2^64 - 1, exactly if the call fails.
     pub fn flush(&mut self) -> Result<(), Failed>
         ensures bytes { Keeps self.old.written self.new.written }
         ensures cause { HasCause self.old.faults self.new.faults result }
@@ -116,7 +121,7 @@ impl<W: Write> Sink for StdSink<W> {
 
     ghost faults = { λ s. s.faults };
 
-    /// The count rises by one where the writer fails or takes nothing, up to 2^64 - 1, and nowhere else.
+    /// The count rises by one, up to 2^64 - 1, exactly if the call fails.
     fn write(&mut self, piece: &[u8]) -> Result<usize, Failed>
         ensures bound { WritesAtMost result piece.now }
         ensures some { 0 < length piece.now → IfOk result (λ n. 0 < n) }

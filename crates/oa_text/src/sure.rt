@@ -1,6 +1,6 @@
 //! A source and a sink that never fail.
 
-ghost use Rattle.std.specs.Prelude.{◌≡◌, ◌<◌, ℕ, List, [], ◌++◌, Some, length, min, IsOk, IfOk};
+ghost use Rattle.std.specs.Prelude.{◌≡◌, ◌<◌, ℕ, List, [], ◌++◌, Some, length, drop, min, IsOk, IfOk};
 ghost use Rattle.std.specs.Io.{ReadsAtMost, WritesAtMost};
 ghost use Rattle.std.specs.Io.KnownBytes.{ReadConsumes, WriteAppends};
 ghost use Rattle.oa_text.specs.Causes.{HasCause};
@@ -37,12 +37,13 @@ impl<'a> Source for SureSource<'a> {
 
     ghost faults = { λ _. 0 };
 
-    /// Fills the buffer as far as there are bytes.
+    /// Fills the buffer as far as there are bytes. The rest of it stays as it was.
     fn read(&mut self, buffer: &mut [u8]) -> Result<usize, Failed>
         ensures bound { ReadsAtMost result buffer.new }
         ensures bytes { ReadConsumes (Some self.old) (Some self.new) result buffer.new }
         ensures cause { HasCause 0 0 result }
         ensures never { IsOk result }
+        ensures rest { IfOk result (λ n. drop n buffer.new ≡ drop n buffer.old) }
         ensures count { IfOk result (λ n. n ≡ min (length buffer.new) (length self.old)) }
     {
         let count = buffer.len().min(self.rest.len());

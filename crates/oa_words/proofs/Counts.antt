@@ -40,7 +40,7 @@ within_first [] j le = refl
 within_first (count ∷ []) j le = refl
 within_first (count ∷ (next ∷ counts)) j le = let test : nat_le j count ≡ true = grind (arith, nat_tests) in rw test refl
 
--- it ends at the last kind, or where what is left of the place is within the kind
+-- it ends at the last kind, or if what is left of the place is within the kind
 pub ends_at_last : (counts : List ℕ) (kind left kind_there : ℕ) → kind + kind_in (drop kind counts) left ≡ kind_there → length counts ≤ kind + 1 → kind ≡ kind_there
 ends_at_last counts kind left kind_there told few =
     let count = length-drop kind counts in

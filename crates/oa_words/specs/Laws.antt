@@ -18,14 +18,14 @@ pub record ReferencesSplit : Type 0 where
   pub whole : (word : ℕ) → ref_word (slot_part word) (is_marked word) ≡ word
   pub equal : (slot other : ℕ) (marked also : Bool) → ref_word slot marked ≡ ref_word other also → (slot ≡ other) × (marked ≡ also)
 
--- a status and its parts: each gives back the other, and a word has none exactly where its kind would be 3
+-- a status and its parts: each gives back the other, and a word has none exactly if its kind would be 3
 pub record StatusesSplit : Type 0 where
   pub parts : (phase : ℕ) (kind : Kind) → status_parts (status_word phase kind) ≡ Some (record { phase = phase; kind = kind })
   pub whole : (word : ℕ) (parts : StatusParts) → status_parts word ≡ Some parts → status_word parts.phase parts.kind ≡ word
   pub equal : (phase other : ℕ) (kind also : Kind) → status_word phase kind ≡ status_word other also → (phase ≡ other) × (kind ≡ also)
   pub none : (word : ℕ) → (status_parts word ≡ None) ↔ (word % 4 ≡ 3)
 
--- a head and its parts: each gives back the other, where the top is a slot of some row
+-- a head and its parts: each gives back the other, if the top is a slot of some row
 pub record HeadsSplit : Type 0 where
   pub parts : (phase top : ℕ) → top < 8192 → head_parts (head_word phase top) ≡ record { phase = phase; top = top }
   pub small : (word : ℕ) → (head_parts word).top < 8192

@@ -14,14 +14,14 @@ sum_before [] t = 0
 sum_before (count ∷ counts) zero = 0
 sum_before (count ∷ counts) (suc t) = count + sum_before counts t
 
--- where so many things of each kind stand in a row, counted from 1: the kind of the one at a place. What is past them counts to the
+-- the kind of the thing at a place, counted from 1, if so many things of each kind stand in a row. What is past them counts to the
 -- last kind
 abbrev pub kind_in : List ℕ → ℕ → ℕ
 kind_in [] j = 0
 kind_in (count ∷ []) j = 0
 kind_in (count ∷ (next ∷ counts)) j = if nat_le j count then 0 else suc (kind_in (next ∷ counts) (j - count))
 
--- how many slots a kind has, 0 where there is no such kind
+-- how many slots a kind has, 0 if there is no such kind
 abbrev pub slots_of : Sizes → ℕ → ℕ
 slots_of n t = slice_index n.kinds t
 

@@ -19,16 +19,16 @@ pub record Beginning : Type 0 where
 abbrev pub nodes_of : Beginning → ℕ → ℕ
 nodes_of start t = slice_index start.counts t
 
--- the words of the initial node at a place among those of its kind, where there is one
+-- the words of the initial node at a place among those of its kind, if there is one
 abbrev pub node_of : Beginning → ℕ → ℕ → Option (List ℕ)
 node_of start t place = if nat_lt place (nodes_of start t) then slice_get start.nodes (sum_before start.counts t + place) else None
 
--- the words of the initial node in a slot, where there is one: those of a kind stand in its first slots
+-- the words of the initial node in a slot, if there is one: those of a kind stand in its first slots
 abbrev pub start_node : Sizes → Beginning → ℕ → Option (List ℕ)
 start_node n start zero = None
 start_node n start (suc j) = node_of start (kind_of n (suc j)) (suc j - first_of n (kind_of n (suc j)))
 
--- the slot of an initial node by its number, counted from 1, where each kind has so many; null for 0
+-- the slot of an initial node by its number, counted from 1, if each kind has so many; null for 0
 abbrev pub first_home : Sizes → List ℕ → ℕ → ℕ
 first_home n counts zero = 0
 first_home n counts (suc j) = first_of n (kind_in counts (suc j)) + (j - sum_before counts (kind_in counts (suc j)))
@@ -39,7 +39,7 @@ pub record Suits (n : Sizes) (start : Beginning) : Type 0 where
   pub fields : (j : ℕ) (node : List ℕ) → start_node n start j ≡ Some node → length node ≤ n.fields
   pub cells : length start.cells ≡ n.cells
 
--- the least slot of a range without an initial node: so many stand in its first slots. It is past the last where each slot has one
+-- the least slot of a range without an initial node: so many stand in its first slots. It is past the last if each slot has one
 abbrev pub first_ready : SlotRange → ℕ → ℕ
 first_ready range nodes = nodes + range.first
 

@@ -14,7 +14,7 @@ pub enum Kind {
     Retired,
 }
 
-/// The word of a reference to a slot: twice the slot, and 1 where it is marked. Slot 0 is null.
+/// The word of a reference to a slot: twice the slot, plus 1 if it is marked. Slot 0 is null.
 ///
 /// The mark in the reference's lowest bit is that of Michael's list (SPAA 2002).
 pub fn ref_word(slot: u32, marked: bool) -> u64
@@ -70,7 +70,7 @@ fn kind_of(number: u64) -> Option<Kind>
     }
 }
 
-/// The phase and the kind of a status's word; none exactly where the word divided by 4 leaves 3, which is no kind.
+/// The phase and the kind of a status's word; none exactly if the word divided by 4 leaves 3, which is no kind.
 pub fn status_parts(word: u64) -> Option<(u64, Kind)>
     ensures { option_map (λ (pair : _). record { phase = pair.0; kind = pair.1 }) result ≡ status_parts word }
 {

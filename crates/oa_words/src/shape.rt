@@ -49,7 +49,7 @@ pub enum ShapeFault {
     Cells,
 }
 
-/// The number where it is a count from 1 to the most that there may be.
+/// The number if it is a count from 1 to the most that there may be.
 fn counted(most: u32, number: u64) -> Option<u32>
     ensures same { result ≡ (if is_count most number then Some number else None) }
     ensures count { IfSome result (λ count. (count ≡ number) × (1 ≤ count) × (count ≤ most)) }
@@ -81,7 +81,7 @@ fn sum(counts: &[u64]) -> u64
     sum
 }
 
-/// The kind of the one at a place, counted from 1, where so many things of each kind stand in a row.
+/// The kind of the thing at a place, counted from 1, if so many things of each kind stand in a row.
 #[tactic(auto, using(crate::proofs::Counts::ends_at_last, crate::proofs::Counts::ends_within))]
 fn kind_in(counts: &[u64], place: u64) -> u32
     requires { length counts.now ≤ 4 }
@@ -96,7 +96,7 @@ fn kind_in(counts: &[u64], place: u64) -> u32
     kind as u32
 }
 
-/// How many slots there are together, where each kind has a slot and at most `MOST_SLOTS`, and so have all.
+/// How many slots there are together, if each kind has a slot and at most `MOST_SLOTS`, and all together have no more than that.
 #[tactic(auto, using(crate::proofs::Counts::four_together))]
 fn slots_together(counts: &[u64]) -> Option<u32>
     requires { length counts.now ≤ 4 }
@@ -158,7 +158,7 @@ impl Shape {
         })
     }
 
-    /// What every shape keeps: a law for those who hold one. Reading a field is what tells it.
+    /// What every shape keeps: a law for those who hold one. The body reads a field, which makes the invariant known.
     pub fn kept(&self)
         ensures { AreSizes self.now }
     {

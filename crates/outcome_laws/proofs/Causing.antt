@@ -102,7 +102,7 @@ by_reply key steps (outcomes.PhasesOver p) reply is c =
     }
 by_reply key steps outcomes.Spent reply is c = absurd (let z : None ≡ Some reply = is in cc)
 
--- where the call runs on
+-- if the call runs on
 by_none : (key : Fixed) (steps : List StepMade) (outcome : Outcome) → answer_of outcome ≡ None → FoundNeither key.setting steps → OutcomeIsCaused key.setting outcome steps
 by_none key steps (outcomes.Replied (Some n)) is found = absurd (let z : Some (replies.Number n) ≡ None = is in cc)
 by_none key steps (outcomes.Replied None) is found = absurd (let z : Some replies.Nothing ≡ None = is in cc)
@@ -146,7 +146,7 @@ retaken : (key : Fixed) (e later : Entry) (call : Call) (o : Option SourceReply)
 retaken key e later call (Some reply) h = h
 retaken key e later call None h = h
 
--- a call that was taken, after some of its steps, where it still runs
+-- a call that was taken, after some of its steps, if it still runs
 so_far : (key : Fixed) (begun e : Entry) (call : Call) (earlier : List ℕ) → is_idle e.routine ≡ false → Steps key (taken key.setting.reclamation call begun) earlier e → Unfinished key.setting e []
 so_far key begun e call earlier busy made = ⊎_elim
     (λ (t : Goes key (taken key.setting.reclamation call begun) (steps_from key (taken key.setting.reclamation call begun) earlier) e). none_found key e (steps_from key (taken key.setting.reclamation call begun) earlier) t.unfinished)

@@ -18,8 +18,8 @@ abbrev pub steps_from : Fixed → Entry → List ℕ → List StepMade
 steps_from key e [] = []
 steps_from key e (word ∷ words) = record { entry = e; found = word } ∷ steps_from key (next key e word) words
 
--- an outcome says that phases are over exactly where a sweep's load among the steps found the last phase, which it names; and that
--- the pool is full exactly where the last of them was the third look of a claim, which found no slot
+-- an outcome says that phases are over exactly if a sweep's load among the steps found the last phase, which it names; and that
+-- the pool is full exactly if the last of them was the third look of a claim, which found no slot
 pub record OutcomeIsCaused (setting : Setting) (outcome : Outcome) (steps : List StepMade) : Type 0 where
   pub phases : (p : ℕ) → (outcome ≡ outcomes.PhasesOver p) ↔ FoundLastPhase setting p steps
   pub full : (outcome ≡ outcomes.Full) ↔ EndsInFailedLook steps

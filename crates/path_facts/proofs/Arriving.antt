@@ -12,6 +12,7 @@ use Rattle.norm_lang.proofs.Reaching.{reaches_itself, reaches_on, reached_within
 use Rattle.path_facts.specs.declared.moves.Move.{Move}
 use Rattle.path_facts.specs.Facts.{state_behind, IsMove, IsWay, ComesIn, AreFacts}
 use Rattle.path_facts.specs.Nodes.{node, fork_with, fork_behind, nodes_of}
+use Rattle.path_facts.proofs.Fitting.{one_of_four}
 
 -- the fork of a node is that of its instruction with the state after it
 fork_of_node : (moves : List Move) (at state : ℕ) → state < 4 → slice_get (flat_map nodes_of moves) (node at state) ≡ option_map (λ move. fork_behind move state) (slice_get moves at)
@@ -127,9 +128,9 @@ pub facts_are : (moves : List Move) (start : ℕ) (forks : List Fork) (marks : L
     → forks ≡ flat_map nodes_of moves → AreMarks forks start marks → AreFacts moves start marks
 facts_are moves start forks marks lt closed is are = λ at state less.
     let right : (k : ℕ) → (slice_get marks k ≡ Some true) ↔ Reaches (flat_map nodes_of moves) start k = subst (λ (f : List Fork). (k : ℕ) → (slice_get marks k ≡ Some true) ↔ Reaches f start k) is are.right in (
-      λ marked. stands_there moves start at state less (reached_within (flat_map nodes_of moves) (StandsFor moves start) (stands_on moves start (length moves) closed) start (node at state) (start_stands moves start lt) ((right (node at state)).0 (marked_option (slice_get marks (node at state)) marked))),
+      λ marked. stands_there moves start at state less (reached_within (flat_map nodes_of moves) (StandsFor moves start) (stands_on moves start (length moves) closed) start (node at state) (start_stands moves start lt) ((right (node at state)).0 (marked_option (slice_get marks (node at state)) (sym (one_of_four marks at state less) ∙ marked)))),
       λ comes. let reached = reached_by moves start (length moves) lt closed comes.0 at comes.1 in
-          option_marked (slice_get marks (node at state)) ((right (node at state)).1 (subst (λ (s : ℕ). Reaches (flat_map nodes_of moves) start (node at s)) comes.2 reached.1)),
+          one_of_four marks at state less ∙ option_marked (slice_get marks (node at state)) ((right (node at state)).1 (subst (λ (s : ℕ). Reaches (flat_map nodes_of moves) start (node at s)) comes.2 reached.1)),
     )
 
 -- the nodes' forks stay among the nodes

@@ -1,7 +1,9 @@
 -- Instructions among so many are among more.
-use Rattle.std.proofs.Common.{◌≡◌, ℕ, ◌+◌, ◌*◌, ◌/◌, ◌<◌, Bool, false, List, length, ap, arith}
-use Rattle.std.specs.Prelude.{slice_index_or, unwrap_or}
+use Rattle.std.proofs.Common.{◌≡◌, ℕ, ◌+◌, ◌*◌, ◌/◌, ◌<◌, ◌≤◌, Bool, true, false, ◌&&◌, List, length, refl, ap, arith}
+use Rattle.std.specs.Prelude.{slice_index_or, slice_get, unwrap_or, nat_lt}
 use Rattle.std.proofs.lemmas.Option.{slice_get_past}
+use Rattle.std.proofs.lemmas.Bool.{and_right}
+use Rattle.std.proofs.lemmas.Bool.Decides.{nat_tests}
 use Rattle.std.specs.List.{All}
 use Rattle.path_facts.specs.declared.moves.Move.{Move}
 use Rattle.path_facts.specs.Facts.{IsMove, comes_in_by}
@@ -14,4 +16,16 @@ one_fits moves i d bound few closed lt =
 
 -- past the last instruction no answer is yes
 pub none_past : (facts : List Bool) (at state : ℕ) → length facts / 4 < at → comes_in_by facts at state ≡ false
-none_past facts at state lt = ap (λ found. unwrap_or found false) (slice_get_past facts (4 * at + state) (omega (arith, lt)))
+none_past facts at state lt = ap (λ found. unwrap_or found false && nat_lt state 4) (slice_get_past facts (4 * at + state) (omega (arith, lt)))
+
+-- and none is yes for a fifth state
+pub none_further : (facts : List Bool) (at state : ℕ) → 4 ≤ state → comes_in_by facts at state ≡ false
+none_further facts at state le = let test : nat_lt state 4 ≡ false = grind (arith, nat_tests) in and_right (unwrap_or (slice_get facts (4 * at + state)) false) (nat_lt state 4) test
+
+-- for one of the four states the answer is what the list says
+pub one_of_four : (facts : List Bool) (at state : ℕ) → state < 4 → comes_in_by facts at state ≡ unwrap_or (slice_get facts (4 * at + state)) false
+one_of_four facts at state lt = let test : nat_lt state 4 ≡ true = grind (arith, nat_tests) in and_yes (unwrap_or (slice_get facts (4 * at + state)) false) (nat_lt state 4) test
+  where
+    and_yes : (a b : Bool) → b ≡ true → (a && b) ≡ a
+    and_yes true b is = is
+    and_yes false b is = refl

@@ -1,5 +1,5 @@
 -- Which states a small machine may be in where control arrives at an instruction.
-use Rattle.std.specs.Prelude.{◌≡◌, ◌↔◌, ◌<◌, ℕ, ◌+◌, ◌*◌, Bool, false, List, Some, unwrap_or, slice_get, slice_index, All, IsTrue}
+use Rattle.std.specs.Prelude.{◌≡◌, ◌↔◌, ◌<◌, ℕ, ◌+◌, ◌*◌, Bool, false, ◌&&◌, nat_lt, List, Some, unwrap_or, slice_get, slice_index, All, IsTrue}
 use Rattle.norm_lang.specs.Flow.{Leads, state_along}
 use Rattle.norm_lang.specs.Reach.{LeadsTo, StaysBelow}
 use Rattle.path_facts.specs.declared.moves.Move.{Move}
@@ -24,10 +24,11 @@ IsWay moves path to = Leads (GoesOn moves) 0 path to
 abbrev pub ComesIn : List Move → ℕ → ℕ → ℕ → Type 0
 ComesIn moves start at state = (path : List ℕ) × IsWay moves path at × (state_along state_behind start moves path ≡ state)
 
--- the answer for an instruction and a state, in a list that has four for each instruction, one after another
+-- the answer for an instruction and a state, in a list that has four for each instruction, one after another. From
+-- the fifth state on it is no
 abbrev pub comes_in_by : List Bool → ℕ → ℕ → Bool
-comes_in_by facts at state = unwrap_or (slice_get facts (4 * at + state)) false
+comes_in_by facts at state = unwrap_or (slice_get facts (4 * at + state)) false && nat_lt state 4
 
--- answers that are true exactly where the machine may be in the state at the instruction
+-- answers that are true exactly if the machine may be in the state at the instruction
 abbrev pub AreFacts : List Move → ℕ → List Bool → Type 0
 AreFacts moves start facts = (at state : ℕ) → state < 4 → (IsTrue (comes_in_by facts at state) ↔ ComesIn moves start at state)

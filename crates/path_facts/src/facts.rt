@@ -44,13 +44,13 @@ impl Facts {
     }
 
     /// Whether some path from instruction 0 leads to the instruction at `at` with the machine in `state`
-    /// there; past the last instruction none does. It answers in constant time.
-    #[tactic(auto, using(crate::proofs::Fitting::none_past))]
+    /// there. Past the last instruction none does, nor with a state from 4 on. It answers in constant time.
+    #[tactic(auto, using(crate::proofs::Fitting::none_past, crate::proofs::Fitting::none_further, crate::proofs::Fitting::one_of_four))]
     pub fn comes_in(&self, at: usize, state: u8) -> bool
         ensures { result ≡ comes_in_by self.now at state }
     {
         let marks = self.marks.items();
-        at <= marks.len() / 4 && is_marked(marks, 4 * at + state as usize)
+        state < 4 && at <= marks.len() / 4 && is_marked(marks, 4 * at + state as usize)
     }
 }
 

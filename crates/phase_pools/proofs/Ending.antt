@@ -1,4 +1,4 @@
--- Which accesses of a sweep end its claim: the load of the phase alone, where it finds the last one.
+-- Which accesses of a sweep end its claim: the load of the phase alone, if it finds the last phase.
 use Rattle.std.proofs.Common.{◌≡◌, ℕ, zero, ◌&&◌, Bool, true, false, Option, Some, None, if◌then◌else◌, refl}
 use Rattle.std.specs.Prelude.{◌==◌}
 use Rattle.oa_words.specs.declared.packed.Kind.TheVariants as kinds

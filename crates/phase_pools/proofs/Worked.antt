@@ -229,7 +229,7 @@ pub look_that_lost_last_slot : claim_told small 5 (8195 ∷ 0 ∷ 8192 ∷ 8192 
 }
 look_that_lost_last_slot = refl
 
--- a claim counts where its exchange succeeds, and with no other access
+-- a claim is counted if its exchange succeeds, and with no other access
 abbrev claim_at : ClaimStage → Claim
 claim_at stage = record { kind = 0; stage = stage; sweeps = 0; sweep = sweep_begun Warned }
 

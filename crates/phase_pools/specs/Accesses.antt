@@ -35,7 +35,7 @@ located n (Raises w x) = codes.FetchMax (address_of n w) x
 abbrev pub IsPhase : ℕ → Type 0
 IsPhase phase = (1 ≤ phase) × (phase ≤ 2 ^ 50)
 
--- where the access raises a word, that is to a phase
+-- if the access raises a word, it raises it to a phase
 abbrev pub RaisesToPhase : Access → Type 0
 RaisesToPhase (codes.Load at) = Unit {0}
 RaisesToPhase (codes.Store at word) = Unit {0}

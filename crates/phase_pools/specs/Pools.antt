@@ -79,7 +79,7 @@ sweep_on n sweep j = if has_lower n j then sweep_goes sweep (sweeps.ReadStatus (
 abbrev pub phase_read : ℕ → Sweep → ℕ → SweepTurn
 phase_read last sweep p = if p == last then sweep_ends sweep (swept.PhasesOver p) else sweep_goes sweep (sweeps.RaisePhase p)
 
--- what follows the last warning: the hazards; where callers announce there are none, and the statuses follow, from the greatest
+-- what follows the last warning: the hazards. If callers announce, there are none, and the statuses follow, from the greatest
 -- slot down
 abbrev pub warned_all : Sizes → Scheme → SweepStage
 warned_all n Warned = sweeps.ReadHazard 0 0
@@ -110,7 +110,7 @@ hazard_next n c r =
 abbrev pub hazard_read : Sizes → Sweep → ℕ → ℕ → ℕ → SweepTurn
 hazard_read n sweep c r word = sweep_goes (record sweep { gathered = with_slot sweep.gathered word }) (hazard_next n c r)
 
--- a slot is made ready where it was retired before the sweep's low and no guard that was gathered names it
+-- a slot is made ready if it was retired before the sweep's low and no guard that was gathered names it
 abbrev pub freeing : Sizes → Sweep → ℕ → ℕ → Kind → SweepTurn
 freeing n sweep j q kinds.Ready = sweep_on n sweep j
 freeing n sweep j q kinds.Used = sweep_on n sweep j
@@ -128,7 +128,7 @@ made_ready n sweep j q word = if word == status_word q kinds.Retired then sweep_
 abbrev pub push_read : Sweep → ℕ → HeadParts → SweepTurn
 push_read sweep j head = sweep_goes sweep (sweeps.PushLink j head.phase head.top)
 
--- the exchange succeeds exactly where it found what was expected; else the push begins again, with the head loaded once more
+-- the exchange succeeds exactly if it found what was expected; otherwise the push begins again, with the head loaded once more
 abbrev pub pushed : Sizes → Sweep → ℕ → ℕ → ℕ → ℕ → SweepTurn
 pushed n sweep j q t word = if word == head_word q t then sweep_on n sweep j else sweep_goes sweep (sweeps.PushHead (kind_of n j) j)
 
@@ -199,11 +199,11 @@ sweep_follows (Announced own) (suc made) claim = sweep_started claim
 abbrev pub look_ended : Claim → ClaimTurn
 look_ended claim = if claim.sweeps == 2 then claim_ends claim ends.Full else sweep_follows claim.sweep.scheme claim.sweeps claim
 
--- where no slot is on top there is none to claim
+-- if no slot is on top, there is none to claim
 abbrev pub look_begun : Claim → HeadParts → ClaimTurn
 look_begun claim head = if head.top == 0 then look_ended claim else claim_goes claim (claims.ReadLink head.phase head.top)
 
--- a slot is taken from the chain exactly where the exchange found what was expected
+-- a slot is taken from the chain exactly if the exchange found what was expected
 abbrev pub takes_at : ClaimStage → ℕ → Bool
 takes_at claims.ReadHead word = false
 takes_at (claims.ReadLink q t) word = false
@@ -212,7 +212,7 @@ takes_at (claims.StoreUsed q t) word = false
 takes_at (claims.Withdraw own) word = false
 takes_at claims.Sweeps word = false
 
--- whether the claim takes a slot where its wanted access found a word: a claim is counted then, although it ends only with
+-- whether the claim takes a slot if its wanted access found a word: a claim is counted then, although it ends only with
 -- the store after it
 abbrev pub claim_takes : Claim → ℕ → Bool
 claim_takes claim word = takes_at claim.stage word
@@ -267,7 +267,7 @@ retire_wants_at slot (retires.StoreStatus p) = Stores (Status slot) (status_word
 abbrev pub retire_wants : Retirement → WordAccess
 retire_wants retirement = retire_wants_at retirement.slot retirement.stage
 
--- what is left of it; none where it has ended
+-- what is left of it; none if it has ended
 abbrev pub retire_accepts_at : ℕ → ℕ → RetireStage → Option Retirement
 retire_accepts_at slot word retires.ReadPhase = Some (record { slot = slot; stage = retires.StoreStatus word })
 retire_accepts_at slot word (retires.StoreStatus p) = None

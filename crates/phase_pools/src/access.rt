@@ -15,7 +15,7 @@ pub enum Access {
         /// What is stored.
         word: u64,
     },
-    /// Finds the word, and leaves the replacement there where it is the expected one.
+    /// Finds the word, and leaves the replacement there if the word is the expected one.
     CompareExchange {
         /// The word's address.
         at: u32,

@@ -1,4 +1,4 @@
-//! A claim: takes the ready slot on top of its kind's chain, and sweeps where there is none.
+//! A claim: takes the ready slot on top of its kind's chain, and sweeps if there is none.
 
 ghost use Rattle.std.specs.Prelude.{◌≡◌, ◌≤◌, ◌<◌, ◌^◌, length, None};
 ghost use Rattle.oa_words.specs.Packed.{head_parts, head_word};
@@ -16,7 +16,7 @@ use oa_words::shape::Shape;
 use std::marker::Model;
 
 /// A claim: the kind of which it takes a slot, where it stands, how many of its sweeps have ended, and its sweep. It takes the slot on
-/// top of the chain of that kind's ready slots, and where there is none it sweeps and looks again, twice at most.
+/// top of the chain of that kind's ready slots. If there is none, it sweeps and looks again, twice at most.
 ///
 /// The chain is a stack as Treiber's (1986): a slot is taken by an exchange of the head, so two callers never claim the same
 /// one. The head bears a phase beside the top, so a slot that was taken and pushed again meanwhile isn't taken for one that
@@ -108,7 +108,7 @@ impl ClaimState {
         self.sweeps
     }
 
-    /// Whether the claim takes a slot where its access found this word. It is counted then; it ends with the store after it.
+    /// Whether the claim takes a slot if its access found this word. It is counted then, but ends only with the store after it.
     pub fn takes(&self, shape: &Shape, word: u64) -> bool
         requires { ClaimInRange shape.now self.now.sweep self.now.stage }
         ensures { result ≡ claim_takes self.now word }
@@ -124,7 +124,7 @@ impl ClaimState {
         }
     }
 
-    /// How the claim ends where its access found this word; none exactly where it goes on.
+    /// How the claim ends if its access found this word; none exactly if it goes on.
     #[tactic(auto, using(crate::proofs::Ending::sweep_end))]
     pub fn end(&self, shape: &Shape, last_phase: u64, word: u64) -> Option<ClaimEnd>
         ensures { result ≡ (claim_accepts shape.now last_phase self.now word).ended }
@@ -137,7 +137,7 @@ impl ClaimState {
         }
     }
 
-    /// How it ends where the head was loaded.
+    /// How it ends after a load of the head.
     #[tactic(auto, using(crate::proofs::Ending::look_end))]
     fn look_end(&self, word: u64) -> Option<ClaimEnd>
         ensures { result ≡ (look_begun self.now (head_parts word)).ended }
@@ -150,7 +150,7 @@ impl ClaimState {
         }
     }
 
-    /// How it ends where its sweep's access was made.
+    /// How it ends after an access of its sweep.
     fn sweep_end(&self, last_phase: u64, word: u64) -> Option<ClaimEnd>
         ensures { result ≡ phases_end (finds_last last_phase self.now.sweep.stage word) word }
     {
@@ -161,7 +161,7 @@ impl ClaimState {
         }
     }
 
-    /// Takes the word that this access found, and says how the claim ended; none exactly where it goes on. The claim's kind, the
+    /// Takes the word that this access found, and says how the claim ended; none exactly if it goes on. The claim's kind, the
     /// number of its caller if that announces, and the caller, register and slots at which it stands are the shape's. Phases are at
     /// most the last one, which is at most 2^50; a hazard, a link and the head's top are 0 or a slot; and a status has a kind. It
     /// stays within the shape.
@@ -197,7 +197,7 @@ impl ClaimState {
         }
     }
 
-    /// The sweep took a word: where it has ended, a look follows, or the claim ends with the phases.
+    /// The sweep took a word. If it has ended, a look follows, or, if no phase is left, the claim ends too.
     fn swept(&mut self, shape: &Shape, end: Option<SweepEnd>) -> Option<ClaimEnd>
         requires few { self.old.sweeps < 2 }
         requires range { ClaimInRange shape.now self.old.sweep self.old.stage }
@@ -215,7 +215,7 @@ impl ClaimState {
         }
     }
 
-    /// The head was loaded: the look goes on with the slot on top, and ends where there is none.
+    /// The head was loaded: the look goes on with the slot on top, and ends if there is none.
     fn look_begun(&mut self, shape: &Shape, last_phase: u64, word: u64) -> Option<ClaimEnd>
         requires few { self.old.sweeps ≤ 2 }
         requires range { ClaimInRange shape.now self.old.sweep self.old.stage }
@@ -234,7 +234,7 @@ impl ClaimState {
         None
     }
 
-    /// The exchange was made that takes the top slot: where it failed, the look begins again.
+    /// The exchange was made that takes the top slot: if it failed, the look begins again.
     fn look_took(&mut self, shape: &Shape, q: u64, top: u32, word: u64)
         requires top { top ≤ shape.now.slots }
         requires phase { q ≤ 2 ^ 50 }
@@ -265,7 +265,7 @@ impl ClaimState {
         None
     }
 
-    /// A sweep follows: where the caller announces, it withdraws its announcement before the first.
+    /// A sweep follows. If the caller announces, it withdraws its announcement before the first sweep.
     fn sweep_follows(&mut self, shape: &Shape)
         requires few { self.old.sweeps < 2 }
         requires own { HasOwn shape.now self.old.sweep.scheme }

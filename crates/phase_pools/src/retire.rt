@@ -1,6 +1,6 @@
 //! The retirement of a slot: its status says so, with the phase in which its node was already unlinked.
 
-ghost use Rattle.std.specs.Prelude.{◌≡◌, ◌≤◌, Some, None, if◌then◌else◌};
+ghost use Rattle.std.specs.Prelude.{◌≡◌, ◌≤◌, Some, None, IsTrue, if◌then◌else◌};
 ghost use Rattle.phase_pools.specs.Accesses.{located};
 ghost use Rattle.phase_pools.specs.Pools.{retire_begun, retire_wants, retire_accepts};
 ghost use Rattle.phase_pools.specs.Ranges.{RetireTold};
@@ -61,12 +61,13 @@ impl RetireState {
         }
     }
 
-    /// Takes the word that this access found; true exactly where the retirement has ended. Its slot is one of the shape's,
-    /// and where the phase was loaded, the word is a phase.
+    /// Takes the word that this access found; true exactly if the retirement has ended, and then it is unchanged. Its slot is
+    /// one of the shape's, and if the phase was loaded, the word is a phase.
     pub fn accept(&mut self, shape: &Shape, word: u64) -> bool
         requires slot { self.old.slot ≤ shape.now.slots }
         requires told { RetireTold self.old.stage word }
-        ensures { retire_accepts self.old word ≡ (if result then None else Some self.new) }
+        ensures same { retire_accepts self.old word ≡ (if result then None else Some self.new) }
+        ensures kept { IsTrue result → self.new ≡ self.old }
     {
         match self.stage {
             RetireStage::ReadPhase => {

@@ -6,7 +6,8 @@ pub enum Scheme {
     /// It raises each caller's warning, and gathers what their guards name (Cohen and Petrank, SPAA 2015).
     Warned,
     /// It loads the phase that each caller has announced in its warning, 0 for none, and recycles what was retired before all of
-    /// them and before the phase to which it raises, as epochs do (Fraser, "Practical Lock-Freedom", 2004). The number is that of the sweep's own caller.
+    /// them and before the phase to which it raises, as epochs do (Fraser, "Practical Lock-Freedom", 2004). The number is that of the
+    /// sweep's own caller.
     Announced(u32),
 }
 

@@ -23,8 +23,8 @@ use std::marker::Model;
 /// This is the recycling of Cohen and Petrank (SPAA 2015): a new phase is announced by each caller's warning before the
 /// hazards are read, so a caller that still reads what was retired finds out at its next check, and what it guards is
 /// gathered. Slots that were retired before the phase and weren't gathered become ready, from the greatest down, and each is
-/// pushed onto the chain of its kind's ready slots at once: so of each kind the least that became ready ends on top. Where callers
-/// announce phases instead, slots that were retired before each of these become ready.
+/// pushed onto the chain of its kind's ready slots at once: so of each kind the least that became ready ends on top. If callers
+/// announce phases instead, slots that were retired before each of these phases become ready.
 #[derive(Drop)]
 pub struct SweepState {
     scheme: Scheme,
@@ -60,7 +60,7 @@ fn warn(shape: &Shape, scheme: Scheme, caller: u32, bound: u64) -> Access
     }
 }
 
-/// The stage after the last warning: the first hazard, or the greatest slot where there are no guards.
+/// The stage after the last warning: the first hazard, or the greatest slot if there are no guards.
 fn warned_all(shape: &Shape, scheme: Scheme) -> SweepStage
     ensures same { result ≡ warned_all shape.now scheme }
     ensures within { SweepInRange shape.now result }
@@ -87,7 +87,7 @@ fn warn_next(shape: &Shape, scheme: Scheme, caller: u32) -> SweepStage
     warned_all(shape, scheme)
 }
 
-/// The phase before which a sweep recycles, after it has come to a warning with this word: where callers announce, it is at most
+/// The phase before which a sweep recycles, after it has come to a warning with this word: if callers announce, it is at most
 /// the phase that this one has announced.
 fn low_after(scheme: Scheme, low: u64, word: u64) -> u64
     ensures same { result ≡ low_after scheme low word }
@@ -193,7 +193,7 @@ impl SweepState {
         }
     }
 
-    /// Takes the word that this access found, and says how the sweep ended; none exactly where it goes on. The caller,
+    /// Takes the word that this access found, and says how the sweep ended; none exactly if it goes on. The caller,
     /// register, slots and kind at which it stands are the shape's, phases are at most the last one, which is at most 2^50, a
     /// hazard and the head's top are 0 or a slot, and a status has a kind. It stays within the shape.
     pub fn accept(&mut self, shape: &Shape, last_phase: u64, word: u64) -> Option<SweepEnd>
@@ -336,7 +336,7 @@ impl SweepState {
         Some(SweepEnd::Swept)
     }
 
-    /// The exchange was made that makes a slot ready: where it succeeded, the slot is pushed.
+    /// The exchange was made that makes a slot ready: if it succeeded, the slot is pushed.
     fn made_ready(&mut self, shape: &Shape, slot: u32, q: u64, word: u64) -> Option<SweepEnd>
         requires some { 1 ≤ slot }
         requires slot { slot ≤ shape.now.slots }
@@ -370,7 +370,7 @@ impl SweepState {
         self.stage = SweepStage::PushLink(slot, q, top as u32);
     }
 
-    /// The exchange was made that puts a slot on top: where it failed, the head is loaded again.
+    /// The exchange was made that puts a slot on top: if it failed, the head is loaded again.
     fn pushed(&mut self, shape: &Shape, slot: u32, q: u64, top: u32, word: u64) -> Option<SweepEnd>
         requires some { 1 ≤ slot }
         requires slot { slot ≤ shape.now.slots }

@@ -8,7 +8,7 @@ use phase_pools::claim::ClaimState;
 use phase_pools::retire::RetireState;
 use phase_pools::sweep::SweepState;
 
-/// Slot 1 is on top, and slot 2 below it, in phase 1. The exchange alone takes a slot, where the head is as it was loaded.
+/// Slot 1 is on top, and slot 2 below it, in phase 1. The exchange alone takes a slot, if the head is as it was loaded.
 #[test]
 fn top_slot_is_claimed(rt: HostRuntime) {
     let shape = small(&rt);

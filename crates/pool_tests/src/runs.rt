@@ -22,7 +22,7 @@ fn address_in(access: Access) -> u32
     }
 }
 
-/// What the access leaves where it found a word.
+/// What the access leaves in a word, by what it found there.
 fn left_by(access: Access, found: u64) -> u64 {
     match access {
         Access::Load { .. } => found,
@@ -81,7 +81,7 @@ fn is_told(shape: &Shape, last_phase: u64, at: u32, word: u64) -> bool
     word <= slots as u64
 }
 
-/// The word at an address; the program stops where there is none, or a routine may not be told it.
+/// The word at an address; the program stops if there is none, or a routine may not be told it.
 fn word_told(rt: &impl Abort, shape: &Shape, last_phase: u64, words: &[u64], access: Access) -> u64
     ensures { IsTold shape.now last_phase (address_in access) result }
 {

@@ -4,7 +4,7 @@ use std::alloc::{AllocError, Global};
 use std::collections::BTreeSet;
 use std::test::Fail;
 
-/// The keys that one call has changed or found: it replies 1 where `true`.
+/// Makes one call on the keys, and tells whether it replies 1.
 fn reply(keys: &mut BTreeSet<u64>, place: u32, key: u64, before: u64) -> Result<bool, AllocError> {
     if place == 0 {
         match keys.insert(key) {

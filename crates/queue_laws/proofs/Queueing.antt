@@ -162,7 +162,7 @@ goes_on T who notes c arg n0 m0 a phase Helps same ne (call, d, k, r, n, m) = su
 goes_on T who notes c arg n0 m0 a phase Dequeues same ne (call, k, n) = subst (λ (p : Phase). Deal (List ℕ) queue_step T c who a p None Stays p) (sym k.0) (works call same)
 goes_on T who notes c arg n0 m0 a phase FoundNone same ne (call, k, n, o, e) = subst (λ (p : Phase). Deal (List ℕ) queue_step T c who a p None Stays p) (sym k.0) (works call same)
 
--- what is remembered matters only where the queue was found empty
+-- what is remembered matters only if the queue was found empty
 fits_walked : (T : Times (List ℕ)) (notes notes' : Notes) (c arg n0 m0 : ℕ) (phase : Phase) (class : Class) → class ≢ FoundNone → FitsClass T notes c arg n0 m0 phase class → FitsClass T notes' c arg n0 m0 phase class
 fits_walked T notes notes' c arg n0 m0 phase FoundNone ne k = absurd (ne refl)
 fits_walked T notes notes' c arg n0 m0 phase _ ne k = k
@@ -480,7 +480,7 @@ shown_replies : (place : Place) (q : Load) → (shown place q).replies ≡ q.rep
 shown_replies Idle q = refl
 shown_replies _ q = refl
 
--- a call runs where a caller isn't idle
+-- a call runs if its caller isn't idle
 runs_class : (T : Times (List ℕ)) (notes : Notes) (c arg n0 m0 : ℕ) (phase : Phase) (class : Class) → FitsClass T notes c arg n0 m0 phase class → phase_runs phase ≡ class_runs class
 runs_class T notes c arg n0 m0 phase Rests k = ap phase_runs k
 runs_class T notes c arg n0 m0 phase Enqueues (call, k, n) = ap phase_runs k.0

@@ -21,7 +21,7 @@ pub type QueueHistory = Listed<QueueDeed>;
 /// and for each that runs and whose exchange of the list succeeded.
 ///
 /// # Errors
-/// `NotEnabled` with the place of the first event that isn't enabled, and `Memory` where memory runs out.
+/// `NotEnabled` with the place of the first event that isn't enabled, and `Memory` if memory runs out.
 pub fn queue_history(
     alloc: Global,
     callers: u32,
@@ -35,8 +35,7 @@ pub fn queue_history(
     let text = shipped_queue(alloc)?;
     match check(alloc, text) {
         Err(CheckError::Memory) => Err(RunError::Memory),
-        // A shipped text is never refused.
-        Err(CheckError::Refused(_)) => Err(RunError::Memory),
+        Err(CheckError::Refused(_)) => unreachable!(),
         Ok(normal) => record(alloc, &QueueReader {}, &normal, callers, events),
     }
 }

@@ -27,7 +27,7 @@ fn answered(alloc: Global, named: &[NamedLines], line: &str) -> Result<String, R
     answer::answer(alloc, &row, &bytes)
 }
 
-/// Writes a row after its answer, also where it can't be answered.
+/// Writes a row after its answer, or after `wrong row`.
 fn take_row<R: Print>(rt: &R, alloc: Global, named: &[NamedLines], line: &str) -> io::Result<()> {
     match answered(alloc, named, line) {
         Ok(answer) => println!(rt; "{answer}: {line}"),

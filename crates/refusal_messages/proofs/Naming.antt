@@ -41,7 +41,7 @@ front_fails bytes all start version (errors.Fault fault) same is begun fails =
 pub named_there : (bytes : List ℕ) (refusal : Refusal) (text : Text) (named : Blame) → text_in bytes ≡ Ok text → IsNamedIn (Ok text) refusal named → IsNamed bytes refusal named
 named_there bytes refusal text named read is = subst (λ (r : Result Text LineFault). IsNamedIn r refusal named) (sym read) is
 
--- no register where there is none
+-- no register if there is no text
 blameless : (bytes : List ℕ) (refusal : Refusal) (fault : LineFault) → text_in bytes ≡ Err fault → IsNamed bytes refusal (Found None)
 blameless bytes refusal fault read = subst (λ (r : Result Text LineFault). IsNamedIn r refusal (Found None)) (sym read) refl
 
@@ -58,21 +58,22 @@ unfound_in (Err fault) refusal = tt
 pub named_without_memory : (bytes : List ℕ) (refusal : Refusal) → IsNamed bytes refusal NoMemory
 named_without_memory bytes refusal = unfound_in (text_in bytes) refusal
 
-one_refusal : (one other : Refusal) → Refused one ≡ Refused other → one ≡ other
-one_refusal one other same = cc
-
 -- that of a refusal
-pub named_refusal : (bytes : List ℕ) (status : Status) (refusal : Refusal) (named : Blame) → status ≡ Refused refusal → IsNamed bytes refusal named → IsNamedFor (Some bytes) status named
-named_refusal bytes status refusal named refused is b r same other =
-    subst (λ (x : List ℕ). IsNamed x r named) (same_Some bytes b same) (subst (λ (x : Refusal). IsNamed bytes x named) (one_refusal refusal r (sym refused ∙ other)) is)
+pub named_refusal : (bytes : List ℕ) (status : Status) (refusal : Refusal) (named : Blame)
+    → status ≡ Refused refusal → IsNamed bytes refusal named → IsNamedFor (Some bytes) status named
+named_refusal bytes status refusal named refused is =
+    subst (λ (s : Status). IsNamedFor (Some bytes) s named) (sym refused) (λ b same. subst (λ (x : List ℕ). IsNamed x refusal named) (same_Some bytes b same) is)
 
--- of a status that is no refusal nothing is asked, nor where nothing is remembered
-pub not_refused : (read : Option (List ℕ)) (status : Status) (named : Blame) → ((refusal : Refusal) → ¬ (status ≡ Refused refusal)) → IsNamedFor read status named
-not_refused read status named other bytes refusal same is = absurd (other refusal is)
+-- none for a status that is no refusal, nor if nothing is remembered
+pub not_refused : (read : Option (List ℕ)) (status : Status)
+    → ((refusal : Refusal) → ¬ (status ≡ Refused refusal)) → IsNamedFor read status (Found None)
+not_refused read (Refused refusal) other = absurd (other refusal refl)
+not_refused read _ other = refl
 
-pub not_read : (read : Option (List ℕ)) (status : Status) (named : Blame) → read ≡ None → IsNamedFor read status named
-not_read read status named none bytes refusal same is = let no : None ≡ Some bytes = sym none ∙ same in cc
+pub not_read : (read : Option (List ℕ)) (status : Status) → read ≡ None → IsNamedFor read status (Found None)
+not_read read (Refused refusal) none = λ bytes same. let no : None ≡ Some bytes = sym none ∙ same in cc
+not_read read _ none = refl
 
--- where that is remembered
+-- the same, if that is remembered
 pub named_read : (read : Option (List ℕ)) (bytes : List ℕ) (status : Status) (named : Blame) → read ≡ Some bytes → IsNamedFor (Some bytes) status named → IsNamedFor read status named
 named_read read bytes status named is so = subst (λ (r : Option (List ℕ)). IsNamedFor r status named) (sym is) so

@@ -1,4 +1,4 @@
--- The register that is named where a text is refused.
+-- The register that is named if a text is refused.
 use Rattle.std.specs.Prelude.{◌≡◌, ℕ, ◌+◌, List, length, Option, Some, None, Result, Ok, Err, codes}
 use Rattle.oa_text.specs.Lines.{lines_of, numbered}
 use Rattle.norm_lang.specs.declared.text.Text.{Text}
@@ -19,8 +19,8 @@ text_in bytes = do
   front ← front_read next.1 bytes next.0
   Ok front.0
 
--- what is found of the register to name, where this was read as a text: the first that is at fault, and none only where the rule blames none.
--- Where a line has a fault there is no text that a rule could refuse, and none is named. Of a register for which there was no memory nothing
+-- what is found of the register to name, if this was read as a text: the first that is at fault, and none only if the rule blames none.
+-- If a line has a fault, there is no text that a rule could refuse, and none is named. Of a register for which there was no memory nothing
 -- is said here, and the message says that there was none
 abbrev pub IsNamedIn : Result Text LineFault → Refusal → Blame → Type 0
 IsNamedIn read refusal NoMemory = Unit {0}
@@ -31,6 +31,7 @@ IsNamedIn (Err fault) refusal (Found register) = register ≡ None
 abbrev pub IsNamed : List ℕ → Refusal → Blame → Type 0
 IsNamed bytes refusal named = IsNamedIn (text_in bytes) refusal named
 
--- the same where this is remembered of what was read
+-- what is named for a status, if this is remembered of what was read: if a rule is broken, the same; otherwise no register
 abbrev pub IsNamedFor : Option (List ℕ) → Status → Blame → Type 0
-IsNamedFor read status named = (bytes : List ℕ) (refusal : Refusal) → read ≡ Some bytes → status ≡ Refused refusal → IsNamed bytes refusal named
+IsNamedFor read (Refused refusal) named = (bytes : List ℕ) → read ≡ Some bytes → IsNamed bytes refusal named
+IsNamedFor read _ named = named ≡ Found None

@@ -1,4 +1,4 @@
-//! The register that is named where a text is refused.
+//! The register that is named if a text is refused.
 
 ghost use Rattle.std.specs.Prelude.{◌+◌, ◌<◌, ◌^◌, length, Some, Ok, IfOk};
 ghost use Rattle.oa_text.specs.Lines.{lines_of};
@@ -45,7 +45,7 @@ fn register_in(alloc: Global, text: Text, refusal: Refusal) -> Blame
     }
 }
 
-/// The same in the text with which bytes begin; none where they are no text.
+/// The same in the text with which bytes begin; none if they are no text.
 fn named(alloc: Global, bytes: &[u8], refusal: Refusal) -> Blame
     requires { length (lines_of bytes.now) + 1 < 2 ^ 32 }
     ensures { IsNamed bytes.now refusal result }
@@ -57,8 +57,8 @@ fn named(alloc: Global, bytes: &[u8], refusal: Refusal) -> Blame
     }
 }
 
-/// The register that the message on a status names, where these bytes were read: the first that is at fault by the rule that is
-/// broken; none where the rule blames none, or where no rule is broken.
+/// The register that the message on a status names, if these bytes were read: the first that is at fault by the rule that is
+/// broken; none if the rule blames none, or if no rule is broken.
 pub fn named_for(alloc: Global, bytes: &[u8], status: Status) -> Blame
     requires { length (lines_of bytes.now) + 1 < 2 ^ 32 }
     ensures { IsNamedFor (Some bytes.now) status result }

@@ -13,7 +13,7 @@ use Rattle.core_runs.specs.Replays.{Replaying, Refusal, LongReplay, caller_event
 use Rattle.core_runs.proofs.Reaching.{run_both}
 use Rattle.core_runs.specs.core_sound.Sound.{IsSound}
 use Rattle.core_runs.proofs.core_sound.Reached.{states_are_sound}
-use Rattle.core_entries.proofs.Calling.{runnable}
+use Rattle.core_ground.proofs.Runnable.{runnable}
 use Rattle.core_entries.specs.Callers.{BelongsTo}
 use Rattle.core_entries.specs.Steps.{WordsSound}
 use Rattle.core_entries.specs.StepSigns.{signs_told}

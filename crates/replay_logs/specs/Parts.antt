@@ -28,7 +28,7 @@ part_of (turns.Step c n) entries = Steps c n
 part_of (turns.Upto c kind n) entries = Upto c kind n
 part_of (turns.Ops c n) entries = Ops c (entry_ended (slice_get entries c) + n)
 
--- ---- what is left of a part after a further step; none where it is over
+-- ---- what is left of a part after a further step; none if it is over
 
 abbrev pub steps_rest : ℕ → ℕ → Option Part
 steps_rest c zero = None

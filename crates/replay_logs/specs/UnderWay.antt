@@ -54,7 +54,7 @@ entry_replies e = replies_of e.core
 
 -- ---- one step of a caller
 
--- an idle caller has a step to take where its script has a further call, and one that runs where it isn't spent
+-- an idle caller has a step to take if its script has a further call, and one that runs if it isn't spent
 abbrev pub has_next : ℕ → List Call → Entry → Bool
 has_next fuel script e = if is_idle e.routine then is_some (slice_get script (length e.replies)) else not (is_spent fuel e)
 
@@ -127,7 +127,7 @@ pub record IsUnderWay (t : Terms) (now : Progress) : Type 0 where
   pub replaying : Replaying
   pub shows : Shows t now replaying
 
--- what the code tells of a part of the replay, against what that part gives; where memory ran out nothing is told
+-- what the code tells of a part of the replay, against what that part gives; if memory ran out, nothing is told
 abbrev pub Tells : Terms → Result (Unit {0}) LogError → Progress → Result Replaying Refusal → Type 0
 Tells t (Ok done) now (Ok r) = Shows t now r
 Tells t (Ok done) now (Err refusal) = ⊥

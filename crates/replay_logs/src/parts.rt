@@ -119,7 +119,7 @@ impl<'a> Terms<'a> {
         }
     }
 
-    /// What is left of a part after a further step; nothing where it is over.
+    /// What is left of a part after a further step; nothing if it is over.
     #[inline(always)]
     fn rest_of(&self, now: &Progress, part: Part) -> Option<Part>
         requires { IsUnderWay self.now now.now }

@@ -11,7 +11,8 @@ ghost use Rattle.replay_logs.specs.UnderWay.{replay_by, log_after, begun, has_ne
 
 use crate::error::LogError;
 use caller_steps::{Call, Program, Setting};
-use core_entries::{Entry, PlainWords, Prepared, Runs};
+use core_entries::Entry;
+use core_ground::{PlainWords, Prepared, Runs};
 use norm_check::Normal;
 use norm_lang::list::Listed;
 use replay_steps::counting::{is_at_limit, one_more};

@@ -20,7 +20,7 @@ use crate::progress::{Progress, Terms};
 use crate::replies::all_replies;
 use barrier_check::Barred;
 use caller_steps::{Call, Setting};
-use core_entries::{PlainWords, Prepared};
+use core_ground::{PlainWords, Prepared};
 use norm_check::Normal;
 use norm_lang::list::Listed;
 use replay_steps::entries::put_entries;
@@ -134,8 +134,8 @@ fn log_prepared<'a>(
 }
 
 /// Replays scripts, one for each caller, and writes down what the run tells the source machine: the turns of a schedule in order, and
-/// then each caller to its end, in the order of their numbers. A caller has a step to take where its operation runs or its script has a
-/// further call, and no operation of it was spent. An operation is spent where `fuel` steps were made for it and it hasn't ended. At most
+/// then each caller to its end, in the order of their numbers. A caller has a step to take if its operation runs or its script has a
+/// further call, and no operation of it was spent. An operation is spent if `fuel` steps were made for it and it hasn't ended. At most
 /// `limit` steps are made.
 ///
 /// # Errors

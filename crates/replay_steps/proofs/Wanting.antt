@@ -1,4 +1,4 @@
--- The kind of access that a caller wants, where its entry was looked up.
+-- The kind of access that a caller wants, by the entry that was looked up.
 use Rattle.std.proofs.Common.{◌≡◌, ℕ, Bool, false, List, map, Some, None, sym, ap, ◌∙◌}
 use Rattle.std.specs.Prelude.{slice_get, option_map}
 use Rattle.std.proofs.lemmas.Option.{slice_get-map}

@@ -3,7 +3,7 @@ use Rattle.std.specs.Prelude.{ℕ, ◌-◌, Bool, List, Option, Some, None, Resu
 use Rattle.schedule_turns.specs.declared.turn.Turn.{Turn}
 use Rattle.core_runs.specs.Replays.{Replay, Replaying, Refusal, go_further, turns_made, callers_ended}
 
--- how many accesses of the kind are left after a look at whether one is wanted; none where it is the last
+-- how many accesses of the kind are left after a look at whether one is wanted; none if it is the last
 abbrev pub left_after : Bool → ℕ → Option ℕ
 left_after wanted left = if wanted then (if nat_le left 1 then None else Some (left - 1)) else Some left
 

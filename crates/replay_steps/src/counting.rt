@@ -18,7 +18,7 @@ pub(crate) fn is_of_kind(kind: StepKind, wanted: Option<StepKind>) -> bool
     }
 }
 
-/// How many accesses of the kind are left after a look at whether one is wanted; none where it is the last.
+/// How many accesses of the kind are left after a look at whether one is wanted; none if it is the last.
 pub fn left_after(wanted: bool, left: u32) -> Option<u32>
     ensures { result ≡ left_after wanted left }
 {

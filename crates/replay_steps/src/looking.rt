@@ -7,7 +7,8 @@ ghost use Rattle.replay_steps.specs.Entries.{core_part, AllBelongTo};
 
 use crate::counting::is_of_kind;
 use caller_steps::{Call, Setting};
-use core_entries::{Entry, Prepared};
+use core_entries::Entry;
+use core_ground::Prepared;
 use norm_lang::list::Listed;
 use schedule_turns::StepKind;
 

@@ -1,12 +1,13 @@
-//! What the programs of rows have in common: how a row spells the lines that are read, and why a row has no answer.
+//! What the programs of rows have in common: how rows spell the lines that are read, numbers, and moves of callers, and why a row has no
+//! answer.
 #![tactic(auto)]
 
 mod error;
 mod limits;
+mod moves;
 mod spelling;
-mod taking;
 
 pub use error::RowError;
 pub use limits::few;
-pub use spelling::{NamedLines, one_line, spelled};
-pub use taking::take_lines;
+pub use moves::{Deed, Who, moves_in, number, numbers};
+pub use spelling::{NamedLines, one_line, spelled, take_lines};

@@ -9,6 +9,7 @@ ghost use Rattle.row_spelling.specs.OneLine.{shown, one_line};
 
 use crate::error::RowError;
 use std::alloc::{AllocError, Global};
+use std::io;
 
 /// Lines with a name.
 #[derive(Drop)]
@@ -163,16 +164,28 @@ pub fn spelled(alloc: Global, named: &[NamedLines], spelling: &str) -> Result<Ve
 }
 
 /// The lines that a name and their spelling, which stand in one line, name.
-pub(crate) fn named_lines(
-    alloc: Global,
-    named: &[NamedLines],
-    line: &str,
-) -> Result<NamedLines, RowError> {
+fn named_lines(alloc: Global, named: &[NamedLines], line: &str) -> Result<NamedLines, RowError> {
     let (name, spelling) = line.split_once(' ').ok_or(RowError::Wrong)?;
     Ok(NamedLines {
         name: String::from_str(alloc, name)?,
         bytes: spelled(alloc, named, spelling)?,
     })
+}
+
+/// Takes the lines that rows begin with, whose name and spelling stand after `lines ` in a line of standard input. If they aren't
+/// spelled so, standard output says it.
+pub fn take_lines<R: Print>(
+    rt: &R,
+    alloc: Global,
+    named: &mut Vec<NamedLines>,
+    line: &str,
+    rest: &str,
+) -> io::Result<()> {
+    match named_lines(alloc, named, rest) {
+        Ok(lines) => Ok(named.push(lines)?),
+        Err(RowError::Wrong) => println!(rt; "wrong row: {line}"),
+        Err(RowError::Memory(error)) => Err(error.into()),
+    }
 }
 
 /// The character that stands for a byte in a line.

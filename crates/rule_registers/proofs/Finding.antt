@@ -64,7 +64,7 @@ find_first : (test : Reg → Bool) (rs : List Reg) → FirstIn (λ r. IsTrue (te
 find_first test [] = λ k r is. let no : None ≡ Some r = is in cc
 find_first test (x ∷ rs) = first_by test x rs (test x) refl (find_first test rs)
 
--- where a test decides what holds of registers, what passes it first is the first of which that holds
+-- if a test decides what holds of registers, the first that passes it is the first of which that holds
 module _ (test : Reg → Bool) (P : Reg → Type 0) (decides : (r : Reg) → IsTrue (is_register r) → IsTrue (test r) ↔ P r) where
   registered : (k : ℕ) (r : Reg) → slice_get all_registers k ≡ Some r → IsTrue (is_register r)
   registered k r is = all_get is_register all_registers k r refl is

@@ -1,4 +1,4 @@
--- Which register is at fault where an instruction breaks a rule, by the rule's own definition.
+-- Which register is at fault if an instruction breaks a rule, by the rule's own definition.
 use Rattle.std.specs.Prelude.{ℕ, Bool, false, ◌&&◌, ◌||◌, not, ◌⊎◌, List, Option, IsTrue}
 use Rattle.std.specs.List.{list_any}
 use Rattle.norm_lang.specs.declared.text.Reg.{Reg}
@@ -115,7 +115,7 @@ IsPutWrongly op wrapup at i r =
     IsTrue (not wrapup)
     × ((IsTrue (is_put_into r i) × (¬ IsSurelyFresh (code_of op wrapup) r at)) ⊎ (IsTrue (is_put r i) × MayBeFresh (code_of op wrapup) r at))
 
--- N6: it may be fresh, and is read openly, or is kept where the instruction is a commit
+-- N6: it may be fresh, and is read openly, or is kept if the instruction is a commit
 abbrev pub IsLeaked : Op → Bool → ℕ → Instr → Reg → Type 0
 IsLeaked op wrapup at i r =
     (IsTrue (reads_openly r i) × MayBeFresh (code_of op wrapup) r at)
@@ -123,14 +123,14 @@ IsLeaked op wrapup at i r =
 
 -- ---- N15
 
--- it may have another kind than the instruction asks it to be of. Where a pick's roots are of several kinds no register is at fault
+-- it may have another kind than the instruction asks it to be of. If a pick's roots are of several kinds, no register is at fault
 abbrev pub IsOtherKindIn : Text → Op → Bool → ℕ → Instr → Reg → Type 0
 IsOtherKindIn text op wrapup at i (Num n) = ⊥
 IsOtherKindIn text op wrapup at i (Ref n) = IsOtherKindOf text op wrapup at i n
 
 -- ---- all rules
 
--- a register is at fault where the instruction `i` at a place of an operation breaks a rule: by N3, N7, N8 and N13 none is
+-- a register is at fault by a rule, at the instruction `i` at a place of an operation: by N3, N7, N8 and N13 none is
 abbrev pub IsAtFault : Rule → Text → Op → Bool → ℕ → Instr → Reg → Type 0
 IsAtFault N1 text op wrapup at i r = IsTrue (is_misplaced text.fields text.roots r i)
 IsAtFault N2 text op wrapup at i r = IsTrue (is_computed_with r i)

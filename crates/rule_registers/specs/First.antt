@@ -1,4 +1,4 @@
--- The register that is named where a text is refused.
+-- The register that is named if a text is refused.
 use Rattle.std.specs.Prelude.{◌≡◌, ℕ, ◌<◌, ◌⊎◌, Bool, Option, Some, None, slice_get, IsSomeAnd}
 use Rattle.norm_lang.specs.declared.text.Reg.{Reg}
 use Rattle.norm_lang.specs.declared.text.Text.{Text}
@@ -15,7 +15,7 @@ AtFault rule text number wrapup at r =
     IsSomeAnd (slice_get (code_of op wrapup) at) (λ i.
     IsAtFault rule text op wrapup at i r))
 
--- the first register of which this holds, in the order n0 to n7 and r0 to r7, or none where it holds of none
+-- the first register of which this holds, in the order n0 to n7 and r0 to r7, or none if it holds of none
 abbrev pub IsFirst : (Reg → Type 0) → Option Reg → Type 0
 IsFirst P None = (k : ℕ) (r : Reg) → slice_get all_registers k ≡ Some r → ¬ P r
 IsFirst P (Some r) =
@@ -25,7 +25,7 @@ IsFirst P (Some r) =
 abbrev pub IsNoRule : ℕ → Type 0
 IsNoRule n = (n ≡ 0) ⊎ (15 < n)
 
--- the first register that is at fault by the rule that a refusal names, at the instruction that it names; none where it names no rule
+-- the first register that is at fault by the rule that a refusal names, at the instruction that it names; none if it names no rule
 abbrev pub IsFirstAtFault : Text → Refusal → Option Reg → Type 0
 IsFirstAtFault text refusal found =
     ((rule : Rule) → rule_number rule ≡ refusal.rule → IsFirst (AtFault rule text refusal.op refusal.wrapup refusal.at) found)

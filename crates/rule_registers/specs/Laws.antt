@@ -8,7 +8,7 @@ use Rattle.norm_lang.specs.Kinds.{picks_several}
 use Rattle.norm_lang.specs.NormalForm.{Rule, N1, N2, N3, N4, N5, N6, N7, N8, N9, N10, N11, N12, N13, N14, N15, BreaksRule}
 use Rattle.rule_registers.specs.AtFault.{IsAtFault}
 
--- a register is at fault by a rule only where the instruction breaks it
+-- a register is at fault by a rule only if the instruction breaks it
 abbrev pub BlamedIsBroken : Type 0
 BlamedIsBroken = (rule : Rule) (text : Text) (op : Op) (wrapup : Bool) (at : ℕ) (i : Instr) (r : Reg) → IsAtFault rule text op wrapup at i r → BreaksRule rule text op wrapup at i
 
@@ -31,6 +31,6 @@ IsOfRegisters N13 text wrapup i = ⊥
 IsOfRegisters N14 text wrapup i = Unit {0}
 IsOfRegisters N15 text wrapup i = IsTrue (not (picks_several text.roots i))
 
--- where an instruction breaks such a rule some register is at fault
+-- if an instruction breaks such a rule, some register is at fault
 abbrev pub BrokenIsBlamed : Type 0
 BrokenIsBlamed = (rule : Rule) (text : Text) (op : Op) (wrapup : Bool) (at : ℕ) (i : Instr) → IsOfRegisters rule text wrapup i → BreaksRule rule text op wrapup at i → (r : Reg) × IsAtFault rule text op wrapup at i r

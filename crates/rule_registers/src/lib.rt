@@ -1,4 +1,4 @@
-//! Which register is at fault where an instruction breaks a rule.
+//! Which register is at fault if an instruction breaks a rule.
 #![tactic(auto)]
 
 mod blaming;

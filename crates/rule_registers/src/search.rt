@@ -93,7 +93,7 @@ fn blamed_at(
     Ok(first_blamed(&site, refusal.rule))
 }
 
-/// The same for an operation; none where it hasn't the instruction.
+/// The same for an operation; none if it hasn't the instruction.
 fn blamed_in(
     alloc: Global,
     text: &Text,

@@ -1,4 +1,4 @@
--- What an access asks registers to be they are, where the source's caller stands at it.
+-- If the source's caller stands at an access, its registers are what the access asks them to be.
 use Rattle.std.proofs.Common.{◌≡◌, ℕ, Bool, true, false, List, Option, Some, refl, sym, ap, subst, ◌∙◌}
 use Rattle.std.specs.Prelude.{slice_get, IsTrue}
 use Rattle.norm_lang.specs.declared.text.FieldDecl.{FieldDecl}
@@ -34,7 +34,7 @@ use Rattle.run_ahead.proofs.Quiet.{source_ahead, stands_there}
 use Rattle.run_ahead.proofs.Standing.{generator_access, wrap_up_access}
 use Rattle.run_ahead.proofs.TypedCallers.{stands_asked, list_asked}
 
--- it doesn't matter to what is asked where a jump leads
+-- what is asked doesn't depend on where a jump leads
 asks_redirected : (fields : List FieldDecl) (roots : List RootDecl) (place : ℕ → ℕ) (i : Instr) (r k : ℕ) → asks fields roots (redirected place i) r k ≡ asks fields roots i r k
 asks_redirected fields roots place (instr.Cas entry l) r k = refl
 asks_redirected fields roots place _ r k = refl
@@ -48,7 +48,7 @@ typed_at_access text op true started accessed call spot nodes is access typed =
     let running : Running = record { op = call.number; args = call.args; registers = spot.registers; stand = InWrapUp spot.at started accessed } in
     (subst (λ (caller : SourceCaller). IsTypedCaller text nodes caller) (wrap_up_access accessed op (slice_get op.wrapup spot.at) running (caller_of call) access) typed op is).1
 
--- where the core has come to an access, and the source with it
+-- so it is if the core has come to an access, and the source with it
 pub asked_here : {target : Target} {text : Text} (method : Method target text) (started : Registers) (accessed : Bool) (call : Call) (at : ℕ) (mirror : Registers) (there : Spot) (caller : SourceCaller)
     (i : Instr) (nodes : List NamedNode) → IsErased target text → StandsAhead method started accessed call at mirror there caller
     → slice_get (code_in method) at ≡ Some (Plain i) → IsTrue (is_access i) → IsTypedCaller text nodes caller → AreAsked text i nodes mirror

@@ -19,7 +19,7 @@ use Rattle.target_code.specs.declared.target.TargetInstr.TheVariants.{Plain}
 use Rattle.target_code.specs.Paths.{IsTargetSuccessor, target_goes_from, target_code_of}
 use Rattle.target_laws.specs.Methods.{Method}
 use Rattle.target_laws.proofs.Filled.{item_passes}
-use Rattle.bare_targets.specs.Bare.{bare_op, bare}
+use Rattle.target_code.specs.Bare.{bare_op, bare}
 use Rattle.bare_targets.proofs.PlainCode.{code_is_plain}
 use Rattle.std.proofs.lemmas.List.{length-map}
 

@@ -50,7 +50,7 @@ again_is_followed calm target text normal home null method call number registers
 
 -- ---- the wrap-up
 
--- at any moment after the commit, also where the source's caller has moved on in its list
+-- at any moment after the commit, also if the source's caller has moved on in its list
 pub wrapup_follows : {target : Target} {text : Text} (method : Method target text) (call : Call) (home : ℕ → ℕ) (calm calm' : Type 0) (path : List ℕ) (core : Spot) (mirror : Registers) (there : Spot) (entries : List CasEntry) (made : ℕ)
     → IsCompiled target text → call.number ≡ method.number → slice_get (code_in (generator_of method)) core.at ≡ Some (Plain (instr.Commit entries)) → Ahead (generator_of method) home calm path core mirror there
     → Follows (wrapup_walk method call (with_count core.registers made) (with_count mirror made)) home calm' [] (first_spot (with_count core.registers made)) (with_count mirror made) false (wrap_up_after method.op made mirror call)

@@ -34,7 +34,7 @@ pub references_agree : (home : ℕ → ℕ) (here mirror : Registers) (r : Reg) 
 references_agree home here mirror (Num r) null agree = (sym null, refl)
 references_agree home here mirror (Ref r) null agree = agree
 
--- slots are the same exactly where names that are apart are
+-- the slots of names that are apart are the same exactly if the names are
 pub same_test : (home : ℕ → ℕ) (m n : ℕ) → (home m ≡ home n → m ≡ n) → (home m == home n) ≡ (m == n)
 same_test home m n apart = by_test (home m == home n) refl
   where
@@ -45,7 +45,7 @@ same_test home m n apart = by_test (home m == home n) refl
 pub same_references : (home : ℕ → ℕ) (a b c d : Reference) → StandsFor home a c → StandsFor home b d → (home c.node ≡ home d.node → c.node ≡ d.node) → same_reference a b ≡ same_reference c d
 same_references home a b c d one other apart = rw (one.0, other.0, one.1, other.1) (ap (λ t. t && same_bool c.marked d.marked) (same_test home c.node d.node apart))
 
--- registers are equal on one side exactly where they are on the other
+-- registers are equal on one side exactly if they are on the other
 pub equal_both : (home : ℕ → ℕ) (here mirror : Registers) (a b : Reg) → Agree home here mirror a → Agree home here mirror b
     → ((x y : ℕ) → a ≡ Ref x → b ≡ Ref y → home (node_in mirror x) ≡ home (node_in mirror y) → node_in mirror x ≡ node_in mirror y) → are_equal here a b ≡ are_equal mirror a b
 equal_both home here mirror (Num a) (Num b) one other apart = rw (one, other) refl

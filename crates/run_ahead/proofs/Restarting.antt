@@ -1,4 +1,4 @@
--- A method begins again, where that is enabled.
+-- A method begins again, if that is enabled.
 use Rattle.std.proofs.Common.{◌≡◌, ℕ, ◌⊎◌, inl, inr, Bool, true, false, List, Option, Some, None, refl, sym, ap, ◌∙◌}
 use Rattle.std.specs.Prelude.{slice_get, IsTrue, IsSomeAnd, if◌then◌else◌}
 use Rattle.std.proofs.lemmas.Bool.{or_cases}

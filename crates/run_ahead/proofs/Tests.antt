@@ -1,4 +1,4 @@
--- An exchange succeeds in the core exactly where it does in the source; what it reads agrees, and its operands are guarded.
+-- An exchange succeeds in the core exactly if it does in the source; what it reads agrees, and its operands are guarded.
 use Rattle.std.proofs.Common.{◌≡◌, ℕ, inl, inr, Bool, true, false, ◌&&◌, Some, None, refl, sym, ap, subst, ◌∙◌}
 use Rattle.std.specs.Prelude.{not, is_some, IsTrue, ◌==◌, if◌then◌else◌}
 use Rattle.std.specs.List.{list_any}

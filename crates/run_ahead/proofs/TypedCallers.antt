@@ -41,7 +41,7 @@ use Rattle.kind_laws.specs.TargetKinds.{MayHaveInTarget}
 use Rattle.kind_laws.proofs.Closed.{kept_kind}
 use Rattle.kind_laws.proofs.InText.{asked_kinds_are_named}
 use Rattle.kind_laws.proofs.Typed.{local_code_keeps, loads_keep, new_nodes_keep, commits_carry, restarts_keep}
-use Rattle.bare_targets.specs.Bare.{bare_op, bare}
+use Rattle.target_code.specs.Bare.{bare_op, bare}
 use Rattle.run_ahead.specs.Typed.{IsNodeOf, IsOfKind, IsRegisterFor, IsTyped, KindsStay, AreAsked, AreAskedBy}
 use Rattle.run_ahead.specs.TypedCallers.{HasKinds, AreTypedAmong, StandsTyped}
 use Rattle.bare_targets.proofs.Erasing.{bare_erases}
@@ -58,7 +58,7 @@ pub stands_stay : (text : Text) (op : Op) (wrapup : Bool) (at : ℕ) (nodes node
 stands_stay text op wrapup at nodes nodes' registers stay stands =
     record { path = stands.path; leads = stands.leads; typed = among_stays nodes nodes' text (bare_op op) wrapup at registers stay stands.typed }
 
--- ---- where a kind is asked
+-- ---- the kinds that are asked
 
 one_passes : {X : Type 0} (test : X → Bool) (xs : List X) (k : ℕ) (x : X) → slice_get xs k ≡ Some x → test x ≡ true → list_any test xs ≡ true
 one_passes test [] k x is passes = absurd (let never : None ≡ Some x = is in cc)
@@ -88,7 +88,7 @@ node_of nodes name k right = by (kind_named name nodes) refl
         let no : ⊥ = omega (arith, next) in absurd no)
         (right (kind_or nodes (k + 1)) (has_own nodes (k + 1)))
 
--- where registers are typed, each that an instruction asks to be of a kind names null or a node of the kind (N15)
+-- if registers are typed, each that an instruction asks to be of a kind names null or a node of the kind (N15)
 pub stands_asked : (text : Text) → IsNormal text → (number : ℕ) (op : Op) (wrapup : Bool) → slice_get text.ops number ≡ Some op → (at : ℕ) (i : Instr) (nodes : List NamedNode) (registers : Registers) → slice_get (code_of op wrapup) at ≡ Some i
     → StandsTyped text op wrapup at nodes registers → AreAsked text i nodes registers
 stands_asked text normal number op wrapup is at i nodes registers there stands r k asked = node_of nodes (node_in registers r) k

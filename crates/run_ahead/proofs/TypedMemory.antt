@@ -58,7 +58,7 @@ nodes_stay : (text : Text) (nodes nodes' some : List NamedNode) → KindsStay no
 nodes_stay text nodes nodes' [] stay typed = tt
 nodes_stay text nodes nodes' (node ∷ some) stay typed = (are_of_kinds_stay nodes nodes' (field_kinds text node.kind) node.values stay typed.0, nodes_stay text nodes nodes' some stay typed.1)
 
--- to set a field changes no kind
+-- setting a field changes no kind
 pub field_kinds_stay : (k f : ℕ) (value : Value) (nodes : List NamedNode) → KindsStay nodes (with_field k f value nodes)
 field_kinds_stay k f value nodes name kind is = kinds_set k name f value nodes ∙ is
 
@@ -77,7 +77,7 @@ pub place_kinds_stay : (fields : List FieldDecl) (place : Place) (registers : Re
 place_kinds_stay fields (places.Root x) registers value memory = λ name kind is. is
 place_kinds_stay fields (places.Field a f) registers value memory = field_kinds_stay (reference_in registers a).node (place_of fields f) value memory.nodes
 
--- to retire a name leaves all nodes
+-- retiring a name leaves all nodes as they are
 pub name_retired_nodes : (name : ℕ) (memory : Memory) → (with_name_retired name memory).nodes ≡ memory.nodes
 name_retired_nodes zero memory = refl
 name_retired_nodes (suc n) memory = refl
@@ -160,7 +160,7 @@ root_at text x kind is = slice_get-map (λ root. root.kind) text.roots x ∙ is
 
 -- ---- nodes
 
--- the kind that a name has, where it names null or a node of a kind
+-- the kind that a name has, if it names null or a node of a kind
 pub one_kind : (nodes : List NamedNode) (owner name kind : ℕ) → kind_named 0 nodes ≡ None → IsNodeOf nodes owner name → kind_named name nodes ≡ Some kind → kind ≡ owner
 one_kind nodes owner name kind null (inl zeroth) is = absurd (let no : None ≡ Some kind = sym null ∙ (ap (λ (n : ℕ). kind_named n nodes) (sym zeroth) ∙ is) in cc)
 one_kind nodes owner name kind null (inr of) is = same_Some kind owner (sym is ∙ of)

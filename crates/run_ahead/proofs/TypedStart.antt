@@ -44,7 +44,7 @@ none_below first name (node ∷ nodes) lt =
 
 -- ---- first values
 
--- where the initial nodes are of these kinds, and each has its own
+-- the name of each initial node is of the kind that `owners` says
 abbrev AreNamed : List ℕ → List NamedNode → Type 0
 AreNamed owners nodes = (j k : ℕ) → is_owner (slice_get owners j) k ≡ true → kind_named (suc j) nodes ≡ Some k
 

@@ -101,8 +101,8 @@ succeeds_on entry registers found = not (has_null_object entry.place registers) 
 abbrev pub IsCompared : CasEntry → Registers → Value → ℕ → Type 0
 IsCompared entry mirror found n = (n ≡ 0) ⊎ ((n ≡ name_in found) ⊎ ((r : ℕ) × IsTrue (list_any (same_register (Ref r)) (operands_of entry)) × (node_in mirror r ≡ n)))
 
--- an exchange succeeds in the core exactly where it does in the source: its operands agree, the names that it compares have
--- different homes, and unless its object is null both sides find what agrees
+-- an exchange whose operands agree succeeds in the core exactly if it does in the source, provided that the names that it compares
+-- have different homes, and that unless its object is null both sides find what agrees
 abbrev pub TestsAgree : Type 0
 TestsAgree =
     (fields : List FieldDecl) (home : ℕ → ℕ) → home 0 ≡ 0 → (entry : CasEntry) (here mirror : Registers) (memory : Memory) (found found' : Value)

@@ -46,7 +46,7 @@ pub record Confirms {target : Target} {text : Text} (walk : Walk target text) (h
   pub got : (names : List ℕ) → AreGot walk.method path walk.started mirror names → AreGot walk.method (core.at ∷ path) walk.started mirror names
   pub guards : (row : GuardRow) → GuardsStand walk.method path mirror row → GuardsStand walk.method (core.at ∷ path) mirror (validated row)
 
--- a check passes where the caller wasn't warned; it confirms what the caller holds, where the names that would be trusted have
+-- a check passes if the caller wasn't warned; it confirms what the caller holds, if the names that would be trusted have
 -- different homes
 abbrev pub PassedChecksConfirm : Type 0 → Type 0
 PassedChecksConfirm calm =

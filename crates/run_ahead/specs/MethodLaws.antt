@@ -111,7 +111,7 @@ AgainIsFollowed calm =
 
 -- ---- a method begins again
 
--- the event, where it is enabled, leaves memory, and a method run begins that has got nothing; where it isn't, the wrap-up has
+-- the event, if it is enabled, leaves memory as it is, and a method run begins that has got nothing; if it isn't, the wrap-up has
 -- ended already without an access. In either case the source's caller follows the core's from the method's start
 pub record RestartFollows {target : Target} {text : Text} (walk : Walk target text) (home : ℕ → ℕ) (calm : Type 0) (event : SourceEvent) (before : Memory) (caller : SourceCaller) : Type 0 where
   pub memory : (turn_if_enabled text event before caller).memory ≡ before

@@ -42,7 +42,7 @@ CallersAreTyped =
     (text : Text) → IsNormal text → IsWithinLimits text → (callers : ℕ) (events : List SourceEvent) (state : SourceMachine)
     → IsSourceRun text callers events state → (c : ℕ) (caller : SourceCaller) → slice_get state.callers c ≡ Some caller → IsTypedCaller text state.memory.nodes caller
 
--- so where the core comes to an access, and the source with it, each register that the access asks to be of a kind names null or a
+-- so if the core comes to an access, and the source with it, each register that the access asks to be of a kind names null or a
 -- node of the kind
 abbrev pub AccessesFindKinds : Type 0 → Type 0
 AccessesFindKinds calm =

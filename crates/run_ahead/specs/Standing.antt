@@ -68,7 +68,7 @@ stands_in_list at entries made registers call = goes_on (running_at call registe
 abbrev pub wrap_up_after : Op → ℕ → Registers → Call → SourceCaller
 wrap_up_after op made registers call = begins_at op true (with_count registers made) call
 
--- an event of a caller where it is enabled; elsewhere nothing happens
+-- an event of a caller, if it is enabled; otherwise nothing happens
 abbrev pub turn_if_enabled : Text → SourceEvent → Memory → SourceCaller → Turn
 turn_if_enabled text event memory caller =
     if is_enabled_for text event (Some caller) memory then caller_turn text event memory caller else record { memory = memory; caller = caller }

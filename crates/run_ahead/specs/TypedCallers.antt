@@ -15,7 +15,7 @@ use Rattle.source_machine.specs.Memory.{kind_named}
 use Rattle.target_code.specs.declared.target.TargetOp.{TargetOp}
 use Rattle.target_code.specs.Paths.{TargetPath, target_code_of}
 use Rattle.kind_laws.specs.TargetKinds.{AreTyped}
-use Rattle.bare_targets.specs.Bare.{bare_op}
+use Rattle.target_code.specs.Bare.{bare_op}
 
 -- a kind for each name: a node's is its own
 abbrev pub HasKinds : List NamedNode → (ℕ → ℕ) → Type 0

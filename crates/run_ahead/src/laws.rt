@@ -17,8 +17,8 @@ pub fn local_runs_are_followed<Calm>()
 {}
 
 /// A check that passes is followed, and confirms what was loaded before it: each register of which anything is known holds what
-/// the source's holds, and is trusted from then on; what was guarded is validated. It takes that the caller wasn't warned, and
-/// that the names of which it speaks have different slots (Cohen and Petrank, SPAA 2015: a read is right where no warning
+/// the source's holds, and is trusted from then on; what was guarded is validated. The law assumes that the caller wasn't warned,
+/// and that the names of which it speaks have different slots (Cohen and Petrank, SPAA 2015: a read is right if no warning
 /// came before the check after it).
 pub fn passed_checks_confirm<Calm>()
     ensures { PassedChecksConfirm Calm }
@@ -34,8 +34,8 @@ pub fn warned_are_followed<Calm, Later>()
     ensures { WarnedAreFollowed Calm Later }
 {}
 
-/// A load is followed, by an access of the source with name 0 that leaves memory and gets the name that it finds. What the
-/// core finds has to be right only where the caller wasn't warned.
+/// A load is followed, by an access of the source with name 0 that leaves memory as it is and gets the name that it finds. What
+/// the core finds has to be right only if the caller wasn't warned.
 pub fn loads_are_followed<Calm>()
     ensures { LoadsAreFollowed Calm }
 {}
@@ -50,19 +50,19 @@ pub fn puts_are_followed<Calm>()
     ensures { PutsAreFollowed Calm }
 {}
 
-/// An auxiliary exchange is followed, by an access with name 0, where it succeeds in the core exactly where it does in the source.
+/// An auxiliary exchange that succeeds in the core exactly if it does in the source is followed, by an access with name 0.
 pub fn exchanges_are_followed<Calm>()
     ensures { ExchangesAreFollowed Calm }
 {}
 
-/// It does, of an auxiliary exchange and of each of a commit's list: where its operands agree, the names that it compares have
-/// different slots, null among them, and both sides find what agrees.
+/// An exchange, auxiliary or of a commit's list, succeeds in the core exactly if it does in the source. The law assumes that its
+/// operands agree, that the names that it compares have different slots, null among them, and that both sides find what agrees.
 pub fn tests_agree()
     ensures { TestsAgree }
 {}
 
-/// Where an instruction makes an exchange, what that reads agrees on both sides, and each reference among its operands is under
-/// a validated guard or null (Cohen and Petrank, SPAA 2015: what an exchange needs is protected before it).
+/// If an instruction makes an exchange, what the exchange reads agrees on both sides, and each reference among its operands is
+/// under a validated guard or null (Cohen and Petrank, SPAA 2015: what an exchange needs is protected before it).
 pub fn operands_agree<Calm>()
     ensures { OperandsAgree Calm }
 {}
@@ -72,8 +72,8 @@ pub fn begins_are_followed<Calm>()
     ensures { BeginsAreFollowed Calm }
 {}
 
-/// Where a generator's core caller comes to its commit, the source's stands before the list's first exchange (Timnat and
-/// Petrank, PPoPP 2014: a generator prepares a list of exchanges, and an executor makes them).
+/// If the core caller comes to the commit of a generator, the source's caller stands before the list's first exchange (Timnat
+/// and Petrank, PPoPP 2014: a generator prepares a list of exchanges, and an executor makes them).
 pub fn commits_are_followed<Calm>()
     ensures { CommitsAreFollowed Calm }
 {}
@@ -90,8 +90,8 @@ pub fn wrap_ups_begin<Calm, Later>()
     ensures { WrapUpsBegin Calm Later }
 {}
 
-/// At its end the source replies what the core's register holds, or begins the operation again: at once where the wrap-up has
-/// made no access, and else by an access with name 0 that leaves memory.
+/// At its end the source replies what the core's register holds, or begins the operation again: at once if the wrap-up has
+/// made no access, else by an access with name 0 that leaves memory as it is.
 pub fn ends_are_followed<Calm>()
     ensures { EndsAreFollowed Calm }
 {}
@@ -101,8 +101,8 @@ pub fn again_is_followed<Calm>()
     ensures { AgainIsFollowed Calm }
 {}
 
-/// A method that begins again is followed from its start, with a method run that has got nothing. The source restarts where
-/// that is enabled: a wrap-up without an access that came to its end has ended, and stands where a restart would lead it.
+/// A method that begins again is followed from its start, with a method run that has got nothing. The source restarts if
+/// that is enabled. If it isn't, a wrap-up without an access has ended already, and stands where a restart would lead it.
 pub fn restarts_are_followed<Calm, Later>()
     ensures { RestartsAreFollowed Calm Later }
 {}

@@ -9,7 +9,7 @@ use Rattle.norm_lang.specs.declared.reply.SourceReply.{SourceReply}
 use Rattle.source_machine.specs.Proper.{IsProper}
 use Rattle.barrier_check.specs.Paired.{IsSound}
 use Rattle.caller_parts.specs.Settings.{IsSetting}
-use Rattle.core_entries.proofs.Calling.{runnable}
+use Rattle.core_ground.proofs.Runnable.{runnable}
 use Rattle.core_runs.specs.Machine.{CoreState, Reachable, core_start}
 use Rattle.core_runs.specs.Replays.{replayed}
 use Rattle.core_runs.proofs.Replaying.{replays_reach}

@@ -1,4 +1,4 @@
--- Some call of a certificate didn't return exactly where a line of the report is short.
+-- A line of the report is short exactly if some call of the certificate didn't return.
 use Rattle.std.proofs.Common.{◌≡◌, ℕ, ◌+◌, Bool, true, false, ◌||◌, not, List, [], ◌∷◌, map, Option, Some, None, refl, sym, ap, ◌∙◌, arith}
 use Rattle.std.specs.Prelude.{slice_get}
 use Rattle.std.specs.List.{list_any}

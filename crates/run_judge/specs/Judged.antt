@@ -14,7 +14,7 @@ abbrev pub IsReadied : Document → Result Text RunFault → Type 0
 IsReadied document (Ok text) = (text ≡ document.text) × IsRunnable document
 IsReadied document (Err fault) = IsFaultOf document fault
 
--- what is found of a certificate's events and replies, where its document has these scripts
+-- what is found of a certificate's events and replies, by its document's text and scripts
 abbrev pub verdict_of : Certificate → Verdict
 verdict_of certificate = verdict_on certificate.document.text certificate.document.scripts certificate.events certificate.replies
 

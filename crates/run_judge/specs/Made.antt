@@ -54,7 +54,7 @@ IsMakingFaultOf document (faults.Refused refusal) = IsRefused document.text refu
 IsMakingFaultOf document (faults.Shape number at) = IsNormal document.text × (certificate_fault document ≡ Some (record { number = number; at = at }))
 
 -- a certificate is of its document's replay: its events are the image of the run that the turns give, and its replies those in which that run
--- ends. Where the text is proper, the judge accepts it. Of a document that was read, the certificate is read back of its spelling
+-- ends. If the text is proper, the judge accepts it. Of a document that was read, the certificate is read back of its spelling
 pub record IsCertificateOf (document : Document) (certificate : Certificate) : Type 0 where
   pub runnable : IsRunnable document
   pub replaying : Replaying

@@ -36,7 +36,7 @@ are_short_from caller (script ∷ scripts) lists = is_short_from 0 script (liste
 abbrev pub falls_short : Certificate → Bool
 falls_short certificate = are_short_from 0 certificate.document.scripts certificate.replies
 
--- this is so of the certificate of a replay exactly where some line that tells of the replay is short
+-- some line that tells of a replay is short exactly if this is so of the replay's certificate
 abbrev pub ShortIsTold : Type 0
 ShortIsTold =
     (document : Document) (certificate : Certificate) (made : IsCertificateOf document certificate)

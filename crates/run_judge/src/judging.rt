@@ -22,9 +22,9 @@ fn readied(alloc: Global, document: &Document) -> Result<Normal, RunFault>
     Ok(normal)
 }
 
-/// What is found of a certificate: `Accepted` exactly where its events are a source run of the text that begins the calls of the
-/// scripts in order and agrees with the replies; else 1 where an event isn't enabled, 2 where one begins another call than the next of its
-/// caller's script, with its place, and 3 where the replies of a caller don't agree, with the first such. The first event that shows 2 or 1
+/// What is found of a certificate: `Accepted` exactly if its events are a source run of the text that begins the calls of the
+/// scripts in order and agrees with the replies; else 1 if an event isn't enabled, 2 if one begins another call than the next of its
+/// caller's script, with its place, and 3 if the replies of a caller don't agree, with the first such. The first event that shows 2 or 1
 /// decides, 2 before 1.
 ///
 /// Its document's text is within the limits of texts, each of its scripts has at most 100,000 calls, each turn counts at least 1, and it has a
@@ -32,8 +32,8 @@ fn readied(alloc: Global, document: &Document) -> Result<Normal, RunFault>
 ///
 /// # Errors
 ///
-/// `Refused` exactly where the text isn't in normal form, with the first rule that is broken. Else `Shape` exactly where the document's shape
-/// is refused, with the first fault, 1 to 9. `Memory` where memory runs out, be it before one of these.
+/// `Refused` exactly if the text isn't in normal form, with the first rule that is broken. Else `Shape` exactly if the document's shape
+/// is refused, with the first fault, 1 to 9. `Memory` if memory runs out, be it before one of these.
 #[tactic(auto, using(crate::proofs::Shaped::some_scripts, crate::proofs::Shaped::few_scripts, crate::proofs::Shaped::means))]
 pub fn judge(alloc: Global, certificate: &Certificate) -> Result<Verdict, RunFault>
     requires within { IsWithinDocumentLimits certificate.now.document }

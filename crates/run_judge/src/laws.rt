@@ -2,7 +2,7 @@
 
 ghost use Rattle.run_judge.specs.Short.{ShortIsTold};
 
-/// Some call of the certificate of a replay didn't return exactly where a line that tells of the replay is short.
+/// A line that tells of a replay is short exactly if some call of the replay's certificate didn't return.
 pub fn short_is_told()
     ensures { ShortIsTold }
 {}

@@ -132,8 +132,8 @@ fn make_by(alloc: Global, document: &Document, plan: Plan) -> Result<Certificate
 ///
 /// # Errors
 ///
-/// As `replay_document`, but that `Shape` with the number 11 comes exactly where 2,000,000 steps were made and another is wanted, with
-/// their count. `Memory` where memory runs out, be it before one of these or after any step.
+/// As `replay_document`, except that `Shape` with the number 11 comes exactly if 2,000,000 steps were made and another is wanted, with
+/// their count. `Memory` if memory runs out, be it before one of these or after any step.
 pub fn make_certificate(alloc: Global, document: &Document) -> Result<Certificate, RunFault>
     requires { IsWithinDocumentLimits document.now }
     ensures { IsMade document.now result }

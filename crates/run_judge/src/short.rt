@@ -42,7 +42,7 @@ fn is_short_script(script: &[ScriptCall], replies: &[SourceReply]) -> bool
     false
 }
 
-/// The replies of a caller, none where there is no list.
+/// The replies of a caller, none if there is no list.
 fn replies_at(lists: &[ReplyList], caller: usize) -> &[SourceReply]
     ensures { result.now ≡ listed (slice_get lists.now caller) }
 {

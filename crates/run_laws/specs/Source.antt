@@ -19,7 +19,7 @@ use Rattle.run_laws.specs.Each.{AtEachState}
 -- or in neither (`refined`), and so it is in each state on the way (`refined_so_far`); its begins are the calls of the scripts, in order.
 -- In each state on the way no slot is ready that a validated guard names, so that none such is given out; a load from a slot that was
 -- given out again is followed by failed checks alone until its method begins again; and with one caller a claim ends with Full exactly
--- where every slot of its kind held a name that isn't retired
+-- if every slot of its kind held a name that isn't retired
 pub record FollowsSource (target : Target) (text : Text) (setting : Setting) (scripts : List (List Call)) (events : List CoreEvent) (state : CoreState) : Type 0 where
   pub refined : Refined target text setting events state
   pub refined_so_far : AtEachState target setting events (Refined target text setting)
@@ -28,7 +28,7 @@ pub record FollowsSource (target : Target) (text : Text) (setting : Setting) (sc
   pub warned : AtEachState target setting events (StaleLoadsAreWarned target text setting)
   pub lone : setting.sizes.callers ≡ 1 → AtEachState target setting events (LoneClaim target text setting)
 
--- each complete run of scripts does, with fuel for a step at least, where the text is proper
+-- each complete run of scripts with fuel for at least one step does, if the text is proper
 abbrev pub RunsFollowSource : Target → Text → Setting → Type 0
 RunsFollowSource target text setting = IsProper text → (scripts : List (List Call)) (fuel : ℕ) (events : List CoreEvent) (state : CoreState) → 1 ≤ fuel
     → IsCompleteRun target setting scripts fuel events state → FollowsSource target text setting scripts events state

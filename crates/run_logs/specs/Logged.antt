@@ -1,5 +1,5 @@
 -- What is written down of a run: the events of its signs, made on the source machine one after another.
-use Rattle.std.specs.Prelude.{◌≡◌, ℕ, ◌+◌, Bool, true, false, ◌&&◌, List, [], ◌∷◌, Some, None, nat_le}
+use Rattle.std.specs.Prelude.{◌≡◌, ℕ, ◌+◌, ◌<◌, Bool, true, false, ◌&&◌, List, [], ◌∷◌, length, take, Some, None, nat_le}
 use Rattle.norm_lang.specs.declared.text.Text.{Text}
 use Rattle.norm_lang.specs.Limits.{is_number}
 use Rattle.source_machine.specs.declared.event.SourceEvent.{SourceEvent}
@@ -68,6 +68,13 @@ logged text c call z sign =
 abbrev pub logged_all : Text → ℕ → Call → List Sign → Recording → Recording
 logged_all text c call [] z = z
 logged_all text c call (sign ∷ signs) z = logged_all text c call signs (logged text c call z sign)
+
+-- only the first signs were written, and not all of them: no later one gave an event or drew a name
+pub record IsCutShort (text : Text) (c : ℕ) (call : Call) (signs : List Sign) (old new : Recording) : Type 0 where
+  pub written : ℕ
+  pub fewer : written < length signs
+  pub drawn : new.unused ≡ (logged_all text c call (take written signs) old).unused
+  pub told : new.events ≡ (logged_all text c call (take written signs) old).events
 
 -- before the first event: the initial nodes are named from 1 on
 abbrev pub recording_start : Text → ℕ → ℕ → Recording

@@ -1,10 +1,10 @@
 //! Events of the source machine, written down as callers step.
 
-ghost use Rattle.std.specs.Prelude.{◌≡◌, ◌≤◌, ◌<◌, ◌+◌, ◌^◌, true, OnOk, IfOk};
+ghost use Rattle.std.specs.Prelude.{◌≡◌, ◌≤◌, ◌<◌, ◌+◌, ◌^◌, true, OnOk, OnErr, IfOk};
 ghost use Rattle.std.specs.List.{list_all};
 ghost use Rattle.source_machine.specs.Calls.{IsOfSourceRun};
 ghost use Rattle.source_machine.specs.declared.event.SourceEvent.TheVariants as events;
-ghost use Rattle.run_logs.specs.Logged.{named_event, is_sized, unused_after, is_restart, recording_start, logged, logged_all, Makes};
+ghost use Rattle.run_logs.specs.Logged.{named_event, is_sized, unused_after, is_restart, recording_start, logged, logged_all, IsCutShort, Makes};
 
 use caller_steps::Call;
 use core_entries::Sign;
@@ -158,6 +158,7 @@ impl Log {
     ) -> Result<(), AllocError>
         requires { IsOfSourceRun normal.now self.old.machine }
         ensures written { OnOk result (self.new ≡ logged normal.now caller call self.old sign) }
+        ensures kept { OnErr result ((self.new.unused ≡ self.old.unused) × (self.new.events ≡ self.old.events)) }
         ensures runs { IsOfSourceRun normal.now self.new.machine }
     {
         self.kept();
@@ -174,7 +175,7 @@ impl Log {
     /// Writes the signs of a step of a caller that runs this call, in order.
     ///
     /// # Errors
-    /// Memory ran out. Some of the signs may be written then.
+    /// Memory ran out. Only the first signs are written then, or none.
     pub fn write_all(
         &mut self,
         alloc: Global,
@@ -185,6 +186,7 @@ impl Log {
     ) -> Result<(), AllocError>
         requires { IsOfSourceRun normal.now self.old.machine }
         ensures written { OnOk result (self.new ≡ logged_all normal.now caller call signs.now self.old) }
+        ensures cut { OnErr result (IsCutShort normal.now caller call signs.now self.old self.new) }
         ensures runs { IsOfSourceRun normal.now self.new.machine }
     {
         for sign in signs {

@@ -1,18 +1,19 @@
 //! One step of a caller, written down.
 
-ghost use Rattle.std.specs.Prelude.{◌≡◌, false, OnOk};
+ghost use Rattle.std.specs.Prelude.{◌≡◌, false, OnOk, OnErr};
 ghost use Rattle.source_machine.specs.Calls.{IsOfSourceRun};
 ghost use Rattle.caller_steps.specs.Entries.{is_idle};
 ghost use Rattle.core_entries.specs.Callers.{BelongsTo};
 ghost use Rattle.core_entries.specs.Steps.{WordsSound, StepIs};
 ghost use Rattle.core_entries.specs.StepSigns.{signs_told};
-ghost use Rattle.run_logs.specs.Logged.{logged_all};
+ghost use Rattle.run_logs.specs.Logged.{logged_all, IsCutShort};
 
 use crate::log::Log;
 use barrier_check::Barred;
 use caller_steps::{Program, Setting};
+use core_entries::Entry;
 use core_entries::telling::step_told;
-use core_entries::{Entry, PlainWords};
+use core_ground::PlainWords;
 use norm_check::Normal;
 use std::alloc::{AllocError, Global};
 
@@ -20,7 +21,7 @@ use std::alloc::{AllocError, Global};
 /// machine is written down. The program was made once for many steps.
 ///
 /// # Errors
-/// Memory ran out. The step is made then, and some of its signs may be written.
+/// Memory ran out. The step is made then, and only its first signs are written, or none.
 pub fn step_written(
     alloc: Global,
     normal: &Normal,
@@ -41,6 +42,7 @@ pub fn step_written(
     ensures lawful { WordsSound barred.now.target setting.now words.new }
     ensures source { IsOfSourceRun normal.now log.new.machine }
     ensures written { OnOk result (log.new ≡ logged_all normal.now entry.old.core.number entry.old.core.running.call (signs_told barred.now.target setting.now words.old entry.old.core) log.old) }
+    ensures cut { OnErr result (IsCutShort normal.now entry.old.core.number entry.old.core.running.call (signs_told barred.now.target setting.now words.old entry.old.core) log.old log.new) }
 {
     let caller = entry.number();
     let call = entry.call();

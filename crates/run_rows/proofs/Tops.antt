@@ -66,7 +66,7 @@ three_is_none e = cc
 none_is_one : ◌≡◌ {A = ℕ} 0 1 → ⊥
 none_is_one e = cc
 
--- where none is on top, none stands
+-- if none is on top, none stands
 none_stands : (memory : Word → ℕ) (k j : ℕ) → top memory k ≡ 0 → ¬ InChain memory k j
 none_stands memory k j none there = of there.chain there.linked there.once where
   of : (chain : List ℕ) → IsChain (links memory) (top memory k) chain → times j chain ≡ 1 → ⊥

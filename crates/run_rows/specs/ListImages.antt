@@ -2,8 +2,8 @@
 --
 -- A call begins with the load of the own warning. Each load, put and exchange of the text is an access without a name, and the last
 -- store of 0 of a `new` one with the name that is drawn: 2, 3 and so on, as the sentinel is named 1. A check that fails restarts the
--- method. The load of the own warning at a wrap-up's start, and after `again`, restarts it only where the source may still do so:
--- where the wrap-up's local code has led to the reply already, it is left out.
+-- method. The load of the own warning at a wrap-up's start, and after `again`, restarts it only if the source may still do so:
+-- if the wrap-up's local code has led to the reply already, it is left out.
 use Rattle.std.specs.Prelude.{◌≡◌, ℕ, List, [], ◌∷◌, ◌++◌, replicate}
 use Rattle.norm_lang.specs.Shipped.{set_text}
 use Rattle.source_machine.specs.declared.event.SourceEvent.{SourceEvent}

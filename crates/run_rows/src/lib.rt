@@ -30,8 +30,8 @@ pub fn list_tops()
     ensures again { HeadAgain }
 {}
 
-/// The names of slots where a slot is given out again and a stale load is made: a fold that gives, keeps or drops names otherwise
-/// breaks a row.
+/// The names of slots in a run in which a slot is given out again and a stale load is made: a fold that gives, keeps or drops names
+/// otherwise breaks a row.
 pub fn stale_load()
     ensures names { RecycledNames }
     ensures held { HeldNames }
@@ -39,7 +39,7 @@ pub fn stale_load()
 {}
 
 /// Runs of scripts: which are complete, and which aren't, as one in which an idle caller has stopped in the middle of its script, or a
-/// call runs still that may make more steps.
+/// call still runs that may make more steps.
 pub fn script_runs()
     ensures { ScriptRuns }
 {}

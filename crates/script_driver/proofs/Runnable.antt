@@ -45,7 +45,7 @@ are_calls key before place =
     (either (place == 1) (key_call (codes "contains") key) _ (contains_is_call key)
     (either (place == 2) (key_call (codes "remove") before) (key_call (codes "contains") before) (remove_is_call before) (contains_is_call before)))
 
--- what is made of numbers has no fault, where none has
+-- the list that is made of numbers has no fault if what is made of each number has none
 none_has : {A : Type 0} (fault : A → Option ShapeFault) (make : ℕ → A) (numbers : List ℕ) → ((n : ℕ) → fault (make n) ≡ None) → first_of (map fault (map make numbers)) ≡ None
 none_has fault make [] each = refl
 none_has fault make (n ∷ numbers) each = rw (each n, none_has fault make numbers each) refl

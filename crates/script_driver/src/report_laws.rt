@@ -14,7 +14,7 @@ use legal_histories::laws::{queue_runs_are_legal, set_runs_are_legal};
 use queue_source::laws::queue_is_proper;
 use set_source::laws::set_is_proper;
 
-/// At the end of a complete run of scripts a call runs still exactly where all the steps that it may make were made for it, and
+/// At the end of a complete run of scripts a call still runs exactly if all the steps that it may make were made for it and
 /// it has no reply.
 pub fn spent_calls_ran_out()
     ensures { OfAll SpentCallsRanOut }
@@ -25,12 +25,12 @@ pub fn use_lines_name()
     ensures { UseLinesName }
 {}
 
-/// A report of a complete run of a document says `phases`, `full`, `spent` and `unreached` exactly where the steps of the run
-/// give cause to. Where the document's text is proper, the run is one of the text on memory that is never recycled, by all
-/// callers at once, which begins the calls of the scripts in order, and each line says what that one answers; where a `use`
+/// A report of a complete run of a document says `phases`, `full`, `spent` and `unreached` exactly if the steps of the run
+/// give cause to. If the document's text is proper, the run is one of the text on memory that is never recycled, by all
+/// callers at once, which begins the calls of the scripts in order, and each line says what that one answers; if a `use`
 /// line names the text, that is so with nothing assumed, and the calls that the lines show can be put in one order, each caller's in
-/// its own, in which a set, or a queue, that is empty at first gives each printed answer. Of a shipped text no line is `full` where the slots are at least the
-/// initial nodes and the calls of `insert` or `enqueue` of all scripts together.
+/// its own, in which a set, or a queue, that is empty at first gives each printed answer. Of a shipped text no line is `full` if the
+/// slots are at least the initial nodes and the calls of `insert` or `enqueue` of all scripts together.
 pub fn reports_are_true()
     ensures { ReportsAreTrue }
 {
@@ -42,10 +42,10 @@ pub fn reports_are_true()
     queue_runs_are_legal();
 }
 
-/// A report of a complete run of a document under epochs says `phases`, `full`, `spent` and `unreached` exactly where the steps of the run
-/// give cause to, and each caller has counted as many restarts as claims of its own that had made a sweep ended with a slot. Where the
+/// A report of a complete run of a document under epochs says `phases`, `full`, `spent` and `unreached` exactly if the steps of the run
+/// give cause to, and each caller has counted as many restarts as claims of its own that had made a sweep ended with a slot. If the
 /// document's text is proper, the run is one of the text on memory that is never recycled, by all callers at once, which begins the calls of
-/// the scripts in order, the base of each load is null or resident, and each line says what that run answers; where a `use` line names the
+/// the scripts in order, the base of each load is null or resident, and each line says what that run answers; if a `use` line names the
 /// text, that is so with nothing assumed, and the calls that the lines show have a legal order, as for `run`.
 pub fn epoch_reports_are_true()
     ensures { EpochReportsAreTrue }

@@ -17,13 +17,13 @@ use std::thread::Threads;
 ///
 /// Its text is within the limits of texts, each of its scripts has at most 100,000 calls, and each turn counts at least 1.
 ///
-/// What the report tells of the run that the turns give, the clause says as for `run_document`.
+/// The clause says what the report tells of the run that the turns give, as for `run_document`.
 ///
 /// # Errors
 ///
-/// As `plan_of`. Then `Shape` with the number 10 exactly where a turn needs a step of a caller that has none to take or that
-/// doesn't exist, with the steps made before, and 11 exactly where 20,000,000 steps were made and another is wanted, with
-/// their count. `Memory` where memory runs out, which is before the first step.
+/// As `plan_of`. Then `Shape` with the number 10 exactly if a turn needs a step of a caller that has none to take or that
+/// doesn't exist, with the steps made before, and 11 exactly if 20,000,000 steps were made and another is wanted, with
+/// their count. `Memory` if memory runs out, which is before the first step.
 pub fn replay_document(alloc: Global, document: &Document) -> Result<Report, RunFault>
     requires { IsWithinDocumentLimits document.now }
     ensures { IsReplayAnswer document.now result }
@@ -41,13 +41,13 @@ pub fn replay_document(alloc: Global, document: &Document) -> Result<Report, Run
 /// Its text is within the limits of texts, each of its scripts has at most 100,000 calls, and each turn counts at least 1; the
 /// turns aren't used.
 ///
-/// The clause says what the report tells: a line says `phases`, `full`, `spent` or `unreached` exactly where the steps of the run give
-/// cause to; where the document's text is proper, the run is one of the text on memory that is never recycled, and each line says
+/// The clause says what the report tells: a line says `phases`, `full`, `spent` or `unreached` exactly if the steps of the run give
+/// cause to; if the document's text is proper, the run is one of the text on memory that is never recycled, and each line says
 /// what that one answers; see `TellsOf`.
 ///
 /// # Errors
 ///
-/// As `plan_of`. `Memory` where memory runs out, which is before the first call.
+/// As `plan_of`. `Memory` if memory runs out, which is before the first call.
 pub fn run_document<R: Threads + Sync, G: Gate + Sync>(
     rt: &R,
     alloc: Global,
@@ -68,7 +68,7 @@ pub fn run_document<R: Threads + Sync, G: Gate + Sync>(
 /// Its text is within the limits of texts, each of its scripts has at most 100,000 calls, and each turn counts at least 1; the
 /// turns aren't used.
 ///
-/// The clause says what the report tells: a line says `phases`, `full`, `spent` or `unreached` exactly where the steps of the run give
+/// The clause says what the report tells: a line says `phases`, `full`, `spent` or `unreached` exactly if the steps of the run give
 /// cause to; if the text is proper, the lines are what it answers on memory that is never recycled; see `EpochsTellOf`.
 ///
 /// # Errors

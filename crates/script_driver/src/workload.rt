@@ -25,7 +25,7 @@ pub struct WorkloadReport {
     pub second: Report,
 }
 
-/// Runs a document that can be run: it fails only where memory runs out.
+/// Runs a document that can be run: it fails only if memory runs out.
 fn run_accepted<R: Threads + Sync, G: Gate + Sync>(
     rt: &R,
     alloc: Global,

@@ -23,7 +23,7 @@ use Rattle.documents.specs.DocumentLimits.{most_calls, AreShort, IsWithinDocumen
 use Rattle.script_plans.specs.declared.fault.ShapeFault.{ShapeFault}
 use Rattle.script_plans.specs.declared.limits.TheConstants.{MOST_FUEL}
 use Rattle.script_plans.specs.Shapes.{first_of, kind_slots, kind_nodes, sizes_of, sizes_fault, nodes_fault, fault_unless, op_number, call_fault_at, args_fault, call_fault, script_fault, scripts_fault, setting_fault}
-use Rattle.bare_targets.specs.Bare.{bare_op}
+use Rattle.target_code.specs.Bare.{bare_op}
 use Rattle.script_plans.specs.Plans.{call_of, calls_of, TakeWords, AllTakeWords, plan_for, IsRunnable, IsReady}
 use Rattle.script_plans.specs.EpochPlans.{epoch_plan_for, IsEpochReady}
 use Rattle.script_plans.proofs.Sized.{few_kinds}

@@ -39,7 +39,7 @@ shape_fine kinds n shape is = ap told is ∙ shape_told kinds n
 pub shape_refused : (kinds : ℕ) (n : Sizes) (fault : SizesFault) → Err fault ≡ sizes_or_fault kinds n → Err (whole_fault (sizes_number fault)) ≡ or_fault (sizes_fault kinds n) n
 shape_refused kinds n fault is = ap told is ∙ shape_told kinds n
 
--- ---- the rest of a setting, where each kind has slots for its initial nodes
+-- ---- the rest of a setting, if each kind has slots for its initial nodes
 
 abbrev tried : Setting → Bool → Bool → Result Setting SettingFault
 tried setting roomy phases = if roomy then (if phases then Ok setting else Err settings.Phases) else Err settings.Nodes

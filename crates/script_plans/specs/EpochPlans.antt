@@ -1,6 +1,6 @@
 -- The plan of a document under epochs: its callers run its text as it is.
 use Rattle.std.specs.Prelude.{◌≡◌, ◌≤◌, length, Result, Ok, Err, All}
-use Rattle.bare_targets.specs.Bare.{bare}
+use Rattle.target_code.specs.Bare.{bare}
 use Rattle.caller_parts.specs.Settings.{Fits}
 use Rattle.caller_parts.specs.declared.setting.Reclamation.TheVariants.{Epochs}
 use Rattle.caller_parts.specs.Calls.{AreCalls}
@@ -19,8 +19,8 @@ abbrev pub IsEpochPlanned : Document → Result EpochPlan RunFault → Type 0
 IsEpochPlanned document (Ok plan) = (plan ≡ epoch_plan_for document) × IsRunnable document
 IsEpochPlanned document (Err fault) = IsFaultOf document fault
 
--- what a plan keeps: its setting is one of epochs and fits its text, each caller has a script of calls of the text, none too long, and each call may make a
--- step
+-- what a plan keeps: its setting is one of epochs and fits its text, each caller has a script of calls of the text, none too long, and each call may
+-- make a step
 pub record IsEpochReady (plan : EpochPlan) : Type 0 where
   pub fits : Fits (bare plan.normal) plan.setting
   pub epochs : plan.setting.reclamation ≡ Epochs

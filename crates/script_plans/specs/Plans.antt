@@ -44,8 +44,8 @@ plan_for document = record {
   fuel = document.fuel;
 }
 
--- a document has no plan where the rules refuse its text, with the first rule that is broken, and else where its shape has a
--- fault, with the first of them. Where memory runs out nothing is told
+-- a document has no plan if the rules refuse its text, with the first rule that is broken, and else if its shape has a
+-- fault, with the first of them. If memory runs out, nothing is told
 abbrev pub IsFaultOf : Document → RunFault → Type 0
 IsFaultOf document faults.Memory = Unit {0}
 IsFaultOf document (faults.Refused refusal) = IsRefused document.text refusal

@@ -89,14 +89,14 @@ setting_fault document = first_of (
 
 -- ---- calls
 
--- the number of the operation so named; where there is none, their count
+-- the number of the operation so named; if there is none, their count
 abbrev pub op_number : List Op → List ℕ → ℕ
 op_number ops name = unwrap_or (position (λ (op : Op). bytes_eq op.name name) ops) (length ops)
 
 abbrev pub call_fault_at : ℕ → ScriptCall → ShapeFault
 call_fault_at number call = record { number = number; at = call.line }
 
--- 8 where the call names no operation, 9 where its arguments are of another count than the operation's; the place is its line
+-- 8 if the call names no operation, 9 if its arguments are of another count than the operation's; the place is its line
 abbrev pub args_fault : ScriptCall → Option Op → Option ShapeFault
 args_fault call None = Some (call_fault_at 8 call)
 args_fault call (Some op) = if length call.args == op.args then None else Some (call_fault_at 9 call)

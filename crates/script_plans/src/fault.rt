@@ -10,10 +10,10 @@ use std::alloc::AllocError;
 /// What is wrong with the shape of a document: its number, and where.
 ///
 /// 1 the scripts aren't 1 to 8; 2 the slots of a kind, or of all kinds together, aren't 1 to 4096; 3 and 4 are of the text's fields and
-/// roots, whose grammar has no such fault; 5 a kind has more initial nodes than slots; 6 the phases F and L aren't `1 <= F <= L <= 2^50`; 7 the fuel isn't 1 to
-/// 1,000,000,000; 8 a call line names no operation of the text; 9 a call line has another count of arguments than its
-/// operation. The place of 5 is the first such kind, counted from 0, that of 8 and 9 the line, and that of the
-/// others 0.
+/// roots, whose grammar has no such fault; 5 a kind has more initial nodes than slots; 6 the phases F and L aren't
+/// `1 <= F <= L <= 2^50`; 7 the fuel isn't 1 to 1,000,000,000; 8 a call line names no operation of the text; 9 a call line has another
+/// count of arguments than its operation. The place of 5 is the first such kind, counted from 0, that of 8 and 9 the line, and that of
+/// the others 0.
 #[derive(Clone, Copy, Debug, PartialEq, Eq)]
 pub struct ShapeFault {
     pub number: u8,
@@ -26,8 +26,8 @@ pub enum RunFault {
     Memory,
     /// The document's text isn't in normal form.
     Refused(Refusal),
-    /// The document's shape is refused: with a number of `ShapeFault`. In a replay also 10, where a turn needs a step of a
-    /// caller that has none to take, with the steps made before, and 11, where too many steps were made, with their count.
+    /// The document's shape is refused: with a number of `ShapeFault`. In a replay also 10, if a turn needs a step of a
+    /// caller that has none to take, with the steps made before, and 11, if too many steps were made, with their count.
     Shape { number: u8, at: u64 },
 }
 

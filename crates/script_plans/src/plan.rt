@@ -104,8 +104,8 @@ fn planned(alloc: Global, document: &Document) -> Result<Plan, RunFault>
 ///
 /// # Errors
 ///
-/// `Refused` exactly where the text isn't in normal form, with the first rule that is broken. Else `Shape` exactly where its
-/// shape is refused, with the first fault: see `ShapeFault`. `Memory` where memory runs out, be it before one of these.
+/// `Refused` exactly if the text isn't in normal form, with the first rule that is broken. Else `Shape` exactly if its
+/// shape is refused, with the first fault: see `ShapeFault`. `Memory` if memory runs out, be it before one of these.
 pub fn plan_of(alloc: Global, document: &Document) -> Result<Plan, RunFault>
     requires { IsWithinDocumentLimits document.now }
     ensures exact { IsPlanned document.now result }

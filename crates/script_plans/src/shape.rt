@@ -15,7 +15,7 @@ fn place_of_op(ops: &[Op], name: &[u8]) -> Option<usize>
     ops.iter().position(|op| op.name.items() == name)
 }
 
-/// The number of the operation so named; where there is none, their count.
+/// The number of the operation so named; if there is none, their count.
 #[tactic(auto, using(crate::proofs::Naming::number_within))]
 pub(crate) fn op_number(ops: &[Op], name: &[u8]) -> usize
     ensures number { result ≡ op_number ops.now name.now }

@@ -86,7 +86,7 @@ pub record Told (b : ℕ) (event : SourceEvent) (c : ℕ) (s' : Shared) (place :
   pub deal : Deal (List ℕ) set_step T c (accesses event (shown place q).running) set' phase noted.deed move phase'
   pub fits : Fits b s' (ticked T (accesses event (shown place q).running) set') noted.notes c place' q' phase'
 
--- the log where a call goes on, and where it ends
+-- the log of a call that goes on, and of one that ends
 logs_absent : (c name t : ℕ) (k : Kind) (before : Option Running) (q : Load) (log : Log) → begins_run (Access c name) before (shown (absent k) q).running ≡ false → logged (Access c name) t before (shown (absent k) q) log ≡ log
 logs_absent c name t Insert before q log none = ap (λ x. log_again x t log) none
 logs_absent c name t _ before q log none = ap (λ x. log_again x t log) none
@@ -102,7 +102,7 @@ ends_log c name t before q r log none =
 pub stops_log : (c t : ℕ) (phase : Option ℕ) (before : Option Running) (q : Load) (r : SourceReply) (log : Log) → logged (GiveUp c phase) t before (shown Idle (replying r q)) log ≡ moved t (Ends r) log
 stops_log c t phase before q r log = ap (λ x. log_ended t x log.now log) (last_push replies.Nothing r q.replies)
 
--- what is remembered where the key was loaded, and after an exchange that took a node out
+-- what is remembered after the load of the key, and after an exchange that took a node out
 tells_absent : (c name t : ℕ) (notes : Notes) (k : Kind) (q q' : Load) → noted_of set_rules (Access c name) t notes (shown (Key k) q).running (shown (absent k) q') ≡ record { notes = after_key (nat_lt q'.hand.n1 q'.hand.n0) notes; deed = None }
 tells_absent c name t notes Insert q q' = refl
 tells_absent c name t notes _ q q' = refl
@@ -140,7 +140,7 @@ search_found arg t c set e = ap (λ x. searched x 1 set) e
 pub search_missed : (arg t c : ℕ) (set : List ℕ) → has arg set ≡ false → set_step (deed c 2 arg 0 t) set ≡ Some set
 search_missed arg t c set e = ap (λ x. searched x 0 set) e
 
--- what a commit tells where the call ends
+-- what a commit tells if the call ends
 pub ended_noted : (c t op arg : ℕ) (notes : Notes) (q : Load) (v : ℕ)
     → (let n : Noted = record { notes = notes; deed = Some (record { caller = c; op = op; arg = arg; reply = number_of (last_reply replies.Nothing (q.replies ++ replies.Number v ∷ [])); moment = set_moment t notes op (number_of (last_reply replies.Nothing (q.replies ++ replies.Number v ∷ []))) }) } in n)
     ≡ record { notes = notes; deed = Some (record { caller = c; op = op; arg = arg; reply = Some v; moment = set_moment t notes op (Some v) }) }

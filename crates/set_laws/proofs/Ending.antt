@@ -37,7 +37,7 @@ use Rattle.set_laws.proofs.Searching.{RightOf, Facts, within_inner, seen_key, on
 use Rattle.source_machine.specs.declared.state.Memory.{Memory}
 use Rattle.set_laws.proofs.Answering.{IsWorking, working_kept, Class, Rests, Unlinks, Works, class_of, FitsClass, Fits, Told, ends_log, stops_log, deed, insert_step, insert_found, remove_step, remove_missed, search_found, search_missed, ended_noted, Here, walked, node_of, told_first_none, told_first_some, told_second_plain, told_key_less, told_key_same, told_key_none, told_key_more, told_snip_none, told_snip_more}
 
--- where the own node's key is the one sought
+-- a reference to the own node leads to the key sought, if the node has it
 key_at : (s : Shared) (n key : ℕ) (nodes : List NamedNode) (x : Cell) (r : Reference) → r ≡ to n → x.key ≡ key → keys (with_cell s nodes n x) r.node ≡ key
 key_at s n key nodes x r is e = ap (λ (y : Reference). (put s.cell n x y.node).key) is ∙ (ap (λ (z : Cell). z.key) (put_same s.cell n x) ∙ e)
 
@@ -357,7 +357,7 @@ shown_replies : (place : Place) (q : Load) → (shown place q).replies ≡ q.rep
 shown_replies Idle q = refl
 shown_replies _ q = refl
 
--- a call runs where a caller isn't idle
+-- a call runs if its caller isn't idle
 abbrev pub class_runs : Class → Bool
 class_runs Rests = false
 class_runs Unlinks = true

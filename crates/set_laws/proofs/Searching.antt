@@ -32,7 +32,7 @@ RightOf b s r n = (r.node ≡ 0) ⊎ (HomeOf b s r n × (n < keys s r.node))
 abbrev pub GapAt : Shared → Times (List ℕ) → ℕ → Started → ℕ → Reference → ℕ → Type 0
 GapAt s T c call m r n = Open (List ℕ) T c call m × (Ahead s r n → has n (T.past m) ≡ false)
 
--- r1 isn't marked where its `next` was loaded: its key was there, and if it comes before the one sought, that one was missing
+-- r1 wasn't marked when its `next` was loaded: its key was there, and if it comes before the one sought, that one was missing
 -- if it comes before r2
 pub record AtKey (b : ℕ) (s : Shared) (T : Times (List ℕ)) (notes : Notes) (c : ℕ) (call : Started) (h : Hand) : Type 0 where
   pub left : LeftOf b s h.r0 h.n0

@@ -81,10 +81,10 @@ pub record RowsWorked : Type 0 where
   -- the second is a set's, but not with its search missing the key at its Begin, since the key was there
   pub legal : SetLegal (deed 0 0 5 1 6 ∷ deed 0 1 5 1 15 ∷ deed 1 2 5 0 20 ∷ [])
   pub early : SetLegal (deed 0 0 5 1 6 ∷ deed 1 2 5 0 7 ∷ deed 0 1 5 1 15 ∷ []) → ⊥
-  -- a key isn't added twice, nor taken out where it is missing, nor found there
+  -- a key isn't added twice, nor is a missing one taken out or found
   pub twice : SetLegal (deed 0 0 5 1 6 ∷ deed 0 0 5 1 9 ∷ []) → ⊥
   pub gone : SetLegal (deed 0 1 5 1 6 ∷ []) → ⊥
   pub absent : SetLegal (deed 0 0 5 1 6 ∷ deed 0 2 4 1 9 ∷ []) → ⊥
-  -- nor is a key said to be there already that is absent, nor to be absent where it is there
+  -- nor is an absent key said to be there already, nor one that is there said to be absent
   pub said_there : SetLegal (deed 0 0 5 0 6 ∷ []) → ⊥
   pub said_absent : SetLegal (deed 0 0 5 1 6 ∷ deed 0 1 5 0 9 ∷ []) → ⊥

@@ -24,7 +24,7 @@ abbrev pub without_key : ℕ → List ℕ → List ℕ
 without_key key [] = []
 without_key key (k ∷ keys) = if k == key then without_key key keys else k ∷ without_key key keys
 
--- what is left of a set where a reply is right
+-- what is left of a set if a reply is right
 abbrev pub if_right : Bool → List ℕ → Option (List ℕ)
 if_right true keys = Some keys
 if_right false keys = None
@@ -77,7 +77,7 @@ goes_back None = false
 goes_back (Some next) = not next.wrapup && (next.at == 1)
 
 -- what is remembered with another gap, or another load; by whether n1 is less than n0 once the key is loaded; and by whether the
--- search goes back to its bucket after an exchange, which it does where that failed
+-- search goes back to its bucket after an exchange, which it does if that failed
 abbrev pub with_gap : ℕ → Notes → Notes
 with_gap t notes = record { gap = t; load = notes.load }
 

@@ -18,7 +18,7 @@ pub type History = Listed<Deed>;
 /// with a number, and for each insert or removal that runs and whose first exchange in the table succeeded.
 ///
 /// # Errors
-/// `NotEnabled` with the place of the first event that isn't enabled, and `Memory` where memory runs out.
+/// `NotEnabled` with the place of the first event that isn't enabled, and `Memory` if memory runs out.
 pub fn set_history(
     alloc: Global,
     buckets: u32,
@@ -35,8 +35,7 @@ pub fn set_history(
     let text = shipped_set(alloc, buckets)?;
     match check(alloc, text) {
         Err(CheckError::Memory) => Err(RunError::Memory),
-        // A shipped text is never refused.
-        Err(CheckError::Refused(_)) => Err(RunError::Memory),
+        Err(CheckError::Refused(_)) => unreachable!(),
         Ok(normal) => record(alloc, &SetReader {}, &normal, callers, events),
     }
 }

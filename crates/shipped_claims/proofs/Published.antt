@@ -1,4 +1,4 @@
--- Along a run: where no wrap-up leads to `again` after an exchange has succeeded, a call that has published a node doesn't begin again.
+-- Along a run: if no wrap-up leads to `again` after an exchange has succeeded, a call that has published a node doesn't begin again.
 use Rattle.std.proofs.Common.{◌≡◌, ◌≢◌, ◌⊎◌, inl, inr, ⊎_elim, ℕ, ◌≤◌, ◌<◌, Bool, true, false, List, [], ◌∷◌, ◌++◌, length, set, Option, Some, None, refl, sym, ◌∙◌, ap, subst, arith, get_or-set_same, get_or-set_other}
 use Rattle.std.specs.Prelude.{slice_index}
 use Rattle.std.proofs.lemmas.Bool.{cases_lt}

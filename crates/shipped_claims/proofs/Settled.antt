@@ -1,4 +1,4 @@
--- Once a call has published a node it doesn't begin again, where no way through the wrap-up leads to `again` after an exchange has
+-- Once a call has published a node it doesn't begin again, if no way through the wrap-up leads to `again` after an exchange has
 -- succeeded.
 --
 -- One lemma for each small definition of `after`.
@@ -65,7 +65,7 @@ InstrCarries Holds at registers (Some (Guard r)) = Holds (at + 1) registers
 abbrev pub CodeCarries : (ℕ → Registers → Type 0) → List TargetInstr → Type 0
 CodeCarries Holds code = (at : ℕ) (registers : Registers) → Holds at registers → InstrCarries Holds at registers (slice_get code at)
 
--- and it holds at the start, where an exchange has succeeded
+-- and it holds at the start, if an exchange has succeeded
 abbrev pub Begins : (ℕ → Registers → Type 0) → Type 0
 Begins Holds = (registers : Registers) → 1 ≤ number_in registers (Num 7) → Holds 0 registers
 
@@ -318,7 +318,7 @@ module _ (target : Target) (sizes : Sizes) (Holds : ℕ → ℕ → Registers �
   published_eight (Num r) e eight = eight
   published_eight (Ref r) e eight = eight
 
-  -- an exchange of a list leaves it so where it succeeds, and else leaves the cradles
+  -- an exchange of a list leaves it so if it succeeds, and else leaves the cradles
   entry_settles : (by : Reclamation) (k : ℕ) (exchange : CasEntry) (word : ℕ) (e : Entry) → HasEight e
       → Settled (entry_ended by target sizes k exchange word e).entry ⊎ ((entry_ended by target sizes k exchange word e).entry ≡ (list_failed by target sizes k e).entry)
   entry_settles by k exchange word e eight = of (succeeds exchange e.hand.registers word) where

@@ -1,4 +1,4 @@
--- Two wrong wrap-ups, of which no sentence holds all the way that begins where an exchange has succeeded.
+-- Two wrong wrap-ups: no sentence that holds at their start if an exchange has succeeded holds all the way.
 use Rattle.std.proofs.Common.{ℕ, List, [], ◌∷◌, refl, arith}
 use Rattle.norm_lang.specs.declared.text.Reg.TheVariants.{Num, Ref}
 use Rattle.norm_lang.specs.declared.text.Instr.TheVariants as instr
@@ -27,7 +27,7 @@ set_again_fails Holds begins carries =
     let past_count : Holds 3 tested = carries 2 tested past_answer (record { at = 3; registers = tested }) refl in
     carries 3 tested past_count
 
--- a queue whose `enqueue` begins again where another caller has helped tail on
+-- a queue whose `enqueue` begins again if another caller has helped tail on
 abbrev hasty_code : List TargetInstr
 hasty_code =
     Plain (instr.Set (Num 1) 0)

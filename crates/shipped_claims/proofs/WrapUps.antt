@@ -1,4 +1,4 @@
--- Wrap-ups that begin again only where no exchange has succeeded: those that change the structure, and those that only answer.
+-- Wrap-ups that begin again only if no exchange has succeeded: those that change the structure, and those that only answer.
 use Rattle.std.proofs.Common.{◌≡◌, ◌≢◌, ℕ, zero, suc, ◌≤◌, Bool, true, false, List, [], ◌∷◌, set, get_or, get_or-set_other, Some, refl, sym, subst, arith, if◌then◌else◌}
 use Rattle.std.proofs.lemmas.Bool.{eqb-true}
 use Rattle.norm_lang.specs.declared.text.Reg.TheVariants.{Num}

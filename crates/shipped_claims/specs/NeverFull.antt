@@ -1,4 +1,4 @@
--- The shipped texts are never full where each `insert` or `enqueue` has a slot of its own.
+-- The shipped texts are never full if each `insert` or `enqueue` has a slot of its own.
 use Rattle.std.specs.Prelude.{◌≡◌, ◌≢◌, ℕ, ◌+◌, ◌≤◌, Bool, false, List, [], ◌∷◌, Option, Some, None, if◌then◌else◌, slice_get, codes}
 use Rattle.std.specs.Str.{bytes_eq}
 use Rattle.norm_lang.specs.Shipped.{set_text, queue_text}
@@ -29,18 +29,18 @@ abbrev pub calls_named_in : Target → List ℕ → List Entry → ℕ
 calls_named_in target name [] = 0
 calls_named_in target name (e ∷ entries) = calls_named target name (calls_of e) + calls_named_in target name entries
 
--- where the slots are at least the initial nodes and the calls so named that all callers took together, none was told that the
+-- if the slots are at least the initial nodes and the calls so named that all callers took together, none was told that the
 -- pool is full
 pub record IsNeverFull (name : List ℕ) (target : Target) (setting : Setting) : Type 0 where
   pub each : (state : CoreState) (c i : ℕ) (e : Entry) (replied : Replied) → Reachable target setting state
       → together setting.nodes + calls_named_in target name state.entries ≤ setting.sizes.slots → slice_get state.entries c ≡ Some e → slice_get e.replies i ≡ Some replied
       → replied.reply ≢ replies.Full
 
--- a set of 1 to 64 buckets, where each `insert` has a slot
+-- a set of 1 to 64 buckets, if each `insert` has a slot
 abbrev pub SetsAreNeverFull : Type 0
 SetsAreNeverFull = (buckets : ℕ) (setting : Setting) → 1 ≤ buckets → buckets ≤ 64 → IsSetting setting → Fits (second_scheme (set_text buckets)) setting
     → IsNeverFull (codes "insert") (second_scheme (set_text buckets)) setting
 
--- the queue, where each `enqueue` has one
+-- the queue, if each `enqueue` has one
 abbrev pub QueueIsNeverFull : Type 0
 QueueIsNeverFull = (setting : Setting) → IsSetting setting → Fits (second_scheme queue_text) setting → IsNeverFull (codes "enqueue") (second_scheme queue_text) setting

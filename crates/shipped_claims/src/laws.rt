@@ -7,7 +7,7 @@ use queue_source::laws::queue_is_normal;
 use set_source::laws::set_is_normal;
 use text_laws::laws::shipped_are_within;
 
-/// Of a set of 1 to 64 buckets, with each setting that fits it: where the slots are at least the initial nodes and the calls of
+/// Of a set of 1 to 64 buckets, with each setting that fits it: if the slots are at least the initial nodes and the calls of
 /// `insert` of all callers together, no caller is told that the pool is full.
 pub fn sets_are_never_full()
     ensures { SetsAreNeverFull }

@@ -26,14 +26,14 @@ abbrev pub goes_by : {A : Type 0} → (Deed → A → Option A) → Option Deed 
 goes_by step None a = Some a
 goes_by step (Some d) a = step d a
 
--- each event changes the object by its deed, where it has one
+-- each event changes the object by its deed, if it has one
 pub record Books (A : Type 0) (step : Deed → A → Option A) (T : Times A) (slot : Slots) : Type 0 where
   pub fits : (t : ℕ) → t < T.time → goes_by step (slot t) (T.past t) ≡ Some (T.past (suc t))
   pub later : (t : ℕ) → T.time ≤ t → slot t ≡ None
   pub moment : (t : ℕ) (d : Deed) → slot t ≡ Some d → d.moment ≡ t
   pub caller : (t : ℕ) (d : Deed) → slot t ≡ Some d → T.by t ≡ Some d.caller
 
--- where a caller's call is: there is none; it has no deed yet; it has one
+-- how far a caller's call has come: there is none; it has no deed yet; it has one
 pub data Phase : Type 0 where
   Resting : Phase
   Working : (call : Started) → Phase
@@ -358,7 +358,7 @@ books_own step T slot b (suc n) = of (slot n) refl (books_own step T slot b n) w
   of None e rest = subst (AreOwn T.by) (sym (append_none (deeds_to slot n))) rest
   of (Some d) e rest = own_push T.by (deeds_to slot n) d rest (ap T.by (b.moment n d e) ∙ b.caller n d e)
 
--- a call runs where the phase says so
+-- a call runs exactly if the phase says so
 pub phase_now : (time : ℕ) (slot : Slots) (c : ℕ) (log : Log) (phase : Phase) → PhaseHolds time slot c log phase → phase_runs phase ≡ is_some log.now
 phase_now time slot c log Resting k = ap is_some (sym k.0)
 phase_now time slot c log _ k = ap is_some (sym k.0)

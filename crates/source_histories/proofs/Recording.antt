@@ -215,7 +215,7 @@ starts text A S step memory_of Fine object Knows s memory fine idle callers = re
   knows = λ c caller at. subst (λ (y : SourceCaller). Knows s (record { time = 0; past = λ t. object s; by = λ t. None }) no_notes Resting c y) (all_idle callers c caller at) (idle (record { time = 0; past = λ t. object s; by = λ t. None }) c);
 }
 
--- where each event of a text deals so, the deeds of each run are those of the object, and tell the calls
+-- if each event of a text deals so, the deeds of each run are those of the object, and tell the calls
 pub books_answer : (text : Text) (rules : Rules) (A S : Type 0) (step : Deed → A → Option A) (memory_of : S → Memory) (Fine : S → Type 0) (object : S → A) (Knows : S → Times A → Notes → Phase → ℕ → SourceCaller → Type 0)
     (Goes : ℕ → S → S → Type 0)
     → ((c d : ℕ) (who : Option ℕ) (s s' : S) (T : Times A) (notes : Notes) (phase : Phase) (caller : SourceCaller) → Goes c s s' → Fine s → d ≢ c → Knows s T notes phase d caller → Knows s' (ticked T who (object s')) notes phase d caller)

@@ -58,7 +58,7 @@ AreOwn by [] = Unit {0}
 AreOwn by (d ∷ ds) = (by d.moment ≡ Some d.caller) × AreOwn by ds
 
 -- the deeds of a run that leads to the state are those of the object, and tell each caller's calls; the calls' replies are those
--- of the state, and one runs exactly where the caller isn't idle
+-- of the state, and one runs exactly if the caller isn't idle
 pub record AnswersAs (A : Type 0) (step : Deed → A → Option A) (first : A) (state : SourceMachine) (b : Book) : Type 0 where
   pub machine : b.machine ≡ state
   pub legal : AreLegal step first (deeds_in b.slots)

@@ -66,12 +66,12 @@ seen_of running after = record {
 abbrev pub deed_of : ℕ → Seen → Option ℕ → ℕ → Deed
 deed_of c seen reply moment = record { caller = c; op = seen.before.op; arg = seen.arg; reply = reply; moment = moment }
 
--- where it runs on the first exchange of the list succeeded, and is its moment, or it begins again
+-- if the operation runs on, either the first exchange of the list succeeded, which is its moment, or it begins again
 abbrev pub deed_promised : Rules → ℕ → ℕ → Seen → Bool → Option Deed
 deed_promised rules t c seen true = Some (deed_of c seen (Some (rules.promised seen.arg)) t)
 deed_promised rules t c seen false = None
 
--- the first access at a commit: where the operation ends by it, its moment is told by its reply
+-- the first access at a commit: if the operation ends by it, its moment is told by its reply
 abbrev pub deed_committed : Rules → ℕ → ℕ → Notes → Seen → Option Standing → Option Deed
 deed_committed rules t c notes seen None = Some (deed_of c seen seen.reply (rules.moment t notes seen.before.op seen.reply))
 deed_committed rules t c notes seen (Some next) = deed_promised rules t c seen (nat_lt 0 next.made)
@@ -146,7 +146,7 @@ pub record Log : Type 0 where
 abbrev pub no_calls : Log
 no_calls = record { done = []; now = None }
 
--- the call that runs ends with a reply; it ends where its caller is idle after an event
+-- the call that runs ends with a reply; it ends if its caller is idle after an event
 abbrev pub log_ended : ℕ → SourceReply → Option Started → Log → Log
 log_ended t reply None log = log
 log_ended t reply (Some call) log = record { done = log.done ++ record { call = call; reply = reply; at = t } ∷ []; now = None }
@@ -172,7 +172,7 @@ abbrev pub logged : SourceEvent → ℕ → Option Running → SourceCaller → 
 logged (events.Begin c number args) t before after log = record { done = log.done; now = Some (record { op = number; arg = slice_index args 0; begun = t; since = t }) }
 logged event t before after log = log_again (begins_run event before after.running) t (logged_by t after after.running log)
 
--- the caller whose access of a generator or of a list an event is; none where it is another event, or of a wrap-up
+-- the caller whose access of a generator or of a list an event is; none if it is another event, or of a wrap-up
 abbrev pub accesses_at : Stand → ℕ → Option ℕ
 accesses_at (InGenerator at) c = Some c
 accesses_at (InList at entries made) c = Some c

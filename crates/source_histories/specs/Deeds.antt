@@ -16,7 +16,7 @@ abbrev pub of_caller : ℕ → List Deed → List Deed
 of_caller c [] = []
 of_caller c (d ∷ ds) = if d.caller == c then d ∷ of_caller c ds else of_caller c ds
 
--- what an object is after a deed; none where the deed isn't one of such an object
+-- what an object is after a deed; none if the deed isn't one of such an object
 abbrev pub after_deed : {A : Type 0} → (Deed → A → Option A) → Deed → Option A → Option A
 after_deed step d None = None
 after_deed step d (Some a) = step d a

@@ -1,5 +1,5 @@
 -- What is seen of a caller before and after an access.
-use Rattle.std.specs.Prelude.{ℕ, ◌≡◌, ◌++◌, List, [], ◌∷◌, Option, Some, None, Result, Ok, Err, nat_lt, slice_get, slice_set, slice_index_or}
+use Rattle.std.specs.Prelude.{ℕ, ◌≡◌, ◌⊎◌, ◌++◌, List, [], ◌∷◌, Option, Some, None, Result, Ok, Err, nat_lt, slice_get, slice_set, slice_index_or}
 use Rattle.norm_lang.specs.declared.text.Reg.TheVariants.{Num}
 use Rattle.norm_lang.specs.Registers.{number_in}
 use Rattle.source_machine.specs.declared.event.SourceEvent.{SourceEvent}
@@ -24,7 +24,7 @@ use Rattle.source_histories.specs.declared.reader.Before.{Before}
 use Rattle.source_histories.specs.Deeds.{deeds_in}
 use Rattle.source_histories.specs.Books.{no_notes, Rules, notes_at, last_reply, number_of, noted_at, book_of}
 
--- the number in a register, 0 where there is none
+-- the number in a register, 0 if there is none
 abbrev pub number_from : Option Running → ℕ → ℕ
 number_from None r = 0
 number_from (Some running) r = number_in running.registers (Num r)
@@ -33,7 +33,7 @@ abbrev pub number_by : Option SourceCaller → ℕ → ℕ
 number_by None r = 0
 number_by (Some caller) r = number_from caller.running r
 
--- where an operation stands, and its argument; of the event's caller, where the event is an access
+-- where an operation stands, and its argument; of the event's caller, if the event is an access
 abbrev pub looked_at : Option Running → Option Before
 looked_at None = None
 looked_at (Some running) = Some (record { standing = standing_in running.op running.stand; arg = number_in running.registers (Num 0) })
@@ -76,11 +76,11 @@ pub record IsWritten (rules : Rules) (at : ℕ) (event : SourceEvent) (old new :
   pub deeds : slots' ≡ filled_in (noted_from rules at (mover event) (notes_before event at (slice_index_or notes (mover event) no_notes)) (before_in event (slice_get old.callers (mover event))) (slice_get new.callers (mover event))).deed (slots ++ None ∷ [])
   pub remembered : notes' ≡ slice_set notes (mover event) (noted_from rules at (mover event) (notes_before event at (slice_index_or notes (mover event) no_notes)) (before_in event (slice_get old.callers (mover event))) (slice_get new.callers (mover event))).notes
 
--- an event is made, or isn't enabled; memory may run out
+-- an event is made, or isn't enabled; memory may run out at one that is enabled, before or after it was made
 abbrev pub IsFollowed : Text → SourceMachine → SourceEvent → SourceMachine → Result (Unit {0}) StepError → Type 0
 IsFollowed text old event new (Ok u) = Steps text old event new (Ok u)
 IsFollowed text old event new (Err steps.NotEnabled) = Steps text old event new (Err steps.NotEnabled)
-IsFollowed text old event new (Err steps.Memory) = Unit {0}
+IsFollowed text old event new (Err steps.Memory) = Steps text old event new (Err steps.Memory) ⊎ Steps text old event new (Ok tt)
 
 -- the deeds of the calls of a run, or the first event that isn't enabled; memory may run out
 abbrev pub Records : Text → Rules → ℕ → List SourceEvent → Result (List Deed) RunError → Type 0

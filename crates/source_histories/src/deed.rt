@@ -22,7 +22,7 @@ pub struct Notes {
 }
 
 /// What is seen of an access: where the operation stood, its argument, which is in n0, and where it stands afterwards, if
-/// it hasn't ended; whether n1 is less than n0 then; and the caller's last reply, where that is a number.
+/// it hasn't ended; whether n1 is less than n0 then; and the caller's last reply, if that is a number.
 #[derive(Clone, Copy)]
 pub struct Seen {
     pub before: Standing,

@@ -185,7 +185,7 @@ fn record_at<R: Reader>(
 /// The deeds of the calls of a run, in the order of their moments.
 ///
 /// # Errors
-/// `NotEnabled` with the place of the first event that isn't enabled, and `Memory` where memory runs out.
+/// `NotEnabled` with the place of the first event that isn't enabled, and `Memory` if memory runs out.
 pub fn record<R: Reader>(
     alloc: Global,
     reader: &R,

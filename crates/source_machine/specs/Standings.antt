@@ -15,7 +15,7 @@ use Rattle.source_machine.specs.declared.reads.Pending.TheVariants as pendings
 use Rattle.source_machine.specs.Run.{is_end_at, is_new_at}
 use Rattle.source_machine.specs.State.{Stand, InGenerator, InList, InWrapUp, Running, SourceCaller}
 
--- a number, or a limit where it is greater; in a text that is accepted a method has 256 instructions and a list 4 exchanges at
+-- a number, or a limit if the number is greater; in a text that is accepted a method has 256 instructions and a list 4 exchanges at
 -- most, so that no limit below shows
 abbrev pub at_most : ℕ → ℕ → ℕ
 at_most limit n = if nat_lt n limit then n else limit
@@ -31,7 +31,7 @@ abbrev pub standing_of : Option Running → Option Standing
 standing_of None = None
 standing_of (Some running) = Some (standing_in running.op running.stand)
 
--- none exactly where the caller is idle
+-- none exactly if the caller is idle
 abbrev pub standing_by : Option SourceCaller → Option Standing
 standing_by None = None
 standing_by (Some caller) = standing_of caller.running

@@ -20,7 +20,7 @@ fn is_commit(instr: Option<&Instr>) -> bool
     }
 }
 
-/// The load at a place of a method, and the local code after it; where no load stands, nothing. It answers where that leads.
+/// The load at a place of a method, and the local code after it; nothing if no load stands there. It answers where that leads.
 fn load_on(
     text: &Text,
     code: &Code,
@@ -45,7 +45,7 @@ fn load_on(
     }
 }
 
-/// A load of a generator that doesn't come to its commit; where it does, nothing, since the commit's list needs memory.
+/// A load of a generator that doesn't come to its commit; nothing if it does, since the commit's list needs memory.
 fn load_before(
     text: &Text,
     code: &Code,

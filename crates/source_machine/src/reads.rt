@@ -136,7 +136,7 @@ impl SourceState {
         }
     }
 
-    /// Where a caller's operation stands, by its number; none exactly where the caller is idle.
+    /// Where a caller's operation stands, by its number; none exactly if the caller is idle.
     pub fn standing(&self, caller: u32) -> Option<Standing>
         requires { caller < length self.now.callers }
         ensures { result ≡ standing_by (slice_get self.now.callers caller) }

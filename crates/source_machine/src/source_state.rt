@@ -44,7 +44,7 @@ impl SourceState {
     /// The start of a text: its initial nodes and roots, and so many idle callers, 1 to 8.
     ///
     /// # Errors
-    /// Where memory runs out.
+    /// `AllocError` if memory runs out.
     pub fn start(alloc: Global, normal: &Normal, callers: u32) -> Result<SourceState, AllocError>
         requires some { 1 ≤ callers }
         requires few { callers ≤ 8 }
@@ -57,11 +57,11 @@ impl SourceState {
     }
 }
 
-/// Makes an event: the pending access of a caller, or where its method or operation begins or ends. The state is one of a
+/// Makes an event: the pending access of a caller, or the beginning or end of its method or operation. The state is one of a
 /// run of the text.
 ///
 /// # Errors
-/// `NotEnabled` exactly where the event isn't enabled in the state, and `Memory` where memory runs out. The state is then
+/// `NotEnabled` exactly if the event isn't enabled in the state, and `Memory` if memory runs out. The state is then
 /// unchanged.
 pub fn step(
     alloc: Global,
@@ -101,7 +101,7 @@ fn make_events(
 /// callers.
 ///
 /// # Errors
-/// `NotEnabled` with the place of the first event that isn't enabled, and `Memory` where memory runs out.
+/// `NotEnabled` with the place of the first event that isn't enabled, and `Memory` if memory runs out.
 #[tactic(auto, using(crate::proofs::Calling::starts, crate::proofs::Calling::runs_from, crate::proofs::Calling::stops_from, crate::proofs::Calling::of_run, crate::proofs::Calling::as_many))]
 pub fn run(
     alloc: Global,

@@ -108,7 +108,7 @@ abbrev pub rejection_sentence : ℕ → ℕ → List ℕ
 rejection_sentence number at =
     codes "oa: the certificate is rejected: " ++ (rejected_part number ++ (decimal at ++ (rejection_words number ++ codes ". See 'Certificates' in docs/language.md.\n")))
 
--- the sentence on a status; where all went well there is none
+-- the sentence on a status; none if all went well
 abbrev pub explanation : Status → List ℕ
 explanation Done = []
 explanation Partial = codes "oa: at least one call has no answer: full (two sweeps freed no slot for its new node), phases (the last phase is over), spent (it used up its fuel, the steps that one call may make) or unreached (an earlier call of its caller was spent). More slots, phases or fuel may answer it: see 'The answers' in docs/language.md.\n"

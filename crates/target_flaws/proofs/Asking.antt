@@ -14,7 +14,7 @@ use Rattle.norm_paths.proofs.Starting.{carried_within}
 use Rattle.target_code.specs.Flaws.{IsHandedOver}
 use Rattle.target_flaws.specs.Needs.{is_handed_by, is_kept_by, AreNeeds}
 
--- a number but the last is handed over where it is carried
+-- a number but the last is handed over exactly if it is carried
 handed : (source : Op) (n : ℕ) (answer : Bool) → IsTrue (not (same_register (Num n) (Num 7))) → IsTrue answer ↔ IsCarried source (Num n) → IsTrue answer ↔ IsHandedOver source (Num n)
 handed source n answer other right = ((λ so. (other, right.0 so)), λ over. right.1 over.1)
 
@@ -28,7 +28,7 @@ past n = let le : 8 ≤ suc (suc (suc (suc (suc (suc (suc (suc n))))))) = omega 
 kept_by : (source : Op) (n : ℕ) (answer : Bool) (kept : List Bool) → answer ≡ found.is_kept_by kept (Ref n) → AreKept source kept → IsTrue answer ↔ IsKept source (Ref n)
 kept_by source n answer kept is are = ((λ so. (are (Ref n)).0 (sym is ∙ so)), λ keeps. is ∙ (are (Ref n)).1 keeps)
 
--- what is asked, where each answer is right
+-- what is asked, if each answer is right
 pub are_needs : (source : Op) (kept : List Bool) (n0 n1 n2 n3 n4 n5 n6 r0 r1 r2 r3 r4 r5 r6 r7 : Bool) → IsOpWithin source → AreKept source kept
     → IsTrue n0 ↔ IsCarried source (Num 0)
     → IsTrue n1 ↔ IsCarried source (Num 1)

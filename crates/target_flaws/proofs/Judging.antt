@@ -28,7 +28,7 @@ use Rattle.target_flaws.specs.declared.needs.Needs.{Needs}
 use Rattle.target_flaws.specs.Machines.{guard_number}
 use Rattle.target_flaws.specs.Needs.{is_handed_by, is_kept_by, AreNeeds}
 use Rattle.target_flaws.specs.Found.{TargetFound, may_be_unchecked_by, may_be_guarded_by, AreTargetFacts}
-use Rattle.target_flaws.specs.FlawAnswers.{IsTargetSite, AreFlawAnswers, uses_by, needs_guard_by}
+use Rattle.target_flaws.specs.FlawAnswers.{IsTargetSite, AreFlawAnswers, uses_by, needs_guard_by, needs_more_by, guards_kept_by, flaw_answers_by}
 
 -- an operand of some exchange of a commit
 pub operand_of_some : (r : Reg) (entries : List CasEntry) (result : Bool) → result ≡ list_any (λ entry. list_any (same_register r) (operands_of entry)) entries
@@ -125,10 +125,6 @@ needs_right source needs r i asks reference = (
 need_reference : (source : Op) (r : Reg) (i : TargetInstr) → NeedsGuard source r i → IsTrue (holds_reference r)
 need_reference source r i need = elim need [ inl one ↦ one.0 | inr two ↦ two.1.0 ]
 
--- some register that an instruction needs guarded may have its guard in a state
-abbrev needs_more_by : Needs → TargetFound → ℕ → TargetInstr → ℕ → Bool
-needs_more_by needs found at i state = list_any (λ r. needs_guard_by needs r i && may_be_guarded_by found r at state) all_registers
-
 guarded_right : (code : List TargetInstr) (found : TargetFound) (at : ℕ) (state : GuardState) → AreTargetFacts code found
     → (r : Reg) → IsTrue (is_register r) → IsTrue (may_be_guarded_by found r at (guard_number state)) ↔ (IsTrue (holds_reference r) × MayBeGuarded code r at state)
 guarded_right code found at state true_of (Num n) register = ((λ so. let no : false ≡ true = so in cc), λ both. both.0)
@@ -152,10 +148,6 @@ more_right source code at i needs found state site = (
     tests =
         both_tests (λ r. needs_guard_by needs r i) (λ r. may_be_guarded_by found r at (guard_number state)) (λ r. IsTrue (holds_reference r) × MayBeGuarded code r at state)
         (λ r so. asked_register source site.limits.0 site.limits.1 site.limits.2 i needs r site.within site.limits.3 site.asks so) (guarded_right code found at state site.true_of)
-
--- a wrap-up guards a kept register
-abbrev guards_kept_by : Needs → TargetInstr → Bool
-guards_kept_by needs i = list_any (λ r. guards r i && is_kept_by needs.kept r) all_registers
 
 guards_kept_right : (source : Op) (code : List TargetInstr) (i : TargetInstr) (needs : Needs) (found : TargetFound) → IsTargetSite source code i needs found
     → IsTrue (guards_kept_by needs i) ↔ ((r : Reg) × IsTrue (guards r i) × IsKept source r)
@@ -181,19 +173,18 @@ dropped_right source wrapup code at i needs found site = (
     guarding : IsTrue anew ↔ ((r : Reg) × IsTrue (guards r i) × IsKept source r)
     guarding = guards_kept_right source code i needs found site
 
-by_answer : (a b : Bool) (A : Type 0) → a ≡ b → IsTrue b ↔ A → IsTrue a ↔ A
-by_answer a b A is right = ((λ so. right.0 (sym is ∙ so)), λ holds. is ∙ right.1 holds)
-
 -- the answers are true
-pub are_answers : (source : Op) (wrapup : Bool) (code : List TargetInstr) (at : ℕ) (i : TargetInstr) (needs : Needs) (found : TargetFound) (unchecked unguarded late undone : Bool)
-    → unchecked ≡ list_any (λ r. uses_by needs r i && may_be_unchecked_by found r at) all_registers
-    → unguarded ≡ needs_more_by needs found at i 0 → late ≡ needs_more_by needs found at i 1 → undone ≡ (needs_more_by needs found at i 3 || (wrapup && guards_kept_by needs i))
-    → IsTargetSite source code i needs found → AreFlawAnswers source wrapup code at i (unchecked ∷ unguarded ∷ late ∷ undone ∷ [])
-are_answers source wrapup code at i needs found unchecked unguarded late undone unchecked_is unguarded_is late_is undone_is site = record { sized = refl; each = answer }
+are_answers_by : (source : Op) (wrapup : Bool) (code : List TargetInstr) (at : ℕ) (i : TargetInstr) (needs : Needs) (found : TargetFound) → IsTargetSite source code i needs found
+    → AreFlawAnswers source wrapup code at i (flaw_answers_by needs found wrapup at i)
+are_answers_by source wrapup code at i needs found site = record { sized = refl; each = answer }
   where
-    answer : (kind : FlawKind) → 2 ≤ kind_number kind → IsTrue (slice_index_or (unchecked ∷ unguarded ∷ late ∷ undone ∷ []) (kind_number kind - 2) false) ↔ IsFlawed kind source wrapup code at i
+    answer : (kind : FlawKind) → 2 ≤ kind_number kind → IsTrue (slice_index_or (flaw_answers_by needs found wrapup at i) (kind_number kind - 2) false) ↔ IsFlawed kind source wrapup code at i
     answer ErasesDifferently le = let no : ⊥ = omega (arith, le) in absurd no
-    answer UncheckedUse le = by_answer unchecked _ (UsesUnchecked source code at i) unchecked_is (unchecked_right source code at i needs found site)
-    answer Unguarded le = by_answer unguarded _ (NeedsMore Free source code at i) unguarded_is (more_right source code at i needs found Free site)
-    answer GuardAfterCheck le = by_answer late _ (NeedsMore Published source code at i) late_is (more_right source code at i needs found Published site)
-    answer GuardDropped le = by_answer undone _ (HasGuardDropped source wrapup code at i) undone_is (dropped_right source wrapup code at i needs found site)
+    answer UncheckedUse le = unchecked_right source code at i needs found site
+    answer Unguarded le = more_right source code at i needs found Free site
+    answer GuardAfterCheck le = more_right source code at i needs found Published site
+    answer GuardDropped le = dropped_right source wrapup code at i needs found site
+
+pub are_answers : (source : Op) (wrapup : Bool) (code : List TargetInstr) (at : ℕ) (i : TargetInstr) (needs : Needs) (found : TargetFound) (answers : List Bool)
+    → answers ≡ flaw_answers_by needs found wrapup at i → IsTargetSite source code i needs found → AreFlawAnswers source wrapup code at i answers
+are_answers source wrapup code at i needs found answers is site = subst (AreFlawAnswers source wrapup code at i) (sym is) (are_answers_by source wrapup code at i needs found site)

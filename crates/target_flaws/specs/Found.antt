@@ -31,7 +31,7 @@ pub record AreTargetFacts (code : List TargetInstr) (found : TargetFound) : Type
   pub unchecked : (r : Reg) → IsTrue (is_register r) → (at : ℕ) → IsTrue (may_be_unchecked_by found r at) ↔ MayBeUnchecked code r at
   pub guarded : (n : ℕ) → IsTrue (is_register (Ref n)) → (at : ℕ) (state : GuardState) → IsTrue (may_be_guarded_by found (Ref n) at (guard_number state)) ↔ MayBeGuarded code (Ref n) at state
 
--- answers that are true exactly where a machine that begins in state 0 may be in a state at an instruction
+-- answers that are true exactly if a machine that begins in state 0 may be in a state at an instruction
 abbrev pub SeesAll : (TargetInstr → ℕ → ℕ) → List TargetInstr → List Bool → Type 0
 SeesAll after code answers = (at state : ℕ) → state < 4 → IsTrue (comes_in_by answers at state) ↔ OnSomeTargetPath after 0 code at state
 

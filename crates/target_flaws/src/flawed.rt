@@ -1,15 +1,10 @@
 //! The flaws of an instruction of a target, by what was found out about its method and about the operation of
 //! the text.
 
-ghost use Rattle.std.specs.Prelude.{◌≡◌, List, ◌&&◌, ◌||◌};
-ghost use Rattle.std.specs.List.{list_any};
+ghost use Rattle.std.specs.Prelude.{◌≡◌, List};
 ghost use Rattle.norm_lang.specs.declared.text.Op.{Op};
-ghost use Rattle.norm_paths.specs.Found.{all_registers};
 ghost use Rattle.target_code.specs.declared.target.TargetInstr.{TargetInstr};
-ghost use Rattle.target_code.specs.Flaws.{guards};
-ghost use Rattle.target_flaws.specs.Needs.{is_kept_by};
-ghost use Rattle.target_flaws.specs.Found.{may_be_unchecked_by, may_be_guarded_by};
-ghost use Rattle.target_flaws.specs.FlawAnswers.{IsTargetSite, AreFlawAnswers, uses_by, needs_guard_by};
+ghost use Rattle.target_flaws.specs.FlawAnswers.{IsTargetSite, AreFlawAnswers, uses_by, needs_guard_by, uses_unchecked_by, needs_more_by, guards_kept_by, has_guard_dropped_by, flaw_answers_by};
 
 use crate::facts::TargetFacts;
 use crate::guards::{DROPPED, FREE, PUBLISHED};
@@ -34,20 +29,20 @@ fn needs_guard(needs: &Needs, register: Reg, instr: &TargetInstr) -> bool
 }
 
 fn uses_unchecked(needs: &Needs, facts: &TargetFacts, at: usize, instr: &TargetInstr) -> bool
-    ensures { result ≡ list_any (λ r. uses_by needs.now r instr.now && may_be_unchecked_by facts.now r at) all_registers }
+    ensures { result ≡ uses_unchecked_by needs.now facts.now at instr.now }
 {
     REGISTERS.iter().any(|r| uses(needs, *r, instr) && facts.may_be_unchecked(*r, at))
 }
 
 /// Whether the guard of a register that the instruction needs guarded may come in a state.
 fn needs_more(needs: &Needs, facts: &TargetFacts, at: usize, instr: &TargetInstr, state: u8) -> bool
-    ensures { result ≡ list_any (λ r. needs_guard_by needs.now r instr.now && may_be_guarded_by facts.now r at state) all_registers }
+    ensures { result ≡ needs_more_by needs.now facts.now at instr.now state }
 {
     REGISTERS.iter().any(|r| needs_guard(needs, *r, instr) && facts.may_be_guarded(*r, at, state))
 }
 
 fn guards_kept(needs: &Needs, instr: &TargetInstr) -> bool
-    ensures { result ≡ list_any (λ r. guards r instr.now && is_kept_by needs.now.kept r) all_registers }
+    ensures { result ≡ guards_kept_by needs.now instr.now }
 {
     REGISTERS
         .iter()
@@ -61,7 +56,7 @@ fn has_guard_dropped(
     at: usize,
     instr: &TargetInstr,
 ) -> bool
-    ensures { result ≡ (list_any (λ r. needs_guard_by needs.now r instr.now && may_be_guarded_by facts.now r at 3) all_registers || (wrapup && list_any (λ r. guards r instr.now && is_kept_by needs.now.kept r) all_registers)) }
+    ensures { result ≡ has_guard_dropped_by needs.now facts.now wrapup at instr.now }
 {
     needs_more(needs, facts, at, instr, DROPPED) || (wrapup && guards_kept(needs, instr))
 }
@@ -77,7 +72,8 @@ pub fn flaws(
     at: usize,
     instr: &TargetInstr,
 ) -> [bool; 4]
-    ensures { (source : Op) (code : List TargetInstr) → IsTargetSite source code instr.now needs.now facts.now → AreFlawAnswers source wrapup code at instr.now result }
+    ensures computed { result ≡ flaw_answers_by needs.now facts.now wrapup at instr.now }
+    ensures true_of { (source : Op) (code : List TargetInstr) → IsTargetSite source code instr.now needs.now facts.now → AreFlawAnswers source wrapup code at instr.now result }
 {
     [
         uses_unchecked(needs, facts, at, instr),

@@ -89,7 +89,7 @@ target_settles_at_one code here one other = settles_once (target_next_spot code)
 
 -- ---- at an instruction
 
--- a plain instruction goes on inside the method, also where no path leads to it
+-- a plain instruction goes on inside the method, even if no path leads to it
 plain_inside : {target : Target} {text : Text} → IsNormal text → ErasesTo target text → (method : Method target text) (at to : ℕ) (i : Instr) → slice_get (code_in method) at ≡ Some (Plain i)
     → IsTrue (goes_to i at to) → to < length (code_in method)
 plain_inside {target = target} {text = text} normal erases method at to i is goes =

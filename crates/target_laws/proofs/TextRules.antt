@@ -22,7 +22,7 @@ pub keeps_at : {target : Target} {text : Text} → IsNormal text → ErasesTo ta
 keeps_at {text = text} normal erases method rule at i is breaks =
     keeps_rule text rule method.number method.op method.wrapup (source_place (code_in method) at) (redirected (source_place (code_in method)) i) normal method.in_text (erased_here erases method at (Plain i) is).0 breaks
 
--- where a register that may be fresh would break a rule, it isn't on the path that was taken
+-- if a register would break a rule by being fresh, it isn't fresh along the path that was taken
 pub not_fresh : {target : Target} {text : Text} → IsNormal text → ErasesTo target text → (method : Method target text) (path : List ℕ) (at : ℕ) (r : Reg) → TargetPath (code_in method) path at
     → (MayBeFresh (source_in method) r (source_place (code_in method) at) → ⊥) → is_fresh_along (code_in method) path r ≡ false
 not_fresh {target = target} {text = text} normal erases method path at r leads breaks =

@@ -66,7 +66,7 @@ trusted_from {target = target} {text = text} method path r live clean =
 
 -- ---- what is read is live
 
--- a register is read where a path doesn't set it
+-- a register is read after a path that doesn't set it
 abbrev IsReadUnset : Bool → Op → Reg → Type 0
 IsReadUnset wrapup op r = (at : ℕ) × IsTrue (reads_at r (slice_get (code_of op wrapup) at)) × ComesUnset (code_of op wrapup) r at
 

@@ -37,7 +37,7 @@ source_step code at to goes there = (goes, ltb-true to (length code) there)
 
 -- ---- a jump into the middle of a block
 
--- r0 is exchanged for itself; where that fails the exchange is tried again, from the check in the middle of its block on
+-- r0 is exchanged for itself; if that fails, the exchange is tried again, from the check in the middle of its block on
 abbrev swap : CasEntry
 swap = record { place = places.Root 0; expected = Ref 0; replacement = Ref 0; retire = None }
 

@@ -22,7 +22,7 @@ target_may_stop wrapup (Plain i) = may_stop wrapup i
 target_may_stop wrapup Check = true
 target_may_stop wrapup (Guard r) = true
 
--- where a target erases to a text in normal form, local code of a method settles within as many steps as the method has
+-- if a target erases to a text in normal form, local code of a method settles within as many steps as the method has
 -- instructions
 abbrev pub TargetCodeSettles : Type 0
 TargetCodeSettles =
@@ -40,7 +40,7 @@ TargetSettlesInside =
     → here.at < length (code_in method) → TargetSettles (code_in method) here there
     → IsSomeAnd (slice_get (code_in method) there.at) (λ i. IsTrue (target_may_stop method.wrapup i))
 
--- and where a path leads to the place, it leads on to there
+-- and if a path leads to the place, it leads on to there
 abbrev pub TargetPathsLeadOn : Type 0
 TargetPathsLeadOn =
     (target : Target) (text : Text) → IsNormal text → ErasesTo target text → (method : Method target text) (here there : Spot) (path : List ℕ)

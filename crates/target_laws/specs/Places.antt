@@ -51,7 +51,7 @@ IgnoresJumps {S} after = (place : ℕ → ℕ) (i : Instr) (state : S) → after
 abbrev pub TargetsEraseByPlaces : Type 0
 TargetsEraseByPlaces = (target : Target) (text : Text) → ErasesTo target text → (method : Method target text) → ErasesByPlaces (code_in method) (source_in method)
 
--- and where a place's source is an instruction of the text's method, the place is one of the target's
+-- and if a place's source is an instruction of the text's method, the place is one of the target's
 abbrev pub SourcesAreInside : Type 0
 SourcesAreInside =
     (target : Target) (text : Text) → ErasesTo target text → (method : Method target text) (at : ℕ)
@@ -69,7 +69,7 @@ PathsLeadInside =
     (target : Target) (text : Text) → IsWithinLimits text → IsNormal text → ErasesTo target text → (method : Method target text) (path : List ℕ) (at : ℕ)
     → TargetPath (code_in method) path at → (source_place (code_in method) at < length (source_in method)) × (at < length (code_in method))
 
--- where control goes on after a path it stays inside the target's method: nothing that is reached runs off its end
+-- if control goes on after a path, it stays inside the target's method: nothing that is reached runs off its end
 abbrev pub TargetsStayInside : Type 0
 TargetsStayInside =
     (target : Target) (text : Text) → IsWithinLimits text → IsNormal text → ErasesTo target text → (method : Method target text) (path : List ℕ) (at to : ℕ)

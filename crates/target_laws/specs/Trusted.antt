@@ -76,7 +76,7 @@ trust_of false clean = Spoilt
 trust_of true false = Unchecked
 trust_of true true = Trusted
 
--- a register can be trusted just where it is clean along the path, and was set along it or carried over
+-- a register can be trusted exactly if it is clean along the path, and was set along it or carried over
 abbrev pub TrustIsKnown : Type 0
 TrustIsKnown =
     (target : Target) (text : Text) (method : Method target text) (path : List ℕ) (r : Reg)

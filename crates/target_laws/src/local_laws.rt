@@ -22,7 +22,7 @@ pub fn local_code_settles()
     ensures inside { SettlesInside }
 {}
 
-/// Local code settles too where each local jump leads forward, as in texts of the first form.
+/// Local code settles too if each local jump leads forward, as in texts of the first form.
 #[tactic(auto, using(crate::proofs::local_laws::Forwards::forward_code_settles))]
 pub fn forward_code_settles()
     ensures { ForwardCodeSettles }

@@ -2,7 +2,7 @@
 
 ghost use Rattle.target_laws.specs.Places.{TargetsEraseByPlaces, SourcesAreInside, PathsAreInText, PathsLeadInside, TargetsStayInside, CyclesAreInText, StatesAreSame, FreshMayBeInText, SurelyFreshInTarget};
 
-/// Where a target erases to a text, a plain instruction stands in the text at its source place, with its jump at a source
+/// If a target erases to a text, a plain instruction stands in the text at its source place, with its jump at a source
 /// place, and a check or a guard leaves the source place as it is.
 pub fn targets_erase_by_places()
     ensures places { TargetsEraseByPlaces }
@@ -17,7 +17,7 @@ pub fn paths_are_in_text()
     ensures cycles { CyclesAreInText }
 {}
 
-/// What becomes of a state along a target's path, where checks and guards leave it as it is, becomes of it along the text's.
+/// What becomes of a state along a target's path, if checks and guards leave it as it is, becomes of it along the text's.
 pub fn states_are_same<S>()
     ensures { StatesAreSame S }
 {}

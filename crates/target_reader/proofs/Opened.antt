@@ -10,6 +10,6 @@ pub opened_same : (ops : List TargetOp) (name : List ℕ) → list_any (λ op. b
 opened_same [] name = refl
 opened_same (op ∷ ops) name = ap (λ b. bytes_eq op.name name || b) (opened_same ops name)
 
--- an operation is so named where it is so by its own line
+-- an operation has this name exactly if it has it by its own line
 pub has_opened : (ops : List TargetOp) (name : List ℕ) (r : Bool) → r ≡ list_any (λ op. bytes_eq op.name name) ops → r ≡ has_op (map opened ops) name
 has_opened ops name r is = is ∙ opened_same ops name

@@ -82,7 +82,7 @@ abbrev KeptIf : ℕ → ℕ → ℕ → Option OpsDraft → Type 0
 KeptIf kinds fields roots None = ⊤
 KeptIf kinds fields roots (Some draft) = Kept kinds fields roots draft
 
--- a draft somewhere, where no entry line must follow
+-- a draft at a part, with no entry line to follow
 abbrev at : Part → OpsDraft → OpsDraft
 at part draft = record draft { part = part; left = 0 }
 
@@ -143,7 +143,7 @@ news_pushed (j ∷ code) i = go (is_target_new j) (news_pushed code i)
     go true e = omega (arith, e)
     go false e = e
 
--- at most 4 `new` where the last isn't the fifth
+-- at most 4 `new` if the last isn't the fifth
 news_fit : (n m : ℕ) (b : Bool) → nat_le n 4 ≡ true → not (b && nat_lt 3 n) ≡ true → m ≡ n + one_if b → nat_le m 4 ≡ true
 news_fit n m true few fifth e = let below : nat_lt 3 n ≡ false = not-true _ fifth in grind (arith, nat_tests)
 news_fit n m false few fifth e = grind (arith, nat_tests)
@@ -213,7 +213,7 @@ wrap_up_step_kept kinds fields roots draft (Commits zero) h fits room =
 wrap_up_step_kept kinds fields roots draft (Commits (suc count)) h fits room =
     (entries_in_op kinds fields roots WrapUp (suc count) draft [] h.0.ops h.0.op (no_entries _ _ (suc count) draft.op.wrapup (and_parts _ _ room).0 fits), h.1)
 
--- an instruction of the language, where each step that fits keeps what holds
+-- an instruction of the language keeps what holds if each step that fits does
 plain_kept : (kinds : List (List ℕ)) (fields : List FieldDecl) (roots : List RootDecl) (draft : OpsDraft) (word : List ℕ) (rest : List (List ℕ))
     → ((step : Step) → StepFits (length kinds) (length fields) (length roots) step → has_place draft && not (is_fifth_target_new draft step) ≡ true
     → Kept (length kinds) (length fields) (length roots) (with_target_step draft step))
@@ -222,7 +222,7 @@ plain_kept kinds fields roots draft word rest next =
     then_has (step_line Second kinds fields roots word rest) _ (StepFits (length kinds) (length fields) (length roots)) _ (step_fits Second kinds fields roots tt word rest) λ step fits.
     demanded too_many (has_place draft && not (is_fifth_target_new draft step)) _ _ λ room. next step fits room
 
--- a check or a guard, where each that fits keeps what holds
+-- a check or a guard keeps what holds if each that fits does
 added_kept : (kinds fields roots : ℕ) (draft : OpsDraft) (word : List ℕ) (rest : List (List ℕ))
     → ((i : TargetInstr) → is_target_instr kinds fields roots i ≡ true → is_target_new i ≡ false → has_place draft ≡ true → Kept kinds fields roots (with_one_more draft i))
     → IfOk (added_line draft word rest) (KeptIf kinds fields roots)
@@ -307,7 +307,7 @@ begun_given : (kinds : List (List ℕ)) (fields : List FieldDecl) (roots : List 
 begun_given kinds fields roots draft word rest true (Ok done) h = record { ops = h.ops; op = h.op; pending = tt }
 begun_given kinds fields roots draft word rest _ _ h = tt
 
--- the draft after a line where no entry line must follow
+-- the draft after a line, if no entry line is due
 part_kept : (kinds : List (List ℕ)) (fields : List FieldDecl) (roots : List RootDecl) (part : Part) (draft : OpsDraft) (word : List ℕ) (rest : List (List ℕ)) → Keeps (length kinds) (length fields) (length roots) part draft
     → IfOk (in_target_place kinds fields roots 0 (at part draft) word rest) (Kept (length kinds) (length fields) (length roots))
 part_kept kinds fields roots Outside draft word rest h = outside_given kinds fields roots draft word rest (bytes_eq word (codes "op")) h

@@ -45,7 +45,7 @@ all_left n start (line ∷ lines) le from =
     let e : nat_lt line.number start ≡ false = rw k (le-ltb n start le) in
     rw e (ap (λ ls. line ∷ ls) (all_left (n + 1) start lines (omega arith) (from_next n (n + 1) line lines (line ∷ lines) refl refl from)))
 
--- nothing is left where no line is
+-- if there is no line, the lines are from any number on
 pub nothing_left : (n : ℕ) (lines : List TextLine) → lines ≡ [] → AreFrom n lines
 nothing_left n lines none = rw none refl
 

@@ -98,7 +98,7 @@ by_step kinds fields roots past part ops op line lines (Ok (Whole i)) room read 
 by_step kinds fields roots past part ops op line lines (Ok (Commits count)) room read =
     rw (read, room) (entries_give kinds fields roots past count (rested part ops op) [] lines ∙ opened kinds fields roots past line.number part ops op (entries_from fields roots past count [] lines))
 
--- where the method isn't full, the operations are those after the instruction
+-- if the method isn't full, the operations are those after the instruction
 plain_gives : (kinds : List (List ℕ)) (fields : List FieldDecl) (roots : List RootDecl) (past : ℕ) (part : Part) (ops : List TargetOp) (op : TargetOp) (line : TextLine) (lines : List TextLine)
     → line_own (rested part ops op) line ≡ nothing → has_place (rested part ops op) ≡ true → line.number + 1 + length lines ≡ past
     → ops_read kinds fields roots past (rested part ops op) (line ∷ lines) ≡ (instr_read kinds fields roots line lines >>= behind_instr kinds fields roots past (rested part ops op) line.number)
@@ -153,7 +153,7 @@ full_step : (kinds : List (List ℕ)) (fields : List FieldDecl) (roots : List Ro
 full_step kinds fields roots past draft line lines fault (Err number) full read at = rw read (ap failed at)
 full_step kinds fields roots past draft line lines fault (Ok step) full read at = rw (read, full) (ap failed at)
 
--- where the method is full, the line is one too many, unless it has a fault of its own
+-- if the method is full, the line is one too many, unless it has a fault of its own
 pub full_faulty : (kinds : List (List ℕ)) (fields : List FieldDecl) (roots : List RootDecl) (past : ℕ) (draft : OpsDraft) (line : TextLine) (lines : List TextLine) (fault : LineFault)
     → draft ≡ rested draft.part draft.ops draft.op → line_own draft line ≡ Ok None → has_place draft ≡ false → too_many_at kinds fields roots line ≡ Err fault
     → ops_read kinds fields roots past draft (line ∷ lines) ≡ Err fault

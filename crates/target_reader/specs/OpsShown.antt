@@ -25,7 +25,7 @@ part_shown read.WrapUp = WrapUp
 abbrev pub draft_shown : ReadDraft → OpsDraft
 draft_shown draft = record { part = part_shown draft.part; ops = draft.ops; op = draft.op; left = 0; entries = [] }
 
--- the draft after a line that was read, or none where the line must be an instruction of the language
+-- the draft after a line that was read, or none if the line must be an instruction of the language
 abbrev pub read_or_plain : Bool → OpsDraft → Option OpsDraft
 read_or_plain true draft = Some draft
 read_or_plain false draft = None
@@ -47,7 +47,7 @@ settled read = Ok tt
 abbrev pub alone : List (List ℕ) → List FieldDecl → List RootDecl → TextLine → Result (Unit {0}) LineFault
 alone kinds fields roots line = instr_read kinds fields roots line [] >>= settled
 
--- a line that must be an instruction of the language, where its method is full: its own fault comes before the limit's
+-- a line that must be an instruction of the language, if its method is full: its own fault comes before the limit's
 abbrev pub too_many_at : List (List ℕ) → List FieldDecl → List RootDecl → TextLine → Result (Unit {0}) LineFault
 too_many_at kinds fields roots line = at_line line.number (step_of kinds fields roots line >>= λ step. Err too_many)
 

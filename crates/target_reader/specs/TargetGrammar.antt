@@ -2,7 +2,7 @@
 --
 -- A target has the version line `oat 2`, the declarations of a text, no `use` line, and operations in whose methods `chk` and
 -- `grd R` may stand. Its lines are those of the second version of the language. A line's fault is the first that it has, as in a
--- text: its bytes are judged first, also where it is skipped, and each line's form before its numbers, names and limits.
+-- text: its bytes are judged first, even if it is skipped, and each line's form before its numbers, names and limits.
 use Rattle.std.specs.Prelude.{◌≡◌, ℕ, zero, suc, ◌+◌, Bool, false, ◌&&◌, not, List, [], ◌∷◌, ◌++◌, map, length, Option, Some, None, Result, Ok, Err, codes, nat_lt, nat_le, ◌==◌, if◌then◌else◌}
 use Rattle.std.specs.Str.{bytes_eq}
 use Rattle.oa_text.specs.Lines.{TextLine, lines_of, numbered}
@@ -136,7 +136,7 @@ guarded_at words = do
   reference ← demand form_fault (holds_reference r)
   Ok r
 
--- `chk`, or `grd R`: none where an instruction of the language must stand
+-- `chk`, or `grd R`: none if the line must be an instruction of the language
 abbrev pub added_line : OpsDraft → List ℕ → List (List ℕ) → Result (Option OpsDraft) ℕ
 added_line draft word rest =
     if bytes_eq word (codes "chk") then (end_at rest >>= λ done. with_added draft Check)
@@ -174,7 +174,7 @@ in_target_wrap_up draft word rest =
     if bytes_eq word (codes "op") then next_target_op draft rest
     else added_line draft word rest
 
--- what a line says that isn't an instruction of the language, by its first word: none where it must be one
+-- what a line says that isn't an instruction of the language, by its first word: none if it must be one
 abbrev pub own_line : Part → OpsDraft → List ℕ → List (List ℕ) → Result (Option OpsDraft) ℕ
 own_line Outside draft word rest = in_outside draft word rest
 own_line Begun draft word rest = in_begun_op draft word rest
@@ -186,7 +186,7 @@ abbrev pub or_plain : List (List ℕ) → List FieldDecl → List RootDecl → O
 or_plain kinds fields roots draft word rest (Some next) = Ok next
 or_plain kinds fields roots draft word rest None = plain_line kinds fields roots draft word rest
 
--- the draft after a line that isn't skipped: where entry lines of a commit must follow, they alone may stand
+-- the draft after a line that isn't skipped: if entry lines of a commit must follow, they alone may stand
 abbrev pub in_target_place : List (List ℕ) → List FieldDecl → List RootDecl → ℕ → OpsDraft → List ℕ → List (List ℕ) → Result OpsDraft ℕ
 in_target_place kinds fields roots zero draft word rest = do
   own ← own_line draft.part draft word rest
@@ -246,7 +246,7 @@ version_end past lines = after_second_version (codes "oat") past lines
 abbrev pub target_of : Head → List TargetOp → Target
 target_of head ops = record { kinds = head.kinds; fields = head.fields; roots = head.roots; nodes = head.nodes; ops = ops }
 
--- the target that bytes spell, or the first fault. Where a further line must follow, the fault is one line past the last
+-- the target that bytes spell, or the first fault. If a further line must follow, the fault is one line past the last
 abbrev pub target_read : List ℕ → Result Target LineFault
 target_read bytes = do
   behind ← version_end (length (lines_of bytes) + 1) (numbered 1 (lines_of bytes))

@@ -110,7 +110,7 @@ fn guarded(words: &mut Words) -> Result<Reg, Fault>
     }
 }
 
-/// `chk`, or `grd R`: `false` where the line must be an instruction of the language.
+/// `chk`, or `grd R`: `false` if the line must be an instruction of the language.
 fn added(draft: &mut OpsDraft, word: &[u8], words: &mut Words) -> Result<bool, Stop>
     ensures line { Gives (λ read. read_or_plain read (draft_shown draft.new)) result (added_line (draft_shown draft.old) word.now words.old) }
     ensures same { IfOk result (λ read. read ≡ false → draft.new ≡ draft.old) }
@@ -184,7 +184,7 @@ fn in_part(
     }
 }
 
-/// Adds what a line says that is skipped or isn't an instruction of the language. `false` where it must be one, and then
+/// Adds what a line says that is skipped or isn't an instruction of the language. `false` if it must be one, and then
 /// nothing is added.
 #[tactic(auto, using(crate::proofs::OwnLines::line_skipped, crate::proofs::OwnLines::line_placed, crate::proofs::OwnLines::line_faulty))]
 pub(crate) fn read_own(draft: &mut OpsDraft, alloc: Global, line: Line) -> Result<bool, Stop>

@@ -94,9 +94,9 @@ fn read_ops<'a>(
 ///
 /// # Errors
 ///
-/// `Fault` exactly where the bytes spell no target by the grammar, with the grammar's fault: the first line that has one,
-/// and its first fault, as `norm_parser` numbers them. Where the input ends and a further line must follow, the fault is 4 at
-/// one more than the number of lines. `Memory` where memory runs out.
+/// `Fault` exactly if the bytes spell no target by the grammar, with the grammar's fault: the first line that has one,
+/// and its first fault, as `norm_parser` numbers them. If the input ends but a further line must follow, the fault is 4 at
+/// one more than the number of lines. `Memory` if memory runs out.
 pub fn read_target(alloc: Global, input: &[u8]) -> Result<Target, ParseError>
     requires { length (lines_of input.now) + 1 < 2 ^ 32 }
     ensures exact { Answers (λ target. target) result (target_read input.now) }

@@ -30,7 +30,7 @@ use Rattle.target_reader.specs.TargetGrammar.{Part, Outside, Begun, Generator, W
 abbrev pub Lines : Type 0
 Lines = List (List (List ℕ))
 
--- a draft at a part, where no entry line must follow
+-- a draft at a part, with no entry line to follow
 abbrev pub at : Part → OpsDraft → OpsDraft
 at part draft = record draft { part = part; left = 0 }
 
@@ -85,7 +85,7 @@ module _ (kinds : List (List ℕ)) (fields : List FieldDecl) (roots : List RootD
   abbrev pub SaidIn : Lines → OpsDraft → Type 0
   SaidIn lines draft = SaysIn draft.part draft lines
 
-  -- the same of a draft that a line gives, where it gives one; and where it must
+  -- the same of the draft that a line may give, and of the one that it must give
   abbrev pub SaidIf : Lines → Option OpsDraft → Type 0
   SaidIf lines None = ⊤
   SaidIf lines (Some draft) = SaidIn lines draft
@@ -137,14 +137,14 @@ module _ (kinds : List (List ℕ)) (fields : List FieldDecl) (roots : List RootD
       one_more : (lines : TargetInstr → Lines) → words ∷ [] ≡ lines i → (flat_map lines code ++ []) ++ words ∷ [] ≡ flat_map lines (code ++ i ∷ []) ++ []
       one_more lines same = rw (flat_map-append lines code (i ∷ []), ← same) (placed (flat_map lines code) words)
 
-  -- the line of a commit, where entry lines follow
+  -- the line of a commit, if entry lines follow
   commit_said : (code : List TargetInstr) (count : ℕ) (words : List (List ℕ)) (entries : List CasEntry) → words ≡ codes "commit" ∷ decimal (suc count) ∷ []
       → code_so_far_lines code 0 entries ++ words ∷ [] ≡ code_so_far_lines code (suc count) []
   commit_said code count words entries same =
       let counted : 0 + suc count ≡ suc count = omega arith in
       rw (same, counted) (ap (λ l. l ++ (codes "commit" ∷ decimal (suc count) ∷ []) ∷ []) (append-nil (target_code_lines kinds fields roots code)))
 
-  -- an entry line, where more follow
+  -- an entry line, if more follow
   entry_line_said : (code : List TargetInstr) (left : ℕ) (words : List (List ℕ)) (entries : List CasEntry) (entry : CasEntry) → words ≡ spelled_entry fields roots entry
       → code_so_far_lines code (suc (suc left)) entries ++ words ∷ [] ≡ code_so_far_lines code (suc left) (entries ++ entry ∷ [])
   entry_line_said code left words entries entry same =
@@ -199,7 +199,7 @@ module _ (kinds : List (List ℕ)) (fields : List FieldDecl) (roots : List RootD
     said = grown (before_wrap_up draft.ops draft.op) _ _ lines words h.said (commit_said draft.op.wrapup count words draft.entries same);
   }
 
-  -- an instruction of the language, where each step that the line says is said
+  -- after an instruction of the language the lines are the draft's, if they are after each step that its line says
   plain_said : (draft : OpsDraft) (word : List ℕ) (rest : List (List ℕ)) (lines : Lines)
       → ((step : Step) → StepSays Second kinds fields roots (word ∷ rest) step → SaidIn (lines ++ (word ∷ rest) ∷ []) (with_target_step draft step))
       → IfOk (plain_line kinds fields roots draft word rest) (SaidIn (lines ++ (word ∷ rest) ∷ []))
@@ -210,7 +210,7 @@ module _ (kinds : List (List ℕ)) (fields : List FieldDecl) (roots : List RootD
   guarded_said : (words : List (List ℕ)) → IfOk (guarded_at words) (λ r. words ≡ register_word r ∷ [])
   guarded_said words = one_then words _ _ λ r same. demanded form_fault (holds_reference r) _ _ λ _. same
 
-  -- a check or a guard, where each that the line says is said
+  -- after a check or a guard the lines are the draft's, if they are after each that its line says
   added_said : (draft : OpsDraft) (word : List ℕ) (rest : List (List ℕ)) (lines : Lines)
       → ((i : TargetInstr) → (word ∷ rest) ∷ [] ≡ target_instr_lines kinds fields roots i → SaidIn (lines ++ (word ∷ rest) ∷ []) (with_one_more draft i))
       → IfOk (added_line draft word rest) (SaidIf (lines ++ (word ∷ rest) ∷ []))

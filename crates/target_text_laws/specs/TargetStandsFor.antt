@@ -14,7 +14,7 @@ TargetsAreWithin = (bytes : List ℕ) (target : Target) → Spells bytes target 
 abbrev pub TargetStandsForOne : Type 0
 TargetStandsForOne = (bytes : List ℕ) (one other : Target) → Spells bytes one → Spells bytes other → one ≡ other
 
--- bytes spell a target exactly where every line is plain and short enough, the target is within the limits, and the lines
+-- bytes spell a target exactly if every line is plain and short enough, the target is within the limits, and the lines
 -- that aren't skipped are those of its canonical spelling, word for word
 abbrev pub TargetsAreSaid : Type 0
 TargetsAreSaid = (bytes : List ℕ) (target : Target) → Spells bytes target ↔ (ArePlain bytes × IsTargetWithinLimits target × (told bytes ≡ spelled_target target))

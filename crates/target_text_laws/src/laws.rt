@@ -14,7 +14,7 @@ pub fn target_stands_for_one()
     ensures { TargetStandsForOne }
 {}
 
-/// Bytes spell a target exactly where every line is plain and of at most 200 bytes, the target is within the limits, and
+/// Bytes spell a target exactly if every line is plain and of at most 200 bytes, the target is within the limits, and
 /// the words of the lines that aren't skipped are those of its canonical spelling.
 pub fn targets_are_said()
     ensures { TargetsAreSaid }

@@ -139,7 +139,7 @@ field_fits version kinds fields words are =
     kind_then (length kinds) holding _ _ holds λ kind of same. demanded repeated (not (has_field fields name)) _ _ λ new. demanded too_many (nat_lt (length (fields_of k fields)) 4) _ _ λ room.
     record { follows = record { turn = rw is at turn; room = room }; new = new; fine = and_from _ _ named (and_from _ _ below of) }
 
--- the next count of nodes, for the kind whose turn it is, where so many are promised
+-- the next count of nodes, for the kind whose turn it is, with so many promised
 pub record NextCount (kinds turn promised count : ℕ) : Type 0 where
   pub below : nat_lt turn kinds ≡ true
   pub few : nat_le (promised + count) 256 ≡ true
@@ -167,7 +167,7 @@ node_fits fields owners at words =
     demanded mismatch (are_matches owners (fields_of (get_or owners at 0) fields) starts) _ _ λ matches.
     record { owner = refl; starts = h matches }
 
--- the next root, with its name and its first value, with so many kinds, where the initial nodes are of these
+-- the next root, with its name and its first value, given so many kinds and initial nodes of these
 abbrev pub NextRoot : ℕ → List ℕ → List RootDecl → RootDecl → Type 0
 NextRoot kinds owners roots root = IsNext 256 (λ root. root.name) roots root × (is_root kinds owners root ≡ true)
 

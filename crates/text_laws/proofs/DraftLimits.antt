@@ -177,7 +177,7 @@ Keeps Shipped draft = (is_within_limits draft.text ≡ true) × FewPromised draf
 abbrev pub Kept : Draft → Type 0
 Kept draft = Keeps draft.section draft
 
--- a draft at a section, where no entry line must follow
+-- a draft at a section, with no entry line still to come
 abbrev at : Section → Draft → Draft
 at section draft = record draft { section = section; left = 0 }
 
@@ -216,7 +216,7 @@ no_ops kinds fields roots = record { few = refl; each = refl; apart = refl }
 least : (n : ℕ) → nat_le 0 n ≡ true
 least n = grind (arith, nat_tests)
 
--- fields may follow where kinds alone are declared
+-- fields may follow if kinds alone are declared
 pub may_have_fields : (version : Version) (counted : ℕ) (owners : List ℕ) (text : Text) → HasKinds version counted owners text → HasFields version counted owners text
 may_have_fields version counted owners text h = record {
   named = h.named;
@@ -380,7 +380,7 @@ count_kept draft rest h =
     some : (n m : ℕ) → nat_lt n m ≡ true → nat_lt 0 m ≡ true
     some n m less = grind (arith, nat_tests)
 
--- counts may follow where each kind has a field
+-- counts may follow if each kind has a field
 may_have_counts : (draft : Draft) → HasFields draft.version draft.counted draft.owners draft.text → (groups_begun draft.text.fields == length draft.text.kinds) ≡ true
     → HasCounts draft.version draft.counted draft.owners draft.text
 may_have_counts draft h whole = record {
@@ -532,7 +532,7 @@ news_pushed (j ∷ code) i = go (is_new j) (news_pushed code i)
     go true e = omega (arith, e)
     go false e = e
 
--- at most 4 `new` where the last isn't the fifth
+-- at most 4 `new` if the last isn't the fifth
 news_fit : (n m : ℕ) (b : Bool) → nat_le n 4 ≡ true → not (b && nat_lt 3 n) ≡ true → m ≡ n + one_if b → nat_le m 4 ≡ true
 news_fit n m true few fifth e = let below : nat_lt 3 n ≡ false = not-true _ fifth in grind (arith, nat_tests)
 news_fit n m false few fifth e = grind (arith, nat_tests)
@@ -605,7 +605,7 @@ wrap_up_step_kept draft (Commits zero) h fits room =
 wrap_up_step_kept draft (Commits (suc count)) h fits room =
     (entries_in_op WrapUp (suc count) draft [] h.0.named h.0.promised h.0.text h.0.op (no_entries _ _ (suc count) draft.op.wrapup (and_parts _ _ room).0 fits), h.1)
 
--- a line of a method, where each step that fits keeps what holds
+-- a line of a method, if each step that fits keeps what holds
 method_kept : (draft : Draft) (word : List ℕ) (rest : List (List ℕ)) → KindsOf draft.version draft.text.kinds
     → ((step : Step) → StepFits (length draft.text.kinds) (length draft.text.fields) (length draft.text.roots) step → has_room draft step ≡ true → Kept (with_step draft step))
     → IfOk (in_method draft word rest) Kept

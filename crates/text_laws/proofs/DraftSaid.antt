@@ -40,7 +40,7 @@ Lines = List (List (List ℕ))
 abbrev pub promised_of : ℕ → List ℕ → ℕ
 promised_of k owners = length (filter (λ n. n == k) owners)
 
--- the line of a kind's count, where nodes of these kinds are promised
+-- the line of a kind's count, with nodes of these kinds promised
 abbrev pub promised_line : Version → List (List ℕ) → List ℕ → ℕ → List (List ℕ)
 promised_line version kinds owners k = codes "nodes" ∷ (owner_words version kinds k ++ (decimal (promised_of k owners) ∷ []))
 
@@ -53,7 +53,7 @@ promised_lines version kinds owners (suc k) = promised_lines version kinds owner
 abbrev pub field_lines : Version → Text → Lines
 field_lines version text = spelled_version version ∷ (kind_lines version text.kinds ++ map (spelled_field version text.kinds) text.fields)
 
--- the lines of the declarations so far, where so many kinds are counted and nodes of these kinds are promised
+-- the lines of the declarations so far, with so many kinds counted and nodes of these kinds promised
 abbrev pub declared_lines : Version → ℕ → List ℕ → Text → Lines
 declared_lines version counted owners text =
     spelled_version version
@@ -79,7 +79,7 @@ before_generator version text op = spelled_by version text ++ (spelled_op op ∷
 abbrev pub before_wrap_up : Version → Text → Op → Lines
 before_wrap_up version text op = spelled_by version text ++ (spelled_op op ∷ (codes "gen" ∷ []) ∷ (code_lines version text.kinds text.fields text.roots op.generator ++ (codes "wrap" ∷ []) ∷ []))
 
--- the lines, where no entry line must follow
+-- the lines, with no entry line still to come
 pub record Says (lines expected : Lines) (left : ℕ) : Type 0 where
   pub said : lines ≡ expected
   pub whole : left ≡ 0
@@ -128,7 +128,7 @@ SaysIn Shipped draft lines = SaysShipped draft lines
 abbrev pub SaidIn : Lines → Draft → Type 0
 SaidIn lines draft = SaysIn draft.section draft lines
 
--- a draft at a section, where no entry line must follow
+-- a draft at a section, with no entry line still to come
 abbrev pub at : Section → Draft → Draft
 at section draft = record draft { section = section; left = 0 }
 
@@ -361,14 +361,14 @@ module _ (version : Version) (kinds : List (List ℕ)) (fields : List FieldDecl)
       → code_so_far_lines version kinds fields roots code 0 entries ++ words ∷ [] ≡ code_so_far_lines version kinds fields roots (code ++ i ∷ []) 0 others
   instr_said code i words entries others same = one_more_instr (instr_lines version kinds fields roots) code i words same
 
-  -- the line of a commit, where entry lines follow
+  -- the line of a commit, if entry lines follow
   commit_said : (code : List Instr) (count : ℕ) (words : List (List ℕ)) (entries : List CasEntry) → words ≡ codes "commit" ∷ decimal (suc count) ∷ []
       → code_so_far_lines version kinds fields roots code 0 entries ++ words ∷ [] ≡ code_so_far_lines version kinds fields roots code (suc count) []
   commit_said code count words entries same =
       let counted : 0 + suc count ≡ suc count = omega arith in
       rw (same, counted) (ap (λ l. l ++ (codes "commit" ∷ decimal (suc count) ∷ []) ∷ []) (append-nil (code_lines version kinds fields roots code)))
 
-  -- an entry line, where more follow
+  -- an entry line, if more follow
   entry_line_said : (code : List Instr) (left : ℕ) (words : List (List ℕ)) (entries : List CasEntry) (entry : CasEntry) → words ≡ spelled_entry fields roots entry
       → code_so_far_lines version kinds fields roots code (suc (suc left)) entries ++ words ∷ [] ≡ code_so_far_lines version kinds fields roots code (suc left) (entries ++ entry ∷ [])
   entry_line_said code left words entries entry same =
@@ -424,7 +424,7 @@ wrap_up_step_said draft (Commits (suc count)) words lines h same = record {
   said = grown (before_wrap_up draft.version draft.text draft.op) _ _ lines words h.said (commit_said draft.version draft.text.kinds draft.text.fields draft.text.roots draft.op.wrapup count words draft.entries same);
 }
 
--- a line of a method, where each step that the line says is said
+-- a line of a method, if each step that the line says is said
 method_said : (draft : Draft) (word : List ℕ) (rest : List (List ℕ)) (lines : Lines)
     → ((step : Step) → StepSays draft.version draft.text.kinds draft.text.fields draft.text.roots (word ∷ rest) step → SaidIn (lines ++ (word ∷ rest) ∷ []) (with_step draft step))
     → IfOk (in_method draft word rest) (SaidIn (lines ++ (word ∷ rest) ∷ []))

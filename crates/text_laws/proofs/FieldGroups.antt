@@ -47,7 +47,7 @@ rising_repeated numbers (suc count) n rising below =
     ap is_rising (sym (append_assoc numbers (n ∷ []) (replicate count n)))
     ∙ rising_repeated (numbers ++ n ∷ []) count n (rising_pushed numbers n rising below) (all_pushed_too numbers n below)
 
--- a number any number of times passes where it does
+-- a number passes any number of times if it passes once
 pub all_repeated : (test : ℕ → Bool) (count n : ℕ) → test n ≡ true → list_all test (replicate count n) ≡ true
 all_repeated test zero n passes = refl
 all_repeated test (suc count) n passes = and_from (test n) (list_all test (replicate count n)) passes (all_repeated test count n passes)
@@ -95,7 +95,7 @@ one_more items item room =
     let longer : length (items ++ item ∷ []) ≡ length items + 1 = length-append items (item ∷ []) in
     and_from _ _ (le-leb 1 (length (items ++ item ∷ [])) (omega (arith, longer))) (le-leb (length (items ++ item ∷ [])) 4 (omega (arith, longer, few)))
 
--- a field where it may follow, with room in its group
+-- a field that may follow, with room in its group
 pub record Follows (fields : List FieldDecl) (field : FieldDecl) : Type 0 where
   pub turn : may_follow (groups_begun fields) (Some field.owner) ≡ true
   pub room : nat_lt (length (fields_of field.owner fields)) 4 ≡ true

@@ -66,7 +66,7 @@ greatest_so_far (m ∷ before) rest n rising =
     let parts = and_parts (list_all (λ k. nat_le m k) before) (list_all (λ k. nat_le m k) (n ∷ rest)) (sym (list_all-append (λ k. nat_le m k) before (n ∷ rest)) ∙ least) in
     and_from (nat_le m n) _ (and_parts (nat_le m n) _ parts.1).0 (greatest_so_far before rest n (rising_rest m (before ++ n ∷ rest) rising))
 
--- a kind's group, where each of so many kinds has one
+-- a kind's group, if each of so many kinds has one
 group_between : (kinds k : ℕ) (fields : List FieldDecl) → has_groups kinds fields ≡ true → k < kinds → has_between 1 4 (fields_of k fields) ≡ true
 group_between zero k fields groups within = absurd (omega (arith, within))
 group_between (suc n) k fields groups within =

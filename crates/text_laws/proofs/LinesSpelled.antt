@@ -109,7 +109,7 @@ node_is (suc j) few =
       visible = and_from (is_visible 64) (list_all is_visible (decimal (suc j))) refl word.visible;
     }
 
--- a first value, where the initial nodes are of these kinds
+-- a first value, given initial nodes of these kinds
 start_is : (owners : List ℕ) (kind : FieldKind) (start : Start) → length owners ≤ 256 → is_start owners kind start ≡ true → IsWord (start_word start)
 start_is owners holdings.Number (starts.Value n) few is = number_word n is
 start_is owners (holdings.Reference k) (starts.Value n) few is = let e : false ≡ true = is in absurd (let f : ⊥ = cc in f)

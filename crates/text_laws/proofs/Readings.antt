@@ -21,7 +21,7 @@ pub demanded : {B : Type 0} (fault : ℕ) (test : Bool) (f : Unit {0} → Result
 demanded fault true f P next = next refl
 demanded fault false f P next = tt
 
--- what is read where the test passes has P, and so has what is read where it doesn't
+-- what is read if the test passes has P, and so has what is read if it doesn't
 pub either : {A E : Type 0} (test : Bool) (x y : Result A E) (P : A → Type 0)
     → (test ≡ true → IfOk x P) → (test ≡ false → IfOk y P) → IfOk (if test then x else y) P
 either true x y P passed failed = passed refl

@@ -10,7 +10,7 @@ use Rattle.std.proofs.lemmas.List.Sums.{fold_push}
 use Rattle.oa_text.specs.Numbers.{is_digit, is_numeral, with_digit, number_of}
 use Rattle.norm_lang.proofs.SpelledLines.{is_visible, IsWord, each}
 
--- digits that spell a number, the first 0 only where they are few
+-- digits that spell a number, the first of them 0 only if it stands alone
 record IsSpelled (n : ℕ) (digits : List ℕ) : Type 0 where
   numeral : is_numeral digits ≡ true
   value : number_of digits ≡ n

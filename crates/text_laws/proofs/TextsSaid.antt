@@ -1,4 +1,4 @@
--- Bytes stand for a text exactly where their lines are plain and say it.
+-- Bytes stand for a text exactly if their lines are plain and say it.
 use Rattle.std.specs.Prelude.{◌≡◌, ℕ, ◌+◌, ◌^◌, ◌≤◌, Bool, true, false, cond, not, List, [], ◌∷◌, ◌++◌, length, Option, Some, None, Result, Ok, Err, IfOk, nat_lt, nat_le, if◌then◌else◌}
 use Rattle.std.specs.List.{list_all}
 use Rattle.std.proofs.Common.{refl, ap, ◌∙◌, sym, arith, append_assoc, ⊎_elim}
@@ -58,7 +58,7 @@ lines_said number draft (bytes ∷ lines) so_far whole keeps h same =
     lines_said (number + 1) next lines (so_far ++ told_line words) whole has.0 has.1
     (append_assoc so_far (told_line words) (told_in lines) ∙ ap (λ l. so_far ++ l) (sym (told_first words (told_in lines) (not (is_skipped words)))) ∙ same)
 
--- where no byte is odd, every byte is plain
+-- if no byte is odd, every byte is plain
 none_odd : (column : ℕ) (bytes : List ℕ) → odd_column_from column bytes ≡ None → list_all is_plain_byte bytes ≡ true
 none_odd column [] none = refl
 none_odd column (b ∷ bytes) none = go (is_plain b) refl none (λ none. none_odd (column + 1) bytes none)
@@ -104,7 +104,7 @@ text_said lines =
     at_line_has (length lines + 1) (finished last) (λ text. (list_all is_plain_line lines ≡ true) × SaysText (told_in lines) text)
     (follows (finished last) (SaysText (told_in lines)) (λ text. (list_all is_plain_line lines ≡ true) × SaysText (told_in lines) text) (finished_said last (told_in lines) has.1) λ text says. (has.0, says))
 
--- where every byte is plain, none is odd
+-- if every byte is plain, none is odd
 all_plain : (column : ℕ) (bytes : List ℕ) → list_all is_plain_byte bytes ≡ true → odd_column_from column bytes ≡ None
 all_plain column [] all = refl
 all_plain column (b ∷ bytes) all =

@@ -60,7 +60,7 @@ node_within owners j k is = go (slice_get owners j) refl is
     go None e is = let e : false ≡ true = is in absurd (let f : ⊥ = cc in f)
     go (Some owner) e is = slice_get_within owners j owner e
 
--- a first value, where the initial nodes are of these kinds
+-- a first value, given initial nodes of these kinds
 pub start_read : (owners : List ℕ) (kind : FieldKind) (start : Start) → length owners ≤ 256 → is_start owners kind start ≡ true → start_in kind (start_word start) ≡ Ok (start_read_as start)
 start_read owners holdings.Number (starts.Value n) few is = rw (number_read n is) refl
 start_read owners holdings.Number (starts.Node j) few is = let e : false ≡ true = is in absurd (let f : ⊥ = cc in f)

@@ -220,7 +220,7 @@ openings : are_judged 2 (behind (codes "oa 1" ∷ []) (
     ∷ [])) ≡ true
 openings = refl
 
--- the first line, also where it is skipped
+-- the first line, even if it is skipped
 starts_with : are_judged 1 (
     (codes "oa 3" ∷ [], 4)
     ∷ (codes "oa" ∷ [], 4)
@@ -251,7 +251,7 @@ nothing = refl
 cut : is_fault 12 4 (fault_in (text_in (take 11 counter))) ≡ true
 cut = refl
 
--- the counter with an operation's name again, where its last line is the twentieth
+-- the counter, whose last line is the twentieth, with an operation's name again
 again : is_fault 21 6 (fault_in (text_in (counter ++ codes "op add 18" ∷ []))) ≡ true
 again = refl
 

@@ -89,7 +89,7 @@ NamesText lines text =
 abbrev pub SaysText : List (List (List ℕ)) → Text → Type 0
 SaysText lines text = SpellsText lines text ⊎ NamesText lines text
 
--- bytes stand for a text exactly where every line is plain and short enough, the text is within the limits, and the lines
+-- bytes stand for a text exactly if every line is plain and short enough, the text is within the limits, and the lines
 -- that aren't skipped say it, word for word
 abbrev pub TextsAreSaid : Type 0
 TextsAreSaid = (bytes : List ℕ) (text : Text) → Grammar bytes text ↔ (ArePlain bytes × IsWithinLimits text × SaysText (told bytes) text)

@@ -43,7 +43,7 @@ pub fn names_are_short()
     ensures { NamesAreShort }
 {}
 
-/// Bytes stand for a text exactly where every line is plain and of at most 200 bytes, the text is within the limits, and
+/// Bytes stand for a text exactly if every line is plain and of at most 200 bytes, the text is within the limits, and
 /// the words of the lines that aren't skipped are those of its spelling in a version in which it may stand, or those of a
 /// version line and of a `use` line that names it.
 pub fn texts_are_said()

@@ -22,12 +22,12 @@ after_one : {A : Type 0} (front : List A) (x : A) (read : Result (List A) ℕ)
 after_one front x (Ok rest) = rw (append_assoc front (x ∷ []) rest) refl
 after_one front x (Err fault) = refl
 
--- the fields of a kind from a place on, where one of them stands there
+-- the fields of a kind from a place on, if one of them stands there
 here : (fields : List FieldDecl) (owner i : ℕ) (d : FieldDecl) → i < length fields → (get_or fields i d).owner ≡ owner
     → fields_of owner (drop i fields) ≡ get_or fields i d ∷ fields_of owner (drop (i + 1) fields)
 here fields owner i d lt is = rw (drop_more fields i d lt, eq-eqb ((get_or fields i d).owner) owner is) refl
 
--- .. and where a field of another kind stands there
+-- .. and if a field of another kind stands there
 passed : (fields : List FieldDecl) (owner i : ℕ) (d : FieldDecl) → i < length fields → ((get_or fields i d).owner ≡ owner → ⊥)
     → fields_of owner (drop i fields) ≡ fields_of owner (drop (i + 1) fields)
 passed fields owner i d lt other = rw (drop_more fields i d lt, ne_eqb ((get_or fields i d).owner) owner other) refl

@@ -15,7 +15,7 @@ abbrev pub step_shown : ReadStep → Step
 step_shown (read.Whole i) = Whole i
 step_shown (read.Commits count) = Commits count
 
--- a whole instruction where one was read
+-- a whole instruction, if one was read
 abbrev pub whole_read : Result Instr Fault → Result ReadStep Fault
 whole_read (Ok i) = Ok (read.Whole i)
 whole_read (Err fault) = Err fault

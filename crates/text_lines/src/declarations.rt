@@ -87,7 +87,7 @@ pub fn kind(alloc: Global, kinds: &[Name], words: &mut Words) -> Result<Name, St
     Ok(Listed::from_slice(alloc, name)?)
 }
 
-/// How many kinds have a field, where fields stand in the order of their kinds.
+/// How many kinds have a field, if the fields stand in the order of their kinds.
 #[tactic(auto, using(crate::proofs::Groups::begun_more, crate::proofs::Groups::begun_done))]
 pub fn groups_begun(fields: &[FieldDecl]) -> usize
     ensures { result ≡ groups_begun fields.now }
@@ -99,8 +99,8 @@ pub fn groups_begun(fields: &[FieldDecl]) -> usize
     begun
 }
 
-/// Whether a field of this kind goes on with the kind begun last, or begins the next one. Where its kind isn't declared that
-/// is the line's fault, and not its place.
+/// Whether a field of this kind goes on with the kind begun last, or begins the next one. It is also true if its kind isn't
+/// declared, since the line's fault is then that, and not its place.
 fn may_follow(begun: usize, owner: Option<u8>) -> bool
     ensures { result ≡ may_follow begun owner }
 {
@@ -141,7 +141,8 @@ pub fn field(
     Ok(FieldDecl { owner, name, kind })
 }
 
-/// Whether it is the turn of this kind. Where the kind isn't declared that is the line's fault, and not its place.
+/// Whether it is the turn of this kind. It is also true if the kind isn't declared, since the line's fault is then that, and not
+/// its place.
 fn next(turn: u8, owner: Option<u8>) -> bool
     ensures { result ≡ is_next turn owner }
 {
@@ -164,8 +165,8 @@ fn sum_of_nodes(promised: usize, count: u64) -> Result<u64, Fault>
     }
 }
 
-/// `nodes KIND K`, for each kind in its turn: the count of its initial nodes, where so many nodes are promised already, at
-/// most 256 in all. A line of the first version names no kind.
+/// `nodes KIND K`, for each kind in its turn: the count of its initial nodes, at most 256 with those promised
+/// already. A line of the first version names no kind.
 pub fn nodes(
     version: Version,
     kinds: &[Name],
@@ -227,7 +228,7 @@ fn starts(alloc: Global, count: u32, values: &[StartWord]) -> Result<Starts, Sto
     Ok(starts)
 }
 
-/// Whether each value fits its field of a kind, where the initial nodes are of these kinds.
+/// Whether each value fits its field of a kind: `owners` are the kinds of the initial nodes.
 #[tactic(auto, using(crate::proofs::NodeLines::fit_passed, crate::proofs::NodeLines::fit_more, crate::proofs::NodeLines::fit_refused, crate::proofs::NodeLines::fit_ended, crate::proofs::NodeLines::fits_done))]
 fn all_fit(owners: &[u8], owner: u8, fields: &[FieldDecl], starts: &[Start]) -> bool
     ensures { result ≡ are_matches owners.now (fields_of owner fields.now) starts.now }
@@ -283,8 +284,8 @@ pub fn node(
     Ok(NodeDecl { owner, values })
 }
 
-/// `root NAME num V`, `root NAME ref KIND null` or `root NAME ref KIND @J`, where the initial nodes are of these kinds: at
-/// most 256 roots, each with a name of its own. A line of the first version names no kind.
+/// `root NAME num V`, `root NAME ref KIND null` or `root NAME ref KIND @J`: at most 256 roots, each with a name of
+/// its own. `owners` are the kinds of the initial nodes. A line of the first version names no kind.
 pub fn root(
     alloc: Global,
     version: Version,

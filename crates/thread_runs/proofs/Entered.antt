@@ -1,5 +1,6 @@
 -- A caller that has just entered, and the end of all.
-use Rattle.std.proofs.Common.{◌≡◌, ◌≤◌, ◌<◌, ◌^◌, ℕ, List, [], subst, ap, ◌∙◌, arith}
+use Rattle.std.proofs.Common.{◌≡◌, ◌≤◌, ◌<◌, ◌^◌, ℕ, List, [], subst, sym, ap, ◌∙◌, arith}
+use Rattle.std.proofs.lemmas.List.Elements.{All-weaker}
 use Rattle.std.proofs.lemmas.List.Sorted.{All-permutation}
 use Rattle.caller_parts.specs.declared.call.Call.{Call}
 use Rattle.caller_steps.specs.Entries.{RoomyEntry, idle_entry}
@@ -8,22 +9,24 @@ use Rattle.word_runner.specs.table_rule.Seen.{Fixed}
 use Rattle.word_runner.specs.table_rule.Closing.{IsClosed}
 use Rattle.word_runner.proofs.table_rule.Moves.{sound}
 use Rattle.word_runner.specs.Shown.{ArenaShown, BlankShown, CallerShown}
-use Rattle.thread_runs.specs.Scripts.{Fresh, Ended}
-use Rattle.thread_runs.specs.Whole.{IsBlank, HasRooms, AreShort, AllEnded, IsFinalOf}
+use Rattle.thread_runs.specs.Scripts.{HasRooms, IsWithinRooms, IsLongest, Fresh, Ended}
+use Rattle.thread_runs.specs.Whole.{IsBlank, AreShort, AllEnded, AllLongest, IsFinalOf}
 use Rattle.thread_runs.proofs.OfScripts.{is_complete}
 
-pub fresh_entered : (a : ArenaShown) (room : ℕ) (scripts : List (List Call)) (b : BlankShown) (c : CallerShown) → SuitScripts a.fixed.target.target a.fixed.setting scripts → HasRooms scripts room → AreShort scripts → IsBlank a room b
+pub fresh_entered : (a : ArenaShown) (room : ℕ) (scripts : List (List Call)) (b : BlankShown) (c : CallerShown) → SuitScripts a.fixed.target.target a.fixed.setting scripts → HasRooms scripts room → IsWithinRooms scripts room → AreShort scripts → IsBlank a room b
     → (c.table ≡ b.table) × (c.fixed ≡ b.fixed) × (c.entry ≡ record { core = idle_entry c.entry.core.number; room = b.room }) × (b.found ≤ c.entry.core.number) × (c.entry.core.number < b.fixed.setting.sizes.callers)
     → Fresh a scripts c
-fresh_entered a room scripts b c suit rooms short mine e =
+fresh_entered a room scripts b c suit rooms least short mine e =
+    let own : c.entry.room ≡ room = ap (λ (r : RoomyEntry). r.room) e.2 ∙ mine.1 in
     let limit : b.fixed.setting.sizes.callers ≡ a.fixed.setting.sizes.callers = ap (λ (f : Fixed). f.setting.sizes.callers) mine.0.1 in
     record {
       came = (e.0 ∙ mine.0.0, e.1 ∙ mine.0.1);
       idle = ap (λ (r : RoomyEntry). r.core) e.2;
       within = let n = suit.count in let lt = e.4 in omega arith;
-      room = let r : c.entry.room ≡ b.room = ap (λ (r : RoomyEntry). r.room) e.2 in let k = rooms c.entry.core.number [] (let n = suit.count in let lt = e.4 in omega arith) in let q = mine.1 in omega arith;
+      room = let k = rooms c.entry.core.number [] (let n = suit.count in let lt = e.4 in omega arith) in omega (arith, own, k);
       short = short c.entry.core.number [] (let n = suit.count in let lt = e.4 in omega arith);
       calls = suit.calls c.entry.core.number [] (let n = suit.count in let lt = e.4 in omega arith);
+      longest = subst (IsLongest scripts) (sym own) (record { rooms = rooms; least = least });
     }
 
 -- what was closed is the end of a complete run
@@ -31,7 +34,8 @@ pub completes : (g f : Fixed) (scripts : List (List Call)) (fuel phase : ℕ) (r
     → IsFinalOf f scripts fuel phase entries
 completes g f scripts fuel phase rested entries is some lt c ended =
     let good = sound g c.core c.good c.reachable in
-    let all : AllEnded g scripts fuel entries = All-permutation (λ (r : RoomyEntry). Ended g scripts fuel r.core) rested entries c.kept ended in
+    let all : AllEnded g scripts fuel entries = All-permutation (Ended g scripts fuel) rested entries c.kept ended in
+    let rooms : AllLongest scripts entries = All-weaker (Ended g scripts fuel) (λ (r : RoomyEntry). IsLongest scripts r.room) (λ r h. h.longest) entries all in
     subst (λ (h : Fixed). IsFinalOf h scripts fuel phase entries) is (record {
       events = c.reachable.events;
       core = c.core;
@@ -39,4 +43,5 @@ completes g f scripts fuel phase rested entries is some lt c ended =
       sound = good;
       phase_is = c.phase_is;
       entries_are = c.entries_are;
+      rooms = rooms;
     })

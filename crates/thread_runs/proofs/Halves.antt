@@ -8,7 +8,7 @@ use Rattle.core_runs.specs.Scripts.{script_of}
 use Rattle.core_runs.proofs.Advancing.{advances_number}
 use Rattle.word_runner.specs.table_rule.Seen.{Fixed}
 use Rattle.word_runner.specs.Shown.{ArenaShown, CallerShown}
-use Rattle.thread_runs.specs.Scripts.{Fresh, RanScript, Finished, Took, Ended}
+use Rattle.thread_runs.specs.Scripts.{IsLongest, Fresh, RanScript, Finished, Took}
 
 took_number : (key : Fixed) (calls : List Call) (n : ℕ) (e e' : Entry) → Took key calls n e e' → e'.number ≡ e.number
 took_number key [] n e e' h = ap (λ (x : Entry). x.number) h
@@ -19,10 +19,10 @@ took_number key (call ∷ calls) n e e' h =
     (λ (t : (is_idle h.0.routine ≡ true) × Took key calls n h.0 e'). took_number key calls n h.0 e' t.1 ∙ mid)
     h.3
 
-ended_from : (key : Fixed) (s : List (List Call)) (n : ℕ) (e e' : Entry) → e ≡ idle_entry e.number → Took key (script_of s e.number) n e e' → Ended key s n e'
-ended_from key s n e e' idle h =
+took_own : (key : Fixed) (s : List (List Call)) (n : ℕ) (e e' : Entry) → e ≡ idle_entry e.number → Took key (script_of s e.number) n e e' → Took key (script_of s e'.number) n (idle_entry e'.number) e'
+took_own key s n e e' idle h =
     let same : e'.number ≡ e.number = took_number key (script_of s e.number) n e e' h in
-    record { took = subst (λ (k : ℕ). Took key (script_of s k) n (idle_entry k) e') (sym same) (subst (λ (x : Entry). Took key (script_of s e.number) n x e') idle h) }
+    subst (λ (k : ℕ). Took key (script_of s k) n (idle_entry k) e') (sym same) (subst (λ (x : Entry). Took key (script_of s e.number) n x e') idle h)
 
 pub finished_own : (a : ArenaShown) (scripts : List (List Call)) (fuel : ℕ) (c c' : CallerShown) (s x : List Call) (n : ℕ) → Fresh a scripts c → n ≡ c.entry.core.number → x ≡ get_or scripts n x → s ≡ x
     → RanScript a s fuel c c' → Finished a scripts fuel c'
@@ -31,5 +31,8 @@ finished_own a scripts fuel c c' s x n fresh num read is ran =
     let own : s ≡ script_of scripts c.entry.core.number = is ∙ (read ∙ (get_or_default scripts n x [] within ∙ ap (λ (k : ℕ). script_of scripts k) num)) in
     record {
       came = (ran.table ∙ fresh.came.0, ran.fixed ∙ fresh.came.1);
-      ended = ended_from a.fixed scripts fuel c.entry.core c'.entry.core fresh.idle (subst (λ (t : List Call). Took a.fixed t fuel c.entry.core c'.entry.core) own ran.took);
+      ended = record {
+        took = took_own a.fixed scripts fuel c.entry.core c'.entry.core fresh.idle (subst (λ (t : List Call). Took a.fixed t fuel c.entry.core c'.entry.core) own ran.took);
+        longest = subst (IsLongest scripts) (sym ran.room) fresh.longest;
+      };
     }

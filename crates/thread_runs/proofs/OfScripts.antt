@@ -106,12 +106,16 @@ entry_there (e ∷ es) (suc c) lt = entry_there es c (omega (arith, lt))
 -- what each caller did, in the run's own events
 module _ (key : Fixed) (scripts : List (List Call)) (fuel : ℕ) (entries : List RoomyEntry) (core : CoreState) (reached : IsReached key core) (is : cores entries ≡ core.entries)
     (whole : IsSound key.target.target key.setting core) (some : 0 < fuel) (lt : fuel < 2 ^ 64) (all : AllEnded key scripts fuel entries) where
+  -- the calls of the entry's own script were taken from the start
+  abbrev OwnTook : Entry → Type 0
+  OwnTook e = Took key (script_of scripts e.number) fuel (idle_entry e.number) e
+
   did : (c : ℕ) (e : Entry) → slice_get core.entries c ≡ Some e → AreOfScript fuel (script_of scripts c) (calls_in c reached.events) × HasEnded fuel (script_of scripts c) (calls_in c reached.events) (is_idle e.routine)
   did c e at =
       let there : slice_get (cores entries) c ≡ Some e = ap (λ (es : List Entry). slice_get es c) is ∙ at in
-      let mine : Ended key scripts fuel e = core_at (λ (r : RoomyEntry). Ended key scripts fuel r.core) (Ended key scripts fuel) (λ r h. h) entries c e all there in
+      let took : OwnTook e = core_at (Ended key scripts fuel) OwnTook (λ r h. h.took) entries c e all there in
       let number : e.number ≡ c = (whole.belong c e at).1 in
-      let run = added key fuel (script_of scripts e.number) (idle_entry e.number) e some lt refl mine.took in
+      let run = added key fuel (script_of scripts e.number) (idle_entry e.number) e some lt refl took in
       let kept : calls_of e ≡ calls_in c reached.events = kept_calls key.target.target key.setting reached.events core c e reached.runs at in
       let calls : run.calls ≡ calls_in c reached.events = sym run.is ∙ kept in
       subst (λ (k : ℕ). AreOfScript fuel (script_of scripts k) (calls_in c reached.events) × HasEnded fuel (script_of scripts k) (calls_in c reached.events) (is_idle e.routine)) number

@@ -1,13 +1,26 @@
 -- Calls in order, by one caller and by a list of callers.
 use Rattle.std.specs.Prelude.{◌≡◌, true, false, ℕ, ◌+◌, ◌-◌, ◌≤◌, ◌<◌, ◌⊎◌, List, [], ◌∷◌, length, drop, All}
 use Rattle.caller_parts.specs.declared.call.Call.{Call}
-use Rattle.caller_steps.specs.Entries.{Entry, idle_entry, is_idle}
+use Rattle.caller_steps.specs.Entries.{Entry, RoomyEntry, idle_entry, is_idle}
 use Rattle.caller_parts.specs.Calls.{AreCalls}
 use Rattle.caller_steps.specs.After.{taken}
 use Rattle.core_runs.specs.Scripts.{script_of}
 use Rattle.documents.specs.DocumentLimits.{most_calls}
 use Rattle.word_runner.specs.table_rule.Seen.{Fixed}
 use Rattle.word_runner.specs.Shown.{ArenaShown, CallerShown, CameFrom, Operated}
+
+-- the room holds each script
+abbrev pub HasRooms : List (List Call) → ℕ → Type 0
+HasRooms scripts room = All (λ (s : List Call). length s ≤ room) scripts
+
+-- no room that holds each script is less
+abbrev pub IsWithinRooms : List (List Call) → ℕ → Type 0
+IsWithinRooms scripts least = (room : ℕ) → HasRooms scripts room → least ≤ room
+
+-- the room is the length of the longest script: the least room that holds each
+pub record IsLongest (scripts : List (List Call)) (room : ℕ) : Type 0 where
+  pub rooms : HasRooms scripts room
+  pub least : IsWithinRooms scripts room
 
 -- the calls were taken in order, up to one that hasn't ended
 abbrev pub Took : Fixed → List Call → ℕ → Entry → Entry → Type 0
@@ -31,7 +44,7 @@ pub record Ready (arena : ArenaShown) (script : List Call) (c : CallerShown) : T
   pub short : length script ≤ most_calls
   pub calls : AreCalls arena.fixed.target.target script
 
--- a caller that has entered and made no call, with room for its own script
+-- a caller that has entered and made no call, with room for the longest script
 pub record Fresh (arena : ArenaShown) (scripts : List (List Call)) (c : CallerShown) : Type 0 where
   pub came : CameFrom arena c.table c.fixed
   pub idle : c.entry.core ≡ idle_entry c.entry.core.number
@@ -39,14 +52,16 @@ pub record Fresh (arena : ArenaShown) (scripts : List (List Call)) (c : CallerSh
   pub room : length (script_of scripts c.entry.core.number) ≤ c.entry.room
   pub short : length (script_of scripts c.entry.core.number) ≤ most_calls
   pub calls : AreCalls arena.fixed.target.target (script_of scripts c.entry.core.number)
+  pub longest : IsLongest scripts c.entry.room
 
--- the calls of the entry's own script were taken from the start
-pub record Ended (key : Fixed) (scripts : List (List Call)) (fuel : ℕ) (e : Entry) : Type 0 where
-  pub took : Took key (script_of scripts e.number) fuel (idle_entry e.number) e
+-- the calls of the entry's own script were taken from the start, with room for the longest script
+pub record Ended (key : Fixed) (scripts : List (List Call)) (fuel : ℕ) (r : RoomyEntry) : Type 0 where
+  pub took : Took key (script_of scripts r.core.number) fuel (idle_entry r.core.number) r.core
+  pub longest : IsLongest scripts r.room
 
 pub record Finished (arena : ArenaShown) (scripts : List (List Call)) (fuel : ℕ) (c : CallerShown) : Type 0 where
   pub came : CameFrom arena c.table c.fixed
-  pub ended : Ended arena.fixed scripts fuel c.entry.core
+  pub ended : Ended arena.fixed scripts fuel c.entry
 
 abbrev pub AllFresh : ArenaShown → List (List Call) → List CallerShown → Type 0
 AllFresh arena scripts cs = All (Fresh arena scripts) cs

@@ -1,5 +1,5 @@
 -- A whole run of scripts.
-use Rattle.std.specs.Prelude.{◌≡◌, ◌≤◌, ℕ, List, length, slice_index, All}
+use Rattle.std.specs.Prelude.{◌≡◌, ℕ, List, slice_index, All}
 use Rattle.caller_parts.specs.declared.call.Call.{Call}
 use Rattle.caller_steps.specs.Entries.{RoomyEntry}
 use Rattle.core_runs.specs.Machine.{CoreState, CoreEvent}
@@ -9,7 +9,7 @@ use Rattle.word_runner.specs.table_rule.Seen.{Fixed}
 use Rattle.word_runner.specs.table_rule.Seats.{cores}
 use Rattle.word_runner.specs.Shown.{ArenaShown, BlankShown, CameFrom}
 use Rattle.documents.specs.DocumentLimits.{most_calls}
-use Rattle.thread_runs.specs.Scripts.{Ended}
+use Rattle.thread_runs.specs.Scripts.{HasRooms, IsLongest, Ended}
 
 -- a blank of the arena, with this room
 abbrev pub IsBlank : ArenaShown → ℕ → BlankShown → Type 0
@@ -20,16 +20,17 @@ AllBlank arena room bs = All (IsBlank arena room) bs
 
 -- each entry has taken its own script
 abbrev pub AllEnded : Fixed → List (List Call) → ℕ → List RoomyEntry → Type 0
-AllEnded key scripts fuel rs = All (λ (r : RoomyEntry). Ended key scripts fuel r.core) rs
+AllEnded key scripts fuel rs = All (Ended key scripts fuel) rs
 
--- the room holds each script
-abbrev pub HasRooms : List (List Call) → ℕ → Type 0
-HasRooms scripts room = All (λ (s : List Call). length s ≤ room) scripts
+-- each entry has room for the longest script, and no more
+abbrev pub AllLongest : List (List Call) → List RoomyEntry → Type 0
+AllLongest scripts rs = All (λ (r : RoomyEntry). IsLongest scripts r.room) rs
 
 abbrev pub AreShort : List (List Call) → Type 0
 AreShort scripts = HasRooms scripts most_calls
 
--- the phase and the entries are those of one state of the core, in which a complete run of the scripts ends
+-- the phase and the entries are those of one state of the core, in which a complete run of the scripts ends, and each entry has
+-- room for the longest script
 pub record IsFinalOf (key : Fixed) (scripts : List (List Call)) (fuel phase : ℕ) (entries : List RoomyEntry) : Type 0 where
   pub events : List CoreEvent
   pub core : CoreState
@@ -37,3 +38,4 @@ pub record IsFinalOf (key : Fixed) (scripts : List (List Call)) (fuel phase : �
   pub sound : IsSound key.target.target key.setting core
   pub phase_is : phase ≡ slice_index core.words 0
   pub entries_are : cores entries ≡ core.entries
+  pub rooms : AllLongest scripts entries

@@ -43,7 +43,7 @@ fn run_own<G: Gate>(arena: &Arena, gate: &G, scripts: &[CallList], fuel: u64, ca
     run_script(arena, gate, scripts[number as usize].items(), fuel, caller);
 }
 
-/// Each caller runs its script, half of them in a thread of their own where one can be made.
+/// Each caller runs its script, half of them in a thread of their own if one can be made.
 pub(crate) fn run_all<R: Threads + Sync, G: Gate + Sync>(
     rt: &R,
     arena: &Arena,

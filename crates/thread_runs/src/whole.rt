@@ -3,12 +3,12 @@
 ghost use Rattle.std.specs.Prelude.{◌≡◌, ◌<◌, ◌+◌, length, IfOk};
 ghost use Rattle.caller_parts.specs.Settings.{Fits};
 ghost use Rattle.caller_parts.specs.declared.setting.Reclamation.TheVariants.{Epochs};
-ghost use Rattle.bare_targets.specs.Bare.{bare};
-ghost use Rattle.core_entries.specs.Running.{bare_pair};
+ghost use Rattle.target_code.specs.Bare.{bare};
+ghost use Rattle.core_ground.specs.Running.{bare_pair};
 ghost use Rattle.core_runs.specs.Scripts.{SuitScripts};
 ghost use Rattle.word_runner.specs.Shown.{CameFrom};
-ghost use Rattle.thread_runs.specs.Scripts.{AllFresh, Finished, AllFinished};
-ghost use Rattle.thread_runs.specs.Whole.{IsBlank, AllBlank, AllEnded, HasRooms, AreShort, IsFinalOf};
+ghost use Rattle.thread_runs.specs.Scripts.{HasRooms, IsWithinRooms, AllFresh, Finished, AllFinished};
+ghost use Rattle.thread_runs.specs.Whole.{IsBlank, AllBlank, AllEnded, AreShort, IsFinalOf};
 
 use crate::scripts::{CallList, run_all};
 use barrier_check::Barred;
@@ -19,10 +19,11 @@ use std::alloc::{AllocError, Global};
 use std::thread::Threads;
 use word_runner::{Arena, Blank, Caller, Final, Rest};
 
-/// The length of the longest script.
+/// The length of the longest script: the least room that holds each.
 fn longest(scripts: &[CallList]) -> u32
     requires short { AreShort scripts.now }
-    ensures { HasRooms scripts.now result }
+    ensures rooms { HasRooms scripts.now result }
+    ensures least { IsWithinRooms scripts.now result }
 {
     let mut room = 0;
     for script in scripts {
@@ -76,6 +77,7 @@ fn enter_all(
     requires blanks { AllBlank arena.now room blanks.items }
     requires suit { SuitScripts arena.now.fixed.target.target arena.now.fixed.setting scripts.now }
     requires rooms { HasRooms scripts.now room }
+    requires least { IsWithinRooms scripts.now room }
     requires short { AreShort scripts.now }
     ensures { IfOk result (λ v. AllFresh arena.now scripts.now v.items × (length v.items ≡ length blanks.items)) }
 {
@@ -137,6 +139,7 @@ fn run_callers<R: Threads + Sync, G: Gate + Sync>(
     requires suit { SuitScripts arena.now.fixed.target.target arena.now.fixed.setting scripts.now }
     requires some { 0 < length scripts.now }
     requires rooms { HasRooms scripts.now room }
+    requires least { IsWithinRooms scripts.now room }
     requires short { AreShort scripts.now }
     requires fuel { 0 < fuel }
     ensures came { IfOk result (λ rest. CameFrom arena.now rest.table rest.fixed) }
@@ -170,6 +173,7 @@ fn run_on<R: Threads + Sync, G: Gate + Sync>(
     requires suit { SuitScripts arena.fixed.target.target arena.fixed.setting scripts.now }
     requires some { 0 < length scripts.now }
     requires rooms { HasRooms scripts.now room }
+    requires least { IsWithinRooms scripts.now room }
     requires short { AreShort scripts.now }
     requires fuel { 0 < fuel }
     ensures { IfOk result (λ f. IsFinalOf arena.fixed scripts.now fuel f.phase f.entries) }
@@ -183,14 +187,14 @@ fn run_on<R: Threads + Sync, G: Gate + Sync>(
     }
 }
 
-/// Runs the scripts by as many callers on threads, half of them in a thread of their own and so on, where threads can be made, and
-/// closes their table: the final state is that of a complete core run of the scripts. Each call gets at most `fuel` steps, and
-/// after one that has used them up its caller makes no further call. Before each call its caller passes the gate with its number
-/// and the call's index. No step waits for another caller. The setting fits the target; there are as many scripts as callers, each of
-/// at most 100,000 calls of the target.
+/// Runs the scripts by as many callers on threads, half of them in a thread of their own and so on, if threads can be made, and
+/// closes their table: the final state is that of a complete core run of the scripts, and each of its entries has room for as many
+/// replies as the longest script has calls. Each call gets at most `fuel` steps, and after one that has used them up its caller
+/// makes no further call. Before each call its caller passes the gate with its number and the call's index. No step waits for
+/// another caller. The setting fits the target; there are as many scripts as callers, each of at most 100,000 calls of the target.
 ///
 /// # Errors
-/// Memory ran out, before any caller entered. And where a blank finds no place, which comes in no run, since there are as many
+/// Memory ran out, before any caller entered. Or a blank found no place, which comes in no run, since there are as many
 /// places as blanks; a step tells of its own seat alone, so no clause excludes it.
 pub fn run_scripts<R: Threads + Sync, G: Gate + Sync>(
     rt: &R,

@@ -22,7 +22,7 @@ abbrev pub Replies : Entry → Call → Option SourceReply → Entry → Type 0
 Replies e call (Some reply) e' = (is_idle e'.routine ≡ true) × (e'.replies ≡ e.replies ++ record { call = call; reply = reply; steps = e'.running.steps } ∷ [])
 Replies e call None e' = (is_idle e'.routine ≡ false) × (e'.replies ≡ e.replies) × (e'.running.call ≡ call)
 
--- the last reply, where the entry is idle; none where it runs
+-- the last reply, if the entry is idle; none if it runs
 abbrev pub Answers : Entry → Option SourceReply → Type 0
 Answers e (Some reply) = (is_idle e.routine ≡ true) × ((before : List Replied) (last : Replied) → e.replies ≡ before ++ last ∷ [] → reply ≡ last.reply)
 Answers e None = is_idle e.routine ≡ false

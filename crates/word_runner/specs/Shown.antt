@@ -38,7 +38,7 @@ abbrev pub CameFrom : ArenaShown → TableId → Fixed → Type 0
 CameFrom arena table fixed = (table ≡ arena.table) × (fixed ≡ arena.fixed)
 
 -- the entry made at least one step and at most `budget`, each with the word that its own access found, which is lawful there; fewer
--- than `budget` only where its call has ended. `accesses` says how many steps these were
+-- than `budget` only if its call has ended. `accesses` says how many steps these were
 pub record Operated (key : Fixed) (e : Entry) (budget : ℕ) (e' : Entry) (accesses : ℕ) : Type 0 where
   pub words : List ℕ
   pub each : length words ≡ accesses

@@ -82,7 +82,8 @@ impl Arena {
         self.ground.setting.shape().callers()
     }
 
-    /// A target that callers may run, and a setting that fits it: so each caller's empty entry belongs. Reading a field is what tells it.
+    /// Its target is one that callers may run, and its setting fits the target: so each caller's empty entry belongs. The arena's invariant
+    /// says so, and reading a field brings it into the proof.
     pub(crate) fn kept(&self)
         ensures ground { IsGround self.now.fixed }
         ensures idle { NewcomersBelong self.now.fixed }

@@ -88,7 +88,7 @@ impl Blank {
     /// through the seat. Takes no memory, and waits for nobody.
     ///
     /// # Errors
-    /// `NoPlace` where all places were found taken.
+    /// `NoPlace` if all places were found taken.
     pub fn enter(self, arena: &Arena) -> Result<Caller, NoPlace>
         requires came { CameFrom arena.now self.table self.fixed }
         ensures ok { IfOk result (λ c. (c.table ≡ self.table) × (c.fixed ≡ self.fixed) × (c.entry ≡ record { core = idle_entry c.entry.core.number; room = self.room }) × (self.found ≤ c.entry.core.number) × (c.entry.core.number < callers_of self.fixed)) }

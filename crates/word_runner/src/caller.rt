@@ -95,9 +95,8 @@ impl Caller {
     }
 
     /// Takes a call of the operation `op`, by its number in the target, and makes its accesses one after another, until it has ended or
-    /// `budget` of them were made. It makes no other, and gives no part of its seat away. It is idle and has room for the reply, and the words of `args`
-    /// past the operation's count are 0.
-    /// Takes no memory, and waits for nobody.
+    /// `budget` of them were made. It makes no other, and gives no part of its seat away. The caller is idle and has
+    /// room for the reply, and the words of `args` past the operation's count are 0. Takes no memory, and waits for nobody.
     pub fn operate(&mut self, arena: &Arena, op: u8, args: [u64; 4], budget: u64) -> Outcome
         requires came { CameFrom arena.now self.old.table self.old.fixed }
         requires idle { is_idle self.old.entry.core.routine ≡ true }
@@ -142,7 +141,7 @@ fn outcome_of(reply: Reply) -> Outcome
     }
 }
 
-/// The last reply, where the entry is idle.
+/// The last reply, if the entry is idle.
 fn answer(entry: &Entry) -> Outcome
     ensures { Answers entry.now.core (answer_of result) }
 {

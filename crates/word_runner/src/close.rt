@@ -3,7 +3,7 @@
 ghost use Rattle.std.specs.Prelude.{◌≡◌, [], ◌∷◌, length, IfOk};
 ghost use Rattle.caller_parts.specs.declared.setting.Reclamation.TheVariants.{Epochs};
 ghost use Rattle.caller_parts.specs.Settings.{Fits};
-ghost use Rattle.core_entries.specs.Running.{bare_pair};
+ghost use Rattle.core_ground.specs.Running.{bare_pair};
 ghost use Rattle.word_runner.specs.Shown.{CameFrom};
 ghost use Rattle.word_runner.specs.table_rule.Rule.{callers_of};
 ghost use Rattle.oa_words.specs.Words.{word_count};
@@ -16,7 +16,8 @@ use crate::ground::{Ground, Place, Words};
 use crate::rest::Rest;
 use barrier_check::Barred;
 use caller_steps::Setting;
-use core_entries::{Entry, LoadedTarget, PlainWords};
+use core_entries::Entry;
+use core_ground::{LoadedTarget, PlainWords};
 use norm_check::Normal;
 use norm_lang::list::Listed;
 use std::alloc::{AllocError, Global};

@@ -2,7 +2,7 @@
 
 use atomic_table::{Join, Play, Seat, Split, Table, TableRule};
 use caller_steps::Setting;
-use core_entries::LoadedTarget;
+use core_ground::LoadedTarget;
 use std::alloc::Global;
 use std::marker::{Brand, Model, PhantomData};
 

@@ -10,8 +10,8 @@ pub fn steps_keep_rule()
     ensures { (key : Fixed) → StepsKeepRule key }
 {}
 
-/// Of callers at rest, whose entries have different numbers below the count of callers: as many as there are callers are one for
-/// each number.
+/// The entries of callers at rest have different numbers, below the count of callers: if there are as many entries as callers, they are
+/// one for each number.
 pub fn rests_have_all()
     ensures { EntriesApart }
 {}

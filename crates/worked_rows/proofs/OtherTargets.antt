@@ -94,7 +94,7 @@ same_part : (one other : Text) (op : ℕ) (inside : Bool) → AreAlike one other
 same_part one other op inside alike same (inl (unlike, first, generator)) = unlike alike
 same_part one other op inside alike same (inr (also, unlike)) = unlike same
 
--- texts that declare the same differ where the first method does that isn't the same
+-- texts that declare the same differ at the first method that isn't the same
 first_wrap_up : (target : Target) (text : Text) → AreAlike (erased target) text → part_at (erased target) 0 false ≡ part_at text 0 false
     → ¬ (part_at (erased target) 0 true ≡ part_at text 0 true) → IsOtherAt target text 0 true
 first_wrap_up target text alike same other = inl (refl, inr (alike, other), none_earlier)

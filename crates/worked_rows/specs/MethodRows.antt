@@ -25,7 +25,7 @@ abbrev pub doubles_count : Text
 doubles_count =
     small (Set n1 10 ∷ Set n2 11 ∷ Commit (root_entry ten n1 n2 ∷ []) ∷ []) (Add n7 n7 n7 ∷ LoadRoot n3 ten ∷ Return n7 ∷ [])
 
--- one more than the argument becomes the root's value and is replied; where the exchange fails the operation begins again
+-- one more than the argument becomes the root's value and is replied; if the exchange fails, the operation begins again
 abbrev pub adds_again : Text
 adds_again =
     small

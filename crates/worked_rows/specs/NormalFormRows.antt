@@ -61,7 +61,7 @@ pub record NormalFormRows : Type 0 where
   pub reply_in_wrap_up : ¬ WrapUpBreaks (ReturnNone ∷ []) N8 0
   -- running off the end of a wrap-up breaks N8
   pub end_of_wrap_up : WrapUpBreaks (Set n1 5 ∷ []) N8 0
-  -- a commit breaks N6 where a kept register may be fresh, though it is given away only once
+  -- a commit breaks N6 if a kept register may be fresh, though it is given away only once
   pub kept_while_fresh : Breaks (small shows_and_keeps reads_kept) (record { rule = N6; op = 0; wrapup = false; at = 2 })
   -- a kept register as the expected operand of an exchange in a wrap-up breaks N11, and so it does as the new one
   pub kept_expected : WrapUpBreaks expects_kept N11 1

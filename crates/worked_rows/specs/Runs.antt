@@ -17,7 +17,7 @@ use Rattle.source_machine.specs.State.{source_start}
 use Rattle.source_machine.specs.Run.{source_run}
 use Rattle.worked_rows.specs.Small.{n1, n7, small}
 
--- the replies of each of so many callers after a run; none where an event isn't enabled
+-- the replies of each of so many callers after a run; none if an event isn't enabled
 abbrev pub replies_after : Text → ℕ → List SourceEvent → Option (List (List SourceReply))
 replies_after text callers events =
     option_map (λ (state : SourceMachine). map (λ (caller : SourceCaller). caller.replies) state.callers) (source_run text events (source_start text callers))
@@ -61,7 +61,7 @@ Replies text argument n reply = replies_after text 1 (undisturbed argument n) �
 abbrev pub counts : List Instr → Text
 counts generator = small generator (Return n7 ∷ [])
 
--- instructions and a branch, with a wrap-up that replies 2 where the branch was taken, and 1 where it wasn't
+-- instructions and a branch, with a wrap-up that replies 2 if the branch was taken, and 1 if it wasn't
 abbrev pub decides : List Instr → (ℕ → Instr) → Text
 decides before branch =
     small (before ++ branch (length before + 3) ∷ Set n1 1 ∷ Commit [] ∷ Set n1 2 ∷ Commit [] ∷ []) (Return n1 ∷ [])

@@ -111,14 +111,14 @@ pub record CheckRows : Type 0 where
       ≡ none ∷ none ∷ before ∷ none ∷ before ∷ []
   -- each load of a walk feeds the next one
   pub walked : checks_of (LoadRoot r0 first ∷ LoadField r0 r0 next ∷ LoadField r0 r0 next ∷ Commit [] ∷ []) ≡ none ∷ before ∷ before ∷ before ∷ []
-  -- what was loaded while the check was due counts until the check, also where it was set again since
+  -- what was loaded while the check was due counts until the check, even if it was set again since
   pub set_again : checks_of (LoadRoot n1 ten ∷ Set n1 5 ∷ Add n2 n1 n1 ∷ Commit [] ∷ []) ≡ none ∷ none ∷ before ∷ none ∷ []
   -- what was computed from other registers counts at an end alone, and no other instruction needs a check for it
   pub computed : checks_of (LoadRoot n1 ten ∷ Set n2 5 ∷ Add n3 n2 n2 ∷ Return n3 ∷ []) ≡ none ∷ none ∷ none ∷ before ∷ []
   pub computed_before : checks_of (Set n2 5 ∷ LoadRoot n1 ten ∷ Return n2 ∷ []) ≡ none ∷ none ∷ none ∷ []
   -- a `new` has the check before it that was due, and makes one due
   pub made : checks_of (LoadRoot n1 ten ∷ New r1 0 ∷ Put r1 key n1 ∷ Commit [] ∷ []) ≡ none ∷ before ∷ before ∷ none ∷ []
-  -- where a jump leads to the next instruction, a due check ends the block, and one that isn't due doesn't
+  -- if a jump leads to the next instruction, a due check ends the block, and one that isn't due doesn't
   pub loop_head : checks_of (LoadRoot n1 ten ∷ Set n2 5 ∷ Set n3 5 ∷ Jump 2 ∷ []) ≡ none ∷ after ∷ none ∷ none ∷ []
   pub loop_head_clean : checks_of (Set n2 5 ∷ Set n3 5 ∷ Jump 1 ∷ []) ≡ none ∷ none ∷ none ∷ []
   -- an instruction with a check before it and one after it

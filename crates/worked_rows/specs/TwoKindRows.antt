@@ -90,7 +90,7 @@ abbrev pub paired : List Instr → List Instr → Text
 paired generator wrapup =
     record { kinds = codes "item" ∷ codes "pair" ∷ []; fields = fields; roots = roots; nodes = nodes; ops = does generator wrapup ∷ [] }
 
--- instructions and a comparison of two registers, with a wrap-up that replies 2 where they are equal, and 1 where they aren't
+-- instructions and a comparison of two registers, with a wrap-up that replies 2 if they are equal, and 1 if they aren't
 abbrev pub compares : List Instr → Instr → Text
 compares before test = paired (before ++ test ∷ Set n1 1 ∷ Commit [] ∷ Set n1 2 ∷ Commit [] ∷ []) (Return n1 ∷ [])
 
@@ -121,7 +121,7 @@ number_through_null f = paired (Set n1 7 ∷ Null r0 ∷ LoadField n1 r0 f ∷ C
 abbrev pub reference_through_null : ℕ → ℕ → Text
 reference_through_null root f = compares (Null r0 ∷ LoadRoot r1 root ∷ LoadField r1 r0 f ∷ []) (IfEq r1 r0 6)
 
--- the first pair's number becomes the argument, where it was 6; and its item becomes null
+-- the first pair's number becomes the argument, if it was 6; and its item becomes null
 abbrev pub exchanges_number : Text
 exchanges_number = paired (LoadRoot r0 a_pair ∷ Set n1 6 ∷ Commit (field_entry r0 left n1 n0 ∷ []) ∷ []) (Return n7 ∷ [])
 

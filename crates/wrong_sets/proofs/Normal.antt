@@ -1,4 +1,4 @@
--- The wrong sets are in normal form: tables of their methods show it, those of the right set where the code goes the same ways.
+-- The wrong sets are in normal form: tables of their methods show it, which are the right set's if the code goes the same ways.
 use Rattle.std.proofs.Common.{List, [], ◌∷◌, ◌++◌, refl}
 use Rattle.std.specs.Prelude.{replicate}
 use Rattle.std.specs.Fmt.{digits}

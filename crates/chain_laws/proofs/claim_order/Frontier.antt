@@ -105,7 +105,7 @@ past_kind n nodes first m v k t lt o past = in_range_is_of_kind n k t lt (past_s
 past_below : (n : Sizes) (nodes : ℕ → ℕ) (first : ℕ) (m : Word → ℕ) (v : ℕ → ℕ) (k t : ℕ) → k < length n.kinds → AreOrdered n nodes first m v → IsPast (range_of n k) (v k) t → t < v (kind_of n t)
 past_below n nodes first m v k t lt o past = subst (λ (a : ℕ). t < v a) (sym (past_kind n nodes first m v k t lt o past)) past.1
 
--- ---- callers, where frontiers stay or move on
+-- ---- callers, if frontiers stay or move on
 
 abbrev pub AllMove : Sizes → (Word → ℕ) → (Word → ℕ) → (ℕ → ℕ) → (ℕ → ℕ) → Type 0
 AllMove n m m' v v' = (k : ℕ) → k < length n.kinds → Moves (range_of n k) m m' (v k) (v' k)
@@ -437,7 +437,7 @@ module _ (n : Sizes) (last : ℕ) (start : Beginning) (are : AreKinds n) (most :
         counted = w.counted;
       })
 
-  -- where a caller begins
+  -- a caller begins
   begin_open : (state : OpenState) (c : ℕ) (standing : Standing) → OpenHolds n start state → Fits n state.memory state.frontier standing → OpenHolds n start (record state { who = put state.who c standing })
   begin_open state c standing w fits = record {
     words = w.words;
@@ -485,7 +485,7 @@ ordered_row range k nodes first m m' v head link status o =
     (ordered_with range k nodes first m m' v o (top_kept range k nodes first m m' v head o) (λ j slot. inl (link j slot.1)) (λ j slot. inl (status j slot.1))).0
 
 module _ (n : Sizes) (start : Beginning) (are : AreKinds n) (most : n.slots ≤ 4096) (fit : NodesFit n start) where
-  -- a kind's words, where its slots are those of the range, and have as many initial nodes
+  -- one kind's words at the start
   module _ (k : ℕ) (lt : k < length n.kinds) where
     -- a slot of the range is of the kind
     of_it : (j : ℕ) → IsSlot (range_of n k) j → kind_of n j ≡ k

@@ -18,7 +18,7 @@ pub near_inside : (range : SlotRange) (v x : ℕ) → IsNear range v x → x ≤
 near_inside range v x (inl none) = let is = none.0 in omega (arith, is)
 near_inside range v x (inr some) = some.2
 
--- where none is near, the frontier is past the last
+-- if none is near, the frontier is past the last
 pub near_none : (range : SlotRange) (v x : ℕ) → 1 ≤ range.first → x ≡ 0 → IsNear range v x → range.last < v
 near_none range v x above is (inl none) = none.1
 near_none range v x above is (inr some) = let low = some.0 in let differ : ⊥ = omega (arith, is, low, above) in absurd differ
@@ -31,7 +31,7 @@ near_up : (range : SlotRange) (v x : ℕ) → IsNear range v x → IsNear range 
 near_up range v x (inl none) = inl (none.0, (let lt = none.1 in omega (arith, lt)))
 near_up range v x (inr some) = inr (some.0, (let le = some.1 in omega (arith, le)), some.2)
 
--- the frontier itself, or none where it is past the last
+-- the frontier itself, or none if it is past the last
 near_from : (range : SlotRange) (v : ℕ) → range.first ≤ v → IsNear range v (slot_or_none range v)
 near_from range v low = ⊎_elim
     (λ (out : range.last < v). inl (none_past_last range v out, out))
@@ -93,7 +93,7 @@ ordered_with range k nodes first m m' v o good links statuses =
       stay,
     )
 
--- the top is good where the head is the same
+-- the top is good if the head is the same
 pub top_kept : (range : SlotRange) (k nodes first : ℕ) (m m' : Word → ℕ) (v : ℕ) → m' (Head k) ≡ m (Head k) → IsOrdered range k nodes first m v → IsGood range m v (top m' k)
 top_kept range k nodes first m m' v is o = subst (λ (w : ℕ). IsGood range m v (head_parts w).top) (sym is) o.top_good
 
@@ -148,7 +148,7 @@ ordered_on range k nodes first m v le o = record {
   status_first = λ j ge within. o.status_first j (omega (arith, ge)) within;
 }
 
--- ---- where the frontier stays, or moves on by one
+-- ---- the frontier stays, or moves on by one
 
 abbrev pub Moves : SlotRange → (Word → ℕ) → (Word → ℕ) → ℕ → ℕ → Type 0
 Moves range m m' v v' = ((v' ≡ v) × Stays range v m m') ⊎ ((v' ≡ v + 1) × (v ≤ range.last) × ((w : ℕ) → m' (Link w) ≡ m (Link w)))
@@ -163,7 +163,7 @@ module _ (range : SlotRange) (k nodes first : ℕ) (m m' : Word → ℕ) (v v' :
   near_later j (inl same) slot near = subst (λ (x : ℕ). IsNear range x (m' (Link j))) (sym same.0) (same.1 j slot near)
   near_later j (inr one) slot near = subst (λ (x : ℕ). IsNear range x (m' (Link j))) (sym one.0) (subst (λ (x : ℕ). IsNear range (v + 1) x) (sym (one.2 j)) (near_up range v (m (Link j)) near))
 
-  -- where the links are the same
+  -- if the links are the same
   good_same : (x : ℕ) → ((w : ℕ) → m' (Link w) ≡ m (Link w)) → IsGood range m (v + 1) x → IsGood range m' (v + 1) x
   good_same x same good = (good.0, λ past. subst (λ (y : ℕ). IsNear range (v + 1) y) (sym (same x)) (good.1 past))
 

@@ -224,7 +224,7 @@ claim_within n last m claim claims.Sweeps is are most lt w fits below =
     goes_on phase sweep (Some swept.Swept) on = tt
     goes_on phase sweep (Some (swept.PhasesOver p)) on = tt
 
--- ---- the others, where the phase rises
+-- ---- the others, if the phase rises
 
 pub sweep_up : (phase phase' s : ℕ) (stage : SweepStage) → phase ≤ phase' → SweepBelow phase s stage → SweepBelow phase' s stage
 sweep_up phase phase' s sweeps.ReadPhase up w = tt

@@ -21,7 +21,7 @@ use Rattle.chain_laws.specs.Machine.{Standing, Elsewhere, Claims, Retires, slot_
 
 -- ---- the machine, in which callers retire what they like
 
--- the frontier of a kind is the greatest slot of the kind and one where each was claimed; and how many exchanges took a slot, of all kinds
+-- the frontier of a kind is one past its greatest slot if each of its slots was claimed; and how many exchanges took a slot, of all kinds
 -- together
 pub record OpenState : Type 0 where
   pub memory : Word → ℕ
@@ -69,7 +69,7 @@ open_stepped n last state c (Retires retirement) =
       who = put state.who c (retirement_left (retire_accepts retirement (state.memory (word_of (retire_wants retirement)))));
     })
 
--- one event, where it is enabled: what is retired is null, held an initial node or was claimed
+-- one event, if it is enabled: what is retired is null, held an initial node or was claimed
 abbrev pub open_event : Sizes → ℕ → OpenState → PoolEvent → Option OpenState
 open_event n last state (BeginsClaim c k scheme) =
     if nat_lt k (length n.kinds) then open_begins (state.who c) (record state { who = put state.who c (Claims (claim_begun n k scheme)) }) else None
@@ -103,7 +103,7 @@ IsPast range v j = (range.first ≤ j) × (j < v)
 abbrev pub IsGood : SlotRange → (Word → ℕ) → ℕ → ℕ → Type 0
 IsGood range memory v x = IsNear range v x × (IsPast range v x → IsNear range v (memory (Link x)))
 
--- the words of kind k, whose slots are those of the range, where claims have come to v: from there on they are as at the start. The link of
+-- the words of kind k, whose slots are those of the range, if claims have come to v: from there on they are as at the start. The link of
 -- a slot that was never pushed may name none
 pub record IsOrdered (range : SlotRange) (k nodes first : ℕ) (memory : Word → ℕ) (v : ℕ) : Type 0 where
   -- null is no slot of the range
@@ -115,7 +115,7 @@ pub record IsOrdered (range : SlotRange) (k nodes first : ℕ) (memory : Word �
   pub link_first : (j : ℕ) → v ≤ j → j ≤ range.last → memory (Link j) ≡ slot_after range j
   pub status_first : (j : ℕ) → v ≤ j → j ≤ range.last → memory (Status j) ≡ status_word first kinds.Ready
 
--- those of all kinds, where each has so many initial nodes, and its claims have come to its frontier
+-- those of all kinds, if each has so many initial nodes, and its claims have come to its frontier
 abbrev pub AreOrdered : Sizes → (ℕ → ℕ) → ℕ → (Word → ℕ) → (ℕ → ℕ) → Type 0
 AreOrdered n nodes first memory v = (k : ℕ) → k < length n.kinds → IsOrdered (range_of n k) k (nodes k) first memory (v k)
 
@@ -161,7 +161,7 @@ pub record OpenHolds (n : Sizes) (start : Beginning) (state : OpenState) : Type 
 
 -- in each state of a run with any retirements
 pub record ClaimsAreOrdered (n : Sizes) (start : Beginning) (state : OpenState) : Type 0 where
-  -- where no slot is on top of a kind's chain, the kind's initial nodes and all claims together are at least its slots
+  -- if no slot is on top of a kind's chain, the kind's initial nodes and all claims together are at least as many as its slots
   pub full : (k : ℕ) → k < length n.kinds → top state.memory k ≡ 0 → slots_of n k ≤ nodes_of start k + state.claims
   -- a slot from the frontier of its kind on is as at the start
   pub ready : (j : ℕ) → state.frontier (kind_of n j) ≤ j → j ≤ n.slots → state.memory (Status j) ≡ status_word start.first kinds.Ready

@@ -43,7 +43,7 @@ other_word registers (Ref d) word r isnt = other_reference registers (Ref d) (un
 pub leaves_all : (i : TargetInstr) (registers : Registers) → is_target_new i ≡ false → Leaves i registers registers
 leaves_all i registers fresh = record { made = λ r wrote new. absurd (let e : false ≡ true = sym fresh ∙ new in cc); kept = λ r isnt. refl }
 
--- on to a successor, where registers name slots of kinds that they may have there
+-- on to a successor, if registers name slots of kinds that they may have there
 pub goes_belongs : (target : Target) (setting : Setting) (by : Reclamation) (e : Entry) (i : TargetInstr) (to : ℕ) (after : Registers) → Methods target → SettingSane setting → Fits target setting
     → Holds target setting e → Here target setting e → setting.reclamation ≡ by → instr_in target e ≡ Some i → target_goes_from (Some i) e.hand.at to ≡ true
     → Leaves i e.hand.registers after → NamesSlots setting.sizes.slots after → (IsTargetSuccessor (code_in target e) e.hand.at to → HaveKinds target setting (op_of target e) e.hand.wrapup to after)

@@ -61,7 +61,7 @@ module _ (target : Target) (setting : Setting) (wrapup : Bool) where
   made_typed (Some op) at to registers d kind slot path leads is of_kind goes typed =
       new_nodes_keep (kind_of setting.sizes) target.fields target.roots op wrapup at registers d kind slot path leads is of_kind to goes typed
 
-  -- where a number is put into a register
+  -- a number that is put into a register
   pub numbered_typed : (o : Option TargetOp) (at : ℕ) (registers : Registers) (d word : ℕ) → HaveKinds target setting o wrapup at registers → HaveKinds target setting o wrapup at (with_number registers (Num d) word)
   numbered_typed None at registers d word typed = tt
   numbered_typed (Some op) at registers d word typed = typed

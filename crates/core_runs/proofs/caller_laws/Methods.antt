@@ -33,7 +33,7 @@ use Rattle.target_laws.proofs.target_runs.Limited.{parts, op_limits}
 use Rattle.target_laws.proofs.target_runs.SaneTargets.{runnable_is_sane}
 use Rattle.core_runs.proofs.caller_laws.Fields.{field_of_kind, fields_fit}
 
--- of each operation by its number; where the target has none with that number, its methods are empty
+-- of each operation by its number; if the target has none with that number, its methods are empty
 pub record Methods (target : Target) : Type 0 where
   pub ops : 0 < length target.ops
   pub some : (op : ℕ) (wrapup : Bool) → op < length target.ops → 0 < length (method_code (slice_get target.ops op) wrapup)

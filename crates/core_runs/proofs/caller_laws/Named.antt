@@ -18,7 +18,7 @@ use Rattle.caller_steps.specs.Lawful.{LawfulValue}
 use Rattle.caller_steps.specs.Belongs.{NamesSlots}
 use Rattle.core_runs.proofs.caller_laws.OfKinds.{of_row}
 
--- a list whose each item meets a condition, past its end too, goes on to where one that meets it is put in
+-- what stands at a place of a list, past its end too, still meets a condition after an item that meets it is put in
 pub set_keeps : {X : Type 0} (P : X → Type 0) (xs : List X) (i : ℕ) (x e : X) (r : ℕ) → P x → P (unwrap_or (slice_get xs r) e) → P (unwrap_or (slice_get (set xs i x) r) e)
 set_keeps P (y ∷ ys) zero x e zero p q = p
 set_keeps P (y ∷ ys) (suc i) x e (suc r) p q = set_keeps P ys i x e r p q

@@ -133,7 +133,7 @@ Follows setting c claim = claim.sweep.scheme ≡ scheme_of setting.reclamation c
 started_keeps : (setting : Setting) (c : ℕ) (claim : Claim) → claim.kind < length setting.sizes.kinds → Follows setting c claim → ClaimKeeps setting c (sweep_started claim)
 started_keeps setting c claim known follows = record { kind = known; scheme = follows; stands = tt; sweep = fresh_sweep setting claim.sweep.scheme }
 
--- a sweep follows a look, or first the withdrawal of the own announcement
+-- a sweep follows a look, or first the withdrawal of the caller's own announcement
 follows_keeps : (setting : Setting) (c : ℕ) (claim : Claim) (scheme : Scheme) (made : ℕ) → claim.kind < length setting.sizes.kinds → Follows setting c claim → claim.sweep.scheme ≡ scheme → SweepBelongs setting claim.sweep
     → ClaimKeeps setting c (sweep_follows scheme made claim)
 follows_keeps setting c claim (Announced announced) zero known follows is own = record { kind = known; scheme = follows; stands = is; sweep = own }

@@ -58,7 +58,7 @@ pub record HoldsAtBegins (target : Target) (sizes : Sizes) (Holds : Routine → 
   pub zeroes : (k field : ℕ) → Holds (Zeroes k field)
   pub announces : (announcing : Announcing) → Holds (Announces announcing)
 
--- the same but where a claim has ended after a sweep
+-- the same, except where a claim that has swept leads
 pub record HoldsAtStarts (target : Target) (sizes : Sizes) (Holds : Routine → Type 0) : Type 0 where
   pub idle : Holds Idle
   pub seen : (why : MethodStart) → Holds (LoadSeen why)

@@ -318,7 +318,7 @@ zero_keeps target setting by e k field sane some fits h c scheme stands = of (na
   of true is = record { number = h.number; op = h.op; hand = hand_belongs target setting e h c.names; cradles = h.cradles; reaches = c.reached; kinds = record { now = c.kinds; started = h.start }; stands = (stands.0, stands.1, stands.2, grind (arith, nat_tests)) }
   of false is = subst (λ (registers : Registers). BelongsIn target setting (goes_on by target setting.sizes registers e)) (sym sets_it) on
 
--- the own warning was loaded; a wrap-up starts where the list has ended
+-- the caller has loaded its own warning; a wrap-up starts once the list has ended
 seen_keeps : (target : Target) (setting : Setting) (e : Entry) (why : MethodStart) (word : ℕ) → Methods target → SettingSane setting → Fits target setting → Holds target setting e → setting.reclamation ≡ Optimistic → StartStands (instr_in target e) e.hand why
     → word ≤ setting.last → BelongsIn target setting (seen_loaded target setting.sizes why word e)
 seen_keeps target setting e why word sane some fits h scheme stands le =

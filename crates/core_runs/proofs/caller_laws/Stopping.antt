@@ -1,4 +1,4 @@
--- Where local code stops the entry belongs: before an access, at a clear, at a claim, at a list or in a reply.
+-- Where local code stops, the entry belongs: before an access, at a clear, at a claim, at a list or in a reply.
 use Rattle.std.proofs.Common.{◌≡◌, ℕ, zero, suc, ◌≤◌, ◌<◌, Bool, true, false, List, [], ◌∷◌, length, Option, Some, None, refl, sym, ◌∙◌, subst, arith}
 use Rattle.std.specs.Prelude.{slice_index_or}
 use Rattle.std.proofs.lemmas.Option.{slice_get-get_or}
@@ -282,7 +282,7 @@ first_names slots args = record { numbers = refl; references = refl; within = ei
   eight (suc (suc (suc (suc (suc (suc (suc zero))))))) = omega arith
   eight _ = omega arith
 
--- a method runs from its start: a wrap-up where one runs already
+-- a method runs from its start: a wrap-up only if one runs already
 begun_holds : (target : Target) (setting : Setting) (wrapup : Bool) (e : Entry) → Holds target setting e → (wrapup ≡ true → e.hand.wrapup ≡ true) → Holds target setting (with_hand e (record e.hand { wrapup = wrapup; accessed = false }))
 begun_holds target setting wrapup e h runs = record { number = h.number; op = h.op; started = h.started; start = λ is. h.start (runs is); guards = h.guards; cradles = h.cradles; seen = h.seen }
 

@@ -52,7 +52,7 @@ warn_no_store : (scheme : Scheme) (c s : ℕ) → IsNoStore (warn_wanted scheme 
 warn_no_store Warned c s w x is = cc
 warn_no_store (Announced own) c s w x is = cc
 
--- a claim's stores are of a status, of a link, and of the own warning
+-- a claim's stores are of a status, of a link, and of the caller's own warning
 sweep_store : (n : Sizes) (last : ℕ) (sweep : Sweep) (stage : SweepStage) (w : Word) (x a b : ℕ) → sweep_wants_at sweep.scheme stage sweep.bound ≡ Stores w x
     → sweep_accepts_at n last sweep a stage ≡ sweep_accepts_at n last sweep b stage
 sweep_store n last sweep (sweeps.Warn c) w x a b is = absurd (warn_no_store sweep.scheme c sweep.bound w x is)

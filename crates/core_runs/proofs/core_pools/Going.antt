@@ -243,7 +243,7 @@ module _ (target : Target) (setting : Setting) (are : AreKinds setting.sizes) (f
       (put_again (standings v.who) c Elsewhere (elsewhere_idle (v.who c).routine idle)
       ∙ (ap (put (standings v.who) c) (sym (elsewhere_first setting.reclamation)) ∙ put_entry (standings v.who) v.who c (taken setting.reclamation call (v.who c)) (λ d ne. refl))) l
 
-  -- the state after an event, where what is retired then is used and nobody else's
+  -- the state after an event, if what is retired then is used and nobody else's
   pub event_goes : (state later : CoreState) (event : CoreEvent) → IsShaped target setting state → Moves target setting (view setting state) event (view setting later) → FromTo (view setting state).memory (standings (view setting state).who)
       → RetiresUsed setting (view setting later).memory (standings (view setting later).who) → FromTo (view setting later).memory (standings (view setting later).who)
   event_goes state later (Takes c call) shaped m pooled used =
@@ -268,7 +268,7 @@ pool_with setting state hands = pool_of (view setting state) hands
 abbrev pub PoolRuns : Setting → CoreState → Hands → CoreState → Type 0
 PoolRuns setting state hands later = (hands' : Hands) × RunsTo setting.sizes setting.last (pool_with setting state hands) (pool_with setting later hands')
 
--- an event of the core, where what is retired in the state after it is used and nobody else's
+-- an event of the core, if what is retired in the state after it is used and nobody else's
 pub event_runs : (target : Target) (setting : Setting) (are : AreKinds setting.sizes) (few : setting.sizes.slots ≤ 4096) (news : NewsFit target setting.sizes) (state later : CoreState) (hands : Hands) (event : CoreEvent) → Holds setting.sizes (pool_with setting state hands) → IsShaped target setting state
     → Moves target setting (view setting state) event (view setting later) → RetiresUsed setting (view setting later).memory (standings (view setting later).who) → PoolRuns setting state hands later
 event_runs target setting are few news state later hands event sane shaped m used = event_goes target setting are few news (pool_with setting state hands) sane state later event shaped m (hands, ([], refl)) used

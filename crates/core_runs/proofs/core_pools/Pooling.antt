@@ -30,7 +30,7 @@ module _ (target : Target) (setting : Setting) (are : AreKinds setting.sizes) (f
   start_holds : Holds setting.sizes (first_pool target setting)
   start_holds = leads_hold (first_pool target setting) (record { events = []; run = refl })
 
-  -- the state after an event, where what is retired then is used and nobody else's
+  -- the state after an event, if what is retired then is used and nobody else's
   pub event_pooled : NewsFit target setting.sizes → (state later : CoreState) (event : CoreEvent) → IsShaped target setting state → Moves target setting (view setting state) event (view setting later) → Pooled target setting state
       → RetiresUsed setting (view setting later).memory (standings (view setting later).who) → Pooled target setting later
   event_pooled news state later event shaped m pooled used =

@@ -107,7 +107,7 @@ stands_within (first ∷ nodes) (suc i) node rising there =
     let rest = stands_within nodes i node (rising_rest first nodes rising) there in
     rw test (omega (arith, rest))
 
--- all of them, where each is of one of so many kinds
+-- all of them, if each is of one of so many kinds
 all_before : (kinds k : ℕ) (nodes : List NodeDecl) → list_all (λ (node : NodeDecl). nat_lt node.owner kinds) nodes ≡ true → kinds ≤ k → before k nodes ≡ length nodes
 unfolding before
 all_before kinds k [] all le = refl

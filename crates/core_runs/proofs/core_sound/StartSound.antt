@@ -48,7 +48,7 @@ use Rattle.core_runs.proofs.core_sound.Grouped.{NodesStand, nodes_stand, node_is
 
 -- ---- first values
 
--- what a word names where nodes of a kind are held is one of those slots
+-- a word at a place that holds nodes of a kind names one of those slots
 abbrev pub Names : (ℕ → ℕ → Type 0) → Option FieldKind → ℕ → Type 0
 Names Slot None word = Unit {0}
 Names Slot (Some holdings.Number) word = Unit {0}
@@ -62,7 +62,7 @@ pub names_lawful : (setting : Setting) (kind : Option FieldKind) (word : ℕ) �
 names_lawful setting (Some (holdings.Reference k)) word names = names
 names_lawful setting _ word names = tt
 
--- where the initial nodes of each kind have such slots, first values name them
+-- if the initial nodes of each kind have such slots, first values name them
 module _ (Slot : ℕ → ℕ → Type 0) (none : (k : ℕ) → Slot k 0) (home : ℕ → ℕ) (null : home 0 ≡ 0) (owners : List ℕ) (homes : (j k : ℕ) → is_owner (slice_get owners j) k ≡ true → Slot k (home (suc j))) where
   start_names : (kind : FieldKind) (start : Start) → is_start owners kind start ≡ true → Names Slot (Some kind) (value_word home start)
   start_names holdings.Number start is = tt

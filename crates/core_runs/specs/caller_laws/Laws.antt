@@ -24,7 +24,7 @@ use Rattle.caller_steps.specs.Asking.{CanAsk, CanAccept, NewsFit}
 abbrev pub ForRuns : (Target → Setting → Type 0) → Type 0
 ForRuns Holds = (target : Target) (text : Text) (setting : Setting) → IsRunnable target text → IsSetting setting → Fits target setting → Holds target setting
 
--- an idle entry belongs, and one that belongs goes on to: where it takes a call, and where what it wants finds a lawful word
+-- an idle entry belongs, and one that belongs still does after it takes a call, and after what it wants finds a lawful word
 pub record EntriesBelong (target : Target) (setting : Setting) : Type 0 where
   pub new : (c : ℕ) → c < setting.sizes.callers → Belongs target setting (idle_entry c)
   pub takes : (e : Entry) (call : Call) → is_call target call ≡ true → Belongs target setting e → Belongs target setting (taken setting.reclamation call e)

@@ -15,7 +15,7 @@ use Rattle.core_runs.specs.core_sound.Standing.{standing_of}
 abbrev pub standings : (ℕ → Entry) → ℕ → Standing
 standings who c = standing_of (who c).routine
 
--- the pool's state where the core's words and callers are these
+-- the pool's state if the core's words and callers are these
 abbrev pub pool_of : CoreView → Hands → PoolState
 pool_of v hands = record { memory = v.memory; hands = hands; who = standings v.who }
 

@@ -31,8 +31,8 @@ abbrev pub IsFinished : ℕ → ℕ → Status → Status → Type 0
 IsFinished before now status result =
     ((result ≡ status) × (now ≡ before)) ⊎ (IsFalse (is_write_fault status) × (result ≡ WriteFault) × Rose before now)
 
--- the message on the status, where this is remembered of what was read. Where a rule is broken it names the first register
--- that is at fault, and where a replay stopped, the turn at which it did, or says that there was no memory to find it
+-- the message on the status, if this is remembered of what was read. If a rule is broken, it names the first register
+-- that is at fault, and if a replay stopped, the turn at which it did, or says that there was no memory to find it
 abbrev pub IsMessage : Option (List ℕ) → Status → List ℕ → Type 0
 IsMessage read status message =
     (named : Blame) × (turn : StoppedTurn) × IsNamedFor read status named × IsStopFor read status turn × (message ≡ message_for read status named turn)

@@ -4,7 +4,7 @@ use Rattle.norm_lang.specs.declared.text.Op.{Op}
 use Rattle.norm_lang.specs.declared.text.Text.{Text}
 use Rattle.norm_check.specs.declared.refusal.Refusal.{Refusal}
 
--- the name of an operation, no bytes where there is none
+-- the name of an operation, no bytes if there is none
 abbrev pub name_of : Option Op → List ℕ
 name_of None = []
 name_of (Some op) = op.name

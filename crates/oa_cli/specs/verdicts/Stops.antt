@@ -1,7 +1,8 @@
 -- The turn at which a replay stopped, as the message on it tells.
-use Rattle.std.specs.Prelude.{◌≡◌, ℕ, Bool, false, List, Option, Some, ◌==◌}
+use Rattle.std.specs.Prelude.{◌≡◌, ℕ, Bool, false, List, Option, Some, Result, Ok, Err, ◌==◌}
+use Rattle.norm_lang.specs.Faults.{LineFault}
 use Rattle.documents.specs.declared.document.Document.{Document}
-use Rattle.documents.specs.DocumentRead.{IsDocument}
+use Rattle.documents.specs.DocumentRead.{document_read}
 use Rattle.script_plans.specs.Plans.{IsRunnable}
 use Rattle.document_runs.specs.Stops.{DocumentStopsAfter}
 use Rattle.messages.specs.declared.turns.StoppedTurn.{StoppedTurn}
@@ -9,18 +10,25 @@ use Rattle.messages.specs.declared.turns.StoppedTurn.TheVariants.{After, NoMemor
 use Rattle.statuses.specs.declared.status.Status.{Status}
 use Rattle.statuses.specs.declared.status.Status.TheVariants.{BadShape}
 
--- the replay of a document makes so many turns whole, and stops at the next. One that can't be replayed has none; where memory ran out
+-- the replay of a document makes so many turns whole, and stops at the next. One that can't be replayed has none; if memory ran out,
 -- nothing is told
 abbrev pub IsStopOf : Document → StoppedTurn → Type 0
 IsStopOf document (After whole) = IsRunnable document × DocumentStopsAfter document whole
 IsStopOf document NoMemory = Unit {0}
 IsStopOf document Nowhere = ¬ IsRunnable document
 
--- of the document that bytes are
-abbrev pub IsStopIn : List ℕ → StoppedTurn → Type 0
-IsStopIn bytes turn = (document : Document) → IsDocument bytes document → IsStopOf document turn
+-- the same, if this was read as a document. If a line has a fault, there is no document, and no turn is told
+abbrev pub IsStopAt : Result Document LineFault → StoppedTurn → Type 0
+IsStopAt (Ok document) turn = IsStopOf document turn
+IsStopAt (Err fault) (After whole) = ⊥
+IsStopAt (Err fault) NoMemory = Unit {0}
+IsStopAt (Err fault) Nowhere = Unit {0}
 
--- where this is remembered of what was read
+-- the same of the document that bytes are
+abbrev pub IsStopIn : List ℕ → StoppedTurn → Type 0
+IsStopIn bytes turn = IsStopAt (document_read bytes) turn
+
+-- the same, if this is remembered of what was read
 abbrev pub IsStopRead : Option (List ℕ) → StoppedTurn → Type 0
 IsStopRead read turn = (bytes : List ℕ) → read ≡ Some bytes → IsStopIn bytes turn
 

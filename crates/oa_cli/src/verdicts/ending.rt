@@ -35,7 +35,7 @@ pub fn finish<W: Write>(out: &mut StdSink<W>, status: Status) -> Status
     }
 }
 
-/// Writes the message on a status, where a source remembers what was read: of a replay that stopped it tells the turn, which is found by
+/// Writes the message on a status, with what the source remembers: of a replay that stopped it tells the turn, which is found by
 /// a replay of what is remembered. At `Failed` a prefix of it was written.
 pub fn explain_status<K: Sink, S: Source>(
     errors: &mut K,
@@ -49,7 +49,7 @@ pub fn explain_status<K: Sink, S: Source>(
     explain_read(errors, input, status, turn)
 }
 
-/// Writes the message on a status to `errors`, for a person, where a source remembers what was read, and answers the number with
+/// Writes the message on a status to `errors`, for a person, with what the source remembers, and answers the number with
 /// which to end. A fault of `errors` changes nothing: a prefix of the message was written then.
 pub fn conclude<E: Write, S: Source>(
     errors: &mut StdSink<E>,

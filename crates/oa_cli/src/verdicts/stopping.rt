@@ -39,7 +39,7 @@ fn turn_in(alloc: Global, bytes: &[u8]) -> StoppedTurn
     }
 }
 
-/// The same where a source remembers what was read.
+/// The same of what a source remembers.
 fn turn_read<S: Source>(input: &RememberingSource<S>) -> StoppedTurn
     ensures { IsStopRead (remembered input.now) result }
 {
@@ -58,7 +58,7 @@ fn is_stopped(status: Status) -> bool
     }
 }
 
-/// The turn that the message on a status tells. It is looked for only where a turn needs a step of nobody.
+/// The turn that the message on a status tells. It is looked for only if a turn needs a step of nobody.
 pub(crate) fn turn_for<S: Source>(input: &RememberingSource<S>, status: Status) -> StoppedTurn
     ensures { IsStopFor (remembered input.now) status result }
 {

@@ -1,4 +1,4 @@
--- Guards are cleared from the least on, and what follows where none is left.
+-- Guards are cleared from the least on, and what follows if none is left.
 use Rattle.std.proofs.Common.{ℕ, zero, suc, ◌≡◌, ◌==◌, ◌+◌, ◌≤◌, ◌<◌, ◌⊎◌, ◌∙◌, ◌&&◌, not, Bool, true, false, List, [], ◌∷◌, length, Some, None, arith, inl, inr, sym, ap, refl, if◌then◌else◌}
 use Rattle.std.specs.Prelude.{slice_get, unwrap_or}
 use Rattle.std.proofs.lemmas.Bool.Decides.{nat_tests}
@@ -22,7 +22,7 @@ past_end [] r le = refl
 past_end (x ∷ xs) zero le = absurd (omega (arith, le))
 past_end (x ∷ xs) (suc r) le = past_end xs r (omega (arith, le))
 
--- where none is left, each guard that isn't left out is 0
+-- if none is left, each guard that isn't left out is 0
 pub clear_none : (guards : Guards) (out : List Bool) → next_to_clear guards out ≡ None → (r : ℕ) → is_spared out r ≡ false → guard_at guards r ≡ 0
 clear_none guards out is r free = zero_of (guard_at guards r) (is_spared out r) free (guards_follow.next_none guards out is r) where
   zero_of : (n : ℕ) (b : Bool) → b ≡ false → (not (n == 0) && not b) ≡ false → n ≡ 0

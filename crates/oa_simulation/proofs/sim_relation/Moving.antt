@@ -96,7 +96,7 @@ base_settled t s d x w = record { number = w.number; seen = w.seen; old = w.old;
 pub settled_is : (x : Caller) (r : ℕ) → x.names.valid r ≡ false → protected x.names r ≡ 0
 settled_is x r is = rw is refl
 
--- names that stay as they are, those that settle where a method run is over, and two changes in turn
+-- names that stay as they are, those that settle when a method run is over, and two changes in turn
 pub same_names : (row : GuardRow) (between : Bool) → NamesStay row row between
 same_names row between = record { guarded = λ r some. some; named = λ on r some. some }
 

@@ -25,7 +25,7 @@ null_resident t s n null_home f z = ap (λ (i : ℕ). s.present (t.home i)) z �
 pub has_slot_of : (t : Plan) (s : Shared) (n : ℕ) → SharedHolds t s → Resident t s n → n ≢ 0 → t.home n ≢ 0
 has_slot_of t s n f r some z = some (sym r ∙ (ap s.present z ∙ none_there t s f))
 
--- where no guard is, none protects
+-- if a hazard word is 0, its guard protects nothing
 pub unprotected : (t : Plan) (s : Shared) (c r : ℕ) → SharedHolds t s → s.memory (Hazard c r) ≡ 0 → s.protects c r ≡ 0
 unprotected t s c r f z = ⊎_elim
     (λ (is : s.protects c r ≡ 0). is)

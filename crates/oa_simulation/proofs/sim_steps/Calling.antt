@@ -58,7 +58,7 @@ called t x erases is = of (slice_get t.target.ops x.entry.running.call.op) refl 
             ∙ (sym (ap (λ (o : Option TargetOp). is_core_call_of o x.entry.running.call.args) there) ∙ is);
       }
 
--- the load of what was seen, where a call begins
+-- the load of what was seen, with which a call begins
 pub begin_kept : (t : Plan) (c : ℕ) (s : Shared) (x : Caller) → IsPlan t → SharedHolds t s → Base t s c x → Empty x → Settled x → IsIdle x → is_call t.target x.entry.running.call ≡ true
     → KeptSetting t c s x (set_begun t.target false x.entry) (store s.memory (Warning c) (s.memory (Warning c))) (seen_loaded t.target t.setting.sizes starts.Begin (s.memory (Warning c)) (counted x.entry))
 begin_kept t c s x plan f b empty settled idle is =

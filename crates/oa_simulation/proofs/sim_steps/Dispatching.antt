@@ -95,7 +95,7 @@ SteppedAs t c s x Names (Some a) were made present' =
     in_row t.setting.sizes (word_of a) ≡ true → DrawsHome t.home (made (s.memory (word_of a))).signs s.unused
     → Stepped t c s x Names (were (s.memory (word_of a))) (after_access s.memory a) (made (s.memory (word_of a))) present'
 
--- where it changes none
+-- a kept step that changes no name is such a step
 same_row : (t : Plan) (c : ℕ) (s : Shared) (x : Caller) (Names : GuardRow → Type 0) (o : Option WordAccess) (were : ℕ → ℕ → Bool) (made : ℕ → Moved) (present' : ℕ → ℕ) → Names x.names → KeptNamingAs t c s x o were made present' → SteppedAs t c s x Names o were made present'
 same_row t c s x Names None were made present' same kept = tt
 same_row t c s x Names (Some a) were made present' same kept = λ row draws. record { row = x.names; names = same; kept = kept row draws }
@@ -126,7 +126,7 @@ both_true : (a b : Bool) → (a && b) ≡ true → b ≡ true
 both_true true b is = is
 both_true false b is = absurd (let z : false ≡ true = is in cc)
 
--- a guard's register, where it is a reference
+-- a guard's register is a reference
 guard_register : (r : Reg) → IsTrue (is_guarded_register r) → (k : ℕ) × (r ≡ Ref k)
 guard_register (Num k) is = absurd (let z : false ≡ true = is in cc)
 guard_register (Ref k) is = (k, refl)

@@ -1,4 +1,4 @@
--- Where an instruction asks the object of a field to be of the kind that has the field, the object is null, or has the field.
+-- If an instruction asks the object of a field to be of the kind that has the field, the object is null, or has the field.
 use Rattle.std.proofs.Common.{ℕ, ◌≡◌, ◌≢◌, ◌==◌, ◌<◌, ◌∙◌, true, false, List, [], length, Option, Some, None, arith, inl, inr, sym, ap, refl}
 use Rattle.std.specs.Prelude.{slice_get, unwrap_or, is_some, IsTrue}
 use Rattle.std.proofs.lemmas.Bool.Decides.{nat_tests}

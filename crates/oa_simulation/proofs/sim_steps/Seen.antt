@@ -188,7 +188,7 @@ loads_seen target e (Claims claim) = false
 loads_seen target e (Zeroes k field) = false
 loads_seen target e (Announces announcing) = false
 
--- where no method begins or begins again, what was seen stays
+-- if no method begins or begins again, what was seen stays
 pub stays_seen : (target : Target) (setting : Setting) (word : ℕ) (e : Entry) (routine : Routine) → NeverAnnounces routine → renews_at target e routine word ≡ false → Keeps e (accepted Optimistic target setting word (counted e) routine).entry
 stays_seen target setting word e Idle never other = refl
 stays_seen target setting word e (LoadSeen why) never other = absurd (let z : true ≡ false = other in cc)
@@ -217,7 +217,7 @@ seen_stays target setting word e routine never other = stays_seen target setting
 pub after_stays : (target : Target) (setting : Setting) (word : ℕ) (e : Entry) → setting.reclamation ≡ Optimistic → NeverAnnounces e.routine → renews target e word ≡ false → (after target setting e word).hand.seen ≡ e.hand.seen
 after_stays target setting word e optimistic never other = ap (λ (e : Entry). e.hand.seen) (after_is target setting e word optimistic) ∙ stays_seen target setting word e e.routine never other
 
--- where a method begins, or begins again, what is seen is the warning that was found
+-- if a method begins, or begins again, what is seen is the warning that was found
 pub renewed_seen : (target : Target) (setting : Setting) (warning : ℕ) (e : Entry) (routine : Routine) → renews_at target e routine warning ≡ true → (accepted Optimistic target setting warning (counted e) routine).entry.hand.seen ≡ warning
 renewed_seen target setting warning e (LoadSeen why) renew = begun_seen target setting.sizes (is_wrap_up why) (with_hand (counted e) (record e.hand { seen = warning }))
 renewed_seen target setting warning e At renew = of (instr_in target e) renew where

@@ -13,7 +13,7 @@ use Rattle.caller_parts.specs.declared.routine.Routine.{Routine}
 use Rattle.caller_parts.specs.declared.routine.Routine.TheVariants.{Idle, LoadSeen, At, InList, Retires, Restarts, Clears, Claims, Zeroes, Announces}
 use Rattle.caller_steps.specs.Entries.{Entry, instr_in, zero_count, cradle_of}
 
--- the exchange of a sweep that makes a slot ready takes the slot's name away, where it finds the word that it expects
+-- the exchange of a sweep that makes a slot ready takes the slot's name away, if it finds the word that it expects
 abbrev pub freed_at : SweepStage → (Word → ℕ) → (ℕ → ℕ) → ℕ → ℕ
 freed_at (sweeps.MakeReady j q) memory present = if memory (Status j) == status_word q kinds.Retired then put present j 0 else present
 freed_at sweeps.ReadPhase memory present = present

@@ -17,7 +17,7 @@ use Rattle.caller_steps.specs.Signs.{Sign, Begins, Accesses, Draws, Renews, Give
 use Rattle.run_ahead.specs.TypedCallers.{IsTypedCaller}
 use Rattle.oa_simulation.specs.sim_relation.Views.{Shared, Caller}
 
--- the event of a sign of a caller, where names below one were drawn: a `new` draws the least that wasn't
+-- the event of a sign of a caller; `unused` is the least name that wasn't drawn, and a `new` draws it
 abbrev pub event_of : ℕ → ℕ → Sign → SourceEvent
 event_of c unused (Begins call) = events.Begin c call.op call.args
 event_of c unused Accesses = events.Access c 0
@@ -53,7 +53,7 @@ played text c sign p =
     }
 
 -- a caller's signs lead from one point to another: the event of each is enabled and happens, but that of a restart may be left out
--- where it isn't enabled
+-- if it isn't enabled
 pub data Plays (text : Text) (c : ℕ) : List Sign → Point → Point → Type 0 where
   done : (p : Point) → Plays text c [] p p
   makes : (sign : Sign) (signs : List Sign) (p q : Point) → is_open text c sign p → Plays text c signs (played text c sign p) q → Plays text c (sign ∷ signs) p q

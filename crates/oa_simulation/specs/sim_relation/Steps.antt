@@ -129,7 +129,7 @@ with_names names r n = record { name = put names.name r n; valid = put names.val
 abbrev pub regarded : Caller → ℕ → ℕ → ℕ → Caller
 regarded x r slot n = record x { names = with_names x.names r n; entry = record x.entry { hand = record x.entry.hand { guards = with_guard x.entry.hand.guards r slot } } }
 
--- the words and what is protected, where a hazard word is stored
+-- the words and what is protected, after a hazard word is stored
 abbrev pub hazarded : Shared → ℕ → ℕ → ℕ → Shared
 hazarded s c r slot = record s { memory = store s.memory (Hazard c r) slot; protects = put s.protects c (put (s.protects c) r 0) }
 
@@ -212,7 +212,7 @@ TakesReady memory (Claims claim) = TakenIsReady memory claim.stage
 TakesReady memory (Zeroes k field) = Unit {0}
 TakesReady memory (Announces announcing) = Unit {0}
 
--- each step of each caller whose entry passes a test is kept, where its source's text owes what a proper one does at each point to
+-- each step of each caller whose entry passes a test is kept, if its source's text owes what a proper one does at each point to
 -- which the step leads
 pub record StepsKeep (t : Plan) (test : Entry → Bool) : Type 0 where
   pub step : (c : ℕ) (s : Shared) (x : Caller) (a : WordAccess) → test x.entry ≡ true → c < t.setting.sizes.callers → SharedHolds t s → CallerHolds t s c x → TakesReady s.memory x.entry.routine → Belongs t.target t.setting x.entry

@@ -23,7 +23,7 @@ use Rattle.caller_parts.specs.Operands.{code_at, with_word, succeeds, to_retire,
 use Rattle.caller_steps.specs.Clearing.{restart_next, unguarded}
 use Rattle.caller_steps.specs.After.{first_spot, is_wrap_up, with_hand}
 
--- where a method run begins, or begins again
+-- when a method run begins, or begins again
 abbrev pub none_set : ℕ → Bool
 none_set = λ r. false
 

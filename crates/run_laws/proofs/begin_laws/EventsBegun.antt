@@ -174,7 +174,7 @@ module _ (target : Target) (setting : Setting) (Knows : Entry → Type 0) (start
                   ∙ ap (λ (l : List Call). started e ++ l) (sym (begun_for_more c (event_signs target setting state event) (run_signs target setting events mid)))));
             }
 
-  -- from the start, where nothing has begun
+  -- from the start, when nothing has begun
   begun_in_image : (text : Text) (c : ℕ) (xs : List Signed) (first last e : Entry) → started first ≡ [] → started last ≡ started first ++ begun_for c xs → last ≡ e → begun_in c (shadow_run text xs (shadow_start text setting)).events ≡ started e
   begun_in_image text c xs first last e none more same = shadow_begins text c xs (shadow_start text setting) ∙ (sym (more ∙ ap (λ (l : List Call). l ++ begun_for c xs) none) ∙ ap started same)
 

@@ -44,7 +44,7 @@ count_of : (xs : List Replied) (r : Running) → length (map run_of xs ++ r ∷ 
 count_of [] r = refl
 count_of (x ∷ xs) r = let more = count_of xs r in omega (arith, more)
 
--- the calls of one caller's entry where a run of scripts has ended
+-- the calls of one caller's entry when a run of scripts has ended
 module _ (target : Target) (setting : Setting) (scripts : List (List Call)) (fuel : ℕ) (events : List CoreEvent) (state : CoreState) (complete : IsCompleteRun target setting scripts fuel events state)
     (c : ℕ) (e : Entry) (there : slice_get state.entries c ≡ Some e) where
   kept_by : (b : Bool) → is_idle e.routine ≡ b → map run_of e.replies ++ running_of b e ≡ calls_in c events

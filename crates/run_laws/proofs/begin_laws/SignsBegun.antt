@@ -265,7 +265,7 @@ begins_at _ = false
 abbrev call_if : Bool → Call → List Call
 call_if b call = if b then call ∷ [] else []
 
--- what a step begins: the call, where its caller stood before the access with which it begins; and it stands elsewhere afterwards, but for
+-- what a step begins: the call, if its caller stood before the access with which it begins; and it stands elsewhere afterwards, but for
 -- announcements
 abbrev Starts : Reclamation → Entry → Routine → Moved → Type 0
 Starts by e routine m = (begun m.signs ≡ call_if (begins_at routine) e.running.call) × (NeverAnnounces routine → waits by m.entry.routine ≡ false)
@@ -314,7 +314,7 @@ after_starts target setting e word = step_starts setting.reclamation target sett
 pub never_waits : (r : Routine) → waits Optimistic r ≡ false → NeverAnnounces r
 never_waits r on announcing is = let no : true ≡ false = sym (ap (waits Optimistic) is) ∙ on in cc
 
--- and its call begins where it waits
+-- and its call begins with the next step exactly if it waits
 pub begins_waiting : (r : Routine) → NeverAnnounces r → begins_at r ≡ waits Optimistic r
 begins_waiting (Announces announcing) never = absurd (never announcing refl)
 begins_waiting _ never = refl

@@ -19,7 +19,7 @@ use Rattle.caller_parts.specs.declared.setting.Reclamation.{Reclamation}
 use Rattle.caller_parts.specs.declared.setting.Reclamation.TheVariants.{Optimistic}
 use Rattle.oa_simulation.proofs.sim_relation.Schemes.{NeverAnnounces, taken_is}
 
--- a call that runs waits for its first step exactly where none was made for it, and its caller announces nothing
+-- a call that runs waits for its first step exactly if none was made for it, and its caller announces nothing
 abbrev pub Counts : Entry → Type 0
 Counts e = is_idle e.routine ≡ false → (waits Optimistic e.routine ≡ (e.running.steps == 0)) × NeverAnnounces e.routine
 

@@ -1,5 +1,5 @@
 -- A slot that a hazard word names and that isn't given out: it keeps its name while the word is unchanged. This needs the relation's
--- validated guard only at its begin, so it holds too where a `grd` stores the slot again, after which the relation knows nothing of the
+-- validated guard only at its begin, so it holds too if a `grd` stores the slot again, after which the relation knows nothing of the
 -- guard until the next check.
 use Rattle.std.proofs.Common.{ℕ, ◌≡◌, ◌≢◌, ◌*◌, ◌<◌, ◌∙◌, true, false, List, arith, ⊎_elim, sym, ap, subst}
 use Rattle.std.specs.Prelude.{slice_index}

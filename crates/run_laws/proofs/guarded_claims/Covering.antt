@@ -109,7 +109,7 @@ module _ (t : Plan) (w : World) (h : Holds t w) (c : ℕ) (mover : c < t.setting
 
   -- ---- the mover's entry
 
-  -- the word that a sweep finds is the slot, where it reads the hazard word
+  -- the word that a sweep finds is the slot, if it reads the hazard word
   finds_at : (scheme : Scheme) (p : ℕ) (g : List ℕ) (stage : SweepStage) → SweepAt t s p g stage → FindsAt d r v.slot (s.memory (word_of (sweep_wants_at scheme stage p))) stage
   finds_at scheme p g (sweeps.ReadHazard i m) at = (at.2, λ same there. ap (λ (k : ℕ). s.memory (Hazard k m)) (sym same) ∙ (ap (λ (k : ℕ). s.memory (Hazard d k)) (sym there) ∙ v.word))
   finds_at scheme p g _ at = tt

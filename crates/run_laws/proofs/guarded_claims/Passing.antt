@@ -79,7 +79,7 @@ abbrev pub ClaimKnows : Shared → ℕ → ℕ → ℕ → Claim → Option Clai
 ClaimKnows s d r j claim None = KnowsIn s d r j claim.sweep claim.stage
 ClaimKnows s d r j claim (Some end) = Unit {0}
 
--- the word that is found is the slot, where it is (d, r)
+-- the word that is found is the slot, if it is the hazard word (d, r)
 abbrev pub FindsAt : ℕ → ℕ → ℕ → ℕ → SweepStage → Type 0
 FindsAt d r j word (sweeps.ReadHazard c i) = (i < 8) × (d ≡ c → r ≡ i → word ≡ j)
 FindsAt d r j word _ = Unit {0}
@@ -127,7 +127,7 @@ module _ (sizes : Sizes) (last : ℕ) (s : Shared) (d r j : ℕ) (low : r < 8) (
     of true is = λ past. k (omega (arith, past))
     of false is = ended (nat_lt (x + 1) sizes.callers) is refl
 
-  -- where the sweep warns the callers: only then does it read the hazard words
+  -- if the sweep warns the callers: only then does it read the hazard words
   sweep_knows : (sweep : Sweep) (word : ℕ) (stage : SweepStage) → sweep.scheme ≡ Warned → d < sizes.callers → FindsAt d r j word stage → KnowsAt s d r j sweep.bound sweep.gathered stage
       → SweepKnows s d r j (sweep_accepts_at sizes last sweep word stage).sweep (sweep_accepts_at sizes last sweep word stage).ended
   sweep_knows sweep word sweeps.ReadPhase warns caller found k = of (word == last) where

@@ -1,4 +1,4 @@
--- A claim over words that nobody else changes, where a slot is ready or was retired: it doesn't end with Full.
+-- A claim over words that nobody else changes doesn't end with Full if a slot is ready or was retired.
 use Rattle.std.proofs.Common.{ℕ, ◌≡◌, ◌≢◌, ◌==◌, ◌+◌, ◌≤◌, ◌<◌, ◌⊎◌, ◌∙◌, Bool, true, false, List, [], Option, Some, None, arith, inl, inr, ⊎_elim, sym, ap, subst, refl, max, if◌then◌else◌}
 use Rattle.std.specs.Prelude.{nat_lt}
 use Rattle.std.proofs.lemmas.Bool.{cases_eq}

@@ -161,7 +161,7 @@ module _ (t : Plan) (c : ℕ) (s : Shared) (x : Caller) (memory' : Word → ℕ)
       let is : k.s'.present j ≡ s.present j = ap (λ (present : ℕ → ℕ). present j) k.present ∙ same in
       named_on (λ z. named.0 (sym is ∙ z)) (ap (λ (n : ℕ). has n s.source.retired) is ∙ named.1)
 
-  -- the slot's status was used before, where the step leaves it
+  -- the slot's status was used before, if the step leaves it
   used_before : memory' (Status j) ≡ s.memory (Status j) → IsOf kinds.Used (k.s'.memory (Status j)) → IsOf kinds.Used (s.memory (Status j))
   used_before same used = subst (IsOf kinds.Used) (ap (λ (memory : Word → ℕ). memory (Status j)) k.memory ∙ same) used
 

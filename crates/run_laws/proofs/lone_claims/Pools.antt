@@ -44,7 +44,7 @@ reads m j q kind is = ap status_parts is ∙ status_back q kind
 pub tells : (m : Word → ℕ) (j q : ℕ) (kind : Kind) → status_parts (m (Status j)) ≡ Some (record { phase = q; kind = kind }) → m (Status j) ≡ status_word q kind
 tells m j q kind is = sym (status_whole (m (Status j)) (record { phase = q; kind = kind }) is)
 
--- ---- where all of a kind are used
+-- ---- if all of a kind are used
 
 -- what a claim of a kind stands at while each status of the kind is used, and so no slot of it is on top: its sweeps push slots of other
 -- kinds alone

@@ -1,4 +1,4 @@
--- A lone claim ends with Full exactly where each slot of its kind held a name that isn't retired at its begin, which is that each status was used.
+-- A lone claim ends with Full exactly if each slot of its kind held a name that isn't retired at its begin, that is, if each status was used.
 use Rattle.std.proofs.Common.{ℕ, zero, suc, ◌≡◌, ◌≢◌, ◌+◌, ◌≤◌, ◌<◌, ◌⊎◌, ◌∙◌, ◌↔◌, Bool, true, false, List, [], ◌∷◌, length, Option, Some, None, arith, inl, inr, ⊎_elim, sym, ap, subst, refl}
 use Rattle.std.specs.Prelude.{slice_get, unwrap_or}
 use Rattle.std.proofs.lemmas.Bool.{cases_eq, cases_lt}
@@ -169,7 +169,7 @@ module _ (target : Target) (text : Text) (setting : Setting) (runs : IsRunnable 
       (λ (has : (c : ℕ) × (slot_of (standings (view setting state).who c) ≡ j) × IsClaiming (standings (view setting state).who c)). nobody kind begun j has.0 least has.1)
       (told.ready j (least, most) free)
 
-  -- where each is used none is on top
+  -- if each is used, none is on top
   used_none : (kind : ℕ) → kind < length setting.sizes.kinds → AreUsed setting.sizes kind m → top m kind ≡ 0
   used_none kind lt used = of (k.pooled.0.chain kind) refl (pool_holds.fine.linked kind lt) where
     of : (chain : List ℕ) → k.pooled.0.chain kind ≡ chain → IsChain (links m) (top m kind) chain → top m kind ≡ 0

@@ -52,7 +52,7 @@ published true zero = Absent
 published true (suc j) = Published
 
 -- a `grd` that finds in a validated word the slot that it stores leaves the word unchanged, and its guard validated. One that isn't
--- counted publishes nothing; where it stores that very slot, the word is unchanged all the same
+-- counted publishes nothing; if it stores that very slot, the word is unchanged all the same
 abbrev pub restored : Bool → Mark → Mark → Mark
 restored false before stored = stored
 restored true Absent stored = stored

@@ -74,11 +74,11 @@ pub record EndsIn (target : Target) (setting : Setting) (state : CoreState) (k :
   pub ends : (claim_accepts setting.sizes setting.last claim ((view setting later).memory (word_of (claim_wants claim)))).ended ≡ Some end
 
 pub record LoneClaim (target : Target) (text : Text) (setting : Setting) (events : List CoreEvent) (state : CoreState) : Type 0 where
-  -- it ends with Full exactly where each slot of its kind held a name that isn't retired at its begin, if no sweep of it found the last phase
+  -- if no sweep of it found the last phase, it ends with Full exactly if each slot of its kind held a name that isn't retired at its begin
   pub full : (k : ℕ) (end : ClaimEnd) → EndsIn target setting state k end → ((p : ℕ) → end ≢ ends.PhasesOver p) → (end ≡ ends.Full) ↔ AreNamed target text setting events k
-  -- which is that the status of each was used
+  -- that is, exactly if the status of each was used
   pub full_as_used : (k : ℕ) (end : ClaimEnd) → EndsIn target setting state k end → ((p : ℕ) → end ≢ ends.PhasesOver p) → (end ≡ ends.Full) ↔ AreUsed setting.sizes k (view setting state).memory
-  -- at its begin a slot holds a name that isn't retired exactly where the slot's status is used
+  -- at its begin a slot holds a name that isn't retired exactly if the slot's status is used
   pub alike : (k : ℕ) → BeginsAt setting state k → (j : ℕ) → 1 ≤ j → HoldsName target text setting events j ↔ IsUsed (view setting state).memory j
   -- at any moment a slot that holds a name that isn't retired has a used status
   pub used : (j : ℕ) → HoldsName target text setting events j → IsUsed (view setting state).memory j

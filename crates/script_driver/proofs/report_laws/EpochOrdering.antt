@@ -1,7 +1,7 @@
 -- The report of a document of a shipped text under epochs has a legal history.
 use Rattle.std.proofs.Common.{◌≡◌, ◌≤◌, ◌+◌, ℕ, Bool, true, false, List, ◌++◌, length, map, Some, arith}
 use Rattle.std.specs.Prelude.{nat_lt, slice_get, if◌then◌else◌}
-use Rattle.bare_targets.specs.Bare.{bare}
+use Rattle.target_code.specs.Bare.{bare}
 use Rattle.caller_parts.specs.declared.call.Call.{Call}
 use Rattle.caller_parts.specs.declared.call.Running.{Running}
 use Rattle.caller_parts.specs.Pairing.{run_of}

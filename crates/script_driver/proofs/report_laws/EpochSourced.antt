@@ -1,7 +1,7 @@
 -- What is printed under epochs is what the source answers, and its begins are those of the scripts.
 use Rattle.std.proofs.Common.{◌≡◌, ◌+◌, List, length, refl}
 use Rattle.target_laws.specs.target_runs.Runnable.{IsRunnable as MayRun}
-use Rattle.bare_targets.specs.Bare.{bare}
+use Rattle.target_code.specs.Bare.{bare}
 use Rattle.source_machine.specs.Proper.{IsProper}
 use Rattle.caller_parts.specs.Settings.{Fits, IsSetting}
 use Rattle.core_runs.specs.Machine.{CoreState, CoreEvent}

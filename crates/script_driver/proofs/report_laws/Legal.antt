@@ -1,4 +1,4 @@
--- The lines of a document's report, where its text is a shipped one, show calls that have a legal order.
+-- If a document's text is a shipped one, the lines of its report show calls that have a legal order.
 use Rattle.std.proofs.Common.{◌≡◌, ◌≢◌, ◌≤◌, ◌<◌, ℕ, zero, suc, ◌+◌, ◌==◌, Bool, true, false, List, [], ◌∷◌, ◌++◌, length, map, take, drop, Some, None, inl, inr, refl, sym, ap, ◌∙◌, subst, arith}
 use Rattle.std.proofs.lemmas.List.{length-map, length-append}
 use Rattle.std.proofs.lemmas.Bool.Decides.{nat_tests}

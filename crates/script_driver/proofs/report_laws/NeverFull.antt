@@ -1,4 +1,4 @@
--- Where the slots of a document of a shipped text are enough, no line of its report is full.
+-- If the slots of a document of a shipped text are enough, no line of its report is full.
 use Rattle.std.proofs.Common.{◌≡◌, ℕ, zero, suc, ◌+◌, ◌≤◌, ◌<◌, Bool, true, false, List, [], ◌∷◌, length, map, Option, Some, None, refl, sym, ◌∙◌, ap, subst, arith, if◌then◌else◌, get_or}
 use Rattle.std.specs.Prelude.{slice_get, slice_index_or, codes, ◌==◌}
 use Rattle.std.specs.List.{All, position}

@@ -45,8 +45,8 @@ none_past [] i none = omega arith
 none_past (x ∷ xs) zero none = absurd (let z : Some x ≡ None = none in cc)
 none_past (x ∷ xs) (suc i) none = let le = none_past xs i none in omega (arith, le)
 
--- ---- by what either scheme gives: where the source is after the events of a run of a document, of which each caller has begun the first calls of its
--- script, and each line's answer is the source's
+-- ---- by what either scheme gives: where the source is after the events of a run of a document, of which each caller has begun the first
+-- calls of its script, and each line's answer is the source's
 
 module _ (document : Document) (state : CoreState) (image : List SourceEvent) (machine : SourceMachine) (run : IsSourceRun document.text (length document.scripts) image machine) (count : length document.scripts ≡ length state.entries)
     (fronts : (c : ℕ) (e : Entry) → slice_get state.entries c ≡ Some e → c < length document.scripts → Front (begun_in c image) (script_of (scripts_of document) c))

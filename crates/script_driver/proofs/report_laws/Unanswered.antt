@@ -1,4 +1,4 @@
--- A call without a reply has found neither cause of one, also where it was never taken.
+-- A call without a reply has found neither cause of one, even if it was never taken.
 use Rattle.std.proofs.Common.{◌≡◌, ℕ, zero, suc, Bool, true, false, List, [], ◌∷◌, ◌++◌, length, map, Some, None, refl, sym, ap, ◌∙◌, subst}
 use Rattle.std.specs.Prelude.{slice_get, slice_index_or}
 use Rattle.target_code.specs.declared.target.Target.{Target}

@@ -1,7 +1,7 @@
 -- What the lines of a report under epochs say of the run that it tells of.
 use Rattle.std.specs.Prelude.{◌≡◌, ℕ, ◌-◌, ◌^◌, min, List, Some, Result, Ok, Err, slice_get}
 use Rattle.std.specs.List.{All}
-use Rattle.bare_targets.specs.Bare.{bare}
+use Rattle.target_code.specs.Bare.{bare}
 use Rattle.source_machine.specs.Proper.{IsProper}
 use Rattle.caller_steps.specs.Entries.{Entry}
 use Rattle.core_runs.specs.Machine.{CoreState, CoreEvent, core_start}
@@ -20,7 +20,7 @@ use Rattle.script_driver.specs.report_laws.Legal.{HasLegalHistory}
 use Rattle.script_driver.specs.report_laws.Lines.{IsCausedAnswer, TakesClaims}
 use Rattle.script_driver.specs.report_laws.Sources.{IsNamed}
 
--- why the call of a line has no result, each exactly where this is so
+-- why the call of a line has no result, each exactly if this is so
 abbrev pub IsTrueEpochLine : Document → List CoreEvent → CoreState → ReportLine → Type 0
 IsTrueEpochLine document events state line = IsCausedAnswer (bare document.text) (epoch_setting_of document) document.fuel events state line.caller line.index line.answer
 
@@ -31,7 +31,7 @@ CountsRestarts document events c e =
     e.counts.restarts ≡ min (restarts_in (bare document.text) (epoch_setting_of document) c events (core_start (bare document.text) (epoch_setting_of document))) (2 ^ 64 - 1)
 
 -- a report tells of a complete run of its document under epochs: it is that of the state in which the run ends, and its lines are true.
--- Where the text is proper, the run is one of the text on memory that is never recycled, each load's base is null or resident, and the lines
+-- If the text is proper, the run is one of the text on memory that is never recycled, each load's base is null or resident, and the lines
 -- are what that run answers; of a text that a `use` line names nothing is assumed, and what its lines show has a legal history
 pub record EpochsTellOf (document : Document) (events : List CoreEvent) (state : CoreState) (report : Report) : Type 0 where
   pub complete : IsCompleteEpochRunOf document events state

@@ -1,7 +1,7 @@
 -- That what is printed of a document under epochs is what its text answers on memory that is never recycled.
 use Rattle.std.specs.Prelude.{List}
 use Rattle.std.specs.List.{All}
-use Rattle.bare_targets.specs.Bare.{bare}
+use Rattle.target_code.specs.Bare.{bare}
 use Rattle.source_machine.specs.declared.state.SourceMachine.{SourceMachine}
 use Rattle.core_runs.specs.Machine.{CoreState, CoreEvent}
 use Rattle.oa_simulation.specs.Shadow.{shadow}

@@ -31,7 +31,7 @@ pub record RunsStill (e : Entry) (i : ℕ) : Type 0 where
   pub busy : is_idle e.routine ≡ false
   pub last : i ≡ length e.replies
 
--- at the end of a complete run a call runs still exactly where it is out of fuel
+-- at the end of a complete run a call still runs exactly if it is out of fuel
 pub record SpentCallsRanOut (target : Target) (setting : Setting) : Type 0 where
   pub each : (scripts : List (List Call)) (fuel : ℕ) (events : List CoreEvent) (state : CoreState) (c i : ℕ) (e : Entry) → IsCompleteRun target setting scripts fuel events state
       → slice_get state.entries c ≡ Some e → RunsStill e i ↔ IsOutOfFuel fuel events state c i

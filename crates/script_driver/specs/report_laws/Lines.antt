@@ -29,7 +29,7 @@ use Rattle.script_driver.specs.report_laws.Shipped.{ShippedIsNeverFull}
 abbrev pub WasNeverTaken : List CoreEvent → ℕ → ℕ → Type 0
 WasNeverTaken events caller index = slice_get (calls_in caller events) index ≡ None
 
--- why a call has no result, each exactly where this is so: a sweep of the call found the last phase; its claim made two sweeps, and then
+-- why a call has no result, each exactly if this is so: a sweep of the call found the last phase; its claim made two sweeps, and then
 -- found no slot of its kind on top; all the steps that it may make were made, and it hasn't ended; or its caller never took it
 pub record IsCausedAnswer (target : Target) (setting : Setting) (fuel : ℕ) (events : List CoreEvent) (state : CoreState) (caller index : ℕ) (answer : Answer) : Type 0 where
   pub phases : (p : ℕ) → (answer ≡ answers.Replied (replies.Phases p)) ↔ FoundLastPhase setting p (steps_of_call target setting events caller index)
@@ -43,14 +43,14 @@ IsTrueAnswer document events state caller index answer = IsCausedAnswer (target_
 abbrev pub IsTrueLine : Document → List CoreEvent → CoreState → ReportLine → Type 0
 IsTrueLine document events state line = IsTrueAnswer document events state line.caller line.index line.answer
 
--- where a line says that the pool is full, the initial nodes of one kind and the claims of the report together are at least the slots
+-- if a line says that the pool is full, the initial nodes of one kind and the claims of the report together are at least the slots
 -- of this kind
 abbrev pub TakesClaims : Document → ℕ → ReportLine → Type 0
 TakesClaims document claims line = line.answer ≡ answers.Replied replies.Full → FillAKind (setting_of document) claims
 
--- a report tells of a complete run of its document: it is that of the state in which the run ends, and its lines are true. Where the
+-- a report tells of a complete run of its document: it is that of the state in which the run ends, and its lines are true. If the
 -- text is proper, the run is one of the text on memory that is never recycled, and the lines are what that one answers; of a text that
--- a `use` line names nothing is assumed, and what its lines show has a legal history. Of a shipped text no line is full where the slots are enough
+-- a `use` line names nothing is assumed, and what its lines show has a legal history. Of a shipped text no line is full if the slots are enough
 pub record TellsOf (document : Document) (events : List CoreEvent) (state : CoreState) (report : Report) : Type 0 where
   pub complete : IsCompleteRunOf document events state
   pub of : report ≡ report_of document state

@@ -1,4 +1,4 @@
--- Steps settle within a bound: where no place leads back to itself, each of so many places is passed at most once.
+-- Steps settle within a bound: if no place leads back to itself, each of so many places is passed at most once.
 use Rattle.std.proofs.Common.{◌≡◌, ℕ, zero, suc, ◌+◌, ◌<◌, ◌≤◌, ◌⊎◌, inl, inr, Bool, true, false, List, [], ◌∷◌, length, Option, Some, None, refl, sym, ap, subst, ◌∙◌, arith}
 use Rattle.std.specs.Prelude.{if◌then◌else◌, ◌==◌}
 use Rattle.std.proofs.lemmas.Bool.{cases_eq, cases_lt}
@@ -15,7 +15,7 @@ pub settles_next : (step : Spot → Option Spot) (here next there : Spot) → st
 settles_next step here next there is (rests _ none) = absurd (let z : None ≡ Some next = sym none ∙ is in cc)
 settles_next step here next there is (goes_on _ other _ is' rest) = let z : Some other ≡ Some next = sym is' ∙ is in let e : other ≡ next = cc in subst (λ (s : Spot). SettlesBy step s there) e rest
 
--- where no step leads on it is there
+-- if no step leads on, it is there already
 pub settles_here : (step : Spot → Option Spot) (here there : Spot) → step here ≡ None → SettlesBy step here there → here ≡ there
 settles_here step here there is (rests _ none) = refl
 settles_here step here there is (goes_on _ next _ is' rest) = absurd (let z : None ≡ Some next = sym is ∙ is' in cc)

@@ -29,7 +29,7 @@ InstrSane target wrapup count (Plain i) = PlainSane target wrapup count i
 InstrSane target wrapup count Check = Unit {0}
 InstrSane target wrapup count (Guard r) = Unit {0}
 
--- of an instruction to which a path leads: it is within the limits, and where control goes on it stays inside the method
+-- of an instruction to which a path leads: it is within the limits, and if control goes on, it stays inside the method
 pub record SaneAt (target : Target) (wrapup : Bool) (code : List TargetInstr) (at : ℕ) (i : TargetInstr) : Type 0 where
   pub limits : IsTrue (is_target_instr (length target.kinds) (length target.fields) (length target.roots) i)
   pub own : InstrSane target wrapup (length code) i

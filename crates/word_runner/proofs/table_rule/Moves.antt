@@ -130,7 +130,7 @@ pub record CanMake (key : Fixed) (me : Me ℕ SeatView) (e : Entry) (a : WordAcc
 told : (key : Fixed) (me : Me ℕ SeatView) (e : Entry) (a : WordAccess) (n : ℕ) → CanMake key me e a → Accepts key.target.target key.setting a n → IsTold me.0.fixed e n
 told key me e a n can h = subst (λ (f : Fixed). IsTold f e n) (sym can.can.fixed) (subst (λ (o : Option WordAccess). MayBeTold key.target.target key.setting o n) (sym can.wanted) h)
 
--- the rule is kept where the seat's view gets what the entry in hand becomes
+-- the rule is kept if the seat's view gets what the entry in hand becomes
 goes : (key : Fixed) (slots id : ℕ) (me : Me ℕ SeatView) (e : Entry) (a : WordAccess) (s : State ℕ SeatView) → CanMake key me e a → (h : Holds key s) → get_elem? s.views id ≡ some me.0
     → (new : Entry) → new ≡ next key e (found_by key.setting h.core a)
     → Holds key (record { words = slice_set s.words (place_of key a) (word_after a (slice_index s.words (place_of key a))); homes = s.homes; views = slice_set s.views id (with_accesses (with_entry me.0 new) 1) })

@@ -49,7 +49,7 @@ stands (x ∷ xs) (suc i) a b e = stands xs i a b e
 abbrev size : ℕ → SeatView → ℕ
 size m v = grains m v.parts
 
--- where none of the parts of a changed list is smaller than a grain, none was, if that is so of the seat that changed
+-- if no part is smaller than a grain after one seat changed, none was before: this holds of all seats if it holds of that one
 was_coarse : (m : ℕ) (views : List SeatView) (id : ℕ) (v w : SeatView) → get_elem? views id ≡ some v → (AreCoarse m w.parts → AreCoarse m v.parts) → AllCoarse m (set views id w) → AllCoarse m views
 was_coarse m views id v w at less h by u there = dite (ℕ_discrete by id)
     (λ (is : by ≡ id).

@@ -23,7 +23,7 @@ pub record Drove (key : Fixed) (me : Me ℕ SeatView) (e : RoomyEntry) (steps : 
   pub view : me' ≡ (with_accesses (with_entry me.0 e'.core) steps, [])
   pub belongs : Belonging key e'.core
 
--- at least one step and at most `budget`; fewer only where the call has ended
+-- at least one step and at most `budget`; fewer only if the call has ended
 pub record Ran (key : Fixed) (me : Me ℕ SeatView) (e : RoomyEntry) (budget : ℕ) (me' : Me ℕ SeatView) (e' : RoomyEntry) : Type 0 where
   pub steps : ℕ
   pub some : 0 < steps

@@ -52,9 +52,9 @@ pub record StepsKeepRule (key : Fixed) : Type 0 where
   pub looks : (slots id : ℕ) (me : Me ℕ SeatView) → me.0.live ≡ true → me.0.fixed ≡ key → Allows (Holds key) slots id me 0 (λ n. n) (λ n w. Looked me w)
   -- it holds of the core's words at the start
   pub opens : (words : List ℕ) → IsGround key → words ≡ (core_start key.target.target key.setting).words → Holds key (opening words [] (newcomer key))
-  -- whatever a step does to the words, it makes no seat that is in use where no other seat changes
+  -- whatever a step does to the words, a seat that it makes isn't in use if no other seat changes
   pub comes : (words : List ℕ) (w : SeatView) (s : State ℕ SeatView) → Holds key s → Holds key (record { words = words; homes = s.homes; views = s.views ++ w ∷ [] }) → (w.live ≡ false) × (w.entries ≡ [])
-  -- nor where the one seat that changes keeps its parts: so the parts of a seat tell whether it was split
+  -- nor if the one seat that changes keeps its parts: so the parts of a seat tell whether it was split
   pub keeps : (words : List ℕ) (id : ℕ) (v left w : SeatView) (s : State ℕ SeatView) → Holds key s → get_elem? s.views id ≡ some v → left.parts ≡ v.parts
       → Holds key (record { words = words; homes = s.homes; views = slice_set s.views id left ++ w ∷ [] }) → (w.live ≡ false) × (w.entries ≡ [])
   -- and what a seat knows at the end is of a reachable state

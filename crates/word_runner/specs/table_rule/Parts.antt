@@ -16,7 +16,7 @@ abbrev pub doubled : ℕ → ℕ
 doubled zero = 1
 doubled (suc n) = doubled n + doubled n
 
--- the size of parts, where the whole is 2 to the power of m grains
+-- the size of parts, if the whole is 2 to the power of m grains
 abbrev pub grains : ℕ → List ℕ → ℕ
 grains m [] = 0
 grains m (k ∷ ks) = doubled (m - k) + grains m ks

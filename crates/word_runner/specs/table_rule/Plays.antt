@@ -55,7 +55,7 @@ InHand key base e = (e ≡ base) ⊎ ((is_idle base.routine ≡ true) × ((call 
 abbrev pub with_accesses : SeatView → ℕ → SeatView
 with_accesses v n = record v { accesses = v.accesses + n }
 
--- ---- accesses: a step of the core, after a Take where a call is in hand
+-- ---- accesses: a step of the core, after a Take if a call is in hand
 
 abbrev pub with_entry : SeatView → Entry → SeatView
 with_entry v e = record v { entries = e ∷ [] }
@@ -86,7 +86,7 @@ pub record Made (e : Entry) (me : Me ℕ SeatView) (n : ℕ) (w : Me ℕ SeatVie
 abbrev pub with_found : SeatView → ℕ → SeatView
 with_found v k = record v { found = k }
 
--- where the place word was 0, the seat has the empty entry with the place's number, which is one less than the word's; else it
+-- if the place word was 0, the seat has the empty entry with the place's number, which is one less than the word's; else it
 -- has found one more place taken
 abbrev pub Tried : Step ℕ → Me ℕ SeatView → ℕ → Me ℕ SeatView → Type 0
 Tried st me n w = MatchBool (n == 0) (w ≡ (with_accesses (with_entry me.0 (idle_entry (st.word - 1))) 1, [])) (w ≡ (with_accesses (with_found me.0 (me.0.found + 1)) 1, []))

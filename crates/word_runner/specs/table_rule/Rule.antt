@@ -34,7 +34,7 @@ abbrev pub AllHere : List Entry → List Entry → Type 0
 AllHere all [] = Unit {0}
 AllHere all (e ∷ es) = (slice_get all e.number ≡ Some e) × AllHere all es
 
--- what a seat knows is so: what the table was told, where the seat is in use; the places that it found taken; and its entries
+-- what a seat knows is so: what the table was told, if the seat is in use; the places that it found taken; and its entries
 pub record IsSeen (key : Fixed) (words : List ℕ) (all : List Entry) (v : SeatView) : Type 0 where
   pub fixed : v.live ≡ true → v.fixed ≡ key
   pub within : v.found ≤ callers_of key
@@ -42,7 +42,7 @@ pub record IsSeen (key : Fixed) (words : List ℕ) (all : List Entry) (v : SeatV
   pub here : AllHere all v.entries
 
 -- the words that are no places are the core's; a place word counts how often its caller's entry stands in the views, which is
--- once or never, and where it is never, the caller hasn't entered: its entry in the core is the empty idle one
+-- once or never, and if it is never, the caller hasn't entered: its entry in the core is the empty idle one
 pub record Shows (key : Fixed) (words : List ℕ) (views : List SeatView) (core : CoreState) : Type 0 where
   pub count : length words ≡ word_count key.setting.sizes
   pub seen : (by : ℕ) (v : SeatView) → get_elem? views by ≡ some v → IsSeen key words core.entries v

@@ -4,7 +4,7 @@ use Rattle.barrier_check.specs.Paired.{Paired, IsSound}
 use Rattle.caller_parts.specs.Settings.{Setting, Fits, IsSetting}
 use Rattle.caller_parts.specs.declared.setting.Reclamation.TheVariants.{Optimistic}
 use Rattle.caller_steps.specs.Entries.{Entry}
-use Rattle.core_entries.specs.Running.{MayRun}
+use Rattle.core_ground.specs.Running.{MayRun}
 use Rattle.norm_lang.specs.LineWords.{item_kind}
 
 -- what a table is told once: the target with its source, and the setting
@@ -12,7 +12,7 @@ pub record Fixed : Type 0 where
   pub target : Paired
   pub setting : Setting
 
--- callers may run the target, which is barred for its source where access is optimistic, and the setting fits it
+-- callers may run the target, which is barred for its source if access is optimistic, and the setting fits it
 pub record IsGround (key : Fixed) : Type 0 where
   pub runs : MayRun key.target
   pub sound : key.setting.reclamation ≡ Optimistic → IsSound key.target

@@ -8,5 +8,5 @@ judge_methods-requires c = record {
   within = c.requires.within;
   stands = c.requires.stands;
   true_of = c.requires.true_of;
-  kinds = subst (λ (known : List KindFacts). AreOfOp c.args.text.now c.args.op.now known) (sym c.deref.ensures.value) c.in_ok-kinds.ensures;
+  kinds = subst (λ (known : List KindFacts). AreOfOp c.args.text.now c.args.op.now known) (sym c.deref.ensures.value) c.in_ok-kinds.ensures.tell;
 }

@@ -186,7 +186,7 @@ EntryKept t c s x k entry j =
     Kept t c s x (after_access s.memory (exchange_wanted t.target.fields entry x.entry.hand.registers))
     (told (Accesses ∷ []) (retires_then Optimistic t.target t.setting.sizes (onward.List k) j (record (counted x.entry) { cradles = cradles_after entry.replacement x.entry.hand.registers x.entry.cradles })))
 
--- where nothing is retired the next entry follows, or the wrap-up's start
+-- if nothing is retired, the next entry follows, or the wrap-up's start
 keeps_on : (t : Plan) (c : ℕ) (s s' : Shared) (x : Caller) (m : Trail t) (k : ℕ) (entry : CasEntry) (entries : List CasEntry) → Tries t c s x m k entry entries → Done t s s' c x.entry.hand.registers m.mirror entry (name_in (value_in m.mirror entry.replacement))
     → s'.memory ≡ after_access s.memory (exchange_wanted t.target.fields entry x.entry.hand.registers) → to_retire entry.retire x.entry.hand.registers ≡ 0 → EntryKept t c s x k entry 0
 keeps_on t c s s' x m k entry entries w d memory none = of (nat_lt (k + 1) (length (list_of (instr_in t.target x.entry)))) (λ routine. enters t s s' c x m k n entry cradles routine (enters_at t c s s' x m k entry entries w d)) where

@@ -49,7 +49,7 @@ use Rattle.oa_simulation.proofs.sim_steps.Accesses.Loads.{made_by}
 use Rattle.oa_simulation.proofs.sim_steps.Accesses.Puts.{Reads}
 use Rattle.caller_parts.specs.declared.setting.Reclamation.TheVariants.{Optimistic}
 
--- where it fails the words stay
+-- if it fails, the words stay
 stays : (m : Word → ℕ) (w : Word) (e r : ℕ) (b : Bool) → (m w == e) ≡ b → b ≡ false → m ≡ store m w (if m w == e then r else m w)
 stays m w e r b is fails = rw (is, fails) (store_idle m w)
 

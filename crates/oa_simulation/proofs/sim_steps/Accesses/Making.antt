@@ -152,7 +152,7 @@ pub record Succeeds (t : Plan) (s s' : Shared) (c : ℕ) (x : Caller) (m : Trail
   -- what it newly retires is in the slot to retire
   pub retires : (i : ℕ) → has i s'.source.retired ≡ true → (has i s.source.retired ≡ true) ⊎ ((to_retire entry.retire x.entry.hand.registers ≡ t.home i) × (t.home i ≢ 0))
 
--- how the core goes on where the exchange was made, by the slot to retire
+-- how the core goes on if the exchange was made, by the slot to retire
 goes_by_slot : (t : Plan) (s s' : Shared) (c : ℕ) (x : Caller) (m : Trail t) (entry : CasEntry) (l j : ℕ) → Succeeds t s s' c x m entry l → to_retire entry.retire x.entry.hand.registers ≡ j
     → KeptSetting t c s x (set_unless_retiring t.target x.entry x.was_set j) (after_access s.memory (exchange_wanted t.target.fields entry x.entry.hand.registers)) (told (Accesses ∷ []) (retires_then Optimistic t.target t.setting.sizes onward.Next j (with_access (counted x.entry))))
     → KeptSetting t c s x (set_plain t.target (instr.Cas entry l) (s.memory (word_of (exchange_wanted t.target.fields entry x.entry.hand.registers))) x.entry x.was_set) (after_access s.memory (exchange_wanted t.target.fields entry x.entry.hand.registers)) (plain_accepted Optimistic t.target t.setting.sizes (instr.Cas entry l) (s.memory (word_of (exchange_wanted t.target.fields entry x.entry.hand.registers))) (counted x.entry))

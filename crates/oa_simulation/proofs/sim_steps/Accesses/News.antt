@@ -56,7 +56,7 @@ use Rattle.oa_simulation.proofs.sim_steps.Exchanges.Made.{new_is_first}
 use Rattle.oa_simulation.proofs.sim_steps.Accesses.Loads.{has_with, has_kept, got_kept, got_new}
 use Rattle.oa_simulation.proofs.sim_steps.Walks.Accessing.{Makes, turns, took, stands_took}
 
--- what is known where the fields of a cradle's slot are zeroed
+-- what is known while the fields of a cradle's slot are zeroed
 pub record Zeroing (t : Plan) (s : Shared) (c : ℕ) (x : Caller) (m : Trail t) (r k g : ℕ) : Type 0 where
   pub plan : IsPlan t
   pub shared_holds : SharedHolds t s
@@ -93,7 +93,7 @@ fresh_got t s c x m r k g i w = of (is_set_in m.walk.method m.path i) refl where
   of true set = got_of (w.gets.got.set i set)
   of false unset = inl (w.gets.got.unset i unset ∙ blank m.walk w.walks.generator w.generator i)
 
--- the own facts where a field is zeroed
+-- all of it stays known after one more field is zeroed
 pub zeroing_on : (t : Plan) (s : Shared) (c : ℕ) (x : Caller) (m : Trail t) (r k g : ℕ) → Zeroing t s c x m r k g → Zeroing t (zeroed s (cradle_of x.entry k) g) c x m r k (g + 1)
 zeroing_on t s c x m r k g w = record {
   plan = w.plan;

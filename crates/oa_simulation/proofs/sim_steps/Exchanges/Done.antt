@@ -35,7 +35,7 @@ use Rattle.oa_simulation.proofs.sim_steps.Exchanges.Dropping.{Drops, drops, unta
 
 -- ---- what is published, and where
 
--- what is at hand is so where a name at hand is published
+-- what is at hand stays so if a name at hand is published
 hand_published : (t : Plan) (s : Shared) (c n o : ℕ) → IsAtHand t s c n → IsAtHand t s c o → IsAtHand t (published_if t s n) c o
 hand_published t s c n o new (inl z) = inl z
 hand_published t s c n o new (inr known) = inr (known.0, of known.1 new) where
@@ -59,7 +59,7 @@ there_published t s n c mirror (places.Field a f) new there = (hand_published t 
 
 -- ---- the exchange
 
--- what stands before it, where it publishes a name, or null for none
+-- what holds before it; `p` is the name that it publishes, or null for none
 pub record Tried (t : Plan) (s : Shared) (c : ℕ) (core mirror : Registers) (entry : CasEntry) (p : ℕ) (after : Memory) : Type 0 where
   pub null : t.home 0 ≡ 0
   pub shared_holds : SharedHolds t s
@@ -189,7 +189,7 @@ module _ (t : Plan) (s : Shared) (c : ℕ) (core mirror : Registers) (entry : Ca
     alive : s1.owner (t.home (suc n)) ≡ Living
     alive = living t s1 (suc n) writes.shared_holds here full public live
 
-  -- what follows holds of the slot to retire, if it does where nothing is retired, and where a name is
+  -- `Follows` holds of the slot to retire, if it does both when nothing is retired and when a name is
   pub by_retirement : (Follows : ℕ → Type 0) → ((s' : Shared) → Done t s s' c core mirror entry p → to_retire entry.retire core ≡ 0 → Follows 0)
       → ((s' : Shared) (j n : ℕ) → Done t s s' c core mirror entry p → IsRetiring s' c (suc j) n None → to_retire entry.retire core ≡ suc j → Follows (suc j)) → Follows (to_retire entry.retire core)
   by_retirement Follows none one = by_name (to_drop entry.retire mirror) refl where

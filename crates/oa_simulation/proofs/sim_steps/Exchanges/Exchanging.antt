@@ -1,4 +1,4 @@
--- An exchange of the text succeeds in the core exactly where it does in the source.
+-- An exchange of the text succeeds in the core exactly if it does in the source.
 use Rattle.std.proofs.Common.{ℕ, zero, suc, ◌≡◌, ◌≢◌, ◌==◌, ◌+◌, ◌*◌, ◌⊎◌, ◌∙◌, ◌<◌, ◌&&◌, Bool, true, false, List, [], Option, Some, None, arith, inl, inr, ⊎_elim, sym, ap, subst, refl, if◌then◌else◌}
 use Rattle.std.specs.Prelude.{is_some, option_map, unwrap_or}
 use Rattle.std.proofs.lemmas.Bool.{cases_eq}
@@ -51,7 +51,7 @@ tests_same x y a b to from = ⊎_elim
     (λ (e : ((x == y) ≡ false) × (x ≢ y)). let k : a ≢ b = λ z. e.1 (from z) in grind (arith, nat_tests, k))
     (eqb_tells x y)
 
--- words of references are the same where slot and mark are
+-- words of references are the same if slot and mark are
 refs_tell : (x y a b : ℕ) (k l : Bool) → (x ≡ y → a ≡ b) → (a ≡ b → x ≡ y) → (ref_word x k == ref_word y l) ≡ ((a == b) && same_bool k l)
 refs_tell x y a b true true to from = tests_same (2 * x + 1) (2 * y + 1) a b (λ e. to (omega (arith, e))) (λ e. let z : x ≡ y = from e in omega (arith, z)) ∙ sym (and_true (a == b))
 refs_tell x y a b false false to from = tests_same (2 * x + 0) (2 * y + 0) a b (λ e. to (omega (arith, e))) (λ e. let z : x ≡ y = from e in omega (arith, z)) ∙ sym (and_true (a == b))
@@ -105,7 +105,7 @@ pub record Offers (t : Plan) (s : Shared) (c : ℕ) (core mirror : Registers) (e
   pub inside : IsPlaceInside t.text s.source mirror entry.place
   -- the target has the text's fields
   pub fields : t.target.fields ≡ t.text.fields
-  -- where a value is found, it is of the kind that is expected
+  -- if a value is found, it is of the kind that is expected
   pub alike : (v : Value) → found_at t.text.fields entry.place mirror s.source ≡ Some v → AreAlike v (value_in mirror entry.expected)
 
 some_if : (b : Bool) (A : Type 0) (x : A) → is_some (if b then Some x else None) ≡ b

@@ -39,12 +39,12 @@ use Rattle.norm_lang.specs.declared.text.Text.{Text}
 
 -- ---- the place
 
--- the words where a place is written
+-- the words after a place is written
 abbrev pub place_memory : Plan → (Word → ℕ) → Registers → Place → Value → Word → ℕ
 place_memory t memory mirror (places.Root z) v = store memory (Cell z) (word_for t.home v)
 place_memory t memory mirror (places.Field a f) v = store memory (FieldOf (t.home (reference_in mirror a).node) (place_of t.text.fields f)) (word_for t.home v)
 
--- both machines, where a place is written
+-- both machines after a place is written
 abbrev pub placed : Plan → Shared → Registers → Place → Value → Shared
 placed t s mirror p v = written s (place_memory t s.memory mirror p v) (with_place t.text.fields p mirror v s.source).nodes (with_place t.text.fields p mirror v s.source).roots
 
@@ -131,7 +131,7 @@ makes t s mirror entry after is = by_found (found_at t.text.fields entry.place m
   by_found None finds made = absurd (let never : None ≡ Some after = made in cc)
   by_found (Some found) finds made = by_test found finds (same_value found (value_in mirror entry.expected)) refl made
 
--- where a value is found the place is there
+-- if a value is found, the place is there
 pub place_there : (t : Plan) (s : Shared) (c : ℕ) (core mirror : Registers) (e : ℕ) (p : Place) (kind : FieldKind) (found : Value) → SharedHolds t s → PlaceOffered t s c core mirror e p → IsPlaceInside t.text s.source mirror p
     → place_kind t.text.fields t.text.roots p ≡ Some kind → found_at t.text.fields p mirror s.source ≡ Some found → PlaceThere t s c mirror p
 place_there t s c core mirror e (places.Root z) kind found f place inside is finds = values_inside s.source.nodes (root_kinds t.text) s.source.roots z kind f.typed.roots (root_at t.text z kind is)

@@ -21,7 +21,7 @@ use Rattle.oa_simulation.proofs.sim_relation.Names.{slot_by, has_slot_of, reside
 use Rattle.oa_simulation.proofs.sim_relation.Lists.{value_set, value_set_other}
 use Rattle.oa_simulation.proofs.sim_steps.Pools.Slots.{apart}
 
--- two steps of a caller, where the second's new links and guards are given
+-- two steps of a caller in one, given the links and guards of the second
 pub goes_compose : (t : Plan) (c : ℕ) (s s' s'' : Shared) → MayChange t c s s' → MayChange t c s' s''
     → ((n g : ℕ) → (link s'' n g ≡ link s n g) ⊎ Resident t s'' (link s'' n g))
     → ((r : ℕ) → s''.protects c r ≡ s.protects c r) → MayChange t c s s''

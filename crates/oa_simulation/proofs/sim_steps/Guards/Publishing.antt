@@ -75,7 +75,7 @@ told_calm calm Trusted A now live told = told
 told_calm calm Unchecked A now live told = told now
 told_calm calm Spoilt A now live told = absurd (live refl)
 
--- the name that a guard gets: none where it doesn't count
+-- the name that a guard gets: none if it doesn't count
 abbrev pub guard_name : (t : Plan) → Trail t → ℕ → ℕ
 guard_name t m k = if counts t m.walk m.path k then node_in m.mirror k else 0
 

@@ -36,7 +36,7 @@ use Rattle.oa_simulation.specs.sim_relation.Steps.{walked}
 
 -- ---- in a method
 
--- the caller is in a method where an access is pending
+-- the caller is in a method if an access is pending
 pub access_in_method : (op : Op) (wrapup : Bool) (started : Registers) (accessed : Bool) (call : Call) (there : Spot) → IsTrue (is_access_at (slice_get (code_of op wrapup) there.at))
     → runs_method (Some (stands_at op wrapup started accessed call there)) ≡ true
 access_in_method op false started accessed call there access = ap is_in_method (generator_access (slice_get op.generator there.at) there.at access)

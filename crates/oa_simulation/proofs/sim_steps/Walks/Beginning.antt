@@ -114,7 +114,7 @@ bit_free t x walk r erases call number wrap free =
     (λ (past : (is_spared (kept_by (Some walk.method.compiled)) r ≡ false) × (8 ≤ r)). past.0)
     (kept_bit walk.method.compiled r)
 
--- where nothing is left to clear at a restart
+-- if nothing is left to clear at a restart, each guard that isn't spared is 0
 pub restart_empty : (t : Plan) (s : Shared) (c : ℕ) (x : Caller) (walk : Walk t.target t.text) (wrapup : Bool) → ErasesTo t.target t.text → walk.method.wrapup ≡ wrapup → Begins t s c x walk
     → next_to_clear x.entry.hand.guards (restart_spares wrapup (op_of t.target x.entry)) ≡ None → EmptyBut t walk x
 restart_empty t s c x walk true erases is begins none r free = clear_none x.entry.hand.guards (kept_by (op_of t.target x.entry)) none r (bit_free t x walk r erases begins.call begins.number is free)

@@ -50,7 +50,7 @@ kept_settled t x walk r n k = ⊎_elim
     null_of true i z = z
     null_of false i z = refl
 
--- the caller where its wrap-up is about to begin
+-- the caller whose wrap-up is about to begin
 abbrev pub wrapped : Caller → ℕ → Caller
 wrapped x made = record x { names = settled_names x.names; entry = record x.entry { hand = wrap_up_hand made x.entry.hand } }
 

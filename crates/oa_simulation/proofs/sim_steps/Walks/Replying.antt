@@ -1,4 +1,4 @@
--- The end of a wrap-up: the reply, or the operation again. Where its run has made an access the source makes one too, which it owes;
+-- The end of a wrap-up: the reply, or the operation again. If its run has made an access, the source makes one too, which it owes;
 -- else it has come there before.
 use Rattle.std.proofs.Common.{ℕ, ◌≡◌, ◌∙◌, ◌&&◌, if◌then◌else◌, Bool, true, false, [], ◌∷◌, Some, inl, ⊎_elim, sym, ap, subst, refl}
 use Rattle.std.specs.Prelude.{slice_get, IsTrue}

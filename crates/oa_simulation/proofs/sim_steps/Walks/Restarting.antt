@@ -1,4 +1,4 @@
--- The source's method begins again where the core's does: at a failed check, and at the load of what was seen.
+-- The source's method begins again when the core's does: at a failed check, and at the load of what was seen.
 use Rattle.std.proofs.Common.{ℕ, ◌≡◌, ◌⊎◌, ◌∙◌, Bool, true, false, List, [], ◌∷◌, Option, Some, None, arith, inl, inr, sym, ap, subst, refl, if◌then◌else◌}
 use Rattle.std.specs.Prelude.{slice_get, option_map}
 use Rattle.norm_lang.specs.declared.text.Instr.{Instr}
@@ -52,7 +52,7 @@ use Rattle.oa_simulation.proofs.sim_steps.Walks.Beginning.{restarting, begins_ru
 
 -- ---- when a restart is enabled
 
--- a caller's operation, where it runs one, is this
+-- a caller's operation, if it runs one, is this
 abbrev RunsOp : Text → Op → SourceCaller → Type 0
 RunsOp text op caller = (running : Running) → caller.running ≡ Some running → slice_get text.ops running.op ≡ Some op
 
@@ -81,9 +81,9 @@ pub stand_runs : (text : Text) (op : Op) (wrapup : Bool) (started : Registers) (
 stand_runs text op wrapup started accessed call there is running runs =
     ap (λ (n : ℕ). slice_get text.ops n) (sym (ap (op_or call.number) runs) ∙ stand_number op wrapup started accessed call there) ∙ is
 
--- ---- the restart where it is enabled
+-- ---- the restart, if it is enabled
 
--- the source's method begins again, where it may, with a run of its own; else it stands where that would lead it
+-- the source's method begins again, if it may, with a run of its own; else it stands where that would lead it
 pub record Restarted (t : Plan) (s : Shared) (c : ℕ) (x : Caller) (walk : Walk t.target t.text) : Type 0 where
   pub source' : SourceCaller
   pub watch' : MethodRun
@@ -187,7 +187,7 @@ seen_kept t s c x walk why plan f b begins is empty sign r =
       plays = subst (λ (sign : Sign). Plays t.text c (sign ∷ (method_begun t.target t.setting.sizes (is_wrap_up why) y.entry).signs) (point s x) (point s ended.x')) (sym sign) (r.plays _ (point s ended.x') ended.plays);
     }
 
--- the source's restart where a run is about to begin
+-- the source's restart if a run is about to begin
 pub begins_restart : (t : Plan) (s : Shared) (c : ℕ) (x : Caller) (walk : Walk t.target t.text) → IsErased t.target t.text → Begins t s c x walk → Restarted t s c x walk
 begins_restart t s c x walk erased begins =
     restarts t s c x walk (Unit {0}) [] (record { at = 0; registers = walk.first }) walk.started false erased (record {
@@ -202,7 +202,7 @@ begins_restart t s c x walk erased begins =
       unmoved = λ wrap still. refl;
     })
 
--- and where it walks
+-- and if the caller is in one
 pub walks_restart : (t : Plan) (s : Shared) (c : ℕ) (x : Caller) (m : Trail t) → IsErased t.target t.text → Walks t s c x (spot_of x.entry.hand) m → Stands t x m → Restarted t s c x m.walk
 walks_restart t s c x m erased w stands = restarts t s c x m.walk (Calm s c x) m.path (spot_of x.entry.hand) m.mirror x.entry.hand.accessed erased (follows_of t s c x m w stands)
 

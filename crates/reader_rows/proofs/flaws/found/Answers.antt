@@ -10,7 +10,7 @@ returns c = (
   c.requires,
   λ source kinds fields roots within limits asks.
       subst (λ (code : List TargetInstr). AreFlawAnswers source c.args.wrapup code c.args.at c.args.instr.now c.flaws.result) c.target_code_of-code.ensures
-      (c.flaws.ensures source c.target_code_of-code.result.now (record {
+      (c.flaws.ensures.true_of source c.target_code_of-code.result.now (record {
         within = within;
         limits = (kinds, fields, roots, limits);
         asks = subst (λ (needs : Needs). AreNeeds source needs) (sym c.needs_of-needs.ensures) asks;

@@ -14,6 +14,6 @@ loop-blank-preserved c =
     let F = Fresh c.args.arena.now c.args.scripts.now in
     let popped = All-pop B c.loop-blank.blanks.items c.pop.new.self.items c.pop.result c.pop.ensures.items i.0 in
     let mine : B c.in-Some.blank = search rules in
-    let one : F c.in-Ok-enter.caller = fresh_entered c.args.arena.now c.args.room c.args.scripts.now c.in-Some.blank c.in-Ok-enter.caller c.requires.suit c.requires.rooms c.requires.short mine c.in-Ok-enter.ensures.ok in
+    let one : F c.in-Ok-enter.caller = fresh_entered c.args.arena.now c.args.room c.args.scripts.now c.in-Some.blank c.in-Ok-enter.caller c.requires.suit c.requires.rooms c.requires.least c.requires.short mine c.in-Ok-enter.ensures.ok in
     let all = subst (All F) (sym c.push_reserved.ensures.items) (All-push F c.loop-blank.callers.items c.in-Ok-enter.caller i.1 one) in
     (popped.0, all, grind (arith, common_steps), grind (arith, common_steps), grind (arith, common_steps))

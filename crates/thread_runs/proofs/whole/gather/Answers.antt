@@ -9,7 +9,7 @@ use Rattle.thread_runs.proofs.whole.gather.Goals as goal
 
 pub loop-caller-init : goal.loop-caller-init
 loop-caller-init c =
-    let E = λ (r : RoomyEntry). Ended c.args.arena.now.fixed c.args.scripts.now c.args.fuel r.core in
+    let E = Ended c.args.arena.now.fixed c.args.scripts.now c.args.fuel in
     let mine = c.requires.first in
     let e = c.rest-rest.ensures.is in
     let entries : c.rest-rest.result.entries ≡ c.args.first.entry ∷ [] = ap (λ (r : RestShown). r.entries) e in
@@ -33,7 +33,7 @@ loop-caller-preserved c =
     let F = Finished c.args.arena.now c.args.scripts.now c.args.fuel in
     let popped = All-pop F c.loop-caller.callers.items c.pop.new.self.items c.pop.result c.pop.ensures.items c.loop-caller.invariant.1 in
     let mine : F c.in-Some.caller = search rules in
-    let E = λ (r : RoomyEntry). Ended c.args.arena.now.fixed c.args.scripts.now c.args.fuel r.core in
+    let E = Ended c.args.arena.now.fixed c.args.scripts.now c.args.fuel in
     let e = c.merge-rest.ensures.is in
     let one = ap (λ (r : RestShown). r.entries) c.rest.ensures.is in
     let entries : c.merge-rest.result.entries ≡ c.loop-caller.rest.entries ++ c.in-Some.caller.entry ∷ [] = ap (λ (r : RestShown). r.entries) e ∙ ap (λ (l : List RoomyEntry). c.loop-caller.rest.entries ++ l) one in

@@ -6,7 +6,7 @@ use Rattle.caller_steps.specs.Wants.{wants}
 use Rattle.caller_steps.specs.After.{after}
 use Rattle.caller_steps.specs.Lawful.{MayBeTold}
 use Rattle.core_entries.specs.Callers.{BelongsTo, HasRoom}
-use Rattle.core_entries.specs.Running.{pair_of}
+use Rattle.core_ground.specs.Running.{pair_of}
 use Rattle.core_entries.proofs.Calling.{told, near, news, keeps, runs, room_kept}
 use Rattle.core_entries.proofs.entry.Entry.accept_by.Goals as goal
 

@@ -5,7 +5,8 @@ use Rattle.caller_steps.specs.Wants.{wants}
 use Rattle.caller_steps.specs.After.{after}
 use Rattle.caller_steps.specs.Lawful.{MayBeTold}
 use Rattle.core_entries.specs.Callers.{BelongsTo, HasRoom}
-use Rattle.core_entries.proofs.Calling.{runnable, told, near, news, keeps, runs, room_kept}
+use Rattle.core_ground.proofs.Runnable.{runnable}
+use Rattle.core_entries.proofs.Calling.{told, near, news, keeps, runs, room_kept}
 use Rattle.core_entries.proofs.entry.Entry.accept_in.Goals as goal
 
 pub accept-requires-clause-spare : goal.accept-requires-clause-spare

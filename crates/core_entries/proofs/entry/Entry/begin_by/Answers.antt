@@ -1,5 +1,5 @@
 use Rattle.std.proofs.Common.{rules, sym, ap, subst}
-use Rattle.core_entries.specs.Running.{pair_of}
+use Rattle.core_ground.specs.Running.{pair_of}
 use Rattle.core_entries.specs.Callers.{StaysWithAll}
 use Rattle.core_entries.proofs.Calling.{begins}
 use Rattle.core_entries.proofs.entry.Entry.begin_by.Goals as goal

@@ -5,7 +5,8 @@ use Rattle.caller_steps.specs.Entries.{RoomyEntry}
 use Rattle.caller_steps.specs.Wants.{wants}
 use Rattle.caller_steps.specs.Asking.{located_option}
 use Rattle.core_entries.specs.Callers.{BelongsTo}
-use Rattle.core_entries.proofs.Calling.{runnable, asks, wanted}
+use Rattle.core_ground.proofs.Runnable.{runnable}
+use Rattle.core_entries.proofs.Calling.{asks, wanted}
 use Rattle.core_entries.proofs.entry.Entry.pending_at.Goals as goal
 
 pub pending_at-requires-clause-can : goal.pending_at-requires-clause-can

@@ -7,7 +7,7 @@ use Rattle.caller_steps.specs.Entries.{RoomyEntry}
 use Rattle.caller_steps.specs.Wants.{wants}
 use Rattle.caller_steps.specs.Asking.{located_option}
 use Rattle.core_entries.specs.Callers.{BelongsTo, IsInRow}
-use Rattle.core_entries.specs.Running.{pair_of}
+use Rattle.core_ground.specs.Running.{pair_of}
 use Rattle.core_entries.proofs.Calling.{asks, wanted, row}
 use Rattle.core_entries.proofs.entry.Entry.pending_by.Goals as goal
 

@@ -6,7 +6,8 @@ use Rattle.caller_steps.specs.Entries.{RoomyEntry}
 use Rattle.caller_steps.specs.Wants.{wants}
 use Rattle.caller_steps.specs.Asking.{located_option}
 use Rattle.core_entries.specs.Callers.{BelongsTo, IsInRow}
-use Rattle.core_entries.proofs.Calling.{runnable, asks, wanted, row}
+use Rattle.core_ground.proofs.Runnable.{runnable}
+use Rattle.core_entries.proofs.Calling.{asks, wanted, row}
 use Rattle.core_entries.proofs.entry.Entry.pending_in.Goals as goal
 
 pub pending-requires-clause-can : goal.pending-requires-clause-can

@@ -5,7 +5,8 @@ use Rattle.caller_steps.specs.Wants.{wants}
 use Rattle.caller_steps.specs.Lawful.{MayBeTold}
 use Rattle.core_entries.specs.Callers.{BelongsTo}
 use Rattle.core_entries.specs.StepSigns.{step_signs}
-use Rattle.core_entries.proofs.Calling.{runnable, told, near, slots}
+use Rattle.core_ground.proofs.Runnable.{runnable}
+use Rattle.core_entries.proofs.Calling.{told, near, slots}
 use Rattle.core_entries.proofs.entry.Entry.signs_in.Goals as goal
 
 pub signs_after-requires-clause-near : goal.signs_after-requires-clause-near

@@ -1,7 +1,7 @@
 use Rattle.std.proofs.Common.{rules, ◌≡◌, subst, sym}
 use Rattle.barrier_check.specs.Paired.{Paired}
 use Rattle.caller_steps.specs.Entries.{Entry}
-use Rattle.core_entries.specs.Running.{pair_of}
+use Rattle.core_ground.specs.Running.{pair_of}
 use Rattle.word_runner.specs.table_rule.Plays.{Belonging}
 use Rattle.word_runner.proofs.arena.Arena.begin.Goals as goal
 

@@ -1,0 +1,76 @@
+//! Answers rows on callers of arenas. A row is a line of standard input; on standard output it stands as it is, and its answers are
+//! the lines after it. A line that begins with `#` is a heading and is written as it stands; an empty line is skipped.
+//! `lines NAME SPELLING` names lines that the rows below it begin with.
+//!
+//! - `alone ROOM, MOVE, .. < DOCUMENT` and `together ROOM, MOVE, .. < DOCUMENT`: the caller of a document's one script, or those of its
+//!   two, on the words of a table: `first operates INDEX BUDGET` with the call at this index of its script, by at most so many
+//!   steps, `first resumes BUDGET`, and the same of `second`; how each move ends, and at the end the phase and the entries.
+//! - `announced ROOM, MOVE, .. < DOCUMENT`: the same of two callers that run the document's text as it is, on an epoch arena.
+//! - `places ROOM, COUNT < DOCUMENT`: so many blanks enter, and then one more tries it twice.
+//! - `spent < DOCUMENT`: the phase at the end of a replay of the document's scripts without turns, whether each caller has a call that was
+//!   given its fuel of steps and hasn't ended, and its replies.
+//! - `sharing < DOCUMENT`: the document's scripts run on threads, and what their replies add up to.
+//!
+//! A hall, a document and a plan own much, and are dropped by a call of `drop`. That is one call to prove. A drop at the end of a scope
+//! would be proved part by part.
+#![tactic(auto)]
+
+mod announced;
+mod answer;
+mod budgets;
+mod hall;
+mod places;
+mod plans;
+mod sharing;
+mod spent;
+mod told;
+
+use crate::answer::answer;
+use row_spelling::{NamedLines, RowError, take_lines};
+use std::alloc::Global;
+use std::io::{self, BufRead, BufReader};
+use std::thread::Threads;
+
+/// Writes the lines that answer a row, or that it can't be answered.
+fn write_answer<R: Print + Threads + Sync>(
+    rt: &R,
+    alloc: Global,
+    named: &[NamedLines],
+    line: &str,
+) -> io::Result<()> {
+    let mut out = String::new(alloc);
+    match answer(rt, alloc, named, line, &mut out) {
+        Ok(()) => print!(rt; "{out}"),
+        Err(RowError::Wrong) => println!(rt; "wrong row"),
+        Err(RowError::Memory(error)) => Err(error.into()),
+    }
+}
+
+/// Takes a line, and writes it with its answer if it is a row.
+fn take_line<R: Print + Threads + Sync>(
+    rt: &R,
+    alloc: Global,
+    named: &mut Vec<NamedLines>,
+    line: &str,
+) -> io::Result<()> {
+    if line.is_empty() {
+        return Ok(());
+    }
+    if let Some(rest) = line.strip_prefix("lines ") {
+        return take_lines(rt, alloc, named, line, rest);
+    }
+    println!(rt; "{line}")?;
+    if line.starts_with('#') {
+        return Ok(());
+    }
+    write_answer(rt, alloc, named, line)
+}
+
+fn main(rt: HostRuntime) -> io::Result<()> {
+    let alloc = rt.alloc();
+    let mut named = Vec::new(alloc);
+    for line in BufReader::new(alloc, rt.reader())?.lines(alloc) {
+        take_line(&rt, alloc, &mut named, line?.as_str())?;
+    }
+    Ok(())
+}

@@ -1,4 +1,0 @@
-use Rattle.caller_rows.proofs.hall.open.Goals as goal
-
-pub invariant_of-result : goal.invariant_of-result
-invariant_of-result c = rw (c.in-Ok.ensures.arena) (c.requires.calls, c.requires.count)

@@ -1,9 +1,0 @@
-use Rattle.std.proofs.Common.{List, subst}
-use Rattle.norm_lang.specs.declared.text.FieldDecl.{FieldDecl}
-use Rattle.caller_parts.specs.FieldTables.{IsFieldTable}
-use Rattle.core_entries.specs.Running.{pair_of}
-use Rattle.core_entries.proofs.Keeping.{kept_is}
-use Rattle.core_entries.proofs.loaded.Ready.new.Goals as goal
-
-pub invariant_of-result : goal.invariant_of-result
-invariant_of-result c = (kept_is (pair_of c.args.runs).target c.table_of-rows.result c.kept.ensures.within c.table_of-rows.ensures, subst (λ (l : List FieldDecl). IsFieldTable l c.of-fields.result) c.fields.ensures c.of-fields.ensures)

@@ -1,5 +1,0 @@
-use Rattle.std.proofs.Common.{rules}
-use Rattle.core_entries.proofs.prepared.table_of.Goals as goal
-
-pub returns : goal.returns
-returns c = search rules

@@ -1,7 +1,0 @@
-use Rattle.core_entries.proofs.BareTexts.{bare_register}
-use Rattle.core_entries.proofs.running.bare_register.Goals as goal
-
-pub returns : goal.returns
-returns c =
-    bare_register c.args.normal.now c.args.op c.args.register c.is_kept.result c.kept.ensures.within
-    c.kept.ensures.normal c.requires.op c.is_kept.ensures

@@ -1,9 +1,0 @@
-use Rattle.std.proofs.Common.{◌+◌, arith}
-use Rattle.core_entries.specs.Starts.{bare_start}
-use Rattle.core_entries.proofs.Starting.{status_put}
-use Rattle.core_entries.proofs.words.put_statuses.Goals as goal
-
-pub loop-slot-preserved : goal.loop-slot-preserved
-loop-slot-preserved c =
-    status_put c.args.setting.now.sizes (bare_start c.args.setting.now) c.loop-slot.words c.push.new.self _ c.loop-slot.slot (c.slots-slots.result + 1) c.start_status.result
-    c.loop-slot.invariant (omega (arith, c.loop-slot-test.true)) c.in_ok-push.ensures.ok c.start_status.ensures

@@ -1,0 +1,5 @@
+mod Keeping
+pub mod Runnable
+mod Placing
+mod Starting
+mod Loading

@@ -1,0 +1,4 @@
+pub mod Running
+pub mod Tables
+pub mod Ports
+pub mod Starts

@@ -1,7 +1,0 @@
-use Rattle.std.proofs.Common.{◌≡◌, ◌++◌, drop, map}
-use Rattle.std.specs.Prelude.{decimal}
-use Rattle.norm_lang.specs.Spelling.{spaced}
-use Rattle.norm_lang.proofs.spelling.put_numbers.Given as goal
-
-abbrev pub invariant-loop-n : goal.invariant-loop-n
-invariant-loop-n l = l.out.items ++ spaced (map decimal (drop l.n-index l.numbers)) ≡ l.fn.out.items ++ spaced (map decimal l.numbers)
