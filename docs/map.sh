@@ -25,7 +25,7 @@ it. A name leads to the crate's notes on its inside, if it has some.
 judges the text (`norm_check`), compiles it (`barrier_compiler`), and makes the setting. `word_runner` makes an arena: the words of the row in a
 table, and a seat for each caller. `thread_runs` runs the callers on threads. Each step asks the caller's entry for an access (`core_entries` over
 `caller_steps` and `phase_pools`), makes it in the table, and hands the word back. `document_runs` reports the final state, `oa_cli` says it, and
-`script_driver` states what the report means. `oa epochs` leaves out the compiler: callers run the text as it is (`bare_targets`).
+`script_driver` states what the report means. `oa epochs` leaves out the compiler: callers run the text as it is (`bare` of `target_code`).
 HEAD
   while IFS= read -r line; do
     case $line in

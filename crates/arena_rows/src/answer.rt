@@ -5,11 +5,11 @@ ghost use Rattle.word_runner.specs.Shown.{CameFrom};
 
 use crate::announced::announced;
 use crate::budgets::budgets;
-use crate::hall::{Hall, open};
 use crate::places::places;
 use crate::plans::planned;
 use crate::sharing::sharing;
 use crate::spent::spent;
+use crate::words::{WordHall, open};
 use row_spelling::{NamedLines, RowError, number, spelled};
 use std::alloc::Global;
 use std::thread::Threads;
@@ -20,7 +20,7 @@ fn in_hall(
     alloc: Global,
     kind: &str,
     rest: &str,
-    hall: Hall,
+    hall: WordHall,
     blank: Blank,
     out: &mut String,
 ) -> Result<(), RowError>
@@ -37,7 +37,7 @@ fn in_hall(
 }
 
 /// A hall of the document, and its first blank.
-fn hall_of(alloc: Global, room: u32, bytes: &[u8]) -> Option<(Hall, Blank)>
+fn hall_of(alloc: Global, room: u32, bytes: &[u8]) -> Option<(WordHall, Blank)>
     ensures { IfSome result (λ p. CameFrom p.0 p.1.table p.1.fixed) }
 {
     open(alloc, planned(alloc, bytes)?, room)

@@ -1,82 +1,76 @@
-//! Arenas, each of a document whose scripts its callers follow call by call.
+//! Halls, whose callers go move by move.
 
-ghost use Rattle.std.specs.Prelude.{◌≡◌, true, length, IfSome, IsTrue};
-ghost use Rattle.caller_parts.specs.Calls.{is_call};
-ghost use Rattle.script_plans.specs.Plans.{IsReady};
-ghost use Rattle.word_runner.specs.table_rule.Rule.{callers_of};
-ghost use Rattle.word_runner.specs.Shown.{CameFrom};
+ghost use Rattle.std.specs.Prelude.{IfSome};
 
-use caller_steps::Call;
-use script_plans::{CallLists, Plan};
+use row_spelling::RowError;
 use std::alloc::Global;
-use std::marker::Model;
-use word_runner::{Arena, Blank, Caller, Final, Outcome, Rest};
+use word_runner::Outcome;
 
-/// An arena, and the scripts of its callers. It is seen as the arena.
-#[derive(Drop)]
-pub(crate) struct Hall {
-    arena: Arena,
-    scripts: CallLists,
-}
+/// An arena, and the scripts of its callers.
+pub(crate) trait Hall: Drop {
+    type Blank: Drop;
 
-impl Model for Hall {
-    ghost use Rattle.std.specs.Prelude.{◌≡◌, length, All};
-    ghost use Rattle.caller_parts.specs.Calls.{AreCalls};
-    ghost use Rattle.word_runner.specs.table_rule.Rule.{callers_of};
-    ghost use Rattle.word_runner.specs.Shown.{ArenaShown};
+    type Caller: Drop;
 
-    ghost Value = { ArenaShown };
+    type Rest: Drop;
 
-    ghost view = { λ h. h.arena };
+    /// A blank of the hall.
+    ghost has_blank: { Self → Self.Blank → Type 0 };
 
-    ghost invariant = { λ h. All (AreCalls h.arena.fixed.target.target) h.scripts × (length h.scripts ≡ callers_of h.arena.fixed) };
-}
+    /// A caller of the hall.
+    ghost has_caller: { Self → Self.Caller → Type 0 };
 
-/// A hall of a plan, and its first blank, with room for so many replies.
-pub(crate) fn open(alloc: Global, plan: Plan, room: u32) -> Option<(Hall, Blank)>
-    requires { IsReady plan }
-    ensures { IfSome result (λ p. CameFrom p.0 p.1.table p.1.fixed) }
-{
-    let Plan {
-        barred,
-        setting,
-        scripts,
-        fuel: _,
-    } = plan;
-    match Arena::make(alloc, barred, setting, room) {
-        Ok((arena, blank)) => Some((Hall { arena, scripts }, blank)),
-        Err(_) => None,
-    }
-}
+    /// Callers of the hall at rest.
+    ghost has_rest: { Self → Self.Rest → Type 0 };
 
-/// A blank becomes a caller.
-pub(crate) fn enter(hall: &Hall, blank: Blank) -> Option<Caller>
-    requires came { CameFrom hall.now blank.table blank.fixed }
-    ensures { IfSome result (λ caller. CameFrom hall.now caller.table caller.fixed) }
-{
-    match blank.enter(&hall.arena) {
-        Ok(caller) => Some(caller),
-        Err(_) => None,
-    }
-}
+    /// Another blank of the same hall.
+    fn second(&self, alloc: Global, blank: &mut Self::Blank) -> Option<Self::Blank>
+        requires came { has_blank self.now blank.old }
+        ensures came { has_blank self.now blank.new }
+        ensures other { IfSome result (λ other. has_blank self.now other) };
 
-/// Another blank of the same hall.
-pub(crate) fn second(alloc: Global, hall: &Hall, blank: &mut Blank) -> Option<Blank>
-    requires came { CameFrom hall.now blank.old.table blank.old.fixed }
-    ensures came { CameFrom hall.now blank.new.table blank.new.fixed }
-    ensures other { IfSome result (λ other. CameFrom hall.now other.table other.fixed) }
-{
-    match blank.split(alloc, &hall.arena) {
-        Ok(other) => Some(other),
-        Err(_) => None,
-    }
+    /// A blank becomes a caller.
+    fn enter(&self, blank: Self::Blank) -> Option<Self::Caller>
+        requires came { has_blank self.now blank }
+        ensures came { IfSome result (λ caller. has_caller self.now caller) };
+
+    /// The caller takes the call at this index of its script.
+    fn operate(&self, caller: &mut Self::Caller, index: usize, budget: u64) -> Option<Outcome>
+        requires came { has_caller self.now caller.old }
+        ensures came { has_caller self.now caller.new };
+
+    fn resume(&self, caller: &mut Self::Caller, budget: u64) -> Option<Outcome>
+        requires came { has_caller self.now caller.old }
+        ensures came { has_caller self.now caller.new };
+
+    /// Tells how a caller stands.
+    fn add_caller(&self, out: &mut String, caller: &Self::Caller) -> Result<(), RowError>;
+
+    /// One caller rests.
+    fn rest_one(&self, caller: Self::Caller) -> Self::Rest
+        requires came { has_caller self.now caller }
+        ensures came { has_rest self.now result };
+
+    /// Two callers rest.
+    fn rest_two(&self, one: Self::Caller, two: Self::Caller) -> Self::Rest
+        requires one { has_caller self.now one }
+        requires two { has_caller self.now two }
+        ensures came { has_rest self.now result };
+
+    /// Closes the hall, and tells the phase and the entries at the end. If a caller doesn't rest, the row is wrong.
+    fn close(self, rest: Self::Rest, out: &mut String) -> Result<(), RowError>
+        requires came { has_rest self rest };
 }
 
 /// A hall's two callers, if the second has entered too.
-fn paired(hall: &Hall, one: Caller, two: Option<Caller>) -> Option<(Caller, Caller)>
-    requires one { CameFrom hall.now one.table one.fixed }
-    requires two { IfSome two (λ caller. CameFrom hall.now caller.table caller.fixed) }
-    ensures { IfSome result (λ p. CameFrom hall.now p.0.table p.0.fixed × CameFrom hall.now p.1.table p.1.fixed) }
+fn paired<H: Hall>(
+    hall: &H,
+    one: H::Caller,
+    two: Option<H::Caller>,
+) -> Option<(H::Caller, H::Caller)>
+    requires one { H.has_caller hall.now one }
+    requires two { IfSome two (λ caller. H.has_caller hall.now caller) }
+    ensures { IfSome result (λ p. H.has_caller hall.now p.0 × H.has_caller hall.now p.1) }
 {
     match two {
         Some(two) => Some((one, two)),
@@ -85,75 +79,30 @@ fn paired(hall: &Hall, one: Caller, two: Option<Caller>) -> Option<(Caller, Call
 }
 
 /// Two blanks of a hall become callers.
-fn both_entered(hall: &Hall, blank: Blank, other: Blank) -> Option<(Caller, Caller)>
-    requires blank { CameFrom hall.now blank.table blank.fixed }
-    requires other { CameFrom hall.now other.table other.fixed }
-    ensures { IfSome result (λ p. CameFrom hall.now p.0.table p.0.fixed × CameFrom hall.now p.1.table p.1.fixed) }
+fn both_entered<H: Hall>(
+    hall: &H,
+    blank: H::Blank,
+    other: H::Blank,
+) -> Option<(H::Caller, H::Caller)>
+    requires blank { H.has_blank hall.now blank }
+    requires other { H.has_blank hall.now other }
+    ensures { IfSome result (λ p. H.has_caller hall.now p.0 × H.has_caller hall.now p.1) }
 {
-    let one = enter(hall, blank)?;
-    let two = enter(hall, other);
+    let one = hall.enter(blank)?;
+    let two = hall.enter(other);
     paired(hall, one, two)
 }
 
 /// A blank and another of its hall become callers.
-pub(crate) fn both(alloc: Global, hall: &Hall, blank: Blank) -> Option<(Caller, Caller)>
-    requires came { CameFrom hall.now blank.table blank.fixed }
-    ensures { IfSome result (λ p. CameFrom hall.now p.0.table p.0.fixed × CameFrom hall.now p.1.table p.1.fixed) }
+pub(crate) fn both<H: Hall>(
+    alloc: Global,
+    hall: &H,
+    blank: H::Blank,
+) -> Option<(H::Caller, H::Caller)>
+    requires came { H.has_blank hall.now blank }
+    ensures { IfSome result (λ p. H.has_caller hall.now p.0 × H.has_caller hall.now p.1) }
 {
     let mut blank = blank;
-    let other = second(alloc, hall, &mut blank)?;
+    let other = hall.second(alloc, &mut blank)?;
     both_entered(hall, blank, other)
-}
-
-impl Hall {
-    pub(crate) fn arena(&self) -> &Arena
-        ensures { result.now ≡ self.now }
-    {
-        &self.arena
-    }
-
-    fn call(&self, script: usize, index: usize) -> Option<Call>
-        ensures { IfSome result (λ call. is_call self.now.fixed.target.target call ≡ true) }
-    {
-        let script = self.scripts.items().get(script)?;
-        let call = script.items().get(index)?;
-        Some(*call)
-    }
-
-    /// The caller takes the call at this index of its script.
-    pub(crate) fn operate(&self, caller: &mut Caller, index: usize, budget: u64) -> Option<Outcome>
-        requires came { CameFrom self.now caller.old.table caller.old.fixed }
-        ensures came { CameFrom self.now caller.new.table caller.new.fixed }
-    {
-        if !caller.is_idle() || caller.spare() == 0 || budget == 0 {
-            return None;
-        }
-        let call = self.call(caller.number() as usize, index)?;
-        Some(caller.operate(&self.arena, call.op, call.args, budget))
-    }
-
-    pub(crate) fn resume(&self, caller: &mut Caller, budget: u64) -> Option<Outcome>
-        requires came { CameFrom self.now caller.old.table caller.old.fixed }
-        ensures came { CameFrom self.now caller.new.table caller.new.fixed }
-    {
-        if caller.is_idle() || budget == 0 {
-            return None;
-        }
-        Some(caller.resume(&self.arena, budget))
-    }
-
-    /// Whether all callers rest.
-    pub(crate) fn has_all(&self, rest: &Rest) -> bool
-        ensures { IsTrue result → length rest.now.entries ≡ callers_of self.now.fixed }
-    {
-        rest.count() as usize == self.scripts.items().len()
-    }
-
-    pub(crate) fn close(self, rest: Rest) -> Final
-        requires came { CameFrom self rest.table rest.fixed }
-        requires all { length rest.entries ≡ callers_of self.fixed }
-    {
-        let Hall { arena, scripts: _ } = self;
-        arena.close(rest)
-    }
 }

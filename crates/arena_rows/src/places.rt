@@ -3,7 +3,8 @@
 ghost use Rattle.std.specs.Prelude.{IfSome};
 ghost use Rattle.word_runner.specs.Shown.{CameFrom};
 
-use crate::hall::{Hall, enter, second};
+use crate::hall::Hall;
+use crate::words::WordHall;
 use row_spelling::RowError;
 use std::alloc::Global;
 use std::fmt::Write;
@@ -18,17 +19,17 @@ fn add_entered(out: &mut String, found: u32, caller: &Caller) -> Result<(), RowE
 /// Another blank enters, and it is told as whom.
 fn enter_one(
     alloc: Global,
-    hall: &Hall,
+    hall: &WordHall,
     blank: &mut Blank,
     out: &mut String,
 ) -> Result<(), RowError>
     requires came { CameFrom hall.now blank.old.table blank.old.fixed }
     ensures came { CameFrom hall.now blank.new.table blank.new.fixed }
 {
-    match second(alloc, hall, blank) {
+    match hall.second(alloc, blank) {
         Some(other) => {
             let found = other.found();
-            match enter(hall, other) {
+            match hall.enter(other) {
                 Some(caller) => add_entered(out, found, &caller),
                 None => Err(RowError::Wrong),
             }
@@ -39,7 +40,7 @@ fn enter_one(
 
 fn enter_some(
     alloc: Global,
-    hall: &Hall,
+    hall: &WordHall,
     blank: &mut Blank,
     count: u64,
     out: &mut String,
@@ -68,7 +69,7 @@ fn add_none_twice(
 }
 
 /// A blank finds no place, and is handed back.
-fn find_none(hall: &Hall, blank: Blank) -> Option<NoPlace>
+fn find_none(hall: &WordHall, blank: Blank) -> Option<NoPlace>
     requires { CameFrom hall.now blank.table blank.fixed }
     ensures { IfSome result (λ none. CameFrom hall.now none.blank.table none.blank.fixed) }
 {
@@ -79,7 +80,7 @@ fn find_none(hall: &Hall, blank: Blank) -> Option<NoPlace>
 }
 
 /// A blank finds all places taken, and so again when it is handed back.
-fn find_none_twice(hall: &Hall, blank: Blank, out: &mut String) -> Result<(), RowError>
+fn find_none_twice(hall: &WordHall, blank: Blank, out: &mut String) -> Result<(), RowError>
     requires { CameFrom hall.now blank.table blank.fixed }
 {
     let first = blank.found();
@@ -97,7 +98,7 @@ fn find_none_twice(hall: &Hall, blank: Blank, out: &mut String) -> Result<(), Ro
 /// So many other blanks enter; then this one tries it twice.
 pub(crate) fn places(
     alloc: Global,
-    hall: &Hall,
+    hall: &WordHall,
     blank: Blank,
     count: u64,
     out: &mut String,

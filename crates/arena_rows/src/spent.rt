@@ -3,8 +3,8 @@
 ghost use Rattle.script_plans.specs.Plans.{IsReady};
 
 use crate::plans::planned;
-use crate::told::add_replies;
 use oa_core::{CoreState, Entry, replay};
+use row_replies::add_replies;
 use row_spelling::RowError;
 use script_plans::Plan;
 use std::alloc::Global;

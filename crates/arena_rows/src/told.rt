@@ -1,6 +1,7 @@
-//! How outcomes, callers, entries and replies are told.
+//! How outcomes, callers and entries are told.
 
 use caller_steps::Reply;
+use row_replies::add_replies;
 use row_spelling::RowError;
 use std::alloc::AllocError;
 use std::fmt::Write;
@@ -27,24 +28,6 @@ pub(crate) fn add_caller(
 ) -> Result<(), RowError> {
     let state = if is_idle { "idle" } else { "runs" };
     Ok(writeln!(out, "caller {number} {state}, spare {spare}")?)
-}
-
-fn add_reply(out: &mut String, reply: Reply) -> Result<(), AllocError> {
-    match reply {
-        Reply::Number(number) => write!(out, " Number({number})"),
-        Reply::Nothing => out.push_str(" Nothing"),
-        Reply::Full => out.push_str(" Full"),
-        Reply::Phases(phase) => write!(out, " Phases({phase})"),
-    }
-}
-
-/// Replies, to the end of a line.
-pub(crate) fn add_replies(out: &mut String, replies: &[Reply]) -> Result<(), AllocError> {
-    out.push_str("replies")?;
-    for reply in replies {
-        add_reply(out, *reply)?;
-    }
-    out.push('\n')
 }
 
 /// What an entry has counted, and its replies.

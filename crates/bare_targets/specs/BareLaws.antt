@@ -11,12 +11,12 @@ use Rattle.target_code.specs.declared.target.TargetInstr.{TargetInstr}
 use Rattle.target_code.specs.declared.target.TargetInstr.TheVariants.{Plain}
 use Rattle.target_code.specs.LocalCode.{target_run}
 use Rattle.target_code.specs.Paths.{target_code_of}
-use Rattle.target_laws.specs.target_runs.Runnable.{IsRunnable}
+use Rattle.target_laws.specs.target_runs.Runnable.{MayBeWalked}
 use Rattle.target_code.specs.Bare.{bare_op, bare}
 
 -- callers may run each text in normal form within the limits as it is
 abbrev pub BareTextsAreRunnable : Type 0
-BareTextsAreRunnable = (text : Text) → IsWithinLimits text → IsNormal text → IsRunnable (bare text) text
+BareTextsAreRunnable = (text : Text) → IsWithinLimits text → IsNormal text → MayBeWalked (bare text) text
 
 -- the operations are those of the text, by the same numbers
 abbrev pub BareOpsAreTheTexts : Type 0

@@ -147,6 +147,9 @@ impl Notes {
     }
 
     /// The checks beside the instruction at a place of a method. Afterwards the notes are those for the next one.
+    ///
+    /// # Errors
+    /// `AllocError` if memory runs out.
     pub fn checks(&mut self, code: &[Instr], at: usize, instr: &Instr) -> Result<Checks, AllocError>
         requires { at < length code.now }
         ensures same { IfOk result (λ checks. record { instr = instr.now; before = checks.before; after = checks.after } ≡ marked code.now at self.old instr.now) }

@@ -6,9 +6,10 @@ ghost use Rattle.core_entries.specs.Callers.{BelongsTo};
 ghost use Rattle.core_entries.specs.Steps.{WordsSound};
 
 use crate::steps::{begin, entry_of, step, words_of};
-use crate::told::{add_access, add_entry, add_replies};
+use crate::told::{add_access, add_entry};
 use barrier_check::Barred;
 use oa_core::{Entry, PlainWords, Setting};
+use row_replies::add_replies;
 use row_spelling::{Deed, RowError, Who, moves_in};
 use std::alloc::Global;
 

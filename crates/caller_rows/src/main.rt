@@ -22,50 +22,30 @@ mod targets;
 mod told;
 
 use crate::answer::answer;
-use row_spelling::{NamedLines, RowError, take_lines};
+use row_spelling::{NamedLines, take_line, write_answer};
 use std::alloc::Global;
 use std::io::{self, BufRead, BufReader};
 
-/// Writes the lines that answer a row, or that it can't be answered.
-fn write_answer<R: Print>(
-    rt: &R,
-    alloc: Global,
-    named: &[NamedLines],
-    line: &str,
-) -> io::Result<()> {
-    let mut out = String::new(alloc);
-    match answer(alloc, named, line, &mut out) {
-        Ok(()) => print!(rt; "{out}"),
-        Err(RowError::Wrong) => println!(rt; "wrong row"),
-        Err(RowError::Memory(error)) => Err(error.into()),
-    }
-}
-
-/// Takes a line, and writes it with its answer if it is a row.
-fn take_line<R: Print>(
+/// Takes a line, and answers it if it is a row.
+fn answer_line<R: Print>(
     rt: &R,
     alloc: Global,
     named: &mut Vec<NamedLines>,
     line: &str,
 ) -> io::Result<()> {
-    if line.is_empty() {
+    if !take_line(rt, alloc, named, line)? {
         return Ok(());
     }
-    if let Some(rest) = line.strip_prefix("lines ") {
-        return take_lines(rt, alloc, named, line, rest);
-    }
-    println!(rt; "{line}")?;
-    if line.starts_with('#') {
-        return Ok(());
-    }
-    write_answer(rt, alloc, named, line)
+    let mut out = String::new(alloc);
+    let answered = answer(alloc, named, line, &mut out);
+    write_answer(rt, answered, &out)
 }
 
 fn main(rt: HostRuntime) -> io::Result<()> {
     let alloc = rt.alloc();
     let mut named = Vec::new(alloc);
     for line in BufReader::new(alloc, rt.reader())?.lines(alloc) {
-        take_line(&rt, alloc, &mut named, line?.as_str())?;
+        answer_line(&rt, alloc, &mut named, line?.as_str())?;
     }
     Ok(())
 }

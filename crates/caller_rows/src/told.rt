@@ -1,6 +1,5 @@
-//! How accesses, entries and replies are told.
+//! How accesses and entries are told.
 
-use caller_steps::Reply;
 use oa_core::Entry;
 use phase_pools::access::Access;
 use std::alloc::AllocError;
@@ -37,22 +36,4 @@ pub(crate) fn add_entry(out: &mut String, entry: &Entry) -> Result<(), AllocErro
         out,
         "{state}, replies {replies}, spare {spare}, claims {claims}, restarts {restarts}"
     )
-}
-
-fn add_reply(out: &mut String, reply: Reply) -> Result<(), AllocError> {
-    match reply {
-        Reply::Number(number) => write!(out, " Number({number})"),
-        Reply::Nothing => out.push_str(" Nothing"),
-        Reply::Full => out.push_str(" Full"),
-        Reply::Phases(phase) => write!(out, " Phases({phase})"),
-    }
-}
-
-/// Replies, to the end of a line.
-pub(crate) fn add_replies(out: &mut String, replies: &[Reply]) -> Result<(), AllocError> {
-    out.push_str("replies")?;
-    for reply in replies {
-        add_reply(out, *reply)?;
-    }
-    out.push('\n')
 }

@@ -367,7 +367,7 @@ restart_cleared target sizes e = restarted target sizes (with_hand e (unguarded 
 abbrev pub then_cleared : Target → Sizes → AfterClear → Entry → Entry
 then_cleared target sizes next e = cleared target sizes next (with_hand e (unguarded (clear_next target next e) e.hand))
 
--- a claim is counted if its exchange takes the slot
+-- a claim is counted exactly if its exchange takes the slot
 abbrev pub claim_counted : Bool → Entry → Entry
 claim_counted takes e = record e { counts = record e.counts { claims = if takes then one_more e.counts.claims else e.counts.claims } }
 

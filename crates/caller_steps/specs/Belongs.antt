@@ -80,8 +80,8 @@ HandBelongs setting hand = record {
 
 -- a run of the method has come to a place: it is one of its instructions, a path leads there, and what is surely fresh
 -- there isn't null
-abbrev pub Reaches : List TargetInstr → ℕ → Registers → Type 0
-Reaches code at registers = record {
+abbrev pub HasComeTo : List TargetInstr → ℕ → Registers → Type 0
+HasComeTo code at registers = record {
   inside : at < length code;
   path : (path : List ℕ) × TargetPath code path at;
   fresh : (r : ℕ) → IsSurelyFreshInTarget code (Ref r) at → (reference_in registers (Ref r)).node ≢ 0;
@@ -257,7 +257,7 @@ Stands target setting e (Announces announcing) = (setting.reclamation ≡ Epochs
 -- if a call runs, the entry has come to its instruction
 abbrev pub RunsAt : Target → Entry → Routine → Type 0
 RunsAt target e Idle = e.hand.at < length (code_in target e)
-RunsAt target e _ = Reaches (code_in target e) e.hand.at e.hand.registers
+RunsAt target e _ = HasComeTo (code_in target e) e.hand.at e.hand.registers
 
 -- and its registers name slots of kinds that they may have there; in a wrap-up those of its start name slots of kinds that they may have at
 -- its first instruction

@@ -3,7 +3,7 @@ use Rattle.std.proofs.Common.{◌≡◌, ◌≤◌, ◌<◌, ℕ, ◌+◌, ◌�
 use Rattle.std.proofs.lemmas.List.{length-map, length-replicate}
 use Rattle.std.proofs.lemmas.Option.{slice_get-map, slice_get_past, slice_get_cases}
 use Rattle.std.specs.Prelude.{slice_get, option_map, replicate, is_none, unwrap_or}
-use Rattle.target_laws.specs.target_runs.Runnable.{IsRunnable}
+use Rattle.target_laws.specs.target_runs.Runnable.{MayBeWalked}
 use Rattle.source_machine.specs.declared.event.SourceEvent.{SourceEvent}
 use Rattle.norm_lang.specs.declared.reply.SourceReply.{SourceReply}
 use Rattle.source_machine.specs.declared.state.SourceCaller.{SourceCaller}
@@ -59,7 +59,7 @@ module _ (pair : Paired) (setting : Setting) (sound : IsSound pair) (own : IsSet
   abbrev machine : SourceMachine
   machine = (shadow pair.target pair.source setting events).machine
 
-  may : IsRunnable pair.target pair.source
+  may : MayBeWalked pair.target pair.source
   may = record { small = sound.small; normal = sound.normal; within = sound.within; erases = sound.barred.erases }
 
   stood : Stood pair.target pair.source setting events state

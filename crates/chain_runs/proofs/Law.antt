@@ -13,7 +13,7 @@ use Rattle.phase_pools.specs.Accesses.{WordAccess, Loads, word_of}
 use Rattle.chain_laws.specs.Chains.{stamp}
 use Rattle.chain_laws.proofs.Told.{pool_tells}
 use Rattle.source_machine.specs.Proper.{IsProper}
-use Rattle.target_laws.specs.target_runs.Runnable.{IsRunnable}
+use Rattle.target_laws.specs.target_runs.Runnable.{MayBeWalked}
 use Rattle.caller_parts.specs.declared.setting.Reclamation.TheVariants.{Optimistic}
 use Rattle.caller_parts.specs.Settings.{Setting, Fits, IsSetting}
 use Rattle.caller_steps.specs.Asking.{NewsFit}
@@ -52,7 +52,7 @@ from_to target setting before between all state later came goes split =
 small : (word : ℕ) → (head_parts word).top < 8192
 small word = omega arith
 
-module _ (target : Target) (text : Text) (setting : Setting) (runs : IsRunnable target text) (barred : IsBarred target text) (own : IsSetting setting) (fits : Fits target setting) (optimistic : setting.reclamation ≡ Optimistic) (proper : IsProper text) where
+module _ (target : Target) (text : Text) (setting : Setting) (runs : MayBeWalked target text) (barred : IsBarred target text) (own : IsSetting setting) (fits : Fits target setting) (optimistic : setting.reclamation ≡ Optimistic) (proper : IsProper text) where
   are : AreKinds setting.sizes
   are = own.sizes.8
 

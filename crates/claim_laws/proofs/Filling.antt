@@ -11,7 +11,7 @@ use Rattle.target_code.specs.declared.target.Target.{Target}
 use Rattle.target_code.specs.TargetLimits.{IsTargetWithinLimits}
 use Rattle.norm_lang.specs.declared.text.Text.{Text}
 use Rattle.norm_lang.specs.declared.reply.SourceReply.TheVariants as replies
-use Rattle.target_laws.specs.target_runs.Runnable.{IsRunnable}
+use Rattle.target_laws.specs.target_runs.Runnable.{MayBeWalked}
 use Rattle.target_laws.proofs.target_runs.Limited.{parts}
 use Rattle.target_laws.proofs.OneKind.{roots_are}
 use Rattle.oa_words.specs.declared.packed.Kind.TheVariants as statuses
@@ -182,7 +182,7 @@ module _ {target : Target} {setting : Setting} (within : IsTargetWithinLimits ta
 
 -- ---- every state
 
-pub reached_pool : (target : Target) (text : Text) (setting : Setting) → IsRunnable target text → IsSetting setting → Fits target setting → (state : CoreState) → Reachable target setting state → IsPooled target setting state
+pub reached_pool : (target : Target) (text : Text) (setting : Setting) → MayBeWalked target text → IsSetting setting → Fits target setting → (state : CoreState) → Reachable target setting state → IsPooled target setting state
 reached_pool target text setting runs own fits state reached = induct_reached target setting (IsPooled target setting) (record { slots = []; frontier = ready_from runs.within own fits; pool = start_pool runs.within own fits })
     (λ now later event was pool goes. event_pool target setting (methods target text runs) (setting_sane setting own) fits now later event (states_are_sound target text setting now runs own fits was) pool goes) state reached
 

@@ -5,7 +5,7 @@ use Rattle.norm_lang.specs.declared.text.Text.{Text}
 use Rattle.norm_lang.specs.declared.reply.SourceReply.{SourceReply}
 use Rattle.norm_lang.specs.declared.reply.SourceReply.TheVariants as replies
 use Rattle.target_code.specs.declared.target.Target.{Target}
-use Rattle.target_laws.specs.target_runs.Runnable.{IsRunnable}
+use Rattle.target_laws.specs.target_runs.Runnable.{MayBeWalked}
 use Rattle.phase_pools.specs.Accesses.{WordAccess}
 use Rattle.phase_pools.specs.Pools.{Claim, claim_accepts, claim_wants, claim_wants_at}
 use Rattle.caller_parts.specs.declared.call.Replied.{Replied}
@@ -59,7 +59,7 @@ Called target setting = Stands target setting (HasRested target) (IsRunning targ
 -- ---- a step of a claim
 
 -- a claim's step ends with a slot of the row, if with any
-pub claim_on_step : (target : Target) (text : Text) (setting : Setting) → IsRunnable target text → IsSetting setting → Fits target setting → (past : List CoreEvent) (state : CoreState) (k : ℕ) (d : Entry) (a : WordAccess) (claim : Claim)
+pub claim_on_step : (target : Target) (text : Text) (setting : Setting) → MayBeWalked target text → IsSetting setting → Fits target setting → (past : List CoreEvent) (state : CoreState) (k : ℕ) (d : Entry) (a : WordAccess) (claim : Claim)
     → IsStepOf target setting past state k d a → d.routine ≡ Claims claim → (let turn = claim_accepts setting.sizes setting.last claim (found_by setting state a) in ClaimOn setting d.number turn.ended turn.claim)
 claim_on_step target text setting runs own fits past state k d a claim step is =
     let stands : StandsAt target setting d (Claims claim) = subst (StandsAt target setting d) is belongs.stands in
@@ -77,7 +77,7 @@ claim_on_step target text setting runs own fits past state k d a claim step is =
 
 -- ---- all callers
 
-module _ (target : Target) (text : Text) (setting : Setting) (runs : IsRunnable target text) (own_setting : IsSetting setting) (fits : Fits target setting) (few : HasFewNews target) (never : PublishedEnd target setting) where
+module _ (target : Target) (text : Text) (setting : Setting) (runs : MayBeWalked target text) (own_setting : IsSetting setting) (fits : Fits target setting) (few : HasFewNews target) (never : PublishedEnd target setting) where
   -- a caller's step
   keeps : StepKeeps target setting (HasRested target) (IsRunning target setting)
   keeps past state k d a steps step own was =

@@ -11,7 +11,7 @@ use Rattle.norm_lang.specs.Flow.{formed_successors, goes_to, goes_from, IsSucces
 use Rattle.norm_lang.specs.RegisterUse.{is_register_named, registers_named, destination, sets, set_after}
 use Rattle.norm_lang.specs.Freshness.{fresh_after}
 use Rattle.norm_lang.specs.PathRules.{looks, looks_at, is_blind}
-use Rattle.closed_tables.specs.Tables.{Tables, among, registers_at, number_at, keeps_may_be_fresh, keeps_surely_fresh, keeps_set, keeps_level, keeps_rank, keeps_tables, all_from, is_closed}
+use Rattle.closed_tables.specs.Tables.{Tables, among, registers_at, table_number, keeps_may_be_fresh, keeps_surely_fresh, keeps_set, keeps_level, keeps_rank, keeps_tables, all_from, is_closed}
 use Rattle.closed_tables.proofs.Tests.{and_left, and_right, other_holds, all_among, all_next, all_places}
 use Rattle.closed_tables.proofs.Along.{along, climbs, Blindly, blind_leads}
 
@@ -146,22 +146,22 @@ lt_from : (a b : ℕ) → nat_lt a b ≡ true → a < b
 lt_from a b e = grind (arith, nat_tests, e)
 
 level_by : (t : Tables) (code : List Instr) → is_closed t code ≡ true → (at next : ℕ) (found : Option Instr) → slice_get code at ≡ found → IsTrue (goes_from found at next)
-    → number_at t.level at ≤ number_at t.level next
+    → table_number t.level at ≤ table_number t.level next
 level_by t code closed at next None get goes = absurd (let z : false ≡ true = goes in cc)
 level_by t code closed at next (Some i) get goes =
-    let le = nat_le (number_at t.level at) (number_at t.level next) in
-    le_from (number_at t.level at) (number_at t.level next)
-    (and_left le (not (is_new i) || nat_lt (number_at t.level at) (number_at t.level next)) (keeps_at t code closed at next i get goes).level)
+    let le = nat_le (table_number t.level at) (table_number t.level next) in
+    le_from (table_number t.level at) (table_number t.level next)
+    (and_left le (not (is_new i) || nat_lt (table_number t.level at) (table_number t.level next)) (keeps_at t code closed at next i get goes).level)
 
 level_new : (t : Tables) (code : List Instr) (i : Instr) → is_closed t code ≡ true → is_new i ≡ true → (at next : ℕ) (found : Option Instr) → found ≡ Some i → slice_get code at ≡ found
-    → IsTrue (goes_from found at next) → number_at t.level at < number_at t.level next
+    → IsTrue (goes_from found at next) → table_number t.level at < table_number t.level next
 level_new t code i closed new at next None same get goes = absurd (let z : false ≡ true = goes in cc)
 level_new t code i closed new at next (Some j) same get goes =
     let e : j ≡ i = (let z : Some j ≡ Some i = same in cc) in
-    let le = nat_le (number_at t.level at) (number_at t.level next) in
-    lt_from (number_at t.level at) (number_at t.level next)
-    (not_or (is_new j) (nat_lt (number_at t.level at) (number_at t.level next))
-    (and_right le (not (is_new j) || nat_lt (number_at t.level at) (number_at t.level next)) (keeps_at t code closed at next j get goes).level)
+    let le = nat_le (table_number t.level at) (table_number t.level next) in
+    lt_from (table_number t.level at) (table_number t.level next)
+    (not_or (is_new j) (nat_lt (table_number t.level at) (table_number t.level next))
+    (and_right le (not (is_new j) || nat_lt (table_number t.level at) (table_number t.level next)) (keeps_at t code closed at next j get goes).level)
     (ap is_new e ∙ new))
 
 less_than_itself : (n : ℕ) → n < n → ⊥
@@ -173,18 +173,18 @@ new_once t code at i closed get new cycle = of cycle.0 cycle.1 where
   of : (path : List ℕ) → IsCycle code path at → ⊥
   of [] is = is
   of (last ∷ path) is =
-      less_than_itself (number_at t.level at)
-      (climbs (IsSuccessor code) (number_at t.level) at
+      less_than_itself (table_number t.level at)
+      (climbs (IsSuccessor code) (table_number t.level) at
       (λ here next goes. level_by t code closed here next (slice_get code here) refl goes.0)
       (λ next goes. level_new t code i closed new at next (slice_get code at) get refl goes.0)
       last path at is)
 
 rank_by : (t : Tables) (code : List Instr) → is_closed t code ≡ true → (at next : ℕ) (found : Option Instr) → slice_get code at ≡ found → IsTrue (goes_from found at next)
-    → not (looks_at found) ≡ true → number_at t.rank at < number_at t.rank next
+    → not (looks_at found) ≡ true → table_number t.rank at < table_number t.rank next
 rank_by t code closed at next None get goes blind = absurd (let z : false ≡ true = goes in cc)
 rank_by t code closed at next (Some i) get goes blind =
-    lt_from (number_at t.rank at) (number_at t.rank next)
-    (other_holds (looks i) (nat_lt (number_at t.rank at) (number_at t.rank next)) (keeps_at t code closed at next i get goes).rank (not-true (looks i) blind))
+    lt_from (table_number t.rank at) (table_number t.rank next)
+    (other_holds (looks i) (nat_lt (table_number t.rank at) (table_number t.rank next)) (keeps_at t code closed at next i get goes).rank (not-true (looks i) blind))
 
 at_most : (a b : ℕ) → a < b → a ≤ b
 at_most a b lt = omega (arith, lt)
@@ -193,8 +193,8 @@ at_most a b lt = omega (arith, lt)
 pub cycle_looks : (t : Tables) (code : List Instr) (at : ℕ) (path : List ℕ) → is_closed t code ≡ true → IsCycle code path at → IsTrue (is_blind code path) → ⊥
 cycle_looks t code at [] closed cycle blind = cycle
 cycle_looks t code at (last ∷ path) closed cycle blind =
-    less_than_itself (number_at t.rank at)
-    (climbs (Blindly code) (number_at t.rank) at
-    (λ here next goes. at_most (number_at t.rank here) (number_at t.rank next) (rank_by t code closed here next (slice_get code here) refl goes.0.0 goes.1))
+    less_than_itself (table_number t.rank at)
+    (climbs (Blindly code) (table_number t.rank) at
+    (λ here next goes. at_most (table_number t.rank here) (table_number t.rank next) (rank_by t code closed here next (slice_get code here) refl goes.0.0 goes.1))
     (λ next goes. rank_by t code closed at next (slice_get code at) refl goes.0.0 goes.1)
     last path at (blind_leads code at (last ∷ path) at cycle blind))

@@ -39,8 +39,8 @@ among r registers = list_any (same_register r) registers
 abbrev pub registers_at : List (List Reg) → ℕ → List Reg
 registers_at table at = unwrap_or (slice_get table at) []
 
-abbrev pub number_at : List ℕ → ℕ → ℕ
-number_at table at = unwrap_or (slice_get table at) 0
+abbrev pub table_number : List ℕ → ℕ → ℕ
+table_number table at = unwrap_or (slice_get table at) 0
 
 -- a test of each instruction and its place, from a place on
 abbrev pub all_from : (ℕ → Instr → Bool) → ℕ → List Instr → Bool
@@ -64,11 +64,11 @@ keeps_set t at i next = list_all (λ r. set_after r i (among r (registers_at t.s
 
 abbrev pub keeps_level : Tables → ℕ → Instr → ℕ → Bool
 keeps_level t at i next =
-    nat_le (number_at t.level at) (number_at t.level next)
-    && (not (is_new i) || nat_lt (number_at t.level at) (number_at t.level next))
+    nat_le (table_number t.level at) (table_number t.level next)
+    && (not (is_new i) || nat_lt (table_number t.level at) (table_number t.level next))
 
 abbrev pub keeps_rank : Tables → ℕ → Instr → ℕ → Bool
-keeps_rank t at i next = looks i || nat_lt (number_at t.rank at) (number_at t.rank next)
+keeps_rank t at i next = looks i || nat_lt (table_number t.rank at) (table_number t.rank next)
 
 -- an instruction at a place keeps the tables on the way to the next place
 abbrev pub keeps_tables : Tables → ℕ → Instr → ℕ → Bool

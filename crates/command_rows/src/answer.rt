@@ -31,7 +31,7 @@ fn message(
     source: &RememberingSource<MemorySource>,
 ) -> Result<String, AllocError> {
     let mut errors = MemorySink::new(alloc, 4096, Vec::new(alloc));
-    match explain_status(&mut errors, source, status) {
+    match explain_status(alloc, &mut errors, source, status) {
         Ok(()) => one_line(alloc, errors.bytes()),
         Err(_) => one_line(alloc, errors.bytes()),
     }

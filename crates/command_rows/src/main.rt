@@ -13,7 +13,7 @@ mod world;
 
 use crate::answer::answer;
 use crate::world::World;
-use row_spelling::{NamedLines, RowError, take_lines};
+use row_spelling::{NamedLines, RowError, take_line};
 use std::alloc::Global;
 use std::io::{self, BufRead, BufReader};
 use std::thread::Threads;
@@ -33,26 +33,19 @@ fn take_row<R: Print + Threads + Sync>(
     }
 }
 
-/// Takes a line, and writes a row with its answer.
-fn take_line<R: Print + Threads + Sync>(
+/// Takes a line, and answers it if it is a row, or remembers the world that it tells.
+fn answer_line<R: Print + Threads + Sync>(
     rt: &R,
     alloc: Global,
     world: &mut World,
     named: &mut Vec<NamedLines>,
     line: &str,
 ) -> io::Result<()> {
-    if line.is_empty() {
+    if !take_line(rt, alloc, named, line)? {
         return Ok(());
     }
-    if let Some(rest) = line.strip_prefix("lines ") {
-        return take_lines(rt, alloc, named, line, rest);
-    }
-    rt.println(line)?;
     if let Some(rest) = line.strip_prefix("world ") {
         *world = World::of_line(rest);
-        return Ok(());
-    }
-    if line.starts_with('#') {
         return Ok(());
     }
     take_row(rt, alloc, *world, named, line)
@@ -63,7 +56,7 @@ fn main(rt: HostRuntime) -> io::Result<()> {
     let mut named = Vec::new(alloc);
     let mut world = World::KIND;
     for line in BufReader::new(alloc, rt.reader())?.lines(alloc) {
-        take_line(&rt, alloc, &mut world, &mut named, line?.as_str())?;
+        answer_line(&rt, alloc, &mut world, &mut named, line?.as_str())?;
     }
     Ok(())
 }

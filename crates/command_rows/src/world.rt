@@ -1,5 +1,7 @@
 //! What the source gives and the sink takes.
 
+use row_spelling::cut;
+
 /// How many bytes the source gives and the sink takes a call, the numbers of the calls that fail, from 1, with 0 for none, and
 /// whether a row is answered by what standard error says in place of standard output.
 #[derive(Clone, Copy)]
@@ -8,14 +10,6 @@ pub(crate) struct World {
     pub(crate) failing_read: u64,
     pub(crate) failing_write: u64,
     pub(crate) messages: bool,
-}
-
-/// What stands before the first space, and what stands after it.
-fn cut(line: &str) -> (&str, &str) {
-    match line.split_once(' ') {
-        Some(parts) => parts,
-        None => (line, ""),
-    }
 }
 
 /// The number that digits are; 0 if they are none.

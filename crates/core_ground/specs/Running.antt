@@ -1,6 +1,6 @@
 -- What callers run: a barred target, or a text in normal form as it is.
 use Rattle.norm_lang.specs.declared.text.Text.{Text}
-use Rattle.target_laws.specs.target_runs.Runnable.{IsRunnable}
+use Rattle.target_laws.specs.target_runs.Runnable.{MayBeWalked}
 use Rattle.target_code.specs.Bare.{bare}
 use Rattle.barrier_check.specs.Paired.{Paired}
 use Rattle.core_ground.specs.declared.running.Runs.{Runs}
@@ -22,4 +22,4 @@ pair_owned (owns.Bare normal) = bare_pair normal
 
 -- callers may run the target of a pair
 abbrev pub MayRun : Paired → Type 0
-MayRun pair = IsRunnable pair.target pair.source
+MayRun pair = MayBeWalked pair.target pair.source

@@ -145,12 +145,12 @@ upto_made p c kind (suc most) left r =
     else go_further (one_step p c r) (upto_made p c kind most left)
 
 -- how many of its calls have ended
-abbrev pub entry_ended : Option Entry → ℕ
-entry_ended None = 0
-entry_ended (Some e) = length e.replies
+abbrev pub calls_ended_of : Option Entry → ℕ
+calls_ended_of None = 0
+calls_ended_of (Some e) = length e.replies
 
 abbrev pub ended_calls : ℕ → Replaying → ℕ
-ended_calls c r = entry_ended (slice_get r.state.entries c)
+ended_calls c r = calls_ended_of (slice_get r.state.entries c)
 
 -- steps until so many calls of the caller have ended
 abbrev pub ops_made : Replay → ℕ → ℕ → ℕ → Replaying → Result Replaying Refusal

@@ -1,1 +1,1 @@
-mod Straying
+pub mod Straying

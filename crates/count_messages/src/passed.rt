@@ -153,6 +153,10 @@ fn limit_passed(bytes: &[u8], line: Line) -> Limit
 }
 
 /// Writes which limit a line passes.
+///
+/// # Errors
+///
+/// `Failed` if a write fails: a prefix of the sentence was written then.
 pub fn write_passed<K: Sink>(errors: &mut K, bytes: &[u8], line: Line) -> Result<(), Failed>
     requires { length (lines_of bytes.now) + 1 < 2 ^ 32 }
     ensures bytes { Writes (K.written errors.old) (K.written errors.new) (passed_sentence bytes.now (line_shown line.entry)) result }

@@ -5,7 +5,7 @@ use Rattle.caller_steps.specs.Entries.{Entry, RoomyEntry}
 use Rattle.core_runs.specs.Scripts.{SuitScripts}
 use Rattle.core_runs.specs.Replays.{Replaying, Refusal, StepOfNobody, LongReplay}
 use Rattle.core_runs.proofs.Replaying.{replays_reach}
-use Rattle.oa_core.specs.Finals.{Final, core_part, core_of, replay_of, LeadsTo, IsRefused as Refuses, Answers}
+use Rattle.oa_core.specs.Finals.{Final, core_part, core_of, replay_of, LeadsTo, IsReplayRefused as Refuses, AnswersReplay}
 use Rattle.word_runner.specs.table_rule.Seats.{cores}
 use Rattle.oa_core.specs.declared.replaying.ReplayError.{ReplayError}
 use Rattle.oa_core.specs.declared.replaying.ReplayError.TheVariants as errors
@@ -49,12 +49,12 @@ replayed_so document final report runs ready given is =
     (runs, r, end.1, reached.0, is ∙ ap (report_of document) end.2)
 
 pub is_replayed : (document : Document) (plan : Plan) (final : Final) (report : Report) → IsPlanned document (Ok plan) → IsReady plan
-    → Answers (Ok final) plan.fuel (plan_replayed plan document.schedule) → report ≡ report_of document (core_of final) → IsReplayed document (Ok report)
+    → AnswersReplay (Ok final) plan.fuel (plan_replayed plan document.schedule) → report ≡ report_of document (core_of final) → IsReplayed document (Ok report)
 is_replayed document plan final report planned ready given is =
     replayed_so document final report planned.1 (subst IsReady planned.0 ready)
     (subst (λ (p : Plan). LeadsTo final p.fuel (plan_replayed p document.schedule)) planned.0 given) is
 
-refused_so : (document : Document) (error : ReplayError) → IsRunnable document → Answers (Err error) document.fuel (replay_given document) → IsReplayFaultOf document (fault_of error)
+refused_so : (document : Document) (error : ReplayError) → IsRunnable document → AnswersReplay (Err error) document.fuel (replay_given document) → IsReplayFaultOf document (fault_of error)
 refused_so document errors.Memory runs given = tt
 refused_so document (errors.StepOfNobody steps) runs given =
     (runs.normal, rw (runs.shape, refuses (StepOfNobody steps) (replay_given document) given) refl)
@@ -62,9 +62,9 @@ refused_so document (errors.LongReplay steps) runs given =
     (runs.normal, rw (runs.shape, refuses (LongReplay steps) (replay_given document) given) refl)
 
 pub is_refused : (document : Document) (plan : Plan) (error : ReplayError) → IsPlanned document (Ok plan)
-    → Answers (Err error) plan.fuel (plan_replayed plan document.schedule) → IsReplayFaultOf document (fault_of error)
+    → AnswersReplay (Err error) plan.fuel (plan_replayed plan document.schedule) → IsReplayFaultOf document (fault_of error)
 is_refused document plan error planned given =
-    refused_so document error planned.1 (subst (λ (p : Plan). Answers (Err error) p.fuel (plan_replayed p document.schedule)) planned.0 given)
+    refused_so document error planned.1 (subst (λ (p : Plan). AnswersReplay (Err error) p.fuel (plan_replayed p document.schedule)) planned.0 given)
 
 -- ---- a run
 

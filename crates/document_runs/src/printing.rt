@@ -155,8 +155,11 @@ fn write_report<K: Sink>(report: &Report, lines: &[ReportLine], out: &mut K) -> 
     write_summary(out, answered, short, report)
 }
 
-/// Writes a line for each call with its answer, and a line that sums up. No memory is taken; at `Failed` a prefix of the text
-/// was written.
+/// Writes a line for each call with its answer, and a line that sums up. No memory is taken.
+///
+/// # Errors
+///
+/// `Failed` if a write fails: a prefix of the text was written then.
 pub fn show_report<K: Sink>(report: &Report, out: &mut K) -> Result<(), Failed>
     ensures bytes { Writes (K.written out.old) (K.written out.new) (report_text report.now) result }
     ensures cause { HasCause (K.faults out.old) (K.faults out.new) result }

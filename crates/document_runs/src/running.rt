@@ -2,7 +2,7 @@
 
 ghost use Rattle.std.specs.Prelude.{◌≡◌, Ok, IfOk};
 ghost use Rattle.documents.specs.DocumentLimits.{IsWithinDocumentLimits};
-ghost use Rattle.oa_core.specs.Finals.{Answers};
+ghost use Rattle.oa_core.specs.Finals.{AnswersReplay};
 ghost use Rattle.script_plans.specs.Plans.{IsPlanned, IsReady};
 ghost use Rattle.document_runs.specs.Runs.{IsRan, IsReplayed};
 ghost use Rattle.document_runs.specs.Reports.{all_lines};
@@ -40,7 +40,7 @@ fn fault_of(error: ReplayError) -> RunFault
 /// Replays a plan by the turns of a document's schedule.
 fn replay_plan(alloc: Global, plan: &Plan, document: &Document) -> Result<CoreState, ReplayError>
     requires { IsReady plan.now }
-    ensures { Answers result plan.now.fuel (plan_replayed plan.now document.now.schedule) }
+    ensures { AnswersReplay result plan.now.fuel (plan_replayed plan.now document.now.schedule) }
 {
     replay(
         alloc,

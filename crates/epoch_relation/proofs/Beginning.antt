@@ -2,7 +2,7 @@
 use Rattle.std.proofs.Common.{ℕ, ◌≡◌, ◌∙◌, Bool, true, false, sym, ap, subst, refl, arith, if◌then◌else◌}
 use Rattle.std.specs.Prelude.{slice_index}
 use Rattle.target_code.specs.declared.target.Target.{Target}
-use Rattle.target_laws.specs.target_runs.Runnable.{IsRunnable}
+use Rattle.target_laws.specs.target_runs.Runnable.{MayBeWalked}
 use Rattle.bare_targets.proofs.Runnable.{bare_texts_are_runnable}
 use Rattle.oa_words.specs.Words.{Phase, Warning, address_of, in_row}
 use Rattle.oa_words.specs.Starts.{Suits}
@@ -32,12 +32,12 @@ no_warning target setting epochs s suits d = of (in_row setting.sizes (Warning d
   of false row = ap (λ (b : Bool). if b then slice_index (core_start target setting).words (address_of setting.sizes (Warning d)) else 0) row
 
 -- a plan's target may be run
-pub plan_runs : (t : Plan) → IsPlan t → IsRunnable t.target t.text
-plan_runs t plan = subst (λ (target : Target). IsRunnable target t.text) (sym plan.target_is) (bare_texts_are_runnable t.text plan.within plan.normal)
+pub plan_runs : (t : Plan) → IsPlan t → MayBeWalked t.target t.text
+plan_runs t plan = subst (λ (target : Target). MayBeWalked target t.text) (sym plan.target_is) (bare_texts_are_runnable t.text plan.within plan.normal)
 
 pub worlds_begin : WorldsBegin
 worlds_begin t plan homes =
-    let runs : IsRunnable t.target t.text = plan_runs t plan in
+    let runs : MayBeWalked t.target t.text = plan_runs t plan in
     let start = start_is_seen t.target t.setting in
     let suits = (start_suits t.target t.text t.setting runs plan.some plan.fits).suits in
     let first : IsFirst t (view t.setting (core_start t.target t.setting)).memory = first_words t runs plan.some plan.fits homes in

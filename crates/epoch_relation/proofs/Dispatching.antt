@@ -35,7 +35,7 @@ use Rattle.caller_parts.specs.declared.routine.Announcing.TheVariants as announc
 use Rattle.caller_parts.specs.declared.routine.Routine.{Routine}
 use Rattle.caller_parts.specs.declared.routine.Routine.TheVariants.{Idle, LoadSeen, At, InList, Retires, Restarts, Clears, Claims, Zeroes, Announces}
 use Rattle.caller_steps.specs.Entries.{instr_in, new_number, zero_count, cradle_of, code_in as core_code}
-use Rattle.caller_steps.specs.Belongs.{Belongs, RunsAt, Reaches, Stands as CoreStands}
+use Rattle.caller_steps.specs.Belongs.{Belongs, RunsAt, HasComeTo, Stands as CoreStands}
 use Rattle.core_runs.proofs.caller_laws.Methods.{sane_code}
 use Rattle.core_runs.proofs.caller_laws.Cradles.{cradle_number_small}
 use Rattle.core_runs.proofs.caller_laws.Safety.{list_there}
@@ -111,10 +111,10 @@ module _ (t : Plan) (c : ℕ) (s : Shared) (since : ℕ → ℕ) (x : Caller) (w
   stands_at r is = subst (λ (r : Routine). CoreStands t.target t.setting x.entry r) is w.belongs.stands
 
   -- a `new` to which the caller has come: it is within the limits, and stands in a generator
-  sane_new : (r : Routine) → x.entry.routine ≡ r → RunsAt t.target x.entry r ≡ Reaches (core_code t.target x.entry) x.entry.hand.at x.entry.hand.registers → (d : Reg) (kind : ℕ) → instr_in t.target x.entry ≡ Some (Plain (instr.New d kind))
+  sane_new : (r : Routine) → x.entry.routine ≡ r → RunsAt t.target x.entry r ≡ HasComeTo (core_code t.target x.entry) x.entry.hand.at x.entry.hand.registers → (d : Reg) (kind : ℕ) → instr_in t.target x.entry ≡ Some (Plain (instr.New d kind))
       → SaneAt t.target x.entry.hand.wrapup (core_code t.target x.entry) x.entry.hand.at (Plain (instr.New d kind))
   sane_new r at runs d kind is =
-      let reaches : Reaches (core_code t.target x.entry) x.entry.hand.at x.entry.hand.registers = subst (λ (A : Type 0). A) runs (subst (λ (r : Routine). RunsAt t.target x.entry r) at w.belongs.reaches) in
+      let reaches : HasComeTo (core_code t.target x.entry) x.entry.hand.at x.entry.hand.registers = subst (λ (A : Type 0). A) runs (subst (λ (r : Routine). RunsAt t.target x.entry r) at w.belongs.reaches) in
       (sane_code t.target w.plan.sane x.entry.running.call.op x.entry.hand.wrapup).each x.entry.hand.at (Plain (instr.New d kind)) reaches.path.0 is reaches.path.1
 
   -- ---- the instruction of the text at which the caller stands

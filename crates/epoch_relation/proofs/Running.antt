@@ -3,7 +3,7 @@ use Rattle.std.proofs.Common.{ℕ, ◌≡◌, ◌∙◌, List, Some, sym, ap, re
 use Rattle.norm_lang.specs.declared.text.Text.{Text}
 use Rattle.norm_lang.specs.Limits.{IsWithinLimits}
 use Rattle.norm_lang.specs.NormalForm.{IsNormal}
-use Rattle.target_laws.specs.target_runs.Runnable.{IsRunnable}
+use Rattle.target_laws.specs.target_runs.Runnable.{MayBeWalked}
 use Rattle.target_laws.proofs.target_runs.SaneTargets.{runnable_is_sane}
 use Rattle.target_code.specs.Bare.{bare}
 use Rattle.bare_targets.proofs.Runnable.{bare_texts_are_runnable}
@@ -30,7 +30,7 @@ use Rattle.oa_simulation.proofs.FirstSlots.{first_null}
 use Rattle.oa_simulation.proofs.Homes.{home_stays}
 use Rattle.oa_simulation.proofs.Refining.{replies_agree}
 use Rattle.epoch_relation.specs.Beside.{Beside}
-use Rattle.epoch_relation.specs.Simulated.{Simulates, RunsAreSimulated, source_name}
+use Rattle.epoch_relation.specs.Simulated.{EpochSimulates, RunsAreSimulated, source_name}
 use Rattle.epoch_relation.specs.Walking.{IsPlan}
 use Rattle.epoch_relation.proofs.Answering.{idle_agrees, running_agrees}
 use Rattle.epoch_relation.proofs.Beginning.{worlds_begin, begins_present}
@@ -57,7 +57,7 @@ module _ (text : Text) (setting : Setting) (events : List CoreEvent) (state : Co
   abbrev t : Plan
   t = plan_of text setting events
 
-  runs : IsRunnable (bare text) text
+  runs : MayBeWalked (bare text) text
   runs = bare_texts_are_runnable text within normal
 
   pub stood : Stood text setting events state
@@ -98,7 +98,7 @@ module _ (text : Text) (setting : Setting) (events : List CoreEvent) (state : Co
       let x : Caller = b.w.who c in
       replies_agree text setting.sizes.callers c z b.v x.entry e x.source b.sourced (b.caller c lt) (b.entry c lt ∙ entry_seen setting state c e at) (idle_agrees t b.w.shared b.w.since c x (b.holds.caller_holds c lt)) (running_agrees t b.w.shared b.w.since c x (b.holds.caller_holds c lt))
 
-  simulates : Simulates (bare text) text setting events state
+  simulates : EpochSimulates (bare text) text setting events state
   simulates =
       let k = stood in
       let shaped = sound_is_shaped (bare text) setting state (methods (bare text) text runs) (setting_sane setting own) fits k.sound in

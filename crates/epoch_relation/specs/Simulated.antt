@@ -45,11 +45,11 @@ BasesAreResident target text setting events state = (c : ℕ) (e : Entry) (d a :
 
 -- the run's image is a source run that leads to the source state of the shadow, the replies of each caller agree with it, each exchange of the
 -- text that a caller makes next succeeds exactly if the source's does, and no load goes to what was recycled
-pub record Simulates (target : Target) (text : Text) (setting : Setting) (events : List CoreEvent) (state : CoreState) : Type 0 where
+pub record EpochSimulates (target : Target) (text : Text) (setting : Setting) (events : List CoreEvent) (state : CoreState) : Type 0 where
   pub refined : Refined target text setting events state
   pub bases : BasesAreResident target text setting events state
 
 -- of a proper text as it is, with a setting of epochs that fits it
 abbrev pub RunsAreSimulated : Type 0
 RunsAreSimulated = (text : Text) (setting : Setting) (events : List CoreEvent) (state : CoreState) → IsWithinLimits text → IsNormal text → IsSetting setting → Fits (bare text) setting → setting.reclamation ≡ Epochs → IsProper text
-    → core_run (bare text) setting events (core_start (bare text) setting) ≡ Some state → Simulates (bare text) text setting events state
+    → core_run (bare text) setting events (core_start (bare text) setting) ≡ Some state → EpochSimulates (bare text) text setting events state

@@ -120,7 +120,7 @@ Running t s d x = (m : Trail t) × Walks t s d x (spot_of x.entry.hand) m × Get
 abbrev pub RunsFrom : (t : Plan) → Shared → ℕ → Caller → Spot → Type 0
 RunsFrom t s d x core = (m : Trail t) × Walks t s d x core m × Gets t s d x m × StandsFrom t x core m x.entry.hand.accessed × IsAnnounced s d × (m.walk.method.wrapup ≡ false → Pairs t s m)
 
--- ---- if no method runs
+-- ---- while no method runs
 
 -- in the list, so many exchanges having succeeded
 abbrev pub InExecutor : (t : Plan) → Shared → ℕ → Caller → ℕ → Type 0

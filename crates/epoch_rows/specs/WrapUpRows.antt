@@ -12,16 +12,13 @@ use Rattle.core_runs.specs.Machine.{CoreEvent}
 use Rattle.core_rows.specs.Short.{call_of, setting_of, no_slots}
 use Rattle.core_rows.specs.SmallTexts.{swap_text, tally_text}
 use Rattle.core_rows.specs.Stories.{Line, Load, Store, Exchange, gives, silent, story, lines_after, left_after, steps, calls, reads, puts, exchanges, draws, looks, takes, retires, raises, finds, frees, pushes}
-use Rattle.epoch_rows.specs.EpochStories.{enters, enters_again, withdraws, leaves, heeds, gives_up, word_after}
+use Rattle.epoch_rows.specs.EpochStories.{enters, enters_again, withdraws, leaves, heeds, reads_last, gives_up, word_after}
 
 -- ---- lines
 
--- an access of a wrap-up after which local code comes to its end
-abbrev pub reads_to_end : Word → ℕ → Line
-reads_to_end w found = gives (Load w found) (Accesses ∷ Accesses ∷ [])
-
-abbrev pub exchanges_to_end : Word → ℕ → ℕ → Line
-exchanges_to_end w expected replacement = gives (Exchange w expected replacement expected) (Accesses ∷ Accesses ∷ [])
+-- an exchange of a wrap-up after which local code comes to its end
+abbrev pub exchanges_last : Word → ℕ → ℕ → Line
+exchanges_last w expected replacement = gives (Exchange w expected replacement expected) (Accesses ∷ Accesses ∷ [])
 
 -- ---- a node that is read by a wrap-up. The root holds the node in slot 1, whose number is 40
 
@@ -38,7 +35,7 @@ peek_begun = silent (Load Phase 1) ∷ gives (Store (Warning 1) 1) (Begins (call
 
 -- the wrap-up of a `swap`: it loads the root, and notes in the second root what it found
 abbrev pub noted : ℕ → ℕ → List Line
-noted reference before = reads (Cell 0) reference ∷ reads (Cell 1) before ∷ exchanges_to_end (Cell 1) before reference ∷ leaves 0 ∷ []
+noted reference before = reads (Cell 0) reference ∷ reads (Cell 1) before ∷ exchanges_last (Cell 1) before reference ∷ leaves 0 ∷ []
 
 -- `swap 7` of caller 0 puts a node in slot 2 into the root, and retires that in slot 1 in phase 1
 abbrev pub seven_in : List Line
@@ -73,7 +70,7 @@ held = swapped ++ calls 0 (call_of 0 9) 19
 
 -- caller 1 reads the node that was taken out, and withdraws its announcement with the reply. Now a sweep makes slot 1 ready
 abbrev pub peek_ends : List Line
-peek_ends = reads_to_end (FieldOf 1 0) 40 ∷ leaves 1 ∷ []
+peek_ends = reads_last (FieldOf 1 0) 40 ∷ leaves 1 ∷ []
 
 abbrev pub nine_in : List Line
 nine_in = story (
@@ -120,12 +117,12 @@ abbrev pub loaded : List CoreEvent
 loaded = calls 0 (call_of 0 5) 3
 
 abbrev pub three_added : List Line
-three_added = story (enters 1 1 (call_of 0 3) ∷ (reads (Cell 0) 0 ∷ exchanges (Cell 0) 0 3 0 ∷ reads_to_end (Cell 0) 3 ∷ leaves 1 ∷ []) ∷ [])
+three_added = story (enters 1 1 (call_of 0 3) ∷ (reads (Cell 0) 0 ∷ exchanges (Cell 0) 0 3 0 ∷ reads_last (Cell 0) 3 ∷ leaves 1 ∷ []) ∷ [])
 
 -- its exchange fails, and its wrap-up loads what caller 1 has put, before the operation begins again
 abbrev pub five_again : List Line
 five_again = story (
-    (exchanges (Cell 0) 0 5 3 ∷ reads_to_end (Cell 0) 3 ∷ [])
+    (exchanges (Cell 0) 0 5 3 ∷ reads_last (Cell 0) 3 ∷ [])
     ∷ enters_again 0 1
     ∷ (reads (Cell 0) 3 ∷ exchanges (Cell 0) 3 8 3 ∷ [])
     ∷ [])
@@ -144,7 +141,7 @@ pub record TallyRows : Type 0 where
   pub other : lines_after tally_code tally_setting loaded (calls 1 (call_of 0 3) 6) ≡ three_added
   pub again : lines_after tally_code tally_setting disturbed (steps 0 6) ≡ five_again
   pub stands : word_after tally_code tally_setting two_more (Warning 0) ≡ Some 1
-  pub ends : lines_after tally_code tally_setting two_more (steps 0 2) ≡ reads_to_end (Cell 0) 10 ∷ leaves 0 ∷ []
+  pub ends : lines_after tally_code tally_setting two_more (steps 0 2) ≡ reads_last (Cell 0) 10 ∷ leaves 0 ∷ []
   pub left : left_after tally_code tally_setting (two_more ++ steps 0 2) 0 ≡ Some (record { replies = replies.Number 10 ∷ []; cradles = no_slots; restarts = 0; claims = 0 })
   pub other_left : left_after tally_code tally_setting (two_more ++ steps 0 2) 1
       ≡ Some (record { replies = replies.Number 3 ∷ replies.Number 10 ∷ []; cradles = no_slots; restarts = 0; claims = 0 })

@@ -43,11 +43,11 @@ BeginsScript true script fuel e begun = begun ≡ script
 BeginsScript false script fuel e begun = begun ≡ take (length e.replies + begun_by_fuel fuel) script
 
 -- each caller begins the calls of its script, in order
-abbrev pub BeginsOfScripts : Target → Text → Setting → List (List Call) → ℕ → List CoreEvent → CoreState → Type 0
-BeginsOfScripts target text setting scripts fuel events state = (c : ℕ) (e : Entry) → slice_get state.entries c ≡ Some e
+abbrev pub EpochBeginsOfScripts : Target → Text → Setting → List (List Call) → ℕ → List CoreEvent → CoreState → Type 0
+EpochBeginsOfScripts target text setting scripts fuel events state = (c : ℕ) (e : Entry) → slice_get state.entries c ≡ Some e
     → BeginsScript (is_idle e.routine) (script_of scripts c) fuel e (begun_in c (image target text setting events))
 
 -- in the image of a complete run under epochs
 pub record ScriptsBegin (target : Target) (setting : Setting) : Type 0 where
   pub each : setting.reclamation ≡ Epochs → (text : Text) (scripts : List (List Call)) (fuel : ℕ) (events : List CoreEvent) (state : CoreState)
-      → IsCompleteRun target setting scripts fuel events state → BeginsOfScripts target text setting scripts fuel events state
+      → IsCompleteRun target setting scripts fuel events state → EpochBeginsOfScripts target text setting scripts fuel events state

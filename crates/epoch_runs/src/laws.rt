@@ -2,7 +2,7 @@
 
 ghost use Rattle.core_runs.specs.Machine.{OfAll};
 ghost use Rattle.epoch_runs.specs.Begins.{CallsBegin, ScriptsBegin};
-ghost use Rattle.epoch_runs.specs.Source.{RunsFollowSource};
+ghost use Rattle.epoch_runs.specs.Source.{EpochRunsFollowSource};
 
 /// In the image of a run under epochs the calls that a caller begins are those that got a reply, and the one that runs if its announcement
 /// has been stored, in the order in which they were taken.
@@ -19,5 +19,5 @@ pub fn scripts_begin()
 /// For a proper text, under epochs: a complete run of scripts is one of the text on memory that is never recycled, by all callers at once,
 /// however their steps interleave. It begins the calls of the scripts in order, and the base of each load is null or resident.
 pub fn runs_follow_source()
-    ensures { RunsFollowSource }
+    ensures { EpochRunsFollowSource }
 {}

@@ -81,7 +81,7 @@ abbrev pub most_calls : ℕ
 most_calls = MOST_CALLS
 
 -- what is found of a history of an empty set and an empty queue
-abbrev pub IsJudged : List Call → Judgement → Type 0
-IsJudged history Legal = (length history ≤ most_calls) × HasLegalOrder nothing_shared history
-IsJudged history NoLegalOrder = (length history ≤ most_calls) × (HasLegalOrder nothing_shared history → ⊥)
-IsJudged history TooLarge = most_calls < length history
+abbrev pub IsHistoryJudged : List Call → Judgement → Type 0
+IsHistoryJudged history Legal = (length history ≤ most_calls) × HasLegalOrder nothing_shared history
+IsHistoryJudged history NoLegalOrder = (length history ≤ most_calls) × (HasLegalOrder nothing_shared history → ⊥)
+IsHistoryJudged history TooLarge = most_calls < length history

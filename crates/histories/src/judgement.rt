@@ -1,7 +1,7 @@
 //! Whether a history is legal.
 
 ghost use Rattle.std.specs.Prelude.{◌≤◌, length, IfOk, OnErr};
-ghost use Rattle.histories.specs.Histories.{IsJudged, most_calls};
+ghost use Rattle.histories.specs.Histories.{IsHistoryJudged, most_calls};
 
 use crate::call::Call;
 use crate::limits::MOST_CALLS;
@@ -26,7 +26,7 @@ pub enum Judgement {
 /// # Errors
 /// Memory ran out. This is never said of a history of more than ten calls, which needs none.
 pub fn judge(alloc: Global, history: &[Call]) -> Result<Judgement, AllocError>
-    ensures judged { IfOk result (IsJudged history.now) }
+    ensures judged { IfOk result (IsHistoryJudged history.now) }
     ensures err { OnErr result (length history.now ≤ most_calls) }
 {
     if MOST_CALLS < history.len() {

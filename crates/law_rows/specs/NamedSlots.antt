@@ -18,6 +18,7 @@ use Rattle.core_rows.specs.Short.{r1, cradles_of}
 use Rattle.claim_laws.specs.Untouched.{IsUntouched}
 use Rattle.corner_rows.specs.CornerTargets.{four_target}
 use Rattle.corner_rows.specs.FourRows.{four_setting}
+use Rattle.law_rows.specs.RowStates.{with_words}
 
 -- the words at the start of one caller and four slots, by a hazard, the status of slot 4 (ready, 4), and a root of references
 abbrev pub row_words : (hazard status root : ℕ) → List ℕ
@@ -25,9 +26,6 @@ row_words hazard status root =
     (1 ∷ 0 ∷ 1 ∷ 0 ∷ 0 ∷ 0 ∷ 0 ∷ 0 ∷ 0 ∷ 0 ∷ hazard ∷ [])
     ++ ((5 ∷ 4 ∷ 4 ∷ 4 ∷ status ∷ 0 ∷ 0 ∷ 0 ∷ 0 ∷ 0 ∷ [])
     ++ (0 ∷ root ∷ 0 ∷ 0 ∷ 0 ∷ 8193 ∷ 0 ∷ 2 ∷ 3 ∷ 4 ∷ 0 ∷ []))
-
-abbrev pub words_alone : List ℕ → CoreState
-words_alone words = record { words = words; entries = idle_entry 0 ∷ [] }
 
 abbrev pub held_by : Entry → CoreState
 held_by e = record { words = row_words 0 4 0; entries = e ∷ [] }
@@ -47,14 +45,14 @@ Untouched state = IsUntouched four_target (four_setting 1 4) state 4
 
 pub record TouchedRows : Type 0 where
   -- with nothing changed these are the words and the entries at the start, where only slot 3's link names slot 4
-  pub start : words_alone (row_words 0 4 0) ≡ core_start four_target (four_setting 1 4)
+  pub start : with_words (row_words 0 4 0) ≡ core_start four_target (four_setting 1 4)
   -- used since the first phase, and ready since the second
-  pub used : Untouched (words_alone (row_words 0 5 0)) → ⊥
-  pub ready_later : Untouched (words_alone (row_words 0 8 0)) → ⊥
+  pub used : Untouched (with_words (row_words 0 5 0)) → ⊥
+  pub ready_later : Untouched (with_words (row_words 0 8 0)) → ⊥
   -- in a hazard, and in a root, without and with a mark
-  pub hazard : Untouched (words_alone (row_words 4 4 0)) → ⊥
-  pub root : Untouched (words_alone (row_words 0 4 8)) → ⊥
-  pub marked_root : Untouched (words_alone (row_words 0 4 9)) → ⊥
+  pub hazard : Untouched (with_words (row_words 4 4 0)) → ⊥
+  pub root : Untouched (with_words (row_words 0 4 8)) → ⊥
+  pub marked_root : Untouched (with_words (row_words 0 4 9)) → ⊥
   -- in a register, in one of the wrap-up's start, in a guard and in a cradle
   pub register : Untouched (hand_alone (record empty_hand { registers = fourth })) → ⊥
   pub started : Untouched (hand_alone (record empty_hand { started = fourth })) → ⊥

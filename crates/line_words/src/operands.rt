@@ -34,6 +34,10 @@ pub fn kind_named(kinds: &[Name], name: &[u8]) -> Option<u8>
 }
 
 /// The kind that a line means, which must be declared.
+///
+/// # Errors
+///
+/// `UnknownName` if it isn't declared.
 pub fn known(owner: Option<u8>) -> Result<u8, Fault>
     ensures { Reads (λ k. k) result (or_fault unknown_name owner) }
 {
@@ -48,6 +52,10 @@ fn field_place(fields: &[FieldDecl], name: &[u8]) -> Option<usize>
 }
 
 /// The number of the field so named.
+///
+/// # Errors
+///
+/// `UnknownName` if no field has the name.
 pub fn field_number(fields: &[FieldDecl], name: &[u8]) -> Result<u8, Fault>
     requires { length fields.now ≤ 16 }
     ensures { Reads (λ f. f) result (field_named fields.now name.now) }
@@ -66,6 +74,10 @@ fn root_place(roots: &[RootDecl], name: &[u8]) -> Option<usize>
 }
 
 /// The number of the root so named.
+///
+/// # Errors
+///
+/// `UnknownName` if no root has the name.
 pub fn root_number(roots: &[RootDecl], name: &[u8]) -> Result<u16, Fault>
     requires { length roots.now ≤ 256 }
     ensures { Reads (λ x. x) result (root_named roots.now name.now) }
@@ -77,8 +89,12 @@ pub fn root_number(roots: &[RootDecl], name: &[u8]) -> Result<u16, Fault>
 }
 
 /// `R`, and then the end.
-pub fn one_register(words: &mut Words) -> Result<Reg, Fault>
-    ensures { Reads (λ r. r) result (one_register words.old) }
+///
+/// # Errors
+///
+/// `Form` if the words are others.
+pub fn one_register(mut words: Words) -> Result<Reg, Fault>
+    ensures { Reads (λ r. r) result (one_register words.entry) }
 {
     let a = words.register()?;
     words.end()?;
@@ -86,8 +102,12 @@ pub fn one_register(words: &mut Words) -> Result<Reg, Fault>
 }
 
 /// `R R`, and then the end.
-pub fn two_registers(words: &mut Words) -> Result<(Reg, Reg), Fault>
-    ensures { Reads (λ r. r) result (two_registers words.old) }
+///
+/// # Errors
+///
+/// `Form` if the words are others.
+pub fn two_registers(mut words: Words) -> Result<(Reg, Reg), Fault>
+    ensures { Reads (λ r. r) result (two_registers words.entry) }
 {
     let a = words.register()?;
     let b = one_register(words)?;
@@ -95,8 +115,12 @@ pub fn two_registers(words: &mut Words) -> Result<(Reg, Reg), Fault>
 }
 
 /// `R R R`, and then the end.
-pub fn three_registers(words: &mut Words) -> Result<(Reg, Reg, Reg), Fault>
-    ensures { Reads (λ r. (r.0, (r.1, r.2))) result (three_registers words.old) }
+///
+/// # Errors
+///
+/// `Form` if the words are others.
+pub fn three_registers(mut words: Words) -> Result<(Reg, Reg, Reg), Fault>
+    ensures { Reads (λ r. (r.0, (r.1, r.2))) result (three_registers words.entry) }
 {
     let a = words.register()?;
     let (b, c) = two_registers(words)?;
@@ -104,8 +128,12 @@ pub fn three_registers(words: &mut Words) -> Result<(Reg, Reg, Reg), Fault>
 }
 
 /// The end, or `retire R` and then the end.
-pub fn retired(words: &mut Words) -> Result<Option<Reg>, Fault>
-    ensures { Reads (λ r. r) result (retire_at words.old) }
+///
+/// # Errors
+///
+/// `Form` if the words are others.
+pub fn retired(mut words: Words) -> Result<Option<Reg>, Fault>
+    ensures { Reads (λ r. r) result (retire_at words.entry) }
 {
     match words.word() {
         Err(_) => Ok(None),
@@ -120,6 +148,10 @@ pub fn retired(words: &mut Words) -> Result<Option<Reg>, Fault>
 }
 
 /// The number of an instruction, to which a jump leads.
+///
+/// # Errors
+///
+/// `TooMany` if it exceeds 65,535.
 pub fn target(l: u64) -> Result<u16, Fault>
     ensures { Reads (λ l. l) result (up_to last_target l) }
 {
@@ -127,8 +159,12 @@ pub fn target(l: u64) -> Result<u16, Fault>
 }
 
 /// `L`, and then the end.
-pub fn last_target(words: &mut Words) -> Result<u16, Fault>
-    ensures { Reads (λ l. l) result (target_at words.old) }
+///
+/// # Errors
+///
+/// The first of these: `Form` if the words are others, `Number` if L exceeds 2^64 - 1, `TooMany` if it exceeds 65,535.
+pub fn last_target(mut words: Words) -> Result<u16, Fault>
+    ensures { Reads (λ l. l) result (target_at words.entry) }
 {
     let l = words.number()?;
     words.end()?;

@@ -9,7 +9,7 @@ ghost use Rattle.norm_lang.specs.Grammar.{is_comment, fault_number};
 ghost use Rattle.line_words.specs.Answered.{Reads};
 ghost use Rattle.line_words.specs.Faults.{number_of_fault};
 ghost use Rattle.line_words.specs.Shown.{start_shown, holding_shown};
-ghost use Rattle.line_words.specs.Lines.{words_in, first_word};
+ghost use Rattle.line_words.specs.Lines.{words_in, first_word, after_owner, after_holding};
 
 use crate::fault::Fault;
 use crate::number::number_in;
@@ -19,7 +19,8 @@ use oa_text::{Line, TextFault, Tokens, tokens};
 use std::marker::Model;
 
 /// The words of a line that are left. Each method but `new`, `owner` and `holding` takes one word, even if it answers an
-/// error or `None`; if no word is left, none is left after it.
+/// error or `None`; if no word is left, none is left after it. `owner` and `holding` take what their second clause says.
+/// A reader that reads a line to its end takes the words themselves, so that none is left to its caller.
 #[derive(Drop)]
 pub struct Words<'a> {
     tokens: Tokens<'a>,
@@ -61,6 +62,11 @@ fn fault_of_bytes(fault: TextFault) -> Fault
 
 impl<'a> Words<'a> {
     /// The words of a line, unless its bytes have a fault.
+    ///
+    /// # Errors
+    ///
+    /// The first of these: `LineLong` if the line has more than 200 bytes, `Byte` if one of them is neither a tab nor
+    /// from space to `~`.
     pub fn new(line: Line<'a>) -> Result<Words<'a>, Fault>
         ensures { Reads (λ words. words) result (words_in (line_shown line.entry)) }
     {
@@ -88,6 +94,10 @@ impl<'a> Words<'a> {
     }
 
     /// The next word, which must be there.
+    ///
+    /// # Errors
+    ///
+    /// `Form` if no word is left.
     pub fn word(&mut self) -> Result<&'a [u8], Fault>
         ensures says { Reads (λ word. (word.now, self.new)) result (word_at self.old) }
         ensures taken { self.new ≡ drop 1 self.old }
@@ -99,6 +109,10 @@ impl<'a> Words<'a> {
     }
 
     /// The end of the line.
+    ///
+    /// # Errors
+    ///
+    /// `Form` if a word is left.
     pub fn end(&mut self) -> Result<(), Fault>
         ensures says { Reads (λ _. tt) result (end_at self.old) }
         ensures taken { self.new ≡ drop 1 self.old }
@@ -110,6 +124,10 @@ impl<'a> Words<'a> {
     }
 
     /// A name.
+    ///
+    /// # Errors
+    ///
+    /// `Form` if no word is left, or if the next one is no name.
     pub fn name(&mut self) -> Result<&'a [u8], Fault>
         ensures says { Reads (λ name. (name.now, self.new)) result (name_at self.old) }
         ensures taken { self.new ≡ drop 1 self.old }
@@ -123,6 +141,10 @@ impl<'a> Words<'a> {
     }
 
     /// A number as it is spelled: `None` if it exceeds 2^64 - 1.
+    ///
+    /// # Errors
+    ///
+    /// `Form` if no word is left, or if the next one spells no number.
     pub fn number(&mut self) -> Result<Option<u64>, Fault>
         ensures says { Reads (λ n. (n, self.new)) result (number_at self.old) }
         ensures taken { self.new ≡ drop 1 self.old }
@@ -131,6 +153,10 @@ impl<'a> Words<'a> {
     }
 
     /// A number that is to be at least 1.
+    ///
+    /// # Errors
+    ///
+    /// `Form` if no word is left, or if the next one spells no number, or 0.
     pub fn positive(&mut self) -> Result<Option<u64>, Fault>
         ensures says { Reads (λ n. (n, self.new)) result (positive_at self.old) }
         ensures taken { self.new ≡ drop 1 self.old }
@@ -140,6 +166,10 @@ impl<'a> Words<'a> {
     }
 
     /// `n0` to `n7` or `r0` to `r7`.
+    ///
+    /// # Errors
+    ///
+    /// `Form` if no word is left, or if the next one names no register.
     pub fn register(&mut self) -> Result<Reg, Fault>
         ensures says { Reads (λ r. (r, self.new)) result (register_at self.old) }
         ensures taken { self.new ≡ drop 1 self.old }
@@ -149,9 +179,14 @@ impl<'a> Words<'a> {
 
     /// The kind that the line means, `None` if it isn't declared. A line of the first version takes no word for it, and
     /// means the first kind.
+    ///
+    /// # Errors
+    ///
+    /// `Form` in the second version if no word is left, or if the next one is no name.
     pub fn owner(&mut self, version: Version, kinds: &[Name]) -> Result<Option<u8>, Fault>
         requires { length kinds.now ≤ 4 }
-        ensures { Reads (λ owner. (owner, self.new)) result (owner_at version kinds.now self.old) }
+        ensures says { Reads (λ owner. (owner, self.new)) result (owner_at version kinds.now self.old) }
+        ensures taken { self.new ≡ after_owner version self.old }
     {
         match version {
             Version::First => Ok(Some(0)),
@@ -160,9 +195,14 @@ impl<'a> Words<'a> {
     }
 
     /// `num`, or `ref` and the kind that the line means.
+    ///
+    /// # Errors
+    ///
+    /// `Form` if the words are others.
     pub fn holding(&mut self, version: Version, kinds: &[Name]) -> Result<Holding, Fault>
         requires { length kinds.now ≤ 4 }
-        ensures { Reads (λ holding. (holding_shown holding, self.new)) result (holding_at version kinds.now self.old) }
+        ensures says { Reads (λ holding. (holding_shown holding, self.new)) result (holding_at version kinds.now self.old) }
+        ensures taken { self.new ≡ after_holding version self.old }
     {
         let word = self.word()?;
         if word == b"num".as_slice() {
@@ -175,6 +215,10 @@ impl<'a> Words<'a> {
     }
 
     /// A first value of a kind as it is spelled.
+    ///
+    /// # Errors
+    ///
+    /// `Form` if no word is left, or if the next one spells no first value of the kind.
     pub fn start(&mut self, kind: FieldKind) -> Result<StartWord, Fault>
         ensures says { Reads (λ start. (start_shown start, self.new)) result (start_at kind self.old) }
         ensures taken { self.new ≡ drop 1 self.old }
@@ -256,6 +300,10 @@ fn register_in(word: &[u8]) -> Result<Reg, Fault>
 }
 
 /// What is held, if its kind is declared.
+///
+/// # Errors
+///
+/// `UnknownName` if the kind isn't declared.
 pub fn kind_of_holding(holding: Holding) -> Result<FieldKind, Fault>
     ensures { Reads (λ kind. kind) result (kind_of_holding (holding_shown holding)) }
 {
@@ -301,6 +349,10 @@ fn start_in(kind: FieldKind, word: &[u8]) -> Result<StartWord, Fault>
 }
 
 /// The number, unless it exceeds 2^64 - 1.
+///
+/// # Errors
+///
+/// `Number` if it exceeds 2^64 - 1.
 pub fn value_of(n: Option<u64>) -> Result<u64, Fault>
     ensures { Reads (λ n. n) result (value_of n) }
 {
@@ -315,6 +367,10 @@ pub fn is_reserved(name: &[u8]) -> bool
 }
 
 /// A number up to a limit.
+///
+/// # Errors
+///
+/// `TooMany` if it exceeds the limit.
 pub fn up_to(limit: u64, n: u64) -> Result<u64, Fault>
     ensures number { Reads (λ n. n) result (up_to limit n) }
     ensures most { IfOk result (λ n. n ≤ limit) }
@@ -353,6 +409,10 @@ fn node_of(count: u32, j: Option<u64>) -> Result<Start, Fault>
 }
 
 /// The first value that a word says, with so many initial nodes.
+///
+/// # Errors
+///
+/// `Number` if it is a number that exceeds 2^64 - 1, `UnknownName` if it is `@J` and there is no initial node J.
 pub fn start_of(count: u32, start: StartWord) -> Result<Start, Fault>
     ensures { Reads (λ start. start) result (start_of count (start_shown start)) }
 {

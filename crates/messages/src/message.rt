@@ -287,11 +287,11 @@ fn named_in(alloc: Global, bytes: &[u8], status: Status) -> Blame
 }
 
 /// The same of what a source remembers.
-fn named_of<S: Source>(input: &RememberingSource<S>, status: Status) -> Blame
+fn named_of<S: Source>(alloc: Global, input: &RememberingSource<S>, status: Status) -> Blame
     ensures { IsNamedFor (remembered input.now) status result }
 {
     match input.bytes() {
-        Some(bytes) => named_in(input.alloc(), bytes, status),
+        Some(bytes) => named_in(alloc, bytes, status),
         None => Blame::Found(None),
     }
 }
@@ -314,10 +314,15 @@ fn explain_named<K: Sink, S: Source>(
 }
 
 /// Writes the message on a status: if the source remembers what was read, what the status means, which line is at fault, and how to
-/// mend it; if that is forgotten, the sentence on the status alone. If all went well, there is none. At `Failed` a prefix of it
-/// was written. If a rule is broken, the first register that is at fault is named, and if a replay stopped at a turn, that turn;
-/// if there was no memory to find the register or the turn, the message says so.
+/// mend it; if that is forgotten, the sentence on the status alone. If all went well, there is none. If a rule is broken, the first
+/// register that is at fault is named, and if a replay stopped at a turn, that turn; if there was no memory to find the register or
+/// the turn, the message says so.
+///
+/// # Errors
+///
+/// `Failed` if a write fails: a prefix of the message was written then.
 pub fn explain_read<K: Sink, S: Source>(
+    alloc: Global,
     errors: &mut K,
     input: &RememberingSource<S>,
     status: Status,
@@ -326,6 +331,6 @@ pub fn explain_read<K: Sink, S: Source>(
     ensures bytes { (named : Blame) × IsNamedFor (remembered input.now) status named × Writes (K.written errors.old) (K.written errors.new) (message_for (remembered input.now) status named turn) result }
     ensures cause { HasCause (K.faults errors.old) (K.faults errors.new) result }
 {
-    let named = named_of(input, status);
+    let named = named_of(alloc, input, status);
     explain_named(errors, input, status, named, turn)
 }

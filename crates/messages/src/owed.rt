@@ -300,7 +300,7 @@ fn odd(word: &[u8]) -> bool
 }
 
 /// The first word that is spelled as no word of the language is.
-#[tactic(auto, using(crate::proofs::Lasts::word_met, crate::proofs::Lasts::word_left, crate::proofs::Lasts::words_done))]
+#[tactic(auto, using(count_messages::proofs::Straying::word_met, count_messages::proofs::Straying::word_left, count_messages::proofs::Straying::words_done))]
 fn odd_token<'a>(tokens: Tokens<'a>) -> Option<&'a [u8]>
     ensures { MatchOption result (find is_odd_word (map (λ token. token.bytes) tokens.entry) ≡ None) (λ word. find is_odd_word (map (λ token. token.bytes) tokens.entry) ≡ Some word.now) }
 {

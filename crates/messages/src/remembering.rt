@@ -15,14 +15,13 @@ use std::marker::Model;
 /// them. Else it forgets them all.
 #[derive(Drop)]
 pub struct RememberingSource<S: Source> {
-    alloc: Global,
     inner: S,
     bytes: Vec<u8>,
     whole: bool,
 }
 
 impl<S: Source> Model for RememberingSource<S> {
-    ghost use Rattle.std.specs.Prelude.{◌≤◌, length};
+    ghost use Rattle.std.specs.Prelude.{◌≤◌, length, vec_capacity};
     ghost use Rattle.messages.specs.Remembered.{RememberingInput, most_remembered};
 
     ghost Value = { RememberingInput };
@@ -31,6 +30,7 @@ impl<S: Source> Model for RememberingSource<S> {
       left = S.left s.inner;
       faults = S.faults s.inner;
       bytes = s.bytes.items;
+      room = vec_capacity s.bytes;
       whole = s.whole;
     } };
 
@@ -40,10 +40,9 @@ impl<S: Source> Model for RememberingSource<S> {
 impl<S: Source> RememberingSource<S> {
     /// A source of what another has left, of which nothing was read.
     pub fn new(alloc: Global, inner: S) -> RememberingSource<S>
-        ensures { result ≡ record { left = S.left inner; faults = S.faults inner; bytes = []; whole = true } }
+        ensures { result ≡ record { left = S.left inner; faults = S.faults inner; bytes = []; room = 0; whole = true } }
     {
         RememberingSource {
-            alloc,
             inner,
             bytes: Vec::new(alloc),
             whole: true,
@@ -60,11 +59,6 @@ impl<S: Source> RememberingSource<S> {
         } else {
             None
         }
-    }
-
-    /// What the bytes are kept by.
-    pub fn alloc(&self) -> Global {
-        self.alloc
     }
 
     /// Remembers a piece, or forgets all.
@@ -90,7 +84,7 @@ impl<S: Source> Source for RememberingSource<S> {
         ensures bytes { ReadConsumes self.old.left self.new.left result buffer.new }
         ensures cause { HasCause self.old.faults self.new.faults result }
         ensures remembered { IfOk result (λ count. IsRemembered self.old self.new (take count buffer.new)) }
-        ensures kept { OnErr result (remembered self.new ≡ remembered self.old) }
+        ensures kept { OnErr result (self.new ≡ record self.old { left = self.new.left; faults = self.new.faults }) }
     {
         match self.inner.read(buffer) {
             Ok(count) => {

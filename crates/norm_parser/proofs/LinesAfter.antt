@@ -34,7 +34,7 @@ from_left n m (line ∷ front) left whole is own from le =
 -- what is left of lines after a fault's line are those from the next line on
 pub left_at : (n : ℕ) (error : ParseError) (whole left : List TextLine) → AreFrom n whole → AreLeftOf whole left → AreAfter (n + length whole) error left
     → AreLeftAt error whole left
-left_at n errors.Memory whole left own is after = tt
+left_at n errors.Memory whole left own is after = absurd after
 left_at n (errors.Fault fault) whole left own is after =
     let count : length is.front + length left ≡ length whole = sym (length-append is.front left) ∙ ap length is.same in
     sym (from_left n (fault.line + 1) is.front left whole is.same own after.0 (omega (arith, count, after.1)))

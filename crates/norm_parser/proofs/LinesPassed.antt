@@ -2,7 +2,7 @@
 use Rattle.std.specs.Prelude.{Result, Ok, Err}
 use Rattle.std.proofs.Common.{◌≡◌, ℕ, ◌+◌, ◌-◌, ◌<◌, ◌≤◌, List, [], ◌∷◌, refl, sym, ap, ◌∙◌, arith}
 use Rattle.oa_text.specs.Lines.{TextLine}
-use Rattle.line_words.specs.declared.fault.Stop.{Stop}
+use Rattle.line_words.specs.declared.fault.Fault.{Fault}
 use Rattle.line_words.specs.declared.fault.Stop.TheVariants as stops
 use Rattle.line_words.specs.declared.fault.ParseError.{ParseError}
 use Rattle.line_words.specs.declared.fault.ParseError.TheVariants as errors
@@ -57,19 +57,17 @@ later_next whole left next line passed stands taken =
     sym ((one_passed whole left next line passed stands taken).later next.number (omega arith) ∙ all_from next.number next.number next.lines (omega arith) own)
 
 -- the next line is taken, and it has a fault
-pub left_faulty : (whole left next : LinesLeft) (line : TextLine) (number : ℕ) (stop : Stop) (error : ParseError) → ArePassed whole left → StandsNext line left → next ≡ rest_of left
-    → number ≡ line.number → error ≡ stopped_at number stop → AreLeftAt error whole.lines next.lines
-left_faulty whole left next line number stops.Memory error passed stands taken same is = rw is tt
-left_faulty whole left next line number (stops.Fault fault) error passed stands taken same is =
+pub left_faulty : (whole left next : LinesLeft) (line : TextLine) (number : ℕ) (fault : Fault) (error : ParseError) → ArePassed whole left → StandsNext line left → next ≡ rest_of left
+    → number ≡ line.number → error ≡ stopped_at number (stops.Fault fault) → AreLeftAt error whole.lines next.lines
+left_faulty whole left next line number fault error passed stands taken same is =
     let k : next.number ≡ left.number + 1 = next_number line left next stands taken in
     let e : number + 1 ≡ next.number = omega (arith, k, same, stands.number) in
     rw (is, e) (later_next whole left next line passed stands taken)
 
 -- no line is left, and a further one must follow
-pub left_over : (whole left next : LinesLeft) (number : ℕ) (stop : Stop) (error : ParseError) → ArePassed whole left → left.lines ≡ [] → next ≡ rest_of left
-    → number ≡ next.number → error ≡ stopped_at number stop → AreLeftAt error whole.lines next.lines
-left_over whole left next number stops.Memory error passed none taken same is = rw is tt
-left_over whole left next number (stops.Fault fault) error passed none taken same is =
+pub left_over : (whole left next : LinesLeft) (number : ℕ) (fault : Fault) (error : ParseError) → ArePassed whole left → left.lines ≡ [] → next ≡ rest_of left
+    → number ≡ next.number → error ≡ stopped_at number (stops.Fault fault) → AreLeftAt error whole.lines next.lines
+left_over whole left next number fault error passed none taken same is =
     let next_is : next ≡ rest_in left.number [] = taken ∙ ap (rest_in left.number) none in
     let n : next.number ≡ left.number = ap (λ (ls : LinesLeft). ls.number) next_is in
     let ends : next.lines ≡ [] = ap (λ (ls : LinesLeft). ls.lines) next_is in
@@ -83,10 +81,9 @@ later_after whole left next passed none taken =
     ends ∙ sym (passed.later next.number (omega (arith, n)) ∙ ap (from_line next.number) none)
 
 -- the line before those that are left has a fault
-pub left_before : (whole left : LinesLeft) (past : ℕ) (stop : Stop) (error : ParseError) → AreTheLater whole left → past ≡ left.number → 1 ≤ past
-    → error ≡ stopped_at (past - 1) stop → AreLeftAt error whole.lines left.lines
-left_before whole left past stops.Memory error later same counted is = rw is tt
-left_before whole left past (stops.Fault fault) error later same counted is =
+pub left_before : (whole left : LinesLeft) (past : ℕ) (fault : Fault) (error : ParseError) → AreTheLater whole left → past ≡ left.number → 1 ≤ past
+    → error ≡ stopped_at (past - 1) (stops.Fault fault) → AreLeftAt error whole.lines left.lines
+left_before whole left past fault error later same counted is =
     let e : past - 1 + 1 ≡ left.number = omega (arith, same, counted) in
     rw (is, e) later
 

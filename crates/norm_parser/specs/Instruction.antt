@@ -32,14 +32,14 @@ pub record AreLeftOf (whole left : List TextLine) : Type 0 where
   pub same : front ++ left ≡ whole
 
 -- the lines that are left after a fault are those after its line: none if the input ended too early. If memory runs
--- out, any lines may be left
+-- out, no line was taken
 abbrev pub AreLeftAt : ParseError → List TextLine → List TextLine → Type 0
-AreLeftAt errors.Memory whole left = Unit {0}
+AreLeftAt errors.Memory whole left = left ≡ whole
 AreLeftAt (errors.Fault fault) whole left = left ≡ from_line (fault.line + 1) whole
 
--- the lines after a fault's line are left, of lines up to the one before `past`
+-- the lines after a fault's line are left, of lines up to the one before `past`; memory doesn't run out
 abbrev pub AreAfter : ℕ → ParseError → List TextLine → Type 0
-AreAfter past errors.Memory left = Unit {0}
+AreAfter past errors.Memory left = ⊥
 AreAfter past (errors.Fault fault) left = AreFrom (fault.line + 1) left × (past ≤ fault.line + 1 + length left)
 
 -- what the words of an instruction's own line say, or their first fault

@@ -151,6 +151,10 @@ impl Draft {
     }
 
     /// Nothing is declared, and the next line stands there.
+    ///
+    /// # Errors
+    ///
+    /// `AllocError` if memory runs out.
     pub fn at(alloc: Global, version: Version, section: Section) -> Result<Draft, AllocError>
         ensures { IfOk result (λ draft. draft_shown draft ≡ draft_at version (section_shown section)) }
     {
@@ -205,6 +209,10 @@ impl Draft {
     }
 
     /// Adds the count of nodes of the next kind.
+    ///
+    /// # Errors
+    ///
+    /// `AllocError` if memory runs out.
     pub fn add_count(&mut self, count: u32) -> Result<(), AllocError>
         requires { self.old.counted < 4 }
         ensures { IfOk result (λ _. draft_shown self.new ≡ with_count (draft_shown self.old) count) }
@@ -248,6 +256,10 @@ impl Draft {
     }
 
     /// Adds the operation whose lines stood here to those that are whole.
+    ///
+    /// # Errors
+    ///
+    /// `Fault::Form` if its wrap-up has no instruction; `Memory` if memory runs out.
     pub fn end_op(&mut self, alloc: Global) -> Result<(), Stop>
         ensures { Gives (λ _. draft_shown self.new) result (with_whole_op (draft_shown self.old)) }
     {
@@ -304,6 +316,10 @@ impl Draft {
     }
 
     /// A commit begins, of which so many lines follow.
+    ///
+    /// # Errors
+    ///
+    /// `AllocError` if memory runs out.
     pub fn begin_commit(&mut self, alloc: Global, count: u8) -> Result<(), AllocError>
         ensures { IfOk result (λ _. draft_shown self.new ≡ with_entries count (draft_shown self.old) []) }
     {
@@ -313,6 +329,10 @@ impl Draft {
     }
 
     /// One more entry of a commit, of which so many lines are left after it.
+    ///
+    /// # Errors
+    ///
+    /// `AllocError` if memory runs out.
     pub fn add_entry(&mut self, alloc: Global, entry: CasEntry, left: u8) -> Result<(), AllocError>
         ensures { IfOk result (λ _. draft_shown self.new ≡ with_entries left (draft_shown self.old) (self.old.entries ++ entry ∷ [])) }
     {
@@ -336,6 +356,10 @@ impl Draft {
     }
 
     /// The text, unless a further line must follow.
+    ///
+    /// # Errors
+    ///
+    /// `Fault::Form` if a further line must follow; `Memory` if memory runs out.
     pub fn finish(self, alloc: Global) -> Result<Text, Stop>
         ensures { Gives (λ text. text) result (finished (draft_shown self)) }
     {

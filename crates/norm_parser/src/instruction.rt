@@ -1,6 +1,6 @@
 //! One instruction, with the entry lines of a commit.
 
-ghost use Rattle.std.specs.Prelude.{◌≡◌, ◌+◌, ◌<◌, ◌≤◌, ◌^◌, length, map, IsTrue, IfErr, false, []};
+ghost use Rattle.std.specs.Prelude.{◌≡◌, ◌+◌, ◌<◌, ◌≤◌, ◌^◌, length, map, vec_len, vec_capacity, IsTrue, IfErr, false, []};
 ghost use Rattle.oa_text.specs.Shown.{line_shown};
 ghost use Rattle.oa_text.specs.Tokens.{words_of};
 ghost use Rattle.norm_lang.specs.Limits.{are_different};
@@ -24,12 +24,12 @@ fn step_in(
     kinds: &[Name],
     fields: &[FieldDecl],
     roots: &[RootDecl],
-    words: &mut Words,
+    mut words: Words,
 ) -> Result<Step, Fault>
     requires few_kinds { length kinds.now ≤ 4 }
     requires few_fields { length fields.now ≤ 16 }
     requires few_roots { length roots.now ≤ 256 }
-    ensures { Reads step_shown result (step_in kinds.now fields.now roots.now words.old) }
+    ensures { Reads step_shown result (step_in kinds.now fields.now roots.now words.entry) }
 {
     let word = words.word()?;
     read_step(Version::Second, kinds, fields, roots, word, words)
@@ -47,19 +47,18 @@ fn step_of(
     requires few_roots { length roots.now ≤ 256 }
     ensures { Reads step_shown result (step_of kinds.now fields.now roots.now (line_shown line.entry)) }
 {
-    let mut words = Words::new(line)?;
-    step_in(kinds, fields, roots, &mut words)
+    step_in(kinds, fields, roots, Words::new(line)?)
 }
 
 /// The entry that a line's words say: `None` if it is skipped.
 fn entry_in(
     fields: &[FieldDecl],
     roots: &[RootDecl],
-    words: &mut Words,
+    mut words: Words,
 ) -> Result<Option<CasEntry>, Fault>
     requires few_fields { length fields.now ≤ 16 }
     requires few_roots { length roots.now ≤ 256 }
-    ensures { Reads (λ entry. entry) result (entry_in fields.now roots.now (first_word words.old)) }
+    ensures { Reads (λ entry. entry) result (entry_in fields.now roots.now (first_word words.entry)) }
 {
     match words.first() {
         None => Ok(None),
@@ -73,8 +72,7 @@ fn entry_of(fields: &[FieldDecl], roots: &[RootDecl], line: Line) -> Result<Opti
     requires few_roots { length roots.now ≤ 256 }
     ensures { Reads (λ entry. entry) result (entry_of fields.now roots.now (line_shown line.entry)) }
 {
-    let mut words = Words::new(line)?;
-    entry_in(fields, roots, &mut words)
+    entry_in(fields, roots, Words::new(line)?)
 }
 
 /// The next entry among the lines that are left, which are numbered from `next` on.
@@ -106,10 +104,10 @@ fn next_entry(
     Err(Stop::Fault(Fault::Form).at(*next))
 }
 
-/// Adds the entries of a commit to none.
+/// Adds the entries of a commit to none, where there is room for them.
 #[tactic(auto, using(crate::proofs::LinesLeft::entries_more, crate::proofs::LinesLeft::entries_stopped, crate::proofs::LinesLeft::entries_done, crate::proofs::LinesLeft::left_all, crate::proofs::LinesLeft::left_more, crate::proofs::LinesAfter::after_entry))]
 fn add_entries(
-    entries: &mut Entries,
+    entries: &mut Vec<CasEntry>,
     fields: &[FieldDecl],
     roots: &[RootDecl],
     count: u8,
@@ -120,18 +118,21 @@ fn add_entries(
     requires few_roots { length roots.now ≤ 256 }
     requires ordered { AreFrom next.old rest.old }
     requires room { next.old + length rest.old < 2 ^ 32 }
-    ensures entries { Answers (λ _. (entries.new, rest.new)) result (entries_from fields.now roots.now (next.old + length rest.old) count entries.old rest.old) }
+    requires places { vec_len entries.old + count ≤ vec_capacity entries.old }
+    ensures entries { Answers (λ _. (entries.new.items, rest.new)) result (entries_from fields.now roots.now (next.old + length rest.old) count entries.old.items rest.old) }
     ensures fault { IfErr result (λ error. AreAfter (next.old + length rest.old) error rest.new) }
     ensures left { AreLeftOf rest.old rest.new }
 {
     for _ in 0..count {
         let entry = next_entry(fields, roots, next, rest)?;
-        entries.push(entry)?;
+        entries.push_reserved(entry);
     }
     Ok(())
 }
 
-/// The entries of a commit.
+/// The entries of a commit. Room for all of them is taken before the first line is, so that no line is taken if memory runs
+/// out.
+#[tactic(auto, using(crate::proofs::LinesLeft::left_all, crate::proofs::LinesAfter::left_at))]
 fn entries(
     alloc: Global,
     fields: &[FieldDecl],
@@ -145,19 +146,19 @@ fn entries(
     requires ordered { AreFrom next.old rest.old }
     requires room { next.old + length rest.old < 2 ^ 32 }
     ensures entries { Answers (λ entries. (entries, rest.new)) result (entries_from fields.now roots.now (next.old + length rest.old) count [] rest.old) }
-    ensures fault { IfErr result (λ error. AreAfter (next.old + length rest.old) error rest.new) }
+    ensures fault { IfErr result (λ error. AreLeftAt error rest.old rest.new) }
     ensures left { AreLeftOf rest.old rest.new }
 {
-    let mut entries = Listed::empty(alloc);
+    let mut entries = Vec::with_capacity(alloc, count as usize)?;
     match add_entries(&mut entries, fields, roots, count, next, rest) {
-        Ok(()) => Ok(entries),
+        Ok(()) => Ok(Listed::from_vec(entries)),
         Err(stop) => Err(stop),
     }
 }
 
 /// The instruction of a step. For a commit its entry lines are taken from `rest`, whose first line would have the number
 /// `next`.
-#[tactic(auto, using(crate::proofs::LinesLeft::left_all, crate::proofs::LinesAfter::left_at))]
+#[tactic(auto, using(crate::proofs::LinesLeft::left_all))]
 fn completed(
     alloc: Global,
     fields: &[FieldDecl],
@@ -192,11 +193,11 @@ fn completed(
 ///
 /// # Errors
 ///
-/// `Memory` if memory ran out. `Fault` if the lines are no instruction: the first of them that has a fault, with its
-/// first fault; if the input ends before the last entry line, fault 4 at one more than the number of lines. Then `rest`
-/// holds the lines after the fault's line: all of them if that line is `first`, and none if the input ended. At
-/// `Memory` it holds those after some of the entry lines.
-#[tactic(auto, using(crate::proofs::LinesLeft::left_all, crate::proofs::LinesAfter::all_after, crate::proofs::LinesAfter::left_at))]
+/// `Memory` if memory ran out; `rest` is then as it was. `Fault` if the lines are no instruction: the first of them that
+/// has a fault, with its first fault; if the input ends before the last entry line, fault 4 at one more than the number
+/// of lines. Then `rest` holds the lines after the fault's line: all of them if that line is `first`, and none if the
+/// input ended.
+#[tactic(auto, using(crate::proofs::LinesLeft::left_all, crate::proofs::LinesAfter::all_after))]
 pub fn parse_instr<'a>(
     alloc: Global,
     first: Line<'a>,

@@ -15,12 +15,12 @@ use oa_text::Line;
 use std::alloc::Global;
 
 #[tactic(auto, using(crate::proofs::LineReads::words_skipped, crate::proofs::LineReads::words_placed))]
-fn read_words(draft: &mut Draft, alloc: Global, words: &mut Words) -> Result<(), Stop>
+fn read_words(draft: &mut Draft, alloc: Global, mut words: Words) -> Result<(), Stop>
     requires few_kinds { length draft.old.text.kinds ≤ 4 }
     requires few_fields { length draft.old.text.fields ≤ 16 }
     requires few_roots { length draft.old.text.roots ≤ 256 }
     requires few_owners { length draft.old.owners ≤ 256 }
-    ensures { Gives (λ _. draft_shown draft.new) result (after_words (draft_shown draft.old) words.old) }
+    ensures { Gives (λ _. draft_shown draft.new) result (after_words (draft_shown draft.old) words.entry) }
 {
     match words.first() {
         None => Ok(()),
@@ -36,11 +36,14 @@ fn add_text_line(draft: &mut Draft, alloc: Global, line: Line) -> Result<(), Sto
     requires few_owners { length draft.old.owners ≤ 256 }
     ensures { Gives (λ _. draft_shown draft.new) result (after_line (draft_shown draft.old) (line_shown line.entry)) }
 {
-    let mut words = Words::new(line)?;
-    read_words(draft, alloc, &mut words)
+    read_words(draft, alloc, Words::new(line)?)
 }
 
 /// Adds what a line declares. A line that is skipped adds nothing, and its bytes are judged.
+///
+/// # Errors
+///
+/// `Fault` if the line may not stand there: its number, and its first fault. `Memory` if memory runs out.
 pub fn read_text_line(draft: &mut Draft, alloc: Global, line: Line) -> Result<(), ParseError>
     requires few_kinds { length draft.old.text.kinds ≤ 4 }
     requires few_fields { length draft.old.text.fields ≤ 16 }

@@ -23,8 +23,8 @@ fn replace(draft: &mut Draft, new: Draft)
 }
 
 /// The version line.
-fn in_start(draft: &mut Draft, alloc: Global, word: &[u8], words: &mut Words) -> Result<(), Stop>
-    ensures { Gives (λ _. draft_shown draft.new) result (in_start (draft_shown draft.old) word.now words.old) }
+fn in_start(draft: &mut Draft, alloc: Global, word: &[u8], words: Words) -> Result<(), Stop>
+    ensures { Gives (λ _. draft_shown draft.new) result (in_start (draft_shown draft.old) word.now words.entry) }
 {
     if word != b"oa".as_slice() {
         return Err(Stop::Fault(Fault::Form));
@@ -35,8 +35,8 @@ fn in_start(draft: &mut Draft, alloc: Global, word: &[u8], words: &mut Words) ->
 }
 
 /// One more kind.
-fn next_kind(draft: &mut Draft, alloc: Global, words: &mut Words) -> Result<(), Stop>
-    ensures { Gives (λ _. draft_shown draft.new) result (next_kind (draft_shown draft.old) words.old) }
+fn next_kind(draft: &mut Draft, alloc: Global, words: Words) -> Result<(), Stop>
+    ensures { Gives (λ _. draft_shown draft.new) result (next_kind (draft_shown draft.old) words.entry) }
 {
     let name = declarations::kind(alloc, draft.text.kinds.items(), words)?;
     draft.add_kind(name)?;
@@ -44,9 +44,9 @@ fn next_kind(draft: &mut Draft, alloc: Global, words: &mut Words) -> Result<(), 
 }
 
 /// One more field.
-fn next_field(draft: &mut Draft, alloc: Global, words: &mut Words) -> Result<(), Stop>
+fn next_field(draft: &mut Draft, alloc: Global, words: Words) -> Result<(), Stop>
     requires few_kinds { length draft.old.text.kinds ≤ 4 }
-    ensures { Gives (λ _. draft_shown draft.new) result (next_field (draft_shown draft.old) words.old) }
+    ensures { Gives (λ _. draft_shown draft.new) result (next_field (draft_shown draft.old) words.entry) }
 {
     let field = declarations::field(
         alloc,
@@ -61,9 +61,9 @@ fn next_field(draft: &mut Draft, alloc: Global, words: &mut Words) -> Result<(),
 
 /// The count of nodes of the next kind.
 #[tactic(auto, using(crate::proofs::Counts::turn_is_kind))]
-fn next_count(draft: &mut Draft, words: &mut Words) -> Result<(), Stop>
+fn next_count(draft: &mut Draft, words: Words) -> Result<(), Stop>
     requires few_kinds { length draft.old.text.kinds ≤ 4 }
-    ensures { Gives (λ _. draft_shown draft.new) result (next_count (draft_shown draft.old) words.old) }
+    ensures { Gives (λ _. draft_shown draft.new) result (next_count (draft_shown draft.old) words.entry) }
 {
     let count = declarations::nodes(
         draft.version,
@@ -77,14 +77,9 @@ fn next_count(draft: &mut Draft, words: &mut Words) -> Result<(), Stop>
 }
 
 /// The first kind, or in the first version, whose lines declare none, the first field.
-fn first_declared(
-    draft: &mut Draft,
-    alloc: Global,
-    word: &[u8],
-    words: &mut Words,
-) -> Result<(), Stop>
+fn first_declared(draft: &mut Draft, alloc: Global, word: &[u8], words: Words) -> Result<(), Stop>
     requires few_kinds { length draft.old.text.kinds ≤ 4 }
-    ensures { Gives (λ _. draft_shown draft.new) result (first_declared (draft_shown draft.old).version (draft_shown draft.old) word.now words.old) }
+    ensures { Gives (λ _. draft_shown draft.new) result (first_declared (draft_shown draft.old).version (draft_shown draft.old) word.now words.entry) }
 {
     match draft.version {
         Version::First if word == b"field".as_slice() => next_field(draft, alloc, words),
@@ -94,9 +89,9 @@ fn first_declared(
 }
 
 /// A shipped text, or the first declaration.
-fn in_opening(draft: &mut Draft, alloc: Global, word: &[u8], words: &mut Words) -> Result<(), Stop>
+fn in_opening(draft: &mut Draft, alloc: Global, word: &[u8], words: Words) -> Result<(), Stop>
     requires few_kinds { length draft.old.text.kinds ≤ 4 }
-    ensures { Gives (λ _. draft_shown draft.new) result (in_opening (draft_shown draft.old) word.now words.old) }
+    ensures { Gives (λ _. draft_shown draft.new) result (in_opening (draft_shown draft.old) word.now words.entry) }
 {
     if word == b"use".as_slice() {
         draft.text = declarations::shipped(alloc, words)?;
@@ -108,9 +103,9 @@ fn in_opening(draft: &mut Draft, alloc: Global, word: &[u8], words: &mut Words) 
 }
 
 /// A kind, or the first field.
-fn in_kinds(draft: &mut Draft, alloc: Global, word: &[u8], words: &mut Words) -> Result<(), Stop>
+fn in_kinds(draft: &mut Draft, alloc: Global, word: &[u8], words: Words) -> Result<(), Stop>
     requires few_kinds { length draft.old.text.kinds ≤ 4 }
-    ensures { Gives (λ _. draft_shown draft.new) result (in_kinds (draft_shown draft.old) word.now words.old) }
+    ensures { Gives (λ _. draft_shown draft.new) result (in_kinds (draft_shown draft.old) word.now words.entry) }
 {
     if word == b"kind".as_slice() {
         next_kind(draft, alloc, words)
@@ -129,9 +124,9 @@ fn begun(draft: &Draft) -> bool
 }
 
 /// A field, or if each kind has one, the count of nodes of the first kind.
-fn in_fields(draft: &mut Draft, alloc: Global, word: &[u8], words: &mut Words) -> Result<(), Stop>
+fn in_fields(draft: &mut Draft, alloc: Global, word: &[u8], words: Words) -> Result<(), Stop>
     requires few_kinds { length draft.old.text.kinds ≤ 4 }
-    ensures { Gives (λ _. draft_shown draft.new) result (in_fields (draft_shown draft.old) word.now words.old) }
+    ensures { Gives (λ _. draft_shown draft.new) result (in_fields (draft_shown draft.old) word.now words.entry) }
 {
     if word == b"field".as_slice() {
         next_field(draft, alloc, words)
@@ -143,9 +138,9 @@ fn in_fields(draft: &mut Draft, alloc: Global, word: &[u8], words: &mut Words) -
 }
 
 /// The count of nodes of a further kind.
-fn in_counts(draft: &mut Draft, word: &[u8], words: &mut Words) -> Result<(), Stop>
+fn in_counts(draft: &mut Draft, word: &[u8], words: Words) -> Result<(), Stop>
     requires few_kinds { length draft.old.text.kinds ≤ 4 }
-    ensures { Gives (λ _. draft_shown draft.new) result (in_counts (draft_shown draft.old) word.now words.old) }
+    ensures { Gives (λ _. draft_shown draft.new) result (in_counts (draft_shown draft.old) word.now words.entry) }
 {
     if word == b"nodes".as_slice() {
         next_count(draft, words)
@@ -155,9 +150,9 @@ fn in_counts(draft: &mut Draft, word: &[u8], words: &mut Words) -> Result<(), St
 }
 
 /// A node.
-fn in_nodes(draft: &mut Draft, alloc: Global, word: &[u8], words: &mut Words) -> Result<(), Stop>
+fn in_nodes(draft: &mut Draft, alloc: Global, word: &[u8], words: Words) -> Result<(), Stop>
     requires few_owners { length draft.old.owners ≤ 256 }
-    ensures { Gives (λ _. draft_shown draft.new) result (in_nodes (draft_shown draft.old) word.now words.old) }
+    ensures { Gives (λ _. draft_shown draft.new) result (in_nodes (draft_shown draft.old) word.now words.entry) }
 {
     if word != b"node".as_slice() {
         return Err(Stop::Fault(Fault::Form));
@@ -174,10 +169,10 @@ fn in_nodes(draft: &mut Draft, alloc: Global, word: &[u8], words: &mut Words) ->
 }
 
 /// A root, or after at least one the first operation.
-fn in_roots(draft: &mut Draft, alloc: Global, word: &[u8], words: &mut Words) -> Result<(), Stop>
+fn in_roots(draft: &mut Draft, alloc: Global, word: &[u8], words: Words) -> Result<(), Stop>
     requires few_kinds { length draft.old.text.kinds ≤ 4 }
     requires few_owners { length draft.old.owners ≤ 256 }
-    ensures { Gives (λ _. draft_shown draft.new) result (in_roots (draft_shown draft.old) word.now words.old) }
+    ensures { Gives (λ _. draft_shown draft.new) result (in_roots (draft_shown draft.old) word.now words.entry) }
 {
     if word == b"root".as_slice() {
         let root = declarations::root(
@@ -200,8 +195,8 @@ fn in_roots(draft: &mut Draft, alloc: Global, word: &[u8], words: &mut Words) ->
 }
 
 /// `gen`
-fn in_begun(draft: &mut Draft, word: &[u8], words: &mut Words) -> Result<(), Stop>
-    ensures { Gives (λ _. draft_shown draft.new) result (in_begun (draft_shown draft.old) word.now words.old) }
+fn in_begun(draft: &mut Draft, word: &[u8], mut words: Words) -> Result<(), Stop>
+    ensures { Gives (λ _. draft_shown draft.new) result (in_begun (draft_shown draft.old) word.now words.entry) }
 {
     if word != b"gen".as_slice() {
         return Err(Stop::Fault(Fault::Form));
@@ -235,11 +230,11 @@ fn add_step(draft: &mut Draft, alloc: Global, step: Step) -> Result<(), Stop>
 }
 
 /// An instruction of a method.
-fn in_method(draft: &mut Draft, alloc: Global, word: &[u8], words: &mut Words) -> Result<(), Stop>
+fn in_method(draft: &mut Draft, alloc: Global, word: &[u8], words: Words) -> Result<(), Stop>
     requires few_kinds { length draft.old.text.kinds ≤ 4 }
     requires few_fields { length draft.old.text.fields ≤ 16 }
     requires few_roots { length draft.old.text.roots ≤ 256 }
-    ensures { Gives (λ _. draft_shown draft.new) result (in_method (draft_shown draft.old) word.now words.old) }
+    ensures { Gives (λ _. draft_shown draft.new) result (in_method (draft_shown draft.old) word.now words.entry) }
 {
     let step = read_step(
         draft.version,
@@ -257,16 +252,11 @@ fn in_method(draft: &mut Draft, alloc: Global, word: &[u8], words: &mut Words) -
 }
 
 /// An instruction, or after at least one `wrap`.
-fn in_generator(
-    draft: &mut Draft,
-    alloc: Global,
-    word: &[u8],
-    words: &mut Words,
-) -> Result<(), Stop>
+fn in_generator(draft: &mut Draft, alloc: Global, word: &[u8], mut words: Words) -> Result<(), Stop>
     requires few_kinds { length draft.old.text.kinds ≤ 4 }
     requires few_fields { length draft.old.text.fields ≤ 16 }
     requires few_roots { length draft.old.text.roots ≤ 256 }
-    ensures { Gives (λ _. draft_shown draft.new) result (in_generator (draft_shown draft.old) word.now words.old) }
+    ensures { Gives (λ _. draft_shown draft.new) result (in_generator (draft_shown draft.old) word.now words.entry) }
 {
     if word == b"wrap".as_slice() && !draft.op.generator.items().is_empty() {
         words.end()?;
@@ -278,8 +268,8 @@ fn in_generator(
 }
 
 /// `op NAME A` after a whole operation.
-fn next_op(draft: &mut Draft, alloc: Global, words: &mut Words) -> Result<(), Stop>
-    ensures { Gives (λ _. draft_shown draft.new) result (next_op (draft_shown draft.old) words.old) }
+fn next_op(draft: &mut Draft, alloc: Global, words: Words) -> Result<(), Stop>
+    ensures { Gives (λ _. draft_shown draft.new) result (next_op (draft_shown draft.old) words.entry) }
 {
     draft.end_op(alloc)?;
     let op = declarations::op(alloc, draft.text.ops.items(), words)?;
@@ -288,11 +278,11 @@ fn next_op(draft: &mut Draft, alloc: Global, words: &mut Words) -> Result<(), St
 }
 
 /// An instruction, or another operation after a whole one.
-fn in_wrap_up(draft: &mut Draft, alloc: Global, word: &[u8], words: &mut Words) -> Result<(), Stop>
+fn in_wrap_up(draft: &mut Draft, alloc: Global, word: &[u8], words: Words) -> Result<(), Stop>
     requires few_kinds { length draft.old.text.kinds ≤ 4 }
     requires few_fields { length draft.old.text.fields ≤ 16 }
     requires few_roots { length draft.old.text.roots ≤ 256 }
-    ensures { Gives (λ _. draft_shown draft.new) result (in_wrap_up (draft_shown draft.old) word.now words.old) }
+    ensures { Gives (λ _. draft_shown draft.new) result (in_wrap_up (draft_shown draft.old) word.now words.entry) }
 {
     if word == b"op".as_slice() {
         next_op(draft, alloc, words)
@@ -301,12 +291,12 @@ fn in_wrap_up(draft: &mut Draft, alloc: Global, word: &[u8], words: &mut Words) 
     }
 }
 
-fn in_section(draft: &mut Draft, alloc: Global, word: &[u8], words: &mut Words) -> Result<(), Stop>
+fn in_section(draft: &mut Draft, alloc: Global, word: &[u8], words: Words) -> Result<(), Stop>
     requires few_kinds { length draft.old.text.kinds ≤ 4 }
     requires few_fields { length draft.old.text.fields ≤ 16 }
     requires few_roots { length draft.old.text.roots ≤ 256 }
     requires few_owners { length draft.old.owners ≤ 256 }
-    ensures { Gives (λ _. draft_shown draft.new) result (in_section (draft_shown draft.old).section (draft_shown draft.old) word.now words.old) }
+    ensures { Gives (λ _. draft_shown draft.new) result (in_section (draft_shown draft.old).section (draft_shown draft.old) word.now words.entry) }
 {
     match draft.section {
         Section::Start => in_start(draft, alloc, word, words),
@@ -329,11 +319,11 @@ fn in_commit(
     alloc: Global,
     left: u8,
     word: &[u8],
-    words: &mut Words,
+    words: Words,
 ) -> Result<(), Stop>
     requires few_fields { length draft.old.text.fields ≤ 16 }
     requires few_roots { length draft.old.text.roots ≤ 256 }
-    ensures { Gives (λ _. draft_shown draft.new) result (in_place (suc left) (draft_shown draft.old) word.now words.old) }
+    ensures { Gives (λ _. draft_shown draft.new) result (in_place (suc left) (draft_shown draft.old) word.now words.entry) }
 {
     let entry = read_entry(
         draft.text.fields.items(),
@@ -351,13 +341,13 @@ pub(crate) fn in_place(
     draft: &mut Draft,
     alloc: Global,
     word: &[u8],
-    words: &mut Words,
+    words: Words,
 ) -> Result<(), Stop>
     requires few_kinds { length draft.old.text.kinds ≤ 4 }
     requires few_fields { length draft.old.text.fields ≤ 16 }
     requires few_roots { length draft.old.text.roots ≤ 256 }
     requires few_owners { length draft.old.owners ≤ 256 }
-    ensures { Gives (λ _. draft_shown draft.new) result (in_place (draft_shown draft.old).left (draft_shown draft.old) word.now words.old) }
+    ensures { Gives (λ _. draft_shown draft.new) result (in_place (draft_shown draft.old).left (draft_shown draft.old) word.now words.entry) }
 {
     match draft.left.checked_sub(1) {
         Some(left) => in_commit(draft, alloc, left, word, words),

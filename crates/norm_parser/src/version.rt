@@ -25,8 +25,8 @@ pub fn numbered_version(number: u8) -> Version
     }
 }
 
-fn version_said(name: &[u8], word: &[u8], words: &mut Words) -> Result<Option<Version>, Fault>
-    ensures { Reads (λ said. said) result (version_said name.now (Some (word.now, words.old))) }
+fn version_said(name: &[u8], word: &[u8], words: Words) -> Result<Option<Version>, Fault>
+    ensures { Reads (λ said. said) result (version_said name.now (Some (word.now, words.entry))) }
 {
     if word != name {
         return Err(Fault::Form);
@@ -41,7 +41,7 @@ fn line_version(name: &[u8], line: Line) -> Result<Option<Version>, Fault>
     let mut words = Words::new(line)?;
     match words.first() {
         None => Ok(None),
-        Some(word) => version_said(name, word, &mut words),
+        Some(word) => version_said(name, word, words),
     }
 }
 

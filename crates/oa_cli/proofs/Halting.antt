@@ -1,6 +1,6 @@
 -- The turn at which a replay stopped.
-use Rattle.std.proofs.Common.{◌≡◌, ℕ, true, false, List, Option, Some, None, Result, Ok, Err, sym, ap, subst, ◌∙◌}
-use Rattle.std.proofs.lemmas.Option.{same_Some}
+use Rattle.std.proofs.Common.{◌≡◌, ℕ, Bool, true, false, List, Option, Some, None, Result, Ok, Err, refl, sym, subst, ◌∙◌}
+use Rattle.std.specs.Prelude.{MatchBool}
 use Rattle.norm_lang.specs.Faults.{LineFault}
 use Rattle.line_words.specs.declared.fault.ParseError.{ParseError}
 use Rattle.line_words.specs.declared.fault.ParseError.TheVariants as errors
@@ -55,19 +55,13 @@ stop_without_memory bytes = untold_at (document_read bytes)
 -- ---- of a source, and for a status
 
 pub stop_read : (read : Option (List ℕ)) (bytes : List ℕ) (turn : StoppedTurn) → read ≡ Some bytes → IsStopIn bytes turn → IsStopRead read turn
-stop_read read bytes turn same is other also = subst (λ (b : List ℕ). IsStopIn b turn) (same_Some bytes other (sym same ∙ also)) is
+stop_read read bytes turn same is = subst (λ (r : Option (List ℕ)). IsStopRead r turn) (sym same) is
 
-pub stop_forgotten : (read : Option (List ℕ)) (turn : StoppedTurn) → read ≡ None → IsStopRead read turn
-stop_forgotten read turn none bytes is = absurd (clash (sym none ∙ is))
-  where
-    clash : ◌≡◌ {A = Option (List ℕ)} None (Some bytes) → ⊥
-    clash same = cc
+pub stop_forgotten : (read : Option (List ℕ)) → read ≡ None → IsStopRead read NoMemory
+stop_forgotten read none = subst (λ (r : Option (List ℕ)). IsStopRead r NoMemory) (sym none) refl
 
-pub stop_for : (read : Option (List ℕ)) (status : Status) (turn : StoppedTurn) → IsStopRead read turn → IsStopFor read status turn
-stop_for read status turn is at same = is
+pub stop_for : (read : Option (List ℕ)) (status : Status) (turn : StoppedTurn) → is_stopped status ≡ true → IsStopRead read turn → IsStopFor read status turn
+stop_for read status turn stopped is = subst (λ (b : Bool). MatchBool b (IsStopRead read turn) (turn ≡ Nowhere)) (sym stopped) is
 
-pub no_stop_for : (read : Option (List ℕ)) (status : Status) (turn : StoppedTurn) → is_stopped status ≡ false → IsStopFor read status turn
-no_stop_for read status turn not at same = absurd (clash (sym (ap is_stopped same) ∙ not))
-  where
-    clash : true ≡ false → ⊥
-    clash same = cc
+pub no_stop_for : (read : Option (List ℕ)) (status : Status) → is_stopped status ≡ false → IsStopFor read status Nowhere
+no_stop_for read status not = subst (λ (b : Bool). MatchBool b (IsStopRead read Nowhere) (Nowhere ≡ Nowhere)) (sym not) refl

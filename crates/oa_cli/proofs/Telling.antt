@@ -61,11 +61,24 @@ read_told (Some (requests.OfDocument command)) old new before now verdict judged
 read_told (Some requests.OfCertificate) old new before now verdict judged rose = source_told CERTIFICATE_LIMIT IsOfCertificateBytes old new before now verdict judged rose
 read_told (Some (requests.Workload count callers)) old new before now verdict judged rose = absurd (none_rose before now judged.1.faults rose)
 
+-- each fault is told, if a fault of reading is the verdict
+told_by : (before now : ℕ) (verdict : Verdict) (held holds : Option (List ℕ)) (earlier later : ℕ) (result : Status)
+    → (before < now → status_for verdict ≡ statuses.ReadFault)
+    → IsSaid held holds earlier later (text_for verdict) (status_for verdict) result → FaultsAreTold before now earlier later result
+told_by before now verdict held holds earlier later result read said = record {
+  reading = λ rose. ⊎_elim (λ done. inl (done.0 ∙ read rose)) (λ stopped. inr (stopped.0, stopped.1)) said;
+  writing = λ rose. ⊎_elim (λ done. absurd (none_rose earlier later done.1 rose)) (λ stopped. stopped.0) said;
+}
+
 -- each fault is told
 pub told : (words : List (List ℕ)) (old new : Option (List ℕ)) (before now : ℕ) (verdict : Verdict) (held holds : Option (List ℕ)) (earlier later : ℕ)
     (result : Status) → IsJudged words old new before now verdict
     → IsSaid held holds earlier later (text_for verdict) (status_for verdict) result → FaultsAreTold before now earlier later result
-told words old new before now verdict held holds earlier later result judged said = record {
-  reading = λ rose. ⊎_elim (λ done. inl (done.0 ∙ read_told (request_of words) old new before now verdict judged rose)) (λ stopped. inr (stopped.0, stopped.1)) said;
-  writing = λ rose. ⊎_elim (λ done. absurd (none_rose earlier later done.1 rose)) (λ stopped. stopped.0) said;
-}
+told words old new before now verdict held holds earlier later result judged said =
+    told_by before now verdict held holds earlier later result (read_told (request_of words) old new before now verdict judged) said
+
+-- the same, if the source stays unread
+pub told_unread : (faults : ℕ) (verdict : Verdict) (held holds : Option (List ℕ)) (earlier later : ℕ) (result : Status)
+    → IsSaid held holds earlier later (text_for verdict) (status_for verdict) result → FaultsAreTold faults faults earlier later result
+told_unread faults verdict held holds earlier later result said =
+    told_by faults faults verdict held holds earlier later result (λ rose. let no : ⊥ = omega (arith, rose) in absurd no) said

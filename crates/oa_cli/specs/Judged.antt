@@ -25,7 +25,7 @@ use Rattle.certificates.specs.CertificateRead.{certificate_read, IsCertificate}
 use Rattle.certificates.specs.CertificateSpelling.{certificate_spelling}
 use Rattle.event_judge.specs.declared.verdict.Verdict.{Verdict as Judgement}
 use Rattle.event_judge.specs.declared.verdict.Verdict.TheVariants as judgements
-use Rattle.run_judge.specs.Judged.{IsJudged as IsFoundOf, IsMeant}
+use Rattle.run_judge.specs.Judged.{IsCertificateJudged as IsFoundOf, IsMeant}
 use Rattle.run_judge.specs.Made.{IsCertificateOf, IsMakingFaultOf}
 use Rattle.script_driver.specs.report_laws.Runs.{IsRunReport, IsReplayReport}
 use Rattle.script_driver.specs.report_laws.EpochLines.{IsEpochReport}
@@ -202,6 +202,11 @@ IsOfRequest (Some (requests.Workload count callers)) old new before now verdict 
 -- the verdict on the words, on the source's faults, and on its bytes
 abbrev pub IsJudged : List (List ℕ) → Option (List ℕ) → Option (List ℕ) → ℕ → ℕ → Verdict → Type 0
 IsJudged words old new before now verdict = IsOfRequest (request_of words) old new before now verdict
+
+-- the same, if the words could be had; if not, memory ran out, and the source stays unread
+abbrev pub IsJudgedIfHad : Option (List (List ℕ)) → Option (List ℕ) → Option (List ℕ) → ℕ → ℕ → Verdict → Type 0
+IsJudgedIfHad None old new before now verdict = (verdict ≡ verdicts.Memory) × Untouched old new before now
+IsJudgedIfHad (Some words) old new before now verdict = IsJudged words old new before now verdict
 
 -- the other way round: if the sink's count rose, a fault of writing is told; if the source's count rose, a fault of reading is,
 -- or one of writing, for which the sink's count rose too

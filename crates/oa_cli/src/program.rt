@@ -1,13 +1,20 @@
 //! What the program does around the top call: the words of its command line, a buffer for what it writes, and the end.
 
-ghost use Rattle.std.specs.Prelude.{map};
+ghost use Rattle.std.specs.Prelude.{◌≡◌, ◌≢◌, [], drop, map, option_map, IfOk, IfErr, IfSome, MatchOption};
 ghost use Rattle.std.specs.String.{string_bytes};
+ghost use Rattle.std.specs.Vec.Iter.{into_iter_items};
+ghost use Rattle.std.specs.IoError.{error_kind};
+ghost use Rattle.std.specs.declared.io.ErrorKind.TheVariants.{OutOfMemory};
 ghost use Rattle.oa_cli.specs.declared.verdicts.verdict.Verdict.{Verdict};
-ghost use Rattle.oa_cli.specs.Judged.{IsJudged, FaultsAreTold};
+ghost use Rattle.oa_cli.specs.Judged.{IsJudged, IsJudgedIfHad, FaultsAreTold};
 ghost use Rattle.oa_cli.specs.verdicts.Telling.{IsSaid, text_for, status_for};
 ghost use Rattle.command_input.specs.Commands.{request_of};
+ghost use Rattle.messages.specs.Remembered.{remembered};
+ghost use Rattle.oa_cli.specs.verdicts.Endings.{IsExplained};
 ghost use Rattle.oa_cli.specs.Complete.{IsComplete};
 ghost use Rattle.oa_cli.specs.Headline.{Headline};
+ghost use Rattle.statuses.specs.declared.status.Status.{Status};
+ghost use Rattle.statuses.specs.Statuses.{number_of};
 
 use crate::top::oa_main;
 use crate::verdicts::{Verdict, conclude, finish, say};
@@ -15,24 +22,22 @@ use messages::RememberingSource;
 use oa_text::{Gate, OpenGate, Source, StdSink, StdSource};
 use statuses::Status;
 use std::alloc::Global;
+use std::env::Args;
 use std::io::{BufWriter, ErrorKind, Write};
 use std::rt::Env;
 use std::thread::Threads;
 use std::{env, io};
 
 /// The words after the program's name, or `None` if memory runs out. If they aren't text, there are no words.
-fn command_words<R: Env + AllocGlobal>(rt: &R) -> Option<Vec<String>> {
-    let mut words = Vec::new(rt.alloc());
-    match env::args(rt) {
-        Ok(args) => {
-            for word in args.skip(1) {
-                words.push(word).ok()?;
-            }
-        }
-        Err(error) if error.kind() == ErrorKind::OutOfMemory => return None,
-        Err(_) => {}
+fn command_words(alloc: Global, args: io::Result<Args>) -> Option<Vec<String>>
+    ensures had { IfOk args (λ args. IfSome result (λ words. words.items ≡ drop 1 (into_iter_items args))) }
+    ensures failed { IfErr args (λ error. MatchOption result (error_kind error ≡ OutOfMemory) (λ words. (error_kind error ≢ OutOfMemory) × (words.items ≡ []))) }
+{
+    match args {
+        Ok(args) => args.skip(1).collect(alloc).ok(),
+        Err(error) if error.kind() == ErrorKind::OutOfMemory => None,
+        Err(_) => Some(Vec::new(alloc)),
     }
-    Some(words)
 }
 
 /// Makes the top call, and hands on at the end what the writer has buffered. What the top call promises of a sink, this
@@ -64,30 +69,67 @@ fn refuse_for_memory<W: Write>(out: &mut StdSink<W>) -> Status
     finish(out, status)
 }
 
-/// Does the command with a source, over a writer.
-fn answer<R: Env + AllocGlobal + Threads + Sync, S: Source, W: Write + Drop>(
+/// Does the command with a source, over a sink. If the words could not be had, it says that memory ran out, and leaves the
+/// source unread. What else `serve` promises follows from the first clause.
+fn serve_if_had<R: Threads + Sync, S: Source, W: Write>(
     rt: &R,
-    source: &mut S,
-    writer: W,
-) -> Status {
-    let mut sink = StdSink::new(writer);
-    match command_words(rt) {
-        Some(words) => serve(rt, rt.alloc(), &words, source, &mut sink, &OpenGate),
-        None => refuse_for_memory(&mut sink),
+    alloc: Global,
+    words: Option<Vec<String>>,
+    input: &mut S,
+    out: &mut StdSink<W>,
+) -> Status
+    ensures judged { (verdict : Verdict)
+        × IsJudgedIfHad (option_map (λ words. map string_bytes words.items) words) (S.left input.old) (S.left input.new) (S.faults input.old) (S.faults input.new) verdict
+        × IsSaid out.old.written out.new.written out.old.faults out.new.faults (text_for verdict) (status_for verdict) result }
+    ensures told { FaultsAreTold (S.faults input.old) (S.faults input.new) out.old.faults out.new.faults result }
+{
+    match words {
+        Some(words) => serve(rt, alloc, &words, input, out, &OpenGate),
+        None => refuse_for_memory(out),
     }
+}
+
+/// Does the command with a source, over a sink, writes the message on the status to `errors`, and answers the status's number.
+fn answer<R: Threads + Sync, S: Source, W: Write, E: Write>(
+    rt: &R,
+    alloc: Global,
+    words: Option<Vec<String>>,
+    input: &mut RememberingSource<S>,
+    out: &mut StdSink<W>,
+    errors: &mut StdSink<E>,
+) -> u8
+    ensures { (status : Status) × (verdict : Verdict)
+        × IsJudgedIfHad (option_map (λ words. map string_bytes words.items) words) input.old.left input.new.left input.old.faults input.new.faults verdict
+        × IsSaid out.old.written out.new.written out.old.faults out.new.faults (text_for verdict) (status_for verdict) status
+        × IsExplained errors.old.written errors.new.written errors.old.faults errors.new.faults (remembered input.new) status
+        × (result ≡ number_of status) }
+{
+    let status = serve_if_had(rt, alloc, words, input, out);
+    conclude(alloc, errors, input, status)
 }
 
 /// All that the program does: it answers standard input on standard output, buffered if there is memory for that,
 /// writes a message on the status and on what was read to `errors`, and answers the number with which to end. A fault of
-/// `errors` changes nothing.
+/// `errors` changes nothing. No clause says of which status the number is, since std ties neither the arguments nor the standard
+/// streams to anything.
 pub fn run_program<R: Env + Input + Print + AllocGlobal + Threads + Sync, E: Write + Drop>(
     rt: &R,
     errors: E,
-) -> u8 {
-    let mut source = RememberingSource::new(rt.alloc(), StdSource::new(rt.reader()));
-    let status = match BufWriter::new(rt.alloc(), io::writer(rt)) {
-        Ok(buffer) => answer(rt, &mut source, buffer),
-        Err(_) => answer(rt, &mut source, io::writer(rt)),
-    };
-    conclude(&mut StdSink::new(errors), &source, status)
+) -> u8
+    ensures { (status : Status) × (result ≡ number_of status) }
+{
+    let alloc = rt.alloc();
+    let words = command_words(alloc, env::args(rt));
+    let mut source = RememberingSource::new(alloc, StdSource::new(rt.reader()));
+    let mut errors = StdSink::new(errors);
+    match BufWriter::new(alloc, io::writer(rt)) {
+        Ok(buffer) => {
+            let mut out = StdSink::new(buffer);
+            answer(rt, alloc, words, &mut source, &mut out, &mut errors)
+        }
+        Err(_) => {
+            let mut out = StdSink::new(io::writer(rt));
+            answer(rt, alloc, words, &mut source, &mut out, &mut errors)
+        }
+    }
 }

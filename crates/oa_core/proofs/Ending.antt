@@ -15,7 +15,7 @@ use Rattle.run_laws.proofs.Following.{follows}
 use Rattle.oa_core.specs.States.{RunsInRow}
 use Rattle.oa_core.specs.declared.progress.Stop.{Stop}
 use Rattle.oa_core.specs.declared.progress.Stop.TheVariants as stops
-use Rattle.oa_core.specs.Finals.{Final, core_of, replay_limit, replay_of, LeadsTo, Answers, EndsRun}
+use Rattle.oa_core.specs.Finals.{Final, core_of, replay_limit, replay_of, LeadsTo, AnswersReplay, EndsRun}
 use Rattle.replay_steps.specs.Entries.{HasRooms}
 use Rattle.replay_steps.specs.Turns.{made_to, refused}
 use Rattle.oa_core.specs.declared.replaying.ReplayError.{ReplayError}
@@ -49,7 +49,7 @@ ends_by pair setting scripts fuel schedule final sound own fits suit some (Ok r)
 
 -- what is answered ends a run
 pub ends_run : (pair : Paired) (setting : Setting) (scripts : List (List Call)) (fuel : ℕ) (schedule : List Turn) (o : Result Final ReplayError) → IsSound pair → IsSetting setting → Fits pair.target setting
-    → length scripts ≡ setting.sizes.callers → All (AreCalls pair.target) scripts → 1 ≤ fuel → Answers o fuel (replayed (replay_of pair.target setting scripts fuel) schedule)
+    → length scripts ≡ setting.sizes.callers → All (AreCalls pair.target) scripts → 1 ≤ fuel → AnswersReplay o fuel (replayed (replay_of pair.target setting scripts fuel) schedule)
     → IfOk o (λ s. EndsRun pair.target pair.source setting scripts fuel schedule s)
 ends_run pair setting scripts fuel schedule (Err error) sound own fits count calls some given = tt
 ends_run pair setting scripts fuel schedule (Ok final) sound own fits count calls some given =
@@ -64,14 +64,14 @@ leads_there : (now : Progress) (fuel : ℕ) (given : Result Replaying Refusal) �
 leads_there now fuel (Ok r) is = (ap (λ (x : Replaying). x.state) (same_end now r is), refl)
 leads_there now fuel (Err refusal) is = absurd (let no : made_to (shown now) ≡ refused refusal = is in cc)
 
-refused_there : (stop : Stop) (fuel : ℕ) (given : Result Replaying Refusal) → refused (refusal_of stop) ≡ bared given → Answers (Err (error_of stop)) fuel given
+refused_there : (stop : Stop) (fuel : ℕ) (given : Result Replaying Refusal) → refused (refusal_of stop) ≡ bared given → AnswersReplay (Err (error_of stop)) fuel given
 refused_there (stops.StepOfNobody steps) fuel (Ok r) is = absurd (let no : refused (StepOfNobody steps) ≡ made_to (bare r) = is in cc)
 refused_there (stops.StepOfNobody steps) fuel (Err refusal) is = let same : refused (StepOfNobody steps) ≡ refused refusal = is in cc
 refused_there (stops.LongReplay steps) fuel (Ok r) is = absurd (let no : refused (LongReplay steps) ≡ made_to (bare r) = is in cc)
 refused_there (stops.LongReplay steps) fuel (Err refusal) is = let same : refused (LongReplay steps) ≡ refused refusal = is in cc
 
 -- what was made is what is answered
-pub answers_so : (made : Result (Unit {0}) Stop) (now : Progress) (fuel : ℕ) (given : Result Replaying Refusal) → told made now ≡ bared given → Answers (answer_of made now fuel) fuel given
+pub answers_so : (made : Result (Unit {0}) Stop) (now : Progress) (fuel : ℕ) (given : Result Replaying Refusal) → told made now ≡ bared given → AnswersReplay (answer_of made now fuel) fuel given
 answers_so (Ok done) now fuel given is = leads_there now fuel given is
 answers_so (Err stop) now fuel given is = refused_there stop fuel given is
 
@@ -80,11 +80,11 @@ rooms_so (Ok done) now fuel scripts rooms = rooms
 rooms_so (Err stop) now fuel scripts rooms = tt
 
 -- by the limit of every replay, of the pair that the terms tell
-pub answers_by : (t : Terms) (pair : Paired) (schedule : List Turn) (o : Result Final ReplayError) → t.pair ≡ pair → t.limit ≡ replay_limit → Answers o t.fuel (replayed (replay_by t) schedule)
-    → Answers o t.fuel (replayed (replay_of pair.target t.setting t.scripts t.fuel) schedule)
+pub answers_by : (t : Terms) (pair : Paired) (schedule : List Turn) (o : Result Final ReplayError) → t.pair ≡ pair → t.limit ≡ replay_limit → AnswersReplay o t.fuel (replayed (replay_by t) schedule)
+    → AnswersReplay o t.fuel (replayed (replay_of pair.target t.setting t.scripts t.fuel) schedule)
 answers_by t pair schedule o same limit given =
-    subst (λ (most : ℕ). Answers o t.fuel (replayed (record { target = pair.target; setting = t.setting; scripts = t.scripts; fuel = t.fuel; limit = most }) schedule)) limit
-    (subst (λ (p : Paired). Answers o t.fuel (replayed (record { target = p.target; setting = t.setting; scripts = t.scripts; fuel = t.fuel; limit = t.limit }) schedule)) same given)
+    subst (λ (most : ℕ). AnswersReplay o t.fuel (replayed (record { target = pair.target; setting = t.setting; scripts = t.scripts; fuel = t.fuel; limit = most }) schedule)) limit
+    (subst (λ (p : Paired). AnswersReplay o t.fuel (replayed (record { target = p.target; setting = t.setting; scripts = t.scripts; fuel = t.fuel; limit = t.limit }) schedule)) same given)
 
 -- ---- every state
 

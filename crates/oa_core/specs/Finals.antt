@@ -54,16 +54,16 @@ LeadsTo final fuel (Ok r) = (core_of final ≡ r.state) × (final.fuel ≡ fuel)
 LeadsTo final fuel (Err refusal) = ⊥
 
 -- they are refused so
-abbrev pub IsRefused : Refusal → Result Replaying Refusal → Type 0
-IsRefused refusal (Ok r) = ⊥
-IsRefused refusal (Err other) = other ≡ refusal
+abbrev pub IsReplayRefused : Refusal → Result Replaying Refusal → Type 0
+IsReplayRefused refusal (Ok r) = ⊥
+IsReplayRefused refusal (Err other) = other ≡ refusal
 
 -- a replay answers what its turns give; that memory ran out says nothing of them
-abbrev pub Answers : Result Final ReplayError → ℕ → Result Replaying Refusal → Type 0
-Answers (Ok final) fuel given = LeadsTo final fuel given
-Answers (Err errors.Memory) fuel given = Unit {0}
-Answers (Err (errors.StepOfNobody steps)) fuel given = IsRefused (StepOfNobody steps) given
-Answers (Err (errors.LongReplay steps)) fuel given = IsRefused (LongReplay steps) given
+abbrev pub AnswersReplay : Result Final ReplayError → ℕ → Result Replaying Refusal → Type 0
+AnswersReplay (Ok final) fuel given = LeadsTo final fuel given
+AnswersReplay (Err errors.Memory) fuel given = Unit {0}
+AnswersReplay (Err (errors.StepOfNobody steps)) fuel given = IsReplayRefused (StepOfNobody steps) given
+AnswersReplay (Err (errors.LongReplay steps)) fuel given = IsReplayRefused (LongReplay steps) given
 
 -- ---- runs of scripts
 

@@ -6,7 +6,7 @@ ghost use Rattle.caller_parts.specs.Settings.{Fits};
 ghost use Rattle.core_runs.specs.Replays.{replay_start, replayed};
 ghost use Rattle.replay_steps.specs.Entries.{IsShort, HasRooms};
 ghost use Rattle.replay_steps.specs.Turns.{replayed_from};
-ghost use Rattle.oa_core.specs.Finals.{phase_of, is_spent_in, replay_limit, replay_of, Answers, EndsRun};
+ghost use Rattle.oa_core.specs.Finals.{phase_of, is_spent_in, replay_limit, replay_of, AnswersReplay, EndsRun};
 ghost use Rattle.oa_core.specs.Shown.{replay_by, shown, bared, told, error_of, final_of, answer_of, SuitsReplay, IsUnderWay};
 ghost use Rattle.oa_core.specs.States.{RunsInRow};
 
@@ -152,7 +152,7 @@ fn answer_of(made: Result<(), Stop>, now: Progress, fuel: u64) -> Result<CoreSta
 /// From a state on.
 fn replay_from(terms: &Terms, now: Progress, schedule: &[Turn]) -> Result<CoreState, ReplayError>
     requires under_way { IsUnderWay terms.now now }
-    ensures replayed { Answers result terms.now.fuel (replayed_from (replay_by terms.now) schedule.now (shown now)) }
+    ensures replayed { AnswersReplay result terms.now.fuel (replayed_from (replay_by terms.now) schedule.now (shown now)) }
     ensures rooms { IfOk result (λ s. HasRooms terms.now.scripts s.entries) }
 {
     let mut later = now;
@@ -163,7 +163,7 @@ fn replay_from(terms: &Terms, now: Progress, schedule: &[Turn]) -> Result<CoreSt
 /// From the start on.
 fn replay_by(alloc: Global, terms: &Terms, schedule: &[Turn]) -> Result<CoreState, ReplayError>
     requires suits { SuitsReplay terms.now }
-    ensures replayed { Answers result terms.now.fuel (replayed (replay_by terms.now) schedule.now) }
+    ensures replayed { AnswersReplay result terms.now.fuel (replayed (replay_by terms.now) schedule.now) }
     ensures rooms { IfOk result (λ s. HasRooms terms.now.scripts s.entries) }
 {
     match start(alloc, terms) {
@@ -185,7 +185,7 @@ fn replay_prepared<'a>(
     requires count { length scripts.now ≡ setting.now.sizes.callers }
     requires calls { All (AreCalls prepared.now.target) scripts.now }
     requires few { All IsShort scripts.now }
-    ensures replayed { Answers result fuel (replayed (replay_of prepared.now.target setting.now scripts.now fuel) schedule.now) }
+    ensures replayed { AnswersReplay result fuel (replayed (replay_of prepared.now.target setting.now scripts.now fuel) schedule.now) }
     ensures rooms { IfOk result (λ s. HasRooms scripts.now s.entries) }
 {
     let terms = Terms {
@@ -224,7 +224,7 @@ pub fn replay(
     requires calls { All (AreCalls barred.now.target) scripts.now }
     requires few { All IsShort scripts.now }
     requires fuel { 1 ≤ fuel }
-    ensures replayed { Answers result fuel (replayed (replay_of barred.now.target setting.now scripts.now fuel) schedule.now) }
+    ensures replayed { AnswersReplay result fuel (replayed (replay_of barred.now.target setting.now scripts.now fuel) schedule.now) }
     ensures complete { IfOk result (λ s. EndsRun barred.now.target barred.now.source setting.now scripts.now fuel schedule.now s) }
     ensures in_row { RunsInRow barred.now.target setting.now }
     ensures rooms { IfOk result (λ s. HasRooms scripts.now s.entries) }

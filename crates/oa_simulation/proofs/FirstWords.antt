@@ -41,7 +41,7 @@ use Rattle.core_runs.proofs.core_sound.Grouped.{NodesStand, nodes_stand, nodes_t
 use Rattle.core_runs.proofs.core_sound.Reached.{start_suits}
 use Rattle.target_laws.proofs.OneKind.{declared, nodes_are, roots_are, root_start, start_known}
 use Rattle.run_ahead.proofs.TypedStart.{first_typed}
-use Rattle.target_laws.specs.target_runs.Runnable.{IsRunnable}
+use Rattle.target_laws.specs.target_runs.Runnable.{MayBeWalked}
 use Rattle.oa_simulation.specs.sim_relation.Views.{Plan, word_for}
 use Rattle.chain_laws.specs.Chains.{IsOf}
 use Rattle.oa_simulation.specs.FirstNames.{first_home}
@@ -139,7 +139,7 @@ rooted text within = roots_are (length text.kinds) (owners_of text.nodes) text.r
 owners_count : (nodes : List NodeDecl) → length (owners_of nodes) ≡ length nodes
 owners_count nodes = length-map nodes (λ node. node.owner)
 
-module _ (t : Plan) (runs : IsRunnable t.target t.text) (own : IsSetting t.setting) (fits : Fits t.target t.setting) (homes : (n : ℕ) → n < together t.setting.nodes + 1 → t.home n ≡ first_home t.setting n) where
+module _ (t : Plan) (runs : MayBeWalked t.target t.text) (own : IsSetting t.setting) (fits : Fits t.target t.setting) (homes : (n : ℕ) → n < together t.setting.nodes + 1 → t.home n ≡ first_home t.setting n) where
   abbrev memory : Word → ℕ
   memory = (view t.setting (core_start t.target t.setting)).memory
 

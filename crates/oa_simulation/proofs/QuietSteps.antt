@@ -25,7 +25,7 @@ use Rattle.core_runs.specs.Views.{CoreView, view, Moves}
 use Rattle.core_runs.proofs.Seeing.{events_are_seen}
 use Rattle.core_runs.proofs.Starting.{start_is_seen}
 use Rattle.core_runs.proofs.core_sound.Reached.{states_are_sound, states_are_shaped, start_suits}
-use Rattle.target_laws.specs.target_runs.Runnable.{IsRunnable}
+use Rattle.target_laws.specs.target_runs.Runnable.{MayBeWalked}
 use Rattle.target_laws.proofs.target_runs.SaneTargets.{runnable_is_sane}
 use Rattle.oa_simulation.specs.sim_relation.Views.{Plan, IsPlan, Shared}
 use Rattle.oa_simulation.specs.sim_relation.Callers.{CallerHolds, HoldsAt, SweepAt, ClaimAt}
@@ -54,7 +54,7 @@ use Rattle.caller_parts.specs.declared.setting.Reclamation.TheVariants.{Optimist
 abbrev pub planned : Target → Text → Setting → (ℕ → ℕ) → Plan
 planned target text setting home = record { target = target; text = text; setting = setting; home = home }
 
-pub is_plan : (target : Target) (text : Text) (setting : Setting) (home : ℕ → ℕ) → IsRunnable target text → IsBarred target text → IsSetting setting → Fits target setting → setting.reclamation ≡ Optimistic → home 0 ≡ 0 → IsPlan (planned target text setting home)
+pub is_plan : (target : Target) (text : Text) (setting : Setting) (home : ℕ → ℕ) → MayBeWalked target text → IsBarred target text → IsSetting setting → Fits target setting → setting.reclamation ≡ Optimistic → home 0 ≡ 0 → IsPlan (planned target text setting home)
 is_plan target text setting home runs barred own fits optimistic null = record {
   compiled = record { normal = runs.normal; within = runs.small; barred = barred };
   sane = runnable_is_sane target text runs;
@@ -65,7 +65,7 @@ is_plan target text setting home runs barred own fits optimistic null = record {
   null = null;
 }
 
-pub start_related : (target : Target) (text : Text) (setting : Setting) → IsRunnable target text → IsSetting setting → Fits target setting → StartIsRelated target text setting
+pub start_related : (target : Target) (text : Text) (setting : Setting) → MayBeWalked target text → IsSetting setting → Fits target setting → StartIsRelated target text setting
 start_related target text setting runs own fits =
     let home : ℕ → ℕ = first_home setting in
     let null : home 0 ≡ 0 = first_null setting in
@@ -78,7 +78,7 @@ start_related target text setting runs own fits =
           (first_words t runs own fits (λ n lt. refl))).0;
     }
 
-pub quiet_kept : (target : Target) (text : Text) (setting : Setting) → IsRunnable target text → IsBarred target text → IsSetting setting → Fits target setting → setting.reclamation ≡ Optimistic → IsProper text → QuietStepsKeep target text setting
+pub quiet_kept : (target : Target) (text : Text) (setting : Setting) → MayBeWalked target text → IsBarred target text → IsSetting setting → Fits target setting → setting.reclamation ≡ Optimistic → IsProper text → QuietStepsKeep target text setting
 quiet_kept target text setting runs barred own fits optimistic proper state later z c reached related quiet is =
     let home : ℕ → ℕ = related.home in
     let t : Plan = planned target text setting home in
@@ -102,7 +102,7 @@ quiet_kept target text setting runs barred own fits optimistic proper state late
           (takes_ready target setting state c (setting_sane setting own).kinds (setting_sane setting own).few (start_suits target text setting runs own fits).suits (stands target text setting reached.events state runs barred own fits optimistic proper reached.runs).pooled) m homes).0;
     }
 
-pub runs_begin_unwarned : (target : Target) (text : Text) (setting : Setting) → IsRunnable target text → IsSetting setting → Fits target setting → setting.reclamation ≡ Optimistic → RunsBeginUnwarned target text setting
+pub runs_begin_unwarned : (target : Target) (text : Text) (setting : Setting) → MayBeWalked target text → IsSetting setting → Fits target setting → setting.reclamation ≡ Optimistic → RunsBeginUnwarned target text setting
 runs_begin_unwarned target text setting runs own fits optimistic state later z c reached related renew is =
     let shaped = states_are_shaped target text setting state runs own fits reached in
     let v : CoreView = view setting state in
@@ -133,7 +133,7 @@ sweeps_spare target text setting state z related c j below frees d r some named 
     (may_free t s frees.claim.sweep.bound j frees.phase frees.claim.sweep.gathered b.holds.shared_holds sweep expected).spared d r some
     (sym (b.holds.shared_holds.guard d r some).word ∙ (ap (λ (k : Word → ℕ). k (Hazard d r)) b.memory ∙ named))
 
-pub keeps_quiet : (target : Target) (text : Text) (setting : Setting) → IsRunnable target text → IsBarred target text → IsSetting setting → Fits target setting → setting.reclamation ≡ Optimistic → QuietIsKept target text setting
+pub keeps_quiet : (target : Target) (text : Text) (setting : Setting) → MayBeWalked target text → IsBarred target text → IsSetting setting → Fits target setting → setting.reclamation ≡ Optimistic → QuietIsKept target text setting
 keeps_quiet target text setting runs barred own fits optimistic proper = record {
   start = start_related target text setting runs own fits;
   steps = quiet_kept target text setting runs barred own fits optimistic proper;

@@ -34,7 +34,7 @@ use Rattle.oa_simulation.specs.Beside.{Beside, Sourced}
 use Rattle.oa_simulation.specs.Statements.{AgreesWith, Agrees, ForProper, Refines}
 use Rattle.oa_simulation.proofs.sim_steps.Worlds.{no_guarded_ready}
 use Rattle.oa_simulation.proofs.Starting.{IsFirst, first_shared, fine_first}
-use Rattle.target_laws.specs.target_runs.Runnable.{IsRunnable}
+use Rattle.target_laws.specs.target_runs.Runnable.{MayBeWalked}
 use Rattle.oa_simulation.proofs.sim_steps.Dispatching.{steps_keep}
 use Rattle.oa_simulation.specs.Relation.{HomeIs, RunsAreSimulated}
 use Rattle.oa_simulation.proofs.FirstSlots.{first_null}
@@ -139,7 +139,7 @@ stands target text setting events state runs barred own fits optimistic proper i
     events (core_start target setting) state z0 (first_present setting) sound0 (record { named = first; pooled = start_pooled target setting (setting_sane setting own).kinds (setting_sane setting own).few suits }) is (λ n lt. refl) in
     record { plan = plan; sound = sound; pooled = b.pooled; beside = b.named.0; present = b.named.1 }
 
-pub simulates : (target : Target) (text : Text) (setting : Setting) → IsRunnable target text → IsBarred target text → IsSetting setting → Fits target setting → setting.reclamation ≡ Optimistic → RunsAreSimulated target text setting
+pub simulates : (target : Target) (text : Text) (setting : Setting) → MayBeWalked target text → IsBarred target text → IsSetting setting → Fits target setting → setting.reclamation ≡ Optimistic → RunsAreSimulated target text setting
 simulates target text setting runs barred own fits optimistic proper events state is =
     let t : Plan = plan_of target text setting events in
     let k = stands target text setting events state runs barred own fits optimistic proper is in

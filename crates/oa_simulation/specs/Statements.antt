@@ -27,7 +27,7 @@ use Rattle.caller_steps.specs.Wants.{wants}
 use Rattle.caller_parts.specs.Operands.{list_of, succeeds}
 use Rattle.caller_steps.specs.Belongs.{cas_of}
 use Rattle.core_runs.specs.Machine.{CoreState, CoreEvent, core_run, core_start, found_by}
-use Rattle.target_laws.specs.target_runs.Runnable.{IsRunnable}
+use Rattle.target_laws.specs.target_runs.Runnable.{MayBeWalked}
 use Rattle.oa_simulation.specs.sim_relation.Callers.{replies_of}
 use Rattle.oa_simulation.specs.Shadow.{shadow, image}
 use Rattle.caller_parts.specs.declared.setting.Reclamation.TheVariants.{Optimistic}
@@ -85,7 +85,7 @@ pub record Refined (target : Target) (text : Text) (setting : Setting) (events :
 
 -- of every core run of a barred target of a proper text, with a setting of optimistic access that fits it
 abbrev pub ForProper : (Target → Text → Setting → List CoreEvent → CoreState → Type 0) → Type 0
-ForProper Holds = (target : Target) (text : Text) (setting : Setting) (events : List CoreEvent) (state : CoreState) → IsRunnable target text → IsBarred target text → IsSetting setting → Fits target setting → setting.reclamation ≡ Optimistic → IsProper text
+ForProper Holds = (target : Target) (text : Text) (setting : Setting) (events : List CoreEvent) (state : CoreState) → MayBeWalked target text → IsBarred target text → IsSetting setting → Fits target setting → setting.reclamation ≡ Optimistic → IsProper text
     → core_run target setting events (core_start target setting) ≡ Some state → Holds target text setting events state
 
 abbrev pub Refines : Type 0

@@ -25,7 +25,10 @@ fn digits_into(buffer: &mut [u8; 20], n: u64) -> usize
     at
 }
 
-/// Writes a number in decimal, with no memory taken. At `Failed` a prefix of its digits was written.
+/// Writes a number in decimal, with no memory taken.
+///
+/// # Errors
+/// `Failed` at the first write that the sink fails. A prefix of its digits was written then.
 pub fn write_decimal<K: Sink>(out: &mut K, n: u64) -> Result<(), Failed>
     ensures bytes { Writes (K.written out.old) (K.written out.new) (decimal n) result }
     ensures cause { HasCause (K.faults out.old) (K.faults out.new) result }

@@ -35,7 +35,10 @@ pub trait Spelled {
         ensures cause { HasCause (K.faults out.old) (K.faults out.new) result };
 }
 
-/// Writes things one after another. At `Failed` a prefix of all their bytes was written.
+/// Writes things one after another.
+///
+/// # Errors
+/// `Failed` at the first write that the sink fails. A prefix of all their bytes was written then.
 pub fn write_each<K: Sink, T: Spelled>(out: &mut K, things: &[T]) -> Result<(), Failed>
     ensures bytes { Writes (K.written out.old) (K.written out.new) (flat_map T.spelling things.now) result }
     ensures cause { HasCause (K.faults out.old) (K.faults out.new) result }
@@ -57,7 +60,10 @@ impl<'a> Spelled for Piece<'a> {
     }
 }
 
-/// Writes a piece. At `Failed` a prefix of its bytes was written.
+/// Writes a piece.
+///
+/// # Errors
+/// `Failed` at the first write that the sink fails. A prefix of its bytes was written then.
 pub fn write_piece<K: Sink>(out: &mut K, piece: &Piece) -> Result<(), Failed>
     ensures bytes { Writes (K.written out.old) (K.written out.new) (piece_bytes piece.now) result }
     ensures cause { HasCause (K.faults out.old) (K.faults out.new) result }
@@ -65,7 +71,10 @@ pub fn write_piece<K: Sink>(out: &mut K, piece: &Piece) -> Result<(), Failed>
     piece.write_to(out)
 }
 
-/// Writes pieces one after another. At `Failed` a prefix of all their bytes was written.
+/// Writes pieces one after another.
+///
+/// # Errors
+/// `Failed` at the first write that the sink fails. A prefix of all their bytes was written then.
 pub fn write_pieces<K: Sink>(out: &mut K, pieces: &[Piece]) -> Result<(), Failed>
     ensures bytes { Writes (K.written out.old) (K.written out.new) (flat_map piece_bytes pieces.now) result }
     ensures cause { HasCause (K.faults out.old) (K.faults out.new) result }
@@ -103,7 +112,10 @@ impl<'a> Spelled for Part<'a> {
     }
 }
 
-/// Writes parts one after another. At `Failed` a prefix of all their bytes was written.
+/// Writes parts one after another.
+///
+/// # Errors
+/// `Failed` at the first write that the sink fails. A prefix of all their bytes was written then.
 pub fn write_parts<K: Sink>(out: &mut K, parts: &[Part]) -> Result<(), Failed>
     ensures bytes { Writes (K.written out.old) (K.written out.new) (flat_map part_bytes parts.now) result }
     ensures cause { HasCause (K.faults out.old) (K.faults out.new) result }

@@ -122,8 +122,10 @@ impl Sink for MemorySink {
     }
 }
 
-/// Writes all of the bytes, in as many calls as the sink wants. It stops at the first fault: at `Failed` a prefix of
-/// them was written. Of no bytes it makes no call.
+/// Writes all of the bytes, in as many calls as the sink wants. Of no bytes it makes no call.
+///
+/// # Errors
+/// `Failed` at the first write that the sink fails. A prefix of the bytes was written then.
 #[tactic(auto, using(crate::proofs::Writing::writes_rest))]
 pub fn write_all<K: Sink>(out: &mut K, bytes: &[u8]) -> Result<(), Failed>
     ensures bytes { Writes (K.written out.old) (K.written out.new) bytes.now result }

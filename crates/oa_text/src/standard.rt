@@ -100,7 +100,10 @@ impl<W: Write> StdSink<W> {
         self.faults
     }
 
-    /// Adds nothing to what the writer holds. The count rises by one, up to 2^64 - 1, exactly if the call fails.
+    /// Flushes. Nothing is added to what the writer holds.
+    ///
+    /// # Errors
+    /// `Failed` exactly if the call fails. The count of failed calls rises by one then, up to 2^64 - 1.
     pub fn flush(&mut self) -> Result<(), Failed>
         ensures bytes { Keeps self.old.written self.new.written }
         ensures cause { HasCause self.old.faults self.new.faults result }

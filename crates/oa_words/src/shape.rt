@@ -115,15 +115,20 @@ fn slots_together(counts: &[u64]) -> Option<u32>
 }
 
 impl Shape {
-    /// The shape of one kind with these counts, or the first of them, in the order of the arguments, that is outside its range.
+    /// The shape of one kind with these counts.
+    ///
+    /// # Errors
+    /// The first of the counts, in the order of the arguments, that is outside its range.
     pub fn new(callers: u64, slots: u64, fields: u64, cells: u64) -> Result<Shape, ShapeFault>
         ensures { result ≡ sizes_or_fault 1 (sizes_of_one callers slots fields cells) }
     {
         Shape::of_kinds(callers, [slots, 0, 0, 0], 1, fields, cells)
     }
 
-    /// The shape with so many kinds, of which each has as many slots as stand at its place, or the first number that is outside its
-    /// range: callers, kinds, slots, fields and cells are judged in this order. What stands past the kinds isn't looked at.
+    /// The shape with so many kinds, of which each has as many slots as stand at its place. What stands past the kinds isn't looked at.
+    ///
+    /// # Errors
+    /// The first number that is outside its range, in the order callers, kinds, slots, fields and cells.
     pub fn of_kinds(
         callers: u64,
         slots: [u64; 4],

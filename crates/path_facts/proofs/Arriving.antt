@@ -7,7 +7,7 @@ use Rattle.std.proofs.lemmas.Option.{same_Some}
 use Rattle.std.proofs.lemmas.List.Elements.{All-append}
 use Rattle.norm_lang.specs.declared.forks.Fork.{Fork}
 use Rattle.norm_lang.specs.Flow.{state_along}
-use Rattle.norm_lang.specs.Reach.{LeadsTo, StaysBelow, IsSuccessor, Reaches, AreMarks}
+use Rattle.norm_lang.specs.Reach.{LeadsTo, StaysBelow, IsForkSuccessor, Reaches, AreMarks}
 use Rattle.norm_lang.proofs.Reaching.{reaches_itself, reaches_on, reached_within}
 use Rattle.path_facts.specs.declared.moves.Move.{Move}
 use Rattle.path_facts.specs.Facts.{state_behind, IsMove, IsWay, ComesIn, AreFacts}
@@ -71,7 +71,7 @@ state_step : (moves : List Move) (start at : ℕ) (path : List ℕ) (move : Move
 state_step moves start at path move state is was = rw (is, was) refl
 
 -- a successor of a node that stands for a state stands for one
-stands_on : (moves : List Move) (start count : ℕ) → All (IsMove count) moves → (k next : ℕ) → StandsFor moves start k → IsSuccessor (flat_map nodes_of moves) k next → StandsFor moves start next
+stands_on : (moves : List Move) (start count : ℕ) → All (IsMove count) moves → (k next : ℕ) → StandsFor moves start k → IsForkSuccessor (flat_map nodes_of moves) k next → StandsFor moves start next
 stands_on moves start count closed k next stands goes =
     let at = stands.0 in
     let state = stands.1 in

@@ -11,6 +11,9 @@ use norm_lang::Fork;
 use std::alloc::{AllocError, Global};
 
 /// The forks of all nodes.
+///
+/// # Errors
+/// `AllocError` if memory runs out.
 pub fn nodes_of_moves(alloc: Global, moves: &[Move]) -> Result<Vec<Fork>, AllocError>
     requires few { length moves.now < 2 ^ 30 }
     requires closed { All (IsMove (length moves.now)) moves.now }

@@ -1,5 +1,7 @@
 //! A row: the reader or the rule that it names, the line or the instruction that is meant, and the spelling of all lines.
 
+use row_spelling::cut;
+
 /// What is asked of an instruction of the first operation.
 #[derive(Clone, Copy)]
 pub(crate) enum Judge {
@@ -94,14 +96,6 @@ fn reader_named(word: &str) -> Option<Reader> {
         }
     }
     None
-}
-
-/// What stands before the first space, and what stands after it.
-fn cut(line: &str) -> (&str, &str) {
-    match line.split_once(' ') {
-        Some(parts) => parts,
-        None => (line, ""),
-    }
 }
 
 /// The row whose number stands before its spelling.

@@ -1,7 +1,6 @@
 -- The register that is named.
-use Rattle.std.proofs.Common.{◌≡◌, ℕ, List, Option, Some, None, Result, Ok, Err, refl, sym, subst, ◌∙◌}
+use Rattle.std.proofs.Common.{◌≡◌, ℕ, List, Option, Some, None, Result, Ok, Err, refl, sym, subst}
 use Rattle.std.specs.Prelude.{codes}
-use Rattle.std.proofs.lemmas.Option.{same_Some}
 use Rattle.norm_lang.specs.declared.text.Text.{Text}
 use Rattle.norm_lang.specs.declared.text.Version.{Version}
 use Rattle.norm_lang.specs.Faults.{LineFault}
@@ -18,7 +17,7 @@ use Rattle.statuses.specs.declared.status.Status.{Status}
 use Rattle.statuses.specs.declared.status.Status.TheVariants.{Refused}
 use Rattle.refusal_messages.specs.declared.named.Blame.{Blame}
 use Rattle.refusal_messages.specs.declared.named.Blame.TheVariants.{Found, NoMemory}
-use Rattle.refusal_messages.specs.Named.{text_in, IsNamedIn, IsNamed, IsNamedFor}
+use Rattle.refusal_messages.specs.Named.{text_in, IsNamedIn, IsNamed, IsNamedRead, IsNamedFor}
 
 -- the text that is read
 pub text_is : (bytes : List ℕ) (all start left : LinesLeft) (version : Version) (text : Text) → all ≡ all_lines bytes → IsRestOf all start
@@ -62,7 +61,7 @@ named_without_memory bytes refusal = unfound_in (text_in bytes) refusal
 pub named_refusal : (bytes : List ℕ) (status : Status) (refusal : Refusal) (named : Blame)
     → status ≡ Refused refusal → IsNamed bytes refusal named → IsNamedFor (Some bytes) status named
 named_refusal bytes status refusal named refused is =
-    subst (λ (s : Status). IsNamedFor (Some bytes) s named) (sym refused) (λ b same. subst (λ (x : List ℕ). IsNamed x refusal named) (same_Some bytes b same) is)
+    subst (λ (s : Status). IsNamedFor (Some bytes) s named) (sym refused) is
 
 -- none for a status that is no refusal, nor if nothing is remembered
 pub not_refused : (read : Option (List ℕ)) (status : Status)
@@ -71,7 +70,7 @@ not_refused read (Refused refusal) other = absurd (other refusal refl)
 not_refused read _ other = refl
 
 pub not_read : (read : Option (List ℕ)) (status : Status) → read ≡ None → IsNamedFor read status (Found None)
-not_read read (Refused refusal) none = λ bytes same. let no : None ≡ Some bytes = sym none ∙ same in cc
+not_read read (Refused refusal) none = subst (λ (r : Option (List ℕ)). IsNamedRead r refusal (Found None)) (sym none) refl
 not_read read _ none = refl
 
 -- the same, if that is remembered

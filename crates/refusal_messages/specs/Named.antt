@@ -31,7 +31,12 @@ IsNamedIn (Err fault) refusal (Found register) = register ≡ None
 abbrev pub IsNamed : List ℕ → Refusal → Blame → Type 0
 IsNamed bytes refusal named = IsNamedIn (text_in bytes) refusal named
 
--- what is named for a status, if this is remembered of what was read: if a rule is broken, the same; otherwise no register
+-- the same, if this is remembered of what was read; of what is forgotten no register is named
+abbrev pub IsNamedRead : Option (List ℕ) → Refusal → Blame → Type 0
+IsNamedRead None refusal named = named ≡ Found None
+IsNamedRead (Some bytes) refusal named = IsNamed bytes refusal named
+
+-- what is named for a status: if a rule is broken, the same; otherwise no register
 abbrev pub IsNamedFor : Option (List ℕ) → Status → Blame → Type 0
-IsNamedFor read (Refused refusal) named = (bytes : List ℕ) → read ≡ Some bytes → IsNamed bytes refusal named
+IsNamedFor read (Refused refusal) named = IsNamedRead read refusal named
 IsNamedFor read _ named = named ≡ Found None

@@ -68,6 +68,10 @@ fn register_number(named: Blame) -> Piece<'static>
 }
 
 /// Writes which rule is broken, by which line, at which register, if one is at fault and was found, and how to mend it.
+///
+/// # Errors
+///
+/// `Failed` if a write fails: a prefix of the sentence was written then.
 pub fn write_refused<K: Sink>(
     errors: &mut K,
     found: RefusedLines,

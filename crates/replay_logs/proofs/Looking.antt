@@ -3,7 +3,7 @@ use Rattle.std.proofs.Common.{◌≡◌, ℕ, Bool, List, map, sym, ap, ◌∙�
 use Rattle.std.specs.Prelude.{slice_get}
 use Rattle.schedule_turns.specs.declared.turn.StepKind.{StepKind}
 use Rattle.caller_steps.specs.Entries.{RoomyEntry}
-use Rattle.core_runs.specs.Replays.{entry_wants_kind, entry_ended}
+use Rattle.core_runs.specs.Replays.{entry_wants_kind, calls_ended_of}
 use Rattle.replay_steps.specs.Entries.{core_part, AllBelongTo}
 use Rattle.replay_logs.specs.UnderWay.{Terms, Progress, cores_of, IsUnderWay}
 use Rattle.replay_logs.proofs.Stepping.{all_belong}
@@ -24,6 +24,6 @@ wants_in t told inside now entries c kind result same seen those is =
     ∙ (ap (λ (x : Terms). entry_wants_kind x.pair.target kind (slice_get (map core_part entries) c)) same
     ∙ ap (λ (l : List RoomyEntry). entry_wants_kind t.pair.target kind (slice_get (map core_part l) c)) (entries_are inside now entries seen those))
 
-pub ended_in : (inside now : Progress) (entries : List RoomyEntry) (c result : ℕ) → inside ≡ now → entries ≡ inside.entries → result ≡ entry_ended (slice_get (map core_part entries) c)
-    → result ≡ entry_ended (slice_get (cores_of now) c)
-ended_in inside now entries c result seen those is = is ∙ ap (λ (l : List RoomyEntry). entry_ended (slice_get (map core_part l) c)) (entries_are inside now entries seen those)
+pub ended_in : (inside now : Progress) (entries : List RoomyEntry) (c result : ℕ) → inside ≡ now → entries ≡ inside.entries → result ≡ calls_ended_of (slice_get (map core_part entries) c)
+    → result ≡ calls_ended_of (slice_get (cores_of now) c)
+ended_in inside now entries c result seen those is = is ∙ ap (λ (l : List RoomyEntry). calls_ended_of (slice_get (map core_part l) c)) (entries_are inside now entries seen those)

@@ -6,7 +6,7 @@ use Rattle.schedule_turns.specs.declared.turn.StepKind.{StepKind}
 use Rattle.schedule_turns.specs.declared.turn.Turn.{Turn}
 use Rattle.schedule_turns.specs.declared.turn.Turn.TheVariants as turns
 use Rattle.core_runs.specs.Machine.{CoreState, CoreEvent, core_run}
-use Rattle.core_runs.specs.Replays.{Replay, Replaying, Refusal, StepOfNobody, LongReplay, next_events, caller_events, stepped_to, step_by, one_step, go_further, most_steps, entry_wants_kind, entry_ended, upto_made, ops_made, turn_made, ended_or, caller_ended}
+use Rattle.core_runs.specs.Replays.{Replay, Replaying, Refusal, StepOfNobody, LongReplay, next_events, caller_events, stepped_to, step_by, one_step, go_further, most_steps, entry_wants_kind, calls_ended_of, upto_made, ops_made, turn_made, ended_or, caller_ended}
 use Rattle.replay_steps.specs.Turns.{made_to, refused}
 use Rattle.replay_logs.specs.declared.parts.Part.{Part}
 use Rattle.replay_logs.specs.declared.parts.Part.TheVariants.{Steps, Upto, Ops, End}
@@ -92,7 +92,7 @@ unrolls p (Upto c kind left) r =
     ap (λ (m : ℕ). upto_made p c kind m left r) (plus_one (p.limit - r.steps))
     ∙ upto_unrolls p c kind left r (entry_wants_kind p.target kind (slice_get r.state.entries c)) (nat_le left 1)
 unrolls p (Ops c goal) r =
-    ap (λ (m : ℕ). ops_made p c m goal r) (plus_one (p.limit - r.steps)) ∙ ops_unrolls p c goal r (nat_le goal (entry_ended (slice_get r.state.entries c)))
+    ap (λ (m : ℕ). ops_made p c m goal r) (plus_one (p.limit - r.steps)) ∙ ops_unrolls p c goal r (nat_le goal (calls_ended_of (slice_get r.state.entries c)))
 unrolls p (End c) r =
     ap (λ (m : ℕ). caller_ended p c m r) (plus_one (p.limit - r.steps)) ∙ end_unrolls p c r (caller_events p c (slice_get r.state.entries c))
 

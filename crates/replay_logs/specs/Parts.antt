@@ -4,7 +4,7 @@ use Rattle.schedule_turns.specs.declared.turn.StepKind.{StepKind}
 use Rattle.schedule_turns.specs.declared.turn.Turn.{Turn}
 use Rattle.schedule_turns.specs.declared.turn.Turn.TheVariants as turns
 use Rattle.caller_steps.specs.Entries.{Entry}
-use Rattle.core_runs.specs.Replays.{Replay, Replaying, Refusal, caller_events, most_steps, entry_wants_kind, entry_ended, steps_made, upto_made, ops_made, caller_ended}
+use Rattle.core_runs.specs.Replays.{Replay, Replaying, Refusal, caller_events, most_steps, entry_wants_kind, calls_ended_of, steps_made, upto_made, ops_made, caller_ended}
 use Rattle.replay_steps.specs.Turns.{left_after}
 use Rattle.replay_logs.specs.declared.parts.Part.{Part}
 use Rattle.replay_logs.specs.declared.parts.Part.TheVariants.{Steps, Upto, Ops, End}
@@ -26,7 +26,7 @@ part_made p (End c) r = caller_ended p c (most_steps p r) r
 abbrev pub part_of : Turn → List Entry → Part
 part_of (turns.Step c n) entries = Steps c n
 part_of (turns.Upto c kind n) entries = Upto c kind n
-part_of (turns.Ops c n) entries = Ops c (entry_ended (slice_get entries c) + n)
+part_of (turns.Ops c n) entries = Ops c (calls_ended_of (slice_get entries c) + n)
 
 -- ---- what is left of a part after a further step; none if it is over
 
@@ -45,5 +45,5 @@ rest_if true part = Some part
 abbrev pub part_rest : Replay → Part → List Entry → Option Part
 part_rest p (Steps c n) entries = steps_rest c n
 part_rest p (Upto c kind left) entries = upto_rest c kind (left_after (entry_wants_kind p.target kind (slice_get entries c)) left)
-part_rest p (Ops c goal) entries = rest_if (not (nat_le goal (entry_ended (slice_get entries c)))) (Ops c goal)
+part_rest p (Ops c goal) entries = rest_if (not (nat_le goal (calls_ended_of (slice_get entries c)))) (Ops c goal)
 part_rest p (End c) entries = rest_if (is_some (caller_events p c (slice_get entries c))) (End c)

@@ -1,7 +1,7 @@
 //! The parts of a replay: the turns of its schedule, and each caller's way to its end.
 
 ghost use Rattle.std.specs.Prelude.{◌≡◌, ◌<◌, ◌^◌, slice_get};
-ghost use Rattle.core_runs.specs.Replays.{entry_wants_kind, entry_ended, turns_made, callers_ended};
+ghost use Rattle.core_runs.specs.Replays.{entry_wants_kind, calls_ended_of, turns_made, callers_ended};
 ghost use Rattle.replay_logs.specs.UnderWay.{replay_by, cores_of, IsUnderWay, Follows};
 ghost use Rattle.replay_logs.specs.Parts.{caller_of, steps_rest, upto_rest, rest_if, part_of, part_rest, part_made};
 
@@ -91,7 +91,7 @@ impl<'a> Terms<'a> {
 
     /// How many of a caller's calls have ended.
     fn ended_calls(&self, now: &Progress, caller: u32) -> u64
-        ensures count { result ≡ entry_ended (slice_get (cores_of now.now) caller) }
+        ensures count { result ≡ calls_ended_of (slice_get (cores_of now.now) caller) }
         ensures few { result < 2 ^ 62 }
     {
         ended_calls(&now.entries, caller)

@@ -2,7 +2,7 @@
 
 ghost use Rattle.std.specs.Prelude.{◌≡◌, ◌<◌, ◌^◌, map, option_copied, slice_get};
 ghost use Rattle.core_runs.specs.Scripts.{script_of};
-ghost use Rattle.core_runs.specs.Replays.{entry_ended, entry_wants_kind};
+ghost use Rattle.core_runs.specs.Replays.{calls_ended_of, entry_wants_kind};
 ghost use Rattle.replay_steps.specs.Entries.{core_part, AllBelongTo};
 
 use crate::counting::is_of_kind;
@@ -37,7 +37,7 @@ fn entry_at(entries: &[Entry], caller: u32) -> Option<&Entry>
 
 /// How many of a caller's calls have ended.
 pub fn ended_calls(entries: &[Entry], caller: u32) -> u64
-    ensures count { result ≡ entry_ended (slice_get (map core_part entries.now) caller) }
+    ensures count { result ≡ calls_ended_of (slice_get (map core_part entries.now) caller) }
     ensures few { result < 2 ^ 62 }
 {
     match entries.get(caller as usize) {

@@ -1,2 +1,9 @@
+mod Adding
+mod Counting
+mod Each
 mod FewLines
 mod OneLine
+mod Parsed
+mod Parts
+mod Taking
+mod Words

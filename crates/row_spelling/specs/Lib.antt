@@ -1,1 +1,5 @@
+pub mod Answered
+pub mod Moves
 pub mod OneLine
+pub mod Rows
+pub mod Spelling

@@ -1,5 +1,8 @@
 //! Why a row has no answer.
 
+ghost use Rattle.std.specs.Prelude.{◌≡◌};
+ghost use Rattle.row_spelling.specs.declared.error.RowError.TheVariants.{Memory};
+
 use std::alloc::AllocError;
 
 /// Why a row has no answer.
@@ -12,6 +15,8 @@ pub enum RowError {
 }
 
 impl From<AllocError> for RowError {
+    ghost from_gives = { λ error result. result ≡ Memory error };
+
     fn from(error: AllocError) -> RowError {
         RowError::Memory(error)
     }

@@ -21,7 +21,7 @@ use Rattle.norm_paths.specs.Found.{Found, AreKept, all_registers, is_fresh_by, i
 use Rattle.norm_paths.specs.OpFound.{IsSite, may_be_unset_by}
 use Rattle.norm_paths.proofs.Within.{and_left, and_right}
 use Rattle.norm_paths.proofs.RuleLemmas.{unset_is}
-use Rattle.norm_paths.proofs.Starting.{not_true, true_not}
+use Rattle.norm_paths.proofs.Starting.{not_true, true_not, kept_within}
 use Rattle.kind_rules.specs.declared.facts.KindFacts.{KindFacts}
 use Rattle.kind_rules.specs.Asking.{IsKindSite}
 use Rattle.kind_rules.proofs.Mixing.{mixes_there}
@@ -66,11 +66,14 @@ module _ (text : Text) (op : Op) (wrapup : Bool) (at : ℕ) (i : Instr) (found :
   surely_is : (r : Reg) → IsTrue (is_register r) → IsTrue (is_surely_fresh_by found.facts r at) ↔ IsSurelyFresh (code_of op wrapup) r at
   surely_is r register = (site.true_of.held r register).surely at
 
+  keeps_is : (r : Reg) → IsTrue (is_kept_by kept r) ↔ IsKept op r
+  keeps_is r = kept_within op kept r site.within are
+
   kept_rule : (test : Bool) (r : Reg) → IsTrue (wrapup && (test && is_kept_by kept r)) ↔ (IsTrue wrapup × IsTrue test × IsKept op r)
   kept_rule test r =
       let keeps = is_kept_by kept r in (
-        (λ is. let rest = and_right wrapup (test && keeps) is in (and_left wrapup (test && keeps) is, and_left test keeps rest, (are r).0 (and_right test keeps rest))),
-        λ holds. and_from wrapup (test && keeps) holds.0 (and_from test keeps holds.1 ((are r).1 holds.2)),
+        (λ is. let rest = and_right wrapup (test && keeps) is in (and_left wrapup (test && keeps) is, and_left test keeps rest, (keeps_is r).0 (and_right test keeps rest))),
+        λ holds. and_from wrapup (test && keeps) holds.0 (and_from test keeps holds.1 ((keeps_is r).1 holds.2)),
       )
 
   leaked_is : (r : Reg) → IsTrue (is_register r) → IsTrue (is_leaked_by at i found kept r) ↔ IsLeaked op wrapup at i r
@@ -82,12 +85,12 @@ module _ (text : Text) (op : Op) (wrapup : Bool) (at : ℕ) (i : Instr) (found :
             let so = (fresh_is r register).0 (and_right (openly || keeps) fresh is) in
             ⊎_elim
             (λ (one : IsTrue openly). inl (one, so))
-            (λ (two : IsTrue keeps). inr (and_left (is_commit i) (is_kept_by kept r) two, (are r).0 (and_right (is_commit i) (is_kept_by kept r) two), so))
+            (λ (two : IsTrue keeps). inr (and_left (is_commit i) (is_kept_by kept r) two, (keeps_is r).0 (and_right (is_commit i) (is_kept_by kept r) two), so))
             (or_cases openly keeps (and_left (openly || keeps) fresh is))),
         λ leaks. ⊎_elim
             (λ (one : IsTrue openly × MayBeFresh (code_of op wrapup) r at). and_from (openly || keeps) fresh (or_left openly keeps one.0) ((fresh_is r register).1 one.1))
             (λ (two : IsTrue (is_commit i) × IsKept op r × MayBeFresh (code_of op wrapup) r at).
-            and_from (openly || keeps) fresh (or_right openly keeps (and_from (is_commit i) (is_kept_by kept r) two.0 ((are r).1 two.1))) ((fresh_is r register).1 two.2))
+            and_from (openly || keeps) fresh (or_right openly keeps (and_from (is_commit i) (is_kept_by kept r) two.0 ((keeps_is r).1 two.1))) ((fresh_is r register).1 two.2))
             leaks,
       )
 

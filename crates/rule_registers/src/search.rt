@@ -112,6 +112,9 @@ fn blamed_in(
 
 /// The first register at fault, in the order n0 to n7 and r0 to r7, at the instruction of a refusal and by its rule; none if the rule
 /// blames no register there. It costs as much as checking the operation by that rule.
+///
+/// # Errors
+/// `AllocError` if memory runs out.
 pub fn register_at_fault(
     alloc: Global,
     text: &Text,

@@ -32,7 +32,7 @@ use Rattle.source_machine.specs.declared.state.Value.{Value}
 use Rattle.source_machine.specs.declared.state.Value.TheVariants.{Number, Node}
 use Rattle.source_machine.specs.declared.state.NamedNode.{NamedNode}
 use Rattle.source_machine.specs.declared.state.Memory.{Memory}
-use Rattle.source_machine.specs.Memory.{kind_named, blank_fields, with_value, loaded, exchange, Reached, auxiliary, access_by, access_at}
+use Rattle.source_machine.specs.Memory.{kind_of_node, blank_fields, with_value, loaded, exchange, Reached, auxiliary, access_by, access_at}
 use Rattle.source_machine.specs.Run.{is_new_at, is_name}
 use Rattle.source_machine.proofs.Places.{kind_new}
 use Rattle.target_code.specs.declared.target.TargetInstr.TheVariants.{Plain}
@@ -67,16 +67,16 @@ one_passes test (y ∷ xs) (suc k) x is passes = or_right (test y) (list_any tes
 
 -- a kind for each name, another number for those of no node
 abbrev kind_or : List NamedNode → ℕ → ℕ → ℕ
-kind_or nodes other name = unwrap_or (kind_named name nodes) other
+kind_or nodes other name = unwrap_or (kind_of_node name nodes) other
 
 has_own : (nodes : List NamedNode) (other : ℕ) → HasKinds nodes (kind_or nodes other)
 has_own nodes other name kind is = ap (λ (o : Option ℕ). unwrap_or o other) is
 
 -- a name that would be of the kind whatever kind it is given is that of a node
 node_of : (nodes : List NamedNode) (name k : ℕ) → ((kind_of : ℕ → ℕ) → HasKinds nodes kind_of → (name ≡ 0) ⊎ (kind_of name ≡ k)) → IsNodeOf nodes k name
-node_of nodes name k right = by (kind_named name nodes) refl
+node_of nodes name k right = by (kind_of_node name nodes) refl
   where
-    by : (o : Option ℕ) → kind_named name nodes ≡ o → IsNodeOf nodes k name
+    by : (o : Option ℕ) → kind_of_node name nodes ≡ o → IsNodeOf nodes k name
     by (Some kind) is = ⊎_elim
         (λ (null : name ≡ 0). inl null)
         (λ (same : kind_or nodes 0 name ≡ k). inr (is ∙ ap Some (sym (has_own nodes 0 name kind is) ∙ same)))
@@ -204,7 +204,7 @@ module _ (text : Text) (normal : IsNormal text) (within : IsWithinLimits text) (
       loads_keep kind_of text.fields text.roots (bare_op op) wrapup at registers i (Ref d) x stands.path stands.leads (bare_at op wrapup at i there) sets
       (⊎_elim
       (λ (null : x.node ≡ 0). inl null)
-      (λ (named : kind_named x.node nodes ≡ Some k).
+      (λ (named : kind_of_node x.node nodes ≡ Some k).
       inr (gives (kind_of x.node) (ap (λ (f : Option FieldKind). refers f (kind_of x.node)) is_o ∙ eq-eqb k (kind_of x.node) (sym (has x.node k named)))))
       of)
       (at + 1) (bare_goes text normal number op wrapup is at (at + 1) i there goes) (stands.typed kind_of has)

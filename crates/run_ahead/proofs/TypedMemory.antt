@@ -31,7 +31,7 @@ use Rattle.source_machine.specs.declared.state.Value.{Value}
 use Rattle.source_machine.specs.declared.state.Value.TheVariants.{Number, Node}
 use Rattle.source_machine.specs.declared.state.NamedNode.{NamedNode}
 use Rattle.source_machine.specs.declared.state.Memory.{Memory}
-use Rattle.source_machine.specs.Memory.{value_in, value_at, same_value, blank_of, blank_field, blank_fields, null_fields, fields_named, kind_named, with_field, with_place, found_at, with_name_retired, with_retired, exchange_on, exchange, auxiliary, access_by, loaded}
+use Rattle.source_machine.specs.Memory.{value_in, value_at, same_value, blank_of, blank_field, blank_fields, null_fields, fields_named, kind_of_node, with_field, with_place, found_at, with_name_retired, with_retired, exchange_on, exchange, auxiliary, access_by, loaded}
 use Rattle.source_machine.specs.Run.{is_name}
 use Rattle.source_machine.proofs.Places.{kinds_set, kind_new_other, kind_is_named}
 use Rattle.run_ahead.specs.Typed.{IsNodeOf, IsOfKind, AreOfKinds, IsRegisterFor, field_kinds, root_kinds, AreTypedNodes, IsTyped, KindsStay, AreAsked, AreAskedBy}
@@ -68,8 +68,8 @@ new_kinds_stay text name kind nodes unused other k is = kind_new_other name kind
   where
     differs : other ≢ name
     differs same =
-        let named : is_some (kind_named name nodes) ≡ true = ap is_some (ap (λ (n : ℕ). kind_named n nodes) (sym same) ∙ is) in
-        let none : is_some (kind_named name nodes) ≡ false = kind_is_named name nodes ∙ ap is_some unused in
+        let named : is_some (kind_of_node name nodes) ≡ true = ap is_some (ap (λ (n : ℕ). kind_of_node n nodes) (sym same) ∙ is) in
+        let none : is_some (kind_of_node name nodes) ≡ false = kind_is_named name nodes ∙ ap is_some unused in
         let no : true ≡ false = sym named ∙ none in
         absurd (let never : true ≡ false = no in cc)
 
@@ -161,16 +161,16 @@ root_at text x kind is = slice_get-map (λ root. root.kind) text.roots x ∙ is
 -- ---- nodes
 
 -- the kind that a name has, if it names null or a node of a kind
-pub one_kind : (nodes : List NamedNode) (owner name kind : ℕ) → kind_named 0 nodes ≡ None → IsNodeOf nodes owner name → kind_named name nodes ≡ Some kind → kind ≡ owner
-one_kind nodes owner name kind null (inl zeroth) is = absurd (let no : None ≡ Some kind = sym null ∙ (ap (λ (n : ℕ). kind_named n nodes) (sym zeroth) ∙ is) in cc)
+pub one_kind : (nodes : List NamedNode) (owner name kind : ℕ) → kind_of_node 0 nodes ≡ None → IsNodeOf nodes owner name → kind_of_node name nodes ≡ Some kind → kind ≡ owner
+one_kind nodes owner name kind null (inl zeroth) is = absurd (let no : None ≡ Some kind = sym null ∙ (ap (λ (n : ℕ). kind_of_node n nodes) (sym zeroth) ∙ is) in cc)
 one_kind nodes owner name kind null (inr of) is = same_Some kind owner (sym is ∙ of)
 
-field_set_typed : (text : Text) (all : List NamedNode) (name owner place : ℕ) (kind : FieldKind) (value : Value) (nodes : List NamedNode) → ((k : ℕ) → kind_named name nodes ≡ Some k → k ≡ owner)
+field_set_typed : (text : Text) (all : List NamedNode) (name owner place : ℕ) (kind : FieldKind) (value : Value) (nodes : List NamedNode) → ((k : ℕ) → kind_of_node name nodes ≡ Some k → k ≡ owner)
     → slice_get (field_kinds text owner) place ≡ Some kind → IsOfKind all kind value → AreTypedNodes text all nodes → AreTypedNodes text all (with_field name place value nodes)
 field_set_typed text all name owner place kind value [] of is right typed = typed
 field_set_typed text all name owner place kind value (node ∷ nodes) of is right typed = by_name (node.name == name) of (λ of'. field_set_typed text all name owner place kind value nodes of' is right typed.1)
   where
-    by_name : (b : Bool) → ((k : ℕ) → (if b then Some node.kind else kind_named name nodes) ≡ Some k → k ≡ owner) → (((k : ℕ) → kind_named name nodes ≡ Some k → k ≡ owner) → AreTypedNodes text all (with_field name place value nodes))
+    by_name : (b : Bool) → ((k : ℕ) → (if b then Some node.kind else kind_of_node name nodes) ≡ Some k → k ≡ owner) → (((k : ℕ) → kind_of_node name nodes ≡ Some k → k ≡ owner) → AreTypedNodes text all (with_field name place value nodes))
         → AreTypedNodes text all (if b then (record node { values = set node.values place value } ∷ nodes) else (node ∷ with_field name place value nodes))
     by_name true of rest =
         let same : node.kind ≡ owner = of node.kind refl in
@@ -178,13 +178,13 @@ field_set_typed text all name owner place kind value (node ∷ nodes) of is righ
     by_name false of rest = (typed.0, rest of)
 
 -- the values of a node's fields are of the kinds that the fields of its kind hold
-named_typed : (text : Text) (all : List NamedNode) (name owner : ℕ) (nodes : List NamedNode) (values : List Value) → ((k : ℕ) → kind_named name nodes ≡ Some k → k ≡ owner) → AreTypedNodes text all nodes
+named_typed : (text : Text) (all : List NamedNode) (name owner : ℕ) (nodes : List NamedNode) (values : List Value) → ((k : ℕ) → kind_of_node name nodes ≡ Some k → k ≡ owner) → AreTypedNodes text all nodes
     → fields_named name nodes ≡ Some values → AreOfKinds all (field_kinds text owner) values
 named_typed text all name owner [] values of typed is = absurd (let no : None ≡ Some values = is in cc)
 named_typed text all name owner (node ∷ nodes) values of typed is = by_name (node.name == name) of is (λ of' is'. named_typed text all name owner nodes values of' typed.1 is')
   where
-    by_name : (b : Bool) → ((k : ℕ) → (if b then Some node.kind else kind_named name nodes) ≡ Some k → k ≡ owner) → (if b then Some node.values else fields_named name nodes) ≡ Some values
-        → (((k : ℕ) → kind_named name nodes ≡ Some k → k ≡ owner) → fields_named name nodes ≡ Some values → AreOfKinds all (field_kinds text owner) values) → AreOfKinds all (field_kinds text owner) values
+    by_name : (b : Bool) → ((k : ℕ) → (if b then Some node.kind else kind_of_node name nodes) ≡ Some k → k ≡ owner) → (if b then Some node.values else fields_named name nodes) ≡ Some values
+        → (((k : ℕ) → kind_of_node name nodes ≡ Some k → k ≡ owner) → fields_named name nodes ≡ Some values → AreOfKinds all (field_kinds text owner) values) → AreOfKinds all (field_kinds text owner) values
     by_name true of is rest =
         subst (AreOfKinds all (field_kinds text owner)) (same_Some node.values values is) (subst (λ (k : ℕ). AreOfKinds all (field_kinds text k) node.values) (of node.kind refl) typed.0)
     by_name false of is rest = rest of is

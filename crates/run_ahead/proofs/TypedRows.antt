@@ -34,7 +34,7 @@ use Rattle.source_machine.specs.declared.state.Value.TheVariants as values
 use Rattle.source_machine.specs.declared.state.Memory.{Memory}
 use Rattle.source_machine.specs.declared.state.SourceCaller.{SourceCaller}
 use Rattle.source_machine.specs.declared.state.SourceMachine.{SourceMachine}
-use Rattle.source_machine.specs.Memory.{kind_named}
+use Rattle.source_machine.specs.Memory.{kind_of_node}
 use Rattle.source_machine.specs.Run.{source_run, IsSourceRun}
 use Rattle.source_machine.specs.State.{source_start, idle_caller}
 use Rattle.run_ahead.specs.Standing.{Call, stands_in_list}
@@ -280,7 +280,7 @@ object_found = put_asks 1 0 refl
 value_found : IsNodeOf before.memory.nodes 1 2
 value_found = put_asks 2 1 refl
 
-kinds_there : (kind_named 7 before.memory.nodes ≡ Some 0) × (kind_named 2 before.memory.nodes ≡ Some 1) × (kind_named 0 before.memory.nodes ≡ None)
+kinds_there : (kind_of_node 7 before.memory.nodes ≡ Some 0) × (kind_of_node 2 before.memory.nodes ≡ Some 1) × (kind_of_node 0 before.memory.nodes ≡ None)
 kinds_there = (refl, refl, refl)
 
 -- and the list's exchange two items
@@ -315,12 +315,12 @@ mixed = record before.memory { roots = values.Node (to 2) ∷ [] }
 not_typed : IsTyped two mixed → ⊥
 not_typed typed = ⊎_elim
     (λ (null : ◌≡◌ {A = ℕ} 2 0). let no : ⊥ = omega (arith, null) in no)
-    (λ (item : kind_named 2 mixed.nodes ≡ Some 0). let no : ◌≡◌ {A = ℕ} 1 0 = same_Some 1 0 item in let never : ⊥ = omega (arith, no) in never)
+    (λ (item : kind_of_node 2 mixed.nodes ≡ Some 0). let no : ◌≡◌ {A = ℕ} 1 0 = same_Some 1 0 item in let never : ⊥ = omega (arith, no) in never)
     typed.roots.0
 
 -- a name that no node has is none that an access may meet
 not_named : IsNodeOf before.memory.nodes 0 9 → ⊥
 not_named named = ⊎_elim
     (λ (null : ◌≡◌ {A = ℕ} 9 0). let no : ⊥ = omega (arith, null) in no)
-    (λ (item : kind_named 9 before.memory.nodes ≡ Some 0). let never : None ≡ Some 0 = item in cc)
+    (λ (item : kind_of_node 9 before.memory.nodes ≡ Some 0). let never : None ≡ Some 0 = item in cc)
     named

@@ -15,7 +15,7 @@ use Rattle.norm_lang.specs.KindFields.{fields_of}
 use Rattle.norm_lang.specs.LineWords.{is_owner}
 use Rattle.norm_lang.specs.Limits.{is_root, is_start, are_starts, owners_of, is_node, IsWithinLimits}
 use Rattle.source_machine.specs.declared.state.NamedNode.{NamedNode}
-use Rattle.source_machine.specs.Memory.{kind_named}
+use Rattle.source_machine.specs.Memory.{kind_of_node}
 use Rattle.source_machine.specs.State.{first_value, root_value, named_from, first_memory}
 use Rattle.source_machine.proofs.Places.{other_test}
 use Rattle.run_ahead.specs.Typed.{IsOfKind, AreOfKinds, AreTypedNodes, IsTyped}
@@ -24,29 +24,29 @@ use Rattle.target_laws.proofs.OneKind.{declared, nodes_are, roots_are, root_star
 -- ---- the names of the initial nodes
 
 -- the initial node with a number, counted from 0, has the name that is so many above the first
-named_at : (first : ℕ) (nodes : List NodeDecl) (j : ℕ) (k : ℕ) → is_owner (slice_get (owners_of nodes) j) k ≡ true → kind_named (first + j) (named_from first nodes) ≡ Some k
+named_at : (first : ℕ) (nodes : List NodeDecl) (j : ℕ) (k : ℕ) → is_owner (slice_get (owners_of nodes) j) k ≡ true → kind_of_node (first + j) (named_from first nodes) ≡ Some k
 named_at first [] j k is = absurd (let no : false ≡ true = is in cc)
 named_at first (node ∷ nodes) zero k is =
     let same : (first == (first + 0)) ≡ true = eq-eqb first (first + 0) (omega arith) in
-    ap (λ (b : Bool). if b then Some node.owner else kind_named (first + 0) (named_from (first + 1) nodes)) same ∙ ap Some (eqb-true node.owner k is)
+    ap (λ (b : Bool). if b then Some node.owner else kind_of_node (first + 0) (named_from (first + 1) nodes)) same ∙ ap Some (eqb-true node.owner k is)
 named_at first (node ∷ nodes) (suc j) k is =
     let other : (first == (first + suc j)) ≡ false = other_test first (first + suc j) (λ (same : first ≡ first + suc j). let no : ⊥ = omega (arith, same) in no) in
     let next : first + suc j ≡ (first + 1) + j = omega arith in
-    ap (λ (b : Bool). if b then Some node.owner else kind_named (first + suc j) (named_from (first + 1) nodes)) other
-    ∙ (ap (λ (n : ℕ). kind_named n (named_from (first + 1) nodes)) next ∙ named_at (first + 1) nodes j k is)
+    ap (λ (b : Bool). if b then Some node.owner else kind_of_node (first + suc j) (named_from (first + 1) nodes)) other
+    ∙ (ap (λ (n : ℕ). kind_of_node n (named_from (first + 1) nodes)) next ∙ named_at (first + 1) nodes j k is)
 
 -- none has a name below the first
-none_below : (first name : ℕ) (nodes : List NodeDecl) → name < first → kind_named name (named_from first nodes) ≡ None
+none_below : (first name : ℕ) (nodes : List NodeDecl) → name < first → kind_of_node name (named_from first nodes) ≡ None
 none_below first name [] lt = refl
 none_below first name (node ∷ nodes) lt =
     let other : (first == name) ≡ false = other_test first name (λ (same : first ≡ name). let no : ⊥ = omega (arith, same, lt) in no) in
-    ap (λ (b : Bool). if b then Some node.owner else kind_named name (named_from (first + 1) nodes)) other ∙ none_below (first + 1) name nodes (omega (arith, lt))
+    ap (λ (b : Bool). if b then Some node.owner else kind_of_node name (named_from (first + 1) nodes)) other ∙ none_below (first + 1) name nodes (omega (arith, lt))
 
 -- ---- first values
 
 -- the name of each initial node is of the kind that `owners` says
 abbrev AreNamed : List ℕ → List NamedNode → Type 0
-AreNamed owners nodes = (j k : ℕ) → is_owner (slice_get owners j) k ≡ true → kind_named (suc j) nodes ≡ Some k
+AreNamed owners nodes = (j k : ℕ) → is_owner (slice_get owners j) k ≡ true → kind_of_node (suc j) nodes ≡ Some k
 
 start_right : (owners : List ℕ) (nodes : List NamedNode) (kind : FieldKind) (start : Start) → AreNamed owners nodes → is_start owners kind start ≡ true → IsOfKind nodes kind (first_value start)
 start_right owners nodes holdings.Number (starts.Value n) named is = tt
@@ -82,7 +82,7 @@ first_typed text within =
     let parts = declared text within in
     let owners = owners_of text.nodes in
     let nodes = named_from 1 text.nodes in
-    let named : AreNamed owners nodes = λ j k is. (let next : suc j ≡ 1 + j = omega arith in ap (λ (n : ℕ). kind_named n nodes) next ∙ named_at 1 text.nodes j k is) in
+    let named : AreNamed owners nodes = λ j k is. (let next : suc j ≡ 1 + j = omega arith in ap (λ (n : ℕ). kind_of_node n nodes) next ∙ named_at 1 text.nodes j k is) in
     record {
       roots = roots_right (length text.kinds) owners nodes text.roots named (roots_are (length text.kinds) owners text.roots parts.roots);
       nodes = nodes_right text owners nodes 1 text.nodes named (nodes_are (length text.kinds) text.fields text.nodes parts.nodes);

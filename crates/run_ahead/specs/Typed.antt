@@ -15,13 +15,13 @@ use Rattle.source_machine.specs.declared.state.Value.{Value}
 use Rattle.source_machine.specs.declared.state.Value.TheVariants.{Number, Node}
 use Rattle.source_machine.specs.declared.state.NamedNode.{NamedNode}
 use Rattle.source_machine.specs.declared.state.Memory.{Memory}
-use Rattle.source_machine.specs.Memory.{kind_named}
+use Rattle.source_machine.specs.Memory.{kind_of_node}
 
 -- ---- values
 
 -- null, or the name of a node of a kind
 abbrev pub IsNodeOf : List NamedNode → ℕ → ℕ → Type 0
-IsNodeOf nodes kind name = (name ≡ 0) ⊎ (kind_named name nodes ≡ Some kind)
+IsNodeOf nodes kind name = (name ≡ 0) ⊎ (kind_of_node name nodes ≡ Some kind)
 
 -- a value of a kind: a number, or a reference to null or to a node of the kind
 abbrev pub IsOfKind : List NamedNode → FieldKind → Value → Type 0
@@ -59,11 +59,11 @@ AreTypedNodes text nodes (node ∷ some) = AreOfKinds nodes (field_kinds text no
 pub record IsTyped (text : Text) (memory : Memory) : Type 0 where
   pub roots : AreOfKinds memory.nodes (root_kinds text) memory.roots
   pub nodes : AreTypedNodes text memory.nodes memory.nodes
-  pub null : kind_named 0 memory.nodes ≡ None
+  pub null : kind_of_node 0 memory.nodes ≡ None
 
 -- names only come to memory, and keep their kinds
 abbrev pub KindsStay : List NamedNode → List NamedNode → Type 0
-KindsStay nodes nodes' = (name kind : ℕ) → kind_named name nodes ≡ Some kind → kind_named name nodes' ≡ Some kind
+KindsStay nodes nodes' = (name kind : ℕ) → kind_of_node name nodes ≡ Some kind → kind_of_node name nodes' ≡ Some kind
 
 -- ---- registers
 

@@ -11,7 +11,7 @@ use Rattle.source_machine.specs.declared.state.Stand.{Stand}
 use Rattle.source_machine.specs.declared.state.Stand.TheVariants.{InGenerator, InList, InWrapUp}
 use Rattle.source_machine.specs.declared.state.Running.{Running}
 use Rattle.source_machine.specs.declared.state.SourceCaller.{SourceCaller}
-use Rattle.source_machine.specs.Memory.{kind_named}
+use Rattle.source_machine.specs.Memory.{kind_of_node}
 use Rattle.target_code.specs.declared.target.TargetOp.{TargetOp}
 use Rattle.target_code.specs.Paths.{TargetPath, target_code_of}
 use Rattle.kind_laws.specs.TargetKinds.{AreTyped}
@@ -19,7 +19,7 @@ use Rattle.target_code.specs.Bare.{bare_op}
 
 -- a kind for each name: a node's is its own
 abbrev pub HasKinds : List NamedNode → (ℕ → ℕ) → Type 0
-HasKinds nodes kind_of = (name kind : ℕ) → kind_named name nodes ≡ Some kind → kind_of name ≡ kind
+HasKinds nodes kind_of = (name kind : ℕ) → kind_of_node name nodes ≡ Some kind → kind_of name ≡ kind
 
 -- at a place of a method each register of references names null or a node of a kind that it may have there. A name that no node has
 -- counts as one of any kind, so no register has such a name where one kind alone may be there

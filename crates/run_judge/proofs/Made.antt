@@ -31,19 +31,19 @@ use Rattle.event_judge.specs.Judging.{verdict_on}
 use Rattle.documents.specs.DocumentRead.{IsDocument}
 use Rattle.certificate_laws.specs.Certified.{replies_in, RunsAreAccepted}
 use Rattle.run_judge.specs.Judged.{verdict_of}
-use Rattle.run_judge.specs.Made.{certificate_limit, certificate_replay, plan_logged, certificate_given, fault_of, IsMakingFaultOf, IsCertificateOf}
+use Rattle.run_judge.specs.Made.{certificate_limit, certificate_replay, plan_logged, certificate_given, making_fault_of, IsMakingFaultOf, IsCertificateOf}
 use Rattle.run_judge.proofs.Lengthening.{replay_lasts}
 use Rattle.run_judge.proofs.Spelling.{spelled}
 use Rattle.run_judge.proofs.Telling.{begins_call, image_begins, events_so}
 
 -- ---- faults
 
-not_logged : (document : Document) (text : Text) (error : LogError) → IsRunnable document → IsLogged (certificate_replay document) text (certificate_given document) (Err error) → IsMakingFaultOf document (fault_of error)
+not_logged : (document : Document) (text : Text) (error : LogError) → IsRunnable document → IsLogged (certificate_replay document) text (certificate_given document) (Err error) → IsMakingFaultOf document (making_fault_of error)
 not_logged document text errors.Memory runs given = tt
 not_logged document text _ runs given = (runs.normal, rw (runs.shape, given) refl)
 
 pub is_not_logged : (document : Document) (plan : Plan) (text : Text) (error : LogError) → IsPlanned document (Ok plan)
-    → IsLogged (plan_logged plan) text (replayed (plan_logged plan) document.schedule) (Err error) → IsMakingFaultOf document (fault_of error)
+    → IsLogged (plan_logged plan) text (replayed (plan_logged plan) document.schedule) (Err error) → IsMakingFaultOf document (making_fault_of error)
 is_not_logged document plan text error planned given =
     not_logged document text error planned.1 (subst (λ (p : Plan). IsLogged (plan_logged p) text (replayed (plan_logged p) document.schedule) (Err error)) planned.0 given)
 

@@ -5,7 +5,7 @@ use Rattle.std.specs.List.{list_all}
 use Rattle.std.proofs.lemmas.Bool.{and_parts, and_from}
 use Rattle.std.proofs.lemmas.Bool.Decides.{nat_tests}
 use Rattle.std.proofs.lemmas.List.Folds.{list_all-append}
-use Rattle.std.proofs.lemmas.Option.{slice_get-map, slice_get_within, get_or_from_slice_get}
+use Rattle.std.proofs.lemmas.Option.{slice_get-map, slice_get_within}
 use Rattle.norm_lang.specs.declared.text.Op.{Op}
 use Rattle.norm_lang.specs.declared.text.Text.{Text}
 use Rattle.target_code.specs.declared.target.Target.{Target}
@@ -29,6 +29,7 @@ use Rattle.oa_simulation.specs.sim_relation.Points.{event_of}
 use Rattle.oa_simulation.specs.Shadow.{Shadow, is_told, events_if, shadow_step, shadow_run, shadow_start, image}
 use Rattle.run_laws.specs.begin_laws.Begins.{begun_by, begun_in, BeginsScript}
 use Rattle.run_laws.proofs.begin_laws.ScriptsBegun.{scripts_begin}
+use Rattle.replay_steps.proofs.Rooms.{script_calls, call_is}
 use Rattle.run_logs.specs.Logged.{is_sized}
 use Rattle.certificates.specs.CertificateLaws.{is_event}
 
@@ -142,15 +143,6 @@ taken_first zero script i call there = absurd (let none : None ≡ Some call = t
 taken_first (suc n) (x ∷ script) (suc i) call there = taken_first n script i call there
 taken_first (suc n) _ _ call there = there
 
-call_is : (target : Target) (script : List Call) (i : ℕ) (call : Call) → AreCalls target script → slice_get script i ≡ Some call → is_call target call ≡ true
-call_is target script i call all there =
-    subst (λ (x : Call). is_call target x ≡ true) (get_or_from_slice_get script i call call there) (all i call (slice_get_within script i call there))
-
-scripts_calls : (target : Target) (scripts : List (List Call)) (c : ℕ) → All (AreCalls target) scripts → AreCalls target (script_of scripts c)
-scripts_calls target [] c all = λ i d lt. absurd (let none : i < 0 = lt in let no : ⊥ = omega (arith, none) in no)
-scripts_calls target (script ∷ scripts) zero all = all 0 [] (omega arith)
-scripts_calls target (script ∷ scripts) (suc c) all = scripts_calls target scripts c (λ i d lt. all (suc i) d (omega (arith, lt)))
-
 -- ---- the image of a complete run
 
 module _ (target : Target) (text : Text) (setting : Setting) (scripts : List (List Call)) (fuel : ℕ) (run : List CoreEvent) (state : CoreState) (optimistic : setting.reclamation ≡ Optimistic) (some : 1 ≤ fuel) (calls : All (AreCalls target) scripts)
@@ -175,9 +167,9 @@ module _ (target : Target) (text : Text) (setting : Setting) (scripts : List (Li
     by : (c i : ℕ) (call : Call) (e : Entry) (idle : Bool) → slice_get (begun_in c (image target text setting run)) i ≡ Some call
         → BeginsScript idle (script_of scripts c) e (begun_in c (image target text setting run)) → is_call target call ≡ true
     by c i call e true there begins =
-        call_is target (script_of scripts c) i call (scripts_calls target scripts c calls) (ap (λ (l : List Call). slice_get l i) (sym begins) ∙ there)
+        call_is target (script_of scripts c) i call (script_calls target scripts c calls) (ap (λ (l : List Call). slice_get l i) (sym begins) ∙ there)
     by c i call e false there begins =
-        call_is target (script_of scripts c) i call (scripts_calls target scripts c calls)
+        call_is target (script_of scripts c) i call (script_calls target scripts c calls)
         (taken_first (length e.replies + 1) (script_of scripts c) i call (ap (λ (l : List Call). slice_get l i) (sym begins) ∙ there))
 
     none_past : (c : ℕ) → slice_get state.entries c ≡ None → setting.sizes.callers ≤ c

@@ -19,9 +19,9 @@ abbrev pub verdict_of : Certificate → Verdict
 verdict_of certificate = verdict_on certificate.document.text certificate.document.scripts certificate.events certificate.replies
 
 -- the document can be run, and this is found; or why it can't
-abbrev pub IsJudged : Certificate → Result Verdict RunFault → Type 0
-IsJudged certificate (Ok verdict) = IsRunnable certificate.document × (verdict ≡ verdict_of certificate)
-IsJudged certificate (Err fault) = IsFaultOf certificate.document fault
+abbrev pub IsCertificateJudged : Certificate → Result Verdict RunFault → Type 0
+IsCertificateJudged certificate (Ok verdict) = IsRunnable certificate.document × (verdict ≡ verdict_of certificate)
+IsCertificateJudged certificate (Err fault) = IsFaultOf certificate.document fault
 
 -- what the verdict says is so
 abbrev pub IsMeant : Certificate → Verdict → Type 0

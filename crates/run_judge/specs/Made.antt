@@ -39,10 +39,10 @@ abbrev pub certificate_given : Document → Result Replaying Refusal
 certificate_given document = replayed (certificate_replay document) document.schedule
 
 -- a run that isn't written down, as it is told
-abbrev pub fault_of : LogError → RunFault
-fault_of errors.Memory = faults.Memory
-fault_of (errors.StepOfNobody steps) = faults.Shape 10 steps
-fault_of (errors.LongReplay steps) = faults.Shape 11 steps
+abbrev pub making_fault_of : LogError → RunFault
+making_fault_of errors.Memory = faults.Memory
+making_fault_of (errors.StepOfNobody steps) = faults.Shape 10 steps
+making_fault_of (errors.LongReplay steps) = faults.Shape 11 steps
 
 -- what is wrong with the shape of a document that is certified: the schedule is judged last
 abbrev pub certificate_fault : Document → Option ShapeFault

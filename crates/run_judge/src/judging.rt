@@ -2,7 +2,7 @@
 
 ghost use Rattle.std.specs.Prelude.{◌≡◌, length, IfOk};
 ghost use Rattle.documents.specs.DocumentLimits.{IsWithinDocumentLimits};
-ghost use Rattle.run_judge.specs.Judged.{IsReadied, IsJudged, IsMeant};
+ghost use Rattle.run_judge.specs.Judged.{IsReadied, IsCertificateJudged, IsMeant};
 
 use certificates::Certificate;
 use documents::Document;
@@ -38,7 +38,7 @@ fn readied(alloc: Global, document: &Document) -> Result<Normal, RunFault>
 pub fn judge(alloc: Global, certificate: &Certificate) -> Result<Verdict, RunFault>
     requires within { IsWithinDocumentLimits certificate.now.document }
     requires replies { length certificate.now.replies ≡ length certificate.now.document.scripts }
-    ensures judged { IsJudged certificate.now result }
+    ensures judged { IsCertificateJudged certificate.now result }
     ensures means { IfOk result (IsMeant certificate.now) }
 {
     let document = &certificate.document;

@@ -4,7 +4,7 @@ ghost use Rattle.std.specs.Prelude.{◌≡◌, Ok, IfOk};
 ghost use Rattle.documents.specs.DocumentLimits.{IsWithinDocumentLimits};
 ghost use Rattle.script_plans.specs.Plans.{IsPlanned, IsReady};
 ghost use Rattle.replay_logs.specs.Logged.{IsLoggedBy};
-ghost use Rattle.run_judge.specs.Made.{certificate_limit, fault_of, plan_logged, IsMade};
+ghost use Rattle.run_judge.specs.Made.{certificate_limit, making_fault_of, plan_logged, IsMade};
 
 use crate::copying::copied;
 use crate::limits::MOST_STEPS;
@@ -25,8 +25,8 @@ fn certificate_limit() -> u64
 }
 
 /// What a run that isn't written down is told as: the numbers 10 and 11, with the steps made.
-fn fault_of(error: LogError) -> RunFault
-    ensures { result ≡ fault_of error }
+fn making_fault_of(error: LogError) -> RunFault
+    ensures { result ≡ making_fault_of error }
 {
     match error {
         LogError::Memory => RunFault::Memory,
@@ -98,7 +98,7 @@ fn make_from(
     images_are_accepted(&plan.barred, &plan.setting);
     match log_plan(alloc, document, plan, normal) {
         Ok(run) => Ok(certificate_of(alloc, document, run)?),
-        Err(error) => Err(fault_of(error)),
+        Err(error) => Err(making_fault_of(error)),
     }
 }
 

@@ -69,12 +69,11 @@ abbrev pub logged_all : Text → ℕ → Call → List Sign → Recording → Re
 logged_all text c call [] z = z
 logged_all text c call (sign ∷ signs) z = logged_all text c call signs (logged text c call z sign)
 
--- only the first signs were written, and not all of them: no later one gave an event or drew a name
+-- only the first signs were written, and not all of them
 pub record IsCutShort (text : Text) (c : ℕ) (call : Call) (signs : List Sign) (old new : Recording) : Type 0 where
   pub written : ℕ
   pub fewer : written < length signs
-  pub drawn : new.unused ≡ (logged_all text c call (take written signs) old).unused
-  pub told : new.events ≡ (logged_all text c call (take written signs) old).events
+  pub same : new ≡ logged_all text c call (take written signs) old
 
 -- before the first event: the initial nodes are named from 1 on
 abbrev pub recording_start : Text → ℕ → ℕ → Recording

@@ -19,7 +19,7 @@ use std::marker::Model;
 pub struct Log {
     machine: SourceState,
     unused: u64,
-    events: Listed<SourceEvent>,
+    events: Vec<SourceEvent>,
 }
 
 impl Model for Log {
@@ -29,9 +29,9 @@ impl Model for Log {
 
     ghost Value = { Recording };
 
-    ghost view = { λ l. record { machine = l.machine; unused = l.unused; events = l.events } };
+    ghost view = { λ l. record { machine = l.machine; unused = l.unused; events = l.events.items } };
 
-    ghost invariant = { λ l. (l.unused ≤ 2 ^ 33 + length l.events) × (list_all is_sized l.events ≡ true) };
+    ghost invariant = { λ l. (l.unused ≤ 2 ^ 33 + length l.events.items) × (list_all is_sized l.events.items ≡ true) };
 }
 
 fn begin_event(caller: u32, op: u8, args: [u64; 4]) -> SourceEvent
@@ -68,7 +68,7 @@ fn named_event(caller: u32, call: Call, unused: u64, sign: Sign) -> SourceEvent
     }
 }
 
-/// Makes an event, if it is enabled.
+/// Makes an event, if it is enabled. If memory runs out, the machine stands as it was.
 fn make(
     alloc: Global,
     normal: &Normal,
@@ -77,6 +77,7 @@ fn make(
 ) -> Result<bool, AllocError>
     requires { IsOfSourceRun normal.now machine.old }
     ensures made { IfOk result (Makes normal.now machine.old event.now machine.new) }
+    ensures kept { OnErr result (machine.new ≡ machine.old) }
     ensures runs { IsOfSourceRun normal.now machine.new }
 {
     match step(alloc, machine, normal, event) {
@@ -110,7 +111,7 @@ impl Log {
     fn kept(&self)
         ensures { self.now.unused < 2 ^ 63 }
     {
-        let _ = self.events.items().len();
+        let _ = self.events.as_slice().len();
     }
 
     /// Before the first event: the callers, 1 to 8, are idle, and the names of so many initial nodes are used.
@@ -127,7 +128,7 @@ impl Log {
         Ok(Log {
             machine,
             unused: nodes as u64 + 1,
-            events: Listed::empty(alloc),
+            events: Vec::new(alloc),
         })
     }
 
@@ -135,7 +136,7 @@ impl Log {
     pub fn events(&self) -> &[SourceEvent]
         ensures { result.now ≡ self.now.events }
     {
-        self.events.items()
+        self.events.as_slice()
     }
 
     /// The events, in order.
@@ -144,10 +145,11 @@ impl Log {
         ensures sized { list_all is_sized result ≡ true }
     {
         let Log { events, .. } = self;
-        events
+        Listed::from_vec(events)
     }
 
-    /// Writes a sign of a caller that runs this call. A restart that the source doesn't enable is left out, and nothing else is.
+    /// Writes a sign of a caller that runs this call. A restart that the source doesn't enable is left out, and nothing else is. Room for
+    /// the event is had before it is made, so that nothing has changed if memory runs out.
     fn write(
         &mut self,
         alloc: Global,
@@ -158,15 +160,16 @@ impl Log {
     ) -> Result<(), AllocError>
         requires { IsOfSourceRun normal.now self.old.machine }
         ensures written { OnOk result (self.new ≡ logged normal.now caller call self.old sign) }
-        ensures kept { OnErr result ((self.new.unused ≡ self.old.unused) × (self.new.events ≡ self.old.events)) }
+        ensures kept { OnErr result (self.new ≡ self.old) }
         ensures runs { IsOfSourceRun normal.now self.new.machine }
     {
         self.kept();
         let unused = unused_after(sign, self.unused);
         let event = named_event(caller, call, self.unused, sign);
+        self.events.reserve(1)?;
         let enabled = make(alloc, normal, &event, &mut self.machine)?;
         if enabled || !is_restart(sign) {
-            self.events.push(event)?;
+            self.events.push_reserved(event);
             self.unused = unused;
         }
         Ok(())

@@ -9,10 +9,11 @@ use Rattle.core_runs.specs.Machine.{CoreState, CoreEvent, core_run, core_start}
 use Rattle.core_runs.specs.Views.{view}
 use Rattle.core_rows.specs.Short.{call_of}
 use Rattle.core_rows.specs.ShippedTargets.{list_target}
-use Rattle.core_rows.specs.SharedRows.{shared_setting, five_out}
+use Rattle.core_rows.specs.SharedRows.{shared_setting}
 use Rattle.core_rows.specs.Stories.{calls, steps}
 use Rattle.chain_runs.specs.Slots.{InChain, PutsOnTop, TakesTop, words}
 use Rattle.chain_runs.specs.Tops.{LastLoad, Moment, NotAfter, StepsNext}
+use Rattle.run_rows.specs.ListNames.{inserting}
 
 abbrev pub state_after : ℕ → List CoreEvent → CoreState
 state_after slots events = unwrap_or (core_run list_target (shared_setting slots) events (core_start list_target (shared_setting slots))) (core_start list_target (shared_setting slots))
@@ -26,10 +27,8 @@ memory_after slots events = words (shared_setting slots) (state_after slots even
 abbrev pub five : ℕ → List CoreEvent
 five n = calls 0 (call_of 0 5) n
 
--- slot 2 has been taken and retired. `insert 6`, after so many of its 56 steps: the 29th loads the head, the 30th stores the link, the 31st
--- is the exchange of the push
-abbrev pub six : ℕ → List CoreEvent
-six n = five_out ++ calls 0 (call_of 0 6) n
+-- slot 2 has been taken and retired. Of the 56 steps of `insert 6` the 29th loads the head, the 30th stores the link, and the 31st is the
+-- exchange of the push
 
 pub record TakenAndPushed : Type 0 where
   -- the claim's exchange finds the head that it has loaded, phase 1 over slot 2
@@ -39,17 +38,17 @@ pub record TakenAndPushed : Type 0 where
   pub top : (head_parts 8194).top ≡ 2
   pub stands : InChain (memory_after 2 (five 7)) 0 2
   -- and takes slot 2
-  pub moment : Moment list_target (shared_setting 2) (six 30)
+  pub moment : Moment list_target (shared_setting 2) (inserting 30)
   pub there : moment.before ≡ five 7
-  pub next : StepsNext list_target (shared_setting 2) (six 30) moment 0
+  pub next : StepsNext list_target (shared_setting 2) (inserting 30) moment 0
   pub takes : TakesTop (shared_setting 2) moment.state 0 0 1 2
   pub taken : memory_after 2 (five 8) (Head 0) ≡ 8192
   pub gone : ¬ InChain (memory_after 2 (five 8)) 0 2
   -- its push finds the head as the take left it, and stamps it with phase 2
-  pub puts : PutsOnTop (shared_setting 2) (state_after 2 (six 30)) 0 0 2 0
-  pub before : stamp (memory_after 2 (six 30)) 0 ≡ 1
-  pub after : stamp (memory_after 2 (six 31)) 0 ≡ 2
-  pub back : InChain (memory_after 2 (six 31)) 0 2
+  pub puts : PutsOnTop (shared_setting 2) (state_after 2 (inserting 30)) 0 0 2 0
+  pub before : stamp (memory_after 2 (inserting 30)) 0 ≡ 1
+  pub after : stamp (memory_after 2 (inserting 31)) 0 ≡ 2
+  pub back : InChain (memory_after 2 (inserting 31)) 0 2
 
 -- ---- three slots: caller 0 has put in and taken out a node twice, so that slots 2 and 3 are retired and the chain is empty. In its third
 -- `insert 7` a sweep has pushed slot 3

@@ -112,6 +112,10 @@ fn part_document(alloc: Global, part: u32, count: u32, callers: u32) -> Result<D
 /// calls, over 16 slots, which must be used again and again. The calls stand at no line.
 ///
 /// It can be run: the rules accept its text, and its shape has no fault.
+///
+/// # Errors
+///
+/// `AllocError` if memory runs out.
 pub fn workload_document(
     alloc: Global,
     part: u32,

@@ -132,8 +132,11 @@ fn write_lines<K: Sink>(
 }
 
 /// Writes a line for each part of a workload: how many calls were made, how many replied with 1 and with 0, and how many have no
-/// answer; for part 1 the callers, and for part 2 the phase at the end, the claims and the failed checks. No memory is taken; at
-/// `Failed` a prefix of the text was written.
+/// answer; for part 1 the callers, and for part 2 the phase at the end, the claims and the failed checks. No memory is taken.
+///
+/// # Errors
+///
+/// `Failed` if a write fails: a prefix of the text was written then.
 pub fn show_workload<K: Sink>(report: &WorkloadReport, out: &mut K) -> Result<(), Failed>
     ensures bytes { Writes (K.written out.old) (K.written out.new) (workload_text report.now) result }
     ensures cause { HasCause (K.faults out.old) (K.faults out.new) result }

@@ -7,7 +7,7 @@ use Rattle.norm_lang.specs.Laws.{ShippedAreWithin}
 use Rattle.norm_lang.specs.Shipped.{set_text, queue_text}
 use Rattle.target_code.specs.declared.target.Target.{Target}
 use Rattle.target_code.specs.SecondScheme.{second_scheme}
-use Rattle.target_laws.specs.target_runs.Runnable.{IsRunnable}
+use Rattle.target_laws.specs.target_runs.Runnable.{MayBeWalked}
 use Rattle.barrier_compiler.specs.Laws.{SecondSchemeIsBarred, SecondSchemeIsWithin}
 use Rattle.oa_words.specs.SlotKinds.{together, slots_of}
 use Rattle.oa_words.proofs.KindRanges.{single_kind}
@@ -48,7 +48,7 @@ module _ (name : List ℕ) (target : Target) (named : NewsAreNamed name target) 
   news_counted_in (e ∷ entries) = let here = news_counted (calls_of e) in let rest = news_counted_in entries in omega (arith, here, rest)
 
   -- in a text of one kind all slots are of that kind
-  pub named_never_full : (text : Text) (setting : Setting) → IsRunnable target text → IsSetting setting → Fits target setting → length target.kinds ≡ 1 → PublishedEnd target setting → IsNeverFull name target setting
+  pub named_never_full : (text : Text) (setting : Setting) → MayBeWalked target text → IsSetting setting → Fits target setting → length target.kinds ≡ 1 → PublishedEnd target setting → IsNeverFull name target setting
   named_never_full text setting runs own fits single ends = record {
     each = λ state c i e replied reached room there got full.
         let more = (full_takes_calls target text setting runs own fits).each state c i e replied few_news ends reached there got full in
@@ -66,12 +66,12 @@ module _ (name : List ℕ) (target : Target) (named : NewsAreNamed name target) 
 
 -- ---- the shipped texts
 
-pub set_never_full : (buckets : ℕ) (setting : Setting) → (let target = second_scheme (set_text buckets) in IsRunnable target (set_text buckets) → IsSetting setting → Fits target setting → IsNeverFull (codes "insert") target setting)
+pub set_never_full : (buckets : ℕ) (setting : Setting) → (let target = second_scheme (set_text buckets) in MayBeWalked target (set_text buckets) → IsSetting setting → Fits target setting → IsNeverFull (codes "insert") target setting)
 set_never_full buckets setting runs own fits =
     named_never_full (codes "insert") (second_scheme (set_text buckets)) (set_news buckets) (set_text buckets) setting runs own fits refl
     (published_end (second_scheme (set_text buckets)) (set_text buckets) setting runs own fits (SetHolds buckets) (set_begins buckets) (set_carries buckets))
 
-pub queue_never_full : (setting : Setting) → IsRunnable (second_scheme queue_text) queue_text → IsSetting setting → Fits (second_scheme queue_text) setting → IsNeverFull (codes "enqueue") (second_scheme queue_text) setting
+pub queue_never_full : (setting : Setting) → MayBeWalked (second_scheme queue_text) queue_text → IsSetting setting → Fits (second_scheme queue_text) setting → IsNeverFull (codes "enqueue") (second_scheme queue_text) setting
 queue_never_full setting runs own fits =
     named_never_full (codes "enqueue") (second_scheme queue_text) queue_news queue_text setting runs own fits refl
     (published_end (second_scheme queue_text) queue_text setting runs own fits QueueHolds queue_begins queue_carries)

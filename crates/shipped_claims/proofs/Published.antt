@@ -8,7 +8,7 @@ use native.Mathlib.Decide.{ℕ_discrete}
 use Rattle.norm_lang.specs.declared.text.Text.{Text}
 use Rattle.norm_lang.specs.declared.registers.Registers.{Registers}
 use Rattle.target_code.specs.declared.target.Target.{Target}
-use Rattle.target_laws.specs.target_runs.Runnable.{IsRunnable}
+use Rattle.target_laws.specs.target_runs.Runnable.{MayBeWalked}
 use Rattle.phase_pools.specs.declared.access.ClaimEnd.{ClaimEnd}
 use Rattle.phase_pools.specs.declared.access.ClaimEnd.TheVariants as ends
 use Rattle.phase_pools.specs.Pools.{Claim, ClaimTurn, claim_accepts, claim_takes}
@@ -111,7 +111,7 @@ again_busy Epochs = refl
 
 -- ---- a run
 
-module _ (target : Target) (text : Text) (setting : Setting) (runs : IsRunnable target text) (own : IsSetting setting) (fits : Fits target setting)
+module _ (target : Target) (text : Text) (setting : Setting) (runs : MayBeWalked target text) (own : IsSetting setting) (fits : Fits target setting)
     (Holds : ℕ → ℕ → Registers → Type 0) (begins : (op : ℕ) → Begins (Holds op)) (carries : (op : ℕ) → CodeCarries (Holds op) (code_at target op true)) where
   abbrev Stays : Entry → Type 0
   Stays e = Settled target setting.sizes Holds begins carries e

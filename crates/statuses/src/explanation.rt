@@ -276,8 +276,11 @@ fn explain_rejection<K: Sink>(errors: &mut K, number: u8, at: u64) -> Result<(),
     )
 }
 
-/// Writes the sentence on a status: what it means, and where to read on. If all went well, there is none. At `Failed`
-/// a prefix of it was written.
+/// Writes the sentence on a status: what it means, and where to read on. If all went well, there is none.
+///
+/// # Errors
+///
+/// `Failed` if a write fails: a prefix of the sentence was written then.
 pub fn explain<K: Sink>(errors: &mut K, status: Status) -> Result<(), Failed>
     ensures bytes { Writes (K.written errors.old) (K.written errors.new) (explanation status) result }
     ensures cause { HasCause (K.faults errors.old) (K.faults errors.new) result }

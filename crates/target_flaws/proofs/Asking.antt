@@ -10,7 +10,7 @@ use Rattle.norm_lang.specs.RegisterUse.{same_register}
 use Rattle.norm_lang.specs.Kept.{IsCarried, IsKept}
 use Rattle.norm_paths.specs.Found.{IsOpWithin, AreKept}
 use Rattle.norm_paths.specs.Found as found
-use Rattle.norm_paths.proofs.Starting.{carried_within}
+use Rattle.norm_paths.proofs.Starting.{carried_within, kept_within}
 use Rattle.target_code.specs.Flaws.{IsHandedOver}
 use Rattle.target_flaws.specs.Needs.{is_handed_by, is_kept_by, AreNeeds}
 
@@ -25,8 +25,10 @@ none_past source r within past carried = let no : true ≡ false = sym (carried_
 past : (n : ℕ) → nat_lt (suc (suc (suc (suc (suc (suc (suc (suc n)))))))) 8 ≡ false
 past n = let le : 8 ≤ suc (suc (suc (suc (suc (suc (suc (suc n))))))) = omega arith in grind (arith, nat_tests)
 
-kept_by : (source : Op) (n : ℕ) (answer : Bool) (kept : List Bool) → answer ≡ found.is_kept_by kept (Ref n) → AreKept source kept → IsTrue answer ↔ IsKept source (Ref n)
-kept_by source n answer kept is are = ((λ so. (are (Ref n)).0 (sym is ∙ so)), λ keeps. is ∙ (are (Ref n)).1 keeps)
+kept_by : (source : Op) (n : ℕ) (answer : Bool) (kept : List Bool) → IsOpWithin source → answer ≡ found.is_kept_by kept (Ref n) → AreKept source kept → IsTrue answer ↔ IsKept source (Ref n)
+kept_by source n answer kept within is are =
+    let right = kept_within source kept (Ref n) within are in
+    ((λ so. right.0 (sym is ∙ so)), λ keeps. is ∙ right.1 keeps)
 
 -- what is asked, if each answer is right
 pub are_needs : (source : Op) (kept : List Bool) (n0 n1 n2 n3 n4 n5 n6 r0 r1 r2 r3 r4 r5 r6 r7 : Bool) → IsOpWithin source → AreKept source kept
@@ -63,13 +65,13 @@ are_needs source kept n0 n1 n2 n3 n4 n5 n6 r0 r1 r2 r3 r4 r5 r6 r7 within are n0
 
     keeps : (r : Reg) → IsTrue (is_kept_by (r0 ∷ r1 ∷ r2 ∷ r3 ∷ r4 ∷ r5 ∷ r6 ∷ r7 ∷ []) r) ↔ IsKept source r
     keeps (Num n) = ((λ so. let no : false ≡ true = so in cc), λ kept_there. kept_there.0)
-    keeps (Ref zero) = kept_by source 0 r0 kept r0_is are
-    keeps (Ref (suc zero)) = kept_by source 1 r1 kept r1_is are
-    keeps (Ref (suc (suc zero))) = kept_by source 2 r2 kept r2_is are
-    keeps (Ref (suc (suc (suc zero)))) = kept_by source 3 r3 kept r3_is are
-    keeps (Ref (suc (suc (suc (suc zero))))) = kept_by source 4 r4 kept r4_is are
-    keeps (Ref (suc (suc (suc (suc (suc zero)))))) = kept_by source 5 r5 kept r5_is are
-    keeps (Ref (suc (suc (suc (suc (suc (suc zero))))))) = kept_by source 6 r6 kept r6_is are
-    keeps (Ref (suc (suc (suc (suc (suc (suc (suc zero)))))))) = kept_by source 7 r7 kept r7_is are
+    keeps (Ref zero) = kept_by source 0 r0 kept within r0_is are
+    keeps (Ref (suc zero)) = kept_by source 1 r1 kept within r1_is are
+    keeps (Ref (suc (suc zero))) = kept_by source 2 r2 kept within r2_is are
+    keeps (Ref (suc (suc (suc zero)))) = kept_by source 3 r3 kept within r3_is are
+    keeps (Ref (suc (suc (suc (suc zero))))) = kept_by source 4 r4 kept within r4_is are
+    keeps (Ref (suc (suc (suc (suc (suc zero)))))) = kept_by source 5 r5 kept within r5_is are
+    keeps (Ref (suc (suc (suc (suc (suc (suc zero))))))) = kept_by source 6 r6 kept within r6_is are
+    keeps (Ref (suc (suc (suc (suc (suc (suc (suc zero)))))))) = kept_by source 7 r7 kept within r7_is are
     keeps (Ref (suc (suc (suc (suc (suc (suc (suc (suc n))))))))) =
         ((λ so. let no : false ≡ true = so in cc), λ kept_there. absurd (none_past source (Ref (suc (suc (suc (suc (suc (suc (suc (suc n))))))))) within (past n) kept_there.1))

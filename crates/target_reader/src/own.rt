@@ -33,8 +33,8 @@ fn named_op(ops: &[TargetOp], name: &[u8]) -> bool
 }
 
 /// `op NAME A`: at most 16 operations, each with a name of its own, and at most 4 arguments. It has no code yet.
-fn op(alloc: Global, ops: &[TargetOp], words: &mut Words) -> Result<TargetOp, Stop>
-    ensures { Gives (λ op. op) result (target_op_at ops.now words.old) }
+fn op(alloc: Global, ops: &[TargetOp], mut words: Words) -> Result<TargetOp, Stop>
+    ensures { Gives (λ op. op) result (target_op_at ops.now words.entry) }
 {
     let name = words.name()?;
     let args = words.number()?;
@@ -59,13 +59,8 @@ fn op(alloc: Global, ops: &[TargetOp], words: &mut Words) -> Result<TargetOp, St
 }
 
 /// The first operation.
-fn in_outside(
-    draft: &mut OpsDraft,
-    alloc: Global,
-    word: &[u8],
-    words: &mut Words,
-) -> Result<bool, Stop>
-    ensures { Gives (λ read. read_or_plain read (draft_shown draft.new)) result (in_outside (draft_shown draft.old) word.now words.old) }
+fn in_outside(draft: &mut OpsDraft, alloc: Global, word: &[u8], words: Words) -> Result<bool, Stop>
+    ensures { Gives (λ read. read_or_plain read (draft_shown draft.new)) result (in_outside (draft_shown draft.old) word.now words.entry) }
 {
     if word != b"op".as_slice() {
         return Err(Stop::Fault(Fault::Form));
@@ -76,8 +71,8 @@ fn in_outside(
 }
 
 /// `gen`
-fn in_begun(draft: &mut OpsDraft, word: &[u8], words: &mut Words) -> Result<bool, Stop>
-    ensures { Gives (λ read. read_or_plain read (draft_shown draft.new)) result (in_begun_op (draft_shown draft.old) word.now words.old) }
+fn in_begun(draft: &mut OpsDraft, word: &[u8], mut words: Words) -> Result<bool, Stop>
+    ensures { Gives (λ read. read_or_plain read (draft_shown draft.new)) result (in_begun_op (draft_shown draft.old) word.now words.entry) }
 {
     if word != b"gen".as_slice() {
         return Err(Stop::Fault(Fault::Form));
@@ -99,8 +94,8 @@ fn add(draft: &mut OpsDraft, instr: TargetInstr) -> Result<bool, Stop>
 }
 
 /// The register of a guard, and then the end: it is a reference.
-fn guarded(words: &mut Words) -> Result<Reg, Fault>
-    ensures { Reads (λ r. r) result (guarded_at words.old) }
+fn guarded(mut words: Words) -> Result<Reg, Fault>
+    ensures { Reads (λ r. r) result (guarded_at words.entry) }
 {
     let register = words.register()?;
     words.end()?;
@@ -111,8 +106,8 @@ fn guarded(words: &mut Words) -> Result<Reg, Fault>
 }
 
 /// `chk`, or `grd R`: `false` if the line must be an instruction of the language.
-fn added(draft: &mut OpsDraft, word: &[u8], words: &mut Words) -> Result<bool, Stop>
-    ensures line { Gives (λ read. read_or_plain read (draft_shown draft.new)) result (added_line (draft_shown draft.old) word.now words.old) }
+fn added(draft: &mut OpsDraft, word: &[u8], mut words: Words) -> Result<bool, Stop>
+    ensures line { Gives (λ read. read_or_plain read (draft_shown draft.new)) result (added_line (draft_shown draft.old) word.now words.entry) }
     ensures same { IfOk result (λ read. read ≡ false → draft.new ≡ draft.old) }
 {
     if word == b"chk".as_slice() {
@@ -127,8 +122,8 @@ fn added(draft: &mut OpsDraft, word: &[u8], words: &mut Words) -> Result<bool, S
 }
 
 /// A check or a guard, or after at least one instruction `wrap`.
-fn in_generator(draft: &mut OpsDraft, word: &[u8], words: &mut Words) -> Result<bool, Stop>
-    ensures line { Gives (λ read. read_or_plain read (draft_shown draft.new)) result (in_target_generator (draft_shown draft.old) word.now words.old) }
+fn in_generator(draft: &mut OpsDraft, word: &[u8], mut words: Words) -> Result<bool, Stop>
+    ensures line { Gives (λ read. read_or_plain read (draft_shown draft.new)) result (in_target_generator (draft_shown draft.old) word.now words.entry) }
     ensures same { IfOk result (λ read. read ≡ false → draft.new ≡ draft.old) }
 {
     if word == b"wrap".as_slice() && !draft.op.generator.items().is_empty() {
@@ -141,8 +136,8 @@ fn in_generator(draft: &mut OpsDraft, word: &[u8], words: &mut Words) -> Result<
 }
 
 /// `op NAME A` after a whole operation.
-fn next_op(draft: &mut OpsDraft, alloc: Global, words: &mut Words) -> Result<bool, Stop>
-    ensures { Gives (λ read. read_or_plain read (draft_shown draft.new)) result (next_target_op (draft_shown draft.old) words.old) }
+fn next_op(draft: &mut OpsDraft, alloc: Global, words: Words) -> Result<bool, Stop>
+    ensures { Gives (λ read. read_or_plain read (draft_shown draft.new)) result (next_target_op (draft_shown draft.old) words.entry) }
 {
     draft.end_op(alloc)?;
     let op = op(alloc, draft.ops.items(), words)?;
@@ -151,13 +146,8 @@ fn next_op(draft: &mut OpsDraft, alloc: Global, words: &mut Words) -> Result<boo
 }
 
 /// A check or a guard, or another operation after a whole one.
-fn in_wrap_up(
-    draft: &mut OpsDraft,
-    alloc: Global,
-    word: &[u8],
-    words: &mut Words,
-) -> Result<bool, Stop>
-    ensures line { Gives (λ read. read_or_plain read (draft_shown draft.new)) result (in_target_wrap_up (draft_shown draft.old) word.now words.old) }
+fn in_wrap_up(draft: &mut OpsDraft, alloc: Global, word: &[u8], words: Words) -> Result<bool, Stop>
+    ensures line { Gives (λ read. read_or_plain read (draft_shown draft.new)) result (in_target_wrap_up (draft_shown draft.old) word.now words.entry) }
     ensures same { IfOk result (λ read. read ≡ false → draft.new ≡ draft.old) }
 {
     if word == b"op".as_slice() {
@@ -167,13 +157,8 @@ fn in_wrap_up(
     }
 }
 
-fn in_part(
-    draft: &mut OpsDraft,
-    alloc: Global,
-    word: &[u8],
-    words: &mut Words,
-) -> Result<bool, Stop>
-    ensures line { Gives (λ read. read_or_plain read (draft_shown draft.new)) result (own_line (draft_shown draft.old).part (draft_shown draft.old) word.now words.old) }
+fn in_part(draft: &mut OpsDraft, alloc: Global, word: &[u8], words: Words) -> Result<bool, Stop>
+    ensures line { Gives (λ read. read_or_plain read (draft_shown draft.new)) result (own_line (draft_shown draft.old).part (draft_shown draft.old) word.now words.entry) }
     ensures same { IfOk result (λ read. read ≡ false → draft.new ≡ draft.old) }
 {
     match draft.part {
@@ -194,6 +179,6 @@ pub(crate) fn read_own(draft: &mut OpsDraft, alloc: Global, line: Line) -> Resul
     let mut words = Words::new(line)?;
     match words.first() {
         None => Ok(true),
-        Some(word) => in_part(draft, alloc, word, &mut words),
+        Some(word) => in_part(draft, alloc, word, words),
     }
 }

@@ -1,5 +1,10 @@
 //! The lines before an operation's instructions, each after its first word: what it declares, or its first fault. Each
 //! reads the line's form first, and then judges its numbers, the names it uses, the name it declares, and the limits.
+//!
+//! Under `# Errors` each lists the faults that its line may have, in the order in which it judges them, and answers the
+//! first that the line has: `Form` if the words are others, `Number` if a number exceeds 2^64 - 1, `UnknownName` if a kind
+//! or an initial node isn't declared, `Repeated` if the name is declared already, `TooMany` if a limit that its first line
+//! tells is passed, `Mismatch` if an initial node is of another kind than its place.
 
 ghost use Rattle.std.specs.Prelude.{◌≡◌, ◌+◌, ◌≤◌, length, get_or, map, IfOk};
 ghost use Rattle.std.specs.List.{list_any};
@@ -64,8 +69,12 @@ fn version_in(word: &[u8]) -> Result<Version, Fault>
 }
 
 /// `oa 1` or `oa 2`
-pub fn version(words: &mut Words) -> Result<Version, Fault>
-    ensures { Reads (λ version. version) result (version_line words.old) }
+///
+/// # Errors
+///
+/// `Form` if the words are others.
+pub fn version(mut words: Words) -> Result<Version, Fault>
+    ensures { Reads (λ version. version) result (version_line words.entry) }
 {
     let version = version_in(words.word()?)?;
     words.end()?;
@@ -73,8 +82,12 @@ pub fn version(words: &mut Words) -> Result<Version, Fault>
 }
 
 /// `kind NAME`: at most 4 kinds, each with a name of its own.
-pub fn kind(alloc: Global, kinds: &[Name], words: &mut Words) -> Result<Name, Stop>
-    ensures { Gives (λ name. name) result (kind_line kinds.now words.old) }
+///
+/// # Errors
+///
+/// `Form`, `Repeated`, `TooMany`; `Memory` if memory runs out.
+pub fn kind(alloc: Global, kinds: &[Name], mut words: Words) -> Result<Name, Stop>
+    ensures { Gives (λ name. name) result (kind_line kinds.now words.entry) }
 {
     let name = words.name()?;
     words.end()?;
@@ -112,15 +125,20 @@ fn may_follow(begun: usize, owner: Option<u8>) -> bool
 
 /// `field KIND NAME num` or `field KIND NAME ref KIND`: at most 4 fields of a kind, in the order of the kinds, each with a
 /// name of its own. A line of the first version names no kind.
+///
+/// # Errors
+///
+/// `Form`, also if the field's kind is declared and is neither the one begun last nor the next; `UnknownName`, `Repeated`,
+/// `TooMany`; `Memory` if memory runs out.
 pub fn field(
     alloc: Global,
     version: Version,
     kinds: &[Name],
     fields: &[FieldDecl],
-    words: &mut Words,
+    mut words: Words,
 ) -> Result<FieldDecl, Stop>
     requires few_kinds { length kinds.now ≤ 4 }
-    ensures { Gives (λ field. field) result (field_line version kinds.now fields.now words.old) }
+    ensures { Gives (λ field. field) result (field_line version kinds.now fields.now words.entry) }
 {
     let owner = words.owner(version, kinds)?;
     let name = words.name()?;
@@ -167,15 +185,19 @@ fn sum_of_nodes(promised: usize, count: u64) -> Result<u64, Fault>
 
 /// `nodes KIND K`, for each kind in its turn: the count of its initial nodes, at most 256 with those promised
 /// already. A line of the first version names no kind.
+///
+/// # Errors
+///
+/// `Form`, also if the kind is declared and it isn't its turn; `Number`, `UnknownName`, `TooMany`.
 pub fn nodes(
     version: Version,
     kinds: &[Name],
     turn: u8,
     promised: usize,
-    words: &mut Words,
+    mut words: Words,
 ) -> Result<u32, Fault>
     requires few_kinds { length kinds.now ≤ 4 }
-    ensures { Reads (λ count. count) result (nodes_line version kinds.now turn promised words.old) }
+    ensures { Reads (λ count. count) result (nodes_line version kinds.now turn promised words.entry) }
 {
     let owner = words.owner(version, kinds)?;
     let count = words.number()?;
@@ -195,9 +217,9 @@ fn values(
     alloc: Global,
     owner: u8,
     fields: &[FieldDecl],
-    words: &mut Words,
+    mut words: Words,
 ) -> Result<Listed<StartWord>, Stop>
-    ensures { Gives (λ values. map start_shown values) result (values_at (fields_of owner fields.now) words.old) }
+    ensures { Gives (λ values. map start_shown values) result (values_at (fields_of owner fields.now) words.entry) }
 {
     let mut values = Listed::empty(alloc);
     for field in fields {
@@ -261,16 +283,20 @@ fn owner_of(owners: &[u8], at: usize) -> u8
 }
 
 /// `node V V ..`, one value for each field of the node's kind, for the initial node at a place among nodes of these kinds.
+///
+/// # Errors
+///
+/// `Form`, `Number`, `UnknownName`, `Mismatch`; `Memory` if memory runs out.
 #[tactic(auto, using(crate::proofs::NodeLines::any_shown))]
 pub fn node(
     alloc: Global,
     fields: &[FieldDecl],
     owners: &[u8],
     at: usize,
-    words: &mut Words,
+    words: Words,
 ) -> Result<NodeDecl, Stop>
     requires few_owners { length owners.now ≤ 256 }
-    ensures { Gives (λ node. node) result (node_line fields.now owners.now at words.old) }
+    ensures { Gives (λ node. node) result (node_line fields.now owners.now at words.entry) }
 {
     let owner = owner_of(owners, at);
     let values = values(alloc, owner, fields, words)?;
@@ -286,17 +312,21 @@ pub fn node(
 
 /// `root NAME num V`, `root NAME ref KIND null` or `root NAME ref KIND @J`: at most 256 roots, each with a name of
 /// its own. `owners` are the kinds of the initial nodes. A line of the first version names no kind.
+///
+/// # Errors
+///
+/// `Form`, `Number`, `UnknownName`, `Repeated`, `TooMany`, `Mismatch`; `Memory` if memory runs out.
 pub fn root(
     alloc: Global,
     version: Version,
     kinds: &[Name],
     owners: &[u8],
     roots: &[RootDecl],
-    words: &mut Words,
+    mut words: Words,
 ) -> Result<RootDecl, Stop>
     requires few_kinds { length kinds.now ≤ 4 }
     requires few_owners { length owners.now ≤ 256 }
-    ensures { Gives (λ root. root) result (root_line version kinds.now owners.now roots.now words.old) }
+    ensures { Gives (λ root. root) result (root_line version kinds.now owners.now roots.now words.entry) }
 {
     let name = words.name()?;
     let holding = words.holding(version, kinds)?;
@@ -318,8 +348,12 @@ pub fn root(
 }
 
 /// `op NAME A`: at most 16 operations, each with a name of its own, and at most 4 arguments. It has no code yet.
-pub fn op(alloc: Global, ops: &[Op], words: &mut Words) -> Result<Op, Stop>
-    ensures { Gives (λ op. op) result (op_line ops.now words.old) }
+///
+/// # Errors
+///
+/// `Form`, also if the name is `script` or `schedule`; `Number`, `Repeated`, `TooMany`; `Memory` if memory runs out.
+pub fn op(alloc: Global, ops: &[Op], mut words: Words) -> Result<Op, Stop>
+    ensures { Gives (λ op. op) result (op_line ops.now words.entry) }
 {
     let name = words.name()?;
     let args = words.number()?;
@@ -344,26 +378,26 @@ pub fn op(alloc: Global, ops: &[Op], words: &mut Words) -> Result<Op, Stop>
 }
 
 /// `use list`, after the second word.
-fn list(alloc: Global, words: &mut Words) -> Result<Text, Stop>
-    ensures { Gives (λ text. text) result (shipped_line (set_text 1) words.old) }
+fn list(alloc: Global, mut words: Words) -> Result<Text, Stop>
+    ensures { Gives (λ text. text) result (shipped_line (set_text 1) words.entry) }
 {
     words.end()?;
     Ok(shipped_set(alloc, 1)?)
 }
 
 /// `use queue`, after the second word.
-fn queue(alloc: Global, words: &mut Words) -> Result<Text, Stop>
-    ensures { Gives (λ text. text) result (shipped_line queue_text words.old) }
+fn queue(alloc: Global, mut words: Words) -> Result<Text, Stop>
+    ensures { Gives (λ text. text) result (shipped_line queue_text words.entry) }
 {
     words.end()?;
     Ok(shipped_queue(alloc)?)
 }
 
 /// `B` of `use set B`: 1 to 64.
-fn buckets(words: &mut Words) -> Result<u32, Fault>
+fn buckets(mut words: Words) -> Result<u32, Fault>
     ensures some { IfOk result (λ b. 1 ≤ b) }
     ensures most { IfOk result (λ b. b ≤ 64) }
-    ensures text { Reads (λ b. set_text b) result (set_line words.old) }
+    ensures text { Reads (λ b. set_text b) result (set_line words.entry) }
 {
     let count = words.number()?;
     words.end()?;
@@ -375,16 +409,20 @@ fn buckets(words: &mut Words) -> Result<u32, Fault>
 }
 
 /// `use set B`, after the second word.
-fn set(alloc: Global, words: &mut Words) -> Result<Text, Stop>
-    ensures { Gives (λ text. text) result (set_line words.old) }
+fn set(alloc: Global, words: Words) -> Result<Text, Stop>
+    ensures { Gives (λ text. text) result (set_line words.entry) }
 {
     let buckets = buckets(words)?;
     Ok(shipped_set(alloc, buckets)?)
 }
 
 /// `use list`, `use set B` or `use queue`: a shipped text.
-pub fn shipped(alloc: Global, words: &mut Words) -> Result<Text, Stop>
-    ensures { Gives (λ text. text) result (use_line words.old) }
+///
+/// # Errors
+///
+/// `Form`, `Number`, `TooMany` if B isn't 1 to 64; `Memory` if memory runs out.
+pub fn shipped(alloc: Global, mut words: Words) -> Result<Text, Stop>
+    ensures { Gives (λ text. text) result (use_line words.entry) }
 {
     let word = words.word()?;
     if word == b"list".as_slice() {

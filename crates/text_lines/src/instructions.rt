@@ -1,5 +1,10 @@
 //! The lines of a method, each after its first word: the instruction, or the line's first fault. Each reads the line's
 //! form first, and then judges its numbers, the kinds, fields and roots it names, and the limits.
+//!
+//! Under `# Errors` each lists the faults that its line may have, in the order in which it judges them, and answers the
+//! first that the line has: `Form` if the words are others, `Number` if a number exceeds 2^64 - 1, `UnknownName` if the
+//! kind, the field or the root isn't declared, `TooMany` if a limit is passed: 65,535 for the number L of an instruction,
+//! and for others what the reader's first line tells.
 
 ghost use Rattle.std.specs.Prelude.{◌≤◌, length};
 ghost use Rattle.norm_lang.specs.Instructions.{set_line, mov_line, add_line, sub_line, rem_line, null_line, mark_line, unmark_line, load_root_line, pick_line, load_field_line, new_line, put_line, cas_line, casroot_line, jump_line, ifeq_line, ifless_line, ifmarked_line, commit_line, Commits, return_line, returnnone_line, again_line, with_line, withroot_line};
@@ -15,8 +20,12 @@ use norm_lang::limits::{MOST_ENTRIES, MOST_PICKED};
 use norm_lang::text::{CasEntry, FieldDecl, Instr, Name, Place, RootDecl, Version};
 
 /// `set D 17`
-pub fn set(words: &mut Words) -> Result<Instr, Fault>
-    ensures { Reads (λ i. i) result (set_line words.old) }
+///
+/// # Errors
+///
+/// `Form`, `Number`.
+pub fn set(mut words: Words) -> Result<Instr, Fault>
+    ensures { Reads (λ i. i) result (set_line words.entry) }
 {
     let d = words.register()?;
     let n = words.number()?;
@@ -25,32 +34,48 @@ pub fn set(words: &mut Words) -> Result<Instr, Fault>
 }
 
 /// `mov D A`
-pub fn mov(words: &mut Words) -> Result<Instr, Fault>
-    ensures { Reads (λ i. i) result (mov_line words.old) }
+///
+/// # Errors
+///
+/// `Form`.
+pub fn mov(words: Words) -> Result<Instr, Fault>
+    ensures { Reads (λ i. i) result (mov_line words.entry) }
 {
     let (d, a) = two_registers(words)?;
     Ok(Instr::Mov(d, a))
 }
 
 /// `add D A B`
-pub fn add(words: &mut Words) -> Result<Instr, Fault>
-    ensures { Reads (λ i. i) result (add_line words.old) }
+///
+/// # Errors
+///
+/// `Form`.
+pub fn add(words: Words) -> Result<Instr, Fault>
+    ensures { Reads (λ i. i) result (add_line words.entry) }
 {
     let (d, a, b) = three_registers(words)?;
     Ok(Instr::Add(d, a, b))
 }
 
 /// `sub D A B`
-pub fn sub(words: &mut Words) -> Result<Instr, Fault>
-    ensures { Reads (λ i. i) result (sub_line words.old) }
+///
+/// # Errors
+///
+/// `Form`.
+pub fn sub(words: Words) -> Result<Instr, Fault>
+    ensures { Reads (λ i. i) result (sub_line words.entry) }
 {
     let (d, a, b) = three_registers(words)?;
     Ok(Instr::Sub(d, a, b))
 }
 
 /// `rem D A 8`: the literal is at least 1.
-pub fn rem(words: &mut Words) -> Result<Instr, Fault>
-    ensures { Reads (λ i. i) result (rem_line words.old) }
+///
+/// # Errors
+///
+/// `Form`, also if the literal is 0; `Number`.
+pub fn rem(mut words: Words) -> Result<Instr, Fault>
+    ensures { Reads (λ i. i) result (rem_line words.entry) }
 {
     let d = words.register()?;
     let a = words.register()?;
@@ -60,32 +85,48 @@ pub fn rem(words: &mut Words) -> Result<Instr, Fault>
 }
 
 /// `null D`
-pub fn null(words: &mut Words) -> Result<Instr, Fault>
-    ensures { Reads (λ i. i) result (null_line words.old) }
+///
+/// # Errors
+///
+/// `Form`.
+pub fn null(words: Words) -> Result<Instr, Fault>
+    ensures { Reads (λ i. i) result (null_line words.entry) }
 {
     Ok(Instr::Null(one_register(words)?))
 }
 
 /// `mark D A`
-pub fn mark(words: &mut Words) -> Result<Instr, Fault>
-    ensures { Reads (λ i. i) result (mark_line words.old) }
+///
+/// # Errors
+///
+/// `Form`.
+pub fn mark(words: Words) -> Result<Instr, Fault>
+    ensures { Reads (λ i. i) result (mark_line words.entry) }
 {
     let (d, a) = two_registers(words)?;
     Ok(Instr::Mark(d, a))
 }
 
 /// `unmark D A`
-pub fn unmark(words: &mut Words) -> Result<Instr, Fault>
-    ensures { Reads (λ i. i) result (unmark_line words.old) }
+///
+/// # Errors
+///
+/// `Form`.
+pub fn unmark(words: Words) -> Result<Instr, Fault>
+    ensures { Reads (λ i. i) result (unmark_line words.entry) }
 {
     let (d, a) = two_registers(words)?;
     Ok(Instr::Unmark(d, a))
 }
 
 /// `root D X`
-pub fn load_root(roots: &[RootDecl], words: &mut Words) -> Result<Instr, Fault>
+///
+/// # Errors
+///
+/// `Form`, `UnknownName`.
+pub fn load_root(roots: &[RootDecl], mut words: Words) -> Result<Instr, Fault>
     requires { length roots.now ≤ 256 }
-    ensures { Reads (λ i. i) result (load_root_line roots.now words.old) }
+    ensures { Reads (λ i. i) result (load_root_line roots.now words.entry) }
 {
     let d = words.register()?;
     let x = words.name()?;
@@ -94,9 +135,13 @@ pub fn load_root(roots: &[RootDecl], words: &mut Words) -> Result<Instr, Fault>
 }
 
 /// `pick D X 8 A`: the literal is 1 to 256.
-pub fn pick(roots: &[RootDecl], words: &mut Words) -> Result<Instr, Fault>
+///
+/// # Errors
+///
+/// `Form`, also if the literal is 0; `Number`, `UnknownName`, `TooMany`.
+pub fn pick(roots: &[RootDecl], mut words: Words) -> Result<Instr, Fault>
     requires { length roots.now ≤ 256 }
-    ensures { Reads (λ i. i) result (pick_line roots.now words.old) }
+    ensures { Reads (λ i. i) result (pick_line roots.now words.entry) }
 {
     let d = words.register()?;
     let x = words.name()?;
@@ -109,9 +154,13 @@ pub fn pick(roots: &[RootDecl], words: &mut Words) -> Result<Instr, Fault>
 }
 
 /// `load D A F`
-pub fn load_field(fields: &[FieldDecl], words: &mut Words) -> Result<Instr, Fault>
+///
+/// # Errors
+///
+/// `Form`, `UnknownName`.
+pub fn load_field(fields: &[FieldDecl], mut words: Words) -> Result<Instr, Fault>
     requires { length fields.now ≤ 16 }
-    ensures { Reads (λ i. i) result (load_field_line fields.now words.old) }
+    ensures { Reads (λ i. i) result (load_field_line fields.now words.entry) }
 {
     let d = words.register()?;
     let a = words.register()?;
@@ -121,9 +170,13 @@ pub fn load_field(fields: &[FieldDecl], words: &mut Words) -> Result<Instr, Faul
 }
 
 /// `new D KIND`; a line of the first version names no kind.
-pub fn fresh(version: Version, kinds: &[Name], words: &mut Words) -> Result<Instr, Fault>
+///
+/// # Errors
+///
+/// `Form`, `UnknownName`.
+pub fn fresh(version: Version, kinds: &[Name], mut words: Words) -> Result<Instr, Fault>
     requires { length kinds.now ≤ 4 }
-    ensures { Reads (λ i. i) result (new_line version kinds.now words.old) }
+    ensures { Reads (λ i. i) result (new_line version kinds.now words.entry) }
 {
     let d = words.register()?;
     let owner = words.owner(version, kinds)?;
@@ -132,9 +185,13 @@ pub fn fresh(version: Version, kinds: &[Name], words: &mut Words) -> Result<Inst
 }
 
 /// `put A F B`
-pub fn put(fields: &[FieldDecl], words: &mut Words) -> Result<Instr, Fault>
+///
+/// # Errors
+///
+/// `Form`, `UnknownName`.
+pub fn put(fields: &[FieldDecl], mut words: Words) -> Result<Instr, Fault>
     requires { length fields.now ≤ 16 }
-    ensures { Reads (λ i. i) result (put_line fields.now words.old) }
+    ensures { Reads (λ i. i) result (put_line fields.now words.entry) }
 {
     let a = words.register()?;
     let f = words.name()?;
@@ -143,9 +200,13 @@ pub fn put(fields: &[FieldDecl], words: &mut Words) -> Result<Instr, Fault>
 }
 
 /// `cas A F B D L`, and maybe `retire R`.
-pub fn cas(fields: &[FieldDecl], words: &mut Words) -> Result<Instr, Fault>
+///
+/// # Errors
+///
+/// `Form`, `Number`, `UnknownName`, `TooMany`.
+pub fn cas(fields: &[FieldDecl], mut words: Words) -> Result<Instr, Fault>
     requires { length fields.now ≤ 16 }
-    ensures { Reads (λ i. i) result (cas_line fields.now words.old) }
+    ensures { Reads (λ i. i) result (cas_line fields.now words.entry) }
 {
     let a = words.register()?;
     let f = words.name()?;
@@ -166,9 +227,13 @@ pub fn cas(fields: &[FieldDecl], words: &mut Words) -> Result<Instr, Fault>
 }
 
 /// `casroot X B D L`, and maybe `retire R`.
-pub fn cas_root(roots: &[RootDecl], words: &mut Words) -> Result<Instr, Fault>
+///
+/// # Errors
+///
+/// `Form`, `Number`, `UnknownName`, `TooMany`.
+pub fn cas_root(roots: &[RootDecl], mut words: Words) -> Result<Instr, Fault>
     requires { length roots.now ≤ 256 }
-    ensures { Reads (λ i. i) result (casroot_line roots.now words.old) }
+    ensures { Reads (λ i. i) result (casroot_line roots.now words.entry) }
 {
     let x = words.name()?;
     let expected = words.register()?;
@@ -188,15 +253,23 @@ pub fn cas_root(roots: &[RootDecl], words: &mut Words) -> Result<Instr, Fault>
 }
 
 /// `jump L`
-pub fn jump(words: &mut Words) -> Result<Instr, Fault>
-    ensures { Reads (λ i. i) result (jump_line words.old) }
+///
+/// # Errors
+///
+/// `Form`, `Number`, `TooMany`.
+pub fn jump(words: Words) -> Result<Instr, Fault>
+    ensures { Reads (λ i. i) result (jump_line words.entry) }
 {
     Ok(Instr::Jump(last_target(words)?))
 }
 
 /// `ifeq A B L`
-pub fn if_equal(words: &mut Words) -> Result<Instr, Fault>
-    ensures { Reads (λ i. i) result (ifeq_line words.old) }
+///
+/// # Errors
+///
+/// `Form`, `Number`, `TooMany`.
+pub fn if_equal(mut words: Words) -> Result<Instr, Fault>
+    ensures { Reads (λ i. i) result (ifeq_line words.entry) }
 {
     let a = words.register()?;
     let b = words.register()?;
@@ -204,8 +277,12 @@ pub fn if_equal(words: &mut Words) -> Result<Instr, Fault>
 }
 
 /// `ifless A B L`
-pub fn if_less(words: &mut Words) -> Result<Instr, Fault>
-    ensures { Reads (λ i. i) result (ifless_line words.old) }
+///
+/// # Errors
+///
+/// `Form`, `Number`, `TooMany`.
+pub fn if_less(mut words: Words) -> Result<Instr, Fault>
+    ensures { Reads (λ i. i) result (ifless_line words.entry) }
 {
     let a = words.register()?;
     let b = words.register()?;
@@ -213,16 +290,24 @@ pub fn if_less(words: &mut Words) -> Result<Instr, Fault>
 }
 
 /// `ifmarked A L`
-pub fn if_marked(words: &mut Words) -> Result<Instr, Fault>
-    ensures { Reads (λ i. i) result (ifmarked_line words.old) }
+///
+/// # Errors
+///
+/// `Form`, `Number`, `TooMany`.
+pub fn if_marked(mut words: Words) -> Result<Instr, Fault>
+    ensures { Reads (λ i. i) result (ifmarked_line words.entry) }
 {
     let a = words.register()?;
     Ok(Instr::IfMarked(a, last_target(words)?))
 }
 
 /// `commit K`: the count of entry lines that follow, at most 4.
-pub fn commit(words: &mut Words) -> Result<u8, Fault>
-    ensures { Reads (λ k. Commits k) result (commit_line words.old) }
+///
+/// # Errors
+///
+/// `Form`, `Number`, `TooMany`.
+pub fn commit(mut words: Words) -> Result<u8, Fault>
+    ensures { Reads (λ k. Commits k) result (commit_line words.entry) }
 {
     let k = words.number()?;
     words.end()?;
@@ -230,32 +315,48 @@ pub fn commit(words: &mut Words) -> Result<u8, Fault>
 }
 
 /// `return A`
-pub fn return_number(words: &mut Words) -> Result<Instr, Fault>
-    ensures { Reads (λ i. i) result (return_line words.old) }
+///
+/// # Errors
+///
+/// `Form`.
+pub fn return_number(words: Words) -> Result<Instr, Fault>
+    ensures { Reads (λ i. i) result (return_line words.entry) }
 {
     Ok(Instr::Return(one_register(words)?))
 }
 
 /// `returnnone`
-pub fn return_none(words: &mut Words) -> Result<Instr, Fault>
-    ensures { Reads (λ i. i) result (returnnone_line words.old) }
+///
+/// # Errors
+///
+/// `Form`.
+pub fn return_none(mut words: Words) -> Result<Instr, Fault>
+    ensures { Reads (λ i. i) result (returnnone_line words.entry) }
 {
     words.end()?;
     Ok(Instr::ReturnNone)
 }
 
 /// `again`
-pub fn again(words: &mut Words) -> Result<Instr, Fault>
-    ensures { Reads (λ i. i) result (again_line words.old) }
+///
+/// # Errors
+///
+/// `Form`.
+pub fn again(mut words: Words) -> Result<Instr, Fault>
+    ensures { Reads (λ i. i) result (again_line words.entry) }
 {
     words.end()?;
     Ok(Instr::Again)
 }
 
 /// `with A F B D`, and maybe `retire R`.
-pub fn field_entry(fields: &[FieldDecl], words: &mut Words) -> Result<CasEntry, Fault>
+///
+/// # Errors
+///
+/// `Form`, `UnknownName`.
+pub fn field_entry(fields: &[FieldDecl], mut words: Words) -> Result<CasEntry, Fault>
     requires { length fields.now ≤ 16 }
-    ensures { Reads (λ entry. entry) result (with_line fields.now words.old) }
+    ensures { Reads (λ entry. entry) result (with_line fields.now words.entry) }
 {
     let a = words.register()?;
     let f = words.name()?;
@@ -271,9 +372,13 @@ pub fn field_entry(fields: &[FieldDecl], words: &mut Words) -> Result<CasEntry, 
 }
 
 /// `withroot X B D`, and maybe `retire R`.
-pub fn root_entry(roots: &[RootDecl], words: &mut Words) -> Result<CasEntry, Fault>
+///
+/// # Errors
+///
+/// `Form`, `UnknownName`.
+pub fn root_entry(roots: &[RootDecl], mut words: Words) -> Result<CasEntry, Fault>
     requires { length roots.now ≤ 256 }
-    ensures { Reads (λ entry. entry) result (withroot_line roots.now words.old) }
+    ensures { Reads (λ entry. entry) result (withroot_line roots.now words.entry) }
 {
     let x = words.name()?;
     let expected = words.register()?;

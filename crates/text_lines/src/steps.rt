@@ -38,8 +38,8 @@ fn whole(read: Result<Instr, Fault>) -> Result<Step, Fault>
 }
 
 /// The instruction of a line that jumps, branches or ends a method.
-fn flow(word: &[u8], words: &mut Words) -> Result<Instr, Fault>
-    ensures { Reads (λ i. i) result (flow_line word.now words.old) }
+fn flow(word: &[u8], words: Words) -> Result<Instr, Fault>
+    ensures { Reads (λ i. i) result (flow_line word.now words.entry) }
 {
     if says(word, b"jump") {
         instructions::jump(words)
@@ -67,12 +67,12 @@ fn access(
     fields: &[FieldDecl],
     roots: &[RootDecl],
     word: &[u8],
-    words: &mut Words,
+    words: Words,
 ) -> Result<Instr, Fault>
     requires few_kinds { length kinds.now ≤ 4 }
     requires few_fields { length fields.now ≤ 16 }
     requires few_roots { length roots.now ≤ 256 }
-    ensures { Reads (λ i. i) result (access_line version kinds.now fields.now roots.now word.now words.old) }
+    ensures { Reads (λ i. i) result (access_line version kinds.now fields.now roots.now word.now words.entry) }
 {
     if says(word, b"root") {
         instructions::load_root(roots, words)
@@ -100,12 +100,12 @@ fn read_instr(
     fields: &[FieldDecl],
     roots: &[RootDecl],
     word: &[u8],
-    words: &mut Words,
+    words: Words,
 ) -> Result<Instr, Fault>
     requires few_kinds { length kinds.now ≤ 4 }
     requires few_fields { length fields.now ≤ 16 }
     requires few_roots { length roots.now ≤ 256 }
-    ensures { Reads (λ i. i) result (instr_line version kinds.now fields.now roots.now word.now words.old) }
+    ensures { Reads (λ i. i) result (instr_line version kinds.now fields.now roots.now word.now words.entry) }
 {
     if says(word, b"set") {
         instructions::set(words)
@@ -129,6 +129,12 @@ fn read_instr(
 }
 
 /// A line of a method: the beginning of a commit, or an instruction that one line says whole.
+///
+/// # Errors
+///
+/// The line's first fault in this order: `Form` if it is no line of a method, `Number` if a number exceeds 2^64 - 1,
+/// `UnknownName` if it names a kind, a field or a root that isn't declared, `TooMany` if it leads past instruction 65,535,
+/// picks among more than 256, or begins a commit of more than 4 entries.
 #[tactic(auto, using(crate::proofs::Wholes::commit_begins))]
 pub fn read_step(
     version: Version,
@@ -136,12 +142,12 @@ pub fn read_step(
     fields: &[FieldDecl],
     roots: &[RootDecl],
     word: &[u8],
-    words: &mut Words,
+    words: Words,
 ) -> Result<Step, Fault>
     requires few_kinds { length kinds.now ≤ 4 }
     requires few_fields { length fields.now ≤ 16 }
     requires few_roots { length roots.now ≤ 256 }
-    ensures { Reads step_shown result (step_line version kinds.now fields.now roots.now word.now words.old) }
+    ensures { Reads step_shown result (step_line version kinds.now fields.now roots.now word.now words.entry) }
 {
     if says(word, b"commit") {
         Ok(Step::Commits(instructions::commit(words)?))
@@ -151,15 +157,20 @@ pub fn read_step(
 }
 
 /// An entry line of a commit.
+///
+/// # Errors
+///
+/// The line's first fault in this order: `Form` if the words are no entry line, `UnknownName` if it names a field or a
+/// root that isn't declared.
 pub fn read_entry(
     fields: &[FieldDecl],
     roots: &[RootDecl],
     word: &[u8],
-    words: &mut Words,
+    words: Words,
 ) -> Result<CasEntry, Fault>
     requires few_fields { length fields.now ≤ 16 }
     requires few_roots { length roots.now ≤ 256 }
-    ensures { Reads (λ entry. entry) result (entry_line fields.now roots.now word.now words.old) }
+    ensures { Reads (λ entry. entry) result (entry_line fields.now roots.now word.now words.entry) }
 {
     if says(word, b"with") {
         instructions::field_entry(fields, words)

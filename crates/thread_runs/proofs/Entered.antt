@@ -9,11 +9,11 @@ use Rattle.word_runner.specs.table_rule.Seen.{Fixed}
 use Rattle.word_runner.specs.table_rule.Closing.{IsClosed}
 use Rattle.word_runner.proofs.table_rule.Moves.{sound}
 use Rattle.word_runner.specs.Shown.{ArenaShown, BlankShown, CallerShown}
-use Rattle.thread_runs.specs.Scripts.{HasRooms, IsWithinRooms, IsLongest, Fresh, Ended}
+use Rattle.thread_runs.specs.Scripts.{IsRoomForEach, IsLeastOfRooms, IsLongest, Fresh, Ended}
 use Rattle.thread_runs.specs.Whole.{IsBlank, AreShort, AllEnded, AllLongest, IsFinalOf}
 use Rattle.thread_runs.proofs.OfScripts.{is_complete}
 
-pub fresh_entered : (a : ArenaShown) (room : ℕ) (scripts : List (List Call)) (b : BlankShown) (c : CallerShown) → SuitScripts a.fixed.target.target a.fixed.setting scripts → HasRooms scripts room → IsWithinRooms scripts room → AreShort scripts → IsBlank a room b
+pub fresh_entered : (a : ArenaShown) (room : ℕ) (scripts : List (List Call)) (b : BlankShown) (c : CallerShown) → SuitScripts a.fixed.target.target a.fixed.setting scripts → IsRoomForEach scripts room → IsLeastOfRooms scripts room → AreShort scripts → IsBlank a room b
     → (c.table ≡ b.table) × (c.fixed ≡ b.fixed) × (c.entry ≡ record { core = idle_entry c.entry.core.number; room = b.room }) × (b.found ≤ c.entry.core.number) × (c.entry.core.number < b.fixed.setting.sizes.callers)
     → Fresh a scripts c
 fresh_entered a room scripts b c suit rooms least short mine e =

@@ -5,7 +5,7 @@ use Rattle.std.proofs.lemmas.List.{get_or_default}
 use mathlib.Core.Logic.{dite}
 use native.Mathlib.Decide.{ℕ_discrete}
 use Rattle.caller_parts.specs.declared.call.Call.{Call}
-use Rattle.thread_runs.specs.Scripts.{HasRooms}
+use Rattle.thread_runs.specs.Scripts.{IsRoomForEach}
 
 -- so many scripts from the first on fit the room
 abbrev pub FitFirst : List (List Call) → ℕ → ℕ → Type 0
@@ -19,5 +19,5 @@ fit_more scripts i room more item within is le long fit k d lt = dite (ℕ_discr
     (λ (q : k ≢ i). let one = fit k d (omega arith) in omega (arith, one, le))
 
 -- a room that holds each script holds that one
-pub item_within : (scripts : List (List Call)) (i room : ℕ) (item : List Call) → i < length scripts → item ≡ get_or scripts i item → HasRooms scripts room → length item ≤ room
+pub item_within : (scripts : List (List Call)) (i room : ℕ) (item : List Call) → i < length scripts → item ≡ get_or scripts i item → IsRoomForEach scripts room → length item ≤ room
 item_within scripts i room item within is fits = subst (λ (l : List Call). length l ≤ room) (sym (get_or_default scripts i item item within) ∙ sym is) (fits i item within)

@@ -10,17 +10,17 @@ use Rattle.word_runner.specs.table_rule.Seen.{Fixed}
 use Rattle.word_runner.specs.Shown.{ArenaShown, CallerShown, CameFrom, Operated}
 
 -- the room holds each script
-abbrev pub HasRooms : List (List Call) → ℕ → Type 0
-HasRooms scripts room = All (λ (s : List Call). length s ≤ room) scripts
+abbrev pub IsRoomForEach : List (List Call) → ℕ → Type 0
+IsRoomForEach scripts room = All (λ (s : List Call). length s ≤ room) scripts
 
 -- no room that holds each script is less
-abbrev pub IsWithinRooms : List (List Call) → ℕ → Type 0
-IsWithinRooms scripts least = (room : ℕ) → HasRooms scripts room → least ≤ room
+abbrev pub IsLeastOfRooms : List (List Call) → ℕ → Type 0
+IsLeastOfRooms scripts least = (room : ℕ) → IsRoomForEach scripts room → least ≤ room
 
 -- the room is the length of the longest script: the least room that holds each
 pub record IsLongest (scripts : List (List Call)) (room : ℕ) : Type 0 where
-  pub rooms : HasRooms scripts room
-  pub least : IsWithinRooms scripts room
+  pub rooms : IsRoomForEach scripts room
+  pub least : IsLeastOfRooms scripts room
 
 -- the calls were taken in order, up to one that hasn't ended
 abbrev pub Took : Fixed → List Call → ℕ → Entry → Entry → Type 0

@@ -9,7 +9,7 @@ use Rattle.word_runner.specs.table_rule.Seen.{Fixed}
 use Rattle.word_runner.specs.table_rule.Seats.{cores}
 use Rattle.word_runner.specs.Shown.{ArenaShown, BlankShown, CameFrom}
 use Rattle.documents.specs.DocumentLimits.{most_calls}
-use Rattle.thread_runs.specs.Scripts.{HasRooms, IsLongest, Ended}
+use Rattle.thread_runs.specs.Scripts.{IsRoomForEach, IsLongest, Ended}
 
 -- a blank of the arena, with this room
 abbrev pub IsBlank : ArenaShown → ℕ → BlankShown → Type 0
@@ -27,7 +27,7 @@ abbrev pub AllLongest : List (List Call) → List RoomyEntry → Type 0
 AllLongest scripts rs = All (λ (r : RoomyEntry). IsLongest scripts r.room) rs
 
 abbrev pub AreShort : List (List Call) → Type 0
-AreShort scripts = HasRooms scripts most_calls
+AreShort scripts = IsRoomForEach scripts most_calls
 
 -- the phase and the entries are those of one state of the core, in which a complete run of the scripts ends, and each entry has
 -- room for the longest script

@@ -7,7 +7,7 @@ ghost use Rattle.target_code.specs.Bare.{bare};
 ghost use Rattle.core_ground.specs.Running.{bare_pair};
 ghost use Rattle.core_runs.specs.Scripts.{SuitScripts};
 ghost use Rattle.word_runner.specs.Shown.{CameFrom};
-ghost use Rattle.thread_runs.specs.Scripts.{HasRooms, IsWithinRooms, AllFresh, Finished, AllFinished};
+ghost use Rattle.thread_runs.specs.Scripts.{IsRoomForEach, IsLeastOfRooms, AllFresh, Finished, AllFinished};
 ghost use Rattle.thread_runs.specs.Whole.{IsBlank, AllBlank, AllEnded, AreShort, IsFinalOf};
 
 use crate::scripts::{CallList, run_all};
@@ -22,8 +22,8 @@ use word_runner::{Arena, Blank, Caller, Final, Rest};
 /// The length of the longest script: the least room that holds each.
 fn longest(scripts: &[CallList]) -> u32
     requires short { AreShort scripts.now }
-    ensures rooms { HasRooms scripts.now result }
-    ensures least { IsWithinRooms scripts.now result }
+    ensures rooms { IsRoomForEach scripts.now result }
+    ensures least { IsLeastOfRooms scripts.now result }
 {
     let mut room = 0;
     for script in scripts {
@@ -76,8 +76,8 @@ fn enter_all(
 ) -> Result<Vec<Caller>, AllocError>
     requires blanks { AllBlank arena.now room blanks.items }
     requires suit { SuitScripts arena.now.fixed.target.target arena.now.fixed.setting scripts.now }
-    requires rooms { HasRooms scripts.now room }
-    requires least { IsWithinRooms scripts.now room }
+    requires rooms { IsRoomForEach scripts.now room }
+    requires least { IsLeastOfRooms scripts.now room }
     requires short { AreShort scripts.now }
     ensures { IfOk result (λ v. AllFresh arena.now scripts.now v.items × (length v.items ≡ length blanks.items)) }
 {
@@ -138,8 +138,8 @@ fn run_callers<R: Threads + Sync, G: Gate + Sync>(
     requires first { IsBlank arena.now room first }
     requires suit { SuitScripts arena.now.fixed.target.target arena.now.fixed.setting scripts.now }
     requires some { 0 < length scripts.now }
-    requires rooms { HasRooms scripts.now room }
-    requires least { IsWithinRooms scripts.now room }
+    requires rooms { IsRoomForEach scripts.now room }
+    requires least { IsLeastOfRooms scripts.now room }
     requires short { AreShort scripts.now }
     requires fuel { 0 < fuel }
     ensures came { IfOk result (λ rest. CameFrom arena.now rest.table rest.fixed) }
@@ -151,10 +151,7 @@ fn run_callers<R: Threads + Sync, G: Gate + Sync>(
     run_all(rt, arena, gate, scripts, fuel, callers.as_mut_slice());
     match callers.pop() {
         Some(first) => Ok(gather(arena, scripts, fuel, first, callers)),
-        None => {
-            drop(callers);
-            Err(AllocError)
-        }
+        None => unreachable!(),
     }
 }
 
@@ -172,8 +169,8 @@ fn run_on<R: Threads + Sync, G: Gate + Sync>(
     requires first { IsBlank arena room first }
     requires suit { SuitScripts arena.fixed.target.target arena.fixed.setting scripts.now }
     requires some { 0 < length scripts.now }
-    requires rooms { HasRooms scripts.now room }
-    requires least { IsWithinRooms scripts.now room }
+    requires rooms { IsRoomForEach scripts.now room }
+    requires least { IsLeastOfRooms scripts.now room }
     requires short { AreShort scripts.now }
     requires fuel { 0 < fuel }
     ensures { IfOk result (λ f. IsFinalOf arena.fixed scripts.now fuel f.phase f.entries) }

@@ -23,6 +23,6 @@ Replies e call (Some reply) e' = (is_idle e'.routine ≡ true) × (e'.replies �
 Replies e call None e' = (is_idle e'.routine ≡ false) × (e'.replies ≡ e.replies) × (e'.running.call ≡ call)
 
 -- the last reply, if the entry is idle; none if it runs
-abbrev pub Answers : Entry → Option SourceReply → Type 0
-Answers e (Some reply) = (is_idle e.routine ≡ true) × ((before : List Replied) (last : Replied) → e.replies ≡ before ++ last ∷ [] → reply ≡ last.reply)
-Answers e None = is_idle e.routine ≡ false
+abbrev pub IsLastAnswer : Entry → Option SourceReply → Type 0
+IsLastAnswer e (Some reply) = (is_idle e.routine ≡ true) × ((before : List Replied) (last : Replied) → e.replies ≡ before ++ last ∷ [] → reply ≡ last.reply)
+IsLastAnswer e None = is_idle e.routine ≡ false

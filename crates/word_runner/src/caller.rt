@@ -8,7 +8,7 @@ ghost use Rattle.word_runner.specs.table_rule.Rule.{callers_of};
 ghost use Rattle.word_runner.specs.table_rule.Plays.{Belonging, Apart};
 ghost use Rattle.word_runner.specs.table_rule.Seats.{cores, Seated, IsFew};
 ghost use Rattle.word_runner.specs.Shown.{CameFrom, Operated};
-ghost use Rattle.word_runner.specs.Outcome.{Replies, Answers, answer_of};
+ghost use Rattle.word_runner.specs.Outcome.{Replies, IsLastAnswer, answer_of};
 
 use crate::arena::{Arena, drive};
 use crate::ground::Place;
@@ -143,7 +143,7 @@ fn outcome_of(reply: Reply) -> Outcome
 
 /// The last reply, if the entry is idle.
 fn answer(entry: &Entry) -> Outcome
-    ensures { Answers entry.now.core (answer_of result) }
+    ensures { IsLastAnswer entry.now.core (answer_of result) }
 {
     if !entry.is_idle() {
         return Outcome::Spent;

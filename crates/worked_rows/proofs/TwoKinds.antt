@@ -3,26 +3,26 @@ use Rattle.std.specs.Prelude.{◌≡◌, [], ◌∷◌, Some, None, refl}
 use Rattle.source_machine.specs.declared.event.SourceEvent.TheVariants.{Access}
 use Rattle.norm_lang.specs.declared.reply.SourceReply.TheVariants as replies
 use Rattle.source_machine.specs.declared.state.Value.TheVariants.{Number}
-use Rattle.source_machine.specs.Memory.{kind_named}
+use Rattle.source_machine.specs.Memory.{kind_of_node}
 use Rattle.worked_rows.specs.Runs.{Replies, nodes_after, roots_after, begins, to_node}
 use Rattle.worked_rows.specs.TwoKindRows.{key, next, one, left, other, an_item, a_pair, first_item, last_pair, first_three, makes_pair, makes_item, loads_number, loads_item, loads_other, number_through_null, reference_through_null, exchanges_number, exchanges_item, TwoKindRows}
 
 first_nodes : nodes_after makes_pair [] ≡ Some first_three
 first_nodes = refl
 
-kind_of_item : kind_named 1 first_three ≡ Some 0
+kind_of_item : kind_of_node 1 first_three ≡ Some 0
 kind_of_item = refl
 
-kind_of_pair : kind_named 2 first_three ≡ Some 1
+kind_of_pair : kind_of_node 2 first_three ≡ Some 1
 kind_of_pair = refl
 
-kind_of_last : kind_named 3 first_three ≡ Some 1
+kind_of_last : kind_of_node 3 first_three ≡ Some 1
 kind_of_last = refl
 
-null_has_no_kind : kind_named 0 first_three ≡ None
+null_has_no_kind : kind_of_node 0 first_three ≡ None
 null_has_no_kind = refl
 
-unused_has_no_kind : kind_named 4 first_three ≡ None
+unused_has_no_kind : kind_of_node 4 first_three ≡ None
 unused_has_no_kind = refl
 
 new_pair : nodes_after makes_pair (begins 0 5 ∷ Access 0 0 ∷ Access 0 7 ∷ [])

@@ -15,7 +15,7 @@ use Rattle.source_machine.specs.declared.event.SourceEvent.TheVariants.{Access}
 use Rattle.norm_lang.specs.declared.reply.SourceReply.TheVariants as replies
 use Rattle.source_machine.specs.declared.state.Value.TheVariants.{Number}
 use Rattle.source_machine.specs.declared.state.NamedNode.{NamedNode}
-use Rattle.source_machine.specs.Memory.{kind_named}
+use Rattle.source_machine.specs.Memory.{kind_of_node}
 use Rattle.worked_rows.specs.Small.{n0, n1, n7, r0, r1, r2, does, field_entry}
 use Rattle.worked_rows.specs.Runs.{Replies, nodes_after, roots_after, begins, to_node}
 
@@ -131,11 +131,11 @@ exchanges_item = paired (LoadRoot r0 a_pair ∷ LoadField r1 r0 one ∷ Null r2 
 pub record TwoKindRows : Type 0 where
   -- the initial nodes have their names in their order, through all kinds, each with its own kind
   pub first_nodes : nodes_after makes_pair [] ≡ Some first_three
-  pub kind_of_item : kind_named 1 first_three ≡ Some 0
-  pub kind_of_pair : kind_named 2 first_three ≡ Some 1
-  pub kind_of_last : kind_named 3 first_three ≡ Some 1
-  pub null_has_no_kind : kind_named 0 first_three ≡ None
-  pub unused_has_no_kind : kind_named 4 first_three ≡ None
+  pub kind_of_item : kind_of_node 1 first_three ≡ Some 0
+  pub kind_of_pair : kind_of_node 2 first_three ≡ Some 1
+  pub kind_of_last : kind_of_node 3 first_three ≡ Some 1
+  pub null_has_no_kind : kind_of_node 0 first_three ≡ None
+  pub unused_has_no_kind : kind_of_node 4 first_three ≡ None
   -- a `new` makes a node of its own kind, with the fields of that kind alone, each 0 or null
   pub new_pair : nodes_after makes_pair (begins 0 5 ∷ Access 0 0 ∷ Access 0 7 ∷ [])
       ≡ Some (record { name = 7; kind = 1; values = to_node 0 ∷ Number 0 ∷ to_node 0 ∷ [] } ∷ first_three)

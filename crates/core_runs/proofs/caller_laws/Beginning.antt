@@ -15,7 +15,7 @@ use Rattle.caller_parts.specs.declared.setting.Reclamation.TheVariants.{Optimist
 use Rattle.caller_parts.specs.Settings.{Setting}
 use Rattle.caller_steps.specs.Entries.{Entry, idle_entry, code_in}
 use Rattle.caller_steps.specs.After.{taken}
-use Rattle.caller_steps.specs.Belongs.{Belongs, HandBelongs, HaveKinds, Reaches}
+use Rattle.caller_steps.specs.Belongs.{Belongs, HandBelongs, HaveKinds, HasComeTo}
 use Rattle.core_runs.proofs.caller_laws.Methods.{Methods}
 use Rattle.core_runs.proofs.caller_laws.Reaching.{start_reached}
 use Rattle.core_runs.proofs.caller_laws.Stopping.{first_names}
@@ -64,7 +64,7 @@ taken_belongs target setting by call e methods scheme is b = of by scheme where
   hand : HandBelongs setting (record e.hand { wrapup = false; at = 0; registers = first_registers call.args; started = first_registers [] })
   hand = record { registers = first_names setting.sizes.slots call.args; started = first_names setting.sizes.slots []; guards = b.hand.guards; seen = b.hand.seen }
 
-  reached : Reaches (code_in target (taken by call e)) 0 (first_registers call.args)
+  reached : HasComeTo (code_in target (taken by call e)) 0 (first_registers call.args)
   reached = start_reached (code_in target (taken by call e)) (first_registers call.args) (methods.some call.op false (called target call is))
 
   now : HaveKinds target setting (slice_get target.ops call.op) false 0 (first_registers call.args)

@@ -35,7 +35,7 @@ use Rattle.caller_parts.specs.Operands.{list_of, slot_in, word_in, is_new_at, Ar
 use Rattle.caller_parts.specs.Spared.{restart_spares, then_spares}
 use Rattle.caller_steps.specs.Wants.{exchange_wanted, instr_wanted, list_wanted, object_exchange, place_exchange, plain_wanted, wanted, wants}
 use Rattle.caller_steps.specs.Lawful.{Accepts, AsksSafely, IsSafe, MayBeTold}
-use Rattle.caller_steps.specs.Belongs.{Belongs, ClaimBelongs, NamesSlots, ClaimStands, Reaches, RetireFits, RunsAt, Stands, SweepBelongs}
+use Rattle.caller_steps.specs.Belongs.{Belongs, ClaimBelongs, NamesSlots, ClaimStands, HasComeTo, RetireFits, RunsAt, Stands, SweepBelongs}
 use Rattle.caller_steps.specs.Asking.{CanAccept, CanAsk, CanAskInstr, CanAskList, CanAskPlain, CanExchange, HasField, InstrAccepts, IsNear}
 use Rattle.core_runs.proofs.caller_laws.OfKinds.{of_row}
 use Rattle.core_runs.proofs.caller_laws.Methods.{Methods, SettingSane, setting_sane, zero_count_fits}
@@ -81,13 +81,13 @@ ask_plain target setting (instr.Cas exchange l) registers safe = can_exchange ta
 ask_plain target setting _ registers safe = tt
 
 -- a guard is of a reference
-guarded_register : (target : Target) (e : Entry) (r : ℕ) → Methods target → Reaches (code_in target e) e.hand.at e.hand.registers → instr_in target e ≡ Some (Guard (Ref r)) → r < 8
+guarded_register : (target : Target) (e : Entry) (r : ℕ) → Methods target → HasComeTo (code_in target e) e.hand.at e.hand.registers → instr_in target e ≡ Some (Guard (Ref r)) → r < 8
 guarded_register target e r sane here is = below r 8 (site_of target e (Guard (Ref r)) sane here is).limits
 
-no_guard_of_number : (target : Target) (e : Entry) (r : ℕ) → Methods target → Reaches (code_in target e) e.hand.at e.hand.registers → instr_in target e ≡ Some (Guard (Num r)) → ⊥
+no_guard_of_number : (target : Target) (e : Entry) (r : ℕ) → Methods target → HasComeTo (code_in target e) e.hand.at e.hand.registers → instr_in target e ≡ Some (Guard (Num r)) → ⊥
 no_guard_of_number target e r sane here is = let no : false ≡ true = (site_of target e (Guard (Num r)) sane here is).limits in cc
 
-ask_instr : (target : Target) (setting : Setting) (e : Entry) (o : Option TargetInstr) → Methods target → Reaches (code_in target e) e.hand.at e.hand.registers → instr_in target e ≡ o
+ask_instr : (target : Target) (setting : Setting) (e : Entry) (o : Option TargetInstr) → Methods target → HasComeTo (code_in target e) e.hand.at e.hand.registers → instr_in target e ≡ o
     → AsksSafely target setting (instr_wanted target.fields e.number o e.hand.registers) → CanAskInstr target.fields setting.sizes o e.hand.registers
 ask_instr target setting e None sane here is safe = tt
 ask_instr target setting e (Some (Plain i)) sane here is safe = ask_plain target setting i e.hand.registers safe
@@ -135,13 +135,13 @@ can_ask target setting e sane own fits b =
 
 -- ---- being told a lawful word
 
-accept_instr : (target : Target) (setting : Setting) (e : Entry) (o : Option TargetInstr) → Methods target → Reaches (code_in target e) e.hand.at e.hand.registers → instr_in target e ≡ o → InstrAccepts o
+accept_instr : (target : Target) (setting : Setting) (e : Entry) (o : Option TargetInstr) → Methods target → HasComeTo (code_in target e) e.hand.at e.hand.registers → instr_in target e ≡ o → InstrAccepts o
 accept_instr target setting e (Some (Guard (Ref r))) sane here is = guarded_register target e r sane here is
 accept_instr target setting e (Some (Guard (Num r))) sane here is = no_guard_of_number target e r sane here is
 accept_instr target setting e _ sane here is = tt
 
 -- a list has at most 4 exchanges
-near_list : (target : Target) (setting : Setting) (e : Entry) (k : ℕ) → Methods target → Reaches (code_in target e) e.hand.at e.hand.registers → k < length (list_of (instr_in target e)) → k < 2 ^ 62
+near_list : (target : Target) (setting : Setting) (e : Entry) (k : ℕ) → Methods target → HasComeTo (code_in target e) e.hand.at e.hand.registers → k < length (list_of (instr_in target e)) → k < 2 ^ 62
 near_list target setting e k sane here lt =
     let there = list_there (instr_in target e) k lt in
     let limits = (site_of target e (Plain (instr.Commit there.0)) sane here there.1).limits in
@@ -149,7 +149,7 @@ near_list target setting e k sane here lt =
     let same : length (list_of (instr_in target e)) ≡ length there.0 = ap (λ (o : Option TargetInstr). length (list_of o)) there.1 in
     omega (arith, lt, four, same)
 
-near_onward : (target : Target) (setting : Setting) (e : Entry) (go : AfterRetire) → Methods target → Reaches (code_in target e) e.hand.at e.hand.registers → RetireFits (instr_in target e) go → IsNear go
+near_onward : (target : Target) (setting : Setting) (e : Entry) (go : AfterRetire) → Methods target → HasComeTo (code_in target e) e.hand.at e.hand.registers → RetireFits (instr_in target e) go → IsNear go
 near_onward target setting e onwards.Next sane here stands = tt
 near_onward target setting e (onwards.List k) sane here stands = near_list target setting e k sane here stands.0
 

@@ -27,7 +27,7 @@ use Rattle.caller_parts.proofs.News.{new_there}
 use Rattle.caller_steps.specs.Entries.{zero_count}
 use Rattle.caller_steps.specs.Asking.{NewsFit}
 use Rattle.caller_steps.specs.Belongs.{HaveKinds}
-use Rattle.target_laws.specs.target_runs.Runnable.{IsRunnable}
+use Rattle.target_laws.specs.target_runs.Runnable.{MayBeWalked}
 use Rattle.target_laws.specs.target_runs.Sane.{SaneCode, Sane}
 use Rattle.target_laws.proofs.target_runs.Limited.{parts, op_limits}
 use Rattle.target_laws.proofs.target_runs.SaneTargets.{runnable_is_sane}
@@ -77,7 +77,7 @@ kind_within target o each new =
     let lt = ltb-true there.1 (length target.kinds) (and_parts (is_register there.0) (nat_lt there.1 (length target.kinds)) limits).1 in
     omega (arith, same, lt)
 
-module _ (target : Target) (text : Text) (runs : IsRunnable target text) where
+module _ (target : Target) (text : Text) (runs : MayBeWalked target text) where
   filled : (op : ℕ) (wrapup : Bool) (o : Option TargetOp) → slice_get target.ops op ≡ o → op < length target.ops → 0 < length (method_code o wrapup)
   filled op wrapup None is lt = absurd (past_none target.ops op is lt)
   filled op wrapup (Some compiled) is lt = (runnable_is_sane target text runs).some op wrapup compiled is

@@ -20,7 +20,7 @@ use Rattle.target_code.specs.Paths.{IsTargetSuccessor, TargetPath, target_goes_f
 use Rattle.target_code.specs.TargetLimits.{is_target_new}
 use Rattle.norm_lang.specs.Freshness.{fresh_after}
 use Rattle.target_code.specs.PathStates.{over_plain, IsSurelyFreshInTarget}
-use Rattle.caller_steps.specs.Belongs.{Reaches}
+use Rattle.caller_steps.specs.Belongs.{HasComeTo}
 use Rattle.core_runs.proofs.caller_laws.Named.{set_misses}
 
 different : (a b : ℕ) → (a == b) ≡ false → a ≢ b
@@ -78,7 +78,7 @@ fresh_by r (Plain i) was = refl
 fresh_by r _ was = refl
 
 -- the method's start
-pub start_reached : (code : List TargetInstr) (registers : Registers) → 0 < length code → Reaches code 0 registers
+pub start_reached : (code : List TargetInstr) (registers : Registers) → 0 < length code → HasComeTo code 0 registers
 start_reached code registers lt = record {
   inside = lt;
   path = ([], refl);
@@ -100,7 +100,7 @@ then_of false n was is holds = absurd (let e : false ≡ true = is in cc)
 
 -- on to a successor
 pub next_reached : (code : List TargetInstr) (at to : ℕ) (i : TargetInstr) (registers after : Registers) → slice_get code at ≡ Some i
-    → target_goes_from (Some i) at to ≡ true → to < length code → Reaches code at registers → Leaves i registers after → Reaches code to after
+    → target_goes_from (Some i) at to ≡ true → to < length code → HasComeTo code at registers → Leaves i registers after → HasComeTo code to after
 next_reached code at to i registers after stands goes lt reached leaves = record {
   inside = lt;
   path = (at ∷ path, (way, reached.path.1));

@@ -28,7 +28,7 @@ use Rattle.caller_parts.specs.Operands.{list_of, register_number, slot_in, word_
 use Rattle.caller_parts.specs.Spared.{restart_spares, then_spares}
 use Rattle.caller_steps.specs.Wants.{announcing_wanted, clear_wanted, exchange_wanted, instr_wanted, list_wanted, object_exchange, place_exchange, plain_wanted, wanted, wants}
 use Rattle.caller_steps.specs.Lawful.{AsksSafely, IsLawful, IsSafe, LawfulHead, LawfulStatus, LawfulValue, is_place as is_place_word}
-use Rattle.caller_steps.specs.Belongs.{AnnouncingStands, Belongs, ClaimStands, HasBound, IsSomeOf, Reaches, RetireStands, RunsAt, RunsWithKinds, Stands, SweepBelongs, SweepStands, has_access, scheme_of}
+use Rattle.caller_steps.specs.Belongs.{AnnouncingStands, Belongs, ClaimStands, HasBound, IsSomeOf, HasComeTo, RetireStands, RunsAt, RunsWithKinds, Stands, SweepBelongs, SweepStands, has_access, scheme_of}
 use Rattle.std.proofs.lemmas.Option.{slice_get-get_or}
 use Rattle.std.proofs.lemmas.Bool.{and_from, or_parts, not-false, and_parts}
 use Rattle.oa_words.specs.declared.packed.Kind.{Kind}
@@ -186,7 +186,7 @@ exchange_safe target setting e i exchange sane fits c is asked limits kinds =
           object (slot_in e.hand.registers a) f (named setting.sizes.slots e.hand.registers a c.names) (below f (length target.fields) (and_parts (is_register a) (nat_lt f (length target.fields)) limit).1) (has_field a f at) lawful
 
 -- the object of a put is surely fresh, and so isn't null
-pub put_finds : (target : Target) (e : Entry) (a b : Reg) (f : ℕ) → Methods target → Reaches (code_in target e) e.hand.at e.hand.registers → instr_in target e ≡ Some (Plain (instr.Put a f b)) → slot_in e.hand.registers a ≢ 0
+pub put_finds : (target : Target) (e : Entry) (a b : Reg) (f : ℕ) → Methods target → HasComeTo (code_in target e) e.hand.at e.hand.registers → instr_in target e ≡ Some (Plain (instr.Put a f b)) → slot_in e.hand.registers a ≢ 0
 put_finds target e (Ref r) b f sane reached is = reached.fresh r ((sane.code e.running.call.op e.hand.wrapup).puts e.hand.at (Ref r) b f is)
 put_finds target e (Num r) b f sane reached is =
     let site = site_of target e (Plain (instr.Put (Num r) f b)) sane reached is in absurd (let z : true ≡ false = site.own.form.kinds in cc)

@@ -14,7 +14,7 @@ use Rattle.target_code.specs.Paths.{IsTargetSuccessor, target_goes_from}
 use Rattle.target_code.specs.LocalCode.{target_local_at, target_run}
 use Rattle.caller_parts.specs.Operands.{code_at}
 use Rattle.caller_parts.specs.Settings.{Setting}
-use Rattle.caller_steps.specs.Belongs.{HaveKinds, NamesSlots, Reaches}
+use Rattle.caller_steps.specs.Belongs.{HaveKinds, NamesSlots, HasComeTo}
 use Rattle.target_laws.specs.target_runs.Sane.{SaneAt, SaneCode}
 use Rattle.target_laws.proofs.local_laws.Settled.{step_goes}
 use Rattle.core_runs.proofs.caller_laws.Named.{local_names}
@@ -24,7 +24,7 @@ use Rattle.core_runs.proofs.caller_laws.Reaching.{local_touches, local_isnt_new,
 -- a run of an operation's method has come to a spot, with registers that name slots of kinds that they may have there
 abbrev pub Comes : Target → Setting → ℕ → Bool → Spot → Type 0
 Comes target setting op wrapup spot = record {
-  reached : Reaches (code_at target op wrapup) spot.at spot.registers;
+  reached : HasComeTo (code_at target op wrapup) spot.at spot.registers;
   names : NamesSlots setting.sizes.slots spot.registers;
   kinds : HaveKinds target setting (slice_get target.ops op) wrapup spot.at spot.registers;
 }

@@ -38,7 +38,7 @@ use Rattle.caller_steps.specs.Wants.{announcing_wanted, wanted, wants}
 use Rattle.caller_steps.specs.After.{accepted, after, announced, claim_counted, claim_on, cleared, counted, entry_made, goes_on, is_wrap_up, list_accepted, list_ended, list_failed, list_goes, node_made, onward_goes, restarted, retired_on, retires_then, seen_loaded, slot_claimed, slot_gained, slot_swept, with_hand, with_published, with_routine, wrap_up_begun, zeroed}
 use Rattle.caller_steps.specs.Signs.{quiet}
 use Rattle.caller_steps.specs.Lawful.{Accepts, MayBeTold}
-use Rattle.caller_steps.specs.Belongs.{AnnouncingStands, Belongs, ClearStands, HaveKinds, HoldsSlots, Reaches, RetireFits, RetireStands, RunsAt, RunsWithKinds, Stands, StartStands, cas_of, is_check_at, is_retiring}
+use Rattle.caller_steps.specs.Belongs.{AnnouncingStands, Belongs, ClearStands, HaveKinds, HoldsSlots, HasComeTo, RetireFits, RetireStands, RunsAt, RunsWithKinds, Stands, StartStands, cas_of, is_check_at, is_retiring}
 use Rattle.caller_parts.specs.declared.routine.Routine.{Routine}
 use Rattle.caller_parts.specs.declared.routine.Routine.TheVariants.{Idle, LoadSeen, At, InList, Retires, Restarts, Clears, Claims, Zeroes, Announces}
 use Rattle.caller_parts.specs.declared.routine.Announcing.{Announcing}
@@ -354,7 +354,7 @@ announced_keeps target setting e (announces.Leaves reply) word sane some fits h 
 holds_of : (target : Target) (setting : Setting) (e : Entry) → Belongs target setting e → (e.hand.wrapup ≡ true → HaveKinds target setting (op_of target e) true 0 e.hand.started) → Holds target setting e
 holds_of target setting e b start = record { number = b.number; op = b.op; started = b.hand.started; start = start; guards = b.hand.guards; cradles = b.cradles; seen = b.hand.seen }
 
-here_of : (target : Target) (setting : Setting) (e : Entry) → Belongs target setting e → Reaches (code_in target e) e.hand.at e.hand.registers → HaveKinds target setting (op_of target e) e.hand.wrapup e.hand.at e.hand.registers → Here target setting e
+here_of : (target : Target) (setting : Setting) (e : Entry) → Belongs target setting e → HasComeTo (code_in target e) e.hand.at e.hand.registers → HaveKinds target setting (op_of target e) e.hand.wrapup e.hand.at e.hand.registers → Here target setting e
 here_of target setting e b reaches kinds = record { reached = reaches; names = b.hand.registers; kinds = kinds }
 
 -- an entry in a routine state, whatever its routine is said to be

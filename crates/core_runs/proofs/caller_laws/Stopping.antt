@@ -29,7 +29,7 @@ use Rattle.caller_steps.specs.Clearing.{clear_next, restart_next}
 use Rattle.caller_steps.specs.After.{announced_list, announced_stop, clear_on, cleared, first_spot, generator_begun, list_begun, list_ended, method_begun, new_begun, new_on, plain_stop, restart_on, restarted, run_to, settles, stop_at, stopped, stops, then_goes, with_hand, with_routine, wrap_up_begun, wrap_up_hand, wrap_up_stop, wrap_up_stopped, wrap_up_stops}
 use Rattle.caller_steps.specs.Signs.{Moved}
 use Rattle.caller_steps.specs.Stands.{leaves}
-use Rattle.caller_steps.specs.Belongs.{AnnouncingStands, Belongs, ClaimBelongs, ClearStands, GuardsSlots, HandBelongs, HaveKinds, HoldsSlots, IsSomeOf, NamesSlots, Reaches, has_access, is_check_at, scheme_of}
+use Rattle.caller_steps.specs.Belongs.{AnnouncingStands, Belongs, ClaimBelongs, ClearStands, GuardsSlots, HandBelongs, HaveKinds, HoldsSlots, IsSomeOf, NamesSlots, HasComeTo, has_access, is_check_at, scheme_of}
 use Rattle.caller_parts.specs.declared.routine.Routine.TheVariants.{At, InList, Announces}
 use Rattle.target_code.specs.LocalCode.{target_local_at}
 use Rattle.target_laws.specs.target_runs.Sane.{SaneAt}
@@ -99,7 +99,7 @@ cleared_belongs target setting next e sane some fits h c scheme stands = of (cle
   of (Some r) is = record { number = h.number; op = h.op; hand = hand_belongs target setting e h c.names; cradles = h.cradles; reaches = c.reached; kinds = record { now = c.kinds; started = h.start }; stands = (scheme, stands, subst IsSomeOf (sym is) tt) }
 
 -- what an instruction says of its method
-pub site_of : (target : Target) (e : Entry) (i : TargetInstr) → Methods target → Reaches (code_in target e) e.hand.at e.hand.registers → instr_in target e ≡ Some i → SaneAt target e.hand.wrapup (code_in target e) e.hand.at i
+pub site_of : (target : Target) (e : Entry) (i : TargetInstr) → Methods target → HasComeTo (code_in target e) e.hand.at e.hand.registers → instr_in target e ≡ Some i → SaneAt target e.hand.wrapup (code_in target e) e.hand.at i
 site_of target e i sane reached is = (sane.code e.running.call.op e.hand.wrapup).each e.hand.at i reached.path.0 is reached.path.1
 
 -- a commit stands in a generator

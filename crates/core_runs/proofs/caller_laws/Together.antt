@@ -2,7 +2,7 @@
 use Rattle.std.proofs.Common.{◌≡◌, true, false, None, refl, subst}
 use Rattle.norm_lang.specs.declared.text.Text.{Text}
 use Rattle.target_code.specs.declared.target.Target.{Target}
-use Rattle.target_laws.specs.target_runs.Runnable.{IsRunnable}
+use Rattle.target_laws.specs.target_runs.Runnable.{MayBeWalked}
 use Rattle.caller_parts.specs.declared.routine.Routine.{Routine}
 use Rattle.caller_parts.specs.declared.routine.Routine.TheVariants.{Idle}
 use Rattle.caller_steps.specs.Entries.{Entry, is_idle}
@@ -18,7 +18,7 @@ use Rattle.core_runs.proofs.caller_laws.Safety.{wants_safe, put_finds}
 use Rattle.core_runs.proofs.caller_laws.Cradles.{cradle_number_small, cradle_numbers_apart}
 use Rattle.core_runs.proofs.caller_laws.Stored.{after_store}
 
-pub methods : (target : Target) (text : Text) → IsRunnable target text → Methods target
+pub methods : (target : Target) (text : Text) → MayBeWalked target text → Methods target
 methods target text runs = methods_of target text runs
 
 pub belong : ForRuns EntriesBelong

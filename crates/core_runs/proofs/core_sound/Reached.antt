@@ -7,7 +7,7 @@ use Rattle.norm_lang.specs.declared.text.FieldKind.TheVariants as holdings
 use Rattle.norm_lang.specs.InstructionRules.{root_kind}
 use Rattle.norm_lang.specs.declared.text.Text.{Text}
 use Rattle.target_code.specs.declared.target.Target.{Target}
-use Rattle.target_laws.specs.target_runs.Runnable.{IsRunnable}
+use Rattle.target_laws.specs.target_runs.Runnable.{MayBeWalked}
 use Rattle.oa_words.specs.Words.{Sizes, Phase, Warning, Hazard, Status, FieldOf, Cell, Head, Link, address_of, in_row, word_count}
 use Rattle.oa_words.specs.SlotKinds.{kind_of}
 use Rattle.oa_words.specs.Packed.{head_parts}
@@ -110,7 +110,7 @@ stamped_in setting state w t lt =
     let seen : (view setting state).memory (Head t) ≡ word_at setting state (Head t) = ap (λ (b : Bool). if b then word_at setting state (Head t) else 0) (is_kind setting t lt) in
     subst (λ (word : ℕ). (head_parts word).phase ≤ word_at setting state Phase) seen (w.words.stamped t lt)
 
-states_are_stamped : (target : Target) (text : Text) (setting : Setting) (state : CoreState) → IsRunnable target text → IsSetting setting → Fits target setting → Reachable target setting state
+states_are_stamped : (target : Target) (text : Text) (setting : Setting) (state : CoreState) → MayBeWalked target text → IsSetting setting → Fits target setting → Reachable target setting state
     → IsStamped setting (view setting state).memory (view setting state).who
 states_are_stamped target text setting state runs own fits reached =
     let sane = setting_sane setting own in

@@ -5,7 +5,7 @@ use Rattle.norm_lang.specs.declared.text.Instr.TheVariants as instr
 use Rattle.norm_lang.specs.declared.text.Text.{Text}
 use Rattle.target_code.specs.declared.target.TargetInstr.TheVariants.{Plain}
 use Rattle.target_code.specs.declared.target.Target.{Target}
-use Rattle.target_laws.specs.target_runs.Runnable.{IsRunnable}
+use Rattle.target_laws.specs.target_runs.Runnable.{MayBeWalked}
 use Rattle.oa_words.specs.Words.{Word}
 use Rattle.phase_pools.specs.Accesses.{Stores}
 use Rattle.caller_parts.specs.declared.call.Call.{Call}
@@ -22,7 +22,7 @@ use Rattle.caller_steps.specs.Asking.{CanAsk, CanAccept, NewsFit}
 
 -- of each target that callers may run, with a setting that fits it; texts needn't be proper
 abbrev pub ForRuns : (Target → Setting → Type 0) → Type 0
-ForRuns Holds = (target : Target) (text : Text) (setting : Setting) → IsRunnable target text → IsSetting setting → Fits target setting → Holds target setting
+ForRuns Holds = (target : Target) (text : Text) (setting : Setting) → MayBeWalked target text → IsSetting setting → Fits target setting → Holds target setting
 
 -- an idle entry belongs, and one that belongs still does after it takes a call, and after what it wants finds a lawful word
 pub record EntriesBelong (target : Target) (setting : Setting) : Type 0 where

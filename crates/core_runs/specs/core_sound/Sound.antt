@@ -6,7 +6,7 @@ use Rattle.norm_lang.specs.declared.text.Text.{Text}
 use Rattle.norm_lang.specs.Registers.{reference_in}
 use Rattle.norm_lang.specs.InstructionRules.{root_kind}
 use Rattle.target_code.specs.declared.target.Target.{Target}
-use Rattle.target_laws.specs.target_runs.Runnable.{IsRunnable}
+use Rattle.target_laws.specs.target_runs.Runnable.{MayBeWalked}
 use Rattle.oa_words.specs.Words.{Word, Phase, Warning, Hazard, Status, FieldOf, Cell, Head, Link, address_of, in_row, word_count}
 use Rattle.oa_words.specs.SlotKinds.{kind_of, IsNullOrOf}
 use Rattle.oa_words.specs.Packed.{slot_part, head_parts}
@@ -68,5 +68,5 @@ pub record StartSuits (target : Target) (setting : Setting) : Type 0 where
 
 -- of every state to which a list of enabled events leads; texts needn't be proper
 abbrev pub Always : (Target → Setting → CoreState → Type 0) → Type 0
-Always Holds = (target : Target) (text : Text) (setting : Setting) (state : CoreState) → IsRunnable target text → IsSetting setting → Fits target setting
+Always Holds = (target : Target) (text : Text) (setting : Setting) (state : CoreState) → MayBeWalked target text → IsSetting setting → Fits target setting
     → Reachable target setting state → Holds target setting state

@@ -1,5 +1,5 @@
 -- The turn at which a replay stopped, as the message on it tells.
-use Rattle.std.specs.Prelude.{◌≡◌, ℕ, Bool, false, List, Option, Some, Result, Ok, Err, ◌==◌}
+use Rattle.std.specs.Prelude.{◌≡◌, ℕ, Bool, false, List, Option, Some, None, Result, Ok, Err, MatchBool, ◌==◌}
 use Rattle.norm_lang.specs.Faults.{LineFault}
 use Rattle.documents.specs.declared.document.Document.{Document}
 use Rattle.documents.specs.DocumentRead.{document_read}
@@ -28,15 +28,16 @@ IsStopAt (Err fault) Nowhere = Unit {0}
 abbrev pub IsStopIn : List ℕ → StoppedTurn → Type 0
 IsStopIn bytes turn = IsStopAt (document_read bytes) turn
 
--- the same, if this is remembered of what was read
+-- the same, if this is remembered of what was read; of what is forgotten no turn can be told
 abbrev pub IsStopRead : Option (List ℕ) → StoppedTurn → Type 0
-IsStopRead read turn = (bytes : List ℕ) → read ≡ Some bytes → IsStopIn bytes turn
+IsStopRead None turn = turn ≡ NoMemory
+IsStopRead (Some bytes) turn = IsStopIn bytes turn
 
 -- the status tells that a turn needs a step of a caller that has none to take
 abbrev pub is_stopped : Status → Bool
 is_stopped (BadShape number at) = number == 10
 is_stopped _ = false
 
--- the turn that the message on such a status tells
+-- the turn that the message on a status tells: none, unless the status tells that a turn needs such a step
 abbrev pub IsStopFor : Option (List ℕ) → Status → StoppedTurn → Type 0
-IsStopFor read status turn = (at : ℕ) → status ≡ BadShape 10 at → IsStopRead read turn
+IsStopFor read status turn = MatchBool (is_stopped status) (IsStopRead read turn) (turn ≡ Nowhere)

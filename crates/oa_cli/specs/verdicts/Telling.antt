@@ -21,8 +21,8 @@ abbrev pub fault_line : ParseFault → List ℕ
 fault_line fault = codes "line " ++ decimal fault.line ++ codes " fault " ++ decimal fault.number ++ 10 ∷ []
 
 -- the line that tells what is wrong with a document's shape
-abbrev pub shape_line : ℕ → ℕ → List ℕ
-shape_line number at = codes "shape " ++ decimal number ++ codes " at " ++ decimal at ++ 10 ∷ []
+abbrev pub shape_fault_line : ℕ → ℕ → List ℕ
+shape_fault_line number at = codes "shape " ++ decimal number ++ codes " at " ++ decimal at ++ 10 ∷ []
 
 -- the line that tells why a certificate is rejected
 abbrev pub rejection_line : ℕ → ℕ → List ℕ
@@ -41,7 +41,7 @@ text_for verdicts.ReadFault = codes "read fault\n"
 text_for verdicts.LongInput = codes "long input\n"
 text_for (verdicts.BadDocument fault) = fault_line fault
 text_for (verdicts.Refused text refusal) = refusal_line text refusal
-text_for (verdicts.BadShape number at) = shape_line number at
+text_for (verdicts.BadShape number at) = shape_fault_line number at
 text_for verdicts.Memory = codes "memory\n"
 text_for (verdicts.Rejected number at) = rejection_line number at
 

@@ -12,6 +12,7 @@ use crate::verdicts::stopping::turn_for;
 use messages::{RememberingSource, explain_read};
 use oa_text::{Failed, Sink, Source, StdSink};
 use statuses::{Status, status_number};
+use std::alloc::Global;
 use std::io::Write;
 
 fn is_write_fault(status: Status) -> bool
@@ -36,8 +37,13 @@ pub fn finish<W: Write>(out: &mut StdSink<W>, status: Status) -> Status
 }
 
 /// Writes the message on a status, with what the source remembers: of a replay that stopped it tells the turn, which is found by
-/// a replay of what is remembered. At `Failed` a prefix of it was written.
+/// a replay of what is remembered.
+///
+/// # Errors
+///
+/// `Failed` if a write fails: a prefix of the message was written then.
 pub fn explain_status<K: Sink, S: Source>(
+    alloc: Global,
     errors: &mut K,
     input: &RememberingSource<S>,
     status: Status,
@@ -45,13 +51,14 @@ pub fn explain_status<K: Sink, S: Source>(
     ensures bytes { (message : List ℕ) × IsMessage (remembered input.now) status message × Writes (K.written errors.old) (K.written errors.new) message result }
     ensures cause { HasCause (K.faults errors.old) (K.faults errors.new) result }
 {
-    let turn = turn_for(input, status);
-    explain_read(errors, input, status, turn)
+    let turn = turn_for(alloc, input, status);
+    explain_read(alloc, errors, input, status, turn)
 }
 
 /// Writes the message on a status to `errors`, for a person, with what the source remembers, and answers the number with
 /// which to end. A fault of `errors` changes nothing: a prefix of the message was written then.
 pub fn conclude<E: Write, S: Source>(
+    alloc: Global,
     errors: &mut StdSink<E>,
     input: &RememberingSource<S>,
     status: Status,
@@ -59,7 +66,7 @@ pub fn conclude<E: Write, S: Source>(
     ensures number { result ≡ number_of status }
     ensures explained { IsExplained errors.old.written errors.new.written errors.old.faults errors.new.faults (remembered input.now) status }
 {
-    match explain_status(errors, input, status) {
+    match explain_status(alloc, errors, input, status) {
         Ok(()) => status_number(status),
         Err(_) => status_number(status),
     }

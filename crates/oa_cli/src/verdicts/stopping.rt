@@ -40,11 +40,11 @@ fn turn_in(alloc: Global, bytes: &[u8]) -> StoppedTurn
 }
 
 /// The same of what a source remembers.
-fn turn_read<S: Source>(input: &RememberingSource<S>) -> StoppedTurn
+fn turn_read<S: Source>(alloc: Global, input: &RememberingSource<S>) -> StoppedTurn
     ensures { IsStopRead (remembered input.now) result }
 {
     match input.bytes() {
-        Some(bytes) => turn_in(input.alloc(), bytes),
+        Some(bytes) => turn_in(alloc, bytes),
         None => StoppedTurn::NoMemory,
     }
 }
@@ -59,11 +59,15 @@ fn is_stopped(status: Status) -> bool
 }
 
 /// The turn that the message on a status tells. It is looked for only if a turn needs a step of nobody.
-pub(crate) fn turn_for<S: Source>(input: &RememberingSource<S>, status: Status) -> StoppedTurn
+pub(crate) fn turn_for<S: Source>(
+    alloc: Global,
+    input: &RememberingSource<S>,
+    status: Status,
+) -> StoppedTurn
     ensures { IsStopFor (remembered input.now) status result }
 {
     if is_stopped(status) {
-        turn_read(input)
+        turn_read(alloc, input)
     } else {
         StoppedTurn::Nowhere
     }

@@ -4,7 +4,7 @@ ghost use Rattle.std.specs.Prelude.{◌≡◌};
 ghost use Rattle.oa_text.specs.Written.{Writes};
 ghost use Rattle.oa_text.specs.Causes.{HasCause};
 ghost use Rattle.oa_cli.specs.verdicts.Refusals.{op_name, method_word, refusal_line};
-ghost use Rattle.oa_cli.specs.verdicts.Telling.{IsSaid, fault_line, shape_line, rejection_line, text_for, status_if, status_for};
+ghost use Rattle.oa_cli.specs.verdicts.Telling.{IsSaid, fault_line, shape_fault_line, rejection_line, text_for, status_if, status_for};
 
 use crate::verdicts::verdict::Verdict;
 use line_words::fault::ParseFault;
@@ -69,7 +69,7 @@ fn write_refusal<K: Sink>(out: &mut K, text: &Text, refusal: Refusal) -> Result<
 
 /// Writes the line that tells what is wrong with a document's shape.
 fn write_shape<K: Sink>(out: &mut K, number: u8, at: u64) -> Result<(), Failed>
-    ensures bytes { Writes (K.written out.old) (K.written out.new) (shape_line number at) result }
+    ensures bytes { Writes (K.written out.old) (K.written out.new) (shape_fault_line number at) result }
     ensures cause { HasCause (K.faults out.old) (K.faults out.new) result }
 {
     write_pieces(

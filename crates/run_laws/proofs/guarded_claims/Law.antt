@@ -24,7 +24,7 @@ use Rattle.core_runs.proofs.core_sound.Machine.{event_sound}
 use Rattle.core_runs.proofs.core_sound.StartSound.{start_sound}
 use Rattle.core_runs.proofs.core_sound.Reached.{sound_is_shaped, start_suits}
 use Rattle.source_machine.specs.Proper.{IsProper}
-use Rattle.target_laws.specs.target_runs.Runnable.{IsRunnable}
+use Rattle.target_laws.specs.target_runs.Runnable.{MayBeWalked}
 use Rattle.target_laws.proofs.target_runs.SaneTargets.{runnable_is_sane}
 use Rattle.oa_simulation.specs.sim_relation.Views.{Plan, IsPlan}
 use Rattle.oa_simulation.specs.Shadow.{Shadow, shadow_run, shadow_start}
@@ -40,7 +40,7 @@ use Rattle.run_laws.proofs.guarded_claims.Runs.{MarkedWithPool, run_marked}
 use Rattle.caller_parts.specs.declared.setting.Reclamation.TheVariants.{Optimistic}
 
 -- every state that a run comes to, with the run's marks
-marked : (target : Target) (text : Text) (setting : Setting) → IsRunnable target text → IsBarred target text → IsSetting setting → Fits target setting → setting.reclamation ≡ Optimistic → IsProper text → (events : List CoreEvent) (state : CoreState) → core_run target setting events (core_start target setting) ≡ Some state
+marked : (target : Target) (text : Text) (setting : Setting) → MayBeWalked target text → IsBarred target text → IsSetting setting → Fits target setting → setting.reclamation ≡ Optimistic → IsProper text → (events : List CoreEvent) (state : CoreState) → core_run target setting events (core_start target setting) ≡ Some state
     → MarkedWithPool (plan_of target text setting events) state (shadow_run text (run_signs target setting events (core_start target setting)) (shadow_start text setting)) (run_marks target setting events (core_start target setting) no_marks)
 marked target text setting runs barred own fits optimistic proper events state is =
     let t : Plan = plan_of target text setting events in
@@ -74,7 +74,7 @@ marked target text setting runs barred own fits optimistic proper events state i
       };
     }) is (λ n lt. refl)
 
-spares : (target : Target) (text : Text) (setting : Setting) → IsRunnable target text → IsBarred target text → IsSetting setting → Fits target setting → setting.reclamation ≡ Optimistic → GuardsAreSpared target text setting
+spares : (target : Target) (text : Text) (setting : Setting) → MayBeWalked target text → IsBarred target text → IsSetting setting → Fits target setting → setting.reclamation ≡ Optimistic → GuardsAreSpared target text setting
 spares target text setting runs barred own fits optimistic proper events state is =
     let t : Plan = plan_of target text setting events in
     let k = marked target text setting runs barred own fits optimistic proper events state is in

@@ -33,7 +33,7 @@ use Rattle.core_runs.proofs.core_sound.StartSound.{start_sound}
 use Rattle.core_runs.proofs.core_sound.Reached.{sound_is_shaped, start_suits}
 use Rattle.core_runs.specs.core_pools.Pooled.{Pooled}
 use Rattle.core_runs.proofs.core_pools.Pooling.{start_pooled}
-use Rattle.target_laws.specs.target_runs.Runnable.{IsRunnable}
+use Rattle.target_laws.specs.target_runs.Runnable.{MayBeWalked}
 use Rattle.target_laws.proofs.target_runs.SaneTargets.{runnable_is_sane}
 use Rattle.oa_simulation.specs.sim_relation.Views.{Plan, IsPlan, Caller}
 use Rattle.oa_simulation.specs.sim_relation.Worlds.{World}
@@ -178,7 +178,7 @@ start_settled t state callers b names first j le used = ⊎_elim not_first first
       absurd (let no : kinds.Used ≡ kinds.Ready = (status_tells used.0 other.0 kinds.Used kinds.Ready (sym used.1 ∙ (ap (λ (memory : Word → ℕ). memory (Status j)) b.memory ∙ other.1))).1 in cc)
 
 -- every state that a run comes to
-pub settles : (target : Target) (text : Text) (setting : Setting) → IsRunnable target text → IsBarred target text → IsSetting setting → Fits target setting → setting.reclamation ≡ Optimistic → IsProper text → (events : List CoreEvent) (state : CoreState) → core_run target setting events (core_start target setting) ≡ Some state
+pub settles : (target : Target) (text : Text) (setting : Setting) → MayBeWalked target text → IsBarred target text → IsSetting setting → Fits target setting → setting.reclamation ≡ Optimistic → IsProper text → (events : List CoreEvent) (state : CoreState) → core_run target setting events (core_start target setting) ≡ Some state
     → SettledBeside (plan_of target text setting events) state (shadow target text setting events) (present_in target text setting events)
 settles target text setting runs barred own fits optimistic proper events state is =
     let t : Plan = plan_of target text setting events in

@@ -47,7 +47,7 @@ use Rattle.core_runs.specs.core_sound.Standing.{standing_of}
 use Rattle.core_runs.specs.core_pools.Pooled.{standings, pool_of}
 use Rattle.core_runs.proofs.core_pools.Going.{past_callers}
 use Rattle.core_runs.proofs.core_pools.Pooling.{leads_hold, leads_tell}
-use Rattle.target_laws.specs.target_runs.Runnable.{IsRunnable}
+use Rattle.target_laws.specs.target_runs.Runnable.{MayBeWalked}
 use Rattle.chain_laws.proofs.Routines.{status_tells}
 use Rattle.oa_simulation.specs.sim_relation.Views.{Owner, Pool, Dead, Shared}
 use Rattle.oa_simulation.specs.sim_relation.Shared.{Slot}
@@ -76,7 +76,7 @@ named_used Pool word n tag rt pb slot tagged some alive = absurd (some slot.1)
 named_used Dead word n tag rt pb slot tagged some alive = absurd (let no : true ≡ false = sym (tagged slot.0 slot.2) ∙ alive in cc)
 named_used _ word n tag rt pb slot tagged some alive = slot.0
 
-module _ (target : Target) (text : Text) (setting : Setting) (runs : IsRunnable target text) (own : IsSetting setting) (fits : Fits target setting) (lone : setting.sizes.callers ≡ 1) (events : List CoreEvent) (state : CoreState) (k : Stood target text setting events state) where
+module _ (target : Target) (text : Text) (setting : Setting) (runs : MayBeWalked target text) (own : IsSetting setting) (fits : Fits target setting) (lone : setting.sizes.callers ≡ 1) (events : List CoreEvent) (state : CoreState) (k : Stood target text setting events state) where
   abbrev m : Word → ℕ
   m = (view setting state).memory
 
@@ -257,7 +257,7 @@ module _ (target : Target) (text : Text) (setting : Setting) (runs : IsRunnable 
 
 pub lone_claims : (pair : Paired) (setting : Setting) → IsPairSound pair → IsSetting setting → Fits pair.target setting → setting.reclamation ≡ Optimistic → LoneClaimsAreFull pair.target pair.source setting
 lone_claims pair setting sound own fits optimistic proper lone events state is =
-    let runs : IsRunnable pair.target pair.source = record { small = sound.small; normal = sound.normal; within = sound.within; erases = sound.barred.erases } in
+    let runs : MayBeWalked pair.target pair.source = record { small = sound.small; normal = sound.normal; within = sound.within; erases = sound.barred.erases } in
     let k = stands pair.target pair.source setting events state runs sound.barred own fits optimistic proper is in
     let used = full_here pair.target pair.source setting runs own fits lone events state k in
     let names : (j : ℕ) → HoldsName pair.target pair.source setting events j → IsUsed (view setting state).memory j = λ j held. named pair.target pair.source setting runs own fits lone events state k j held.0 held.1 in

@@ -19,7 +19,7 @@ use Rattle.core_runs.specs.Views.{view}
 use Rattle.core_runs.proofs.Seeing.{events_are_seen}
 use Rattle.core_runs.proofs.core_sound.Machine.{event_sound}
 use Rattle.core_runs.proofs.core_sound.Reached.{sound_is_shaped}
-use Rattle.target_laws.specs.target_runs.Runnable.{IsRunnable}
+use Rattle.target_laws.specs.target_runs.Runnable.{MayBeWalked}
 use Rattle.oa_simulation.specs.sim_relation.Views.{Plan, Shared, Resident}
 use Rattle.oa_simulation.specs.sim_relation.Points.{point}
 use Rattle.oa_simulation.specs.Shadow.{shadow, home_of}
@@ -30,7 +30,7 @@ use Rattle.run_laws.proofs.stale_laws.Loading.{Based, based}
 use Rattle.run_laws.proofs.stale_laws.Warnings.{Stays, stays_on, warned_fails}
 use Rattle.caller_parts.specs.declared.setting.Reclamation.TheVariants.{Optimistic}
 
-module _ (target : Target) (text : Text) (setting : Setting) (runs : IsRunnable target text) (own : IsSetting setting) (fits : Fits target setting) (proper : IsProper text) (events : List CoreEvent) (state : CoreState) (k : Stood target text setting events state) where
+module _ (target : Target) (text : Text) (setting : Setting) (runs : MayBeWalked target text) (own : IsSetting setting) (fits : Fits target setting) (proper : IsProper text) (events : List CoreEvent) (state : CoreState) (k : Stood target text setting events state) where
   abbrev t : Plan
   t = plan_of target text setting events
 
@@ -90,5 +90,5 @@ module _ (target : Target) (text : Text) (setting : Setting) (runs : IsRunnable 
 
 pub no_stale_pass : (pair : Paired) (setting : Setting) → IsPairSound pair → IsSetting setting → Fits pair.target setting → setting.reclamation ≡ Optimistic → NoStalePass pair.target pair.source setting
 no_stale_pass pair setting sound own fits optimistic proper events state is =
-    let runs : IsRunnable pair.target pair.source = record { small = sound.small; normal = sound.normal; within = sound.within; erases = sound.barred.erases } in
+    let runs : MayBeWalked pair.target pair.source = record { small = sound.small; normal = sound.normal; within = sound.within; erases = sound.barred.erases } in
     stale_loads pair.target pair.source setting runs own fits proper events state (stands pair.target pair.source setting events state runs sound.barred own fits optimistic proper is)

@@ -13,7 +13,7 @@ use Rattle.core_runs.proofs.Keeping.{kept_calls}
 use Rattle.oa_simulation.specs.Shadow.{image}
 use Rattle.run_laws.specs.begin_laws.Begins.{begun_in}
 use Rattle.epoch_runs.specs.Begins.{begun_by_fuel, BeginsScript}
-use Rattle.epoch_runs.specs.Source.{FollowsSource}
+use Rattle.epoch_runs.specs.Source.{FollowsEpochSource}
 use Rattle.documents.specs.declared.document.Document.{Document}
 use Rattle.script_plans.specs.Shapes.{epoch_setting_of}
 use Rattle.script_plans.specs.Plans.{calls_of as scripts_of, IsRunnable}
@@ -39,7 +39,7 @@ epochs_begin fuel e true script taken begun kept ended begins = begun_all fuel s
 epochs_begin fuel e false script taken begun kept ended begins = let one = one_at_most fuel in begun_some e script taken begun (length e.replies + begun_by_fuel fuel) kept begins (omega (arith, one))
 
 module _ (document : Document) (events : List CoreEvent) (state : CoreState) (complete : IsCompleteEpochRunOf document events state)
-    (run : FollowsSource (bare document.text) document.text (epoch_setting_of document) (scripts_of document) document.fuel events state)
+    (run : FollowsEpochSource (bare document.text) document.text (epoch_setting_of document) (scripts_of document) document.fuel events state)
     (count : length document.scripts ≡ length state.entries)
     (causes : (c : ℕ) (e : Entry) → slice_get state.entries c ≡ Some e → (i : ℕ) → IsCausedAnswer (bare document.text) (epoch_setting_of document) document.fuel events state c i (answer_in state c i))
     (sources : (c : ℕ) (e : Entry) → slice_get state.entries c ≡ Some e → (i : ℕ) → IsSourceAnswer (epoch_source_of document events) c i (answer_in state c i)) where

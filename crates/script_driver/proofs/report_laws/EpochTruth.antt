@@ -5,7 +5,7 @@ use Rattle.std.specs.List.{sum_by}
 use Rattle.norm_lang.specs.Shipped.{queue_text}
 use Rattle.source_machine.specs.Proper.{IsProper}
 use Rattle.norm_lang.specs.declared.reply.SourceReply.TheVariants as replies
-use Rattle.target_laws.specs.target_runs.Runnable.{IsRunnable as MayRun}
+use Rattle.target_laws.specs.target_runs.Runnable.{MayBeWalked as MayRun}
 use Rattle.target_code.specs.Bare.{bare}
 use Rattle.bare_targets.specs.BareLaws.{BareTextsAreRunnable}
 use Rattle.caller_parts.specs.declared.call.Replied.{Replied}
@@ -19,7 +19,7 @@ use Rattle.claim_laws.specs.Full.{claims_in, FillAKind}
 use Rattle.oa_words.proofs.KindRanges.{part_within}
 use Rattle.claim_laws.proofs.Following.{replies_caused}
 use Rattle.claim_laws.proofs.Filling.{full_takes}
-use Rattle.epoch_runs.specs.Source.{RunsFollowSource}
+use Rattle.epoch_runs.specs.Source.{EpochRunsFollowSource}
 use Rattle.script_plans.specs.Shapes.{sizes_of, setting_of, epoch_setting_of}
 use Rattle.script_plans.specs.Plans.{calls_of as scripts_of}
 use Rattle.document_runs.specs.Reports.{claims_of, capped, report_of}
@@ -35,7 +35,7 @@ use Rattle.script_driver.proofs.report_laws.EpochOrdering.{epochs_have_legal_his
 use Rattle.script_driver.proofs.report_laws.EpochSourced.{has_epoch_source_run}
 use Rattle.script_driver.proofs.report_laws.Truth.{summed}
 
-pub reports_true : BareTextsAreRunnable → OfAll RestartsAreCounted → RunsFollowSource → SetsAreProper → IsProper queue_text → SetRunsAreLegal → QueueRunsAreLegal → EpochReportsAreTrue
+pub reports_true : BareTextsAreRunnable → OfAll RestartsAreCounted → EpochRunsFollowSource → SetsAreProper → IsProper queue_text → SetRunsAreLegal → QueueRunsAreLegal → EpochReportsAreTrue
 reports_true runnable counted follow sets queue set_runs queue_runs document events state within can complete = record {
   complete = complete;
   of = refl;

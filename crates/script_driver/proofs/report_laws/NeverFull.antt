@@ -15,7 +15,7 @@ use Rattle.norm_lang.specs.declared.reply.SourceReply.TheVariants as replies
 use Rattle.target_code.specs.declared.target.TargetOp.{TargetOp}
 use Rattle.target_code.specs.Blocks.{scheme_op}
 use Rattle.target_code.specs.SecondScheme.{second_marks, second_scheme}
-use Rattle.target_laws.specs.target_runs.Runnable.{IsRunnable}
+use Rattle.target_laws.specs.target_runs.Runnable.{MayBeWalked}
 use Rattle.caller_parts.specs.declared.call.Call.{Call}
 use Rattle.caller_parts.specs.declared.call.Running.{Running}
 use Rattle.caller_parts.specs.Settings.{Fits, IsSetting}
@@ -114,7 +114,7 @@ counted_once (node ∷ nodes) = of node.owner refl (counted_once nodes) where
 -- ---- the report
 
 module _ (document : Document) (events : List CoreEvent) (state : CoreState) (complete : IsCompleteRunOf document events state) (own : IsSetting (setting_of document))
-    (may : IsRunnable (target_of document) document.text) (fits : Fits (target_of document) (setting_of document)) (count : 0 + length document.scripts ≡ length state.entries) where
+    (may : MayBeWalked (target_of document) document.text) (fits : Fits (target_of document) (setting_of document)) (count : 0 + length document.scripts ≡ length state.entries) where
   counted : length document.scripts ≡ length state.entries
   counted = omega (arith, count)
 
@@ -133,7 +133,7 @@ module _ (document : Document) (events : List CoreEvent) (state : CoreState) (co
 
   -- of a text
   abbrev NeverFullFor : List ℕ → Text → Type 0
-  NeverFullFor name text = IsRunnable (second_scheme text) text → IsSetting (setting_of document) → Fits (second_scheme text) (setting_of document) → IsNeverFull name (second_scheme text) (setting_of document)
+  NeverFullFor name text = MayBeWalked (second_scheme text) text → IsSetting (setting_of document) → Fits (second_scheme text) (setting_of document) → IsNeverFull name (second_scheme text) (setting_of document)
 
   pub never_full : ShippedIsNeverFull document (report_of document state)
   never_full = record {

@@ -6,7 +6,7 @@ use Rattle.std.specs.List.{sum_by}
 use Rattle.norm_lang.specs.Shipped.{queue_text}
 use Rattle.source_machine.specs.Proper.{IsProper}
 use Rattle.norm_lang.specs.declared.reply.SourceReply.TheVariants as replies
-use Rattle.target_laws.specs.target_runs.Runnable.{IsRunnable as MayRun}
+use Rattle.target_laws.specs.target_runs.Runnable.{MayBeWalked as MayRun}
 use Rattle.barrier_compiler.specs.Laws.{SecondSchemeIsBarred, SecondSchemeIsWithin}
 use Rattle.caller_parts.specs.declared.call.Replied.{Replied}
 use Rattle.caller_parts.specs.Settings.{Fits, IsSetting}

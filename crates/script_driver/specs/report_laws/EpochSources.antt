@@ -5,7 +5,7 @@ use Rattle.target_code.specs.Bare.{bare}
 use Rattle.source_machine.specs.declared.state.SourceMachine.{SourceMachine}
 use Rattle.core_runs.specs.Machine.{CoreState, CoreEvent}
 use Rattle.oa_simulation.specs.Shadow.{shadow}
-use Rattle.epoch_runs.specs.Source.{FollowsSource}
+use Rattle.epoch_runs.specs.Source.{FollowsEpochSource}
 use Rattle.documents.specs.declared.document.Document.{Document}
 use Rattle.script_plans.specs.Shapes.{epoch_setting_of}
 use Rattle.script_plans.specs.Plans.{calls_of}
@@ -19,5 +19,5 @@ epoch_source_of document events = (shadow (bare document.text) document.text (ep
 -- the run of a document under epochs is one of its text on memory that is never recycled, by all callers at once, which begins the calls of
 -- the scripts in order, and the base of each load is null or resident (`run`); and each printed line is what that run answers (`lines`)
 pub record HasEpochSourceRun (document : Document) (events : List CoreEvent) (state : CoreState) (report : Report) : Type 0 where
-  pub run : FollowsSource (bare document.text) document.text (epoch_setting_of document) (calls_of document) document.fuel events state
+  pub run : FollowsEpochSource (bare document.text) document.text (epoch_setting_of document) (calls_of document) document.fuel events state
   pub lines : All (IsSourceLine (epoch_source_of document events)) report.lines

@@ -25,12 +25,12 @@ use Rattle.target_laws.proofs.Forms.{instructions_are_in_form}
 use Rattle.target_laws.proofs.FreshRules.{new_is_passed_once, puts_go_to_fresh}
 use Rattle.target_laws.proofs.InText.{targets_stay_inside}
 use Rattle.target_laws.proofs.TargetSettled.{target_code_settles}
-use Rattle.target_laws.specs.target_runs.Runnable.{IsRunnable}
+use Rattle.target_laws.specs.target_runs.Runnable.{MayBeWalked}
 use Rattle.target_laws.specs.target_runs.Sane.{InstrSane, SaneAt, SaneCode, RunnableIsSane}
 use Rattle.target_laws.proofs.target_runs.Limited.{MethodLimits, op_limits, some_op}
 
 -- a method of a target that callers may run, and the text's
-module _ {target : Target} {text : Text} (runs : IsRunnable target text) (method : Method target text) where
+module _ {target : Target} {text : Text} (runs : MayBeWalked target text) (method : Method target text) where
   -- a `new` stands in a generator
   generates : (at : ℕ) (i : Instr) (path : List ℕ) → slice_get (code_in method) at ≡ Some (Plain i) → TargetPath (code_in method) path at → IsTrue (is_new i) → method.wrapup ≡ false
   generates at (instr.New d kind) path is leads new = (new_is_passed_once target text runs.normal runs.erases method path at d kind (record { leads = leads; stands = is })).0

@@ -7,7 +7,7 @@ use Rattle.target_code.specs.Erasing.{ErasesTo}
 use Rattle.target_code.specs.TargetLimits.{IsTargetWithinLimits}
 
 -- a target that erases to a text in normal form, both within the limits. Where its checks and guards stand doesn't matter
-pub record IsRunnable (target : Target) (text : Text) : Type 0 where
+pub record MayBeWalked (target : Target) (text : Text) : Type 0 where
   pub small : IsWithinLimits text
   pub normal : IsNormal text
   pub within : IsTargetWithinLimits target

@@ -17,7 +17,7 @@ use Rattle.norm_lang.specs.Bounds.{most_news}
 use Rattle.target_code.specs.LocalCode.{target_next_spot, target_run}
 use Rattle.target_code.specs.PathStates.{IsSurelyFreshInTarget}
 use Rattle.target_laws.specs.Rules.{IsInForm}
-use Rattle.target_laws.specs.target_runs.Runnable.{IsRunnable}
+use Rattle.target_laws.specs.target_runs.Runnable.{MayBeWalked}
 
 -- of a plain instruction, in a method with so many: it is in form, and a `new` stands in a generator
 pub record PlainSane (target : Target) (wrapup : Bool) (count : ℕ) (i : Instr) : Type 0 where
@@ -53,4 +53,4 @@ pub record Sane (target : Target) : Type 0 where
 
 -- it holds of each target that callers may run
 abbrev pub RunnableIsSane : Type 0
-RunnableIsSane = (target : Target) (text : Text) → IsRunnable target text → Sane target
+RunnableIsSane = (target : Target) (text : Text) → MayBeWalked target text → Sane target

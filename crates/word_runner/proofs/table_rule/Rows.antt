@@ -3,7 +3,7 @@ use Rattle.std.proofs.Common.{◌≡◌, ◌≢◌, ℕ, ◌+◌, ◌<◌, ◌&&
 use Rattle.std.specs.Prelude.{slice_get, slice_set, slice_index, nat_lt}
 use Rattle.std.proofs.lemmas.Bool.Decides.{nat_tests}
 use Rattle.target_code.specs.declared.target.Target.{Target}
-use Rattle.target_laws.specs.target_runs.Runnable.{IsRunnable}
+use Rattle.target_laws.specs.target_runs.Runnable.{MayBeWalked}
 use Rattle.norm_lang.specs.declared.text.Text.{Text}
 use Rattle.oa_words.specs.Words.{Word, Place, Sizes, address_of, in_row}
 use Rattle.oa_words.proofs.Places.{apart}
@@ -33,7 +33,7 @@ pub told_lawful : (target : Target) (setting : Setting) (a : WordAccess) (n : �
 told_lawful target setting (Stores w x) n h = tt
 told_lawful target setting _ n h = h
 
-pub place_free : (target : Target) (text : Text) (setting : Setting) (c : ℕ) → IsRunnable target text → IsSetting setting → Fits target setting → c < setting.sizes.callers
+pub place_free : (target : Target) (text : Text) (setting : Setting) (c : ℕ) → MayBeWalked target text → IsSetting setting → Fits target setting → c < setting.sizes.callers
     → slice_index (core_start target setting).words (1 + c) ≡ 0
 place_free target text setting c runs own fits lt =
     let row : in_row setting.sizes (Place c) ≡ true = lt_is c setting.sizes.callers lt in

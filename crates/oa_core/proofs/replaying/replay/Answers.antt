@@ -1,13 +1,13 @@
 use Rattle.std.proofs.Common.{subst}
 use Rattle.barrier_check.specs.Paired.{Paired}
 use Rattle.core_runs.specs.Replays.{replayed}
-use Rattle.oa_core.specs.Finals.{Answers, replay_of}
+use Rattle.oa_core.specs.Finals.{AnswersReplay, replay_of}
 use Rattle.oa_core.proofs.Ending.{ends_run}
 use Rattle.oa_core.proofs.replaying.replay.Goals as goal
 
 pub returns-clause-replayed : goal.returns-clause-replayed
 returns-clause-replayed c =
-    subst (λ (pair : Paired). Answers c.replay_prepared.result c.args.fuel (replayed (replay_of pair.target c.args.setting.now c.args.scripts.now c.args.fuel) c.args.schedule.now))
+    subst (λ (pair : Paired). AnswersReplay c.replay_prepared.result c.args.fuel (replayed (replay_of pair.target c.args.setting.now c.args.scripts.now c.args.fuel) c.args.schedule.now))
     c.new-prepared.ensures c.replay_prepared.ensures.replayed
 
 pub returns-clause-complete : goal.returns-clause-complete

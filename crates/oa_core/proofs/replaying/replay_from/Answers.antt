@@ -3,14 +3,14 @@ use Rattle.std.specs.Prelude.{Result, IfOk}
 use Rattle.oa_core.specs.declared.replaying.ReplayError.{ReplayError}
 use Rattle.replay_steps.specs.Entries.{HasRooms}
 use Rattle.replay_steps.specs.Turns.{replayed_from}
-use Rattle.oa_core.specs.Finals.{Final, Answers}
+use Rattle.oa_core.specs.Finals.{Final, AnswersReplay}
 use Rattle.oa_core.specs.Shown.{Terms, replay_by, shown, answer_of}
 use Rattle.oa_core.proofs.Ending.{answers_so, rooms_so}
 use Rattle.oa_core.proofs.replaying.replay_from.Goals as goal
 
 pub returns-clause-replayed : goal.returns-clause-replayed
 returns-clause-replayed c =
-    subst (λ (o : Result Final ReplayError). Answers o c.args.terms.now.fuel (replayed_from (replay_by c.args.terms.now) c.args.schedule.now (shown c.args.now)))
+    subst (λ (o : Result Final ReplayError). AnswersReplay o c.args.terms.now.fuel (replayed_from (replay_by c.args.terms.now) c.args.schedule.now (shown c.args.now)))
     (sym (c.answer_of.ensures ∙ ap (λ (t : Terms). answer_of c.run-made.result c.run-made.new.now t.fuel) c.terms.view_is))
     (answers_so c.run-made.result c.run-made.new.now c.args.terms.now.fuel _ c.run-made.ensures.made)
 

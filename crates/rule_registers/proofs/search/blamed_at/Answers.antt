@@ -19,7 +19,7 @@ returns c =
     let refusal = c.args.refusal in
     let facts = c.in_ok-facts.facts in
     let kinds = c.deref.result.now in
-    let true_of : AreOpFacts op facts = c.in_ok-facts.ensures c.requires.within in
+    let true_of : AreOpFacts op facts = c.in_ok-facts.ensures in
     let known : AreOfOp text op kinds = subst (λ (k : List KindFacts). AreOfOp text op k) (sym c.deref.ensures.value) c.in_ok-kinds.ensures.tell in
     let subject : IsSubject text refusal.op op facts kinds = record { within = c.requires.within; stands = c.requires.numbered; true_of = true_of; kinds = known } in
     first_at_fault text op i refusal (found_of facts refusal.wrapup) facts.kept kinds c.first_blamed.result

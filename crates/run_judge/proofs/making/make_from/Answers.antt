@@ -14,4 +14,4 @@ returns-in_ok-certificate_of-in-Ok c =
 
 pub returns-in-Err : goal.returns-in-Err
 returns-in-Err c =
-    subst (IsMakingFaultOf c.args.document.now) (sym c.fault_of.ensures) (is_not_logged c.args.document.now c.args.plan.now c.args.normal.now c.in-Err.error c.requires.planned c.in-Err.ensures)
+    subst (IsMakingFaultOf c.args.document.now) (sym c.making_fault_of.ensures) (is_not_logged c.args.document.now c.args.plan.now c.args.normal.now c.in-Err.error c.requires.planned c.in-Err.ensures)

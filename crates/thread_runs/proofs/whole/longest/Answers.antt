@@ -1,5 +1,5 @@
 use Rattle.std.proofs.Common.{rules, ℕ, ◌≡◌, ◌<◌, ◌≤◌, length, get_or}
-use Rattle.thread_runs.specs.Scripts.{HasRooms}
+use Rattle.thread_runs.specs.Scripts.{IsRoomForEach}
 use Rattle.thread_runs.proofs.Longest.{fit_more, item_within}
 use Rattle.thread_runs.proofs.whole.longest.Goals as goal
 
@@ -8,7 +8,7 @@ loop-script-preserved c =
     let within : c.loop-script.script-index < length c.args.scripts.now = search rules in
     let item : c.items.result.now ≡ get_or c.args.scripts.now c.loop-script.script-index c.items.result.now = search rules in
     let room : c.loop-script.room ≤ c.max-room.result = search rules in
-    let least = λ (bound : ℕ) (fits : HasRooms c.args.scripts.now bound).
+    let least = λ (bound : ℕ) (fits : IsRoomForEach c.args.scripts.now bound).
     let mine = item_within c.args.scripts.now c.loop-script.script-index bound c.items.result.now within item fits in
     let sofar : c.loop-script.room ≤ bound = c.loop-script.invariant.2 bound fits in
     let most : c.max-room.result ≤ bound = search rules in

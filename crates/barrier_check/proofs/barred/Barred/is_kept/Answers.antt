@@ -14,5 +14,5 @@ returns c =
     let same : c.self.inside.source ≡ c.args.self.now.source = ap (λ (p : Paired). p.source) c.self.view_is in
     let less : c.args.op < length c.self.inside.source.ops = subst (λ (t : Text). c.args.op < length t.ops) (sym same) c.requires.op in
     subst (λ (t : Text). IsSomeAnd (slice_get t.ops c.args.op) (λ (o : Op). IsTrue c.keeps.result ↔ IsKept o (Ref c.args.register))) same
-    (keeps_exact c.self.inside.source c.self.inside.kept c.args.op c.args.register c.keeps.result c.self.invariant.1 less
+    (keeps_exact c.self.inside.source c.self.inside.kept c.args.op c.args.register c.keeps.result c.self.invariant.0.small c.self.invariant.1 less
     (c.keeps.ensures ∙ ap (λ (table : List (List Bool)). keeps_by table c.args.op c.args.register) c.items.ensures))

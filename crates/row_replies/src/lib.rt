@@ -1,0 +1,6 @@
+//! How the programs of rows tell the replies of callers.
+#![tactic(auto)]
+
+mod told;
+
+pub use told::add_replies;
